@@ -1,0 +1,20 @@
+//! The values of the Trusted Storage calls: names, flags, byte strings, calls and replies
+//! (GlobalPlatform TEE Internal Core API, chapter Trusted Storage).
+#![tactic(auto)]
+
+mod app_id;
+mod bytes;
+mod call;
+mod flags;
+mod object_id;
+mod reply;
+
+pub use app_id::AppId;
+pub use bytes::Bytes;
+pub use call::Call;
+pub use flags::{Flags, OVERWRITE, READ, SHARE_READ, SHARE_WRITE, WRITE, WRITE_META};
+pub use object_id::{BadId, ObjectId};
+pub use reply::{Cause, Code, Device, FrameFault, Reason, Reply};
+
+/// A growth was refused: there is no memory for what the call had to keep.
+pub type NoMemory = std::alloc::AllocError;
