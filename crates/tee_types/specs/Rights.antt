@@ -18,3 +18,7 @@ are_compatible a b =
   not (has a WRITE_META || has b WRITE_META)
   && (not (has a READ || has b READ) || (has a SHARE_READ && has b SHARE_READ))
   && (not (has a WRITE || has b WRITE) || (has a SHARE_WRITE && has b SHARE_WRITE))
+
+-- the same rights, without OVERWRITE (and no unknown bit)
+abbrev pub without_overwrite : Flags → Flags
+without_overwrite flags = record { bits = bit_and flags.bits 0x37 }

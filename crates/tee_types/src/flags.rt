@@ -23,7 +23,7 @@ pub struct Flags {
 }
 
 impl Flags {
-    ghost use Rattle.tee_types.specs.Rights.{has, is_known, are_compatible};
+    ghost use Rattle.tee_types.specs.Rights.{has, is_known, are_compatible, without_overwrite};
 
     /// Whether each of these bits is set.
     pub fn has(self, bits: u32) -> bool
@@ -38,6 +38,16 @@ impl Flags {
     {
         let known = READ | WRITE | WRITE_META | SHARE_READ | SHARE_WRITE | OVERWRITE;
         self.bits & known == self.bits
+    }
+
+    /// The rights alone: without OVERWRITE, and without unknown bits.
+    pub fn without_overwrite(self) -> Flags
+        ensures { result ≡ without_overwrite self }
+    {
+        let rights = READ | WRITE | WRITE_META | SHARE_READ | SHARE_WRITE;
+        Flags {
+            bits: self.bits & rights,
+        }
     }
 
     /// Whether handles with these flags may be open on one object side by side.

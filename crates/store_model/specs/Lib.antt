@@ -1,0 +1,9 @@
+pub mod Name
+pub mod Object
+pub mod Machine
+pub mod Answer
+pub mod Ledger
+pub mod History
+pub mod Legal
+pub mod Commits
+pub mod Places

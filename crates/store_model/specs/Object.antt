@@ -1,0 +1,47 @@
+-- Objects and the map of objects (TEE Internal Core API, Trusted Storage: a persistent object has an identifier,
+-- attributes and a data stream; the standard's corrupt object is told part by part here).
+use Rattle.std.specs.Prelude.{ℕ, Bool, true, false, List, Option, Some, None, length, is_some}
+use Rattle.std.specs.Ordering.{is_eq}
+use Rattle.std.specs.Map.{lookup}
+use Rattle.std.specs.BTreeMap.{insert_entry}
+use Rattle.store_model.specs.Name.{name_cmp}
+use Rattle.store_model.specs.declared.name.ObjectName.{ObjectName}
+
+-- A sound object. Data block k, from 1 on, holds the bytes from 4096 * (k - 1) up to 4096 * k.
+-- The bytes of a bad block stand as zero.
+pub record Contents : Type 0 where
+  pub attributes : List ℕ
+  pub bytes : List ℕ
+  -- the numbers of the bad blocks, rising
+  pub bad : List ℕ
+
+-- An object is sound, or damaged as a whole: of that one no more is known than its size.
+pub data Object : Type 0 where
+  Sound : Contents → Object
+  Damaged : ℕ → Object
+
+-- how many bytes of data an object has
+abbrev pub size_of : Object → ℕ
+size_of (Sound c) = length c.bytes
+size_of (Damaged size) = size
+
+-- a finite map from names to objects, as its entries in the order of the names
+abbrev pub ObjectMap : Type 0
+ObjectMap = List (ObjectName × Object)
+
+-- the object of that name
+abbrev pub object_at : ObjectMap → ObjectName → Option Object
+object_at objects name = lookup (λ n. is_eq (name_cmp name n)) objects
+
+abbrev pub holds : ObjectMap → ObjectName → Bool
+holds objects name = is_some (object_at objects name)
+
+-- the map with that object under that name, in place of the one that was there
+abbrev pub with_object : ObjectMap → ObjectName → Object → ObjectMap
+with_object objects name object = insert_entry name_cmp objects name object
+
+-- the object is there, but its hashes, sizes or attributes failed
+abbrev pub is_damaged : Option Object → Bool
+is_damaged None = false
+is_damaged (Some (Sound contents)) = false
+is_damaged (Some (Damaged size)) = true

@@ -1,0 +1,14 @@
+//! The store as one thread of calls sees it: objects, the machine, histories, and which histories are legal.
+#![tactic(auto)]
+
+mod event;
+mod history;
+mod name;
+mod object;
+mod session;
+mod state;
+
+pub use event::{Event, Mark};
+pub use history::History;
+pub use name::ObjectName;
+pub use state::State;

@@ -1,0 +1,158 @@
+//! The session of an application: its open handles.
+
+ghost use Rattle.std.specs.Prelude.{◌≡◌, ◌==◌, None, IfSome, IfNone};
+ghost use Rattle.std.specs.Map.{lookup};
+ghost use Rattle.store_model.specs.Places.{IsPlaceOf};
+
+use crate::name::ObjectName;
+use std::alloc::Global;
+use std::marker::Model;
+use tee_types::{AppId, Flags, NoMemory};
+
+/// The greatest number of live handles of a session.
+pub const MAX_HANDLES: usize = 1_024;
+
+/// An open handle: the object that it stands for, its rights, and its position in the object's data.
+#[derive(Clone, Copy, Debug)]
+pub struct Handle {
+    /// The object's name.
+    pub name: ObjectName,
+    /// The rights of the handle.
+    pub flags: Flags,
+    /// The place of the next byte to be read or written.
+    pub position: u32,
+}
+
+/// The session of an application, with room for all the handles that it may have.
+#[derive(Drop)]
+pub struct Session {
+    app: AppId,
+    handles: Vec<(u32, Handle)>,
+    next_handle: u32,
+}
+
+impl Model for Session {
+    ghost use Rattle.std.specs.Prelude.{◌≤◌};
+    ghost use Rattle.std.specs.Vec.{vec_capacity};
+    ghost use Rattle.store_model.specs.Machine.{Session as SessionState};
+
+    ghost Value = { SessionState };
+
+    ghost view = { λ a. record { application = a.app; handles = a.handles.items; next_handle = a.next_handle } };
+
+    ghost invariant = { λ a. 1024 ≤ vec_capacity a.handles };
+}
+
+impl Session {
+    ghost use Rattle.std.specs.Prelude.{◌≡◌, ◌==◌, ◌≤◌, ◌+◌, [], ◌∷◌, ◌++◌, false, IfOk, IsSome, is_some};
+    ghost use Rattle.std.specs.Map.{set_value, remove_entry};
+    ghost use Rattle.store_model.specs.Machine.{handle_at, has_all_handles, has_open, allows_open, new_session};
+
+    /// The session of an application, without handles.
+    pub fn new(alloc: Global, app: AppId) -> Result<Session, NoMemory>
+        ensures { IfOk result (λ session. session ≡ new_session app) }
+    {
+        Ok(Session {
+            app,
+            handles: Vec::with_capacity(alloc, MAX_HANDLES)?,
+            next_handle: 0,
+        })
+    }
+
+    /// The application.
+    pub fn app(&self) -> AppId
+        ensures { result ≡ self.now.application }
+    {
+        self.app
+    }
+
+    /// Whether no further handle may be given.
+    pub fn is_full(&self) -> bool
+        ensures { result ≡ has_all_handles self.now }
+    {
+        MAX_HANDLES <= self.handles.len() || u32::MAX <= self.next_handle
+    }
+
+    /// Gives a handle on that object, at position 0, and tells its number.
+    pub fn open(&mut self, name: ObjectName, flags: Flags) -> u32
+        requires { has_all_handles self.old ≡ false }
+        ensures number { result ≡ self.old.next_handle }
+        ensures opened { self.new ≡ record self.old {
+            handles = self.old.handles ++ (self.old.next_handle, record { name = name; flags = flags; position = 0 }) ∷ [];
+            next_handle = self.old.next_handle + 1 } }
+    {
+        let number = self.next_handle;
+        let handle = Handle {
+            name,
+            flags,
+            position: 0,
+        };
+        self.handles.push((number, handle)).unwrap();
+        self.next_handle += 1;
+        number
+    }
+
+    /// The live handle of that number.
+    pub fn handle(&self, number: u32) -> Option<Handle>
+        ensures { result ≡ handle_at self.now number }
+    {
+        let place = place_of(self.handles.as_slice(), number)?;
+        Some(self.handles[place].1)
+    }
+
+    /// Whether there is a live handle of that number.
+    pub fn has_handle(&self, number: u32) -> bool
+        ensures { result ≡ is_some (handle_at self.now number) }
+    {
+        self.handle(number).is_some()
+    }
+
+    /// Takes the live handle of that number away.
+    pub fn close(&mut self, number: u32)
+        requires { IsSome (handle_at self.old number) }
+        ensures { self.new ≡ record self.old { handles = remove_entry (λ n. n == number) self.old.handles } }
+    {
+        if let Some(place) = place_of(self.handles.as_slice(), number) {
+            let _closed = self.handles.remove(place);
+        }
+    }
+
+    /// Puts this handle in the place of the live one of that number.
+    pub fn replace(&mut self, number: u32, handle: Handle)
+        requires { IsSome (handle_at self.old number) }
+        ensures { self.new ≡ record self.old { handles = set_value (λ n. n == number) self.old.handles handle } }
+    {
+        if let Some(place) = place_of(self.handles.as_slice(), number) {
+            self.handles[place] = (number, handle);
+        }
+    }
+
+    /// Whether a new handle with these flags may be open beside each handle of this session on that object.
+    pub fn allows(&self, name: &ObjectName, flags: Flags) -> bool
+        ensures { result ≡ allows_open name.now flags self.now }
+    {
+        self.handles
+            .iter()
+            .all(|h| !(*name == h.1.name) || flags.is_compatible_with(h.1.flags))
+    }
+
+    /// Whether a handle of this session is open on that object.
+    pub fn has_open(&self, name: &ObjectName) -> bool
+        ensures { result ≡ has_open name.now self.now }
+    {
+        self.handles.iter().any(|h| *name == h.1.name)
+    }
+}
+
+/// The place of the first handle of that number.
+fn place_of(handles: &[(u32, Handle)], number: u32) -> Option<usize>
+    ensures found { IfSome result (IsPlaceOf number handles.now) }
+    ensures none { IfNone result (lookup (λ n. n == number) handles.now ≡ None) }
+{
+    for (place, handle) in handles.iter().enumerate() {
+        if handle.0 == number {
+            return Some(place);
+        }
+    }
+    None
+}
