@@ -1,7 +1,9 @@
 // A source over a reader, as standard input.
-ghost use Rattle.std.specs.Prelude.{◌≡◌, ℕ, List, ◌<◌, ◌≤◌, ◌^◌, length, take, None, IfOk, IsTrue, false};
+ghost use Rattle.std.specs.Prelude.{◌≡◌, ℕ, List, ◌<◌, ◌≤◌, ◌^◌, length, take, None, Ok, IfOk, IfErr, OnErr, IsTrue, is_ok, if◌then◌else◌, false};
 ghost use Rattle.std.proofs.Common.{rules};
 ghost use Rattle.std.specs.Io.{ReadsAtMost};
+ghost use Rattle.std.specs.Io.KnownBytes.{ReadConsumes};
+ghost use Rattle.tee_ports.specs.Faults.{next_count, Rose};
 ghost use Rattle.tee_ports.specs.StdStreams.{StreamState};
 
 use crate::failed::count_fault;
@@ -16,27 +18,28 @@ use std::marker::Model;
 /// and no fault. A read that gives no byte is the end, after which nothing is read. Bytes go straight from the reader
 /// into the lent buffer, so a caller with large buffers makes few reads.
 #[derive(Drop)]
-pub struct StdSource<R> {
+pub struct StdSource<R: Read> {
     reader: R,
     ended: bool,
     faults: u64,
 }
 
-impl<R> Model for StdSource<R> {
-    ghost use Rattle.std.specs.Prelude.{◌<◌, ◌^◌};
+impl<R: Read> Model for StdSource<R> {
+    ghost use Rattle.std.specs.Prelude.{◌<◌, ◌^◌, IsTrue};
+    ghost use Rattle.std.specs.Io.KnownBytes.{IsAtEnd};
     ghost use Rattle.tee_ports.specs.StdStreams.{StreamState};
 
-    ghost Value = { StreamState };
+    ghost Value = { StreamState R };
 
-    ghost view = { λ s. record { at_end = s.ended; faults = s.faults } };
+    ghost view = { λ s. record { stream = s.reader; at_end = s.ended; faults = s.faults } };
 
-    ghost invariant = { λ s. s.faults < 2 ^ 64 };
+    ghost invariant = { λ s. (s.faults < 2 ^ 64) × (IsTrue s.ended → IsAtEnd (R.remaining s.reader)) };
 }
 
 impl<R: Read + Drop> StdSource<R> {
     /// A source of what this reader gives.
     pub fn new(reader: R) -> StdSource<R>
-        ensures { result ≡ record { at_end = false; faults = 0 } }
+        ensures { result ≡ record { stream = reader; at_end = false; faults = 0 } }
     {
         StdSource {
             reader,
@@ -53,7 +56,22 @@ impl<R: Read + Drop> Source for StdSource<R> {
 
     ghost faults = { λ s. s.faults };
 
-    fn next(&mut self, into: &mut [u8]) -> Result<usize, Failed> {
+    fn next(&mut self, into: &mut [u8]) -> Result<usize, Failed>
+        // The bytes are the reader's, and nothing is read past its end.
+        ensures read { ReadConsumes (R.remaining self.old.stream) (R.remaining self.new.stream) result into.new }
+        ensures after_end { IsTrue self.old.at_end → (result ≡ Ok 0) × (self.new ≡ self.old) }
+        ensures ends { IsTrue self.new.at_end → result ≡ Ok 0 }
+        ensures counts { self.new.faults ≡ (if is_ok result then self.old.faults else next_count self.old.faults) }
+
+        // As every source.
+        ensures within { IfOk result (λ n. n ≤ length into.old) }
+        ensures end { IfOk result (λ n. n ≡ 0 → 0 < length into.old → IsTrue self.new.at_end) }
+        ensures stays_ended { IsTrue self.old.at_end → IsTrue self.new.at_end }
+        ensures rose { OnErr result (Rose self.old.faults self.new.faults) }
+        ensures carried { IfErr result (λ e. e.count ≡ self.new.faults) }
+        ensures counted { self.old.faults ≤ self.new.faults }
+        ensures fits { self.new.faults < 2 ^ 64 }
+    {
         if self.ended || into.is_empty() {
             return Ok(0);
         }
@@ -71,7 +89,8 @@ impl<R: Read + Drop> Source for StdSource<R> {
 
 // One read, made again where a signal interrupts it.
 fn read_some<R: Read>(reader: &mut R, into: &mut [u8]) -> io::Result<usize>
-    ensures { ReadsAtMost result into.new }
+    ensures bound { ReadsAtMost result into.new }
+    ensures bytes { ReadConsumes (R.remaining reader.old) (R.remaining reader.new) result into.new }
 {
     for _ in 0..u64::MAX {
         match reader.read(into) {
