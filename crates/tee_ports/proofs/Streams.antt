@@ -1,7 +1,5 @@
 -- What follows of one call on bytes that are told, and of several in turn.
 use Rattle.std.proofs.Common.{◌≡◌, ℕ, ◌+◌, ◌≤◌, List, [], ◌++◌, length, take, drop, Option, Some, None, refl, ap, sym, ◌∙◌, arith, append_assoc}
-use Rattle.std.proofs.Math.Seq.{take-append_seam}
-use Rattle.std.proofs.lemmas.List.{take-append-drop, length-take-le}
 use Rattle.std.proofs.lemmas.Grind.{common_steps}
 use Rattle.tee_ports.specs.Streams.{TakesFirst, Appends}
 
@@ -28,12 +26,3 @@ pub Appends-append : (old between new : Option (List ℕ)) (first second : List 
 Appends-append None between new first second h k = cc
 Appends-append (Some bytes) between new first second h k =
     rw h at k ∙ ap Some (append_assoc bytes first second)
-
--- the copied front of what was left, and what is left then
-pub front_and_rest : (n given : ℕ) (bytes front behind : List ℕ) → n ≤ length (drop given bytes)
-    → front ≡ take n (drop given bytes) → take n (front ++ behind) ++ drop (given + n) bytes ≡ drop given bytes
-front_and_rest n given bytes front behind within copied =
-    let long : length front ≡ n = ap length copied ∙ length-take-le n (drop given bytes) within in
-    let front_taken : take n (front ++ behind) ≡ front = rw (← long) (take-append_seam front behind) in
-    let rest : drop (given + n) bytes ≡ drop n (drop given bytes) = grind (arith, common_steps) in
-    rw (front_taken, rest, copied) (take-append-drop n (drop given bytes))

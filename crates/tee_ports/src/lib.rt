@@ -23,3 +23,6 @@ pub use std_source::StdSource;
 
 /// Memory ran out.
 pub type NoMemory = std::alloc::AllocError;
+
+#[cfg(test)]
+mod tests;

@@ -68,14 +68,7 @@ impl Sink for MemSink {
         ensures after { self.new ≡ sink_after self.old from.now result }
         ensures has_room { length self.new.held ≤ self.new.room }
 
-        // As every sink.
-        ensures within { IfOk result (λ n. n ≤ length from.now) }
-        ensures bytes { IfOk result (λ n. Appends (Some self.old.held) (Some self.new.held) (take n from.now)) }
-        ensures full_only { IfOk result (λ n. n ≡ 0 → 0 < length from.now → length self.new.held ≡ self.new.room) }
-        ensures stays_full { length self.old.held ≡ self.old.room → length self.new.held ≡ self.new.room }
-        ensures rose { OnErr result (Rose self.old.faults self.new.faults) }
         ensures carried { IfErr result (λ e. e.count ≡ self.new.faults) }
-        ensures untouched { OnErr result (Some self.new.held ≡ Some self.old.held) }
         ensures counted { self.old.faults ≤ self.new.faults }
         ensures fits { self.new.faults < 2 ^ 64 }
     {

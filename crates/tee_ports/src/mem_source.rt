@@ -61,16 +61,7 @@ impl Source for MemSource {
         ensures given { IfOk result (λ n. n ≡ min (length into.old) (length self.old.left)) }
         ensures buffer { MatchResult result (λ n. into.new ≡ take n self.old.left ++ drop n into.old) (λ _. into.new ≡ into.old) }
         ensures after { self.new ≡ source_after self.old result }
-
-        // As every source.
-        ensures within { IfOk result (λ n. n ≤ length into.old) }
-        ensures bytes { IfOk result (λ n. TakesFirst (Some self.old.left) (Some self.new.left) (take n into.new)) }
-        ensures behind { IfOk result (λ n. KeepsBehind (Some self.old.left) n into.old into.new) }
-        ensures end { IfOk result (λ n. n ≡ 0 → 0 < length into.old → self.new.left ≡ []) }
-        ensures stays_ended { self.old.left ≡ [] → self.new.left ≡ [] }
-        ensures rose { OnErr result (Rose self.old.faults self.new.faults) }
         ensures carried { IfErr result (λ e. e.count ≡ self.new.faults) }
-        ensures untouched { OnErr result (Some self.new.left ≡ Some self.old.left) }
         ensures counted { self.old.faults ≤ self.new.faults }
         ensures fits { self.new.faults < 2 ^ 64 }
     {

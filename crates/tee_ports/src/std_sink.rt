@@ -65,8 +65,6 @@ impl<W: Write + Drop> Sink for StdSink<W> {
         // As every sink.
         ensures within { IfOk result (λ n. n ≤ length from.now) }
         ensures full_only { IfOk result (λ n. n ≡ 0 → 0 < length from.now → IsTrue self.new.at_end) }
-        ensures stays_full { IsTrue self.old.at_end → IsTrue self.new.at_end }
-        ensures rose { OnErr result (Rose self.old.faults self.new.faults) }
         ensures carried { IfErr result (λ e. e.count ≡ self.new.faults) }
         ensures counted { self.old.faults ≤ self.new.faults }
         ensures fits { self.new.faults < 2 ^ 64 }

@@ -66,8 +66,6 @@ impl<R: Read + Drop> Source for StdSource<R> {
         // As every source.
         ensures within { IfOk result (λ n. n ≤ length into.old) }
         ensures end { IfOk result (λ n. n ≡ 0 → 0 < length into.old → IsTrue self.new.at_end) }
-        ensures stays_ended { IsTrue self.old.at_end → IsTrue self.new.at_end }
-        ensures rose { OnErr result (Rose self.old.faults self.new.faults) }
         ensures carried { IfErr result (λ e. e.count ≡ self.new.faults) }
         ensures counted { self.old.faults ≤ self.new.faults }
         ensures fits { self.new.faults < 2 ^ 64 }
