@@ -1,8 +1,7 @@
 // A sink in memory.
-ghost use Rattle.std.specs.Prelude.{◌≡◌, ◌↔◌, ℕ, List, [], ◌++◌, ◌-◌, ◌<◌, ◌≤◌, ◌^◌, length, take, drop, min, Option, Some, IsErr, IfOk, IfErr, OnErr, Contains};
-ghost use Rattle.tee_ports.specs.Faults.{next_count, Rose};
-ghost use Rattle.tee_ports.specs.Streams.{Appends};
-ghost use Rattle.tee_ports.specs.MemSink.{SinkState, sink_after};
+ghost use Rattle.std.specs.Prelude.{◌≡◌, ◌↔◌, [], ◌-◌, ◌<◌, ◌≤◌, ◌^◌, length, min, Some, IsErr, IfOk, IfErr, Contains};
+ghost use Rattle.tee_ports.specs.Faults.{next_count};
+ghost use Rattle.tee_ports.specs.MemSink.{sink_after};
 
 use crate::failed::count_fault;
 use crate::{Failed, NoMemory, Sink};
@@ -27,7 +26,13 @@ impl Model for MemSink {
 
     ghost Value = { SinkState };
 
-    ghost view = { λ s. record { held = s.bytes.items; room = s.room; failing = s.failing.items; calls = s.calls; faults = s.faults } };
+    ghost view = { λ s. record {
+      held = s.bytes.items;
+      room = s.room;
+      failing = s.failing.items;
+      calls = s.calls;
+      faults = s.faults;
+    } };
 
     ghost invariant = { λ s. (vec_len s.bytes ≤ s.room) × (s.room ≤ vec_capacity s.bytes) };
 }
@@ -35,7 +40,8 @@ impl Model for MemSink {
 impl MemSink {
     /// A sink with room for this many bytes. The calls of `put` whose numbers `failing` lists fail, and no others.
     pub fn new(alloc: Global, room: usize, failing: &[u64]) -> Result<MemSink, NoMemory>
-        ensures { IfOk result (λ s. s ≡ record { held = []; room = room; failing = failing.now; calls = 0; faults = 0 }) }
+        ensures { IfOk result
+            (λ s. s ≡ record { held = []; room = room; failing = failing.now; calls = 0; faults = 0 }) }
     {
         Ok(MemSink {
             bytes: Vec::with_capacity(alloc, room)?,
@@ -64,10 +70,10 @@ impl Sink for MemSink {
     fn put(&mut self, from: &[u8]) -> Result<usize, Failed>
         // Which calls fail, how many bytes the others take, and what each leaves.
         ensures fails { IsErr result ↔ Contains self.old.failing (next_count self.old.calls) }
-        ensures taken { IfOk result (λ n. n ≡ min (length from.now) (self.old.room - length self.old.held)) }
+        ensures taken { IfOk result
+            (λ n. n ≡ min (length from.now) (self.old.room - length self.old.held)) }
         ensures after { self.new ≡ sink_after self.old from.now result }
         ensures has_room { length self.new.held ≤ self.new.room }
-
         ensures carried { IfErr result (λ e. e.count ≡ self.new.faults) }
         ensures counted { self.old.faults ≤ self.new.faults }
         ensures fits { self.new.faults < 2 ^ 64 }

@@ -1,9 +1,8 @@
 // A source in memory.
-ghost use Rattle.std.specs.Prelude.{◌≡◌, ◌↔◌, ℕ, List, [], ◌++◌, ◌<◌, ◌≤◌, ◌^◌, length, take, drop, min, Option, Some, IsErr, IfOk, IfErr, OnErr, MatchResult, Contains};
+ghost use Rattle.std.specs.Prelude.{◌≡◌, ◌↔◌, [], ◌++◌, ◌<◌, ◌≤◌, ◌^◌, length, take, drop, min, Some, IsErr, IfOk, IfErr, MatchResult, Contains};
 ghost use Rattle.std.proofs.Common.{rules};
-ghost use Rattle.tee_ports.specs.Faults.{next_count, Rose};
-ghost use Rattle.tee_ports.specs.Streams.{TakesFirst, KeepsBehind};
-ghost use Rattle.tee_ports.specs.MemSource.{SourceState, source_after};
+ghost use Rattle.tee_ports.specs.Faults.{next_count};
+ghost use Rattle.tee_ports.specs.MemSource.{source_after};
 
 use crate::failed::count_fault;
 use crate::{Failed, NoMemory, Source};
@@ -28,7 +27,12 @@ impl Model for MemSource {
 
     ghost Value = { SourceState };
 
-    ghost view = { λ s. record { left = drop s.given s.bytes.items; failing = s.failing.items; calls = s.calls; faults = s.faults } };
+    ghost view = { λ s. record {
+      left = drop s.given s.bytes.items;
+      failing = s.failing.items;
+      calls = s.calls;
+      faults = s.faults;
+    } };
 
     ghost invariant = { λ s. s.given ≤ vec_len s.bytes };
 }
@@ -36,7 +40,8 @@ impl Model for MemSource {
 impl MemSource {
     /// A source of these bytes. The calls of `next` whose numbers `failing` lists fail, and no others.
     pub fn new(alloc: Global, bytes: &[u8], failing: &[u64]) -> Result<MemSource, NoMemory>
-        ensures { IfOk result (λ s. s ≡ record { left = bytes.now; failing = failing.now; calls = 0; faults = 0 }) }
+        ensures { IfOk result
+            (λ s. s ≡ record { left = bytes.now; failing = failing.now; calls = 0; faults = 0 }) }
     {
         Ok(MemSource {
             bytes: Vec::from_slice(alloc, bytes)?,
@@ -59,7 +64,9 @@ impl Source for MemSource {
         // Which calls fail, how many bytes the others give, and what each leaves.
         ensures fails { IsErr result ↔ Contains self.old.failing (next_count self.old.calls) }
         ensures given { IfOk result (λ n. n ≡ min (length into.old) (length self.old.left)) }
-        ensures buffer { MatchResult result (λ n. into.new ≡ take n self.old.left ++ drop n into.old) (λ _. into.new ≡ into.old) }
+        ensures buffer { MatchResult result
+            (λ n. into.new ≡ take n self.old.left ++ drop n into.old)
+            (λ _. into.new ≡ into.old) }
         ensures after { self.new ≡ source_after self.old result }
         ensures carried { IfErr result (λ e. e.count ≡ self.new.faults) }
         ensures counted { self.old.faults ≤ self.new.faults }

@@ -1,9 +1,8 @@
 // A sink over a writer, as standard output.
-ghost use Rattle.std.specs.Prelude.{◌≡◌, ℕ, List, ◌<◌, ◌≤◌, ◌^◌, length, take, None, Ok, IfOk, IfErr, OnErr, IsTrue, is_ok, if◌then◌else◌, false};
+ghost use Rattle.std.specs.Prelude.{◌≡◌, ◌<◌, ◌≤◌, ◌^◌, length, take, None, IfOk, IfErr, IsTrue, is_ok, if◌then◌else◌, false};
 ghost use Rattle.std.specs.Io.{WritesAtMost};
 ghost use Rattle.std.specs.Io.KnownBytes.{Appends, Keeps, WriteAppends};
-ghost use Rattle.tee_ports.specs.Faults.{next_count, Rose};
-ghost use Rattle.tee_ports.specs.StdStreams.{StreamState};
+ghost use Rattle.tee_ports.specs.Faults.{next_count};
 
 use crate::failed::count_fault;
 use crate::{Failed, Sink};
@@ -57,10 +56,12 @@ impl<W: Write + Drop> Sink for StdSink<W> {
 
     fn put(&mut self, from: &[u8]) -> Result<usize, Failed>
         // The bytes reach the writer, and nothing is written once it is full.
-        ensures written { IfOk result (λ n. Appends (W.contents self.old.stream) (W.contents self.new.stream) (take n from.now)) }
+        ensures written { IfOk result (λ n. Appends
+            (W.contents self.old.stream) (W.contents self.new.stream) (take n from.now)) }
         ensures after_full { IsTrue self.old.at_end → (result ≡ Ok 0) × (self.new ≡ self.old) }
         ensures fills { IsTrue self.new.at_end → result ≡ Ok 0 }
-        ensures counts { self.new.faults ≡ (if is_ok result then self.old.faults else next_count self.old.faults) }
+        ensures counts { self.new.faults ≡
+            (if is_ok result then self.old.faults else next_count self.old.faults) }
 
         // As every sink.
         ensures within { IfOk result (λ n. n ≤ length from.now) }
@@ -85,7 +86,8 @@ impl<W: Write + Drop> Sink for StdSink<W> {
 // One write, and a flush.
 fn write_some<W: Write>(writer: &mut W, from: &[u8]) -> io::Result<usize>
     ensures bound { WritesAtMost result from.now }
-    ensures bytes { IfOk result (λ n. Appends (W.contents writer.old) (W.contents writer.new) (take n from.now)) }
+    ensures bytes { IfOk result
+        (λ n. Appends (W.contents writer.old) (W.contents writer.new) (take n from.now)) }
 {
     let count = write_once(writer, from)?;
     flush(writer)?;

@@ -1,10 +1,9 @@
 // A source over a reader, as standard input.
-ghost use Rattle.std.specs.Prelude.{◌≡◌, ℕ, List, ◌<◌, ◌≤◌, ◌^◌, length, take, None, Ok, IfOk, IfErr, OnErr, IsTrue, is_ok, if◌then◌else◌, false};
+ghost use Rattle.std.specs.Prelude.{◌≡◌, ◌<◌, ◌≤◌, ◌^◌, length, None, IfOk, IfErr, IsTrue, is_ok, if◌then◌else◌, false};
 ghost use Rattle.std.proofs.Common.{rules};
 ghost use Rattle.std.specs.Io.{ReadsAtMost};
 ghost use Rattle.std.specs.Io.KnownBytes.{ReadConsumes};
-ghost use Rattle.tee_ports.specs.Faults.{next_count, Rose};
-ghost use Rattle.tee_ports.specs.StdStreams.{StreamState};
+ghost use Rattle.tee_ports.specs.Faults.{next_count};
 
 use crate::failed::count_fault;
 use crate::{Failed, Source};
@@ -58,10 +57,12 @@ impl<R: Read + Drop> Source for StdSource<R> {
 
     fn next(&mut self, into: &mut [u8]) -> Result<usize, Failed>
         // The bytes are the reader's, and nothing is read past its end.
-        ensures read { ReadConsumes (R.remaining self.old.stream) (R.remaining self.new.stream) result into.new }
+        ensures read { ReadConsumes (R.remaining self.old.stream) (R.remaining self.new.stream)
+            result into.new }
         ensures after_end { IsTrue self.old.at_end → (result ≡ Ok 0) × (self.new ≡ self.old) }
         ensures ends { IsTrue self.new.at_end → result ≡ Ok 0 }
-        ensures counts { self.new.faults ≡ (if is_ok result then self.old.faults else next_count self.old.faults) }
+        ensures counts { self.new.faults ≡
+            (if is_ok result then self.old.faults else next_count self.old.faults) }
 
         // As every source.
         ensures within { IfOk result (λ n. n ≤ length into.old) }
