@@ -18,7 +18,8 @@ pub trait Sink {
 
     /// Takes the first bytes of `from` and returns how many, at most its length.
     ///
-    /// `Ok(0)` for a piece that is not empty says that the sink is full. A call that fails takes no byte.
+    /// `Ok(0)` for a piece that is not empty says that the sink is full. After a call that failed the sink holds what it
+    /// held before, as far as it tells that.
     fn put(&mut self, from: &[u8]) -> Result<usize, Failed>
         ensures within { IfOk result (λ n. n ≤ length from.now) }
         ensures bytes { IfOk result (λ n. Appends (held self.old) (held self.new) (take n from.now)) }

@@ -18,7 +18,8 @@ pub trait Source {
 
     /// Reads the next bytes into the front of `into` and returns how many came, at most its length.
     ///
-    /// `Ok(0)` for a buffer that is not empty is the end. A call that fails takes no byte.
+    /// `Ok(0)` for a buffer that is not empty is the end. After a call that failed the same bytes are still to come, as
+    /// far as the source tells them.
     fn next(&mut self, into: &mut [u8]) -> Result<usize, Failed>
         ensures within { IfOk result (λ n. n ≤ length into.old) }
         ensures bytes { IfOk result (λ n. TakesFirst (left self.old) (left self.new) (take n into.new)) }
