@@ -1,0 +1,5 @@
+pub mod Faults
+pub mod Streams
+pub mod MemSource
+pub mod MemSink
+pub mod StdStreams

@@ -1,0 +1,28 @@
+//! Where the bytes of a run come from and where they go: two traits, each with an implementation in memory and one over
+//! a stream of the process.
+//!
+//! Every implementation counts its faults. A call answers `Failed` only where that count rose, so a caller's contract
+//! can tie each of its own failures to a fault of the object that it was lent.
+#![tactic(auto)]
+
+mod failed;
+mod mem_sink;
+mod mem_source;
+mod sink;
+mod source;
+mod std_sink;
+mod std_source;
+
+pub use failed::Failed;
+pub use mem_sink::MemSink;
+pub use mem_source::MemSource;
+pub use sink::Sink;
+pub use source::Source;
+pub use std_sink::StdSink;
+pub use std_source::StdSource;
+
+/// Memory ran out.
+pub type NoMemory = std::alloc::AllocError;
+
+#[cfg(test)]
+mod tests;
