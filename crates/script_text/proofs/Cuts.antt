@@ -1,6 +1,7 @@
 -- The first line of a text, and the first word of a line.
 use Rattle.std.proofs.Common.{◌≡◌, ◌==◌, ◌+◌, ◌<◌, ◌≤◌, ℕ, Bool, true, false, not, cond, List, [], ◌∷◌, length, take, drop, Option, Some, None, is_some, refl, sym, ap, ◌∙◌, arith, subst, add-one, suc}
 use Rattle.std.proofs.lemmas.Bool.{false≢true}
+use Rattle.std.specs.Option.{option_map}
 use Rattle.std.specs.List.{prefix_len}
 use Rattle.script_text.specs.Lines.{in_front, lines_of, words_of, words_left}
 
@@ -82,6 +83,6 @@ words_of-first line n is lt =
     words_of-cut line (omega arith) ∙ ap (λ k. take k line ∷ words_of (drop (suc (before 32 line)) line)) (sym is) ∙ ap (λ k. take n line ∷ words_of (drop k line)) e
 
 -- behind a word there is nothing or another word
-pub words_left-one : (rest : Option (List ℕ)) → is_some rest ≡ true → 0 < length (words_left rest)
-words_left-one None h = absurd (false≢true h)
-words_left-one (Some line) h = words_of-some line
+pub words_left-one : {X : Type 0} (now : X → List ℕ) (rest : Option X) → is_some rest ≡ true → 0 < length (words_left (option_map now rest))
+words_left-one now None h = absurd (false≢true h)
+words_left-one now (Some line) h = words_of-some (now line)

@@ -1,6 +1,7 @@
 //! The values that words stand for.
 
-ghost use Rattle.std.specs.Prelude.{◌≡◌, ◌≤◌, ◌==◌, ◌||◌, length, IfOk};
+ghost use Rattle.std.specs.Prelude.{◌≡◌, ◌≤◌, ◌==◌, ◌||◌, ◌^◌, true, min, length, IfOk};
+ghost use Rattle.std.specs.Str.Parse.{digits_value};
 ghost use Rattle.std.specs.List.{list_any, list_all};
 ghost use Rattle.script_text.specs.Words.{same_word, is_name, uuid_of, id_of, bytes_of, flags_of, number_of, count_of, is_digit, is_small_letter, reserved_words};
 
@@ -64,19 +65,39 @@ pub(crate) fn flags(word: &[u8]) -> Option<Flags>
     })
 }
 
+/// Whether each byte is a decimal digit.
+fn are_digits(word: &[u8]) -> bool
+    ensures { result ≡ list_all is_digit word.now }
+{
+    word.iter().all(|b| b'0' <= *b && *b <= b'9')
+}
+
+/// The number of these digits, or 2 ^ 32 where it is above that.
+fn capped(digits: &[u8]) -> u64
+    requires { list_all is_digit digits.now ≡ true }
+    ensures { result ≡ min (digits_value 10 digits.now) (2 ^ 32) }
+{
+    let mut value = 0u64;
+    for digit in digits {
+        value = (value * 10 + (*digit - b'0') as u64).min(1 << 32);
+    }
+    value
+}
+
 /// The number that a word of decimal digits stands for, at most 4,294,967,295.
 #[tactic(auto, unfolding(crate::specs::Words::number_of))]
 pub(crate) fn number(word: &[u8]) -> Option<u32>
     ensures { result ≡ number_of word.now }
 {
-    if word.is_empty() || !word.iter().all(|b| b'0' <= *b && *b <= b'9') {
+    if word.is_empty() || !are_digits(word) {
         return None;
     }
-    let mut value = 0u64;
-    for digit in word {
-        value = (value * 10 + (*digit - b'0') as u64).min(1 << 32);
+    let value = capped(word);
+    if value <= u32::MAX as u64 {
+        Some(value as u32)
+    } else {
+        None
     }
-    if value <= u32::MAX as u64 { Some(value as u32) } else { None }
 }
 
 /// The bytes that a word stands for.

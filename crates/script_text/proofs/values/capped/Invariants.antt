@@ -1,6 +1,6 @@
 use Rattle.std.proofs.Common.{◌≡◌, ◌^◌, min, take}
 use Rattle.std.specs.Str.Parse.{digits_value}
-use Rattle.script_text.proofs.values.number.Given as goal
+use Rattle.script_text.proofs.values.capped.Given as goal
 
 abbrev pub invariant-loop-digit : goal.invariant-loop-digit
-invariant-loop-digit l = l.value ≡ min (digits_value 10 (take l.digit-index l.word)) (2 ^ 32)
+invariant-loop-digit l = l.value ≡ min (digits_value 10 (take l.digit-index l.digits)) (2 ^ 32)
