@@ -1,3 +1,5 @@
 pub mod Cuts
 pub mod Options
 pub mod Digits
+pub mod OneLine
+pub mod Printing

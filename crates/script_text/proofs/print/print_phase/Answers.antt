@@ -1,0 +1,17 @@
+use Rattle.std.proofs.Common.{◌++◌, codes, decimal, ap, ◌∙◌}
+use Rattle.script_text.specs.Text.{phase_line}
+use Rattle.script_text.proofs.Printing.{append-five}
+use Rattle.script_text.proofs.print.print_phase.Goals as goal
+
+pub returns-clause-ok : goal.returns-clause-ok
+unfolding phase_line
+returns-clause-ok c =
+    let number = decimal c.args.number in
+    let objects = decimal c.args.objects in
+    c.in_ok-put-3.ensures.ok
+    ∙ ap (λ t. t ++ codes "\n")
+      (c.in_ok-put_number-2.ensures.ok
+      ∙ ap (λ t. t ++ objects)
+        (c.in_ok-put-2.ensures.ok
+        ∙ ap (λ t. t ++ codes " serial objects ") (c.in_ok-put_number.ensures.ok ∙ ap (λ t. t ++ number) c.in_ok-put.ensures.ok)))
+    ∙ append-five c.args.out.now.items (codes "# phase ") number (codes " serial objects ") objects (codes "\n")

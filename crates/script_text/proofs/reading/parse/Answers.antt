@@ -1,0 +1,24 @@
+use Rattle.std.proofs.Common.{refl, sym, ◌∙◌, ◌+◌, arith}
+use Rattle.script_text.proofs.OneLine.{script_from-good, script_from-bad, script_from-end, IsRead-good, IsRead-bad}
+use Rattle.script_text.proofs.reading.parse.Goals as goal
+
+pub returns-then-not-branch-clause-meaning : goal.returns-then-not-branch-clause-meaning
+returns-then-not-branch-clause-meaning c =
+    sym c.loop-line.invariant.same
+    ∙ script_from-bad c.loop-line.script (c.loop-line.number + 1) c.loop-line.rest.now c.in-Some.line.now c.in-Some.behind.now c.in-Some.ensures.cut
+    (IsRead-bad _ _ _ _ c.if-not-branch.true c.in_ok-add_line.ensures.read)
+
+pub loop-line-preserved : goal.loop-line-preserved
+loop-line-preserved c = record {
+  same =
+    sym (script_from-good c.loop-line.script c.add_line.new.script (c.loop-line.number + 1) c.loop-line.rest.now c.in-Some.line.now c.in-Some.behind.now c.in-Some.ensures.cut
+    (IsRead-good _ _ _ _ c.if-not-branch.false c.in_ok-add_line.ensures.read))
+    ∙ c.loop-line.invariant.same;
+  counted = omega (arith, c.in-Some.ensures.shorter);
+  short = omega (arith, c.in_ok-add_line.ensures.short)
+}
+
+pub returns-clause-meaning : goal.returns-clause-meaning
+returns-clause-meaning c =
+    sym c.loop-line.invariant.same
+    ∙ script_from-end c.loop-line.script (c.loop-line.number + 1) c.loop-line.rest.now (c.in_default.ensures.none refl)
