@@ -1,5 +1,5 @@
 -- The first line of a text, and the first word of a line.
-use Rattle.std.proofs.Common.{◌≡◌, ◌==◌, ◌+◌, ◌<◌, ◌≤◌, ℕ, Bool, true, false, not, cond, List, [], ◌∷◌, length, take, drop, Option, Some, None, is_some, refl, sym, ap, ◌∙◌, arith, subst, add-one, suc}
+use Rattle.std.proofs.Common.{◌≡◌, ◌==◌, ◌+◌, ◌<◌, ◌≤◌, ℕ, Bool, true, false, not, cond, List, [], ◌∷◌, length, take, drop, Option, Some, None, is_some, refl, sym, ap, ◌∙◌, arith, suc}
 use Rattle.std.proofs.lemmas.Bool.{false≢true}
 use Rattle.std.specs.Option.{option_map}
 use Rattle.std.specs.List.{prefix_len}
@@ -15,8 +15,8 @@ LineCut text = lines_of text ≡ take (before 10 text) text ∷ lines_of (drop (
 
 abbrev LineCutBy : Bool → ℕ → List ℕ → Type 0
 LineCutBy ends b text =
-  let n = cond (not ends) (1 + before 10 text) 0 in
-  cond ends ([] ∷ lines_of text) (in_front b (lines_of text)) ≡ take n (b ∷ text) ∷ lines_of (drop (suc n) (b ∷ text))
+    let n = cond (not ends) (1 + before 10 text) 0 in
+    cond ends ([] ∷ lines_of text) (in_front b (lines_of text)) ≡ take n (b ∷ text) ∷ lines_of (drop (suc n) (b ∷ text))
 
 longer : (b c : ℕ) (text : List ℕ) → LineCut (c ∷ text) → LineCutBy false b (c ∷ text)
 longer b c text h =
@@ -38,8 +38,8 @@ lines_of-first (b ∷ text) n some is =
 -- a line with a space: its first word, and the words behind the space
 abbrev WordCut : Bool → ℕ → List ℕ → Type 0
 WordCut ends b line =
-  let n = cond (not ends) (1 + before 32 line) 0 in
-  n < suc (length line) → cond ends ([] ∷ words_of line) (in_front b (words_of line)) ≡ take n (b ∷ line) ∷ words_of (drop (suc n) (b ∷ line))
+    let n = cond (not ends) (1 + before 32 line) 0 in
+    n < suc (length line) → cond ends ([] ∷ words_of line) (in_front b (words_of line)) ≡ take n (b ∷ line) ∷ words_of (drop (suc n) (b ∷ line))
 
 pub words_of-cut : (line : List ℕ) → before 32 line < length line → words_of line ≡ take (before 32 line) line ∷ words_of (drop (suc (before 32 line)) line)
 unfolding words_of
@@ -47,9 +47,9 @@ words_of-cut [] lt = absurd (omega arith)
 words_of-cut (b ∷ line) lt = elim (b == 32) as (λ t. WordCut t b line) [
   | true ↦ λ _. refl
   | false ↦ λ (h : 1 + before 32 line < suc (length line)).
-    let n = before 32 line in
-    let e : suc n ≡ 1 + n = omega arith in
-    ap (in_front b) (words_of-cut line (omega arith)) ∙ ap (λ k. take k (b ∷ line) ∷ words_of (drop (suc k) (b ∷ line))) e
+      let n = before 32 line in
+      let e : suc n ≡ 1 + n = omega arith in
+      ap (in_front b) (words_of-cut line (omega arith)) ∙ ap (λ k. take k (b ∷ line) ∷ words_of (drop (suc k) (b ∷ line))) e
 ] lt
 
 -- a line without a space is one word

@@ -1,5 +1,5 @@
 -- The number of some decimal digits, read one after another.
-use Rattle.std.proofs.Common.{◌≡◌, ◌+◌, ◌-◌, ◌*◌, ◌^◌, ◌<◌, ◌≤◌, ℕ, Bool, true, false, List, [], ◌∷◌, ◌++◌, length, take, get_or, min, nat_le, ◌&&◌, refl, sym, ap, ◌∙◌, arith}
+use Rattle.std.proofs.Common.{◌≡◌, ◌+◌, ◌-◌, ◌*◌, ◌^◌, ◌<◌, ℕ, Bool, true, false, List, length, take, get_or, min, refl, sym, ap, ◌∙◌, arith}
 use Rattle.std.specs.Char.{digit_value}
 use Rattle.std.specs.List.{list_all}
 use Rattle.std.specs.Str.Parse.{digits_value}
@@ -23,6 +23,6 @@ pub capped-step : (digits : List ℕ) (i value : ℕ) → list_all is_digit digi
 capped-step digits i value all lt is =
     let digit = get_or digits i 0 in
     let more : digits_value 10 (take (i + 1) digits) ≡ digits_value 10 (take i digits) * 10 + (digit - 48) =
-        ap (digits_value 10) (take_more digits i 0 lt) ∙ digits_value_push 10 (take i digits) digit
-        ∙ ap (λ d. digits_value 10 (take i digits) * 10 + d) (digit_value-digit digit (is_digit-get_or digits i all lt)) in
+    ap (digits_value 10) (take_more digits i 0 lt) ∙ digits_value_push 10 (take i digits) digit
+    ∙ ap (λ d. digits_value 10 (take i digits) * 10 + d) (digit_value-digit digit (is_digit-get_or digits i all lt)) in
     omega arith

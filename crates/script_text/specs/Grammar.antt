@@ -1,10 +1,8 @@
 -- The grammar of scripts: what each line means under the lines above it.
-use Rattle.std.specs.Prelude.{ℕ, ◌==◌, ◌+◌, Bool, ◌&&◌, not, nat_eq, List, [], ◌∷◌, ◌++◌, length, if◌then◌else◌, codes, Option, Some, None, option_and_then, position, Result, Ok, Err}
-use Rattle.std.specs.Option.{option_map}
+use Rattle.std.specs.Prelude.{ℕ, ◌==◌, ◌+◌, ◌&&◌, List, [], ◌∷◌, ◌++◌, length, if◌then◌else◌, codes, Option, Some, None, option_and_then, position, Result, Ok, Err}
 use Rattle.tee_types.specs.declared.call.Call.{Call}
 use Rattle.tee_types.specs.declared.call.Call.TheVariants.{Create, Open, Close, Read}
 use Rattle.script_text.specs.declared.script.Declaration.{Declaration}
-use Rattle.script_text.specs.declared.script.Step.{Step}
 use Rattle.script_text.specs.declared.script.Step.TheVariants.{Call as CallStep}
 use Rattle.script_text.specs.Lines.{lines_of, words_of}
 use Rattle.script_text.specs.Words.{same_word, is_name, uuid_of, id_of, bytes_of, flags_of, number_of}
@@ -51,11 +49,11 @@ read_words _ = None
 unfoldable pub call_words : List (List ℕ) → Option Call
 call_words [] = None
 call_words (verb ∷ words) =
-  if same_word verb (codes "create") then create_words words
-  else if same_word verb (codes "open") then open_words words
-  else if same_word verb (codes "close") then close_words words
-  else if same_word verb (codes "read") then read_words words
-  else None
+    if same_word verb (codes "create") then create_words words
+    else if same_word verb (codes "open") then open_words words
+    else if same_word verb (codes "close") then close_words words
+    else if same_word verb (codes "read") then read_words words
+    else None
 
 -- the place of the application of that name
 abbrev pub place_of : List ℕ → List Declaration → Option ℕ
@@ -71,11 +69,11 @@ call_line above name words = do
 -- `app NAME UUID`: one application, declared in the first line
 unfoldable pub app_line : ScriptValue → List (List ℕ) → Option ScriptValue
 app_line above (name ∷ uuid ∷ []) =
-  if is_name name && (length above.applications == 0)
-  then (do
-    app ← uuid_of uuid
-    Some (record above { applications = above.applications ++ record { name = name; app = app } ∷ [] }))
-  else None
+    if is_name name && (length above.applications == 0)
+    then (do
+      app ← uuid_of uuid
+      Some (record above { applications = above.applications ++ record { name = name; app = app } ∷ [] }))
+    else None
 app_line above _ = None
 
 -- the script with one more line

@@ -1,5 +1,5 @@
 -- A text as lines, and a line as words.
-use Rattle.std.specs.Prelude.{ℕ, ◌==◌, Bool, List, [], ◌∷◌, if◌then◌else◌, Option, Some, None}
+use Rattle.std.specs.Prelude.{ℕ, ◌==◌, List, [], ◌∷◌, if◌then◌else◌, Option, Some, None}
 
 -- one more byte in front of the first of these pieces
 abbrev pub in_front : ℕ → List (List ℕ) → List (List ℕ)

@@ -1,5 +1,5 @@
 -- A script: the applications that it declares, and its steps.
-use Rattle.std.specs.Prelude.{ℕ, ◌≡◌, ◌<◌, List, [], length, All, Result, Ok, Err}
+use Rattle.std.specs.Prelude.{ℕ, ◌<◌, List, []}
 use Rattle.script_text.specs.declared.script.Declaration.{Declaration}
 use Rattle.script_text.specs.declared.script.Step.{Step}
 use Rattle.script_text.specs.declared.script.Step.TheVariants.{Call as CallStep}

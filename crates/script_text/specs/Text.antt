@@ -1,5 +1,5 @@
 -- The text of a run.
-use Rattle.std.specs.Prelude.{ℕ, ◌==◌, ◌+◌, Bool, List, [], ◌∷◌, ◌++◌, length, if◌then◌else◌, codes, decimal, slice_get, unwrap_or, bit_and}
+use Rattle.std.specs.Prelude.{ℕ, ◌==◌, ◌+◌, List, [], ◌∷◌, ◌++◌, length, if◌then◌else◌, codes, decimal, slice_get, unwrap_or}
 use Rattle.std.specs.Int.{w32, w16, to_be_bytes}
 use Rattle.std.specs.Option.{option_map}
 use Rattle.hex.specs.Hex.{encode_lower}
@@ -35,19 +35,19 @@ letter flags bits code = if has flags bits then code ∷ [] else []
 -- the letters r w m R W o of the bits that are set
 abbrev pub letters_text : Flags → List ℕ
 letters_text flags =
-  letter flags READ 114 ++ letter flags WRITE 119 ++ letter flags WRITE_META 109
-  ++ letter flags SHARE_READ 82 ++ letter flags SHARE_WRITE 87 ++ letter flags OVERWRITE 111
+    letter flags READ 114 ++ letter flags WRITE 119 ++ letter flags WRITE_META 109
+    ++ letter flags SHARE_READ 82 ++ letter flags SHARE_WRITE 87 ++ letter flags OVERWRITE 111
 
 -- letters, `-` for no bit, or `0x` and eight digits where a bit outside the six is set
 unfoldable pub flags_text : Flags → List ℕ
 flags_text flags =
-  if flags.bits == 0 then codes "-"
-  else if is_known flags then letters_text flags
-  else codes "0x" ++ encode_lower (to_be_bytes w32 flags.bits)
+    if flags.bits == 0 then codes "-"
+    else if is_known flags then letters_text flags
+    else codes "0x" ++ encode_lower (to_be_bytes w32 flags.bits)
 
 unfoldable pub call_text : Call → List ℕ
 call_text (Create id flags attributes bytes) =
-  codes "create " ++ encode_lower id ++ codes " " ++ flags_text flags ++ codes " " ++ bytes_text attributes ++ codes " " ++ bytes_text bytes
+    codes "create " ++ encode_lower id ++ codes " " ++ flags_text flags ++ codes " " ++ bytes_text attributes ++ codes " " ++ bytes_text bytes
 call_text (Open id flags) = codes "open " ++ encode_lower id ++ codes " " ++ flags_text flags
 call_text (Close handle) = codes "close " ++ decimal handle
 call_text (Read handle size) = codes "read " ++ decimal handle ++ codes " " ++ decimal size
@@ -80,7 +80,7 @@ cause_text (CardResult value) = codes "result 0x" ++ encode_lower (to_be_bytes w
 -- what `info` answers
 abbrev pub info_text : ℕ → ℕ → Flags → List ℕ → List ℕ
 info_text size position flags attributes =
-  codes "ok " ++ decimal size ++ codes " " ++ decimal position ++ codes " " ++ flags_text flags ++ codes " " ++ bytes_text attributes
+    codes "ok " ++ decimal size ++ codes " " ++ decimal position ++ codes " " ++ flags_text flags ++ codes " " ++ bytes_text attributes
 
 unfoldable pub reply_text : Reply → List ℕ
 reply_text Done = codes "ok"
@@ -103,7 +103,7 @@ name_at script session = unwrap_or (option_map (λ d. d.name) (slice_get script.
 -- the line of the event at that place
 unfoldable pub event_text : ScriptValue → ℕ → Event → List ℕ
 event_text script place (CallEvent session number call reply mark) =
-  decimal place ++ codes " " ++ name_at script session ++ codes " " ++ call_text call ++ codes " -> " ++ reply_text reply ++ codes "\n"
+    decimal place ++ codes " " ++ name_at script session ++ codes " " ++ call_text call ++ codes " -> " ++ reply_text reply ++ codes "\n"
 event_text script place (Landed commit) = decimal place ++ codes " - landed " ++ decimal commit ++ codes "\n"
 
 -- the lines of these events, the first of them at that place

@@ -280,12 +280,7 @@ fn put_name(out: &mut Vec<u8>, names: &Script, session: u32) -> Result<(), NoMem
 
 /// Appends the line of an event. A refusal may leave a part of it behind the old text.
 #[tactic(auto, unfolding(crate::specs::Text::event_text))]
-fn put_event(
-    out: &mut Vec<u8>,
-    names: &Script,
-    place: u64,
-    event: &Event,
-) -> Result<(), NoMemory>
+fn put_event(out: &mut Vec<u8>, names: &Script, place: u64, event: &Event) -> Result<(), NoMemory>
     ensures ok { OnOk result (out.new.items ≡ out.old.items ++ event_text names.now place event.now) }
     ensures kept { take (length out.old.items) out.new.items ≡ out.old.items }
 {

@@ -67,7 +67,8 @@ impl Script {
     pub(crate) fn declare(&mut self, name: Bytes, app: AppId) -> Result<(), NoMemory>
         requires { length self.old.applications + 1 < 2 ^ 32 }
         ensures { OnOk result (self.new ≡ record self.old {
-            applications = self.old.applications ++ record { name = name; app = app } ∷ [] }) }
+          applications = self.old.applications ++ record { name = name; app = app } ∷ [];
+        }) }
     {
         self.declared.push(Declaration { name, app })?;
         Ok(())

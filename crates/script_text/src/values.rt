@@ -51,8 +51,16 @@ pub(crate) fn flags(word: &[u8]) -> Option<Flags>
     let share_read = count(word, b'R');
     let share_write = count(word, b'W');
     let overwrite = count(word, b'o');
-    let once = read <= 1 && write <= 1 && meta <= 1 && share_read <= 1 && share_write <= 1 && overwrite <= 1;
-    if word.is_empty() || !once || read + write + meta + share_read + share_write + overwrite != word.len() {
+    let once = read <= 1
+        && write <= 1
+        && meta <= 1
+        && share_read <= 1
+        && share_write <= 1
+        && overwrite <= 1;
+    if word.is_empty()
+        || !once
+        || read + write + meta + share_read + share_write + overwrite != word.len()
+    {
         return None;
     }
     Some(Flags {
@@ -138,8 +146,7 @@ pub(crate) fn id(word: &[u8]) -> Option<ObjectId>
 fn has_name_bytes(word: &[u8]) -> bool
     ensures { result ≡ list_all (λ byte. is_small_letter byte || is_digit byte || (byte == 95)) word.now }
 {
-    word.iter()
-        .all(|b| b.is_ascii_lowercase() || b.is_ascii_digit() || *b == b'_')
+    word.iter().all(|b| b.is_ascii_lowercase() || b.is_ascii_digit() || *b == b'_')
 }
 
 /// Whether a word has a meaning of its own, and so is no name.

@@ -1,7 +1,5 @@
 -- Look-ups, changes and removals by number, at the place of the first entry of that number.
-use Rattle.std.proofs.Common.{◌≡◌, ◌==◌, ◌<◌, ◌≤◌, ◌+◌, ℕ, Bool, true, false, cond, List, [], ◌∷◌, length, None, Some, get_or, suc, zero, eq-eqb, ⊎_elim, ◌⊎◌, subst, refl, sym, ap, ◌∙◌, arith, slice_get, slice_set, remove, take, drop, ◌++◌}
-use Rattle.std.proofs.lemmas.Grind.{common_steps}
-use Rattle.std.specs.Option.{option_map}
+use Rattle.std.proofs.Common.{◌≡◌, ◌==◌, ◌<◌, ℕ, true, false, cond, List, [], ◌∷◌, length, None, Some, get_or, suc, zero, eq-eqb, refl, sym, ap, ◌∙◌, arith}
 use Rattle.std.specs.Map.{lookup, set_value, remove_entry}
 use Rattle.store_model.specs.Places.{IsPlaceOf}
 

@@ -1,9 +1,8 @@
 -- How a call of the program may answer: as the machine does, or for want of memory without any change.
-use Rattle.std.specs.Prelude.{◌≡◌, ◌⊎◌, ℕ}
-use Rattle.tee_types.specs.declared.call.Call.{Call}
+use Rattle.std.specs.Prelude.{◌≡◌, ◌⊎◌}
 use Rattle.tee_types.specs.declared.reply.Reply.{Reply}
 use Rattle.tee_types.specs.declared.reply.Reply.TheVariants.{NoMemory}
-use Rattle.store_model.specs.Machine.{MachineState, Outcome, outcome_of}
+use Rattle.store_model.specs.Machine.{MachineState, Outcome}
 
 -- the reply and the state of that outcome
 pub record IsOutcome (outcome : Outcome) (reply : Reply) (new : MachineState) : Type 0 where

@@ -8,12 +8,12 @@ use Rattle.store_model.specs.declared.event.Event.TheVariants.{Call as CallEvent
 abbrev pub calls_of : ℕ → List Event → List Call
 calls_of session [] = []
 calls_of session (CallEvent s number call reply mark ∷ events) =
-  if s == session then call ∷ calls_of session events else calls_of session events
+    if s == session then call ∷ calls_of session events else calls_of session events
 calls_of session (Landed commit ∷ events) = calls_of session events
 
 -- the numbers that its entries carry, in order
 abbrev pub numbers_of : ℕ → List Event → List ℕ
 numbers_of session [] = []
 numbers_of session (CallEvent s number call reply mark ∷ events) =
-  if s == session then number ∷ numbers_of session events else numbers_of session events
+    if s == session then number ∷ numbers_of session events else numbers_of session events
 numbers_of session (Landed commit ∷ events) = numbers_of session events

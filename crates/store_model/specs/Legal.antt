@@ -1,5 +1,5 @@
 -- Which histories are legal: each event is one that the store may give where the replay of the earlier ones stands.
-use Rattle.std.specs.Prelude.{◌≡◌, ◌==◌, ◌<◌, ◌+◌, ◌^◌, ℕ, Bool, true, false, not, ◌&&◌, List, [], ◌∷◌, length, map, filter, if◌then◌else◌}
+use Rattle.std.specs.Prelude.{◌≡◌, ◌<◌, ◌+◌, ◌^◌, ℕ, Bool, true, false, List, [], ◌∷◌, length, if◌then◌else◌}
 use Rattle.std.specs.List.{range_with_len}
 use Rattle.tee_types.specs.declared.call.Call.{Call}
 use Rattle.tee_types.specs.declared.call.Call.TheVariants.{Create, Open, Close, Read}
@@ -42,7 +42,7 @@ counter_after counter call reply = if is_commit call reply then counter + 1 else
 abbrev pub standing_after : Standing → Event → Standing
 standing_after s (CallEvent session number call reply mark) = record {
   state = state_after s.state session call;
-  counter = counter_after s.counter call reply
+  counter = counter_after s.counter call reply;
 }
 standing_after s (Landed commit) = s
 

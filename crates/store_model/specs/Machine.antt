@@ -1,6 +1,6 @@
 -- The store on one thread, without locks, files or caches: what each call answers, and what it leaves
 -- (TEE Internal Core API, Trusted Storage: persistent object functions and data stream access functions).
-use Rattle.std.specs.Prelude.{◌≡◌, ◌==◌, ◌<◌, ℕ, Bool, true, false, not, ◌&&◌, ◌||◌, if◌then◌else◌, nat_lt, nat_le, min, ◌+◌, ◌-◌, ◌*◌, List, [], ◌∷◌, ◌++◌, length, take, drop, map, Option, Some, None, slice_index_or, slice_set, is_some}
+use Rattle.std.specs.Prelude.{◌==◌, ℕ, Bool, not, ◌&&◌, ◌||◌, if◌then◌else◌, nat_lt, nat_le, ◌+◌, ◌-◌, ◌*◌, List, [], ◌∷◌, ◌++◌, length, take, drop, map, Option, Some, None, slice_index_or, slice_set, is_some}
 use Rattle.std.specs.List.{list_any, list_all}
 use Rattle.std.specs.Map.{lookup, set_value, remove_entry}
 use Rattle.tee_types.specs.declared.flags.Flags.{Flags}
@@ -81,8 +81,8 @@ open_handle s i name flags = let session = session_at s i in record {
   reply = HandleReply session.next_handle;
   next = with_session s i (record session {
     handles = session.handles ++ (session.next_handle, record { name = name; flags = flags; position = 0 }) ∷ [];
-    next_handle = session.next_handle + 1
-  })
+    next_handle = session.next_handle + 1;
+  });
 }
 
 -- an object of that name would be new, and the store has as many objects as it may have
@@ -92,13 +92,13 @@ lacks_room objects name = not (holds objects name) && nat_le 256 (length objects
 -- why a create is refused
 abbrev pub create_refusals : MachineState → ℕ → ObjectName → Flags → List ℕ → List ℕ → List (Bool × Reply)
 create_refusals s i name flags attributes bytes =
-  (not (is_known flags), Misuse BadFlags)
-  ∷ (has_all_handles (session_at s i), Misuse TooMany)
-  ∷ (nat_lt 2048 (length attributes), Refused BadParameters)
-  ∷ (holds s.objects name && not (has flags OVERWRITE), Refused AccessConflict)
-  ∷ (holds s.objects name && list_any (has_open name) s.sessions, Refused AccessConflict)
-  ∷ (nat_lt 1044480 (length bytes) || lacks_room s.objects name, Refused NoSpace)
-  ∷ []
+    (not (is_known flags), Misuse BadFlags)
+    ∷ (has_all_handles (session_at s i), Misuse TooMany)
+    ∷ (nat_lt 2048 (length attributes), Refused BadParameters)
+    ∷ (holds s.objects name && not (has flags OVERWRITE), Refused AccessConflict)
+    ∷ (holds s.objects name && list_any (has_open name) s.sessions, Refused AccessConflict)
+    ∷ (nat_lt 1044480 (length bytes) || lacks_room s.objects name, Refused NoSpace)
+    ∷ []
 
 -- TEE_CreatePersistentObject: the object is made or replaced, whole and at once, and opened.
 unfoldable pub create_of : MachineState → ℕ → List ℕ → Flags → List ℕ → List ℕ → Outcome
@@ -111,12 +111,12 @@ create_of s i id flags attributes bytes =
 -- why an open is refused
 abbrev pub open_refusals : MachineState → ℕ → ObjectName → Flags → List (Bool × Reply)
 open_refusals s i name flags =
-  (not (is_known flags) || has flags OVERWRITE, Misuse BadFlags)
-  ∷ (has_all_handles (session_at s i), Misuse TooMany)
-  ∷ (not (holds s.objects name), Refused ItemNotFound)
-  ∷ (not (list_all (allows_open name flags) s.sessions), Refused AccessConflict)
-  ∷ (is_damaged (object_at s.objects name), Corrupt)
-  ∷ []
+    (not (is_known flags) || has flags OVERWRITE, Misuse BadFlags)
+    ∷ (has_all_handles (session_at s i), Misuse TooMany)
+    ∷ (not (holds s.objects name), Refused ItemNotFound)
+    ∷ (not (list_all (allows_open name flags) s.sessions), Refused AccessConflict)
+    ∷ (is_damaged (object_at s.objects name), Corrupt)
+    ∷ []
 
 -- TEE_OpenPersistentObject
 unfoldable pub open_of : MachineState → ℕ → List ℕ → Flags → Outcome
@@ -131,7 +131,7 @@ close_of s i number =
     unless_refused ((not (is_some (handle_at session number)), Misuse BadHandle) ∷ []) s
     (record {
       reply = Done;
-      next = with_session s i (record session { handles = remove_entry (λ n. n == number) session.handles })
+      next = with_session s i (record session { handles = remove_entry (λ n. n == number) session.handles });
     })
 
 -- data block k has a byte from place first on and before place last
@@ -150,7 +150,7 @@ read_from s i number handle size contents =
     unless_refused ((list_any (meets_block handle.position last) contents.bad, Corrupt) ∷ []) s
     (let session = session_at s i in record {
       reply = Content given;
-      next = with_session s i (record session { handles = set_value (λ n. n == number) session.handles (record handle { position = last }) })
+      next = with_session s i (record session { handles = set_value (λ n. n == number) session.handles (record handle { position = last }) });
     })
 
 -- the same of the object that a live handle stands for
@@ -163,7 +163,7 @@ read_object s i number handle size (Some (Sound contents)) = read_from s i numbe
 abbrev pub read_by : MachineState → ℕ → ℕ → ℕ → Option Handle → Outcome
 read_by s i number size None = refuse s (Misuse BadHandle)
 read_by s i number size (Some handle) =
-  if has handle.flags READ then read_object s i number handle size (object_at s.objects handle.name) else refuse s (Misuse NoRight)
+    if has handle.flags READ then read_object s i number handle size (object_at s.objects handle.name) else refuse s (Misuse NoRight)
 
 -- TEE_ReadObjectData: the bytes from the position on, at most so many, fewer near the end.
 unfoldable pub read_of : MachineState → ℕ → ℕ → ℕ → Outcome

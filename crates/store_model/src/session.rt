@@ -78,8 +78,9 @@ impl Session {
         requires { has_all_handles self.old ≡ false }
         ensures number { result ≡ self.old.next_handle }
         ensures opened { self.new ≡ record self.old {
-            handles = self.old.handles ++ (self.old.next_handle, record { name = name; flags = flags; position = 0 }) ∷ [];
-            next_handle = self.old.next_handle + 1 } }
+          handles = self.old.handles ++ (self.old.next_handle, record { name = name; flags = flags; position = 0 }) ∷ [];
+          next_handle = self.old.next_handle + 1;
+        } }
     {
         let number = self.next_handle;
         let handle = Handle {
@@ -131,9 +132,7 @@ impl Session {
     pub fn allows(&self, name: &ObjectName, flags: Flags) -> bool
         ensures { result ≡ allows_open name.now flags self.now }
     {
-        self.handles
-            .iter()
-            .all(|h| !(*name == h.1.name) || flags.is_compatible_with(h.1.flags))
+        self.handles.iter().all(|h| !(*name == h.1.name) || flags.is_compatible_with(h.1.flags))
     }
 
     /// Whether a handle of this session is open on that object.

@@ -9,7 +9,9 @@ use crate::session::{Handle, Session};
 use std::alloc::Global;
 use std::collections::BTreeMap;
 use std::marker::Model;
-use tee_types::{AppId, Bytes, Call, Code, Flags, NoMemory, OVERWRITE, ObjectId, READ, Reason, Reply};
+use tee_types::{
+    AppId, Bytes, Call, Code, Flags, NoMemory, OVERWRITE, ObjectId, READ, Reason, Reply,
+};
 
 /// The greatest number of objects of the store.
 pub const MAX_OBJECTS: usize = 256;
@@ -121,7 +123,8 @@ impl State {
         requires live { IsSome (handle_at (session_at self.old session) number) }
         requires session { session < length self.old.sessions }
         ensures { self.new ≡ with_session self.old session (record (session_at self.old session) {
-            handles = set_value (λ n. n == number) (session_at self.old session).handles handle }) }
+          handles = set_value (λ n. n == number) (session_at self.old session).handles handle;
+        }) }
     {
         self.sessions[session].replace(number, handle);
     }

@@ -10,8 +10,8 @@ returns-clause-ok c =
     let objects = decimal c.args.objects in
     c.in_ok-put-3.ensures.ok
     ∙ ap (λ t. t ++ codes "\n")
-      (c.in_ok-put_number-2.ensures.ok
-      ∙ ap (λ t. t ++ objects)
-        (c.in_ok-put-2.ensures.ok
-        ∙ ap (λ t. t ++ codes " serial objects ") (c.in_ok-put_number.ensures.ok ∙ ap (λ t. t ++ number) c.in_ok-put.ensures.ok)))
+    (c.in_ok-put_number-2.ensures.ok
+    ∙ ap (λ t. t ++ objects)
+    (c.in_ok-put-2.ensures.ok
+    ∙ ap (λ t. t ++ codes " serial objects ") (c.in_ok-put_number.ensures.ok ∙ ap (λ t. t ++ number) c.in_ok-put.ensures.ok)))
     ∙ append-five c.args.out.now.items (codes "# phase ") number (codes " serial objects ") objects (codes "\n")

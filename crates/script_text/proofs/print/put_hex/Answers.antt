@@ -1,14 +1,12 @@
-use Rattle.std.proofs.Common.{◌≡◌, ◌++◌, [], ◌∙◌, sym, refl, arith}
-use Rattle.std.proofs.lemmas.List.{at_drop_all}
+use Rattle.std.proofs.Common.{◌∙◌, sym, arith}
 use Rattle.std.proofs.lemmas.Grind.{common_steps}
-use Rattle.hex.specs.Hex.{encode_lower}
 use Rattle.script_text.proofs.Printing.{encode_lower-more, encode_lower-all}
 use Rattle.script_text.proofs.print.put_hex.Goals as goal
 
 pub loop-byte-preserved : goal.loop-byte-preserved
 loop-byte-preserved c = record {
   same = encode_lower-more c.args.bytes.now c.loop-byte.byte-index c.loop-byte.out.items c.put.new.out.items c.loop-byte-test.true c.in_ok-put.ensures.ok ∙ c.loop-byte.invariant.same;
-  kept = grind (arith, common_steps)
+  kept = grind (arith, common_steps);
 }
 
 pub returns-clause-ok : goal.returns-clause-ok

@@ -11,11 +11,11 @@ returns-then-not-branch-clause-meaning c =
 pub loop-line-preserved : goal.loop-line-preserved
 loop-line-preserved c = record {
   same =
-    sym (script_from-good c.loop-line.script c.add_line.new.script (c.loop-line.number + 1) c.loop-line.rest.now c.in-Some.line.now c.in-Some.behind.now c.in-Some.ensures.cut
-    (IsRead-good _ _ _ _ c.if-not-branch.false c.in_ok-add_line.ensures.read))
-    ∙ c.loop-line.invariant.same;
+      sym (script_from-good c.loop-line.script c.add_line.new.script (c.loop-line.number + 1) c.loop-line.rest.now c.in-Some.line.now c.in-Some.behind.now c.in-Some.ensures.cut
+      (IsRead-good _ _ _ _ c.if-not-branch.false c.in_ok-add_line.ensures.read))
+      ∙ c.loop-line.invariant.same;
   counted = omega (arith, c.in-Some.ensures.shorter);
-  short = omega (arith, c.in_ok-add_line.ensures.short)
+  short = omega (arith, c.in_ok-add_line.ensures.short);
 }
 
 pub returns-clause-meaning : goal.returns-clause-meaning

@@ -7,7 +7,7 @@ abbrev pub invariant-loop-line : goal.invariant-loop-line
 invariant-loop-line l = record {
   same : script_from l.script (l.number + 1) (lines_of l.rest) ≡ script_of l.text;
   counted : l.number + length l.rest ≤ length l.text;
-  short : length l.script.steps ≤ l.number
+  short : length l.script.steps ≤ l.number;
 }
 
 abbrev pub decreases-loop-line : goal.decreases-loop-line

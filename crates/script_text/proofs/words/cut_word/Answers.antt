@@ -1,4 +1,4 @@
-use Rattle.std.proofs.Common.{◌≡◌, ◌∷◌, ◌<◌, ◌≤◌, length, take, option_copied, Some, sym, ap, ◌∙◌, arith}
+use Rattle.std.proofs.Common.{◌∷◌, take, option_copied, sym, ap, ◌∙◌, arith}
 use Rattle.script_text.specs.Lines.{words_of, words_left}
 use Rattle.script_text.proofs.Cuts.{words_of-one, words_of-first}
 use Rattle.script_text.proofs.words.cut_word.Goals as goal

@@ -1,4 +1,4 @@
-use Rattle.std.proofs.Common.{refl, arith, rules, ap, sym, below_more, ◌≡◌, ◌==◌, ◌≤◌, length, ◌<◌, ◌∙◌, false, Bool}
+use Rattle.std.proofs.Common.{arith, sym, below_more}
 use Rattle.std.proofs.lemmas.List.{get_or_read}
 use Rattle.std.proofs.lemmas.Bool.{ne_eqb}
 use Rattle.store_model.proofs.Entries.{lookup_none, IsPlaceOf-first}
