@@ -1,0 +1,72 @@
+ghost use Rattle.std.specs.Prelude.{◌≡◌, ℕ, List, length};
+ghost use Rattle.aes_block.specs.Cipher.{cipher};
+ghost use Rattle.aes_block.specs.InverseCipher.{inv_cipher};
+ghost use Rattle.aes_block.specs.State.{IsBytes};
+
+use crate::inverse_steps::{inv_mix_columns, inv_shift_rows, inv_sub_bytes};
+use crate::key_schedule::next_round_key;
+use crate::steps::{add_round_key, mix_columns, shift_rows, sub_bytes};
+use std::marker::Model;
+
+// The first bytes of Rcon 1 to Rcon 10 (5.2).
+const ROUND_CONSTANTS: [u8; 10] = [0x01, 0x02, 0x04, 0x08, 0x10, 0x20, 0x40, 0x80, 0x1b, 0x36];
+
+/// AES-128 under one key, expanded once: the keys of its eleven rounds (FIPS 197, 5.2).
+///
+/// In a contract it is the key, a list of 16 bytes.
+#[derive(Drop)]
+pub struct Aes128 {
+    keys: [[u8; 16]; 11],
+}
+
+impl Model for Aes128 {
+    ghost use Rattle.std.specs.Prelude.{ℕ, List};
+    ghost use Rattle.aes_block.specs.RoundKeys.{AreRoundKeys, first_key};
+
+    ghost Value = { List ℕ };
+
+    ghost view = { λ a. first_key a.keys };
+
+    ghost invariant = { λ a. AreRoundKeys a.keys };
+}
+
+impl Aes128 {
+    /// The cipher under `key`.
+    pub fn new(key: &[u8; 16]) -> Aes128
+        ensures { result ≡ key.now }
+    {
+        let mut keys = [[0u8; 16]; 11];
+        keys[0] = *key;
+        'expand: for n in 0..10 {
+            let before = keys[n];
+            keys[n + 1] = next_round_key(&before, ROUND_CONSTANTS[n]);
+        }
+        Aes128 { keys }
+    }
+
+    /// Enciphers `block` in place (FIPS 197, 5.1).
+    pub fn encrypt(&self, block: &mut [u8; 16])
+        ensures { block.new ≡ cipher self.now block.old }
+    {
+        let mut s = add_round_key(block, &self.keys[0]);
+        'rounds: for n in 0..9 {
+            s = add_round_key(&mix_columns(&shift_rows(&sub_bytes(&s))), &self.keys[n + 1]);
+        }
+        *block = add_round_key(&shift_rows(&sub_bytes(&s)), &self.keys[10]);
+    }
+
+    /// Deciphers `block` in place (FIPS 197, 5.3): gives back what `encrypt` was given under the same key.
+    pub fn decrypt(&self, block: &mut [u8; 16])
+        ensures value { block.new ≡ inv_cipher self.now block.old }
+        ensures undoes { (b : List ℕ) → IsBytes b → length b ≡ 16 → block.old ≡ cipher self.now b → block.new ≡ b }
+    {
+        let mut s = add_round_key(block, &self.keys[10]);
+        'rounds: for n in 0..9 {
+            s = inv_mix_columns(&add_round_key(
+                &inv_sub_bytes(&inv_shift_rows(&s)),
+                &self.keys[9 - n],
+            ));
+        }
+        *block = add_round_key(&inv_sub_bytes(&inv_shift_rows(&s)), &self.keys[0]);
+    }
+}
