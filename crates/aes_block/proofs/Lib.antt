@@ -5,3 +5,7 @@ pub mod StaysBytes
 pub mod Deciphering
 pub mod RoundSteps
 pub mod Vectors
+pub mod Circuit
+pub mod PlaneSteps
+pub mod Turning
+pub mod Eight

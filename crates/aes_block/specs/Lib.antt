@@ -8,3 +8,6 @@ pub mod WrappedKey
 pub mod Laws
 pub mod CodeSteps
 pub mod RoundKeys
+pub mod Circuit
+pub mod SBoxCircuit
+pub mod Planes

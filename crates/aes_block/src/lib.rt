@@ -8,8 +8,11 @@ mod inverse_steps;
 mod key_schedule;
 mod key_wrap;
 mod laws;
+mod plane_steps;
+mod s_box_planes;
 mod steps;
 mod tables;
+mod transpose;
 
 pub use block_cipher::Aes128;
 pub use key_wrap::{unwrap_key, wrap};
