@@ -1,11 +1,10 @@
 -- The S-box's s_box_circuit on planes: on each bit of each lane it is the s_box_circuit on bits, and on the bits of a byte that is the S-box.
-use Rattle.std.proofs.Common.{◌≡◌, ℕ, zero, suc, ◌+◌, ◌-◌, ◌*◌, ◌%◌, ◌^◌, ◌<◌, min, List, [], ◌∷◌, ◌++◌, length, map, get_or, replicate, slice_index, refl, sym, ap, subst, ◌∙◌, arith, inl, inr, bit_xor, bit_and, add_comm}
+use Rattle.std.proofs.Common.{◌≡◌, ℕ, zero, suc, ◌+◌, ◌%◌, ◌<◌, min, List, [], ◌∷◌, ◌++◌, length, map, get_or, replicate, slice_index, refl, sym, ap, subst, ◌∙◌, arith, bit_xor, bit_and}
 use Rattle.std.specs.Prelude.{slice_index_or}
 use Rattle.std.specs.Int.{bit_at}
 use Rattle.std.specs.List.{range_with_len}
 use lib.Lanes.{zip2}
-use Rattle.std.proofs.lemmas.Bool.{cases_lt}
-use Rattle.std.proofs.lemmas.Nat.Bits.{bit_at_xor, bit_at_and, bit_at-zero, bit_at-lt, bit_at_ones, bit_at_cat_low, bit_at_cat_high, bit_at_lowest}
+use Rattle.std.proofs.lemmas.Nat.Bits.{bit_at_xor, bit_at_and, bit_at-zero, bit_at-lt, bit_at_ones}
 use Rattle.std.proofs.lemmas.Simd.{get_or-zip2, length-zip2, get_or-replicate, pick_l_whole, map-map}
 use Rattle.std.proofs.Math.ListN.{get_or-map}
 use Rattle.std.proofs.lemmas.List.{length-map, get_or_default}
@@ -15,8 +14,10 @@ use Rattle.aes_block.specs.Planes.{ArePlanes, byte_at}
 use Rattle.aes_block.specs.SBox.{from_bits_of, s_box}
 use Rattle.aes_block.specs.SBoxCircuit.{bot_gates, bot_outs, from_inv, from_top, inv_gates, inv_outs, lin_gates, lin_outs, mid_gates, mid_outs, s_box_circuit, top_gates, top_outs}
 use Rattle.aes_block.proofs.AllBytes.{same_at_byte, values}
-use Rattle.aes_block.proofs.StaysBytes.{from_bits_lt}
+use Rattle.aes_block.proofs.ByteBits.{from_bits_lt}
 use Rattle.aes_block.specs.Circuit.Gate.{Sum, Product}
+use Rattle.aes_block.specs.BitMatrix.{bits}
+use Rattle.aes_block.proofs.ByteBits.{bits_back, from_bits_lt, number}
 
 abbrev pub zeros : List ℕ
 zeros = replicate 16 0
@@ -194,31 +195,9 @@ module _ (x y m t z r : List (List ℕ)) (ls : Layers x y m t z r) (planes : Are
       ∙ ap (λ (u : List ℕ). from_inv (b x7) (bits (wires 21 y)) (bits_layer inv_gates inv_outs u)) bm
       ∙ ap (from_top (b x7)) by
 
--- the number of eight bits
-abbrev pub number : List ℕ → ℕ
-number l = from_bits_of (λ i. slice_index l i) 8
-
-abbrev pub bits : ℕ → List ℕ
-bits b = map (bit_at b) (range_with_len 0 8)
-
 s_box_circuit-all : values (λ b. number (s_box_circuit (bits b))) ≡ values s_box
 unfolding polynomial_times remainder field_times inverse_below inverse from_bits_of s_box layer run
 s_box_circuit-all = refl
-
-pub bits_back : (f : ℕ → ℕ) → ((i : ℕ) → f i < 2) → (n i : ℕ) → i < n → bit_at (from_bits_of f n) i ≡ f i
-unfolding from_bits_of
-bits_back f h zero i lt = absurd (omega arith)
-bits_back f h (suc n) i lt = elim (cases_lt i n) [
-  | inl a ↦
-      ap (λ (x : ℕ). bit_at x i) (add_comm (from_bits_of f n) (f n * 2 ^ n)) ∙ bit_at_cat_low (f n) n (from_bits_of f n) i a
-      ∙ bits_back f h n i a
-  | inr b ↦
-      let e : i ≡ n = omega arith in
-      let z : i - n ≡ 0 = omega arith in
-      let small : f n < 2 = h n in
-      ap (λ (x : ℕ). bit_at x i) (add_comm (from_bits_of f n) (f n * 2 ^ n)) ∙ bit_at_cat_high (f n) n (from_bits_of f n) i (from_bits_lt f n h) b
-      ∙ ap (bit_at (f n)) z ∙ bit_at_lowest (f n) ∙ (omega arith) ∙ ap f (sym e)
-]
 
 -- the s_box_circuit on eight bits is the S-box on their number
 circuit_is : (f : ℕ → ℕ) → ((i : ℕ) → f i < 2) → number (s_box_circuit (map f (range_with_len 0 8))) ≡ s_box (from_bits_of f 8)

@@ -1,11 +1,13 @@
 pub mod AllBytes
 pub mod Linear
 pub mod Schedule
+pub mod ByteBits
 pub mod StaysBytes
 pub mod Deciphering
 pub mod RoundSteps
 pub mod Vectors
+pub mod Lanes
+pub mod BitRows
 pub mod Circuit
 pub mod PlaneSteps
-pub mod Turning
-pub mod Eight
+pub mod PackedBlocks

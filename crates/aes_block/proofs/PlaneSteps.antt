@@ -1,59 +1,28 @@
 -- The other steps on planes, a byte at a time.
-use Rattle.std.proofs.Common.{◌≡◌, ℕ, zero, suc, ◌+◌, ◌*◌, ◌%◌, ◌^◌, ◌<◌, List, [], ◌∷◌, length, slice_index, refl, sym, ap, ◌∙◌, arith, bit_xor, add_comm}
+use Rattle.std.proofs.Common.{◌≡◌, ℕ, ◌<◌, List, [], ◌∷◌, slice_index, refl, sym, ap, ◌∙◌, arith, bit_xor}
 use Rattle.std.specs.Prelude.{slice_index_or}
 use Rattle.std.specs.Int.{bit_at}
 use lib.Lanes.{zip2}
-use Rattle.std.proofs.lemmas.Nat.{xor_block, xor_comm}
+use Rattle.std.proofs.lemmas.Nat.{xor_comm}
 use Rattle.std.proofs.lemmas.Nat.Bits.{bit_at-lt}
 use Rattle.std.proofs.lemmas.Simd.{length-zip2}
+use Rattle.aes_block.specs.BitMatrix.{bits}
 use Rattle.aes_block.specs.Cipher.{mix_columns, mix_matrix, row_times}
 use Rattle.aes_block.specs.Circuit.{bits_layer, layer, run}
 use Rattle.aes_block.specs.Field.{field_times, polynomial_times, remainder}
 use Rattle.aes_block.specs.Planes.{ArePlanes, block_in, byte_at, double_gates, double_outs, next_row_places}
 use Rattle.aes_block.specs.SBox.{from_bits_of}
 use Rattle.aes_block.proofs.AllBytes.{times_one, triple_is, values}
-use Rattle.aes_block.proofs.Circuit.{bit_sum, bits, number}
-use Rattle.aes_block.proofs.Linear.{field_times-add, scaled_cases}
-use Rattle.aes_block.proofs.StaysBytes.{from_bits_lt}
+use Rattle.aes_block.proofs.ByteBits.{from_bits_lt, number}
+use Rattle.aes_block.proofs.Circuit.{bit_sum}
+use Rattle.aes_block.proofs.Linear.{field_times-add}
 use Rattle.std.specs.Int.Bits.{xor_assoc}
+use Rattle.aes_block.proofs.ByteBits.{from_bits_lt, from_bits_xor, number}
+use Rattle.aes_block.proofs.Lanes.{eight, eight_planes}
 
 pub double-all : values (λ b. number (bits_layer double_gates double_outs (bits b))) ≡ values (field_times 2)
 unfolding polynomial_times remainder field_times from_bits_of layer run
 double-all = refl
-
--- eight vectors of 16 lanes
-abbrev pub eight : (ℕ → List ℕ) → List (List ℕ)
-eight v = v 0 ∷ v 1 ∷ v 2 ∷ v 3 ∷ v 4 ∷ v 5 ∷ v 6 ∷ v 7 ∷ []
-
-pub eight_planes : (v : ℕ → List ℕ) → ((i : ℕ) → i < 8 → length (v i) ≡ 16) → ArePlanes (eight v)
-eight_planes v h zero lt = h 0 lt
-eight_planes v h (suc zero) lt = h 1 lt
-eight_planes v h (suc (suc zero)) lt = h 2 lt
-eight_planes v h (suc (suc (suc zero))) lt = h 3 lt
-eight_planes v h (suc (suc (suc (suc zero)))) lt = h 4 lt
-eight_planes v h (suc (suc (suc (suc (suc zero))))) lt = h 5 lt
-eight_planes v h (suc (suc (suc (suc (suc (suc zero)))))) lt = h 6 lt
-eight_planes v h (suc (suc (suc (suc (suc (suc (suc zero))))))) lt = h 7 lt
-eight_planes v h (suc (suc (suc (suc (suc (suc (suc (suc i)))))))) lt = absurd (omega arith)
-
-xor_of_bits : (p q : ℕ) → p < 2 → q < 2 → bit_xor p q ≡ (p + q) % 2
-xor_of_bits p q hp hq =
-    let e : p * 1 ≡ p = omega arith in
-    let f : q * 1 ≡ q = omega arith in
-    let s : (p + q) % 2 * 1 ≡ (p + q) % 2 = omega arith in
-    (λ i. bit_xor (sym e i) (sym f i)) ∙ sym (scaled_cases p q 1 hp hq) ∙ s
-
-from_bits_xor : (f g : ℕ → ℕ) → ((i : ℕ) → f i < 2) → ((i : ℕ) → g i < 2) → (n : ℕ)
-    → from_bits_of (λ i. (f i + g i) % 2) n ≡ bit_xor (from_bits_of f n) (from_bits_of g n)
-unfolding from_bits_of
-from_bits_xor f g hf hg zero = refl
-from_bits_xor f g hf hg (suc n) =
-    let a : ℕ = from_bits_of f n in
-    let b : ℕ = from_bits_of g n in
-    (λ i. from_bits_xor f g hf hg n i + sym (xor_of_bits (f n) (g n) (hf n) (hg n)) i * 2 ^ n)
-    ∙ add_comm (bit_xor a b) (bit_xor (f n) (g n) * 2 ^ n)
-    ∙ sym (xor_block n (f n) (g n) a b (from_bits_lt f n hf) (from_bits_lt g n hg))
-    ∙ (λ i. bit_xor (add_comm (f n * 2 ^ n) a i) (add_comm (g n * 2 ^ n) b i))
 
 pub xored : (x y : List (List ℕ)) → ArePlanes x → ArePlanes y → (k j : ℕ) → k < 8 → j < 16
     → byte_at (eight (λ i. zip2 bit_xor (slice_index_or x i []) (slice_index_or y i []))) k j ≡ bit_xor (byte_at x k j) (byte_at y k j)

@@ -1,5 +1,5 @@
 -- Every step of the cipher gives bytes.
-use Rattle.std.proofs.Common.{◌≡◌, ℕ, zero, suc, ◌+◌, ◌-◌, ◌*◌, ◌/◌, ◌%◌, ◌^◌, ◌<◌, List, [], ◌∷◌, ◌++◌, Bool, true, false, length, slice_index, refl, sym, ap, subst, ◌∙◌, arith, bit_xor, inl, inr}
+use Rattle.std.proofs.Common.{◌≡◌, ℕ, zero, suc, ◌+◌, ◌-◌, ◌*◌, ◌/◌, ◌%◌, ◌<◌, List, [], ◌∷◌, ◌++◌, Bool, true, false, length, slice_index, refl, sym, ap, subst, ◌∙◌, arith, bit_xor, inl, inr}
 use Rattle.std.specs.Prelude.{if◌then◌else◌, ◌==◌}
 use Rattle.std.proofs.lemmas.Bool.{cases_lt}
 use Rattle.std.proofs.lemmas.List.{get_or_append_left, get_or_push, get_or_past, length_push}
@@ -8,10 +8,11 @@ use lib.Lanes.{Each1}
 use Rattle.aes_block.specs.Cipher.{add_round_key, matrix_times, mix_columns, mix_matrix, rounds, shift_rows, sub_bytes}
 use Rattle.aes_block.specs.Field.{field_times, inverse, polynomial_times, remainder}
 use Rattle.aes_block.specs.KeySchedule.{add_words, next_word, rcon, rot_word, round_constants, round_key, schedule, stirred, sub_word, word_at}
-use Rattle.aes_block.specs.SBox.{affine_bit, from_bits_of, s_box}
+use Rattle.aes_block.specs.SBox.{affine_bit, s_box}
 use Rattle.aes_block.specs.State.{IsBytes, cell, column_of, state_of}
 use Rattle.aes_block.proofs.AllBytes.{same_at_byte, values}
 use Rattle.aes_block.proofs.Schedule.{length-schedule}
+use Rattle.aes_block.proofs.ByteBits.{from_bits_lt}
 
 nil_bytes : IsBytes []
 nil_bytes k = omega arith
@@ -28,22 +29,6 @@ four_bytes f h = bytes_from (column_of f) (h 0, (h 1, (h 2, (h 3, tt))))
 pub state_bytes : (f : ℕ → ℕ → ℕ) → ((r c : ℕ) → f r c < 256) → IsBytes (state_of f)
 state_bytes f h = bytes_from (state_of f)
     (h 0 0, (h 1 0, (h 2 0, (h 3 0, (h 0 1, (h 1 1, (h 2 1, (h 3 1, (h 0 2, (h 1 2, (h 2 2, (h 3 2, (h 0 3, (h 1 3, (h 2 3, (h 3 3, tt))))))))))))))))
-
-pub from_bits_lt : (f : ℕ → ℕ) (n : ℕ) → ((i : ℕ) → f i < 2) → from_bits_of f n < 2 ^ n
-unfolding from_bits_of
-from_bits_lt f zero h = omega arith
-from_bits_lt f (suc n) h =
-    let before : from_bits_of f n < 2 ^ n = from_bits_lt f n h in
-    let bit : f n < 2 = h n in
-    let power : 2 ^ suc n ≡ 2 * 2 ^ n = omega arith in
-    elim (cases_lt (f n) 1) [
-      | inl a ↦
-          let z : f n ≡ 0 = omega arith in
-          rw (z, power) (omega arith)
-      | inr b ↦
-          let o : f n ≡ 1 = omega arith in
-          rw (o, power) (omega arith)
-    ]
 
 pub s_box_lt : (b : ℕ) → s_box b < 256
 unfolding s_box

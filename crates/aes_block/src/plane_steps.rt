@@ -6,7 +6,7 @@ ghost use Rattle.aes_block.specs.Field.{field_times};
 ghost use Rattle.aes_block.specs.Planes.{ArePlanes, block_in, byte_at, double_gates, double_outs, next_row_places, shift_places};
 ghost use Rattle.aes_block.specs.State.{IsBytes};
 
-use crate::transpose::turn;
+use crate::packing::planes_of;
 use std::simd::prelude::*;
 
 #[inline(always)]
@@ -123,30 +123,13 @@ pub(crate) fn shift_planes(x: [u8x16; 8]) -> [u8x16; 8]
     ]
 }
 
-// AddRoundKey on each block.
+// AddRoundKey on each block, with a key in each block of its planes.
 #[inline(always)]
-pub(crate) fn add_key(x: [u8x16; 8], k: &[u8; 16]) -> [u8x16; 8]
-    requires { ArePlanes x }
+pub(crate) fn add_key(x: [u8x16; 8], key: &[[u8; 16]; 8]) -> [u8x16; 8]
+    requires x_planes { ArePlanes x }
+    requires key_planes { ArePlanes key.now }
     ensures planes { ArePlanes result }
-    ensures value { (t : ℕ) → t < 8 → block_in result t ≡ add_round_key (block_in x t) k.now }
+    ensures value { (t : ℕ) → t < 8 → block_in result t ≡ add_round_key (block_in x t) (block_in key.now t) }
 {
-    let v = load(k);
-    xor_planes(x, turn([v, v, v, v, v, v, v, v]))
-}
-
-// A block as a vector.
-#[inline(always)]
-pub(crate) fn load(block: &[u8; 16]) -> u8x16
-    ensures same { result ≡ block.now }
-    ensures long { length result ≡ 16 }
-    ensures bytes { IsBytes result }
-{
-    vector_of(block)
-}
-
-#[inline(always)]
-fn vector_of(block: &[u8; 16]) -> u8x16
-    ensures { result ≡ block.now }
-{
-    u8x16::from_array(*block)
+    xor_planes(x, planes_of(key))
 }

@@ -1,8 +1,8 @@
 // SubBytes on eight planes, by the circuit in `specs/SBoxCircuit.antt` and with no table: no address depends on the blocks.
 ghost use Rattle.std.specs.Prelude.{◌≡◌, ℕ, ◌<◌, ◌++◌, ◌∷◌, replicate};
+ghost use Rattle.aes_block.specs.Cipher.{sub_bytes};
 ghost use Rattle.aes_block.specs.Circuit.{lanes_layer, wires};
-ghost use Rattle.aes_block.specs.Planes.{ArePlanes, byte_at};
-ghost use Rattle.aes_block.specs.SBox.{s_box};
+ghost use Rattle.aes_block.specs.Planes.{ArePlanes, block_in};
 ghost use Rattle.aes_block.specs.SBoxCircuit.{bot_gates, bot_outs, inv_gates, inv_outs, lin_gates, lin_outs, mid_gates, mid_outs, top_gates, top_outs};
 
 use std::simd::prelude::*;
@@ -246,7 +246,7 @@ fn lin_layer(z: [u8x16; 18]) -> [u8x16; 8]
 pub(crate) fn sub_planes(x: [u8x16; 8]) -> [u8x16; 8]
     requires { ArePlanes x }
     ensures planes { ArePlanes result }
-    ensures value { (t j : ℕ) → t < 8 → j < 16 → byte_at result t j ≡ s_box (byte_at x t j) }
+    ensures value { (t : ℕ) → t < 8 → block_in result t ≡ sub_bytes (block_in x t) }
 {
     let x7 = x[0];
     let y = top_layer(x);

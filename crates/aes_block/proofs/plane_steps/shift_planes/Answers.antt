@@ -2,8 +2,8 @@ use Rattle.std.proofs.Common.{ℕ, ◌≡◌, ◌<◌, ◌∷◌, [], slice_inde
 use Rattle.std.specs.Int.{bit_at}
 use Rattle.aes_block.specs.Planes.{byte_at, shift_places}
 use Rattle.aes_block.specs.SBox.{from_bits_of}
-use Rattle.aes_block.proofs.Circuit.{number}
-use Rattle.aes_block.proofs.Eight.{shifted_block}
+use Rattle.aes_block.proofs.ByteBits.{number}
+use Rattle.aes_block.proofs.PackedBlocks.{shifted_block}
 use Rattle.aes_block.proofs.plane_steps.shift_planes.Goals as goal
 
 bytes : (c : goal.After-shift_plane-8) → (t j : ℕ) → j < 16 → byte_at (c.shift_plane.result ∷ c.shift_plane-2.result ∷ c.shift_plane-3.result ∷ c.shift_plane-4.result ∷ c.shift_plane-5.result ∷ c.shift_plane-6.result ∷ c.shift_plane-7.result ∷ c.shift_plane-8.result ∷ []) t j ≡ byte_at c.args.x t (slice_index shift_places j)

@@ -1,8 +1,8 @@
 use Rattle.std.proofs.Common.{◌≡◌, ℕ, ◌<◌, []}
 use Rattle.std.specs.Prelude.{slice_index_or}
 use Rattle.aes_block.specs.Cipher.{rounds}
-use Rattle.aes_block.specs.Planes.{ArePlanes, block_in}
 use Rattle.aes_block.specs.RoundKeys.{first_key}
+use Rattle.aes_block.specs.Planes.{ArePlanes, block_in}
 use Rattle.aes_block.proofs.block_cipher.Aes128.encrypt_eight.Given as goal
 
 abbrev pub invariant-rounds : goal.invariant-rounds
