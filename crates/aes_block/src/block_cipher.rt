@@ -66,7 +66,7 @@ impl Aes128 {
         ensures undoes { (b : List ℕ) → IsBytes b → length b ≡ 16 → block.old ≡ cipher self.now b → block.new ≡ b }
     {
         let mut s = add_round_key(block, &self.keys[10].block);
-        'rounds: for n in 0..9 {
+        'inv_rounds: for n in 0..9 {
             s = inv_mix_columns(&add_round_key(
                 &inv_sub_bytes(&inv_shift_rows(&s)),
                 &self.keys[9 - n].block,
@@ -80,7 +80,7 @@ impl Aes128 {
         ensures { (t : ℕ) → t < 8 → slice_index_or blocks.new t [] ≡ cipher self.now (slice_index_or blocks.old t []) }
     {
         let mut x = add_key(pack(blocks), &self.keys[0].planes);
-        'rounds: for n in 0..9 {
+        'eight_rounds: for n in 0..9 {
             let next = add_key(
                 mix_planes(shift_planes(sub_planes(x))),
                 &self.keys[n + 1].planes,

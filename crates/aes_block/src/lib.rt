@@ -19,3 +19,6 @@ mod transpose;
 pub use block_cipher::Aes128;
 pub use key_wrap::{unwrap_key, wrap};
 pub use laws::deciphering_undoes_enciphering;
+
+#[cfg(test)]
+mod tests;
