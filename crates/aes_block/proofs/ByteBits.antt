@@ -1,13 +1,12 @@
 -- A byte and its eight bits.
-use Rattle.std.proofs.Common.{◌≡◌, ℕ, zero, suc, ◌+◌, ◌-◌, ◌*◌, ◌%◌, ◌^◌, ◌<◌, List, slice_index, refl, sym, ap, ◌∙◌, arith, inl, inr, bit_xor, add_comm}
+use Rattle.std.proofs.Common.{◌≡◌, ℕ, zero, suc, ◌-◌, ◌*◌, ◌^◌, ◌<◌, List, [], ◌∷◌, map, slice_index, refl, sym, ap, ◌∙◌, arith, inl, inr, add_comm}
 use Rattle.std.specs.Int.{bit_at}
+use Rattle.std.specs.List.{range_with_len}
 use Rattle.std.proofs.lemmas.Bool.{cases_lt}
-use Rattle.std.proofs.lemmas.Nat.{xor_block}
 use Rattle.std.proofs.lemmas.Nat.Bits.{bit_at_cat_high, bit_at_cat_low, bit_at_lowest}
 use Rattle.aes_block.specs.BitMatrix.{bits}
 use Rattle.aes_block.specs.SBox.{from_bits_of}
 use Rattle.aes_block.proofs.AllBytes.{same_at_byte, values}
-use Rattle.aes_block.proofs.Linear.{scaled_cases}
 
 -- the number of eight bits
 abbrev pub number : List ℕ → ℕ
@@ -51,21 +50,17 @@ number-all = refl
 pub number-bits : (n : ℕ) → n < 256 → number (bits n) ≡ n
 number-bits = same_at_byte (λ n. number (bits n)) (λ n. n) number-all
 
-xor_of_bits : (p q : ℕ) → p < 2 → q < 2 → bit_xor p q ≡ (p + q) % 2
-xor_of_bits p q hp hq =
-    let e : p * 1 ≡ p = omega arith in
-    let f : q * 1 ≡ q = omega arith in
-    let s : (p + q) % 2 * 1 ≡ (p + q) % 2 = omega arith in
-    (λ i. bit_xor (sym e i) (sym f i)) ∙ sym (scaled_cases p q 1 hp hq) ∙ s
-
-pub from_bits_xor : (f g : ℕ → ℕ) → ((i : ℕ) → f i < 2) → ((i : ℕ) → g i < 2) → (n : ℕ)
-    → from_bits_of (λ i. (f i + g i) % 2) n ≡ bit_xor (from_bits_of f n) (from_bits_of g n)
+-- a byte is the number of its bits
+pub byte_from : (f : ℕ → ℕ) (n : ℕ) → n < 256 → ((i : ℕ) → i < 8 → f i ≡ bit_at n i) → from_bits_of f 8 ≡ n
 unfolding from_bits_of
-from_bits_xor f g hf hg zero = refl
-from_bits_xor f g hf hg (suc n) =
-    let a : ℕ = from_bits_of f n in
-    let b : ℕ = from_bits_of g n in
-    (λ i. from_bits_xor f g hf hg n i + sym (xor_of_bits (f n) (g n) (hf n) (hg n)) i * 2 ^ n)
-    ∙ add_comm (bit_xor a b) (bit_xor (f n) (g n) * 2 ^ n)
-    ∙ sym (xor_block n (f n) (g n) a b (from_bits_lt f n hf) (from_bits_lt g n hg))
-    ∙ (λ i. bit_xor (add_comm (f n * 2 ^ n) a i) (add_comm (g n * 2 ^ n) b i))
+byte_from f n small h =
+    (λ m. number (h 0 (omega arith) m ∷ h 1 (omega arith) m ∷ h 2 (omega arith) m ∷ h 3 (omega arith) m
+    ∷ h 4 (omega arith) m ∷ h 5 (omega arith) m ∷ h 6 (omega arith) m ∷ h 7 (omega arith) m ∷ []))
+    ∙ number-bits n small
+
+-- eight bits are those of their number
+pub bits_of-number : (f : ℕ → ℕ) → ((i : ℕ) → f i < 2) → map f (range_with_len 0 8) ≡ bits (from_bits_of f 8)
+bits_of-number f h =
+    let back = λ (i : ℕ) (lt : i < 8). sym (bits_back f h 8 i lt) in
+    λ m. back 0 (omega arith) m ∷ back 1 (omega arith) m ∷ back 2 (omega arith) m ∷ back 3 (omega arith) m
+    ∷ back 4 (omega arith) m ∷ back 5 (omega arith) m ∷ back 6 (omega arith) m ∷ back 7 (omega arith) m ∷ []

@@ -4,7 +4,7 @@ use Rattle.std.specs.Prelude.{slice_index_or}
 use Rattle.std.specs.Int.{bit_at}
 use lib.Lanes.{zip2}
 use Rattle.std.proofs.lemmas.Simd.{get_or-zip2, length-zip2, get_or-replicate}
-use Rattle.aes_block.specs.Planes.{ArePlanes, block_in, byte_at}
+use Rattle.aes_block.specs.Planes.{ArePlanes, block_in, byte_at, lane}
 use Rattle.aes_block.specs.SBox.{from_bits_of}
 use Rattle.aes_block.specs.State.{state_of}
 use Rattle.aes_block.proofs.ByteBits.{number}

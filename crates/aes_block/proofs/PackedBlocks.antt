@@ -5,9 +5,9 @@ use Rattle.std.specs.Int.{bit_at}
 use Rattle.std.proofs.lemmas.Nat.Bits.{bit_at-lt}
 use Rattle.aes_block.specs.Cipher.{add_round_key, shift_rows, sub_bytes}
 use Rattle.aes_block.specs.Planes.{ArePlanes, block_in, byte_at, lane, shift_places}
-use Rattle.aes_block.specs.SBox.{from_bits_of, s_box}
+use Rattle.aes_block.specs.SBox.{s_box}
 use Rattle.aes_block.specs.State.{IsBytes, state_of}
-use Rattle.aes_block.proofs.ByteBits.{bits_back, number, number-bits}
+use Rattle.aes_block.proofs.ByteBits.{bits_back, byte_from}
 use Rattle.aes_block.proofs.Schedule.{cells_whole}
 
 -- what a transpose gives
@@ -23,14 +23,9 @@ same_block f g h =
     ∷ h 12 (omega arith) i ∷ h 13 (omega arith) i ∷ h 14 (omega arith) i ∷ h 15 (omega arith) i ∷ []
 
 packed_byte : (x r : List (List ℕ)) → IsTransposed x r → (t j : ℕ) → t < 8 → j < 16 → lane x t j < 256 → byte_at r t j ≡ lane x t j
-unfolding from_bits_of
 packed_byte x r value t j low lt small =
-    let bit = λ (i : ℕ) (h : i < 8). ap (λ (v : ℕ). bit_at v t) (value i j h lt)
-    ∙ bits_back (λ s. bit_at (lane x s j) i) (λ s. bit_at-lt (lane x s j) i) 8 t low in
-    (λ m. number
-    (bit 0 (omega arith) m ∷ bit 1 (omega arith) m ∷ bit 2 (omega arith) m ∷ bit 3 (omega arith) m
-    ∷ bit 4 (omega arith) m ∷ bit 5 (omega arith) m ∷ bit 6 (omega arith) m ∷ bit 7 (omega arith) m ∷ []))
-    ∙ number-bits (lane x t j) small
+    byte_from (λ i. bit_at (lane r i j) t) (lane x t j) small (λ i h.
+    ap (λ (v : ℕ). bit_at v t) (value i j h lt) ∙ bits_back (λ s. bit_at (lane x s j) i) (λ s. bit_at-lt (lane x s j) i) 8 t low)
 
 -- the transpose of blocks is their planes
 pub packed : (x r : List (List ℕ)) → IsTransposed x r → (t : ℕ) → t < 8 → (block : List ℕ) → slice_index_or x t [] ≡ block

@@ -1,45 +1,48 @@
 -- The other steps on planes, a byte at a time.
-use Rattle.std.proofs.Common.{◌≡◌, ℕ, ◌<◌, List, [], ◌∷◌, slice_index, refl, sym, ap, ◌∙◌, arith, bit_xor}
+use Rattle.std.proofs.Common.{◌≡◌, ℕ, ◌+◌, ◌%◌, ◌<◌, List, [], ◌∷◌, slice_index, refl, sym, ap, ◌∙◌, arith, bit_xor}
 use Rattle.std.specs.Prelude.{slice_index_or}
 use Rattle.std.specs.Int.{bit_at}
 use lib.Lanes.{zip2}
-use Rattle.std.proofs.lemmas.Nat.{xor_comm}
-use Rattle.std.proofs.lemmas.Nat.Bits.{bit_at-lt}
-use Rattle.std.proofs.lemmas.Simd.{length-zip2}
+use Rattle.std.proofs.lemmas.Nat.{xor_comm, xor_of_8}
+use Rattle.std.proofs.lemmas.Nat.Bits.{bit_at-lt, bit_at_xor}
 use Rattle.aes_block.specs.BitMatrix.{bits}
 use Rattle.aes_block.specs.Cipher.{mix_columns, mix_matrix, row_times}
 use Rattle.aes_block.specs.Circuit.{bits_layer, layer, run}
 use Rattle.aes_block.specs.Field.{field_times, polynomial_times, remainder}
-use Rattle.aes_block.specs.Planes.{ArePlanes, block_in, byte_at, double_gates, double_outs, next_row_places}
+use Rattle.aes_block.specs.Planes.{ArePlanes, block_in, byte_at, double_gates, double_outs, lane, next_row_places}
 use Rattle.aes_block.specs.SBox.{from_bits_of}
 use Rattle.aes_block.proofs.AllBytes.{times_one, triple_is, values}
-use Rattle.aes_block.proofs.ByteBits.{from_bits_lt, number}
+use Rattle.aes_block.proofs.ByteBits.{bits_back, byte_from, from_bits_lt, number}
 use Rattle.aes_block.proofs.Circuit.{bit_sum}
-use Rattle.aes_block.proofs.Linear.{field_times-add}
+use Rattle.aes_block.proofs.FieldLaws.{field_times-add}
+use Rattle.aes_block.proofs.Lanes.{eight, eight_at, eight_planes, length-op}
 use Rattle.std.specs.Int.Bits.{xor_assoc}
-use Rattle.aes_block.proofs.ByteBits.{from_bits_lt, from_bits_xor, number}
-use Rattle.aes_block.proofs.Lanes.{eight, eight_planes}
 
 pub double-all : values (λ b. number (bits_layer double_gates double_outs (bits b))) ≡ values (field_times 2)
 unfolding polynomial_times remainder field_times from_bits_of layer run
 double-all = refl
 
-pub xored : (x y : List (List ℕ)) → ArePlanes x → ArePlanes y → (k j : ℕ) → k < 8 → j < 16
-    → byte_at (eight (λ i. zip2 bit_xor (slice_index_or x i []) (slice_index_or y i []))) k j ≡ bit_xor (byte_at x k j) (byte_at y k j)
-unfolding from_bits_of
-xored x y hx hy k j low lane =
-    let f : ℕ → ℕ = λ i. bit_at (slice_index (slice_index_or x i []) j) k in
-    let g : ℕ → ℕ = λ i. bit_at (slice_index (slice_index_or y i []) j) k in
-    let s = λ (i : ℕ) (lt : i < 8). bit_sum j k lane (slice_index_or x i []) (slice_index_or y i []) (hx i lt) (hy i lt) in
-    let hf : (i : ℕ) → f i < 2 = λ i. bit_at-lt (slice_index (slice_index_or x i []) j) k in
-    let hg : (i : ℕ) → g i < 2 = λ i. bit_at-lt (slice_index (slice_index_or y i []) j) k in
-    (λ m. number (s 0 (omega arith) m ∷ s 1 (omega arith) m ∷ s 2 (omega arith) m ∷ s 3 (omega arith) m
-    ∷ s 4 (omega arith) m ∷ s 5 (omega arith) m ∷ s 6 (omega arith) m ∷ s 7 (omega arith) m ∷ []))
-    ∙ from_bits_xor f g hf hg 8
+byte_lt : (x : List (List ℕ)) (t j : ℕ) → byte_at x t j < 256
+byte_lt x t j = from_bits_lt (λ i. bit_at (lane x i j) t) 8 (λ i. bit_at-lt (lane x i j) t)
 
-pub xored_planes : (x y : List (List ℕ)) → ArePlanes x → ArePlanes y → ArePlanes (eight (λ i. zip2 bit_xor (slice_index_or x i []) (slice_index_or y i [])))
-xored_planes x y hx hy = eight_planes (λ i. zip2 bit_xor (slice_index_or x i []) (slice_index_or y i []))
-    (λ i lt. length-zip2 bit_xor (slice_index_or x i []) (slice_index_or y i []) (hx i lt ∙ sym (hy i lt)) ∙ hx i lt)
+-- the sum of planes, plane by plane
+abbrev xor_at : List (List ℕ) → List (List ℕ) → ℕ → List ℕ
+xor_at x y i = zip2 bit_xor (slice_index_or x i []) (slice_index_or y i [])
+
+pub xored : (x y : List (List ℕ)) → ArePlanes x → ArePlanes y → (t j : ℕ) → t < 8 → j < 16
+    → byte_at (eight (xor_at x y)) t j ≡ bit_xor (byte_at x t j) (byte_at y t j)
+xored x y hx hy t j low lt =
+    let bit = λ (z : List (List ℕ)) (i : ℕ) (h : i < 8). bits_back (λ i. bit_at (lane z i j) t) (λ i. bit_at-lt (lane z i j) t) 8 i h in
+    byte_from (λ i. bit_at (lane (eight (xor_at x y)) i j) t) (bit_xor (byte_at x t j) (byte_at y t j))
+    (xor_of_8 (byte_at x t j) (byte_at y t j) (byte_lt x t j) (byte_lt y t j))
+    (λ i h.
+    ap (λ (v : List ℕ). bit_at (slice_index v j) t) (eight_at (xor_at x y) i h)
+    ∙ bit_sum j t lt (slice_index_or x i []) (slice_index_or y i []) (hx i h) (hy i h)
+    ∙ (λ m. (sym (bit x i h) m + sym (bit y i h) m) % 2)
+    ∙ sym (bit_at_xor (byte_at x t j) (byte_at y t j) i))
+
+pub xored_planes : (x y : List (List ℕ)) → ArePlanes x → ArePlanes y → ArePlanes (eight (xor_at x y))
+xored_planes x y hx hy = eight_planes (xor_at x y) (λ i h. length-op bit_xor (slice_index_or x i []) (slice_index_or y i []) (hx i h) (hy i h))
 
 -- 2 (a + b) + b + (c + d)
 abbrev pub mixed : ℕ → ℕ → ℕ → ℕ → ℕ
@@ -81,9 +84,6 @@ mixed_3 a b c d ha hb hc hd =
     ∙ turned b c (field_times 2 d) (field_times 3 a)
     ∙ (λ i. bit_xor (bit_xor (bit_xor (field_times 3 a) (sym (times_one b hb) i)) (sym (times_one c hc) i)) (field_times 2 d))
 
-byte_lt : (x : List (List ℕ)) (t j : ℕ) → byte_at x t j < 256
-byte_lt x t j = from_bits_lt (λ i. bit_at (slice_index (slice_index_or x i []) j) t) 8 (λ i. bit_at-lt (slice_index (slice_index_or x i []) j) t)
-
 pub mixed_block : (x r : List (List ℕ)) (t : ℕ)
     → ((j : ℕ) → j < 16 → byte_at r t j ≡ mixed (byte_at x t j) (byte_at x t (slice_index next_row_places j))
     (byte_at x t (slice_index next_row_places (slice_index next_row_places j)))
@@ -91,20 +91,26 @@ pub mixed_block : (x r : List (List ℕ)) (t : ℕ)
     → block_in r t ≡ mix_columns (block_in x t)
 unfolding mix_columns
 mixed_block x r t h =
+    let b = byte_at x t in
+    let lt = byte_lt x t in
+    let row_0 = λ (k : ℕ). mixed_0 (b k) (b (k + 1)) (b (k + 2)) (b (k + 3)) (lt k) (lt (k + 1)) (lt (k + 2)) (lt (k + 3)) in
+    let row_1 = λ (k : ℕ). mixed_1 (b k) (b (k + 1)) (b (k + 2)) (b (k + 3)) (lt k) (lt (k + 1)) (lt (k + 2)) (lt (k + 3)) in
+    let row_2 = λ (k : ℕ). mixed_2 (b k) (b (k + 1)) (b (k + 2)) (b (k + 3)) (lt k) (lt (k + 1)) (lt (k + 2)) (lt (k + 3)) in
+    let row_3 = λ (k : ℕ). mixed_3 (b k) (b (k + 1)) (b (k + 2)) (b (k + 3)) (lt k) (lt (k + 1)) (lt (k + 2)) (lt (k + 3)) in
     λ i.
-    (h 0 (omega arith) ∙ mixed_0 (byte_at x t 0) (byte_at x t 1) (byte_at x t 2) (byte_at x t 3) (byte_lt x t 0) (byte_lt x t 1) (byte_lt x t 2) (byte_lt x t 3)) i
-    ∷ (h 1 (omega arith) ∙ mixed_1 (byte_at x t 0) (byte_at x t 1) (byte_at x t 2) (byte_at x t 3) (byte_lt x t 0) (byte_lt x t 1) (byte_lt x t 2) (byte_lt x t 3)) i
-    ∷ (h 2 (omega arith) ∙ mixed_2 (byte_at x t 0) (byte_at x t 1) (byte_at x t 2) (byte_at x t 3) (byte_lt x t 0) (byte_lt x t 1) (byte_lt x t 2) (byte_lt x t 3)) i
-    ∷ (h 3 (omega arith) ∙ mixed_3 (byte_at x t 0) (byte_at x t 1) (byte_at x t 2) (byte_at x t 3) (byte_lt x t 0) (byte_lt x t 1) (byte_lt x t 2) (byte_lt x t 3)) i
-    ∷ (h 4 (omega arith) ∙ mixed_0 (byte_at x t 4) (byte_at x t 5) (byte_at x t 6) (byte_at x t 7) (byte_lt x t 4) (byte_lt x t 5) (byte_lt x t 6) (byte_lt x t 7)) i
-    ∷ (h 5 (omega arith) ∙ mixed_1 (byte_at x t 4) (byte_at x t 5) (byte_at x t 6) (byte_at x t 7) (byte_lt x t 4) (byte_lt x t 5) (byte_lt x t 6) (byte_lt x t 7)) i
-    ∷ (h 6 (omega arith) ∙ mixed_2 (byte_at x t 4) (byte_at x t 5) (byte_at x t 6) (byte_at x t 7) (byte_lt x t 4) (byte_lt x t 5) (byte_lt x t 6) (byte_lt x t 7)) i
-    ∷ (h 7 (omega arith) ∙ mixed_3 (byte_at x t 4) (byte_at x t 5) (byte_at x t 6) (byte_at x t 7) (byte_lt x t 4) (byte_lt x t 5) (byte_lt x t 6) (byte_lt x t 7)) i
-    ∷ (h 8 (omega arith) ∙ mixed_0 (byte_at x t 8) (byte_at x t 9) (byte_at x t 10) (byte_at x t 11) (byte_lt x t 8) (byte_lt x t 9) (byte_lt x t 10) (byte_lt x t 11)) i
-    ∷ (h 9 (omega arith) ∙ mixed_1 (byte_at x t 8) (byte_at x t 9) (byte_at x t 10) (byte_at x t 11) (byte_lt x t 8) (byte_lt x t 9) (byte_lt x t 10) (byte_lt x t 11)) i
-    ∷ (h 10 (omega arith) ∙ mixed_2 (byte_at x t 8) (byte_at x t 9) (byte_at x t 10) (byte_at x t 11) (byte_lt x t 8) (byte_lt x t 9) (byte_lt x t 10) (byte_lt x t 11)) i
-    ∷ (h 11 (omega arith) ∙ mixed_3 (byte_at x t 8) (byte_at x t 9) (byte_at x t 10) (byte_at x t 11) (byte_lt x t 8) (byte_lt x t 9) (byte_lt x t 10) (byte_lt x t 11)) i
-    ∷ (h 12 (omega arith) ∙ mixed_0 (byte_at x t 12) (byte_at x t 13) (byte_at x t 14) (byte_at x t 15) (byte_lt x t 12) (byte_lt x t 13) (byte_lt x t 14) (byte_lt x t 15)) i
-    ∷ (h 13 (omega arith) ∙ mixed_1 (byte_at x t 12) (byte_at x t 13) (byte_at x t 14) (byte_at x t 15) (byte_lt x t 12) (byte_lt x t 13) (byte_lt x t 14) (byte_lt x t 15)) i
-    ∷ (h 14 (omega arith) ∙ mixed_2 (byte_at x t 12) (byte_at x t 13) (byte_at x t 14) (byte_at x t 15) (byte_lt x t 12) (byte_lt x t 13) (byte_lt x t 14) (byte_lt x t 15)) i
-    ∷ (h 15 (omega arith) ∙ mixed_3 (byte_at x t 12) (byte_at x t 13) (byte_at x t 14) (byte_at x t 15) (byte_lt x t 12) (byte_lt x t 13) (byte_lt x t 14) (byte_lt x t 15)) i ∷ []
+    (h 0 (omega arith) ∙ row_0 0) i
+    ∷ (h 1 (omega arith) ∙ row_1 0) i
+    ∷ (h 2 (omega arith) ∙ row_2 0) i
+    ∷ (h 3 (omega arith) ∙ row_3 0) i
+    ∷ (h 4 (omega arith) ∙ row_0 4) i
+    ∷ (h 5 (omega arith) ∙ row_1 4) i
+    ∷ (h 6 (omega arith) ∙ row_2 4) i
+    ∷ (h 7 (omega arith) ∙ row_3 4) i
+    ∷ (h 8 (omega arith) ∙ row_0 8) i
+    ∷ (h 9 (omega arith) ∙ row_1 8) i
+    ∷ (h 10 (omega arith) ∙ row_2 8) i
+    ∷ (h 11 (omega arith) ∙ row_3 8) i
+    ∷ (h 12 (omega arith) ∙ row_0 12) i
+    ∷ (h 13 (omega arith) ∙ row_1 12) i
+    ∷ (h 14 (omega arith) ∙ row_2 12) i
+    ∷ (h 15 (omega arith) ∙ row_3 12) i ∷ []

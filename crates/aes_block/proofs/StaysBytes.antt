@@ -11,8 +11,8 @@ use Rattle.aes_block.specs.KeySchedule.{add_words, next_word, rcon, rot_word, ro
 use Rattle.aes_block.specs.SBox.{affine_bit, s_box}
 use Rattle.aes_block.specs.State.{IsBytes, cell, column_of, state_of}
 use Rattle.aes_block.proofs.AllBytes.{same_at_byte, values}
-use Rattle.aes_block.proofs.Schedule.{length-schedule}
 use Rattle.aes_block.proofs.ByteBits.{from_bits_lt}
+use Rattle.aes_block.proofs.Schedule.{length-schedule}
 
 nil_bytes : IsBytes []
 nil_bytes k = omega arith

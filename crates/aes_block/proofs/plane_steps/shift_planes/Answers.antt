@@ -1,6 +1,6 @@
 use Rattle.std.proofs.Common.{ℕ, ◌≡◌, ◌<◌, ◌∷◌, [], slice_index}
 use Rattle.std.specs.Int.{bit_at}
-use Rattle.aes_block.specs.Planes.{byte_at, shift_places}
+use Rattle.aes_block.specs.Planes.{byte_at, lane, shift_places}
 use Rattle.aes_block.specs.SBox.{from_bits_of}
 use Rattle.aes_block.proofs.ByteBits.{number}
 use Rattle.aes_block.proofs.PackedBlocks.{shifted_block}
