@@ -1,12 +1,13 @@
 -- A circuit on vectors of 16 lanes is the circuit on bits, at each bit of each lane.
 use Rattle.std.proofs.Common.{◌≡◌, ℕ, zero, suc, ◌+◌, ◌%◌, ◌<◌, min, List, [], ◌∷◌, ◌++◌, length, map, get_or, replicate, slice_index, refl, sym, ap, subst, ◌∙◌, arith, bit_xor, bit_and, inl, inr}
+use Rattle.std.specs.Prelude.{slice_index_or}
 use Rattle.std.specs.Int.{bit_at}
 use lib.Lanes.{zip2}
 use Rattle.std.proofs.lemmas.Bool.{cases_lt}
 use Rattle.std.proofs.lemmas.Nat.Bits.{bit_at_xor, bit_at_and, bit_at-zero, bit_at-lt}
 use Rattle.std.proofs.lemmas.Simd.{get_or-zip2, length-zip2, get_or-replicate, pick_l_whole, map-map}
 use Rattle.std.proofs.Math.ListN.{get_or-map}
-use Rattle.std.proofs.lemmas.List.{length-map, get_or_default, get_or_past}
+use Rattle.std.proofs.lemmas.List.{length-map, get_or_past}
 use Rattle.aes_block.specs.BitMatrix.{bits}
 use Rattle.aes_block.specs.Circuit.{Gate, bits_layer, lanes_layer, layer, run, wires}
 use Rattle.aes_block.specs.Circuit.Gate.{Product, Sum}
@@ -14,7 +15,7 @@ use Rattle.aes_block.specs.Planes.{ArePlanes, byte_at, lane}
 use Rattle.aes_block.specs.SBox.{from_bits_of}
 use Rattle.aes_block.proofs.AllBytes.{same_at_byte, values}
 use Rattle.aes_block.proofs.ByteBits.{bits_of-number, from_bits_lt, number}
-use Rattle.aes_block.proofs.Lanes.{eight, eight_cases}
+use Rattle.aes_block.proofs.Lanes.{eight_cases}
 
 abbrev pub zeros : List ℕ
 zeros = replicate 16 0
@@ -63,6 +64,13 @@ pub length-layer : (gs : List Gate) (outs : List ℕ) (ws : List (List ℕ)) →
 unfolding layer
 length-layer gs outs ws = length-map outs (λ i. get_or (lanes_run gs ws) i zeros)
 
+-- a layer's result, as the wires of the next
+wires_out : (gs : List Gate) (outs : List ℕ) (ws r : List (List ℕ)) → r ≡ lanes_layer gs outs ws → wires (length outs) r ≡ lanes_layer gs outs ws
+wires_out gs outs ws r e = pick_l_whole [] r (length outs) (ap length e ∙ length-layer gs outs ws) ∙ e
+
+pub wide_out : (gs : List Gate) (outs : List ℕ) (ws r : List (List ℕ)) → r ≡ lanes_layer gs outs ws → Wide ws → Wide (wires (length outs) r)
+wide_out gs outs ws r e w = subst Wide (sym (wires_out gs outs ws r e)) (wide_layer gs outs ws w)
+
 module _ (j t : ℕ) (lt : j < 16) where
   -- bit t of lane j
   abbrev pub bit_of : List ℕ → ℕ
@@ -101,14 +109,15 @@ module _ (j t : ℕ) (lt : j < 16) where
       run_bits gs (zip2 bit_and a b ∷ ws) (cons_wide (zip2 bit_and a b) ws (length-zip2 bit_and a b (w i ∙ sym (w k)) ∙ w i) w)
       ∙ (λ m. bits_run gs (e m ∷ bits_of_all ws))
 
-  pub layer_bits : (gs : List Gate) (outs : List ℕ) (ws : List (List ℕ)) → Wide ws → bits_of_all (lanes_layer gs outs ws) ≡ bits_layer gs outs (bits_of_all ws)
+  layer_bits : (gs : List Gate) (outs : List ℕ) (ws : List (List ℕ)) → Wide ws → bits_of_all (lanes_layer gs outs ws) ≡ bits_layer gs outs (bits_of_all ws)
   unfolding layer
   layer_bits gs outs ws w =
       map-map bit_of (λ i. get_or (lanes_run gs ws) i zeros) outs
       ∙ (λ m. map (λ i. (bit_get (lanes_run gs ws) i ∙ ap (λ (l : List ℕ). get_or l i 0) (run_bits gs ws w)) m) outs)
 
-pub wires_whole : (n : ℕ) (xs : List (List ℕ)) → length xs ≡ n → wires n xs ≡ xs
-wires_whole n xs h = pick_l_whole [] xs n h
+  pub bits_out : (gs : List Gate) (outs : List ℕ) (ws r : List (List ℕ)) → r ≡ lanes_layer gs outs ws → Wide ws
+      → bits_of_all (wires (length outs) r) ≡ bits_layer gs outs (bits_of_all ws)
+  bits_out gs outs ws r e w = ap bits_of_all (wires_out gs outs ws r e) ∙ layer_bits gs outs ws w
 
 pub wide_planes : (x : List (List ℕ)) → ArePlanes x → Wide (wires 8 x)
 wide_planes x h i = elim (cases_lt i 8) [
@@ -118,21 +127,19 @@ wide_planes x h i = elim (cases_lt i 8) [
   | inr b ↦ ap length (get_or_past (wires 8 x) i zeros b)
 ]
 
--- eight wires that come out are planes
-pub planes_out : (gs : List Gate) (outs : List ℕ) (ws r : List (List ℕ)) → length outs ≡ 8 → r ≡ lanes_layer gs outs ws → Wide ws → ArePlanes r
-planes_out gs outs ws r eight e w i lt =
-    let long : length r ≡ 8 = ap length e ∙ length-layer gs outs ws ∙ eight in
-    ap length (get_or_default r i [] zeros (omega (arith, long))) ∙ subst Wide (sym e) (wide_layer gs outs ws w) i
+pub planes_wide : (x : List (List ℕ)) → Wide (wires 8 x) → ArePlanes x
+planes_wide x w =
+    eight_cases (λ i. length (slice_index_or x i []) ≡ 16) (w 0) (w 1) (w 2) (w 3) (w 4) (w 5) (w 6) (w 7)
 
 -- planes whose bits a circuit computes: its value on the bits of each byte is g's
 pub byte_of-circuit : (circuit : List ℕ → List ℕ) (g : ℕ → ℕ) → values (λ b. number (circuit (bits b))) ≡ values g
-    → (x r : List (List ℕ)) (t j : ℕ) → length r ≡ 8
-    → map (λ v. bit_at (slice_index v j) t) r ≡ circuit (map (λ v. bit_at (slice_index v j) t) (wires 8 x))
+    → (x r : List (List ℕ)) (t j : ℕ)
+    → map (λ v. bit_at (slice_index v j) t) (wires 8 r) ≡ circuit (map (λ v. bit_at (slice_index v j) t) (wires 8 x))
     → byte_at r t j ≡ g (byte_at x t j)
 unfolding from_bits_of
-byte_of-circuit circuit g test x r t j eight e =
+byte_of-circuit circuit g test x r t j e =
     let f : ℕ → ℕ = λ i. bit_at (lane x i j) t in
     let h : (i : ℕ) → f i < 2 = λ i. bit_at-lt (lane x i j) t in
-    ap (λ (l : List ℕ). number l) (ap (map (λ v. bit_at (slice_index v j) t)) (wires_whole 8 r eight) ∙ e)
+    ap (λ (l : List ℕ). number l) e
     ∙ ap (λ (l : List ℕ). number (circuit l)) (bits_of-number f h)
     ∙ same_at_byte (λ b. number (circuit (bits b))) g test (from_bits_of f 8) (from_bits_lt f 8 h)

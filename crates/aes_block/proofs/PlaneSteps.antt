@@ -11,7 +11,7 @@ use Rattle.aes_block.specs.Circuit.{bits_layer, layer, run}
 use Rattle.aes_block.specs.Field.{field_times, polynomial_times, remainder}
 use Rattle.aes_block.specs.Planes.{ArePlanes, block_in, byte_at, double_gates, double_outs, lane, next_row_places}
 use Rattle.aes_block.specs.SBox.{from_bits_of}
-use Rattle.aes_block.proofs.AllBytes.{times_one, triple_is, values}
+use Rattle.aes_block.proofs.AllBytes.{below_all, times_one, triple_is, values}
 use Rattle.aes_block.proofs.ByteBits.{bits_back, byte_from, from_bits_lt, number}
 use Rattle.aes_block.proofs.Circuit.{bit_sum}
 use Rattle.aes_block.proofs.FieldLaws.{field_times-add}
@@ -83,6 +83,9 @@ mixed_3 a b c d ha hb hc hd =
     ∙ turned c (field_times 2 d) (field_times 3 a) b
     ∙ turned b c (field_times 2 d) (field_times 3 a)
     ∙ (λ i. bit_xor (bit_xor (bit_xor (field_times 3 a) (sym (times_one b hb) i)) (sym (times_one c hc) i)) (field_times 2 d))
+
+pub next_row_lt : (j : ℕ) → slice_index next_row_places j < 16
+next_row_lt = below_all 16 next_row_places (omega arith) refl
 
 pub mixed_block : (x r : List (List ℕ)) (t : ℕ)
     → ((j : ℕ) → j < 16 → byte_at r t j ≡ mixed (byte_at x t j) (byte_at x t (slice_index next_row_places j))

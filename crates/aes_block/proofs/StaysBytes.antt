@@ -5,12 +5,12 @@ use Rattle.std.proofs.lemmas.Bool.{cases_lt}
 use Rattle.std.proofs.lemmas.List.{get_or_append_left, get_or_push, get_or_past, length_push}
 use Rattle.std.proofs.lemmas.Nat.{xor_of_8}
 use lib.Lanes.{Each1}
-use Rattle.aes_block.specs.Cipher.{add_round_key, matrix_times, mix_columns, mix_matrix, rounds, shift_rows, sub_bytes}
+use Rattle.aes_block.specs.Cipher.{add_round_key, cipher, matrix_times, mix_columns, mix_matrix, rounds, shift_rows, sub_bytes}
 use Rattle.aes_block.specs.Field.{field_times, inverse, polynomial_times, remainder}
 use Rattle.aes_block.specs.KeySchedule.{add_words, next_word, rcon, rot_word, round_constants, round_key, schedule, stirred, sub_word, word_at}
 use Rattle.aes_block.specs.SBox.{affine_bit, s_box}
 use Rattle.aes_block.specs.State.{IsBytes, cell, column_of, state_of}
-use Rattle.aes_block.proofs.AllBytes.{same_at_byte, values}
+use Rattle.aes_block.proofs.AllBytes.{below_all, same_at_byte, values}
 use Rattle.aes_block.proofs.ByteBits.{from_bits_lt}
 use Rattle.aes_block.proofs.Schedule.{length-schedule}
 
@@ -47,15 +47,8 @@ product_lt m b h hb =
     let e : field_times m b / 256 ≡ 0 = same_at_byte (λ b. field_times m b / 256) (λ b. 0) (products-all m h) b hb in
     omega arith
 
-row_lt : (i : ℕ) → slice_index (0x02 ∷ 0x03 ∷ 0x01 ∷ 0x01 ∷ []) i < 4
-row_lt zero = omega arith
-row_lt (suc zero) = omega arith
-row_lt (suc (suc zero)) = omega arith
-row_lt (suc (suc (suc zero))) = omega arith
-row_lt (suc (suc (suc (suc i)))) = omega arith
-
 entry_lt : (r k : ℕ) → mix_matrix r k < 4
-entry_lt r k = row_lt ((k + 4 - r) % 4)
+entry_lt r k = below_all 4 (0x02 ∷ 0x03 ∷ 0x01 ∷ 0x01 ∷ []) (omega arith) refl ((k + 4 - r) % 4)
 
 -- ShiftRows after SubBytes
 pub shifted_bytes : (s : List ℕ) → IsBytes (shift_rows (sub_bytes s))
@@ -80,7 +73,7 @@ added_words_bytes : (u v : List ℕ) → IsBytes u → IsBytes v → IsBytes (ad
 added_words_bytes u v h g = four_bytes (λ r. bit_xor (slice_index u r) (slice_index v r)) (λ r. xor_bytes _ _ (h r) (g r))
 
 constant_bytes : IsBytes round_constants
-constant_bytes = bytes_from round_constants (omega arith, (omega arith, (omega arith, (omega arith, (omega arith, (omega arith, (omega arith, (omega arith, (omega arith, (omega arith, tt))))))))))
+constant_bytes = below_all 256 round_constants (omega arith) refl
 
 rcon_bytes : (i : ℕ) → IsBytes (rcon i)
 rcon_bytes i = bytes_from (rcon i) (constant_bytes (i - 1), (omega arith, (omega arith, (omega arith, tt))))
@@ -128,3 +121,12 @@ rounds_bytes key s zero hk hs = added_bytes s (round_key key 0) hs (round_key_by
 rounds_bytes key s (suc n) hk hs =
     added_bytes (mix_columns (shift_rows (sub_bytes (rounds key s n)))) (round_key key (n + 1))
     (mixed_bytes (shift_rows (sub_bytes (rounds key s n))) (shifted_bytes (rounds key s n))) (round_key_bytes key (n + 1) hk)
+
+-- what is enciphered is 16 bytes
+pub cipher_bytes : (key block : List ℕ) → IsBytes key → IsBytes (cipher key block)
+unfolding cipher
+cipher_bytes key block hk = added_bytes (shift_rows (sub_bytes (rounds key block 9))) (round_key key 10) (shifted_bytes (rounds key block 9)) (round_key_bytes key 10 hk)
+
+pub length-cipher : (key block : List ℕ) → length (cipher key block) ≡ 16
+unfolding cipher add_round_key
+length-cipher key block = refl

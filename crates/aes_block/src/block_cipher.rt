@@ -4,20 +4,17 @@ ghost use Rattle.aes_block.specs.InverseCipher.{inv_cipher};
 ghost use Rattle.aes_block.specs.State.{IsBytes};
 
 use crate::inverse_steps::{inv_mix_columns, inv_shift_rows, inv_sub_bytes};
-use crate::key_schedule::next_round_key;
-use crate::packing::{pack, unpack};
+use crate::key_schedule::{ROUND_CONSTANTS, next_round_key};
 use crate::plane_steps::{add_key, mix_planes, shift_planes};
+use crate::planes::{pack, unpack};
 use crate::round_key::RoundKey;
 use crate::s_box_planes::sub_planes;
 use crate::steps::{add_round_key, mix_columns, shift_rows, sub_bytes};
 use std::marker::Model;
 
-// The first bytes of Rcon 1 to Rcon 10 (5.2).
-const ROUND_CONSTANTS: [u8; 10] = [0x01, 0x02, 0x04, 0x08, 0x10, 0x20, 0x40, 0x80, 0x1b, 0x36];
-
-/// AES-128 under one key, expanded once: the keys of its eleven rounds (FIPS 197, 5.2).
+/// AES-128 (FIPS 197) under one key, which is expanded once, to the keys of its eleven rounds (5.2).
 ///
-/// In a contract it is the key, a list of 16 bytes.
+/// In a contract an `Aes128` is its key, the list of 16 bytes.
 #[derive(Drop)]
 pub struct Aes128 {
     keys: [RoundKey; 11],
@@ -35,7 +32,7 @@ impl Model for Aes128 {
 }
 
 impl Aes128 {
-    /// The cipher under `key`.
+    /// The cipher under `key`, with the key expanded.
     pub fn new(key: &[u8; 16]) -> Aes128
         ensures { result ≡ key.now }
     {
@@ -46,7 +43,7 @@ impl Aes128 {
         Aes128 { keys }
     }
 
-    /// Enciphers `block` in place (FIPS 197, 5.1).
+    /// Enciphers `block` in place (FIPS 197, 5.1), by tables.
     pub fn encrypt(&self, block: &mut [u8; 16])
         ensures { block.new ≡ cipher self.now block.old }
     {
@@ -60,7 +57,7 @@ impl Aes128 {
         *block = add_round_key(&shift_rows(&sub_bytes(&s)), &self.keys[10].block);
     }
 
-    /// Deciphers `block` in place (FIPS 197, 5.3): gives back what `encrypt` was given under the same key.
+    /// Deciphers `block` in place (FIPS 197, 5.3), by tables. Of a block that `encrypt` made under the same key, this is the block that `encrypt` was given.
     pub fn decrypt(&self, block: &mut [u8; 16])
         ensures value { block.new ≡ inv_cipher self.now block.old }
         ensures undoes { (b : List ℕ) → IsBytes b → length b ≡ 16 → block.old ≡ cipher self.now b → block.new ≡ b }
@@ -75,7 +72,7 @@ impl Aes128 {
         *block = add_round_key(&inv_sub_bytes(&inv_shift_rows(&s)), &self.keys[0].block);
     }
 
-    /// Enciphers each of the eight blocks in place, as `encrypt` does, but side by side in vectors and with no table.
+    /// Enciphers each of the eight blocks in place, as `encrypt` does, but all at once in vectors, and with no table.
     pub fn encrypt_eight(&self, blocks: &mut [[u8; 16]; 8])
         ensures { (t : ℕ) → t < 8 → slice_index_or blocks.new t [] ≡ cipher self.now (slice_index_or blocks.old t []) }
     {

@@ -1,7 +1,7 @@
 ghost use Rattle.std.specs.Prelude.{◌≡◌, ℕ, ◌<◌};
 ghost use Rattle.aes_block.specs.Planes.{ArePlanes, block_in};
 
-use crate::packing::key_planes;
+use crate::planes::key_planes;
 
 // The key of a round, as a block and as planes that have it in each of eight blocks.
 #[derive(Clone, Copy, Drop)]

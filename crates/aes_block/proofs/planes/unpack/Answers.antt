@@ -1,6 +1,6 @@
 use Rattle.std.proofs.Common.{◌∙◌}
 use Rattle.aes_block.proofs.PackedBlocks.{unpacked}
-use Rattle.aes_block.proofs.packing.unpack.Goals as goal
+use Rattle.aes_block.proofs.planes.unpack.Goals as goal
 
 pub returns : goal.returns
 returns c = λ t low.

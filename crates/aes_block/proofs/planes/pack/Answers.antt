@@ -4,7 +4,7 @@ use Rattle.aes_block.specs.Planes.{block_in}
 use Rattle.aes_block.specs.State.{IsBytes}
 use Rattle.aes_block.proofs.Lanes.{eight_cases}
 use Rattle.aes_block.proofs.PackedBlocks.{packed}
-use Rattle.aes_block.proofs.packing.pack.Goals as goal
+use Rattle.aes_block.proofs.planes.pack.Goals as goal
 
 pub returns-clause-value : goal.returns-clause-value
 returns-clause-value c =

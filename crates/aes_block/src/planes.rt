@@ -1,10 +1,13 @@
-// Eight blocks to planes, and back.
+// Eight blocks as eight planes of bits, and back.
 ghost use Rattle.std.specs.Prelude.{◌≡◌, ℕ, ◌<◌, [], length, slice_index_or};
 ghost use Rattle.aes_block.specs.Planes.{ArePlanes, block_in};
 ghost use Rattle.aes_block.specs.State.{IsBytes};
 
 use crate::transpose::transpose;
 use std::simd::prelude::*;
+
+// Eight blocks side by side: bit t of lane j of plane i is bit i of byte j of block t.
+pub(crate) type Planes = [u8x16; 8];
 
 #[inline(always)]
 fn vector_of(block: &[u8; 16]) -> u8x16
@@ -24,7 +27,7 @@ fn load(block: &[u8; 16]) -> u8x16
 }
 
 #[inline(always)]
-pub(crate) fn pack(blocks: &[[u8; 16]; 8]) -> [u8x16; 8]
+pub(crate) fn pack(blocks: &[[u8; 16]; 8]) -> Planes
     ensures planes { ArePlanes result }
     ensures value { (t : ℕ) → t < 8 → block_in result t ≡ slice_index_or blocks.now t [] }
 {
@@ -40,7 +43,7 @@ pub(crate) fn pack(blocks: &[[u8; 16]; 8]) -> [u8x16; 8]
 }
 
 #[inline(always)]
-pub(crate) fn unpack(x: [u8x16; 8]) -> [[u8; 16]; 8]
+pub(crate) fn unpack(x: Planes) -> [[u8; 16]; 8]
     requires { ArePlanes x }
     ensures { (t : ℕ) → t < 8 → slice_index_or result t [] ≡ block_in x t }
 {
@@ -57,7 +60,7 @@ pub(crate) fn key_planes(key: &[u8; 16]) -> [[u8; 16]; 8]
 }
 
 #[inline(always)]
-fn bytes_of(x: [u8x16; 8]) -> [[u8; 16]; 8]
+fn bytes_of(x: Planes) -> [[u8; 16]; 8]
     ensures { (i : ℕ) → i < 8 → slice_index_or result i [] ≡ slice_index_or x i [] }
 {
     let [x0, x1, x2, x3, x4, x5, x6, x7] = x;
@@ -75,7 +78,7 @@ fn bytes_of(x: [u8x16; 8]) -> [[u8; 16]; 8]
 
 // Planes that were kept as bytes.
 #[inline(always)]
-pub(crate) fn planes_of(bytes: &[[u8; 16]; 8]) -> [u8x16; 8]
+pub(crate) fn planes_of(bytes: &[[u8; 16]; 8]) -> Planes
     ensures { (i : ℕ) → i < 8 → slice_index_or result i [] ≡ slice_index_or bytes.now i [] }
 {
     [

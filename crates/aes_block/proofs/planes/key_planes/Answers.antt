@@ -1,7 +1,7 @@
 use Rattle.std.proofs.Common.{ℕ, List, ◌∙◌}
 use Rattle.aes_block.proofs.Lanes.{eight, eight_at, same_planes, same_blocks}
 use Rattle.aes_block.proofs.PackedBlocks.{packed}
-use Rattle.aes_block.proofs.packing.key_planes.Goals as goal
+use Rattle.aes_block.proofs.planes.key_planes.Goals as goal
 
 pub returns-clause-planes : goal.returns-clause-planes
 returns-clause-planes c = same_planes c.transpose.result c.bytes_of.result c.bytes_of.ensures c.transpose.ensures.planes
