@@ -93,7 +93,8 @@ unfolding polynomial_times remainder field_times
 test_09 = refl
 
 pub multiples_are : (b : ℕ) → b < 256
-    → bit_xor (bit_xor (eight b) (four b)) (two b) ∷ bit_xor (bit_xor (eight b) (two b)) b ∷ bit_xor (bit_xor (eight b) (four b)) b ∷ bit_xor (eight b) b ∷ [] ≡ multiples b
+    → bit_xor (bit_xor (eight b) (four b)) (two b) ∷ bit_xor (bit_xor (eight b) (two b)) b
+    ∷ bit_xor (bit_xor (eight b) (four b)) b ∷ bit_xor (eight b) b ∷ [] ≡ multiples b
 multiples_are b h =
     λ i. same_at_byte (λ b. bit_xor (bit_xor (eight b) (four b)) (two b)) (field_times 0x0e) test_0e b h i
     ∷ same_at_byte (λ b. bit_xor (bit_xor (eight b) (two b)) b) (field_times 0x0b) test_0b b h i

@@ -51,12 +51,14 @@ shifted_cells : (s : List ℕ) → state_of (cell (shift_rows s)) ≡ shift_rows
 unfolding shift_rows
 shifted_cells s = refl
 
-pub rounds_next : (key s : List ℕ) (n : ℕ) → rounds key s (n + 1) ≡ add_round_key (mix_columns (shift_rows (sub_bytes (rounds key s n)))) (round_key key (n + 1))
+pub rounds_next : (key s : List ℕ) (n : ℕ)
+    → rounds key s (n + 1) ≡ add_round_key (mix_columns (shift_rows (sub_bytes (rounds key s n)))) (round_key key (n + 1))
 unfolding rounds
 rounds_next key s n = ap (rounds key s) (add-one n)
 
 -- after n inverse rounds the state stands before the end of round 10 - n
-unrounded : (key s : List ℕ) (bytes : (m : ℕ) → IsBytes (rounds key s m)) (shifted : (m : ℕ) → IsBytes (shift_rows (sub_bytes (rounds key s m)))) (n m : ℕ) → m + n ≡ 9
+unrounded : (key s : List ℕ) (bytes : (m : ℕ) → IsBytes (rounds key s m))
+    (shifted : (m : ℕ) → IsBytes (shift_rows (sub_bytes (rounds key s m)))) (n m : ℕ) → m + n ≡ 9
     → inv_rounds key (cipher key s) n ≡ shift_rows (sub_bytes (rounds key s m))
 unfolding inv_rounds cipher
 unrounded key s bytes shifted zero m e =

@@ -7,16 +7,19 @@ use Rattle.std.specs.Int.{bit_at}
 use Rattle.std.specs.Int.Bits.{xor_assoc, xor_self, xor_zero_l, xor_zero_r}
 use Rattle.aes_block.specs.Field.{field_times, polynomial_times, remainder}
 
+-- the middle two of four terms exchanged
 pub xor_swap : (a b c d : ℕ) → bit_xor (bit_xor a b) (bit_xor c d) ≡ bit_xor (bit_xor a c) (bit_xor b d)
 xor_swap a b c d =
     xor_assoc a b (bit_xor c d)
     ∙ ap (bit_xor a) (sym (xor_assoc b c d) ∙ ap (λ (x : ℕ). bit_xor x d) (xor_comm b c) ∙ xor_assoc c b d)
     ∙ sym (xor_assoc a c (bit_xor b d))
 
+-- what is added twice is gone
 pub xor_again : (a b : ℕ) → bit_xor (bit_xor a b) b ≡ a
 xor_again a b = xor_assoc a b b ∙ ap (bit_xor a) (xor_self b) ∙ xor_zero_r a
 
-pub scaled_cases : (p q t : ℕ) → p < 2 → q < 2 → (p + q) % 2 * t ≡ bit_xor (p * t) (q * t)
+-- a sum of two bits, times t
+scaled_cases : (p q t : ℕ) → p < 2 → q < 2 → (p + q) % 2 * t ≡ bit_xor (p * t) (q * t)
 scaled_cases p q t hp hq = elim (cases_lt p 1) [
   | inl a ↦
       let e : p ≡ 0 = omega arith in
@@ -37,10 +40,13 @@ scaled_cases p q t hp hq = elim (cases_lt p 1) [
       ]
 ]
 
+-- a bit of a sum, times t
 scaled_bit : (x y n t : ℕ) → bit_at (bit_xor x y) n * t ≡ bit_xor (bit_at x n * t) (bit_at y n * t)
-scaled_bit x y n t = ap (λ (b : ℕ). b * t) (bit_at_xor x y n) ∙ scaled_cases (bit_at x n) (bit_at y n) t (bit_at-lt x n) (bit_at-lt y n)
+scaled_bit x y n t =
+    ap (λ (b : ℕ). b * t) (bit_at_xor x y n) ∙ scaled_cases (bit_at x n) (bit_at y n) t (bit_at-lt x n) (bit_at-lt y n)
 
-polynomial_times-add : (a x y n : ℕ) → polynomial_times a (bit_xor x y) n ≡ bit_xor (polynomial_times a x n) (polynomial_times a y n)
+polynomial_times-add : (a x y n : ℕ)
+    → polynomial_times a (bit_xor x y) n ≡ bit_xor (polynomial_times a x n) (polynomial_times a y n)
 unfolding polynomial_times
 polynomial_times-add a x y zero = sym (xor_self 0)
 polynomial_times-add a x y (suc n) =
@@ -59,4 +65,6 @@ remainder-add p q (suc n) =
 
 pub field_times-add : (a x y : ℕ) → field_times a (bit_xor x y) ≡ bit_xor (field_times a x) (field_times a y)
 unfolding field_times
-field_times-add a x y = ap (λ (p : ℕ). remainder p 8) (polynomial_times-add a x y 8) ∙ remainder-add (polynomial_times a x 8) (polynomial_times a y 8) 8
+field_times-add a x y =
+    ap (λ (p : ℕ). remainder p 8) (polynomial_times-add a x y 8)
+    ∙ remainder-add (polynomial_times a x 8) (polynomial_times a y 8) 8

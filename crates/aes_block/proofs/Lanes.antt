@@ -46,7 +46,8 @@ eight_planes v h = λ i lt. ap length (eight_at v i lt) ∙ h i lt
 pub same_planes : (x y : List (List ℕ)) → ((i : ℕ) → i < 8 → slice_index_or y i [] ≡ slice_index_or x i []) → ArePlanes x → ArePlanes y
 same_planes x y same planes = λ i lt. ap length (same i lt) ∙ planes i lt
 
-pub same_byte : (x y : List (List ℕ)) → ((i : ℕ) → i < 8 → slice_index_or y i [] ≡ slice_index_or x i []) → (t j : ℕ) → byte_at y t j ≡ byte_at x t j
+pub same_byte : (x y : List (List ℕ)) → ((i : ℕ) → i < 8 → slice_index_or y i [] ≡ slice_index_or x i [])
+    → (t j : ℕ) → byte_at y t j ≡ byte_at x t j
 unfolding from_bits_of
 same_byte x y same t j =
     let bit = λ (i : ℕ) (lt : i < 8). ap (λ (v : List ℕ). bit_at (slice_index v j) t) (same i lt) in
@@ -54,5 +55,6 @@ same_byte x y same t j =
     (bit 0 (omega arith) m ∷ bit 1 (omega arith) m ∷ bit 2 (omega arith) m ∷ bit 3 (omega arith) m
     ∷ bit 4 (omega arith) m ∷ bit 5 (omega arith) m ∷ bit 6 (omega arith) m ∷ bit 7 (omega arith) m ∷ [])
 
-pub same_blocks : (x y : List (List ℕ)) → ((i : ℕ) → i < 8 → slice_index_or y i [] ≡ slice_index_or x i []) → (t : ℕ) → block_in y t ≡ block_in x t
+pub same_blocks : (x y : List (List ℕ)) → ((i : ℕ) → i < 8 → slice_index_or y i [] ≡ slice_index_or x i [])
+    → (t : ℕ) → block_in y t ≡ block_in x t
 same_blocks x y same t = λ i. state_of (λ r c. same_byte x y same t (r + 4 * c) i)

@@ -18,6 +18,7 @@ use Rattle.aes_block.proofs.FieldLaws.{field_times-add}
 use Rattle.aes_block.proofs.Lanes.{eight, eight_at, eight_planes, length-op}
 use Rattle.std.specs.Int.Bits.{xor_assoc}
 
+-- the doubling circuit on the bits of each byte
 pub double-all : values (λ b. number (bits_layer double_gates double_outs (bits b))) ≡ values (field_times 2)
 unfolding polynomial_times remainder field_times from_bits_of layer run
 double-all = refl
@@ -32,7 +33,8 @@ xor_at x y i = zip2 bit_xor (slice_index_or x i []) (slice_index_or y i [])
 pub xored : (x y : List (List ℕ)) → ArePlanes x → ArePlanes y → (t j : ℕ) → t < 8 → j < 16
     → byte_at (eight (xor_at x y)) t j ≡ bit_xor (byte_at x t j) (byte_at y t j)
 xored x y hx hy t j low lt =
-    let bit = λ (z : List (List ℕ)) (i : ℕ) (h : i < 8). bits_back (λ i. bit_at (lane z i j) t) (λ i. bit_at-lt (lane z i j) t) 8 i h in
+    let bit = λ (z : List (List ℕ)) (i : ℕ) (h : i < 8).
+    bits_back (λ i. bit_at (lane z i j) t) (λ i. bit_at-lt (lane z i j) t) 8 i h in
     byte_from (λ i. bit_at (lane (eight (xor_at x y)) i j) t) (bit_xor (byte_at x t j) (byte_at y t j))
     (xor_of_8 (byte_at x t j) (byte_at y t j) (byte_lt x t j) (byte_lt y t j))
     (λ i h.
@@ -42,22 +44,28 @@ xored x y hx hy t j low lt =
     ∙ sym (bit_at_xor (byte_at x t j) (byte_at y t j) i))
 
 pub xored_planes : (x y : List (List ℕ)) → ArePlanes x → ArePlanes y → ArePlanes (eight (xor_at x y))
-xored_planes x y hx hy = eight_planes (xor_at x y) (λ i h. length-op bit_xor (slice_index_or x i []) (slice_index_or y i []) (hx i h) (hy i h))
+xored_planes x y hx hy =
+    eight_planes (xor_at x y) (λ i h. length-op bit_xor (slice_index_or x i []) (slice_index_or y i []) (hx i h) (hy i h))
 
 -- 2 (a + b) + b + (c + d)
 abbrev pub mixed : ℕ → ℕ → ℕ → ℕ → ℕ
 mixed a b c d = bit_xor (bit_xor (field_times 2 (bit_xor a b)) b) (bit_xor c d)
 
-mixed_is : (a b c d : ℕ) → b < 256 → mixed a b c d ≡ bit_xor (bit_xor (bit_xor (field_times 2 a) (field_times 3 b)) c) d
+-- as the first row of the matrix has it
+mixed_is : (a b c d : ℕ) → b < 256
+    → mixed a b c d ≡ bit_xor (bit_xor (bit_xor (field_times 2 a) (field_times 3 b)) c) d
 mixed_is a b c d hb =
     ap (λ (x : ℕ). bit_xor (bit_xor x b) (bit_xor c d)) (field_times-add 2 a b)
-    ∙ ap (λ (x : ℕ). bit_xor x (bit_xor c d)) (xor_assoc (field_times 2 a) (field_times 2 b) b ∙ ap (bit_xor (field_times 2 a)) (triple_is b hb))
+    ∙ ap (λ (x : ℕ). bit_xor x (bit_xor c d))
+    (xor_assoc (field_times 2 a) (field_times 2 b) b ∙ ap (bit_xor (field_times 2 a)) (triple_is b hb))
     ∙ sym (xor_assoc (bit_xor (field_times 2 a) (field_times 3 b)) c d)
 
+-- the last of four terms in front
 turned : (w x y z : ℕ) → bit_xor (bit_xor (bit_xor w x) y) z ≡ bit_xor (bit_xor (bit_xor z w) x) y
 turned w x y z =
     xor_comm (bit_xor (bit_xor w x) y) z ∙ sym (xor_assoc z (bit_xor w x) y) ∙ ap (λ (u : ℕ). bit_xor u y) (sym (xor_assoc z w x))
 
+-- the four rows, each from the row itself and the three below it, in turn
 pub mixed_0 : (a b c d : ℕ) → a < 256 → b < 256 → c < 256 → d < 256 → mixed a b c d ≡ row_times mix_matrix 0 a b c d
 mixed_0 a b c d ha hb hc hd =
     mixed_is a b c d hb
@@ -84,9 +92,11 @@ mixed_3 a b c d ha hb hc hd =
     ∙ turned b c (field_times 2 d) (field_times 3 a)
     ∙ (λ i. bit_xor (bit_xor (bit_xor (field_times 3 a) (sym (times_one b hb) i)) (sym (times_one c hc) i)) (field_times 2 d))
 
+-- a place is below 16
 pub next_row_lt : (j : ℕ) → slice_index next_row_places j < 16
 next_row_lt = below_all 16 next_row_places (omega arith) refl
 
+-- a block whose bytes are mixed from the bytes of their columns
 pub mixed_block : (x r : List (List ℕ)) (t : ℕ)
     → ((j : ℕ) → j < 16 → byte_at r t j ≡ mixed (byte_at x t j) (byte_at x t (slice_index next_row_places j))
     (byte_at x t (slice_index next_row_places (slice_index next_row_places j)))

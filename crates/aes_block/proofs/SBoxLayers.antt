@@ -53,7 +53,8 @@ module _ (x y m t z r : List (List ℕ)) (ls : Layers x y m t z r) (planes : Are
   planes_subbed = planes_wide r (wide_out lin_gates lin_outs (ones ∷ wires 18 z) r ls.lin wide_z)
 
   -- bit k of lane j of the planes that come out
-  circuit_bits : (j k : ℕ) → j < 16 → k < 8 → map (λ v. bit_at (slice_index v j) k) (wires 8 r) ≡ s_box_circuit (map (λ v. bit_at (slice_index v j) k) (wires 8 x))
+  circuit_bits : (j k : ℕ) → j < 16 → k < 8
+      → map (λ v. bit_at (slice_index v j) k) (wires 8 r) ≡ s_box_circuit (map (λ v. bit_at (slice_index v j) k) (wires 8 x))
   circuit_bits j k lt low =
       let b : List ℕ → ℕ = λ v. bit_at (slice_index v j) k in
       let of_y = map b (wires 21 y) in

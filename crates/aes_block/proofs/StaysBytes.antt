@@ -53,7 +53,8 @@ entry_lt r k = below_all 4 (0x02 ∷ 0x03 ∷ 0x01 ∷ 0x01 ∷ []) (omega arith
 -- ShiftRows after SubBytes
 pub shifted_bytes : (s : List ℕ) → IsBytes (shift_rows (sub_bytes s))
 unfolding shift_rows sub_bytes
-shifted_bytes s = state_bytes (λ r c. cell (state_of (λ r c. s_box (cell s r c))) r ((c + r) % 4)) (λ r c. state_bytes (λ r c. s_box (cell s r c)) (λ r c. s_box_lt (cell s r c)) (r + 4 * ((c + r) % 4)))
+shifted_bytes s = state_bytes (λ r c. cell (state_of (λ r c. s_box (cell s r c))) r ((c + r) % 4))
+    (λ r c. state_bytes (λ r c. s_box (cell s r c)) (λ r c. s_box_lt (cell s r c)) (r + 4 * ((c + r) % 4)))
 
 xor_bytes : (a b : ℕ) → a < 256 → b < 256 → bit_xor a b < 256
 xor_bytes a b h k = xor_of_8 a b h k
@@ -125,7 +126,8 @@ rounds_bytes key s (suc n) hk hs =
 -- what is enciphered is 16 bytes
 pub cipher_bytes : (key block : List ℕ) → IsBytes key → IsBytes (cipher key block)
 unfolding cipher
-cipher_bytes key block hk = added_bytes (shift_rows (sub_bytes (rounds key block 9))) (round_key key 10) (shifted_bytes (rounds key block 9)) (round_key_bytes key 10 hk)
+cipher_bytes key block hk =
+    added_bytes (shift_rows (sub_bytes (rounds key block 9))) (round_key key 10) (shifted_bytes (rounds key block 9)) (round_key_bytes key 10 hk)
 
 pub length-cipher : (key block : List ℕ) → length (cipher key block) ≡ 16
 unfolding cipher add_round_key
