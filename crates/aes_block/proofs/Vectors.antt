@@ -12,7 +12,7 @@ product : field_times 0x57 0x83 ≡ 0xc1
 unfolding polynomial_times remainder field_times
 product = refl
 
--- Figure 7, at 00, 01 and 53
+-- 5.1.1: the S-box at 00, 01 and 53
 substitutions : map s_box (0x00 ∷ 0x01 ∷ 0x53 ∷ []) ≡ 0x63 ∷ 0x7c ∷ 0xed ∷ []
 unfolding polynomial_times remainder field_times inverse_below inverse from_bits_of s_box
 substitutions = refl
