@@ -1,0 +1,15 @@
+pub mod AllBytes
+pub mod FieldLaws
+pub mod Schedule
+pub mod ByteBits
+pub mod StaysBytes
+pub mod Unmixing
+pub mod Deciphering
+pub mod RoundSteps
+pub mod Vectors
+pub mod Lanes
+pub mod BitRows
+pub mod PackedBlocks
+pub mod Circuit
+pub mod SBoxLayers
+pub mod PlaneSteps
