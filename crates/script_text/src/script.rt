@@ -48,7 +48,7 @@ impl Model for Script {
 }
 
 impl Script {
-    ghost use Rattle.std.specs.Prelude.{◌≡◌, ◌+◌, ◌^◌, ◌<◌, [], ◌∷◌, ◌++◌, length, slice_get, option_copied, IfSome, OnOk};
+    ghost use Rattle.std.specs.Prelude.{◌≡◌, ◌+◌, ◌^◌, ◌<◌, [], ◌∷◌, ◌++◌, length, slice_get, option_copied, All, IfSome, OnOk};
     ghost use Rattle.std.specs.Option.{option_map};
     ghost use Rattle.script_text.specs.Script.{no_script, IsPlaced};
     ghost use Rattle.script_text.specs.Grammar.{place_of};
@@ -99,6 +99,13 @@ impl Script {
         self.declared.len() as u32
     }
 
+    /// The applications, in the order of declaration.
+    pub fn applications(&self) -> &[Declaration]
+        ensures { result.now ≡ self.now.applications }
+    {
+        self.declared.as_slice()
+    }
+
     /// The name of the application at that place.
     pub fn name(&self, app: u32) -> Option<&[u8]>
         ensures { option_copied result ≡ option_map (λ d. d.name) (slice_get self.now.applications app) }
@@ -120,6 +127,14 @@ impl Script {
         ensures { result ≡ length self.now.steps }
     {
         self.made.len() as u64
+    }
+
+    /// The steps, in order.
+    pub fn all_steps(&self) -> &[Step]
+        ensures steps { result.now ≡ self.now.steps }
+        ensures placed { All (IsPlaced (length self.now.applications)) result.now }
+    {
+        self.made.as_slice()
     }
 
     /// The step at that place.

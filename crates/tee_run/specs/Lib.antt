@@ -1,0 +1,7 @@
+pub mod Phases
+pub mod Trace
+pub mod Causes
+pub mod Reading
+pub mod Serving
+pub mod Sending
+pub mod Exit

@@ -1,0 +1,47 @@
+-- The phases of a script, and the records of those that were run.
+use Rattle.std.specs.Prelude.{ℕ, ◌≡◌, ◌==◌, List, [], ◌∷◌, if◌then◌else◌}
+use Rattle.tee_types.specs.declared.call.Call.{Call}
+use Rattle.store_model.specs.declared.event.Event.{Event}
+use Rattle.store_model.specs.declared.event.Event.TheVariants.{Call as CallEvent, Landed}
+use Rattle.store_model.specs.Object.{ObjectMap}
+use Rattle.store_model.specs.History.{calls_of}
+use Rattle.store_model.specs.Legal.{IsLegal, opening, replay}
+use Rattle.script_text.specs.declared.script.Step.{Step}
+use Rattle.script_text.specs.declared.script.Step.TheVariants.{Call as CallStep}
+use Rattle.script_text.specs.Text.{PhaseRecord}
+
+-- the steps whose calls these events are, in order
+abbrev pub steps_served : List Event → List Step
+steps_served [] = []
+steps_served (CallEvent session number call reply mark ∷ events) = CallStep session call ∷ steps_served events
+steps_served (Landed commit ∷ events) = steps_served events
+
+-- the calls of that application in these steps, in order
+abbrev pub calls_in : ℕ → List Step → List Call
+calls_in app [] = []
+calls_in app (CallStep a call ∷ steps) = if a == app then call ∷ calls_in app steps else calls_in app steps
+
+-- The events are the calls of these steps, each once.
+pub record ServesSteps (steps : List Step) (events : List Event) : Type 0 where
+  -- in the script's order, as a serial phase serves them
+  pub in_script_order : steps_served events ≡ steps
+  -- the calls of each application are its calls of the script, in order
+  pub of_each_application : (app : ℕ) → calls_of app events ≡ calls_in app steps
+
+-- the phases that a script makes of its steps; without a step there is none
+abbrev pub script_phases : List Step → List (List Step)
+script_phases [] = []
+script_phases (step ∷ steps) = (step ∷ steps) ∷ []
+
+-- The records are of the first of these phases, in order, and each has the calls of its phase.
+abbrev pub ServesPhases : List (List Step) → List PhaseRecord → Type 0
+ServesPhases phases [] = Unit {0}
+ServesPhases [] (phase ∷ rest) = ⊥
+ServesPhases (steps ∷ phases) (phase ∷ rest) = ServesSteps steps phase.events × ServesPhases phases rest
+
+-- Each phase opens with the objects and the counter that the one before left, and its history is legal.
+abbrev pub AreLegalPhases : List (List ℕ) → ObjectMap → ℕ → List PhaseRecord → Type 0
+AreLegalPhases applications objects counter [] = Unit {0}
+AreLegalPhases applications objects counter (phase ∷ rest) =
+    let end = replay (opening objects applications counter) phase.events in
+    (phase.opening ≡ objects) × IsLegal objects applications counter phase.events × AreLegalPhases applications (end.state).objects end.counter rest
