@@ -1,3 +1,4 @@
 pub mod Entries
 pub mod SoundReads
 pub mod Room
+pub mod Refusals

@@ -3,6 +3,7 @@
 
 mod event;
 mod history;
+pub mod laws;
 mod name;
 mod object;
 mod session;

@@ -1,0 +1,8 @@
+use Rattle.store_model.proofs.Refusals.{kept-IsOutcome, alone-IsOutcome}
+use Rattle.store_model.proofs.state.State.apply.Goals as goal
+
+pub returns-in-Ok-clause-refused : goal.returns-in-Ok-clause-refused
+returns-in-Ok-clause-refused c = kept-IsOutcome c.args.self.now c.args.session c.args.call.now c.in-Ok.reply c.serve.new.self c.in-Ok.ensures.ok
+
+pub returns-in-Ok-clause-unfaulted : goal.returns-in-Ok-clause-unfaulted
+returns-in-Ok-clause-unfaulted c = alone-IsOutcome c.args.self.now c.args.session c.args.call.now c.in-Ok.reply c.serve.new.self c.in-Ok.ensures.ok
