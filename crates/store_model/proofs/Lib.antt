@@ -2,3 +2,4 @@ pub mod Entries
 pub mod SoundReads
 pub mod Room
 pub mod Refusals
+pub mod Rows
