@@ -58,11 +58,16 @@ first_events =
 
 first_object_is_legal : IsLegalFrom (opening [] (app ∷ []) 0) first_events
 unfolding create_of open_of close_of read_of
-first_object_is_legal =
-    (record { replied = refl; marked = refl; counted = lit< tt },
-    (record { replied = refl; marked = refl; counted = lit< tt },
-    (record { replied = refl; marked = refl; counted = lit< tt },
-    (record { replied = refl; marked = refl; counted = lit< tt }, tt))))
+first_object_is_legal = (
+  record { replied = refl; marked = refl; counted = lit< tt },
+  (
+    record { replied = refl; marked = refl; counted = lit< tt },
+    (
+      record { replied = refl; marked = refl; counted = lit< tt },
+      (record { replied = refl; marked = refl; counted = lit< tt }, tt),
+    ),
+  ),
+)
 
 commits_of_first_object : commits_of first_events ≡ CallEvent 0 0 (Create key r (0 ∷ []) []) (HandleReply 0) (Made 1) ∷ []
 commits_of_first_object = refl
@@ -125,7 +130,7 @@ last_number = refl
 abbrev damaged : MachineState
 damaged = record {
   objects = (record { app = app; id = key }, Sound (record { attributes = []; bytes = replicate 4098 0; bad = 1 ∷ [] }))
-    ∷ (record { app = app; id = 0x6c ∷ [] }, Damaged 5) ∷ [];
+      ∷ (record { app = app; id = 0x6c ∷ [] }, Damaged 5) ∷ [];
   sessions = record {
     application = app;
     handles = (0, record { name = record { app = app; id = key }; flags = r-shared; position = 4095 }) ∷ (1, record { name = record { app = app; id = key }; flags = r-shared; position = 4096 }) ∷ [];

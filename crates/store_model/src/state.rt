@@ -298,6 +298,7 @@ impl State {
         ensures answer { IsAnswer (outcome_of self.old session call.now) self.old result self.new }
         ensures refused { is_refusal result ≡ true → self.new ≡ self.old }
         ensures unfaulted { is_of_device result ≡ false }
+        ensures sessions { length self.new.sessions ≡ length self.old.sessions }
     {
         match self.serve(alloc, session as usize, call) {
             Ok(reply) => reply,
