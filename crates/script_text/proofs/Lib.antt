@@ -3,3 +3,4 @@ pub mod Options
 pub mod Digits
 pub mod OneLine
 pub mod Printing
+pub mod Rows

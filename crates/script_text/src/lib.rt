@@ -4,6 +4,8 @@
 mod print;
 mod reading;
 mod script;
+#[cfg(test)]
+mod tests;
 mod values;
 mod words;
 

@@ -327,9 +327,9 @@ pub fn print_event(
     printed
 }
 
-/// Appends the line before a phase's history. A refusal leaves the text as it was.
+/// Appends the line before a phase's history. A refusal may leave a part of it behind the old text.
 #[tactic(auto, unfolding(crate::specs::Text::phase_line))]
-pub fn print_phase(number: u64, objects: u16, out: &mut Vec<u8>) -> Result<(), NoMemory>
+fn put_phase(out: &mut Vec<u8>, number: u64, objects: u16) -> Result<(), NoMemory>
     ensures ok { OnOk result (out.new.items ≡ out.old.items ++ phase_line number objects) }
     ensures kept { take (length out.old.items) out.new.items ≡ out.old.items }
 {
@@ -339,4 +339,18 @@ pub fn print_phase(number: u64, objects: u16, out: &mut Vec<u8>) -> Result<(), N
     put_number(out, objects as u64)?;
     put(out, b"\n")?;
     Ok(())
+}
+
+/// Appends the line before a phase's history. A refusal leaves the text as it was.
+pub fn print_phase(number: u64, objects: u16, out: &mut Vec<u8>) -> Result<(), NoMemory>
+    ensures ok { OnOk result (out.new.items ≡ out.old.items ++ phase_line number objects) }
+    ensures err { OnErr result (out.new.items ≡ out.old.items) }
+    ensures kept { take (length out.old.items) out.new.items ≡ out.old.items }
+{
+    let before = out.len();
+    let printed = put_phase(out, number, objects);
+    if printed.is_err() {
+        out.truncate(before);
+    }
+    printed
 }

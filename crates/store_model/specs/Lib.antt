@@ -2,6 +2,7 @@ pub mod Name
 pub mod Object
 pub mod Machine
 pub mod Answer
+pub mod Refusal
 pub mod Ledger
 pub mod History
 pub mod Legal

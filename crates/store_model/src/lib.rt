@@ -3,10 +3,13 @@
 
 mod event;
 mod history;
+pub mod laws;
 mod name;
 mod object;
 mod session;
 mod state;
+#[cfg(test)]
+mod tests;
 
 pub use event::{Event, Mark};
 pub use history::History;

@@ -37,11 +37,12 @@ impl Model for State {
 }
 
 impl State {
-    ghost use Rattle.std.specs.Prelude.{◌≡◌, ◌<◌, ◌≤◌, [], length, false, IfOk, Some, None, IsSome, IsNone, IfSome, OnOk, OnErr, ◌==◌};
+    ghost use Rattle.std.specs.Prelude.{◌≡◌, ◌<◌, ◌≤◌, [], length, true, false, IfOk, Some, None, IsSome, IsNone, IfSome, OnOk, OnErr, ◌==◌};
     ghost use Rattle.tee_types.specs.Rights.{without_overwrite};
     ghost use Rattle.std.specs.Map.{set_value};
     ghost use Rattle.store_model.specs.Object.{Sound, holds, with_object, object_at};
     ghost use Rattle.store_model.specs.Answer.{IsAnswer, IsOutcome};
+    ghost use Rattle.store_model.specs.Refusal.{is_refusal, is_of_device};
     ghost use Rattle.std.specs.List.{list_any, list_all};
     ghost use Rattle.store_model.specs.Machine.{opened_store, session_at, name_in, create_refusals, open_refusals, lacks_room, handle_at, with_session, first_refusal, has_open, allows_open};
     ghost use Rattle.store_model.specs.Machine.{create_of, open_of, close_of, read_of, reply_of, state_after, outcome_of};
@@ -272,13 +273,13 @@ impl State {
         Ok(Reply::Content(given))
     }
 
-    /// Serves one call of that session, as the machine does. NoMemory leaves the state as it was.
-    pub fn apply(&mut self, alloc: Global, session: u32, call: &Call) -> Reply
+    /// Serves one call of that session, or leaves the state for want of memory.
+    fn serve(&mut self, alloc: Global, session: usize, call: &Call) -> Result<Reply, NoMemory>
         requires { session < length self.old.sessions }
-        ensures { IsAnswer (outcome_of self.old session call.now) self.old result self.new }
+        ensures ok { IfOk result (λ reply. IsOutcome (outcome_of self.old session call.now) reply self.new) }
+        ensures err { OnErr result (self.new ≡ self.old) }
     {
-        let session = session as usize;
-        let reply = match call {
+        match call {
             Call::Create {
                 id,
                 flags,
@@ -288,8 +289,18 @@ impl State {
             Call::Open { id, flags } => Ok(self.open(session, *id, *flags)),
             Call::Close { handle } => Ok(self.close(session, *handle)),
             Call::Read { handle, size } => self.read(alloc, session, *handle, *size),
-        };
-        match reply {
+        }
+    }
+
+    /// Serves one call of that session, as the machine does. NoMemory leaves the state as it was.
+    pub fn apply(&mut self, alloc: Global, session: u32, call: &Call) -> Reply
+        requires { session < length self.old.sessions }
+        ensures answer { IsAnswer (outcome_of self.old session call.now) self.old result self.new }
+        ensures refused { is_refusal result ≡ true → self.new ≡ self.old }
+        ensures unfaulted { is_of_device result ≡ false }
+        ensures sessions { length self.new.sessions ≡ length self.old.sessions }
+    {
+        match self.serve(alloc, session as usize, call) {
             Ok(reply) => reply,
             Err(_) => Reply::NoMemory,
         }

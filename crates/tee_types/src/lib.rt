@@ -8,6 +8,8 @@ mod call;
 mod flags;
 mod object_id;
 mod reply;
+#[cfg(test)]
+mod tests;
 
 pub use app_id::AppId;
 pub use bytes::Bytes;

@@ -1,7 +1,7 @@
 use Rattle.std.proofs.Common.{◌++◌, codes, decimal, ap, ◌∙◌}
 use Rattle.script_text.specs.Text.{phase_line}
 use Rattle.script_text.proofs.Printing.{append-five}
-use Rattle.script_text.proofs.print.print_phase.Goals as goal
+use Rattle.script_text.proofs.print.put_phase.Goals as goal
 
 pub returns-clause-ok : goal.returns-clause-ok
 unfolding phase_line

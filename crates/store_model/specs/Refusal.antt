@@ -1,0 +1,31 @@
+-- Replies by which a call is refused, and what a refusal leaves.
+use Rattle.std.specs.Prelude.{◌≡◌, ℕ, Bool, true, false}
+use Rattle.tee_types.specs.declared.call.Call.{Call}
+use Rattle.tee_types.specs.declared.reply.Reply.{Reply}
+use Rattle.tee_types.specs.declared.reply.Reply.TheVariants.{Done, Handle, Content, Info, Found, NotAvailable, InDoubt, CounterSpent}
+use Rattle.store_model.specs.Machine.{MachineState, reply_of, state_after}
+
+-- the call was not done
+abbrev pub is_refusal : Reply → Bool
+is_refusal Done = false
+is_refusal (Handle number) = false
+is_refusal (Content bytes) = false
+is_refusal (Info size position flags attributes) = false
+is_refusal (Found id size) = false
+is_refusal _ = true
+
+-- a device has a part in the reply: it failed, its commit is in doubt, or its counter is spent
+abbrev pub is_of_device : Reply → Bool
+is_of_device (NotAvailable cause) = true
+is_of_device (InDoubt commit) = true
+is_of_device (CounterSpent counter) = true
+is_of_device _ = false
+
+-- A refused call leaves the whole state: objects, handles, positions and the numbers of the next handles.
+abbrev pub RefusalsChangeNothing : Type 0
+RefusalsChangeNothing =
+    (s : MachineState) (i : ℕ) (call : Call) → is_refusal (reply_of s i call) ≡ true → state_after s i call ≡ s
+
+-- The machine has no devices.
+abbrev pub RepliesNameNoDevice : Type 0
+RepliesNameNoDevice = (s : MachineState) (i : ℕ) (call : Call) → is_of_device (reply_of s i call) ≡ false
