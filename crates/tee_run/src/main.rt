@@ -7,6 +7,8 @@ mod printing;
 mod reading;
 mod run;
 mod status;
+#[cfg(test)]
+mod tests;
 mod writing;
 
 use run::run;
