@@ -1,7 +1,8 @@
 -- The product bit by bit, from the first block's left.
-use Rattle.std.proofs.Common.{◌≡◌, ℕ, suc, ◌+◌, ◌-◌, ◌*◌, ◌/◌, ◌%◌, ◌^◌, ◌<◌, bit_xor, refl, sym, ap, ◌∙◌, arith}
+use Rattle.std.proofs.Common.{◌≡◌, ℕ, suc, ◌+◌, ◌-◌, ◌*◌, ◌^◌, ◌<◌, bit_xor, refl, sym, ap, ◌∙◌, arith}
 use Rattle.std.specs.Int.{bit_at}
 use Rattle.std.specs.Int.Bits.{xor_zero_r}
+use Rattle.ghash_field.specs.Table.{block_step}
 use Rattle.ghash_field.specs.Field.{reflected, block_product}
 use Rattle.ghash_field.proofs.Algebra.{power_of, times_below}
 use Rattle.ghash_field.proofs.Division.{times_x}
@@ -33,8 +34,8 @@ step-clear a b s i lt bit sum =
     sum ∙ sym (xor_zero_r _) ∙ ap (bit_xor (times_below times_x i (reflected a) (reflected b))) (sym times)
     ∙ ap (λ n. times_below times_x n (reflected a) (reflected b)) e
 
-pub shift-more : (b v i : ℕ) → v < 2 ^ 128 → IsShifted b v i → IsShifted b (bit_xor (v / 2) (v % 2 * (0xe1 * 2 ^ 120))) (i + 1)
-unfolding power_of
+pub shift-more : (b v i : ℕ) → v < 2 ^ 128 → IsShifted b v i → IsShifted b (block_step v) (i + 1)
+unfolding power_of block_step
 shift-more b v i lt shifted =
     let e : suc i ≡ i + 1 = omega arith in
     reflected-step v lt ∙ ap times_x shifted ∙ ap (λ n. power_of times_x n (reflected b)) e

@@ -5,5 +5,5 @@ pub mod Product
 pub mod Reflected
 pub mod FieldLaws
 pub mod BitSteps
-pub mod FourBits
+pub mod Rows
 pub mod Evidence

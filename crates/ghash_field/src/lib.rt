@@ -10,8 +10,9 @@ ghost use Rattle.std.specs.Int.{w128, from_be_bytes, to_be_bytes};
 ghost use Rattle.ghash_field.specs.Field.{block_product};
 ghost use Rattle.ghash_field.specs.Ghash.{ghash};
 ghost use Rattle.ghash_field.specs.Hasher.{Holds};
+ghost use Rattle.ghash_field.specs.Table.{block_step};
 
-use table::{mul_by_table, table_of};
+use table::{Table, mul_by_table, table_of};
 
 mod table;
 #[cfg(test)]
@@ -20,17 +21,29 @@ mod tests;
 // R of section 6.3: 1110 0001, then 120 zero bits. It stands for x^128.
 const REDUCTION: u128 = 0xe1 << 120;
 
+// A block times the polynomial x.
+fn times_x(block: u128) -> u128
+    ensures { result ≡ block_step block }
+{
+    let shifted = block >> 1;
+    if block & 1 == 1 {
+        shifted ^ REDUCTION
+    } else {
+        shifted
+    }
+}
+
 /// The product a • b of two blocks (section 6.3), bit by bit.
 pub fn mul(a: u128, b: u128) -> u128
     ensures { result ≡ block_product a b }
 {
     let mut sum = 0;
-    let mut shifted = b;
+    let mut multiple = b;
     for i in 0..128u32 {
         if (a >> (127 - i)) & 1 == 1 {
-            sum ^= shifted;
+            sum ^= multiple;
         }
-        shifted = (shifted >> 1) ^ (if shifted & 1 == 1 { REDUCTION } else { 0 });
+        multiple = times_x(multiple);
     }
     sum
 }
@@ -55,7 +68,7 @@ pub fn ghash_steps()
 /// GHASH of a run of blocks under one hash subkey, block by block.
 #[derive(Drop)]
 pub struct Ghash {
-    table: [u128; 16],
+    table: Table,
     sum: u128,
 }
 

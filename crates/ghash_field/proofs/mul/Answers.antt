@@ -1,9 +1,8 @@
-use Rattle.std.proofs.Common.{◌≡◌, ◌+◌, ◌*◌, ◌^◌, ℕ, ◌-◌, ◌/◌, ◌%◌, sym, ◌∙◌, subst, arith, bit_and, bit_xor}
-use Rattle.std.proofs.lemmas.Nat.{and_mask}
+use Rattle.std.proofs.Common.{◌≡◌, ◌+◌, ◌-◌, sym, ◌∙◌, subst, arith}
 use Rattle.std.proofs.lemmas.Nat.Bits.{bit_at-lt, shr_and_one}
 use Rattle.ghash_field.proofs.BitSteps.{IsProductBelow, IsShifted, step-set, step-clear, shift-more, product-all, product-none, shift-none}
 use Rattle.ghash_field.proofs.mul.Goals as goal
-use Rattle.ghash_field.proofs.mul.Goals.{then-a-i-eq1, else-a-i-eq1, then-shifted-eq1, else-shifted-eq1}
+use Rattle.ghash_field.proofs.mul.Goals.{then-a-i-eq1, else-a-i-eq1}
 
 pub loop-i-init : goal.loop-i-init
 loop-i-init c = record { product = product-none c.args.a c.args.b; multiple = shift-none c.args.b }
@@ -16,15 +15,8 @@ loop-i-preserved c = record {
     | else-a-i-eq1 w ↦ subst (λ s. IsProductBelow c.args.a c.args.b s (c.loop-i.i + 1)) (sym w.sum-is)
         (step-clear _ _ _ c.loop-i.i (omega arith) (omega (arith, w.if-a-i-eq1.false, shr_and_one c.args.a (127 - c.loop-i.i), bit_at-lt c.args.a (127 - c.loop-i.i))) c.loop-i.invariant.product)
   ];
-  multiple =
-      let v : ℕ = c.loop-i.shifted in
-      let mask : bit_and v 1 ≡ v % 2 = and_mask v 1 in
-      let chosen : c.if-shifted-eq1.shifted ≡ v % 2 * (0xe1 * 2 ^ 120) = elim c.if-shifted-eq1.branch [
-        | then-shifted-eq1 w ↦ omega (arith, w.shifted-is, w.if-shifted-eq1.true, mask)
-        | else-shifted-eq1 w ↦ omega (arith, w.shifted-is, w.if-shifted-eq1.false, mask)
-      ] in
-      subst (λ m. IsShifted c.args.b (bit_xor (v / 2) m) (c.loop-i.i + 1)) (sym chosen)
-      (shift-more c.args.b v c.loop-i.i c.loop-i.auto.shifted-fits.fits c.loop-i.invariant.multiple);
+  multiple = subst (λ m. IsShifted c.args.b m (c.loop-i.i + 1)) (sym c.times_x-multiple.ensures)
+      (shift-more c.args.b c.loop-i.multiple c.loop-i.i c.loop-i.auto.multiple-fits.fits c.loop-i.invariant.multiple);
 }
 
 pub returns : goal.returns
