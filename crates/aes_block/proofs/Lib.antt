@@ -1,0 +1,11 @@
+pub mod AllBytes
+pub mod Linear
+pub mod Schedule
+pub mod StaysBytes
+pub mod Deciphering
+pub mod RoundSteps
+pub mod Vectors
+pub mod Circuit
+pub mod PlaneSteps
+pub mod Turning
+pub mod Eight

@@ -1,0 +1,29 @@
+-- Words for what the code's steps compute, where the standard has none.
+use Rattle.std.specs.Prelude.{ℕ, List, [], ◌∷◌, slice_index}
+use Rattle.aes_block.specs.Field.{field_times}
+use Rattle.aes_block.specs.State.{cell, column_of}
+use Rattle.aes_block.specs.KeySchedule.{add_words, rot_word, sub_word}
+
+-- the products of a byte with 0e, 0b, 0d and 09
+abbrev pub multiples : ℕ → List ℕ
+multiples b = field_times 0x0e b ∷ field_times 0x0b b ∷ field_times 0x0d b ∷ field_times 0x09 b ∷ []
+
+-- the block whose columns are four words
+abbrev pub block_of : List ℕ → List ℕ → List ℕ → List ℕ → List ℕ
+block_of u v w x =
+    slice_index u 0 ∷ slice_index u 1 ∷ slice_index u 2 ∷ slice_index u 3
+    ∷ slice_index v 0 ∷ slice_index v 1 ∷ slice_index v 2 ∷ slice_index v 3
+    ∷ slice_index w 0 ∷ slice_index w 1 ∷ slice_index w 2 ∷ slice_index w 3
+    ∷ slice_index x 0 ∷ slice_index x 1 ∷ slice_index x 2 ∷ slice_index x 3 ∷ []
+
+-- column c of a block
+abbrev pub column : List ℕ → ℕ → List ℕ
+column k c = column_of (λ r. cell k r c)
+
+-- the round key after k, with the first byte c of the round constant
+unfoldable pub next_round_key : List ℕ → ℕ → List ℕ
+next_round_key k c =
+    let w0 = add_words (column k 0) (add_words (sub_word (rot_word (column k 3))) (c ∷ 0 ∷ 0 ∷ 0 ∷ [])) in
+    let w1 = add_words (column k 1) w0 in
+    let w2 = add_words (column k 2) w1 in
+    block_of w0 w1 w2 (add_words (column k 3) w2)

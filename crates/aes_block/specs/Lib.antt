@@ -1,0 +1,13 @@
+pub mod Field
+pub mod SBox
+pub mod State
+pub mod KeySchedule
+pub mod Cipher
+pub mod InverseCipher
+pub mod WrappedKey
+pub mod Laws
+pub mod CodeSteps
+pub mod RoundKeys
+pub mod Circuit
+pub mod SBoxCircuit
+pub mod Planes

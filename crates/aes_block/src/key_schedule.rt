@@ -1,0 +1,40 @@
+// The key expansion (5.2), a round key at a time.
+ghost use Rattle.std.specs.Prelude.{◌≡◌};
+ghost use Rattle.aes_block.specs.CodeSteps.{next_round_key};
+ghost use Rattle.aes_block.specs.KeySchedule.{add_words};
+
+use crate::bytes::sub_byte;
+
+// The sum of two words.
+#[inline(always)]
+fn add_words(u: [u8; 4], v: [u8; 4]) -> [u8; 4]
+    ensures { result ≡ add_words u v }
+{
+    let [u0, u1, u2, u3] = u;
+    let [v0, v1, v2, v3] = v;
+    [u0 ^ v0, u1 ^ v1, u2 ^ v2, u3 ^ v3]
+}
+
+// The round key after `k`, with the byte `constant` of its round constant.
+#[tactic(auto, unfolding(crate::specs::CodeSteps::next_round_key))]
+pub(crate) fn next_round_key(k: &[u8; 16], constant: u8) -> [u8; 16]
+    ensures { result ≡ next_round_key k.now constant }
+{
+    let turned = [
+        sub_byte(k[13]),
+        sub_byte(k[14]),
+        sub_byte(k[15]),
+        sub_byte(k[12]),
+    ];
+    let stirred = add_words(turned, [constant, 0, 0, 0]);
+    let w0 = add_words([k[0], k[1], k[2], k[3]], stirred);
+    let w1 = add_words([k[4], k[5], k[6], k[7]], w0);
+    let w2 = add_words([k[8], k[9], k[10], k[11]], w1);
+    let [x0, x1, x2, x3] = w0;
+    let [x4, x5, x6, x7] = w1;
+    let [x8, x9, x10, x11] = w2;
+    let [x12, x13, x14, x15] = add_words([k[12], k[13], k[14], k[15]], w2);
+    [
+        x0, x1, x2, x3, x4, x5, x6, x7, x8, x9, x10, x11, x12, x13, x14, x15,
+    ]
+}

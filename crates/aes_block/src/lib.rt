@@ -1,0 +1,19 @@
+//! The block cipher AES-128 (FIPS 197), one block at a time and eight at once, and the key of a file
+//! wrapped in one block.
+#![tactic(auto)]
+
+mod block_cipher;
+mod bytes;
+mod inverse_steps;
+mod key_schedule;
+mod key_wrap;
+mod laws;
+mod plane_steps;
+mod s_box_planes;
+mod steps;
+mod tables;
+mod transpose;
+
+pub use block_cipher::Aes128;
+pub use key_wrap::{unwrap_key, wrap};
+pub use laws::deciphering_undoes_enciphering;

@@ -1,0 +1,4 @@
+pub mod Writes
+pub mod Stream
+pub mod WholeBlocks
+pub mod Twice
