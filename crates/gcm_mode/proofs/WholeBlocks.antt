@@ -1,10 +1,7 @@
 -- Bytes as blocks.
-use Rattle.std.proofs.Common.{◌≡◌, ℕ, zero, suc, ◌+◌, ◌-◌, ◌*◌, ◌/◌, ◌%◌, ◌^◌, ◌<◌, ◌≤◌, List, [], ◌∷◌, ◌++◌, length, take, drop, replicate, get_or, set, bit_xor, refl, sym, ap, ◌∙◌, ⊎_elim, arith, length-append, length-drop, append_assoc}
-use Rattle.std.specs.Int.{w32, w128, from_be_bytes, to_be_bytes}
-use Rattle.std.proofs.lemmas.Bool.{cases_lt}
-use Rattle.std.proofs.lemmas.List.{append-nil, get_or-take, get_or-drop, get_or_append_left, get_or-append_right, length-replicate, drop-append-le, drop-drop, drop_at, take-append-le, take_all, length-take-le, drop_all, set-append_right}
-use Rattle.std.proofs.lemmas.List.FromFn.{fill_by_all}
-use borrow.Rule.Slice.PartMut.{put_mid}
+use Rattle.std.proofs.Common.{◌≡◌, ℕ, zero, suc, ◌+◌, ◌-◌, ◌*◌, ◌/◌, ◌%◌, ◌<◌, ◌≤◌, List, [], ◌∷◌, ◌++◌, length, take, drop, replicate, set, refl, sym, ap, ◌∙◌, arith, length-append, length-drop, append_assoc}
+use Rattle.std.specs.Int.{w128, from_be_bytes}
+use Rattle.std.proofs.lemmas.List.{append-nil, length-replicate, drop-append-le, drop-drop, drop_at, take-append-le, take_all, set-append_right}
 use Rattle.gcm_mode.specs.ByteBlocks.{first_blocks, blocks, padded}
 
 pub first_blocks-none : (xs : List ℕ) → [] ≡ first_blocks xs 0

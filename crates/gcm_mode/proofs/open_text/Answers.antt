@@ -1,4 +1,4 @@
-use Rattle.std.proofs.Common.{◌≡◌, List, ℕ, rules, refl, ap, ◌∙◌}
+use Rattle.std.proofs.Common.{◌≡◌, rules, refl, ap, ◌∙◌}
 use Rattle.aes_block.specs.Cipher.{cipher}
 use Rattle.gcm_mode.specs.CounterMode.{gctr, inc32}
 use Rattle.gcm_mode.specs.Gcm.{gcm_text}

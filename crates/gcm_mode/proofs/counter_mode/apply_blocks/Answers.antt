@@ -1,4 +1,4 @@
-use Rattle.std.proofs.Common.{◌≡◌, ℕ, ◌+◌, ◌-◌, ◌*◌, ◌<◌, ◌≤◌, min, List, length, drop, take, get_or, bit_xor, arith, ap, refl, ◌∙◌, length-take, length-drop}
+use Rattle.std.proofs.Common.{◌≡◌, ℕ, ◌+◌, ◌-◌, ◌*◌, ◌<◌, ◌≤◌, min, List, length, drop, get_or, bit_xor, arith, ap, refl, ◌∙◌, length-take, length-drop}
 use Rattle.aes_block.specs.Cipher.{cipher}
 use Rattle.gcm_mode.specs.CounterMode.{counter_block, inc32, stream_byte}
 use Rattle.gcm_mode.proofs.Stream.{block-stream, counter-more, counter-none, gctr-all, stream-added}
