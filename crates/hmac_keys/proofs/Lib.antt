@@ -1,1 +1,2 @@
+pub mod BlockKeys
 pub mod Evidence

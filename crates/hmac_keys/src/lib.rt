@@ -44,6 +44,7 @@ fn filled(part: &[u8]) -> [u8; BLOCK]
     block
 }
 
+#[tactic(auto, using(crate::proofs::BlockKeys::block_key_long, crate::proofs::BlockKeys::block_key_short))]
 fn block_key(key: &[u8]) -> [u8; BLOCK]
     ensures { result ≡ block_key key.now }
 {
