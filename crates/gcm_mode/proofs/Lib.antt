@@ -2,3 +2,4 @@ pub mod Writes
 pub mod Stream
 pub mod WholeBlocks
 pub mod Twice
+pub mod Evidence
