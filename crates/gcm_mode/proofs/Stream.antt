@@ -7,22 +7,26 @@ use borrow.Rule.Slice.PartMut.{put_mid}
 use Rattle.gcm_mode.specs.CounterMode.{counter_block, gctr, inc32, stream_byte}
 use Rattle.gcm_mode.proofs.Writes.{IsAdded}
 
+-- a byte of one enciphered counter block is a byte of the stream
 pub block-stream : (e : List ℕ → List ℕ) (first : List ℕ) (i k : ℕ) → k < 16 → get_or (e (counter_block first i)) k 0 ≡ stream_byte e first (16 * i + k)
 block-stream e first i k lt =
     let row : i ≡ (16 * i + k) / 16 = omega arith in
     let column : k ≡ (16 * i + k) % 16 = omega arith in
     λ t. get_or (e (counter_block first (row t))) (column t) 0
 
+-- n steps after m steps are n + m steps
 counter-add : (first : List ℕ) (m n : ℕ) → counter_block (counter_block first m) n ≡ counter_block first (n + m)
 unfolding counter_block
 counter-add first m zero = let e : m ≡ 0 + m = omega arith in ap (counter_block first) e
 counter-add first m (suc n) = let e : suc (n + m) ≡ suc n + m = omega arith in ap inc32 (counter-add first m n) ∙ ap (counter_block first) e
 
+-- eight steps from the start of a group lead to the next group
 pub counter-eight : (first counter : List ℕ) (g : ℕ) → counter ≡ counter_block first (8 * g) → counter_block counter 8 ≡ counter_block first (8 * (g + 1))
 counter-eight first counter g e =
     let all : 8 + 8 * g ≡ 8 * (g + 1) = omega arith in
     ap (λ b. counter_block b 8) e ∙ counter-add first (8 * g) 8 ∙ ap (counter_block first) all
 
+-- a byte of the eight enciphered counter blocks of group g is a byte of the stream
 pub eight-stream : (e : List ℕ → List ℕ) (first counter : List ℕ) (streams blocks : List (List ℕ)) (g k : ℕ) → k < 128
     → counter ≡ counter_block first (8 * g)
     → ((j : ℕ) → j < 8 → get_or blocks j [] ≡ counter_block counter j)
@@ -42,10 +46,12 @@ eight-stream e first counter streams blocks g k lt at made encrypted =
 abbrev pub gctr_byte : (List ℕ → List ℕ) → List ℕ → List ℕ → ℕ → ℕ
 gctr_byte e first text k = bit_xor (get_or text k 0) (stream_byte e first k)
 
+-- GCTR keeps the length
 pub length-gctr : (e : List ℕ → List ℕ) (first text : List ℕ) → length (gctr e first text) ≡ length text
 unfolding gctr
 length-gctr e first text = length-map-range_with_len (gctr_byte e first text) 0 (length text)
 
+-- GCTR, by its bytes
 pub get_or-gctr : (e : List ℕ → List ℕ) (first text : List ℕ) (k : ℕ) → k < length text → get_or (gctr e first text) k 0 ≡ gctr_byte e first text k
 unfolding gctr
 get_or-gctr e first text k lt = get_or-map-range_with_len (gctr_byte e first text) 0 (length text) k k 0 lt (omega arith)
@@ -61,18 +67,22 @@ gctr-later e first counter text m k at lt =
     ∙ ap (λ b. bit_xor (get_or text k 0) (get_or (e b) (k % 16) 0)) (counter-add first m (k / 16))
     ∙ (λ t. bit_xor (get_or text k 0) (get_or (e (counter_block first (row t))) (column t) 0))
 
+-- a text to all of whose places the stream is added is GCTR of the text before
 pub gctr-all : (e : List ℕ → List ℕ) (first orig text : List ℕ) → length text ≡ length orig → IsAdded (stream_byte e first) orig text (length orig) → text ≡ gctr e first orig
 unfolding gctr
 gctr-all e first orig text len done = fill_by_all (gctr_byte e first orig) text (length orig) 0 len done
 
+-- one more step
 pub counter-more : (first : List ℕ) (i : ℕ) → inc32 (counter_block first i) ≡ counter_block first (i + 1)
 unfolding counter_block
 counter-more first i = let e : suc i ≡ i + 1 = omega arith in ap (counter_block first) e
 
+-- no step
 pub counter-none : (first : List ℕ) → first ≡ counter_block first 0
 unfolding counter_block
 counter-none first = refl
 
+-- the last four bytes, read, counted on and written back
 pub inc32-write : (block part : List ℕ) (n : ℕ) → length block ≡ 16 → n ≡ from_be_bytes w32 (get_or block 12 0 ∷ get_or block 13 0 ∷ get_or block 14 0 ∷ get_or block 15 0 ∷ [])
     → part ≡ to_be_bytes w32 ((n + 1) % 2 ^ 32) → put_mid 12 4 block part ≡ inc32 block
 unfolding inc32

@@ -6,6 +6,7 @@ use Rattle.gcm_mode.specs.CounterMode.{gctr, stream_byte}
 use Rattle.gcm_mode.specs.Gcm.{gcm_text}
 use Rattle.gcm_mode.proofs.Stream.{length-gctr, get_or-gctr}
 
+-- GCTR twice from one counter block is the text
 pub gctr-gctr : (e : List ℕ → List ℕ) (first text : List ℕ) → gctr e first (gctr e first text) ≡ text
 gctr-gctr e first text =
     let made : List ℕ = gctr e first text in

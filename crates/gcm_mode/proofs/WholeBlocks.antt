@@ -4,14 +4,17 @@ use Rattle.std.specs.Int.{w128, from_be_bytes}
 use Rattle.std.proofs.lemmas.List.{append-nil, length-replicate, drop-append-le, drop-drop, drop_at, take-append-le, take_all, set-append_right}
 use Rattle.gcm_mode.specs.ByteBlocks.{first_blocks, blocks, padded}
 
+-- no block
 pub first_blocks-none : (xs : List ℕ) → [] ≡ first_blocks xs 0
 unfolding first_blocks
 first_blocks-none xs = refl
 
+-- one more block
 pub first_blocks-more : (xs : List ℕ) (i : ℕ) → first_blocks xs i ++ from_be_bytes w128 (take 16 (drop (i * 16) xs)) ∷ [] ≡ first_blocks xs (i + 1)
 unfolding first_blocks
 first_blocks-more xs i = let e : suc i ≡ i + 1 = omega arith in ap (first_blocks xs) e
 
+-- blocks of the front do not depend on what follows
 first_blocks-front : (xs ys : List ℕ) (n : ℕ) → n * 16 ≤ length xs → first_blocks (xs ++ ys) n ≡ first_blocks xs n
 unfolding first_blocks
 first_blocks-front xs ys zero le = refl
@@ -20,6 +23,7 @@ first_blocks-front xs ys (suc n) le =
     ap (take 16) (drop-append-le (n * 16) xs ys (omega arith)) ∙ take-append-le 16 (drop (n * 16) xs) ys (omega (arith, length-drop (n * 16) xs)) in
     λ i. first_blocks-front xs ys n (omega arith) i ++ from_be_bytes w128 (block i) ∷ []
 
+-- blocks of two lists, the first of them whole
 first_blocks-append : (xs ys : List ℕ) (n m : ℕ) → length xs ≡ n * 16 → first_blocks (xs ++ ys) (m + n) ≡ first_blocks xs n ++ first_blocks ys m
 unfolding first_blocks
 first_blocks-append xs ys n zero len =
@@ -34,6 +38,7 @@ first_blocks-append xs ys n (suc m) len =
     ∙ (λ i. first_blocks-append xs ys n m len i ++ from_be_bytes w128 (take 16 (rest i)) ∷ [])
     ∙ append_assoc (first_blocks xs n) (first_blocks ys m) (from_be_bytes w128 (take 16 (drop (m * 16) ys)) ∷ [])
 
+-- blocks of two lists, the first of them whole
 pub blocks-append : (xs ys : List ℕ) → length xs % 16 ≡ 0 → blocks (xs ++ ys) ≡ blocks xs ++ blocks ys
 unfolding blocks
 blocks-append xs ys whole =
@@ -43,12 +48,14 @@ blocks-append xs ys whole =
     let count : length (xs ++ ys) / 16 ≡ m + n = omega (arith, length-append xs ys) in
     ap (first_blocks (xs ++ ys)) count ∙ first_blocks-append xs ys n m len
 
+-- one block
 pub blocks-one : (xs : List ℕ) → length xs ≡ 16 → blocks xs ≡ from_be_bytes w128 xs ∷ []
 unfolding blocks first_blocks
 blocks-one xs len =
     let one : length xs / 16 ≡ 1 = omega arith in
     ap (first_blocks xs) one ∙ ap (λ b. from_be_bytes w128 b ∷ []) (take_all 16 xs (omega arith))
 
+-- padded bytes are whole blocks
 pub padded-length : (xs : List ℕ) → length (padded xs) % 16 ≡ 0
 unfolding padded
 padded-length xs = omega (arith, length-append xs (replicate ((16 - length xs % 16) % 16) 0), length-replicate {A = ℕ} ((16 - length xs % 16) % 16) 0)
@@ -75,6 +82,7 @@ blocks-partial xs rest n r count tail len some =
     (λ i. sym (first_blocks-front xs (replicate z 0) n (omega arith)) i ++ from_be_bytes w128 (sym last i) ∷ [])
     ∙ first_blocks-more (xs ++ replicate z 0) n ∙ ap (first_blocks (xs ++ replicate z 0)) (sym all)
 
+-- the blocks that the tag hashes, piece by piece
 pub tag_blocks : (aad text lens : List ℕ) → length lens ≡ 16
     → (blocks (padded aad) ++ blocks (padded text)) ++ from_be_bytes w128 lens ∷ [] ≡ blocks (padded aad ++ (padded text ++ lens))
 tag_blocks aad text lens len =
@@ -82,9 +90,11 @@ tag_blocks aad text lens len =
     ∙ sym (blocks-append (padded aad) (padded text ++ lens) (padded-length aad)
     ∙ ap (λ bs. blocks (padded aad) ++ bs) (blocks-append (padded text) lens (padded-length text) ∙ ap (λ bs. blocks (padded text) ++ bs) (blocks-one lens len)))
 
+-- the blocks that the pre-counter block hashes, piece by piece
 pub counter_blocks : (iv lens : List ℕ) → length lens ≡ 16 → blocks (padded iv) ++ from_be_bytes w128 lens ∷ [] ≡ blocks (padded iv ++ lens)
 counter_blocks iv lens len =
     sym (blocks-append (padded iv) lens (padded-length iv) ∙ ap (λ bs. blocks (padded iv) ++ bs) (blocks-one lens len))
 
+-- the number 1 after an initialization vector of 12 bytes
 pub set_last : (xs : List ℕ) → length xs ≡ 12 → set (xs ++ 0 ∷ 0 ∷ 0 ∷ 0 ∷ []) 15 1 ≡ xs ++ 0 ∷ 0 ∷ 0 ∷ 1 ∷ []
 set_last xs len = set-append_right xs (0 ∷ 0 ∷ 0 ∷ 0 ∷ []) 12 15 1 len (omega arith)

@@ -9,6 +9,7 @@ use Rattle.ghash_field.specs.Polynomial.{modulus, remainder, without_term}
 use Rattle.ghash_field.proofs.Algebra.{power_of, HasPowers}
 use Rattle.ghash_field.proofs.Sums.{IsLinear, pick_xor, xor_swap}
 
+-- one step of the division is linear
 without_term-linear : (n : ℕ) → IsLinear (λ p. without_term p n)
 without_term-linear n a b =
     let m : ℕ = modulus * 2 ^ n in
@@ -16,6 +17,7 @@ without_term-linear n a b =
     ∙ ap (bit_xor (bit_xor a b)) (pick_xor (bit_at a (128 + n)) (bit_at b (128 + n)) m (bit_at-lt a (128 + n)) (bit_at-lt b (128 + n)))
     ∙ xor_swap a b (bit_at a (128 + n) * m) (bit_at b (128 + n) * m)
 
+-- the remainder of a sum is the sum of the remainders
 pub remainder-linear : (n : ℕ) → IsLinear (λ p. remainder p n)
 unfolding remainder
 remainder-linear zero a b = refl
@@ -26,18 +28,22 @@ remainder-linear (suc n) a b =
 unfoldable pub times_x : ℕ → ℕ
 times_x p = without_term (p * 2) 0
 
+-- twice a sum is the sum of the doubles
 pub double-xor : (a b : ℕ) → bit_xor a b * 2 ≡ bit_xor (a * 2) (b * 2)
 double-xor a b =
     let e : (c : ℕ) → c * 2 ≡ c * 2 ^ 1 + 0 = λ c. omega arith in
     e (bit_xor a b) ∙ sym (xor_block 1 a b 0 0 (omega arith) (omega arith)) ∙ (λ i. bit_xor (sym (e a) i) (sym (e b) i))
 
+-- and multiplication by x is linear
 pub times_x-linear : IsLinear times_x
 unfolding times_x
 times_x-linear a b = ap (λ p. without_term p 0) (double-xor a b) ∙ without_term-linear 0 (a * 2) (b * 2)
 
+-- the bits of a double are one place higher
 bit_at-double : (p i : ℕ) → bit_at (p * 2) (suc i) ≡ bit_at p i
 bit_at-double p i = let e : p * 2 / 2 ≡ p = omega arith in bit_at-suc (p * 2) i ∙ ap (λ y. bit_at y i) e
 
+-- a step of the division of x p is x times a step of the division of p
 without_term-double : (p n : ℕ) → without_term (p * 2) (suc n) ≡ without_term p n * 2
 without_term-double p n =
     let t : ℕ = bit_at p (128 + n) in
@@ -47,11 +53,13 @@ without_term-double p n =
     let moved : t * (modulus * 2 ^ n * 2) ≡ t * (modulus * 2 ^ n) * 2 = omega arith in
     (λ i. bit_xor (p * 2) (bit i * twice i)) ∙ ap (bit_xor (p * 2)) moved ∙ sym (double-xor p (t * (modulus * 2 ^ n)))
 
+-- the remainder of x p is x times the remainder of p, reduced
 pub remainder-double : (n p : ℕ) → remainder (p * 2) (suc n) ≡ times_x (remainder p n)
 unfolding remainder times_x
 remainder-double zero p = refl
 remainder-double (suc n) p = ap (λ q. remainder q (suc n)) (without_term-double p n) ∙ remainder-double n (without_term p n)
 
+-- a polynomial of degree below 128 has no term above
 bit_above : (p i : ℕ) → p < 2 ^ 128 → bit_at p (128 + i) ≡ 0
 bit_above p i h = bit_at_above p 128 (128 + i) h (omega arith)
 
@@ -65,6 +73,7 @@ remainder-same (suc n) p h =
     let same : without_term p n ≡ p = ap (λ t. bit_xor p (t * m)) (bit_above p n h) ∙ ap (bit_xor p) none ∙ xor_zero_r p in
     ap (λ q. remainder q n) same ∙ remainder-same n p h
 
+-- the remainder of p x ^ k is x applied k times to p
 pub remainder-power : (k n p : ℕ) → k ≤ n → p < 2 ^ 128 → remainder (p * 2 ^ k) n ≡ power_of times_x k p
 unfolding power_of
 remainder-power zero n p le h = let e : p * 2 ^ 0 ≡ p = omega arith in ap (λ q. remainder q n) e ∙ remainder-same n p h
@@ -87,17 +96,20 @@ times_x-word p h =
     ∙ xor_block 128 t t r (t * 0x87) (mod-lt (p * 2) (pow_pos 128)) (omega arith)
     ∙ (let e : 0 * 2 ^ 128 + bit_xor r (t * 0x87) ≡ bit_xor r (t * 0x87) = omega arith in ap (λ z. z * 2 ^ 128 + bit_xor r (t * 0x87)) (xor_self t) ∙ e)
 
+-- x p, reduced, has degree below 128
 pub times_x-lt : (p : ℕ) → p < 2 ^ 128 → times_x p < 2 ^ 128
 times_x-lt p h =
     let low : bit_at p 127 * 0x87 < 2 ^ 128 = omega (arith, bit_at-lt p 127) in
     let both : bit_xor (p * 2 % 2 ^ 128) (bit_at p 127 * 0x87) < 2 ^ 128 = xor_lt 128 _ _ (mod-lt (p * 2) (pow_pos 128)) low in
     rw (times_x-word p h) both
 
+-- and so has x ^ k p
 pub power-lt : (k p : ℕ) → p < 2 ^ 128 → power_of times_x k p < 2 ^ 128
 unfolding power_of
 power-lt zero p h = h
 power-lt (suc k) p h = times_x-lt _ (power-lt k p h)
 
+-- x ^ k at 1 is 2 ^ k, for k below 128
 pub powers : HasPowers times_x 128
 powers k lt =
     let small : 1 * 2 ^ k < 2 ^ 128 = omega (arith, pow_below k 128 lt) in

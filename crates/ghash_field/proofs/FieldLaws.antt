@@ -19,6 +19,7 @@ product-linear a b h =
     ∙ (λ i. bit_xor (sym (reflected-product a h) i) (sym (reflected-product b h) i))
     ∙ sym (reflected-linear (block_product a h) (block_product b h)))
 
+-- the product commutes
 pub product-comm : (a b : ℕ) → block_product a b ≡ block_product b a
 product-comm a b =
     same_from_reflected _ _ (product-lt a b) (product-lt b a) (
@@ -26,6 +27,7 @@ product-comm a b =
     ∙ times-comm times_x times_x-linear 128 powers (reflected a) (reflected b) (reflected-lt a) (reflected-lt b)
     ∙ sym (reflected-product b a))
 
+-- the product associates
 pub product-assoc : (a b c : ℕ) → block_product (block_product a b) c ≡ block_product a (block_product b c)
 product-assoc a b c =
     same_from_reflected _ _ (product-lt (block_product a b) c) (product-lt a (block_product b c)) (
@@ -35,11 +37,12 @@ product-assoc a b c =
     ∙ ap (times_below times_x 128 (reflected a)) (sym (reflected-product b c))
     ∙ sym (reflected-product a (block_product b c)))
 
--- the polynomial 1
+-- the block of the polynomial 1
 reflected_one : reflected (2 ^ 127) ≡ 1
 unfolding reflected from_coefficients
 reflected_one = refl
 
+-- and it leaves a block as it is
 pub one-product : (h : ℕ) → h < 2 ^ 128 → block_product (2 ^ 127) h ≡ h
 one-product h lt =
     same_from_reflected _ _ (product-lt (2 ^ 127) h) lt (

@@ -10,14 +10,17 @@ use Rattle.ghash_field.proofs.Algebra.{times_below}
 use Rattle.ghash_field.proofs.Division.{times_x, remainder-linear, remainder-power}
 use Rattle.ghash_field.proofs.Sums.{xor_below, xor_below-same, xor_below-lt, linear-sum}
 
+-- a bit in front of r, which is below p, is below twice p
 pick_top : (t p r b : ℕ) → t < 2 → r < p → b ≡ p * 2 → t * p + r < b
 pick_top zero p r b h lt e = omega arith
 pick_top (suc zero) p r b h lt e = omega arith
 pick_top (suc (suc t)) p r b h lt e = absurd (omega arith)
 
+-- the lowest bit of a bit
 bit_zero : (n : ℕ) → bit_at (n % 2) 0 ≡ n % 2
 bit_zero n = omega arith
 
+-- a polynomial of n coefficients has degree below n
 pub from_coefficients-lt : (f : ℕ → ℕ) (n : ℕ) → from_coefficients f n < 2 ^ n
 unfolding from_coefficients
 from_coefficients-lt f zero = omega arith
@@ -26,6 +29,7 @@ from_coefficients-lt f (suc n) =
     let bit : f n % 2 < 2 = omega arith in
     pick_top (f n % 2) (2 ^ n) (from_coefficients f n) (2 ^ suc n) bit low (pow-suc 2 n)
 
+-- its bits are the coefficients modulo 2
 pub bit_at-from_coefficients : (f : ℕ → ℕ) (n i : ℕ) → i < n → bit_at (from_coefficients f n) i ≡ f i % 2
 unfolding from_coefficients
 bit_at-from_coefficients f zero i lt = absurd (omega arith)
@@ -40,12 +44,14 @@ bit_at-from_coefficients f (suc n) i lt =
     ∙ ap (bit_at (f n % 2)) none ∙ bit_zero (f n) ∙ ap (λ j. f j % 2) (sym at))
     (cases_lt i n)
 
+-- the bit of a sum is the sum of the bits modulo 2
 bit_at-xor_below : (f : ℕ → ℕ) (n i : ℕ) → bit_at (xor_below f n) i ≡ sum_below (λ k. bit_at (f k) i) n % 2
 unfolding xor_below sum_below
 bit_at-xor_below f zero i = bit_at-zero i
 bit_at-xor_below f (suc n) i =
     bit_at_xor (xor_below f n) (f n) i ∙ ap (λ y. (y + bit_at (f n) i) % 2) (bit_at-xor_below f n i) ∙ omega arith
 
+-- equal terms have equal sums
 sum_below-same : (f g : ℕ → ℕ) (n : ℕ) → ((k : ℕ) → k < n → f k ≡ g k) → sum_below f n ≡ sum_below g n
 unfolding sum_below
 sum_below-same f g zero h = refl
@@ -70,11 +76,13 @@ bit_at-shifted q i k le =
     let e : q * 2 ^ i ≡ q * 2 ^ i + 0 = omega arith in
     ap (λ y. bit_at y k) e ∙ bit_at_cat_high q i 0 k (pow_pos i) le
 
+-- a multiple by x ^ i has no term below x ^ i
 bit_at-shifted_low : (q i k : ℕ) → k < i → bit_at (q * 2 ^ i) k ≡ 0
 bit_at-shifted_low q i k lt =
     let e : q * 2 ^ i ≡ q * 2 ^ i + 0 = omega arith in
     ap (λ y. bit_at y k) e ∙ bit_at_cat_low q i 0 k lt ∙ bit_at-zero k
 
+-- the bit of a choice of m or 0
 bit_at-pick : (t m k : ℕ) → t < 2 → bit_at (t * m) k ≡ t * bit_at m k
 bit_at-pick zero m k h = let e : 0 * m ≡ 0 = omega arith in ap (λ y. bit_at y k) e ∙ bit_at-zero k ∙ omega arith
 bit_at-pick (suc zero) m k h = let e : 1 * m ≡ m = omega arith in ap (λ y. bit_at y k) e ∙ omega arith
@@ -84,6 +92,7 @@ bit_at-pick (suc (suc t)) m k h = absurd (omega arith)
 abbrev pub multiples : ℕ → ℕ → ℕ
 multiples p q = xor_below (λ i. bit_at p i * (q * 2 ^ i)) 128
 
+-- its bits are the coefficients of the product
 bit_at-multiples : (p q k : ℕ) → p < 2 ^ 128 → bit_at (multiples p q) k ≡ coefficient_of_product p q k % 2
 bit_at-multiples p q k h =
     let f : ℕ → ℕ = λ i. bit_at p i * bit_at (q * 2 ^ i) k in
@@ -97,11 +106,13 @@ bit_at-multiples p q k h =
     ∙ whole
     ∙ sum_below-same _ _ (k + 1) (λ i lt. ap (λ t. bit_at p i * t) (bit_at-shifted q i k (omega arith))))
 
+-- a choice of m or 0 is below what m is below
 pub pick-lt : (t m b : ℕ) → t < 2 → 0 < b → m < b → t * m < b
 pick-lt zero m b h pos lt = omega arith
 pick-lt (suc zero) m b h pos lt = omega arith
 pick-lt (suc (suc t)) m b h pos lt = absurd (omega arith)
 
+-- a multiple of q by a term of degree below 128 has degree below 255
 multiple-lt : (q i : ℕ) → q < 2 ^ 128 → i < 128 → q * 2 ^ i < 2 ^ 255
 multiple-lt q i h lt =
     let grown : q * 2 ^ i < 2 ^ (128 + i) = shl_below q 128 i h in
@@ -111,6 +122,7 @@ multiple-lt q i h lt =
     (λ (high : 127 ≤ i). let at : i ≡ 127 = omega arith in subst (λ j. q * 2 ^ i < 2 ^ (128 + j)) at grown)
     (cases_lt i 127)
 
+-- the product is that sum
 pub product-multiples : (p q : ℕ) → p < 2 ^ 128 → q < 2 ^ 128 → product p q ≡ multiples p q
 unfolding product
 product-multiples p q hp hq =

@@ -12,6 +12,7 @@ use Rattle.ghash_field.proofs.Division.{times_x, times_x-linear, times_x-lt, pow
 use Rattle.ghash_field.proofs.FieldLaws.{product-linear, one-product}
 use Rattle.ghash_field.proofs.Reflected.{reflected-lt, reflected-step, reflected-product, product-lt, same_from_reflected}
 
+-- a step leaves a block
 pub block_step-lt : (v : ℕ) → v < 2 ^ 128 → block_step v < 2 ^ 128
 unfolding block_step
 block_step-lt v h =
@@ -19,6 +20,7 @@ block_step-lt v h =
     let low : v % 2 * (0xe1 * 2 ^ 120) < 2 ^ 128 = omega arith in
     xor_lt 128 (v / 2) (v % 2 * (0xe1 * 2 ^ 120)) half low
 
+-- a step of twice a number is the number
 pub block_step-double : (v : ℕ) → block_step (v * 2) ≡ v
 unfolding block_step
 block_step-double v =
@@ -26,6 +28,7 @@ block_step-double v =
     let none : v * 2 % 2 * (0xe1 * 2 ^ 120) ≡ 0 = omega arith in
     (λ i. bit_xor (half i) (none i)) ∙ xor_zero_r v
 
+-- a step goes outside a product
 pub block_product-step : (w h : ℕ) → w < 2 ^ 128 → block_product (block_step w) h ≡ block_step (block_product w h)
 unfolding block_step
 block_product-step w h lt =
@@ -45,6 +48,7 @@ pub halved : (h w u : ℕ) → w * 2 < 2 ^ 128 → u ≡ block_product (w * 2) h
 halved h w u lt e =
     ap block_step e ∙ sym (block_product-step (w * 2) h lt) ∙ ap (λ a. block_product a h) (block_step-double w)
 
+-- 0 times a block is 0
 pub zero-product : (h : ℕ) → block_product 0 h ≡ 0
 zero-product h = ap (λ a. block_product a h) (sym (xor_zero_l 0)) ∙ product-linear 0 0 h ∙ xor_self (block_product 0 h)
 
@@ -59,6 +63,7 @@ joined h i a b u v e f =
     ∙ (λ j. bit_xor a b * place + xor_zero_l 0 j) ∙ plain (bit_xor a b) in
     (λ j. bit_xor (e j) (f j)) ∙ sym (product-linear (a * place) (b * place) h) ∙ ap (λ w. block_product w h) both
 
+-- entry 8 of each row stands for a block
 place_lt : (i : ℕ) → i < 32 → 8 * 2 ^ (4 * i) < 2 ^ 128
 place_lt i lt = omega (arith, pow-add 2 3 (4 * i), pow_below (3 + 4 * i) 128 (omega arith))
 
@@ -126,6 +131,7 @@ low_more a i =
     let next : 4 * (i + 1) ≡ 4 + j = omega arith in
     ap (λ e. a % 2 ^ e) next ∙ mod-pow-add a 4 j ∙ sym (xor_shifted (a / 2 ^ j % 16) j (a % 2 ^ j) (mod-lt a (pow_pos j)))
 
+-- the product of the lowest 4 (i + 1) bits
 pub group-more : (a h i sum : ℕ) (table : List (List ℕ)) → i < 32 → IsTable h table → sum ≡ block_product (a % 2 ^ (4 * i)) h
     → bit_xor sum (get_or (get_or table i []) (a / 2 ^ (4 * i) % 16) 0) ≡ block_product (a % 2 ^ (4 * (i + 1))) h
 unfolding IsTable IsRow
@@ -136,8 +142,10 @@ group-more a h i sum table lt rows e =
     ∙ sym (product-linear (n * 2 ^ (4 * i)) (a % 2 ^ (4 * i)) h)
     ∙ ap (λ w. block_product w h) (sym (low_more a i))
 
+-- of no bits it is 0
 pub no_group : (a h : ℕ) → 0 ≡ block_product (a % 2 ^ (4 * 0)) h
 no_group a h = let e : a % 2 ^ (4 * 0) ≡ 0 = omega arith in sym (ap (λ w. block_product w h) e ∙ zero-product h)
 
+-- 32 groups of four bits are the whole block
 pub all_groups : (a : ℕ) → a < 2 ^ 128 → a % 2 ^ (4 * 32) ≡ a
 all_groups a lt = omega arith
