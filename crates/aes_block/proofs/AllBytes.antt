@@ -1,6 +1,9 @@
 -- Facts on all bytes, each by one test that computes.
-use Rattle.std.proofs.Common.{◌≡◌, ℕ, ◌*◌, ◌/◌, ◌%◌, ◌^◌, ◌<◌, List, [], ◌∷◌, map, get_or, slice_index, refl, sym, ap, ◌∙◌, arith, bit_xor}
-use Rattle.std.specs.List.{range_with_len}
+use Rattle.std.proofs.Common.{◌≡◌, ℕ, zero, suc, ◌*◌, ◌/◌, ◌%◌, ◌^◌, ◌<◌, List, [], ◌∷◌, map, get_or, slice_index, refl, sym, ap, ◌∙◌, arith, bit_xor}
+use Rattle.std.specs.Prelude.{true}
+use Rattle.std.specs.List.{list_all, range_with_len}
+use Rattle.std.proofs.Math.Dec.{ltb}
+use Rattle.std.proofs.lemmas.Bool.{and_parts, ltb-true}
 use Rattle.std.proofs.lemmas.List.FromFn.{get_or-map-range_with_len}
 use Rattle.aes_block.specs.declared.tables.TheConstants.{S_BOX, INV_S_BOX}
 use Rattle.aes_block.specs.CodeSteps.{multiples}
@@ -17,6 +20,12 @@ at_byte f xs e b h = ap (λ (ys : List ℕ). get_or ys b 0) (sym e) ∙ get_or-m
 -- two functions with the same values, at a byte
 pub same_at_byte : (f g : ℕ → ℕ) → values f ≡ values g → (b : ℕ) → b < 256 → f b ≡ g b
 same_at_byte f g e b h = sym (at_byte f (values f) refl b h) ∙ at_byte g (values f) (sym e) b h
+
+-- a list's elements are below n, by a test
+pub below_all : (n : ℕ) (xs : List ℕ) → 0 < n → list_all (λ x. ltb x n) xs ≡ true → (i : ℕ) → slice_index xs i < n
+below_all n [] h e i = h
+below_all n (x ∷ xs) h e zero = ltb-true x n ((and_parts (ltb x n) (list_all (λ x. ltb x n) xs) e).0)
+below_all n (x ∷ xs) h e (suc i) = below_all n xs h ((and_parts (ltb x n) (list_all (λ x. ltb x n) xs) e).1) i
 
 s_box-all : values s_box ≡ S_BOX
 unfolding polynomial_times remainder field_times inverse_below inverse from_bits_of s_box
@@ -84,7 +93,8 @@ unfolding polynomial_times remainder field_times
 test_09 = refl
 
 pub multiples_are : (b : ℕ) → b < 256
-    → bit_xor (bit_xor (eight b) (four b)) (two b) ∷ bit_xor (bit_xor (eight b) (two b)) b ∷ bit_xor (bit_xor (eight b) (four b)) b ∷ bit_xor (eight b) b ∷ [] ≡ multiples b
+    → bit_xor (bit_xor (eight b) (four b)) (two b) ∷ bit_xor (bit_xor (eight b) (two b)) b
+    ∷ bit_xor (bit_xor (eight b) (four b)) b ∷ bit_xor (eight b) b ∷ [] ≡ multiples b
 multiples_are b h =
     λ i. same_at_byte (λ b. bit_xor (bit_xor (eight b) (four b)) (two b)) (field_times 0x0e) test_0e b h i
     ∷ same_at_byte (λ b. bit_xor (bit_xor (eight b) (two b)) b) (field_times 0x0b) test_0b b h i

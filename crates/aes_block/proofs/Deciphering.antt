@@ -7,9 +7,10 @@ use Rattle.aes_block.specs.KeySchedule.{round_key}
 use Rattle.aes_block.specs.SBox.{from_bits_of, inv_s_box, s_box}
 use Rattle.aes_block.specs.State.{IsBytes, cell, state_of}
 use Rattle.aes_block.proofs.AllBytes.{same_at_byte, values}
-use Rattle.aes_block.proofs.Linear.{unmixed_0, unmixed_1, unmixed_2, unmixed_3, xor_again}
+use Rattle.aes_block.proofs.FieldLaws.{xor_again}
 use Rattle.aes_block.proofs.Schedule.{cells_whole}
 use Rattle.aes_block.proofs.StaysBytes.{rounds_bytes, shifted_bytes}
+use Rattle.aes_block.proofs.Unmixing.{unmixed_row}
 
 unsubbed-all : values (λ b. inv_s_box (s_box b)) ≡ values (λ b. b)
 unfolding polynomial_times remainder field_times inverse_below inverse from_bits_of s_box inv_s_box
@@ -29,25 +30,15 @@ undo_add s k = λ i. state_of (λ r c. xor_again (cell s r c) (cell k r c) i)
 undo_mix : (s : List ℕ) → IsBytes s → inv_mix_columns (mix_columns s) ≡ state_of (cell s)
 unfolding mix_columns inv_mix_columns
 undo_mix s h =
+    let row = λ (r c : ℕ) (lt : r < 4). unmixed_row r (cell s 0 c) (cell s 1 c) (cell s 2 c) (cell s 3 c) lt
+    (h (0 + 4 * c)) (h (1 + 4 * c)) (h (2 + 4 * c)) (h (3 + 4 * c)) in
     λ i.
-    unmixed_0 (cell s 0 0) (cell s 1 0) (cell s 2 0) (cell s 3 0) (h (0 + 4 * 0)) (h (1 + 4 * 0)) (h (2 + 4 * 0)) (h (3 + 4 * 0)) i
-    ∷ unmixed_1 (cell s 0 0) (cell s 1 0) (cell s 2 0) (cell s 3 0) (h (0 + 4 * 0)) (h (1 + 4 * 0)) (h (2 + 4 * 0)) (h (3 + 4 * 0)) i
-    ∷ unmixed_2 (cell s 0 0) (cell s 1 0) (cell s 2 0) (cell s 3 0) (h (0 + 4 * 0)) (h (1 + 4 * 0)) (h (2 + 4 * 0)) (h (3 + 4 * 0)) i
-    ∷ unmixed_3 (cell s 0 0) (cell s 1 0) (cell s 2 0) (cell s 3 0) (h (0 + 4 * 0)) (h (1 + 4 * 0)) (h (2 + 4 * 0)) (h (3 + 4 * 0)) i
-    ∷ unmixed_0 (cell s 0 1) (cell s 1 1) (cell s 2 1) (cell s 3 1) (h (0 + 4 * 1)) (h (1 + 4 * 1)) (h (2 + 4 * 1)) (h (3 + 4 * 1)) i
-    ∷ unmixed_1 (cell s 0 1) (cell s 1 1) (cell s 2 1) (cell s 3 1) (h (0 + 4 * 1)) (h (1 + 4 * 1)) (h (2 + 4 * 1)) (h (3 + 4 * 1)) i
-    ∷ unmixed_2 (cell s 0 1) (cell s 1 1) (cell s 2 1) (cell s 3 1) (h (0 + 4 * 1)) (h (1 + 4 * 1)) (h (2 + 4 * 1)) (h (3 + 4 * 1)) i
-    ∷ unmixed_3 (cell s 0 1) (cell s 1 1) (cell s 2 1) (cell s 3 1) (h (0 + 4 * 1)) (h (1 + 4 * 1)) (h (2 + 4 * 1)) (h (3 + 4 * 1)) i
-    ∷ unmixed_0 (cell s 0 2) (cell s 1 2) (cell s 2 2) (cell s 3 2) (h (0 + 4 * 2)) (h (1 + 4 * 2)) (h (2 + 4 * 2)) (h (3 + 4 * 2)) i
-    ∷ unmixed_1 (cell s 0 2) (cell s 1 2) (cell s 2 2) (cell s 3 2) (h (0 + 4 * 2)) (h (1 + 4 * 2)) (h (2 + 4 * 2)) (h (3 + 4 * 2)) i
-    ∷ unmixed_2 (cell s 0 2) (cell s 1 2) (cell s 2 2) (cell s 3 2) (h (0 + 4 * 2)) (h (1 + 4 * 2)) (h (2 + 4 * 2)) (h (3 + 4 * 2)) i
-    ∷ unmixed_3 (cell s 0 2) (cell s 1 2) (cell s 2 2) (cell s 3 2) (h (0 + 4 * 2)) (h (1 + 4 * 2)) (h (2 + 4 * 2)) (h (3 + 4 * 2)) i
-    ∷ unmixed_0 (cell s 0 3) (cell s 1 3) (cell s 2 3) (cell s 3 3) (h (0 + 4 * 3)) (h (1 + 4 * 3)) (h (2 + 4 * 3)) (h (3 + 4 * 3)) i
-    ∷ unmixed_1 (cell s 0 3) (cell s 1 3) (cell s 2 3) (cell s 3 3) (h (0 + 4 * 3)) (h (1 + 4 * 3)) (h (2 + 4 * 3)) (h (3 + 4 * 3)) i
-    ∷ unmixed_2 (cell s 0 3) (cell s 1 3) (cell s 2 3) (cell s 3 3) (h (0 + 4 * 3)) (h (1 + 4 * 3)) (h (2 + 4 * 3)) (h (3 + 4 * 3)) i
-    ∷ unmixed_3 (cell s 0 3) (cell s 1 3) (cell s 2 3) (cell s 3 3) (h (0 + 4 * 3)) (h (1 + 4 * 3)) (h (2 + 4 * 3)) (h (3 + 4 * 3)) i ∷ []
+    row 0 0 (omega arith) i ∷ row 1 0 (omega arith) i ∷ row 2 0 (omega arith) i ∷ row 3 0 (omega arith) i
+    ∷ row 0 1 (omega arith) i ∷ row 1 1 (omega arith) i ∷ row 2 1 (omega arith) i ∷ row 3 1 (omega arith) i
+    ∷ row 0 2 (omega arith) i ∷ row 1 2 (omega arith) i ∷ row 2 2 (omega arith) i ∷ row 3 2 (omega arith) i
+    ∷ row 0 3 (omega arith) i ∷ row 1 3 (omega arith) i ∷ row 2 3 (omega arith) i ∷ row 3 3 (omega arith) i ∷ []
 
--- add_round_key, inv_mix_columns and the like read only cells
+-- a step reads only the cells of a state, and gives them all
 pub add_cells : (s k : List ℕ) → add_round_key (state_of (cell s)) k ≡ add_round_key s k
 unfolding add_round_key
 add_cells s k = refl
@@ -60,12 +51,14 @@ shifted_cells : (s : List ℕ) → state_of (cell (shift_rows s)) ≡ shift_rows
 unfolding shift_rows
 shifted_cells s = refl
 
-pub rounds_next : (key s : List ℕ) (n : ℕ) → rounds key s (n + 1) ≡ add_round_key (mix_columns (shift_rows (sub_bytes (rounds key s n)))) (round_key key (n + 1))
+pub rounds_next : (key s : List ℕ) (n : ℕ)
+    → rounds key s (n + 1) ≡ add_round_key (mix_columns (shift_rows (sub_bytes (rounds key s n)))) (round_key key (n + 1))
 unfolding rounds
 rounds_next key s n = ap (rounds key s) (add-one n)
 
 -- after n inverse rounds the state stands before the end of round 10 - n
-unrounded : (key s : List ℕ) (bytes : (m : ℕ) → IsBytes (rounds key s m)) (shifted : (m : ℕ) → IsBytes (shift_rows (sub_bytes (rounds key s m)))) (n m : ℕ) → m + n ≡ 9
+unrounded : (key s : List ℕ) (bytes : (m : ℕ) → IsBytes (rounds key s m))
+    (shifted : (m : ℕ) → IsBytes (shift_rows (sub_bytes (rounds key s m)))) (n m : ℕ) → m + n ≡ 9
     → inv_rounds key (cipher key s) n ≡ shift_rows (sub_bytes (rounds key s m))
 unfolding inv_rounds cipher
 unrounded key s bytes shifted zero m e =

@@ -1,91 +1,71 @@
 -- The other steps on planes, a byte at a time.
-use Rattle.std.proofs.Common.{◌≡◌, ℕ, zero, suc, ◌+◌, ◌*◌, ◌%◌, ◌^◌, ◌<◌, List, [], ◌∷◌, length, slice_index, refl, sym, ap, ◌∙◌, arith, bit_xor, add_comm}
+use Rattle.std.proofs.Common.{◌≡◌, ℕ, ◌+◌, ◌%◌, ◌<◌, List, [], ◌∷◌, slice_index, refl, sym, ap, ◌∙◌, arith, bit_xor}
 use Rattle.std.specs.Prelude.{slice_index_or}
 use Rattle.std.specs.Int.{bit_at}
 use lib.Lanes.{zip2}
-use Rattle.std.proofs.lemmas.Nat.{xor_block, xor_comm}
-use Rattle.std.proofs.lemmas.Nat.Bits.{bit_at-lt}
-use Rattle.std.proofs.lemmas.Simd.{length-zip2}
+use Rattle.std.proofs.lemmas.Nat.{xor_comm, xor_of_8}
+use Rattle.std.proofs.lemmas.Nat.Bits.{bit_at-lt, bit_at_xor}
+use Rattle.aes_block.specs.BitMatrix.{bits}
 use Rattle.aes_block.specs.Cipher.{mix_columns, mix_matrix, row_times}
 use Rattle.aes_block.specs.Circuit.{bits_layer, layer, run}
 use Rattle.aes_block.specs.Field.{field_times, polynomial_times, remainder}
-use Rattle.aes_block.specs.Planes.{ArePlanes, block_in, byte_at, double_gates, double_outs, next_row_places}
+use Rattle.aes_block.specs.Planes.{ArePlanes, block_in, byte_at, double_gates, double_outs, lane, next_row_places}
 use Rattle.aes_block.specs.SBox.{from_bits_of}
-use Rattle.aes_block.proofs.AllBytes.{times_one, triple_is, values}
-use Rattle.aes_block.proofs.Circuit.{bit_sum, bits, number}
-use Rattle.aes_block.proofs.Linear.{field_times-add, scaled_cases}
-use Rattle.aes_block.proofs.StaysBytes.{from_bits_lt}
+use Rattle.aes_block.proofs.AllBytes.{below_all, times_one, triple_is, values}
+use Rattle.aes_block.proofs.ByteBits.{bits_back, byte_from, from_bits_lt, number}
+use Rattle.aes_block.proofs.Circuit.{bit_sum}
+use Rattle.aes_block.proofs.FieldLaws.{field_times-add}
+use Rattle.aes_block.proofs.Lanes.{eight, eight_at, eight_planes, length-op}
 use Rattle.std.specs.Int.Bits.{xor_assoc}
 
+-- the doubling circuit on the bits of each byte
 pub double-all : values (λ b. number (bits_layer double_gates double_outs (bits b))) ≡ values (field_times 2)
 unfolding polynomial_times remainder field_times from_bits_of layer run
 double-all = refl
 
--- eight vectors of 16 lanes
-abbrev pub eight : (ℕ → List ℕ) → List (List ℕ)
-eight v = v 0 ∷ v 1 ∷ v 2 ∷ v 3 ∷ v 4 ∷ v 5 ∷ v 6 ∷ v 7 ∷ []
+byte_lt : (x : List (List ℕ)) (t j : ℕ) → byte_at x t j < 256
+byte_lt x t j = from_bits_lt (λ i. bit_at (lane x i j) t) 8 (λ i. bit_at-lt (lane x i j) t)
 
-pub eight_planes : (v : ℕ → List ℕ) → ((i : ℕ) → i < 8 → length (v i) ≡ 16) → ArePlanes (eight v)
-eight_planes v h zero lt = h 0 lt
-eight_planes v h (suc zero) lt = h 1 lt
-eight_planes v h (suc (suc zero)) lt = h 2 lt
-eight_planes v h (suc (suc (suc zero))) lt = h 3 lt
-eight_planes v h (suc (suc (suc (suc zero)))) lt = h 4 lt
-eight_planes v h (suc (suc (suc (suc (suc zero))))) lt = h 5 lt
-eight_planes v h (suc (suc (suc (suc (suc (suc zero)))))) lt = h 6 lt
-eight_planes v h (suc (suc (suc (suc (suc (suc (suc zero))))))) lt = h 7 lt
-eight_planes v h (suc (suc (suc (suc (suc (suc (suc (suc i)))))))) lt = absurd (omega arith)
+-- the sum of planes, plane by plane
+abbrev xor_at : List (List ℕ) → List (List ℕ) → ℕ → List ℕ
+xor_at x y i = zip2 bit_xor (slice_index_or x i []) (slice_index_or y i [])
 
-xor_of_bits : (p q : ℕ) → p < 2 → q < 2 → bit_xor p q ≡ (p + q) % 2
-xor_of_bits p q hp hq =
-    let e : p * 1 ≡ p = omega arith in
-    let f : q * 1 ≡ q = omega arith in
-    let s : (p + q) % 2 * 1 ≡ (p + q) % 2 = omega arith in
-    (λ i. bit_xor (sym e i) (sym f i)) ∙ sym (scaled_cases p q 1 hp hq) ∙ s
+pub xored : (x y : List (List ℕ)) → ArePlanes x → ArePlanes y → (t j : ℕ) → t < 8 → j < 16
+    → byte_at (eight (xor_at x y)) t j ≡ bit_xor (byte_at x t j) (byte_at y t j)
+xored x y hx hy t j low lt =
+    let bit = λ (z : List (List ℕ)) (i : ℕ) (h : i < 8).
+    bits_back (λ i. bit_at (lane z i j) t) (λ i. bit_at-lt (lane z i j) t) 8 i h in
+    byte_from (λ i. bit_at (lane (eight (xor_at x y)) i j) t) (bit_xor (byte_at x t j) (byte_at y t j))
+    (xor_of_8 (byte_at x t j) (byte_at y t j) (byte_lt x t j) (byte_lt y t j))
+    (λ i h.
+    ap (λ (v : List ℕ). bit_at (slice_index v j) t) (eight_at (xor_at x y) i h)
+    ∙ bit_sum j t lt (slice_index_or x i []) (slice_index_or y i []) (hx i h) (hy i h)
+    ∙ (λ m. (sym (bit x i h) m + sym (bit y i h) m) % 2)
+    ∙ sym (bit_at_xor (byte_at x t j) (byte_at y t j) i))
 
-from_bits_xor : (f g : ℕ → ℕ) → ((i : ℕ) → f i < 2) → ((i : ℕ) → g i < 2) → (n : ℕ)
-    → from_bits_of (λ i. (f i + g i) % 2) n ≡ bit_xor (from_bits_of f n) (from_bits_of g n)
-unfolding from_bits_of
-from_bits_xor f g hf hg zero = refl
-from_bits_xor f g hf hg (suc n) =
-    let a : ℕ = from_bits_of f n in
-    let b : ℕ = from_bits_of g n in
-    (λ i. from_bits_xor f g hf hg n i + sym (xor_of_bits (f n) (g n) (hf n) (hg n)) i * 2 ^ n)
-    ∙ add_comm (bit_xor a b) (bit_xor (f n) (g n) * 2 ^ n)
-    ∙ sym (xor_block n (f n) (g n) a b (from_bits_lt f n hf) (from_bits_lt g n hg))
-    ∙ (λ i. bit_xor (add_comm (f n * 2 ^ n) a i) (add_comm (g n * 2 ^ n) b i))
-
-pub xored : (x y : List (List ℕ)) → ArePlanes x → ArePlanes y → (k j : ℕ) → k < 8 → j < 16
-    → byte_at (eight (λ i. zip2 bit_xor (slice_index_or x i []) (slice_index_or y i []))) k j ≡ bit_xor (byte_at x k j) (byte_at y k j)
-unfolding from_bits_of
-xored x y hx hy k j low lane =
-    let f : ℕ → ℕ = λ i. bit_at (slice_index (slice_index_or x i []) j) k in
-    let g : ℕ → ℕ = λ i. bit_at (slice_index (slice_index_or y i []) j) k in
-    let s = λ (i : ℕ) (lt : i < 8). bit_sum j k lane (slice_index_or x i []) (slice_index_or y i []) (hx i lt) (hy i lt) in
-    let hf : (i : ℕ) → f i < 2 = λ i. bit_at-lt (slice_index (slice_index_or x i []) j) k in
-    let hg : (i : ℕ) → g i < 2 = λ i. bit_at-lt (slice_index (slice_index_or y i []) j) k in
-    (λ m. number (s 0 (omega arith) m ∷ s 1 (omega arith) m ∷ s 2 (omega arith) m ∷ s 3 (omega arith) m
-    ∷ s 4 (omega arith) m ∷ s 5 (omega arith) m ∷ s 6 (omega arith) m ∷ s 7 (omega arith) m ∷ []))
-    ∙ from_bits_xor f g hf hg 8
-
-pub xored_planes : (x y : List (List ℕ)) → ArePlanes x → ArePlanes y → ArePlanes (eight (λ i. zip2 bit_xor (slice_index_or x i []) (slice_index_or y i [])))
-xored_planes x y hx hy = eight_planes (λ i. zip2 bit_xor (slice_index_or x i []) (slice_index_or y i []))
-    (λ i lt. length-zip2 bit_xor (slice_index_or x i []) (slice_index_or y i []) (hx i lt ∙ sym (hy i lt)) ∙ hx i lt)
+pub xored_planes : (x y : List (List ℕ)) → ArePlanes x → ArePlanes y → ArePlanes (eight (xor_at x y))
+xored_planes x y hx hy =
+    eight_planes (xor_at x y) (λ i h. length-op bit_xor (slice_index_or x i []) (slice_index_or y i []) (hx i h) (hy i h))
 
 -- 2 (a + b) + b + (c + d)
 abbrev pub mixed : ℕ → ℕ → ℕ → ℕ → ℕ
 mixed a b c d = bit_xor (bit_xor (field_times 2 (bit_xor a b)) b) (bit_xor c d)
 
-mixed_is : (a b c d : ℕ) → b < 256 → mixed a b c d ≡ bit_xor (bit_xor (bit_xor (field_times 2 a) (field_times 3 b)) c) d
+-- as the first row of the matrix has it
+mixed_is : (a b c d : ℕ) → b < 256
+    → mixed a b c d ≡ bit_xor (bit_xor (bit_xor (field_times 2 a) (field_times 3 b)) c) d
 mixed_is a b c d hb =
     ap (λ (x : ℕ). bit_xor (bit_xor x b) (bit_xor c d)) (field_times-add 2 a b)
-    ∙ ap (λ (x : ℕ). bit_xor x (bit_xor c d)) (xor_assoc (field_times 2 a) (field_times 2 b) b ∙ ap (bit_xor (field_times 2 a)) (triple_is b hb))
+    ∙ ap (λ (x : ℕ). bit_xor x (bit_xor c d))
+    (xor_assoc (field_times 2 a) (field_times 2 b) b ∙ ap (bit_xor (field_times 2 a)) (triple_is b hb))
     ∙ sym (xor_assoc (bit_xor (field_times 2 a) (field_times 3 b)) c d)
 
+-- the last of four terms in front
 turned : (w x y z : ℕ) → bit_xor (bit_xor (bit_xor w x) y) z ≡ bit_xor (bit_xor (bit_xor z w) x) y
 turned w x y z =
     xor_comm (bit_xor (bit_xor w x) y) z ∙ sym (xor_assoc z (bit_xor w x) y) ∙ ap (λ (u : ℕ). bit_xor u y) (sym (xor_assoc z w x))
 
+-- the four rows, each from the row itself and the three below it, in turn
 pub mixed_0 : (a b c d : ℕ) → a < 256 → b < 256 → c < 256 → d < 256 → mixed a b c d ≡ row_times mix_matrix 0 a b c d
 mixed_0 a b c d ha hb hc hd =
     mixed_is a b c d hb
@@ -112,9 +92,11 @@ mixed_3 a b c d ha hb hc hd =
     ∙ turned b c (field_times 2 d) (field_times 3 a)
     ∙ (λ i. bit_xor (bit_xor (bit_xor (field_times 3 a) (sym (times_one b hb) i)) (sym (times_one c hc) i)) (field_times 2 d))
 
-byte_lt : (x : List (List ℕ)) (t j : ℕ) → byte_at x t j < 256
-byte_lt x t j = from_bits_lt (λ i. bit_at (slice_index (slice_index_or x i []) j) t) 8 (λ i. bit_at-lt (slice_index (slice_index_or x i []) j) t)
+-- a place is below 16
+pub next_row_lt : (j : ℕ) → slice_index next_row_places j < 16
+next_row_lt = below_all 16 next_row_places (omega arith) refl
 
+-- a block whose bytes are mixed from the bytes of their columns
 pub mixed_block : (x r : List (List ℕ)) (t : ℕ)
     → ((j : ℕ) → j < 16 → byte_at r t j ≡ mixed (byte_at x t j) (byte_at x t (slice_index next_row_places j))
     (byte_at x t (slice_index next_row_places (slice_index next_row_places j)))
@@ -122,20 +104,26 @@ pub mixed_block : (x r : List (List ℕ)) (t : ℕ)
     → block_in r t ≡ mix_columns (block_in x t)
 unfolding mix_columns
 mixed_block x r t h =
+    let b = byte_at x t in
+    let lt = byte_lt x t in
+    let row_0 = λ (k : ℕ). mixed_0 (b k) (b (k + 1)) (b (k + 2)) (b (k + 3)) (lt k) (lt (k + 1)) (lt (k + 2)) (lt (k + 3)) in
+    let row_1 = λ (k : ℕ). mixed_1 (b k) (b (k + 1)) (b (k + 2)) (b (k + 3)) (lt k) (lt (k + 1)) (lt (k + 2)) (lt (k + 3)) in
+    let row_2 = λ (k : ℕ). mixed_2 (b k) (b (k + 1)) (b (k + 2)) (b (k + 3)) (lt k) (lt (k + 1)) (lt (k + 2)) (lt (k + 3)) in
+    let row_3 = λ (k : ℕ). mixed_3 (b k) (b (k + 1)) (b (k + 2)) (b (k + 3)) (lt k) (lt (k + 1)) (lt (k + 2)) (lt (k + 3)) in
     λ i.
-    (h 0 (omega arith) ∙ mixed_0 (byte_at x t 0) (byte_at x t 1) (byte_at x t 2) (byte_at x t 3) (byte_lt x t 0) (byte_lt x t 1) (byte_lt x t 2) (byte_lt x t 3)) i
-    ∷ (h 1 (omega arith) ∙ mixed_1 (byte_at x t 0) (byte_at x t 1) (byte_at x t 2) (byte_at x t 3) (byte_lt x t 0) (byte_lt x t 1) (byte_lt x t 2) (byte_lt x t 3)) i
-    ∷ (h 2 (omega arith) ∙ mixed_2 (byte_at x t 0) (byte_at x t 1) (byte_at x t 2) (byte_at x t 3) (byte_lt x t 0) (byte_lt x t 1) (byte_lt x t 2) (byte_lt x t 3)) i
-    ∷ (h 3 (omega arith) ∙ mixed_3 (byte_at x t 0) (byte_at x t 1) (byte_at x t 2) (byte_at x t 3) (byte_lt x t 0) (byte_lt x t 1) (byte_lt x t 2) (byte_lt x t 3)) i
-    ∷ (h 4 (omega arith) ∙ mixed_0 (byte_at x t 4) (byte_at x t 5) (byte_at x t 6) (byte_at x t 7) (byte_lt x t 4) (byte_lt x t 5) (byte_lt x t 6) (byte_lt x t 7)) i
-    ∷ (h 5 (omega arith) ∙ mixed_1 (byte_at x t 4) (byte_at x t 5) (byte_at x t 6) (byte_at x t 7) (byte_lt x t 4) (byte_lt x t 5) (byte_lt x t 6) (byte_lt x t 7)) i
-    ∷ (h 6 (omega arith) ∙ mixed_2 (byte_at x t 4) (byte_at x t 5) (byte_at x t 6) (byte_at x t 7) (byte_lt x t 4) (byte_lt x t 5) (byte_lt x t 6) (byte_lt x t 7)) i
-    ∷ (h 7 (omega arith) ∙ mixed_3 (byte_at x t 4) (byte_at x t 5) (byte_at x t 6) (byte_at x t 7) (byte_lt x t 4) (byte_lt x t 5) (byte_lt x t 6) (byte_lt x t 7)) i
-    ∷ (h 8 (omega arith) ∙ mixed_0 (byte_at x t 8) (byte_at x t 9) (byte_at x t 10) (byte_at x t 11) (byte_lt x t 8) (byte_lt x t 9) (byte_lt x t 10) (byte_lt x t 11)) i
-    ∷ (h 9 (omega arith) ∙ mixed_1 (byte_at x t 8) (byte_at x t 9) (byte_at x t 10) (byte_at x t 11) (byte_lt x t 8) (byte_lt x t 9) (byte_lt x t 10) (byte_lt x t 11)) i
-    ∷ (h 10 (omega arith) ∙ mixed_2 (byte_at x t 8) (byte_at x t 9) (byte_at x t 10) (byte_at x t 11) (byte_lt x t 8) (byte_lt x t 9) (byte_lt x t 10) (byte_lt x t 11)) i
-    ∷ (h 11 (omega arith) ∙ mixed_3 (byte_at x t 8) (byte_at x t 9) (byte_at x t 10) (byte_at x t 11) (byte_lt x t 8) (byte_lt x t 9) (byte_lt x t 10) (byte_lt x t 11)) i
-    ∷ (h 12 (omega arith) ∙ mixed_0 (byte_at x t 12) (byte_at x t 13) (byte_at x t 14) (byte_at x t 15) (byte_lt x t 12) (byte_lt x t 13) (byte_lt x t 14) (byte_lt x t 15)) i
-    ∷ (h 13 (omega arith) ∙ mixed_1 (byte_at x t 12) (byte_at x t 13) (byte_at x t 14) (byte_at x t 15) (byte_lt x t 12) (byte_lt x t 13) (byte_lt x t 14) (byte_lt x t 15)) i
-    ∷ (h 14 (omega arith) ∙ mixed_2 (byte_at x t 12) (byte_at x t 13) (byte_at x t 14) (byte_at x t 15) (byte_lt x t 12) (byte_lt x t 13) (byte_lt x t 14) (byte_lt x t 15)) i
-    ∷ (h 15 (omega arith) ∙ mixed_3 (byte_at x t 12) (byte_at x t 13) (byte_at x t 14) (byte_at x t 15) (byte_lt x t 12) (byte_lt x t 13) (byte_lt x t 14) (byte_lt x t 15)) i ∷ []
+    (h 0 (omega arith) ∙ row_0 0) i
+    ∷ (h 1 (omega arith) ∙ row_1 0) i
+    ∷ (h 2 (omega arith) ∙ row_2 0) i
+    ∷ (h 3 (omega arith) ∙ row_3 0) i
+    ∷ (h 4 (omega arith) ∙ row_0 4) i
+    ∷ (h 5 (omega arith) ∙ row_1 4) i
+    ∷ (h 6 (omega arith) ∙ row_2 4) i
+    ∷ (h 7 (omega arith) ∙ row_3 4) i
+    ∷ (h 8 (omega arith) ∙ row_0 8) i
+    ∷ (h 9 (omega arith) ∙ row_1 8) i
+    ∷ (h 10 (omega arith) ∙ row_2 8) i
+    ∷ (h 11 (omega arith) ∙ row_3 8) i
+    ∷ (h 12 (omega arith) ∙ row_0 12) i
+    ∷ (h 13 (omega arith) ∙ row_1 12) i
+    ∷ (h 14 (omega arith) ∙ row_2 12) i
+    ∷ (h 15 (omega arith) ∙ row_3 12) i ∷ []

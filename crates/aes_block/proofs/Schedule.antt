@@ -21,6 +21,7 @@ next_word-push ws x i h l =
     let b = get_or_append_left ws (x ∷ []) [] (i - 1) (omega arith) in
     λ j. add_words (a j) (stirred i (b j))
 
+-- each word past the third is made of those before it
 pub word_next : (key : List ℕ) (n i : ℕ) → 4 ≤ i → i < n + 4 → word_at (schedule key n) i ≡ next_word (schedule key n) i
 unfolding schedule
 word_next key zero i h l = absurd (omega arith)
@@ -37,11 +38,13 @@ word_next key (suc n) i h l =
     ]
 
 -- words 0 to 3 are the key's
-word_first : (key : List ℕ) (n i : ℕ) → i < 4 → word_at (schedule key n) i ≡ slice_index_or (column key 0 ∷ column key 1 ∷ column key 2 ∷ column key 3 ∷ []) i []
+word_first : (key : List ℕ) (n i : ℕ) → i < 4
+    → word_at (schedule key n) i ≡ slice_index_or (column key 0 ∷ column key 1 ∷ column key 2 ∷ column key 3 ∷ []) i []
 unfolding schedule
 word_first key zero i h = refl
 word_first key (suc n) i h =
-    get_or_append_left (schedule key n) (next_word (schedule key n) (n + 4) ∷ []) [] i (omega (arith, length-schedule key n)) ∙ word_first key n i h
+    get_or_append_left (schedule key n) (next_word (schedule key n) (n + 4) ∷ []) [] i (omega (arith, length-schedule key n))
+    ∙ word_first key n i h
 
 -- 16 bytes are their cells
 pub cells_whole : (s : List ℕ) → length s ≡ 16 → state_of (cell s) ≡ s
@@ -55,6 +58,7 @@ round_key_first key long =
     (word_first key 40 2 (omega arith) i) (word_first key 40 3 (omega arith) i))
     ∙ cells_whole key long
 
+-- the test of a number that is not 0
 not_zero : {A : Type 0} (m : ℕ) (u t : A) → 0 < m → (if m == 0 then u else t) ≡ t
 not_zero m u t h = grind (arith, nat_tests)
 
@@ -86,7 +90,8 @@ word_turn key n hn =
     let last : i - 1 ≡ 4 * n + 3 = omega arith in
     word_next key 40 i (omega arith) (omega arith)
     ∙ (λ j. add_words (word_at ws (back j)) (stirred_by (m j) (i / 4) (word_at ws (last j))))
-    ∙ (λ j. add_words (word_at ws (4 * n + 0)) (add_words (sub_word (rot_word (word_at ws (4 * n + 3)))) (slice_index round_constants (d j) ∷ 0 ∷ 0 ∷ 0 ∷ [])))
+    ∙ (λ j. add_words (word_at ws (4 * n + 0))
+    (add_words (sub_word (rot_word (word_at ws (4 * n + 3)))) (slice_index round_constants (d j) ∷ 0 ∷ 0 ∷ 0 ∷ [])))
 
 -- each round key from the one before
 pub round_key_next : (key : List ℕ) (n : ℕ) → n < 10

@@ -1,16 +1,17 @@
 -- Every step of the cipher gives bytes.
-use Rattle.std.proofs.Common.{◌≡◌, ℕ, zero, suc, ◌+◌, ◌-◌, ◌*◌, ◌/◌, ◌%◌, ◌^◌, ◌<◌, List, [], ◌∷◌, ◌++◌, Bool, true, false, length, slice_index, refl, sym, ap, subst, ◌∙◌, arith, bit_xor, inl, inr}
+use Rattle.std.proofs.Common.{◌≡◌, ℕ, zero, suc, ◌+◌, ◌-◌, ◌*◌, ◌/◌, ◌%◌, ◌<◌, List, [], ◌∷◌, ◌++◌, Bool, true, false, length, slice_index, refl, sym, ap, subst, ◌∙◌, arith, bit_xor, inl, inr}
 use Rattle.std.specs.Prelude.{if◌then◌else◌, ◌==◌}
 use Rattle.std.proofs.lemmas.Bool.{cases_lt}
 use Rattle.std.proofs.lemmas.List.{get_or_append_left, get_or_push, get_or_past, length_push}
 use Rattle.std.proofs.lemmas.Nat.{xor_of_8}
 use lib.Lanes.{Each1}
-use Rattle.aes_block.specs.Cipher.{add_round_key, matrix_times, mix_columns, mix_matrix, rounds, shift_rows, sub_bytes}
+use Rattle.aes_block.specs.Cipher.{add_round_key, cipher, matrix_times, mix_columns, mix_matrix, rounds, shift_rows, sub_bytes}
 use Rattle.aes_block.specs.Field.{field_times, inverse, polynomial_times, remainder}
 use Rattle.aes_block.specs.KeySchedule.{add_words, next_word, rcon, rot_word, round_constants, round_key, schedule, stirred, sub_word, word_at}
-use Rattle.aes_block.specs.SBox.{affine_bit, from_bits_of, s_box}
+use Rattle.aes_block.specs.SBox.{affine_bit, s_box}
 use Rattle.aes_block.specs.State.{IsBytes, cell, column_of, state_of}
-use Rattle.aes_block.proofs.AllBytes.{same_at_byte, values}
+use Rattle.aes_block.proofs.AllBytes.{below_all, same_at_byte, values}
+use Rattle.aes_block.proofs.ByteBits.{from_bits_lt}
 use Rattle.aes_block.proofs.Schedule.{length-schedule}
 
 nil_bytes : IsBytes []
@@ -29,22 +30,6 @@ pub state_bytes : (f : ℕ → ℕ → ℕ) → ((r c : ℕ) → f r c < 256) �
 state_bytes f h = bytes_from (state_of f)
     (h 0 0, (h 1 0, (h 2 0, (h 3 0, (h 0 1, (h 1 1, (h 2 1, (h 3 1, (h 0 2, (h 1 2, (h 2 2, (h 3 2, (h 0 3, (h 1 3, (h 2 3, (h 3 3, tt))))))))))))))))
 
-pub from_bits_lt : (f : ℕ → ℕ) (n : ℕ) → ((i : ℕ) → f i < 2) → from_bits_of f n < 2 ^ n
-unfolding from_bits_of
-from_bits_lt f zero h = omega arith
-from_bits_lt f (suc n) h =
-    let before : from_bits_of f n < 2 ^ n = from_bits_lt f n h in
-    let bit : f n < 2 = h n in
-    let power : 2 ^ suc n ≡ 2 * 2 ^ n = omega arith in
-    elim (cases_lt (f n) 1) [
-      | inl a ↦
-          let z : f n ≡ 0 = omega arith in
-          rw (z, power) (omega arith)
-      | inr b ↦
-          let o : f n ≡ 1 = omega arith in
-          rw (o, power) (omega arith)
-    ]
-
 pub s_box_lt : (b : ℕ) → s_box b < 256
 unfolding s_box
 s_box_lt b = from_bits_lt (affine_bit (inverse b)) 8 (λ i. omega arith)
@@ -62,20 +47,14 @@ product_lt m b h hb =
     let e : field_times m b / 256 ≡ 0 = same_at_byte (λ b. field_times m b / 256) (λ b. 0) (products-all m h) b hb in
     omega arith
 
-row_lt : (i : ℕ) → slice_index (0x02 ∷ 0x03 ∷ 0x01 ∷ 0x01 ∷ []) i < 4
-row_lt zero = omega arith
-row_lt (suc zero) = omega arith
-row_lt (suc (suc zero)) = omega arith
-row_lt (suc (suc (suc zero))) = omega arith
-row_lt (suc (suc (suc (suc i)))) = omega arith
-
 entry_lt : (r k : ℕ) → mix_matrix r k < 4
-entry_lt r k = row_lt ((k + 4 - r) % 4)
+entry_lt r k = below_all 4 (0x02 ∷ 0x03 ∷ 0x01 ∷ 0x01 ∷ []) (omega arith) refl ((k + 4 - r) % 4)
 
 -- ShiftRows after SubBytes
 pub shifted_bytes : (s : List ℕ) → IsBytes (shift_rows (sub_bytes s))
 unfolding shift_rows sub_bytes
-shifted_bytes s = state_bytes (λ r c. cell (state_of (λ r c. s_box (cell s r c))) r ((c + r) % 4)) (λ r c. state_bytes (λ r c. s_box (cell s r c)) (λ r c. s_box_lt (cell s r c)) (r + 4 * ((c + r) % 4)))
+shifted_bytes s = state_bytes (λ r c. cell (state_of (λ r c. s_box (cell s r c))) r ((c + r) % 4))
+    (λ r c. state_bytes (λ r c. s_box (cell s r c)) (λ r c. s_box_lt (cell s r c)) (r + 4 * ((c + r) % 4)))
 
 xor_bytes : (a b : ℕ) → a < 256 → b < 256 → bit_xor a b < 256
 xor_bytes a b h k = xor_of_8 a b h k
@@ -95,7 +74,7 @@ added_words_bytes : (u v : List ℕ) → IsBytes u → IsBytes v → IsBytes (ad
 added_words_bytes u v h g = four_bytes (λ r. bit_xor (slice_index u r) (slice_index v r)) (λ r. xor_bytes _ _ (h r) (g r))
 
 constant_bytes : IsBytes round_constants
-constant_bytes = bytes_from round_constants (omega arith, (omega arith, (omega arith, (omega arith, (omega arith, (omega arith, (omega arith, (omega arith, (omega arith, (omega arith, tt))))))))))
+constant_bytes = below_all 256 round_constants (omega arith) refl
 
 rcon_bytes : (i : ℕ) → IsBytes (rcon i)
 rcon_bytes i = bytes_from (rcon i) (constant_bytes (i - 1), (omega arith, (omega arith, (omega arith, tt))))
@@ -143,3 +122,13 @@ rounds_bytes key s zero hk hs = added_bytes s (round_key key 0) hs (round_key_by
 rounds_bytes key s (suc n) hk hs =
     added_bytes (mix_columns (shift_rows (sub_bytes (rounds key s n)))) (round_key key (n + 1))
     (mixed_bytes (shift_rows (sub_bytes (rounds key s n))) (shifted_bytes (rounds key s n))) (round_key_bytes key (n + 1) hk)
+
+-- what is enciphered is 16 bytes
+pub cipher_bytes : (key block : List ℕ) → IsBytes key → IsBytes (cipher key block)
+unfolding cipher
+cipher_bytes key block hk =
+    added_bytes (shift_rows (sub_bytes (rounds key block 9))) (round_key key 10) (shifted_bytes (rounds key block 9)) (round_key_bytes key 10 hk)
+
+pub length-cipher : (key block : List ℕ) → length (cipher key block) ≡ 16
+unfolding cipher add_round_key
+length-cipher key block = refl

@@ -1,4 +1,5 @@
--- The field GF(2^8) of FIPS 197, section 4. A byte is the polynomial over GF(2) whose coefficient of
+-- The field GF(2^8) of FIPS 197, section 4; here and in the other files sections are numbered as in its
+-- edition of 2023. A byte is the polynomial over GF(2) whose coefficient of
 -- x^i is bit i. The sum of two is `bit_xor` (4.1); their product is taken modulo
 -- x^8 + x^4 + x^3 + x + 1 (4.2).
 use Rattle.std.specs.Prelude.{ℕ, zero, suc, ◌+◌, ◌*◌, ◌^◌, true, false, ◌==◌, bit_xor}

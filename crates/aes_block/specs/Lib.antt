@@ -11,3 +11,4 @@ pub mod RoundKeys
 pub mod Circuit
 pub mod SBoxCircuit
 pub mod Planes
+pub mod BitMatrix

@@ -1,5 +1,5 @@
 -- Eight blocks in eight planes of 16 lanes: bit t of lane j of plane i is bit i of byte j of block t.
-use Rattle.std.specs.Prelude.{◌≡◌, ℕ, ◌+◌, ◌-◌, ◌*◌, ◌/◌, ◌^◌, ◌%◌, ◌<◌, List, [], ◌∷◌, length, bit_xor, bit_and, slice_index, slice_index_or}
+use Rattle.std.specs.Prelude.{◌≡◌, ℕ, ◌+◌, ◌*◌, ◌<◌, List, [], ◌∷◌, length, slice_index, slice_index_or}
 use Rattle.std.specs.Int.{bit_at}
 use Rattle.aes_block.specs.SBox.{from_bits_of}
 use Rattle.aes_block.specs.State.{state_of}
@@ -10,9 +10,13 @@ use Rattle.aes_block.specs.Circuit.Gate.{Sum}
 abbrev pub ArePlanes : List (List ℕ) → Type 0
 ArePlanes x = (i : ℕ) → i < 8 → length (slice_index_or x i []) ≡ 16
 
+-- lane j of plane i
+abbrev pub lane : List (List ℕ) → ℕ → ℕ → ℕ
+lane x i j = slice_index (slice_index_or x i []) j
+
 -- byte j of block t
 abbrev pub byte_at : List (List ℕ) → ℕ → ℕ → ℕ
-byte_at x t j = from_bits_of (λ i. bit_at (slice_index (slice_index_or x i []) j) t) 8
+byte_at x t j = from_bits_of (λ i. bit_at (lane x i j) t) 8
 
 -- block t
 abbrev pub block_in : List (List ℕ) → ℕ → List ℕ
@@ -25,17 +29,10 @@ double_gates = Sum 0 7 ∷ Sum 3 8 ∷ Sum 5 9 ∷ []
 abbrev pub double_outs : List ℕ
 double_outs = 10 ∷ 2 ∷ 4 ∷ 1 ∷ 0 ∷ 7 ∷ 8 ∷ 9 ∷ []
 
--- the byte in the next row of the same column
+-- where the byte in the next row of the same column is
 abbrev pub next_row_places : List ℕ
 next_row_places = 1 ∷ 2 ∷ 3 ∷ 0 ∷ 5 ∷ 6 ∷ 7 ∷ 4 ∷ 9 ∷ 10 ∷ 11 ∷ 8 ∷ 13 ∷ 14 ∷ 15 ∷ 12 ∷ []
 
--- the byte that ShiftRows moves here
+-- where the byte is that ShiftRows moves here
 abbrev pub shift_places : List ℕ
 shift_places = 0 ∷ 5 ∷ 10 ∷ 15 ∷ 4 ∷ 9 ∷ 14 ∷ 3 ∷ 8 ∷ 13 ∷ 2 ∷ 7 ∷ 12 ∷ 1 ∷ 6 ∷ 11 ∷ []
-
--- the two halves of a swap of bits between two bytes, n places apart: the bits of `low` stay in a
-abbrev pub low_of : ℕ → ℕ → ℕ → ℕ → ℕ
-low_of n low a b = bit_xor (bit_and a low) (bit_and b low * 2 ^ n % 2 ^ 8)
-
-abbrev pub high_of : ℕ → ℕ → ℕ → ℕ → ℕ
-high_of n low a b = bit_xor (bit_and (a / 2 ^ n) low) (bit_and b (255 - low))

@@ -5,6 +5,11 @@ ghost use Rattle.aes_block.specs.KeySchedule.{add_words};
 
 use crate::bytes::sub_byte;
 
+// The first bytes of Rcon 1 to Rcon 10.
+pub(crate) const ROUND_CONSTANTS: [u8; 10] = [
+    0x01, 0x02, 0x04, 0x08, 0x10, 0x20, 0x40, 0x80, 0x1b, 0x36,
+];
+
 // The sum of two words.
 #[inline(always)]
 fn add_words(u: [u8; 4], v: [u8; 4]) -> [u8; 4]

@@ -13,7 +13,8 @@ fn first_half(tsk: &[u8; 32]) -> [u8; 16]
     key
 }
 
-/// The file key `fek` wrapped under the storage key `tsk`: one block of AES-128 under the first 16 bytes of `tsk`.
+/// The key of a file, `fek` (file encryption key), wrapped under a storage key of 32 bytes, `tsk` (trusted application
+/// storage key): one block, which AES-128 enciphers under the first 16 bytes of `tsk`.
 pub fn wrap(tsk: &[u8; 32], fek: &[u8; 16]) -> [u8; 16]
     ensures { result ≡ wrapped_of tsk.now fek.now }
 {
@@ -22,7 +23,8 @@ pub fn wrap(tsk: &[u8; 32], fek: &[u8; 16]) -> [u8; 16]
     block
 }
 
-/// The file key that `wrap` under the same storage key made `wrapped` of. Of another block of 16 bytes it is what that block deciphers to.
+/// The key of a file from `wrapped`, which `wrap` made of it under the same storage key `tsk`. Nothing tells whether
+/// `wrapped` was made so: any other block gives the block that it deciphers to.
 pub fn unwrap_key(tsk: &[u8; 32], wrapped: &[u8; 16]) -> [u8; 16]
     ensures value { result ≡ unwrapped_of tsk.now wrapped.now }
     ensures undoes { (fek : List ℕ) → IsBytes fek → length fek ≡ 16 → wrapped.now ≡ wrapped_of tsk.now fek → result ≡ fek }

@@ -9,6 +9,8 @@ mod key_schedule;
 mod key_wrap;
 mod laws;
 mod plane_steps;
+mod planes;
+mod round_key;
 mod s_box_planes;
 mod steps;
 mod tables;
@@ -17,3 +19,6 @@ mod transpose;
 pub use block_cipher::Aes128;
 pub use key_wrap::{unwrap_key, wrap};
 pub use laws::deciphering_undoes_enciphering;
+
+#[cfg(test)]
+mod tests;

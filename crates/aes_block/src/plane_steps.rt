@@ -4,13 +4,12 @@ ghost use Rattle.aes_block.specs.Cipher.{add_round_key, mix_columns, shift_rows}
 ghost use Rattle.aes_block.specs.Circuit.{lanes_layer, wires};
 ghost use Rattle.aes_block.specs.Field.{field_times};
 ghost use Rattle.aes_block.specs.Planes.{ArePlanes, block_in, byte_at, double_gates, double_outs, next_row_places, shift_places};
-ghost use Rattle.aes_block.specs.State.{IsBytes};
 
-use crate::transpose::turn;
+use crate::planes::{Planes, planes_of};
 use std::simd::prelude::*;
 
 #[inline(always)]
-fn xor_planes(x: [u8x16; 8], y: [u8x16; 8]) -> [u8x16; 8]
+fn xor_planes(x: Planes, y: Planes) -> Planes
     requires x_planes { ArePlanes x }
     requires y_planes { ArePlanes y }
     ensures planes { ArePlanes result }
@@ -32,7 +31,7 @@ fn xor_planes(x: [u8x16; 8], y: [u8x16; 8]) -> [u8x16; 8]
 
 #[inline(always)]
 #[tactic(auto, unfolding(crate::specs::Circuit::layer, crate::specs::Circuit::run))]
-fn double_layer(x: [u8x16; 8]) -> [u8x16; 8]
+fn double_layer(x: Planes) -> Planes
     ensures { result ≡ lanes_layer double_gates double_outs (wires 8 x) }
 {
     let [x0, x1, x2, x3, x4, x5, x6, x7] = x;
@@ -44,7 +43,7 @@ fn double_layer(x: [u8x16; 8]) -> [u8x16; 8]
 
 // The product with 02 of each byte.
 #[inline(always)]
-fn double_planes(x: [u8x16; 8]) -> [u8x16; 8]
+fn double_planes(x: Planes) -> Planes
     requires { ArePlanes x }
     ensures planes { ArePlanes result }
     ensures value { (t j : ℕ) → t < 8 → j < 16 → byte_at result t j ≡ field_times 0x02 (byte_at x t j) }
@@ -63,7 +62,7 @@ fn next_row(v: u8x16) -> u8x16
 
 // Each byte is that of the next row of its column.
 #[inline(always)]
-fn next_rows(x: [u8x16; 8]) -> [u8x16; 8]
+fn next_rows(x: Planes) -> Planes
     requires { ArePlanes x }
     ensures planes { ArePlanes result }
     ensures value { (t j : ℕ) → t < 8 → j < 16 → byte_at result t j ≡ byte_at x t (slice_index next_row_places j) }
@@ -83,7 +82,7 @@ fn next_rows(x: [u8x16; 8]) -> [u8x16; 8]
 
 // MixColumns on each block.
 #[inline(always)]
-pub(crate) fn mix_planes(x: [u8x16; 8]) -> [u8x16; 8]
+pub(crate) fn mix_planes(x: Planes) -> Planes
     requires { ArePlanes x }
     ensures planes { ArePlanes result }
     ensures value { (t : ℕ) → t < 8 → block_in result t ≡ mix_columns (block_in x t) }
@@ -105,7 +104,7 @@ fn shift_plane(v: u8x16) -> u8x16
 
 // ShiftRows on each block.
 #[inline(always)]
-pub(crate) fn shift_planes(x: [u8x16; 8]) -> [u8x16; 8]
+pub(crate) fn shift_planes(x: Planes) -> Planes
     requires { ArePlanes x }
     ensures planes { ArePlanes result }
     ensures value { (t : ℕ) → t < 8 → block_in result t ≡ shift_rows (block_in x t) }
@@ -123,30 +122,13 @@ pub(crate) fn shift_planes(x: [u8x16; 8]) -> [u8x16; 8]
     ]
 }
 
-// AddRoundKey on each block.
+// AddRoundKey on each block, with a key in each block of its planes.
 #[inline(always)]
-pub(crate) fn add_key(x: [u8x16; 8], k: &[u8; 16]) -> [u8x16; 8]
-    requires { ArePlanes x }
+pub(crate) fn add_key(x: Planes, key: &[[u8; 16]; 8]) -> Planes
+    requires x_planes { ArePlanes x }
+    requires key_planes { ArePlanes key.now }
     ensures planes { ArePlanes result }
-    ensures value { (t : ℕ) → t < 8 → block_in result t ≡ add_round_key (block_in x t) k.now }
+    ensures value { (t : ℕ) → t < 8 → block_in result t ≡ add_round_key (block_in x t) (block_in key.now t) }
 {
-    let v = load(k);
-    xor_planes(x, turn([v, v, v, v, v, v, v, v]))
-}
-
-// A block as a vector.
-#[inline(always)]
-pub(crate) fn load(block: &[u8; 16]) -> u8x16
-    ensures same { result ≡ block.now }
-    ensures long { length result ≡ 16 }
-    ensures bytes { IsBytes result }
-{
-    vector_of(block)
-}
-
-#[inline(always)]
-fn vector_of(block: &[u8; 16]) -> u8x16
-    ensures { result ≡ block.now }
-{
-    u8x16::from_array(*block)
+    xor_planes(x, planes_of(key))
 }

@@ -1,15 +1,16 @@
-// SubBytes on eight planes, by the circuit in `specs/SBoxCircuit.antt` and with no table: no address depends on the blocks.
+// SubBytes on eight planes with no table, by the circuit in `specs/SBoxCircuit.antt`, in five parts.
 ghost use Rattle.std.specs.Prelude.{◌≡◌, ℕ, ◌<◌, ◌++◌, ◌∷◌, replicate};
+ghost use Rattle.aes_block.specs.Cipher.{sub_bytes};
 ghost use Rattle.aes_block.specs.Circuit.{lanes_layer, wires};
-ghost use Rattle.aes_block.specs.Planes.{ArePlanes, byte_at};
-ghost use Rattle.aes_block.specs.SBox.{s_box};
+ghost use Rattle.aes_block.specs.Planes.{ArePlanes, block_in};
 ghost use Rattle.aes_block.specs.SBoxCircuit.{bot_gates, bot_outs, inv_gates, inv_outs, lin_gates, lin_outs, mid_gates, mid_outs, top_gates, top_outs};
 
+use crate::planes::Planes;
 use std::simd::prelude::*;
 
 #[inline(always)]
 #[tactic(auto, unfolding(crate::specs::Circuit::layer, crate::specs::Circuit::run))]
-fn top_layer(x: [u8x16; 8]) -> [u8x16; 21]
+fn top_layer(x: Planes) -> [u8x16; 21]
     ensures { result ≡ lanes_layer top_gates top_outs (wires 8 x) }
 {
     let [x7, x6, x5, x4, x3, x2, x1, x0] = x;
@@ -180,7 +181,7 @@ fn bot_layer(t: [u8x16; 9], x7: u8x16, y: [u8x16; 21]) -> [u8x16; 18]
 
 #[inline(always)]
 #[tactic(auto, unfolding(crate::specs::Circuit::layer, crate::specs::Circuit::run))]
-fn lin_layer(z: [u8x16; 18]) -> [u8x16; 8]
+fn lin_layer(z: [u8x16; 18]) -> Planes
     ensures { result ≡ lanes_layer lin_gates lin_outs (replicate 16 255 ∷ wires 18 z) }
 {
     let [
@@ -243,10 +244,10 @@ fn lin_layer(z: [u8x16; 18]) -> [u8x16; 8]
 
 // SubBytes on each of the eight blocks.
 #[inline(always)]
-pub(crate) fn sub_planes(x: [u8x16; 8]) -> [u8x16; 8]
+pub(crate) fn sub_planes(x: Planes) -> Planes
     requires { ArePlanes x }
     ensures planes { ArePlanes result }
-    ensures value { (t j : ℕ) → t < 8 → j < 16 → byte_at result t j ≡ s_box (byte_at x t j) }
+    ensures value { (t : ℕ) → t < 8 → block_in result t ≡ sub_bytes (block_in x t) }
 {
     let x7 = x[0];
     let y = top_layer(x);

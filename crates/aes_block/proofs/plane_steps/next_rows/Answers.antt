@@ -1,7 +1,7 @@
 use Rattle.std.proofs.Common.{◌∷◌, []}
 use Rattle.std.specs.Int.{bit_at}
 use Rattle.aes_block.specs.SBox.{from_bits_of}
-use Rattle.aes_block.proofs.Circuit.{number}
+use Rattle.aes_block.proofs.ByteBits.{number}
 use Rattle.aes_block.proofs.plane_steps.next_rows.Goals as goal
 
 pub returns-clause-value : goal.returns-clause-value

@@ -1,4 +1,5 @@
-use Rattle.aes_block.proofs.Circuit.{Layers, planes_subbed, planes_wide}
+use Rattle.aes_block.proofs.PackedBlocks.{subbed_block}
+use Rattle.aes_block.proofs.SBoxLayers.{Layers, bytes_subbed, planes_subbed}
 use Rattle.aes_block.proofs.s_box_planes.sub_planes.Goals as goal
 
 layers : (c : goal.After-lin_layer) → Layers c.args.x c.top_layer-y.result c.mid_layer.result c.inv_layer-t.result c.bot_layer.result c.lin_layer.result
@@ -11,8 +12,8 @@ layers c = record {
 }
 
 pub returns-clause-planes : goal.returns-clause-planes
-returns-clause-planes c = planes_wide c.args.x c.top_layer-y.result c.mid_layer.result c.inv_layer-t.result c.bot_layer.result c.lin_layer.result (layers c) c.requires
+returns-clause-planes c = planes_subbed _ _ _ _ _ _ (layers c) c.requires
 
 pub returns-clause-value : goal.returns-clause-value
-returns-clause-value c = λ t j low lane.
-    planes_subbed c.args.x c.top_layer-y.result c.mid_layer.result c.inv_layer-t.result c.bot_layer.result c.lin_layer.result (layers c) c.requires t j low lane
+returns-clause-value c = λ t low.
+    subbed_block c.args.x c.lin_layer.result t (λ j lt. bytes_subbed _ _ _ _ _ _ (layers c) c.requires t j low lt)

@@ -1,12 +1,12 @@
 use Rattle.std.proofs.Common.{◌≡◌, ℕ, ◌<◌, []}
 use Rattle.std.specs.Prelude.{slice_index_or}
 use Rattle.aes_block.specs.Cipher.{rounds}
-use Rattle.aes_block.specs.Planes.{ArePlanes, block_in}
 use Rattle.aes_block.specs.RoundKeys.{first_key}
+use Rattle.aes_block.specs.Planes.{ArePlanes, block_in}
 use Rattle.aes_block.proofs.block_cipher.Aes128.encrypt_eight.Given as goal
 
-abbrev pub invariant-rounds : goal.invariant-rounds
-invariant-rounds l = record {
+abbrev pub invariant-eight_rounds : goal.invariant-eight_rounds
+invariant-eight_rounds l = record {
   planes : ArePlanes l.x;
   held : (t : ℕ) → t < 8 → block_in l.x t ≡ rounds (first_key l.self-inside.keys) (slice_index_or l.blocks t []) l.n;
 }
