@@ -7,9 +7,10 @@
 #![tactic(auto)]
 
 use anyhow::Context;
-use questions::parse;
+use lines::parse;
 
 mod answers;
+mod lines;
 mod questions;
 #[cfg(test)]
 mod tests;

@@ -1,5 +1,5 @@
 use crate::answers::answer;
-use crate::questions::{Unreadable, parse};
+use crate::lines::{Unreadable, parse};
 use std::test::Fail;
 
 #[test]
