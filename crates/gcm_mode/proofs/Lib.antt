@@ -1,0 +1,5 @@
+pub mod Writes
+pub mod Stream
+pub mod WholeBlocks
+pub mod Twice
+pub mod Evidence

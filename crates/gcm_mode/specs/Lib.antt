@@ -1,0 +1,3 @@
+pub mod ByteBlocks
+pub mod CounterMode
+pub mod Gcm

@@ -1,0 +1,127 @@
+use crate::{BadTag, open_text, seal};
+use aes_block::Aes128;
+
+// A published case: the key, the parts, the ciphertext and the tag.
+#[derive(Drop)]
+struct Case<'a> {
+    key: u128,
+    iv: &'a [u8],
+    aad: &'a [u8],
+    plain: &'a [u8],
+    sealed: &'a [u8],
+    tag: u128,
+}
+
+// Test cases 1 to 6 of AES-128 in the submission of GCM to NIST.
+#[test]
+fn published_cases(rt: HostRuntime) {
+    let cases = [
+        Case {
+            key: 0x00000000000000000000000000000000,
+            iv: b"\x00\x00\x00\x00\x00\x00\x00\x00\x00\x00\x00\x00",
+            aad: b"",
+            plain: b"",
+            sealed: b"",
+            tag: 0x58e2fccefa7e3061367f1d57a4e7455a,
+        },
+        Case {
+            key: 0x00000000000000000000000000000000,
+            iv: b"\x00\x00\x00\x00\x00\x00\x00\x00\x00\x00\x00\x00",
+            aad: b"",
+            plain: b"\x00\x00\x00\x00\x00\x00\x00\x00\x00\x00\x00\x00\x00\x00\x00\x00",
+            sealed: b"\x03\x88\xda\xce\x60\xb6\xa3\x92\xf3\x28\xc2\xb9\x71\xb2\xfe\x78",
+            tag: 0xab6e47d42cec13bdf53a67b21257bddf,
+        },
+        Case {
+            key: 0xfeffe9928665731c6d6a8f9467308308,
+            iv: b"\xca\xfe\xba\xbe\xfa\xce\xdb\xad\xde\xca\xf8\x88",
+            aad: b"",
+            plain: b"\xd9\x31\x32\x25\xf8\x84\x06\xe5\xa5\x59\x09\xc5\xaf\xf5\x26\x9a\x86\xa7\xa9\x53\x15\x34\xf7\xda\x2e\x4c\x30\x3d\x8a\x31\x8a\x72\x1c\x3c\x0c\x95\x95\x68\x09\x53\x2f\xcf\x0e\x24\x49\xa6\xb5\x25\xb1\x6a\xed\xf5\xaa\x0d\xe6\x57\xba\x63\x7b\x39\x1a\xaf\xd2\x55",
+            sealed: b"\x42\x83\x1e\xc2\x21\x77\x74\x24\x4b\x72\x21\xb7\x84\xd0\xd4\x9c\xe3\xaa\x21\x2f\x2c\x02\xa4\xe0\x35\xc1\x7e\x23\x29\xac\xa1\x2e\x21\xd5\x14\xb2\x54\x66\x93\x1c\x7d\x8f\x6a\x5a\xac\x84\xaa\x05\x1b\xa3\x0b\x39\x6a\x0a\xac\x97\x3d\x58\xe0\x91\x47\x3f\x59\x85",
+            tag: 0x4d5c2af327cd64a62cf35abd2ba6fab4,
+        },
+        Case {
+            key: 0xfeffe9928665731c6d6a8f9467308308,
+            iv: b"\xca\xfe\xba\xbe\xfa\xce\xdb\xad\xde\xca\xf8\x88",
+            aad: b"\xfe\xed\xfa\xce\xde\xad\xbe\xef\xfe\xed\xfa\xce\xde\xad\xbe\xef\xab\xad\xda\xd2",
+            plain: b"\xd9\x31\x32\x25\xf8\x84\x06\xe5\xa5\x59\x09\xc5\xaf\xf5\x26\x9a\x86\xa7\xa9\x53\x15\x34\xf7\xda\x2e\x4c\x30\x3d\x8a\x31\x8a\x72\x1c\x3c\x0c\x95\x95\x68\x09\x53\x2f\xcf\x0e\x24\x49\xa6\xb5\x25\xb1\x6a\xed\xf5\xaa\x0d\xe6\x57\xba\x63\x7b\x39",
+            sealed: b"\x42\x83\x1e\xc2\x21\x77\x74\x24\x4b\x72\x21\xb7\x84\xd0\xd4\x9c\xe3\xaa\x21\x2f\x2c\x02\xa4\xe0\x35\xc1\x7e\x23\x29\xac\xa1\x2e\x21\xd5\x14\xb2\x54\x66\x93\x1c\x7d\x8f\x6a\x5a\xac\x84\xaa\x05\x1b\xa3\x0b\x39\x6a\x0a\xac\x97\x3d\x58\xe0\x91",
+            tag: 0x5bc94fbc3221a5db94fae95ae7121a47,
+        },
+        Case {
+            key: 0xfeffe9928665731c6d6a8f9467308308,
+            iv: b"\xca\xfe\xba\xbe\xfa\xce\xdb\xad",
+            aad: b"\xfe\xed\xfa\xce\xde\xad\xbe\xef\xfe\xed\xfa\xce\xde\xad\xbe\xef\xab\xad\xda\xd2",
+            plain: b"\xd9\x31\x32\x25\xf8\x84\x06\xe5\xa5\x59\x09\xc5\xaf\xf5\x26\x9a\x86\xa7\xa9\x53\x15\x34\xf7\xda\x2e\x4c\x30\x3d\x8a\x31\x8a\x72\x1c\x3c\x0c\x95\x95\x68\x09\x53\x2f\xcf\x0e\x24\x49\xa6\xb5\x25\xb1\x6a\xed\xf5\xaa\x0d\xe6\x57\xba\x63\x7b\x39",
+            sealed: b"\x61\x35\x3b\x4c\x28\x06\x93\x4a\x77\x7f\xf5\x1f\xa2\x2a\x47\x55\x69\x9b\x2a\x71\x4f\xcd\xc6\xf8\x37\x66\xe5\xf9\x7b\x6c\x74\x23\x73\x80\x69\x00\xe4\x9f\x24\xb2\x2b\x09\x75\x44\xd4\x89\x6b\x42\x49\x89\xb5\xe1\xeb\xac\x0f\x07\xc2\x3f\x45\x98",
+            tag: 0x3612d2e79e3b0785561be14aaca2fccb,
+        },
+        Case {
+            key: 0xfeffe9928665731c6d6a8f9467308308,
+            iv: b"\x93\x13\x22\x5d\xf8\x84\x06\xe5\x55\x90\x9c\x5a\xff\x52\x69\xaa\x6a\x7a\x95\x38\x53\x4f\x7d\xa1\xe4\xc3\x03\xd2\xa3\x18\xa7\x28\xc3\xc0\xc9\x51\x56\x80\x95\x39\xfc\xf0\xe2\x42\x9a\x6b\x52\x54\x16\xae\xdb\xf5\xa0\xde\x6a\x57\xa6\x37\xb3\x9b",
+            aad: b"\xfe\xed\xfa\xce\xde\xad\xbe\xef\xfe\xed\xfa\xce\xde\xad\xbe\xef\xab\xad\xda\xd2",
+            plain: b"\xd9\x31\x32\x25\xf8\x84\x06\xe5\xa5\x59\x09\xc5\xaf\xf5\x26\x9a\x86\xa7\xa9\x53\x15\x34\xf7\xda\x2e\x4c\x30\x3d\x8a\x31\x8a\x72\x1c\x3c\x0c\x95\x95\x68\x09\x53\x2f\xcf\x0e\x24\x49\xa6\xb5\x25\xb1\x6a\xed\xf5\xaa\x0d\xe6\x57\xba\x63\x7b\x39",
+            sealed: b"\x8c\xe2\x49\x98\x62\x56\x15\xb6\x03\xa0\x33\xac\xa1\x3f\xb8\x94\xbe\x91\x12\xa5\xc3\xa2\x11\xa8\xba\x26\x2a\x3c\xca\x7e\x2c\xa7\x01\xe4\xa9\xa4\xfb\xa4\x3c\x90\xcc\xdc\xb2\x81\xd4\x8c\x7c\x6f\xd6\x28\x75\xd2\xac\xa4\x17\x03\x4c\x34\xae\xe5",
+            tag: 0x619cc5aefffe0bfa462af43c1699d050,
+        },
+    ];
+    for case in &cases {
+        assert!(rt; case.iv.len() > 0 && case.iv.len() < 100);
+        assert!(rt; case.aad.len() < 100 && case.plain.len() <= 64);
+        let key = Aes128::new(&case.key.to_be_bytes());
+        let mut buffer = [0; 64];
+        let text = &mut buffer[..case.plain.len()];
+        text.copy_from_slice(case.plain);
+        assert_eq!(rt; seal(&key, case.iv, case.aad, text), case.tag.to_be_bytes());
+        assert_eq!(rt; &*text, case.sealed);
+        for bit in 0..128u32 {
+            let want = (case.tag ^ (1 << bit)).to_be_bytes();
+            let found = case.tag.to_be_bytes();
+            let bad = open_text(&key, case.iv, case.aad, text, &want);
+            assert_eq!(rt; bad, Err(BadTag { want, found }));
+            assert_eq!(rt; &*text, case.sealed);
+        }
+        let opened = open_text(&key, case.iv, case.aad, text, &case.tag.to_be_bytes());
+        assert_eq!(rt; opened, Ok(()));
+        assert_eq!(rt; &*text, case.plain);
+    }
+}
+
+// FNV-1a of bytes that follow those of `digest`.
+fn digest_after(mut digest: u64, bytes: &[u8]) -> u64 {
+    for byte in bytes {
+        digest = (digest ^ u64::from(*byte)).wrapping_mul(0x100000001b3);
+    }
+    digest
+}
+
+// The bytes 7 i + 3 modulo 256.
+fn pattern_bytes() -> [u8; 300] {
+    let mut pattern = [0; 300];
+    for (i, byte) in pattern.iter_mut().enumerate() {
+        *byte = ((7 * i + 3) % 256) as u8;
+    }
+    pattern
+}
+
+// All ciphertexts and tags of texts of 0 to 300 bytes, one after the other, have the digest (FNV-1a)
+// that those of Python's `cryptography` have.
+#[test]
+fn each_length(rt: HostRuntime) {
+    let key = Aes128::new(&0xfeffe9928665731c6d6a8f9467308308u128.to_be_bytes());
+    let pattern = pattern_bytes();
+    let mut digest = 0xcbf29ce484222325u64;
+    for length in 0..301 {
+        let iv = &pattern[length % 20..length % 20 + length % 40 + 8];
+        let mut buffer = pattern_bytes();
+        let text = &mut buffer[..length];
+        let tag = seal(&key, iv, &pattern[..length % 50], text);
+        digest = digest_after(digest_after(digest, text), &tag);
+        assert_eq!(rt;
+            open_text(&key, iv, &pattern[..length % 50], text, &tag),
+            Ok(())
+        );
+        assert_eq!(rt; &*text, &pattern[..length]);
+    }
+    assert_eq!(rt; digest, 0xa60394541d16474a);
+}

@@ -1,0 +1,9 @@
+pub mod Sums
+pub mod Algebra
+pub mod Division
+pub mod Product
+pub mod Reflected
+pub mod FieldLaws
+pub mod BitSteps
+pub mod Rows
+pub mod Evidence

@@ -1,0 +1,99 @@
+//! GHASH, the hash function of Galois/Counter Mode (NIST SP 800-38D, sections 6.3 and 6.4): sums of
+//! products in the field of 2^128 elements.
+//!
+//! A block is 16 bytes. As a `u128` its first byte is the greatest, so its leftmost bit is bit 127,
+//! and that is the coefficient of x^0 of its polynomial. The sum of two blocks is `^`.
+#![tactic(auto)]
+
+ghost use Rattle.std.specs.Prelude.{◌≡◌, ℕ, List, [], ◌∷◌, ◌++◌, ◌+◌, ◌*◌, ◌<◌, ◌^◌, bit_xor};
+ghost use Rattle.std.specs.Int.{w128, from_be_bytes, to_be_bytes};
+ghost use Rattle.ghash_field.specs.Field.{block_product};
+ghost use Rattle.ghash_field.specs.Ghash.{ghash};
+ghost use Rattle.ghash_field.specs.Hasher.{Holds};
+ghost use Rattle.ghash_field.specs.Table.{block_step};
+
+use table::{Table, mul_by_table, table_of};
+
+mod table;
+#[cfg(test)]
+mod tests;
+
+// R of section 6.3: 1110 0001, then 120 zero bits. It stands for x^128.
+const REDUCTION: u128 = 0xe1 << 120;
+
+// A block times the polynomial x.
+fn times_x(block: u128) -> u128
+    ensures { result ≡ block_step block }
+{
+    let shifted = block >> 1;
+    if block & 1 == 1 {
+        shifted ^ REDUCTION
+    } else {
+        shifted
+    }
+}
+
+/// The product a • b of two blocks (section 6.3), bit by bit.
+pub fn mul(a: u128, b: u128) -> u128
+    ensures { result ≡ block_product a b }
+{
+    let mut sum = 0;
+    let mut multiple = b;
+    for i in 0..128u32 {
+        if (a >> (127 - i)) & 1 == 1 {
+            sum ^= multiple;
+        }
+        multiple = times_x(multiple);
+    }
+    sum
+}
+
+/// The laws of the product of blocks: it commutes, it associates, it distributes over the sum, and
+/// the block of the polynomial 1 leaves a block as it is. The function does nothing: its contract is
+/// the laws.
+pub fn product_laws()
+    ensures commutes { (a b : ℕ) → block_product a b ≡ block_product b a }
+    ensures associates { (a b c : ℕ) → block_product (block_product a b) c ≡ block_product a (block_product b c) }
+    ensures distributes { (a b c : ℕ) → block_product (bit_xor a b) c ≡ bit_xor (block_product a c) (block_product b c) }
+    ensures one { (a : ℕ) → a < 2 ^ 128 → block_product (2 ^ 127) a ≡ a }
+{}
+
+/// GHASH is defined as a sum of products by powers of H. This law says that it is what the steps of
+/// section 6.4 give as well: Y 0 is 0, and Y i is (Y (i - 1) + X i) • H. The function does nothing.
+pub fn ghash_steps()
+    ensures first { (h : ℕ) → ghash h [] ≡ 0 }
+    ensures next { (h x : ℕ) (xs : List ℕ) → h < 2 ^ 128 → ghash h (xs ++ x ∷ []) ≡ block_product (bit_xor (ghash h xs) x) h }
+{}
+
+/// GHASH of a run of blocks under one hash subkey, block by block.
+#[derive(Drop)]
+pub struct Ghash {
+    table: Table,
+    sum: u128,
+}
+
+impl Ghash {
+    /// A hasher of no block, under the hash subkey `h`.
+    pub fn new(h: u128) -> Ghash
+        ensures { Holds result h [] }
+    {
+        Ghash {
+            table: table_of(h),
+            sum: 0,
+        }
+    }
+
+    /// Takes in one block.
+    pub fn update(&mut self, block: &[u8; 16])
+        ensures { (h : ℕ) (xs : List ℕ) → Holds self.old h xs → Holds self.new h (xs ++ from_be_bytes w128 block.now ∷ []) }
+    {
+        self.sum = mul_by_table(self.sum ^ u128::from_be_bytes(*block), &self.table);
+    }
+
+    /// GHASH of the blocks taken in so far, as a block.
+    pub fn finish(&self) -> [u8; 16]
+        ensures { (h : ℕ) (xs : List ℕ) → Holds self.now h xs → result ≡ to_be_bytes w128 (ghash h xs) }
+    {
+        self.sum.to_be_bytes()
+    }
+}

@@ -1,0 +1,2 @@
+pub mod BlockKeys
+pub mod Evidence

@@ -1,0 +1,109 @@
+// The answers.
+
+ghost use Rattle.std.specs.Prelude.{◌≡◌, IfOk, string_bytes};
+ghost use Rattle.aes_block.specs.Cipher.{cipher};
+ghost use Rattle.aes_block.specs.InverseCipher.{inv_cipher};
+ghost use Rattle.known_answers.specs.Answers.{IsAnswer, IsOpenedLine, ghash_of, hex_word, sealed_line, two_words};
+
+use crate::questions::{Parts, Question};
+use aes_block::{Aes128, unwrap_key, wrap};
+use gcm_mode::{open_text, seal};
+use ghash_field::Ghash;
+use hmac_keys::{Keys, dir_tsk, hmac, rpmb_key, ssk, tsk};
+use std::alloc::{AllocError, Global};
+
+// Bytes in hex, or `-` for none.
+fn word_of(alloc: Global, bytes: &[u8]) -> Result<String, AllocError>
+    ensures { IfOk result (λ word. string_bytes word ≡ hex_word bytes.now) }
+{
+    if bytes.is_empty() {
+        String::from_str(alloc, "-")
+    } else {
+        hex::encode(alloc, bytes)
+    }
+}
+
+fn two_words(alloc: Global, first: &[u8], second: &[u8]) -> Result<String, AllocError>
+    ensures { IfOk result (λ words. string_bytes words ≡ two_words first.now second.now) }
+{
+    let mut line = word_of(alloc, first)?;
+    line.push_str(" ")?;
+    line.push_str(&word_of(alloc, second)?)?;
+    Ok(line)
+}
+
+fn ghash(subkey: &[u8; 16], blocks: &[[u8; 16]]) -> [u8; 16]
+    ensures { result ≡ ghash_of subkey.now blocks.now }
+{
+    let mut hash = Ghash::new(u128::from_be_bytes(*subkey));
+    for block in blocks {
+        hash.update(block);
+    }
+    hash.finish()
+}
+
+fn sealed(alloc: Global, parts: Parts) -> Result<String, AllocError>
+    ensures { IfOk result (λ line. string_bytes line ≡ sealed_line parts) }
+{
+    let Parts {
+        key,
+        iv,
+        aad,
+        mut text,
+    } = parts;
+    let tag = seal(&Aes128::new(&key), &iv, &aad, &mut text);
+    two_words(alloc, &text, &tag)
+}
+
+fn opened(alloc: Global, parts: Parts, tag: &[u8; 16]) -> Result<String, AllocError>
+    ensures { IfOk result (λ line. IsOpenedLine parts tag.now (string_bytes line)) }
+{
+    let Parts {
+        key,
+        iv,
+        aad,
+        mut text,
+    } = parts;
+    match open_text(&Aes128::new(&key), &iv, &aad, &mut text, tag) {
+        Ok(()) => word_of(alloc, &text),
+        Err(bad) => {
+            let mut line = String::from_str(alloc, "bad-tag ")?;
+            line.push_str(&two_words(alloc, &bad.want, &bad.found)?)?;
+            Ok(line)
+        }
+    }
+}
+
+fn aes(key: &[u8; 16], mut block: [u8; 16]) -> [u8; 16]
+    ensures { result ≡ cipher key.now block }
+{
+    Aes128::new(key).encrypt(&mut block);
+    block
+}
+
+fn aes_inverse(key: &[u8; 16], mut block: [u8; 16]) -> [u8; 16]
+    ensures { result ≡ inv_cipher key.now block }
+{
+    Aes128::new(key).decrypt(&mut block);
+    block
+}
+
+/// The line that answers a question.
+pub fn answer(alloc: Global, question: Question) -> Result<String, AllocError>
+    ensures { IfOk result (λ line. IsAnswer question (string_bytes line)) }
+{
+    match question {
+        Question::Aes { key, block } => word_of(alloc, &aes(&key, block)),
+        Question::AesInverse { key, block } => word_of(alloc, &aes_inverse(&key, block)),
+        Question::Ghash { subkey, blocks } => word_of(alloc, &ghash(&subkey, &blocks)),
+        Question::GcmSeal { parts } => sealed(alloc, parts),
+        Question::GcmOpen { parts, tag } => opened(alloc, parts, &tag),
+        Question::Hmac { key, text } => word_of(alloc, &hmac(&key.bytes, &text.bytes)),
+        Question::Ssk { huk, chip } => word_of(alloc, &ssk(&Keys { huk, chip })),
+        Question::Tsk { ssk, app } => word_of(alloc, &tsk(&ssk, &app)),
+        Question::DirTsk { ssk } => word_of(alloc, &dir_tsk(&ssk)),
+        Question::RpmbKey { huk } => word_of(alloc, &rpmb_key(&Keys { huk, chip: [0; 32] })),
+        Question::Wrap { tsk, fek } => word_of(alloc, &wrap(&tsk, &fek)),
+        Question::Unwrap { tsk, wrapped } => word_of(alloc, &unwrap_key(&tsk, &wrapped)),
+    }
+}

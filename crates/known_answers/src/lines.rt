@@ -1,0 +1,145 @@
+// The lines that ask the questions.
+
+ghost use Rattle.std.specs.Prelude.{◌≡◌, IfOk, map};
+ghost use Rattle.hex.specs.Hex.{decode_of};
+ghost use Rattle.known_answers.specs.Asks.{AreArrays, AreParts, Asks};
+ghost use Rattle.known_answers.specs.Words.{IsArgument};
+
+use crate::questions::{Argument, Parts, Question};
+use hex::{FromHex, FromHexError};
+use std::alloc::{AllocError, Global};
+
+/// The most bytes of an argument of any length.
+const MOST: usize = 1 << 24;
+
+/// Why a line was not read.
+#[derive(Debug, Drop, thiserror::Error)]
+pub enum Unreadable {
+    #[error("the line is no question")]
+    Form,
+    #[error("out of memory")]
+    Memory,
+}
+
+impl From<AllocError> for Unreadable {
+    fn from(_: AllocError) -> Self {
+        Unreadable::Memory
+    }
+}
+
+impl From<FromHexError> for Unreadable {
+    fn from(error: FromHexError) -> Self {
+        match error {
+            FromHexError::OutOfMemory => Unreadable::Memory,
+            _ => Unreadable::Form,
+        }
+    }
+}
+
+// A word of exactly N bytes in hex.
+fn array_of<const N: usize>(word: &str) -> Result<[u8; N], Unreadable>
+    ensures { IfOk result (λ bytes. decode_of word.now ≡ Ok bytes) }
+{
+    Ok(<[u8; N] as FromHex>::from_hex(word)?)
+}
+
+// A word of any number of bytes in hex, or `-` for none.
+fn argument_of(alloc: Global, word: &str) -> Result<Argument, Unreadable>
+    ensures { IfOk result (λ argument. IsArgument word.now argument.bytes.items) }
+{
+    if word.is_empty() {
+        return Err(Unreadable::Form);
+    }
+    let bytes = if word == "-" {
+        Vec::new(alloc)
+    } else {
+        hex::decode(alloc, word)?
+    };
+    if bytes.len() > MOST {
+        return Err(Unreadable::Form);
+    }
+    Ok(Argument { bytes })
+}
+
+#[tactic(auto, unfolding(crate::specs::Asks::AreParts))]
+fn parts_of(alloc: Global, key: &str, iv: &str, aad: &str, text: &str) -> Result<Parts, Unreadable>
+    ensures { IfOk result (λ parts. AreParts key.now iv.now aad.now text.now parts) }
+{
+    let key = array_of(key)?;
+    let iv = argument_of(alloc, iv)?.bytes;
+    let aad = argument_of(alloc, aad)?.bytes;
+    let text = argument_of(alloc, text)?.bytes;
+    if iv.is_empty() {
+        return Err(Unreadable::Form);
+    }
+    Ok(Parts { key, iv, aad, text })
+}
+
+fn blocks_of(alloc: Global, words: &[&str]) -> Result<Vec<[u8; 16]>, Unreadable>
+    ensures { IfOk result (λ blocks. AreArrays (map (λ w. w.now) words.now) blocks.items) }
+{
+    let mut blocks = Vec::new(alloc);
+    for word in words {
+        blocks.push(array_of(word)?).map_err(AllocError::from)?;
+    }
+    Ok(blocks)
+}
+
+/// The question of a line.
+pub fn parse(alloc: Global, line: &str) -> Result<Question, Unreadable> {
+    let words: Vec<&str> = line.split(' ').collect(alloc)?;
+    question_of(alloc, words.as_slice())
+}
+
+fn question_of(alloc: Global, words: &[&str]) -> Result<Question, Unreadable>
+    ensures { IfOk result (λ question. Asks (map (λ w. w.now) words.now) question) }
+{
+    match words {
+        ["aes", key, block] => Ok(Question::Aes {
+            key: array_of(key)?,
+            block: array_of(block)?,
+        }),
+        ["aes-inverse", key, block] => Ok(Question::AesInverse {
+            key: array_of(key)?,
+            block: array_of(block)?,
+        }),
+        ["ghash", subkey, words @ ..] => Ok(Question::Ghash {
+            subkey: array_of(subkey)?,
+            blocks: blocks_of(alloc, words)?,
+        }),
+        ["gcm-seal", key, iv, aad, text] => Ok(Question::GcmSeal {
+            parts: parts_of(alloc, key, iv, aad, text)?,
+        }),
+        ["gcm-open", key, iv, aad, text, tag] => Ok(Question::GcmOpen {
+            parts: parts_of(alloc, key, iv, aad, text)?,
+            tag: array_of(tag)?,
+        }),
+        ["hmac", key, text] => Ok(Question::Hmac {
+            key: argument_of(alloc, key)?,
+            text: argument_of(alloc, text)?,
+        }),
+        ["ssk", huk, chip] => Ok(Question::Ssk {
+            huk: array_of(huk)?,
+            chip: array_of(chip)?,
+        }),
+        ["tsk", ssk, app] => Ok(Question::Tsk {
+            ssk: array_of(ssk)?,
+            app: array_of(app)?,
+        }),
+        ["dir-tsk", ssk] => Ok(Question::DirTsk {
+            ssk: array_of(ssk)?,
+        }),
+        ["rpmb-key", huk] => Ok(Question::RpmbKey {
+            huk: array_of(huk)?,
+        }),
+        ["wrap", tsk, fek] => Ok(Question::Wrap {
+            tsk: array_of(tsk)?,
+            fek: array_of(fek)?,
+        }),
+        ["unwrap", tsk, wrapped] => Ok(Question::Unwrap {
+            tsk: array_of(tsk)?,
+            wrapped: array_of(wrapped)?,
+        }),
+        _ => Err(Unreadable::Form),
+    }
+}

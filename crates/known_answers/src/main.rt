@@ -1,0 +1,31 @@
+//! Answers questions about the ciphers and keys, for comparison with published answers: a line of
+//! standard input is one question, and a line of standard output its answer.
+//!
+//! A line is a word and its arguments, one space apart. Each argument is bytes in hex, in either case,
+//! or `-` for none. Empty lines and lines that begin with `#` are passed over. A line that cannot be
+//! read ends the program with status 1, and its number on standard error.
+#![tactic(auto)]
+
+use anyhow::Context;
+use lines::parse;
+
+mod answers;
+mod lines;
+mod questions;
+#[cfg(test)]
+mod tests;
+
+fn main(rt: HostRuntime) -> anyhow::Result<()> {
+    let mut number = 0u64;
+    for line in rt.lines(rt.alloc()) {
+        let line = line?;
+        number = number.saturating_add(1);
+        if line.is_empty() || line.starts_with("#") {
+            continue;
+        }
+        let question = parse(rt.alloc(), &line).with_context(|| "line {number}")?;
+        let answer = answers::answer(rt.alloc(), question)?;
+        println!(rt; "{answer}")?;
+    }
+    Ok(())
+}

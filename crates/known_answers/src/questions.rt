@@ -1,0 +1,73 @@
+// The questions.
+
+ghost use Rattle.std.specs.Prelude.{◌≤◌, ◌^◌, vec_len};
+
+/// Bytes, at most 2^24 of them.
+#[derive(Drop)]
+pub struct Argument {
+    pub bytes: Vec<u8>,
+    ghost bounded: { vec_len bytes ≤ 2 ^ 24 },
+}
+
+/// The parts that Galois/Counter Mode works on.
+#[derive(Drop)]
+pub struct Parts {
+    pub key: [u8; 16],
+    pub iv: Vec<u8>,
+    pub aad: Vec<u8>,
+    pub text: Vec<u8>,
+    ghost iv_low: { 1 ≤ vec_len iv },
+    ghost iv_high: { vec_len iv ≤ 2 ^ 24 },
+    ghost aad_high: { vec_len aad ≤ 2 ^ 24 },
+    ghost text_high: { vec_len text ≤ 2 ^ 24 },
+}
+
+/// A question.
+#[derive(Drop)]
+pub enum Question {
+    Aes {
+        key: [u8; 16],
+        block: [u8; 16],
+    },
+    AesInverse {
+        key: [u8; 16],
+        block: [u8; 16],
+    },
+    Ghash {
+        subkey: [u8; 16],
+        blocks: Vec<[u8; 16]>,
+    },
+    GcmSeal {
+        parts: Parts,
+    },
+    GcmOpen {
+        parts: Parts,
+        tag: [u8; 16],
+    },
+    Hmac {
+        key: Argument,
+        text: Argument,
+    },
+    Ssk {
+        huk: [u8; 16],
+        chip: [u8; 32],
+    },
+    Tsk {
+        ssk: [u8; 32],
+        app: [u8; 16],
+    },
+    DirTsk {
+        ssk: [u8; 32],
+    },
+    RpmbKey {
+        huk: [u8; 16],
+    },
+    Wrap {
+        tsk: [u8; 32],
+        fek: [u8; 16],
+    },
+    Unwrap {
+        tsk: [u8; 32],
+        wrapped: [u8; 16],
+    },
+}
