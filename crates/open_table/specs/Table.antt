@@ -1,5 +1,5 @@
 -- The open handles of all sessions (TEE Internal Core API, Trusted Storage: TEE_OpenPersistentObject).
-use Rattle.std.specs.Prelude.{◌==◌, ℕ, Bool, not, ◌&&◌, ◌||◌, List, Option, find}
+use Rattle.std.specs.Prelude.{◌≡◌, ◌==◌, ℕ, ◌≤◌, Bool, not, ◌&&◌, ◌||◌, List, Option, Some, find}
 use Rattle.std.specs.List.{list_all, list_any}
 use Rattle.std.specs.Map.{lookup}
 use Rattle.std.specs.Option.{option_map}
@@ -21,6 +21,11 @@ record_at table key = lookup (λ k. k == key) table.records
 abbrev pub key_of : TableState → ℕ → ℕ → Option ℕ
 key_of table session handle =
     option_map (λ e. e.0) (find (λ e. ((e.1).session == session) && ((e.1).handle == handle)) table.records)
+
+-- no record of that session's handle has a lower key
+abbrev pub IsLeastKey : TableState → ℕ → ℕ → ℕ → Type 0
+IsLeastKey table session handle key =
+    (k : ℕ) (r : OpenRecord) → record_at table k ≡ Some r → r.session ≡ session → r.handle ≡ handle → key ≤ k
 
 -- a new handle with these flags is compatible with each open handle on that file
 abbrev pub allows_open : TableState → ℕ → Flags → Bool

@@ -37,11 +37,11 @@ impl Model for OpenTable {
 }
 
 impl OpenTable {
-    ghost use Rattle.std.specs.Prelude.{◌≡◌, ◌≤◌, ◌+◌, ◌==◌, [], None, OnOk, IfSome, IsSome};
+    ghost use Rattle.std.specs.Prelude.{◌≡◌, ◌≤◌, ◌+◌, ◌==◌, [], None, OnOk, IfSome, IsOk, IsSome};
     ghost use Rattle.std.specs.Map.{remove_entry};
     ghost use Rattle.std.specs.BTreeMap.{insert_entry};
     ghost use Rattle.std.specs.Ordering.{nat_cmp};
-    ghost use Rattle.open_table.specs.Table.{record_at, key_of, allows_open, has_open};
+    ghost use Rattle.open_table.specs.Table.{record_at, key_of, IsLeastKey, allows_open, has_open};
 
     /// A table without handles. It takes no memory.
     pub fn new(alloc: Global) -> OpenTable
@@ -52,9 +52,11 @@ impl OpenTable {
         }
     }
 
-    /// Makes room for one more handle. The records stay as they are, also where there is no memory.
+    /// Makes room for one more handle, which takes memory only where there is none. The records stay as they are,
+    /// also where there is no memory.
     pub fn reserve(&mut self) -> Result<(), NoMemory>
         ensures room { OnOk result (1 ≤ self.new.spare) }
+        ensures succeeds { 1 ≤ self.old.spare → IsOk result }
         ensures records { self.new.records ≡ self.old.records }
         ensures spare { self.old.spare ≤ self.new.spare }
     {
@@ -80,6 +82,7 @@ impl OpenTable {
     pub fn find(&self, session: u32, handle: u32) -> Option<usize>
         ensures found { result ≡ key_of self.now session handle }
         ensures held { IfSome result (λ key. IsSome (record_at self.now key)) }
+        ensures least { IfSome result (λ key. IsLeastKey self.now session handle key) }
     {
         for (key, record) in self.records.iter() {
             if record.session == session && record.handle == handle {
