@@ -45,7 +45,7 @@ impl Enumerators {
     }
 
     /// Gives an enumerator that is not started, and tells its number: TEE_AllocatePersistentObjectEnumerator.
-    /// `TooMany` comes exactly where 64 are live or all 4,294,967,295 numbers were given.
+    /// `TooMany` comes exactly where 64 are live or all 4,294,967,295 numbers were given. After `NoMemory` all is as it was.
     pub fn add(&mut self) -> Result<u32, EnumFault>
         ensures number { IfOk result (λ number. number ≡ self.old.next) }
         ensures ok { OnOk result (self.new ≡ allocated self.old) }
