@@ -1,0 +1,11 @@
+use Rattle.std.proofs.Common.{◌==◌, ◌∙◌, IsSome, ap, subst, sym}
+use Rattle.std.proofs.lemmas.Bool.{false≢true}
+use Rattle.std.specs.Map.{lookup}
+use Rattle.enumerators.proofs.enumerators.Enumerators.place.Goals as goal
+
+pub returns-in-None-clause-live : goal.returns-in-None-clause-live
+returns-in-None-clause-live c =
+    let find = lookup (λ n. n == c.args.number) in (
+      λ wrong. absurd (false≢true wrong),
+      λ live. absurd (false≢true (subst IsSome (ap (λ table. find table.live) (sym c.self.view_is) ∙ ap find (sym c.as_slice.ensures.value) ∙ c.in-None.ensures.none) live)),
+    )

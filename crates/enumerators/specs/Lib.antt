@@ -1,0 +1,3 @@
+pub mod Enumeration
+pub mod Places
+pub mod Runs

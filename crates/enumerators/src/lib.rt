@@ -1,0 +1,13 @@
+//! The enumerators of a session, by number
+//! (TEE Internal Core API, Trusted Storage: persistent object enumeration functions).
+#![tactic(auto)]
+
+mod cursor;
+mod enumerators;
+mod laws;
+#[cfg(test)]
+mod tests;
+
+pub use cursor::{Cursor, EnumFault};
+pub use enumerators::Enumerators;
+pub use laws::{freed_numbers_stay_freed, numbers_count_up};
