@@ -2,7 +2,7 @@
 
 ghost use Rattle.std.specs.Prelude.{◌≡◌, ◌+◌, ◌<◌, ◌≤◌, ◌^◌, [], ◌∷◌, ◌++◌, length, slice_index, slice_set, IfOk, OnOk};
 ghost use Rattle.store_model.specs.Machine.{reply_of, state_after};
-ghost use Rattle.store_model.specs.Legal.{is_handle, is_commit, mark_of, counter_after};
+ghost use Rattle.store_model.specs.Legal.{is_commit, mark_of, counter_after};
 ghost use Rattle.tee_run.specs.Serving.{event_of, HasServed};
 ghost use Rattle.tee_run.specs.Trace.{applications_of};
 

@@ -1,6 +1,6 @@
 //! Writing text to a sink.
 
-ghost use Rattle.std.specs.Prelude.{◌≡◌, ◌≤◌, ◌⊎◌, ℕ, [], take, length, OnOk, OnErr, IfErr};
+ghost use Rattle.std.specs.Prelude.{◌≡◌, ◌≤◌, ◌⊎◌, ℕ, [], take, OnOk, OnErr, IfErr};
 ghost use Rattle.tee_ports.specs.Faults.{Rose};
 ghost use Rattle.tee_ports.specs.Streams.{Appends};
 ghost use Rattle.tee_run.specs.Sending.{Sends, Stops, IsWriteError};
