@@ -18,12 +18,12 @@ mod tests;
 fn main(rt: HostRuntime) -> anyhow::Result<()> {
     let mut number = 0u64;
     for line in rt.lines(rt.alloc()) {
-        let line = line?;
         number = number.saturating_add(1);
+        let line = line.context(format_args!("line {number}"))?;
         if line.is_empty() || line.starts_with("#") {
             continue;
         }
-        let question = parse(rt.alloc(), &line).with_context(|| "line {number}")?;
+        let question = parse(rt.alloc(), &line).context(format_args!("line {number}"))?;
         let answer = answers::answer(rt.alloc(), question)?;
         println!(rt; "{answer}")?;
     }
