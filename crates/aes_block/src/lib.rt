@@ -21,4 +21,6 @@ pub use key_wrap::{unwrap_key, wrap};
 pub use laws::deciphering_undoes_enciphering;
 
 #[cfg(test)]
+mod published_rounds;
+#[cfg(test)]
 mod tests;
