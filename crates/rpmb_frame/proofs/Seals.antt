@@ -2,7 +2,6 @@
 use Rattle.std.proofs.Common.{◌≡◌, ℕ, ◌≤◌, List, ◌++◌, length, take, drop, refl, sym, ap, ◌∙◌}
 use Rattle.std.proofs.lemmas.List.{drop_at, length-take-le}
 use Rattle.hmac_keys.specs.Hmac.{hmac}
-use Rattle.rpmb_frame.specs.Layout.{field}
 use Rattle.rpmb_frame.specs.Authentication.{IsAuthentic, mac_of, sealed}
 use Rattle.rpmb_frame.proofs.Fields.{field_here, rest_after}
 

@@ -1,4 +1,4 @@
-use Rattle.std.proofs.Common.{◌≡◌, ℕ, ◌+◌, List, ◌++◌, length, take, drop, sym, ap, ◌∙◌, arith}
+use Rattle.std.proofs.Common.{◌≡◌, ◌+◌, ◌++◌, length, take, drop, sym, ap, ◌∙◌, arith}
 use Rattle.rpmb_frame.specs.Authentication.{carried_mac, mac_of, sealed}
 use Rattle.rpmb_frame.proofs.Seals.{IsAuthentic-sealed}
 use Rattle.rpmb_frame.proofs.seal_frame.Goals as goal

@@ -1,4 +1,4 @@
-use Rattle.std.proofs.Common.{◌≡◌, ap, ◌∙◌}
+use Rattle.std.proofs.Common.{ap, ◌∙◌}
 use Rattle.std.specs.Int.{w16, w32, from_be_bytes}
 use Rattle.rpmb_frame.specs.Layout.{frame_bytes, frame_of}
 use Rattle.rpmb_frame.proofs.RoundTrips.{frame_bytes-frame_of}
