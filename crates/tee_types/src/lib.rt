@@ -13,7 +13,7 @@ mod tests;
 
 pub use app_id::AppId;
 pub use bytes::Bytes;
-pub use call::Call;
+pub use call::{Call, Whence};
 pub use flags::{Flags, OVERWRITE, READ, SHARE_READ, SHARE_WRITE, WRITE, WRITE_META};
 pub use object_id::{BadId, ObjectId};
 pub use reply::{Cause, Code, Device, FrameFault, Reason, Reply};

@@ -1,6 +1,6 @@
 use crate::{
     AppId, Bytes, Call, Cause, Code, Device, Flags, OVERWRITE, ObjectId, READ, Reason, Reply,
-    SHARE_READ, SHARE_WRITE, WRITE, WRITE_META,
+    SHARE_READ, SHARE_WRITE, WRITE, WRITE_META, Whence,
 };
 use std::cmp::Ordering;
 use std::test::Fail;
@@ -121,6 +121,24 @@ fn copies_of_calls_and_replies_print_alike(rt: HostRuntime) -> Result<(), Fail> 
         Call::Open { id, flags },
         Call::Close { handle: 7 },
         Call::Read { handle: 7, size: 9 },
+        Call::Write {
+            handle: 7,
+            bytes: Bytes::from_slice(rt.alloc(), b"bc")?,
+        },
+        Call::Truncate { handle: 7, size: 9 },
+        Call::Seek {
+            handle: 7,
+            offset: -3,
+            whence: Whence::End,
+        },
+        Call::Rename { handle: 7, id },
+        Call::Delete { handle: 7 },
+        Call::Info { handle: 7 },
+        Call::EnumNew,
+        Call::EnumStart { number: 4 },
+        Call::EnumNext { number: 4 },
+        Call::EnumReset { number: 4 },
+        Call::EnumFree { number: 4 },
     ];
     for call in &calls {
         let copy = call.copy(rt.alloc())?;
