@@ -1,6 +1,10 @@
-pub mod Entries
-pub mod SoundReads
+pub mod SoundObjects
 pub mod Room
-pub mod Sessions
+pub mod Maps
+pub mod Changes
+pub mod Writes
+pub mod Enumerations
+pub mod Phases
 pub mod Refusals
+pub mod Sessions
 pub mod Rows

@@ -1,20 +1,28 @@
 -- Short runs of one application, computed from the machine's definition.
-use Rattle.std.proofs.Common.{◌≡◌, ℕ, List, [], ◌∷◌, replicate, refl, lit<}
+use Rattle.std.proofs.Common.{◌≡◌, ◌<◌, ℕ, List, [], ◌∷◌, ◌++◌, replicate, refl, lit<, inl, pos, negsuc}
 use Rattle.tee_types.specs.declared.flags.Flags.{Flags}
 use Rattle.tee_types.specs.declared.call.Call.{Call}
-use Rattle.tee_types.specs.declared.call.Call.TheVariants.{Create, Open, Close, Read}
+use Rattle.tee_types.specs.declared.call.Call.TheVariants.{Create, Open, Close, Read, Write, Truncate, Seek, Rename, Delete, Info, EnumNew, EnumStart, EnumNext, EnumReset, EnumFree}
+use Rattle.tee_types.specs.declared.call.Whence.TheVariants.{Set, Cur, End}
 use Rattle.tee_types.specs.declared.reply.Reply.{Reply}
-use Rattle.tee_types.specs.declared.reply.Reply.TheVariants.{Done, Handle as HandleReply, Content, Refused, Misuse, Corrupt}
-use Rattle.tee_types.specs.declared.reply.Code.TheVariants.{AccessConflict, BadParameters, ItemNotFound}
-use Rattle.tee_types.specs.declared.reply.Reason.TheVariants.{BadHandle, BadFlags, NoRight, TooMany}
+use Rattle.tee_types.specs.declared.reply.Reply.TheVariants.{Done, Handle as HandleReply, Content, Info as InfoReply, Found, Refused, Misuse, Corrupt}
+use Rattle.tee_types.specs.declared.reply.Code.TheVariants.{AccessConflict, BadParameters, ItemNotFound, Overflow, NoSpace}
+use Rattle.tee_types.specs.declared.reply.Reason.TheVariants.{BadHandle, BadEnumerator, BadFlags, NoRight, TooMany}
+use Rattle.enumerators.specs.Enumeration.{no_enumerators}
 use Rattle.store_model.specs.declared.session.Handle.{Handle}
 use Rattle.store_model.specs.declared.event.Event.{Event}
 use Rattle.store_model.specs.declared.event.Event.TheVariants.{Call as CallEvent}
 use Rattle.store_model.specs.declared.event.Mark.TheVariants.{Unchanged, Made}
+use Rattle.store_model.specs.Record.{untagged}
 use Rattle.store_model.specs.Legal.{IsLegalFrom, opening}
 use Rattle.store_model.specs.Commits.{commits_of, map_after}
 use Rattle.store_model.specs.Object.{Sound, Damaged}
-use Rattle.store_model.specs.Machine.{MachineState, opened_store, reply_of, state_after, create_of, open_of, close_of, read_of}
+use Rattle.store_model.specs.Machine.{MachineState, opened_store}
+use Rattle.store_model.specs.Handles.{create_of, open_of, close_of}
+use Rattle.store_model.specs.Data.{read_of, write_of, truncate_of, seek_of, info_of}
+use Rattle.store_model.specs.Naming.{rename_of, delete_of}
+use Rattle.store_model.specs.Enumerating.{enum_new_of, enum_start_of, enum_next_of, enum_reset_of, enum_free_of}
+use Rattle.store_model.specs.Calls.{reply_of, state_after}
 
 -- the replies to these calls of the one session, in order
 abbrev replies : MachineState → List Call → List Reply
@@ -56,15 +64,15 @@ first_events =
     ∷ CallEvent 0 3 (Open key r) (HandleReply 1) Unchanged
     ∷ []
 
-first_object_is_legal : IsLegalFrom (opening [] (app ∷ []) 0) first_events
+first_object_is_legal : IsLegalFrom [] (opening [] (app ∷ []) 0) (untagged first_events)
 unfolding create_of open_of close_of read_of
 first_object_is_legal = (
-  record { replied = refl; marked = refl; counted = lit< tt },
+  inl (record { replied = refl; marked = refl; counted = lit< tt }),
   (
-    record { replied = refl; marked = refl; counted = lit< tt },
+    inl (record { replied = refl; marked = refl; counted = lit< tt }),
     (
-      record { replied = refl; marked = refl; counted = lit< tt },
-      (record { replied = refl; marked = refl; counted = lit< tt }, tt),
+      inl (record { replied = refl; marked = refl; counted = lit< tt }),
+      (inl (record { replied = refl; marked = refl; counted = lit< tt }), tt),
     ),
   ),
 )
@@ -107,7 +115,7 @@ handle = record { name = record { app = app; id = key }; flags = r-shared; posit
 abbrev with_handles : ℕ → ℕ → MachineState
 with_handles n next = record {
   objects = [];
-  sessions = record { application = app; handles = replicate n (7, handle); next_handle = next } ∷ [];
+  sessions = record { application = app; handles = replicate n (7, handle); next_handle = next; enumerators = no_enumerators } ∷ [];
 }
 
 live_handles : reply_of (with_handles 1024 1024) 0 (Create key r [] []) ≡ Misuse TooMany
@@ -135,9 +143,60 @@ damaged = record {
     application = app;
     handles = (0, record { name = record { app = app; id = key }; flags = r-shared; position = 4095 }) ∷ (1, record { name = record { app = app; id = key }; flags = r-shared; position = 4096 }) ∷ [];
     next_handle = 2;
+    enumerators = no_enumerators;
   } ∷ [];
 }
 
 bad_blocks : replies damaged (Read 0 1 ∷ Read 1 9 ∷ Open (0x6c ∷ []) r ∷ Open key r-shared ∷ []) ≡ Corrupt ∷ Content (0 ∷ 0 ∷ []) ∷ Corrupt ∷ HandleReply 2 ∷ []
 unfolding open_of read_of
 bad_blocks = refl
+
+abbrev rw : Flags
+rw = flags 0x3
+
+-- zero bytes between the old end and the position
+zero_fill : replies empty_store (Create key rw [] [] ∷ Seek 0 (pos 5) Set ∷ Write 0 (0xff ∷ []) ∷ Info 0 ∷ Seek 0 (pos 3) Set ∷ Read 0 8 ∷ []) ≡ HandleReply 0 ∷ Done ∷ Done ∷ InfoReply 6 6 rw [] ∷ Done ∷ Content (0 ∷ 0 ∷ 0xff ∷ []) ∷ []
+unfolding create_of seek_of write_of info_of read_of
+zero_fill = refl
+
+overflow_and_no_space : replies empty_store (Create key rw [] [] ∷ Seek 0 (pos 4294967295) Set ∷ Write 0 (0 ∷ []) ∷ Info 0 ∷ Seek 0 (pos 1) Cur ∷ Write 0 [] ∷ Seek 0 (pos 4294967294) Set ∷ Write 0 (0 ∷ []) ∷ []) ≡ HandleReply 0 ∷ Done ∷ Refused Overflow ∷ InfoReply 0 4294967295 rw [] ∷ Refused Overflow ∷ Done ∷ Done ∷ Refused NoSpace ∷ []
+unfolding create_of seek_of write_of info_of
+overflow_and_no_space = refl
+
+seek_clamps_at_zero : replies empty_store (Create key r [] (1 ∷ 2 ∷ 3 ∷ 4 ∷ 5 ∷ []) ∷ Seek 0 (pos 3) Set ∷ Seek 0 (negsuc 8) Cur ∷ Info 0 ∷ Seek 0 (negsuc 1) End ∷ Read 0 9 ∷ []) ≡ HandleReply 0 ∷ Done ∷ Done ∷ InfoReply 5 0 r [] ∷ Done ∷ Content (4 ∷ 5 ∷ []) ∷ []
+unfolding create_of seek_of info_of read_of
+seek_clamps_at_zero = refl
+
+shrink_and_grow : replies empty_store (Create key rw [] (1 ∷ 2 ∷ 3 ∷ 4 ∷ 5 ∷ []) ∷ Truncate 0 2 ∷ Truncate 0 4 ∷ Truncate 0 1044481 ∷ Read 0 9 ∷ []) ≡ HandleReply 0 ∷ Done ∷ Done ∷ Refused NoSpace ∷ Content (1 ∷ 2 ∷ 0 ∷ 0 ∷ []) ∷ []
+unfolding create_of truncate_of read_of
+shrink_and_grow = refl
+
+rename_and_delete : replies empty_store (Create key (flags 0x4) [] [] ∷ Rename 0 key ∷ Rename 0 (0x6c ∷ []) ∷ Close 0 ∷ Open (0x6c ∷ []) r ∷ Rename 1 (0x6d ∷ []) ∷ Delete 1 ∷ Open key r ∷ Close 1 ∷ Open (0x6c ∷ []) (flags 0x4) ∷ Delete 2 ∷ Close 2 ∷ []) ≡ HandleReply 0 ∷ Refused AccessConflict ∷ Done ∷ Done ∷ HandleReply 1 ∷ Misuse NoRight ∷ Misuse NoRight ∷ Refused ItemNotFound ∷ Done ∷ HandleReply 2 ∷ Done ∷ Misuse BadHandle ∷ []
+unfolding create_of open_of close_of rename_of delete_of
+rename_and_delete = refl
+
+-- an enumerator follows the store, and gives each identifier above the last one
+enumerator_follows_the_store : replies empty_store (EnumNew ∷ EnumStart 0 ∷ Create (0x6d ∷ []) r [] [] ∷ EnumNext 0 ∷ EnumStart 0 ∷ EnumNext 0 ∷ Create (0x61 ∷ []) r [] (1 ∷ []) ∷ EnumNext 0 ∷ Create (0x7a ∷ []) r [] (1 ∷ 2 ∷ []) ∷ EnumNext 0 ∷ EnumReset 0 ∷ EnumNext 0 ∷ EnumFree 0 ∷ EnumNext 0 ∷ []) ≡ HandleReply 0 ∷ Refused ItemNotFound ∷ HandleReply 0 ∷ Refused ItemNotFound ∷ Done ∷ Found (0x6d ∷ []) 0 ∷ HandleReply 1 ∷ Refused ItemNotFound ∷ HandleReply 2 ∷ Found (0x7a ∷ []) 2 ∷ Done ∷ Refused ItemNotFound ∷ Done ∷ Misuse BadEnumerator ∷ []
+unfolding create_of enum_new_of enum_start_of enum_next_of enum_reset_of enum_free_of
+enumerator_follows_the_store = refl
+
+-- of the two data blocks of an object the first is bad; handle 0 writes at position 0
+abbrev first_bad : MachineState
+first_bad = record {
+  objects = (record { app = app; id = key }, Sound (record { attributes = []; bytes = replicate 8192 0; bad = 1 ∷ [] })) ∷ [];
+  sessions = record {
+    application = app;
+    handles = (0, record { name = record { app = app; id = key }; flags = rw; position = 0 }) ∷ [];
+    next_handle = 1;
+    enumerators = no_enumerators;
+  } ∷ [];
+}
+
+-- a bad block is mended where it is overwritten whole, and goes where it is cut away; a change of a part of it is refused
+bad_block_overwritten : replies first_bad (Read 0 1 ∷ Write 0 (replicate 4095 7) ∷ Write 0 (replicate 4096 7) ∷ Seek 0 (pos 4095) Set ∷ Read 0 2 ∷ []) ≡ Corrupt ∷ Corrupt ∷ Done ∷ Done ∷ Content (7 ∷ 0 ∷ []) ∷ []
+unfolding read_of write_of seek_of
+bad_block_overwritten = refl
+
+bad_block_cut : replies first_bad (Truncate 0 4095 ∷ Truncate 0 4096 ∷ Truncate 0 4097 ∷ Read 0 1 ∷ Truncate 0 0 ∷ Truncate 0 1 ∷ Read 0 2 ∷ []) ≡ Corrupt ∷ Done ∷ Done ∷ Corrupt ∷ Done ∷ Done ∷ Content (0 ∷ []) ∷ []
+unfolding read_of truncate_of
+bad_block_cut = refl

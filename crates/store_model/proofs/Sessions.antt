@@ -1,86 +1,91 @@
 -- No call makes a session or ends one.
-use Rattle.std.proofs.Common.{◌≡◌, ◌==◌, ◌+◌, ℕ, Bool, List, [], ◌∷◌, length, true, false, not, cond, is_some, Option, Some, None, refl}
+use Rattle.std.proofs.Common.{◌≡◌, ◌==◌, ℕ, Bool, List, [], ◌∷◌, length, true, false, cond, not, ◌+◌, ℤ, pos, ◌+ℤ◌, int_lt, Option, Some, None, refl, ◌∙◌}
 use Rattle.std.specs.List.{list_any}
-use Rattle.std.specs.Map.{set_value, remove_entry}
 use Rattle.std.proofs.lemmas.List.{length-set}
 use Rattle.tee_types.specs.declared.call.Call.{Call}
-use Rattle.tee_types.specs.declared.call.Call.TheVariants.{Create, Open, Close, Read}
-use Rattle.tee_types.specs.declared.flags.Flags.{Flags}
-use Rattle.tee_types.specs.declared.flags.TheConstants.{READ}
+use Rattle.tee_types.specs.declared.call.Call.TheVariants.{Create, Open, Close, Read, Write, Truncate, Seek, Rename, Delete, Info, EnumNew, EnumStart, EnumNext, EnumReset, EnumFree}
+use Rattle.tee_types.specs.declared.flags.TheConstants.{READ, WRITE, WRITE_META}
 use Rattle.tee_types.specs.declared.reply.Reply.{Reply}
-use Rattle.tee_types.specs.declared.reply.Reply.TheVariants.{Done, Content, Misuse, Corrupt}
-use Rattle.tee_types.specs.declared.reply.Reason.TheVariants.{BadHandle, NoRight}
-use Rattle.tee_types.specs.Rights.{has, without_overwrite}
-use Rattle.store_model.specs.declared.name.ObjectName.{ObjectName}
+use Rattle.tee_types.specs.declared.reply.Reply.TheVariants.{Misuse, Corrupt, Refused}
+use Rattle.tee_types.specs.declared.reply.Code.TheVariants.{ItemNotFound, Overflow, AccessConflict}
+use Rattle.tee_types.specs.declared.reply.Reason.TheVariants.{NoRight, TooMany}
+use Rattle.tee_types.specs.Rights.{has}
+use Rattle.enumerators.specs.declared.cursor.Cursor.{Cursor}
+use Rattle.enumerators.specs.Enumeration.{cursor_at, has_all, reset}
 use Rattle.store_model.specs.declared.session.Handle.{Handle}
-use Rattle.store_model.specs.Object.{Object, Contents, Sound, Damaged, object_at, with_object}
-use Rattle.store_model.specs.Machine.{MachineState, Outcome, Session, create_of, open_of, close_of, read_of, state_after, unless_refused, first_refusal, with_session, read_by, read_object, read_from, refuse, handle_at, session_at, name_in, open_handle, create_refusals, open_refusals, meets_block, bytes_at}
+use Rattle.store_model.specs.Object.{Object, Contents, Sound, Damaged, object_at, size_at, holds}
+use Rattle.store_model.specs.Machine.{MachineState, Outcome, Session, session_at, with_session, name_in, handle_at, unless_refused, first_refusal, refuse, by_handle, by_right, of_sound}
+use Rattle.store_model.specs.Handles.{create_of, open_of, close_of, create_refusals, open_refusals}
+use Rattle.store_model.specs.Data.{read_of, meets_block, bytes_at, write_of, write_refusals, truncate_of, truncate_refusals, seek_of, seek_base, info_of}
+use Rattle.store_model.specs.Naming.{rename_of, delete_of}
+use Rattle.store_model.specs.Enumerating.{enum_new_of, enum_start_of, enum_next_of, enum_reset_of, enum_free_of, by_cursor, enum_gives, is_of, with_enumerators}
+use Rattle.store_model.specs.Calls.{state_after, outcome_of}
 
 -- the outcome has as many sessions as the state
-abbrev KeepsSessions : MachineState → Outcome → Type 0
-KeepsSessions s outcome = length (outcome.next).sessions ≡ length s.sessions
+abbrev Keeps : MachineState → Outcome → Type 0
+Keeps s outcome = length (outcome.next).sessions ≡ length s.sessions
 
-KeepsSessions-unless_refused : (rows : List (Bool × Reply)) (s : MachineState) (done : Outcome) → KeepsSessions s done → KeepsSessions s (unless_refused rows s done)
-KeepsSessions-unless_refused rows s done h = elim (first_refusal rows) as (λ first. KeepsSessions s (elim first [ Some reply ↦ record { reply = reply; next = s } | None ↦ done ])) [
-  | Some reply ↦ refl
+Keeps-session : (s t : MachineState) (i : ℕ) (session : Session) → length t.sessions ≡ length s.sessions → length (with_session t i session).sessions ≡ length s.sessions
+Keeps-session s t i session h = length-set t.sessions i session ∙ h
+
+Keeps-unless_refused : (rows : List (Bool × Reply)) (s t : MachineState) (done : Outcome) → length t.sessions ≡ length s.sessions → Keeps s done → Keeps s (unless_refused rows t done)
+Keeps-unless_refused rows s t done kept h = elim (first_refusal rows) as (λ first. Keeps s (elim first [ Some reply ↦ refuse t reply | None ↦ done ])) [
+  | Some reply ↦ kept
   | None ↦ h
 ]
 
-length-with_session : (s : MachineState) (i : ℕ) (session : Session) → length (with_session s i session).sessions ≡ length s.sessions
-length-with_session s i session = length-set s.sessions i session
+Keeps-cond : (b : Bool) (s : MachineState) (one other : Outcome) → Keeps s one → Keeps s other → Keeps s (cond b one other)
+Keeps-cond true s one other p q = p
+Keeps-cond false s one other p q = q
 
-KeepsSessions-read_from : (s : MachineState) (i number : ℕ) (handle : Handle) (size : ℕ) (contents : Contents) → KeepsSessions s (read_from s i number handle size contents)
-KeepsSessions-read_from s i number handle size contents =
-    let last = handle.position + length (bytes_at contents.bytes handle.position size) in
-    let session = session_at s i in
-    let read : Session = record session { handles = set_value (λ n. n == number) session.handles (record handle { position = last }) } in
-    KeepsSessions-unless_refused ((list_any (meets_block handle.position last) contents.bad, Corrupt) ∷ []) s
-    (record { reply = Content (bytes_at contents.bytes handle.position size); next = with_session s i read })
-    (length-with_session s i read)
+Keeps-by_handle : (s : MachineState) (handle : Option Handle) (done : Handle → Outcome) → ((handle : Handle) → Keeps s (done handle)) → Keeps s (by_handle s handle done)
+Keeps-by_handle s None done h = refl
+Keeps-by_handle s (Some handle) done h = h handle
 
-KeepsSessions-read_object : (s : MachineState) (i number : ℕ) (handle : Handle) (size : ℕ) (object : Option Object) → KeepsSessions s (read_object s i number handle size object)
-KeepsSessions-read_object s i number handle size None = refl
-KeepsSessions-read_object s i number handle size (Some (Damaged n)) = refl
-KeepsSessions-read_object s i number handle size (Some (Sound contents)) = KeepsSessions-read_from s i number handle size contents
+Keeps-by_right : (s : MachineState) (right : ℕ) (handle : Option Handle) (done : Handle → Outcome) → ((handle : Handle) → Keeps s (done handle)) → Keeps s (by_right s right handle done)
+Keeps-by_right s right None done h = refl
+Keeps-by_right s right (Some handle) done h = Keeps-cond (has handle.flags right) s (done handle) (refuse s (Misuse NoRight)) (h handle) refl
 
-KeepsSessions-read_by : (s : MachineState) (i number size : ℕ) (handle : Option Handle) → KeepsSessions s (read_by s i number size handle)
-KeepsSessions-read_by s i number size None = refl
-KeepsSessions-read_by s i number size (Some handle) =
-    let object = object_at s.objects handle.name in
-    elim (has handle.flags READ) as (λ right. KeepsSessions s (cond right (read_object s i number handle size object) (refuse s (Misuse NoRight)))) [
-      | true ↦ KeepsSessions-read_object s i number handle size object
-      | false ↦ refl
-    ]
+Keeps-of_sound : (s : MachineState) (object : Option Object) (done : Contents → Outcome) → ((contents : Contents) → Keeps s (done contents)) → Keeps s (of_sound s object done)
+Keeps-of_sound s None done h = refl
+Keeps-of_sound s (Some (Damaged n)) done h = refl
+Keeps-of_sound s (Some (Sound contents)) done h = h contents
 
-KeepsSessions-open_handle : (s : MachineState) (i : ℕ) (name : ObjectName) (flags : Flags) → KeepsSessions s (open_handle s i name flags)
-KeepsSessions-open_handle s i name flags = length-with_session s i _
+Keeps-by_cursor : (s : MachineState) (cursor : Option Cursor) (done : Cursor → Outcome) → ((cursor : Cursor) → Keeps s (done cursor)) → Keeps s (by_cursor s cursor done)
+Keeps-by_cursor s None done h = refl
+Keeps-by_cursor s (Some cursor) done h = h cursor
 
-KeepsSessions-create_of : (s : MachineState) (i : ℕ) (id : List ℕ) (flags : Flags) (attributes bytes : List ℕ) → KeepsSessions s (create_of s i id flags attributes bytes)
-unfolding create_of
-KeepsSessions-create_of s i id flags attributes bytes =
-    let name = name_in s i id in
-    let object = Sound (record { attributes = attributes; bytes = bytes; bad = [] }) in
-    let made : MachineState = record s { objects = with_object s.objects name object } in
-    KeepsSessions-unless_refused (create_refusals s i name flags attributes bytes) s (open_handle made i name (without_overwrite flags))
-    (KeepsSessions-open_handle made i name (without_overwrite flags))
-
-KeepsSessions-open_of : (s : MachineState) (i : ℕ) (id : List ℕ) (flags : Flags) → KeepsSessions s (open_of s i id flags)
-unfolding open_of
-KeepsSessions-open_of s i id flags =
-    let name = name_in s i id in
-    KeepsSessions-unless_refused (open_refusals s i name flags) s (open_handle s i name flags) (KeepsSessions-open_handle s i name flags)
-
-KeepsSessions-close_of : (s : MachineState) (i number : ℕ) → KeepsSessions s (close_of s i number)
-unfolding close_of
-KeepsSessions-close_of s i number =
-    let session = session_at s i in
-    let closed : Session = record session { handles = remove_entry (λ n. n == number) session.handles } in
-    KeepsSessions-unless_refused ((not (is_some (handle_at session number)), Misuse BadHandle) ∷ []) s
-    (record { reply = Done; next = with_session s i closed }) (length-with_session s i closed)
+Keeps-enum_gives : (s : MachineState) (i number : ℕ) (next : Option (List ℕ × ℕ)) → Keeps s (enum_gives s i number next)
+Keeps-enum_gives s i number None = refl
+Keeps-enum_gives s i number (Some (id, size)) = length-set s.sessions i _
 
 pub length-sessions : (s : MachineState) (i : ℕ) (call : Call) → length (state_after s i call).sessions ≡ length s.sessions
-unfolding read_of
-length-sessions s i (Create id flags attributes bytes) = KeepsSessions-create_of s i id flags attributes bytes
-length-sessions s i (Open id flags) = KeepsSessions-open_of s i id flags
-length-sessions s i (Close number) = KeepsSessions-close_of s i number
-length-sessions s i (Read number size) = KeepsSessions-read_by s i number size (handle_at (session_at s i) number)
+unfolding create_of open_of close_of read_of write_of truncate_of seek_of info_of rename_of delete_of enum_new_of enum_start_of enum_next_of enum_reset_of enum_free_of
+length-sessions s i (Create id flags attributes bytes) =
+    Keeps-unless_refused (create_refusals s i (name_in s i id) flags attributes bytes) s s _ refl (length-set s.sessions i _)
+length-sessions s i (Open id flags) = Keeps-unless_refused (open_refusals s i (name_in s i id) flags) s s _ refl (length-set s.sessions i _)
+length-sessions s i (Close number) = Keeps-by_handle s (handle_at (session_at s i) number) _ (λ handle. length-set s.sessions i _)
+length-sessions s i (Read number size) =
+    Keeps-by_right s READ (handle_at (session_at s i) number) _
+    (λ handle. Keeps-of_sound s (object_at s.objects handle.name) _ (λ c. Keeps-unless_refused ((list_any (meets_block handle.position (handle.position + length (bytes_at c.bytes handle.position size))) c.bad, Corrupt) ∷ []) s s _ refl (length-set s.sessions i _)))
+length-sessions s i (Write number bytes) =
+    Keeps-by_right s WRITE (handle_at (session_at s i) number) _
+    (λ handle. Keeps-cond (length bytes == 0) s _ _ refl
+    (Keeps-of_sound s (object_at s.objects handle.name) _ (λ c. Keeps-unless_refused (write_refusals c handle.position (length bytes)) s s _ refl (length-set s.sessions i _))))
+length-sessions s i (Truncate number size) =
+    Keeps-by_right s WRITE (handle_at (session_at s i) number) _
+    (λ handle. Keeps-of_sound s (object_at s.objects handle.name) _ (λ c. Keeps-unless_refused (truncate_refusals c size) s s _ refl refl))
+length-sessions s i (Seek number offset whence) =
+    Keeps-by_handle s (handle_at (session_at s i) number) _ (λ handle. Keeps-unless_refused ((int_lt (pos 4294967295) (pos (seek_base whence handle.position (size_at s.objects handle.name)) +ℤ offset), Refused Overflow) ∷ []) s s _ refl (length-set s.sessions i _))
+length-sessions s i (Rename number id) =
+    Keeps-by_right s WRITE_META (handle_at (session_at s i) number) _ (λ handle. Keeps-unless_refused ((holds s.objects (name_in s i id), Refused AccessConflict) ∷ []) s s _ refl (length-set s.sessions i _))
+length-sessions s i (Delete number) = Keeps-by_right s WRITE_META (handle_at (session_at s i) number) _ (λ handle. length-set s.sessions i _)
+length-sessions s i (Info number) =
+    Keeps-by_handle s (handle_at (session_at s i) number) _ (λ handle. Keeps-of_sound s (object_at s.objects handle.name) _ (λ c. refl))
+length-sessions s i EnumNew = Keeps-unless_refused ((has_all (session_at s i).enumerators, Misuse TooMany) ∷ []) s s _ refl (length-set s.sessions i _)
+length-sessions s i (EnumStart number) =
+    Keeps-by_cursor s (cursor_at (session_at s i).enumerators number) _
+    (λ cursor. Keeps-unless_refused ((not (list_any (is_of (session_at s i).application) s.objects), Refused ItemNotFound) ∷ []) s (with_enumerators s i (reset (session_at s i).enumerators number)) _ (length-set s.sessions i _) (length-set s.sessions i _))
+length-sessions s i (EnumNext number) = Keeps-by_cursor s (cursor_at (session_at s i).enumerators number) _ (λ cursor. Keeps-enum_gives s i number _)
+length-sessions s i (EnumReset number) = Keeps-by_cursor s (cursor_at (session_at s i).enumerators number) _ (λ cursor. length-set s.sessions i _)
+length-sessions s i (EnumFree number) = Keeps-by_cursor s (cursor_at (session_at s i).enumerators number) _ (λ cursor. length-set s.sessions i _)

@@ -1,24 +1,37 @@
 -- The commits of a history, and the map that it leaves.
-use Rattle.std.specs.Prelude.{ℕ, Bool, true, false, List, filter}
+use Rattle.std.specs.Prelude.{ℕ, List, [], ◌∷◌, Option, Some, None}
+use Rattle.std.specs.Option.{option_map}
 use Rattle.store_model.specs.declared.event.Event.{Event}
 use Rattle.store_model.specs.declared.event.Event.TheVariants.{Call as CallEvent, Landed}
 use Rattle.store_model.specs.declared.event.Mark.{Mark}
-use Rattle.store_model.specs.declared.event.Mark.TheVariants.{Made}
+use Rattle.store_model.specs.declared.event.Mark.TheVariants.{Unchanged, Made, Doubtful}
 use Rattle.store_model.specs.Object.{ObjectMap}
-use Rattle.store_model.specs.Legal.{opening, replay}
+use Rattle.store_model.specs.Legal.{Standing, opening, replay}
+use Rattle.store_model.specs.Doubt.{landed}
 
-abbrev pub is_made : Mark → Bool
-is_made (Made commit) = true
-is_made _ = false
-
-abbrev pub is_commit_event : Event → Bool
-is_commit_event (CallEvent session number call reply mark) = is_made mark
-is_commit_event (Landed commit) = false
+-- the events whose commits stand, in order, behind the doubtful one that is not settled yet: those that were made, and those in
+-- doubt that a landing settled. A later commit settles a doubt too: that one did not land.
+abbrev pub commits_from : Option Event → List Event → List Event
+commits_from doubted [] = []
+commits_from doubted (CallEvent session number call reply (Made commit) ∷ events) =
+    CallEvent session number call reply (Made commit) ∷ commits_from None events
+commits_from doubted (CallEvent session number call reply (Doubtful commit) ∷ events) =
+    commits_from (Some (CallEvent session number call reply (Doubtful commit))) events
+commits_from doubted (CallEvent session number call reply Unchanged ∷ events) = commits_from doubted events
+commits_from None (Landed commit ∷ events) = commits_from None events
+commits_from (Some event) (Landed commit ∷ events) = event ∷ commits_from None events
 
 -- the events that changed the map of objects, in order
 abbrev pub commits_of : List Event → List Event
-commits_of events = filter is_commit_event events
+commits_of events = commits_from None events
 
 -- the map of objects at the end of the replay
 abbrev pub map_after : ObjectMap → List (List ℕ) → List Event → ObjectMap
 map_after objects applications events = ((replay (opening objects applications 0) events).state).objects
+
+-- where the replay stands with the doubt, that map with the doubted call landed; none where there is no doubt
+abbrev pub with_doubt : Standing → Option ObjectMap
+with_doubt s = option_map (λ doubt. (landed s.state doubt).objects) s.doubt
+
+abbrev pub map_with_doubt : ObjectMap → List (List ℕ) → List Event → Option ObjectMap
+map_with_doubt objects applications events = with_doubt (replay (opening objects applications 0) events)

@@ -2,7 +2,8 @@
 
 ghost use Rattle.store_model.specs.Refusal.{RefusalsChangeNothing, RepliesNameNoDevice};
 
-/// A refused call changes nothing: no object, no handle, no position, and not the number of the next handle.
+/// A refused call changes nothing: no object, handle, position or enumerator, and no number of a next one. A start that finds no object
+/// leaves its enumerator not started.
 #[tactic(auto, using(crate::proofs::Refusals::refusals_change_nothing))]
 pub fn refusals_change_nothing()
     ensures { RefusalsChangeNothing }

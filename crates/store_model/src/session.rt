@@ -1,13 +1,14 @@
-//! The session of an application: its open handles.
+//! The session of an application: its open handles and its enumerators.
 
 ghost use Rattle.std.specs.Prelude.{◌≡◌, ◌==◌, None, IfSome, IfNone};
 ghost use Rattle.std.specs.Map.{lookup};
-ghost use Rattle.store_model.specs.Places.{IsPlaceOf};
+ghost use Rattle.enumerators.specs.Places.{IsPlaceOf};
 
 use crate::name::ObjectName;
+use enumerators::{Cursor, EnumFault, Enumerators};
 use std::alloc::Global;
 use std::marker::Model;
-use tee_types::{AppId, Flags, NoMemory};
+use tee_types::{AppId, Flags, NoMemory, ObjectId};
 
 /// The greatest number of live handles of a session.
 pub const MAX_HANDLES: usize = 1_024;
@@ -29,6 +30,7 @@ pub struct Session {
     app: AppId,
     handles: Vec<(u32, Handle)>,
     next_handle: u32,
+    enumerators: Enumerators,
 }
 
 impl Model for Session {
@@ -38,15 +40,21 @@ impl Model for Session {
 
     ghost Value = { SessionState };
 
-    ghost view = { λ a. record { application = a.app; handles = a.handles.items; next_handle = a.next_handle } };
+    ghost view = { λ a. record {
+      application = a.app;
+      handles = a.handles.items;
+      next_handle = a.next_handle;
+      enumerators = a.enumerators;
+    } };
 
     ghost invariant = { λ a. 1024 ≤ vec_capacity a.handles };
 }
 
 impl Session {
-    ghost use Rattle.std.specs.Prelude.{◌≡◌, ◌==◌, ◌≤◌, ◌+◌, [], ◌∷◌, ◌++◌, false, IfOk, IsSome, is_some};
-    ghost use Rattle.std.specs.Map.{set_value, remove_entry};
-    ghost use Rattle.store_model.specs.Machine.{handle_at, has_all_handles, has_open, allows_open, new_session};
+    ghost use Rattle.std.specs.Prelude.{◌≡◌, ◌==◌, ◌≤◌, ◌+◌, [], ◌∷◌, ◌++◌, false, if◌then◌else◌, IfOk, IfErr, OnOk, OnErr, IsSome, is_some};
+    ghost use Rattle.enumerators.specs.Enumeration.{cursor_at, has_all, allocated, started, reset, freed, advanced, IsLive, IsStarted};
+    ghost use Rattle.store_model.specs.Machine.{handle_at, with_handle, without_handle, has_all_handles, new_session};
+    ghost use Rattle.store_model.specs.Handles.{has_open, allows_open};
 
     /// The session of an application, without handles.
     pub fn new(alloc: Global, app: AppId) -> Result<Session, NoMemory>
@@ -56,6 +64,7 @@ impl Session {
             app,
             handles: Vec::with_capacity(alloc, MAX_HANDLES)?,
             next_handle: 0,
+            enumerators: Enumerators::new(alloc),
         })
     }
 
@@ -111,7 +120,7 @@ impl Session {
     /// Takes the live handle of that number away.
     pub fn close(&mut self, number: u32)
         requires { IsSome (handle_at self.old number) }
-        ensures { self.new ≡ record self.old { handles = remove_entry (λ n. n == number) self.old.handles } }
+        ensures { self.new ≡ without_handle self.old number }
     {
         if let Some(place) = place_of(self.handles.as_slice(), number) {
             let _closed = self.handles.remove(place);
@@ -121,7 +130,7 @@ impl Session {
     /// Puts this handle in the place of the live one of that number.
     pub fn replace(&mut self, number: u32, handle: Handle)
         requires { IsSome (handle_at self.old number) }
-        ensures { self.new ≡ record self.old { handles = set_value (λ n. n == number) self.old.handles handle } }
+        ensures { self.new ≡ with_handle self.old number handle }
     {
         if let Some(place) = place_of(self.handles.as_slice(), number) {
             self.handles[place] = (number, handle);
@@ -140,6 +149,65 @@ impl Session {
         ensures { result ≡ has_open name.now self.now }
     {
         self.handles.iter().any(|h| *name == h.1.name)
+    }
+
+    /// Takes every handle and every enumerator away. The next ones have the numbers from 0 on again.
+    pub fn begin_anew(&mut self, alloc: Global)
+        ensures { self.new ≡ new_session self.old.application }
+    {
+        self.handles.clear();
+        self.next_handle = 0;
+        self.enumerators = Enumerators::new(alloc);
+    }
+
+    /// Gives an enumerator that is not started, and tells its number.
+    pub fn add_enumerator(&mut self) -> Result<u32, EnumFault>
+        ensures number { IfOk result (λ number. number ≡ self.old.enumerators.next) }
+        ensures room { IfOk result (λ _. has_all self.old.enumerators ≡ false) }
+        ensures ok { OnOk result (self.new ≡ record self.old { enumerators = allocated self.old.enumerators }) }
+        ensures fault { IfErr result (λ fault. fault ≡ (if has_all self.old.enumerators then EnumFault.TooMany else EnumFault.NoMemory)) }
+        ensures err { OnErr result (self.new ≡ self.old) }
+    {
+        self.enumerators.add()
+    }
+
+    /// How far the live enumerator of that number has come.
+    pub fn cursor(&self, number: u32) -> Option<Cursor>
+        ensures { result ≡ cursor_at self.now.enumerators number }
+    {
+        self.enumerators.cursor(number).ok()
+    }
+
+    /// Starts the live enumerator of that number anew.
+    pub fn start(&mut self, number: u32)
+        requires { IsLive self.old.enumerators number }
+        ensures { self.new ≡ record self.old { enumerators = started self.old.enumerators number } }
+    {
+        self.enumerators.start(number).unwrap();
+    }
+
+    /// Sets the live enumerator of that number back to not started.
+    pub fn reset(&mut self, number: u32)
+        requires { IsLive self.old.enumerators number }
+        ensures { self.new ≡ record self.old { enumerators = reset self.old.enumerators number } }
+    {
+        self.enumerators.reset(number).unwrap();
+    }
+
+    /// Takes the live enumerator of that number away.
+    pub fn free(&mut self, number: u32)
+        requires { IsLive self.old.enumerators number }
+        ensures { self.new ≡ record self.old { enumerators = freed self.old.enumerators number } }
+    {
+        self.enumerators.free(number).unwrap();
+    }
+
+    /// Notes that a started enumerator gave this identifier.
+    pub fn given(&mut self, number: u32, id: ObjectId)
+        requires { IsStarted self.old.enumerators number }
+        ensures { self.new ≡ record self.old { enumerators = advanced self.old.enumerators number id } }
+    {
+        self.enumerators.given(number, id);
     }
 }
 

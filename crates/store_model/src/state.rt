@@ -1,17 +1,17 @@
 //! The store on one thread.
 
-ghost use Rattle.std.specs.Prelude.{◌≡◌};
-ghost use Rattle.store_model.specs.Machine.{bytes_at};
+mod data;
+mod enumerating;
+mod handles;
+mod naming;
 
 use crate::name::ObjectName;
-use crate::object::{MAX_ATTRIBUTES, MAX_DATA, StoredObject};
+use crate::object::StoredObject;
 use crate::session::{Handle, Session};
 use std::alloc::Global;
 use std::collections::BTreeMap;
 use std::marker::Model;
-use tee_types::{
-    AppId, Bytes, Call, Code, Flags, NoMemory, OVERWRITE, ObjectId, READ, Reason, Reply,
-};
+use tee_types::{AppId, Call, NoMemory, ObjectId, Reply};
 
 /// The greatest number of objects of the store.
 pub const MAX_OBJECTS: usize = 256;
@@ -27,25 +27,23 @@ pub struct State {
 impl Model for State {
     ghost use Rattle.std.specs.Prelude.{◌≤◌};
     ghost use Rattle.std.specs.BTreeMap.{btree_map_len};
+    ghost use Rattle.store_model.specs.Object.{AreNamed};
     ghost use Rattle.store_model.specs.Machine.{MachineState};
 
     ghost Value = { MachineState };
 
     ghost view = { λ a. record { objects = a.objects.entries; sessions = a.sessions.items } };
 
-    ghost invariant = { λ a. btree_map_len a.objects ≤ 256 };
+    ghost invariant = { λ a. (btree_map_len a.objects ≤ 256) × AreNamed a.objects.entries };
 }
 
 impl State {
-    ghost use Rattle.std.specs.Prelude.{◌≡◌, ◌<◌, ◌≤◌, [], length, true, false, IfOk, Some, None, IsSome, IsNone, IfSome, OnOk, OnErr, ◌==◌};
-    ghost use Rattle.tee_types.specs.Rights.{without_overwrite};
-    ghost use Rattle.std.specs.Map.{set_value};
-    ghost use Rattle.store_model.specs.Object.{Sound, holds, with_object, object_at};
+    ghost use Rattle.std.specs.Prelude.{◌≡◌, ◌<◌, ◌≤◌, [], length, true, false, IfOk, Some, None, IsSome, IsNone, IfSome, OnErr};
+    ghost use Rattle.store_model.specs.Object.{Sound, object_at};
     ghost use Rattle.store_model.specs.Answer.{IsAnswer, IsOutcome};
-    ghost use Rattle.store_model.specs.Refusal.{is_refusal, is_of_device};
-    ghost use Rattle.std.specs.List.{list_any, list_all};
-    ghost use Rattle.store_model.specs.Machine.{opened_store, session_at, name_in, create_refusals, open_refusals, lacks_room, handle_at, with_session, first_refusal, has_open, allows_open};
-    ghost use Rattle.store_model.specs.Machine.{create_of, open_of, close_of, read_of, reply_of, state_after, outcome_of};
+    ghost use Rattle.store_model.specs.Refusal.{is_refusal, is_of_device, left_by_refusal};
+    ghost use Rattle.store_model.specs.Machine.{opened_store, next_phase, session_at, with_session, name_in, handle_at, with_handle};
+    ghost use Rattle.store_model.specs.Calls.{outcome_of, size_by};
 
     /// The empty store, with a session for each of these applications.
     pub fn empty(alloc: Global, apps: &[AppId]) -> Result<State, NoMemory>
@@ -68,36 +66,26 @@ impl State {
         self.objects.len() as u16
     }
 
+    /// Begins the next phase: the objects stay, and each session is without handles and enumerators, and gives the numbers from 0 on.
+    pub fn next_phase(&mut self, alloc: Global)
+        ensures { self.new ≡ next_phase self.old }
+    {
+        for i in 0..self.sessions.len() {
+            self.sessions[i].begin_anew(alloc);
+        }
+    }
+
     /// The name of an object of that session's application.
     fn name_of(&self, session: usize, id: ObjectId) -> ObjectName
         requires { session < length self.now.sessions }
-        ensures { result ≡ name_in self.now session id }
+        ensures name { result ≡ name_in self.now session id }
+        ensures some { 1 ≤ length result.id }
     {
+        let _bytes = id.bytes();
         ObjectName {
             app: self.sessions[session].app(),
             id,
         }
-    }
-
-    /// Whether a handle of any session is open on that object.
-    fn is_open(&self, name: &ObjectName) -> bool
-        ensures { result ≡ list_any (has_open name.now) self.now.sessions }
-    {
-        self.sessions.iter().any(|s| s.has_open(name))
-    }
-
-    /// Whether a new handle with these flags may be open beside every handle on that object.
-    fn allows(&self, name: &ObjectName, flags: Flags) -> bool
-        ensures { result ≡ list_all (allows_open name.now flags) self.now.sessions }
-    {
-        self.sessions.iter().all(|s| s.allows(name, flags))
-    }
-
-    /// Whether an object of that name would be new, and there is no room for one more.
-    fn lacks_room(&self, name: &ObjectName) -> bool
-        ensures { result ≡ lacks_room self.now.objects name.now }
-    {
-        !self.objects.contains_key(name) && MAX_OBJECTS <= self.objects.len()
     }
 
     /// The live handle of that number.
@@ -108,169 +96,36 @@ impl State {
         self.sessions[session].handle(number)
     }
 
-    /// The data of the object of that name.
-    fn content(&self, name: &ObjectName) -> Option<&[u8]>
+    /// The object of that name. It is sound, and none of its blocks is bad.
+    fn object(&self, name: &ObjectName) -> Option<&StoredObject>
         ensures none { IsNone result → object_at self.now.objects name.now ≡ None }
-        ensures found { IfSome result (λ bytes. (attributes : _)
-            × (object_at self.now.objects name.now ≡ Some (Sound (record { attributes = attributes; bytes = bytes.now; bad = [] })))) }
-        ensures fits { IfSome result (λ bytes. length bytes.now ≤ 1044480) }
+        ensures found { IfSome result (λ object. object_at self.now.objects name.now ≡ Some object.now) }
+        ensures sound { IfSome result (λ object. (attributes : _) × (bytes : _)
+            × (object.now ≡ Sound (record { attributes = attributes; bytes = bytes; bad = [] }))) }
     {
         let object = self.objects.get(name)?;
-        Some(object.content())
+        let _attributes = object.attributes();
+        Some(object)
     }
 
     /// Puts this handle in the place of the live one of that number.
     fn replace(&mut self, session: usize, number: u32, handle: Handle)
         requires live { IsSome (handle_at (session_at self.old session) number) }
         requires session { session < length self.old.sessions }
-        ensures { self.new ≡ with_session self.old session (record (session_at self.old session) {
-          handles = set_value (λ n. n == number) (session_at self.old session).handles handle;
-        }) }
+        ensures { self.new ≡ with_session self.old session (with_handle (session_at self.old session) number handle) }
     {
         self.sessions[session].replace(number, handle);
     }
 
-    /// Why a create is refused, if it is.
-    fn create_refusal(
-        &self,
-        session: usize,
-        name: &ObjectName,
-        flags: Flags,
-        attributes: &Bytes,
-        bytes: &Bytes,
-    ) -> Option<Reply>
+    /// The size of the object that a live handle stands for, 0 where there is none.
+    pub fn size_under(&self, session: u32, handle: u32) -> u32
         requires { session < length self.now.sessions }
-        ensures first { result ≡ first_refusal (create_refusals self.now session name.now flags attributes.now bytes.now) }
-        ensures room { IsNone result → lacks_room self.now.objects name.now ≡ false }
+        ensures { result ≡ size_by self.now.objects (handle_at (session_at self.now session) handle) }
     {
-        let exists = self.objects.contains_key(name);
-        if !flags.known() {
-            return Some(Reply::Misuse(Reason::BadFlags));
+        match self.handle(session as usize, handle) {
+            Some(handle) => self.size(&handle.name),
+            None => 0,
         }
-        if self.sessions[session].is_full() {
-            return Some(Reply::Misuse(Reason::TooMany));
-        }
-        if MAX_ATTRIBUTES < attributes.len() {
-            return Some(Reply::Refused(Code::BadParameters));
-        }
-        if exists && !flags.has(OVERWRITE) {
-            return Some(Reply::Refused(Code::AccessConflict));
-        }
-        if exists && self.is_open(name) {
-            return Some(Reply::Refused(Code::AccessConflict));
-        }
-        if MAX_DATA < bytes.len() || self.lacks_room(name) {
-            return Some(Reply::Refused(Code::NoSpace));
-        }
-        None
-    }
-
-    /// Why an open is refused, if it is.
-    fn open_refusal(&self, session: usize, name: &ObjectName, flags: Flags) -> Option<Reply>
-        requires { session < length self.now.sessions }
-        ensures { result ≡ first_refusal (open_refusals self.now session name.now flags) }
-    {
-        if !flags.known() || flags.has(OVERWRITE) {
-            return Some(Reply::Misuse(Reason::BadFlags));
-        }
-        if self.sessions[session].is_full() {
-            return Some(Reply::Misuse(Reason::TooMany));
-        }
-        let Some(object) = self.objects.get(name) else {
-            return Some(Reply::Refused(Code::ItemNotFound));
-        };
-        if !self.allows(name, flags) {
-            return Some(Reply::Refused(Code::AccessConflict));
-        }
-        if object.is_damaged() {
-            return Some(Reply::Corrupt);
-        }
-        None
-    }
-
-    /// Puts an object under that name, in place of the one that is there.
-    fn put(&mut self, name: ObjectName, object: StoredObject) -> Result<(), NoMemory>
-        requires { lacks_room self.old.objects name ≡ false }
-        ensures ok { OnOk result (self.new ≡ record self.old { objects = with_object self.old.objects name object }) }
-        ensures err { OnErr result (self.new ≡ self.old) }
-    {
-        let _replaced = self.objects.insert(name, object)?;
-        Ok(())
-    }
-
-    #[tactic(auto, unfolding(crate::specs::Machine::create_of))]
-    fn create(
-        &mut self,
-        alloc: Global,
-        session: usize,
-        id: ObjectId,
-        flags: Flags,
-        attributes: &Bytes,
-        bytes: &Bytes,
-    ) -> Result<Reply, NoMemory>
-        requires { session < length self.old.sessions }
-        ensures ok { IfOk result (λ reply. IsOutcome (create_of self.old session id flags attributes.now bytes.now) reply self.new) }
-        ensures err { OnErr result (self.new ≡ self.old) }
-    {
-        let name = self.name_of(session, id);
-        if let Some(reply) = self.create_refusal(session, &name, flags, attributes, bytes) {
-            return Ok(reply);
-        }
-        let object = StoredObject::new(attributes.copy(alloc)?, bytes.copy(alloc)?);
-        self.put(name, object)?;
-        let number = self.sessions[session].open(name, flags.without_overwrite());
-        Ok(Reply::Handle(number))
-    }
-
-    #[tactic(auto, unfolding(crate::specs::Machine::open_of))]
-    fn open(&mut self, session: usize, id: ObjectId, flags: Flags) -> Reply
-        requires { session < length self.old.sessions }
-        ensures { IsOutcome (open_of self.old session id flags) result self.new }
-    {
-        let name = self.name_of(session, id);
-        match self.open_refusal(session, &name, flags) {
-            Some(reply) => reply,
-            None => Reply::Handle(self.sessions[session].open(name, flags)),
-        }
-    }
-
-    #[tactic(auto, unfolding(crate::specs::Machine::close_of))]
-    fn close(&mut self, session: usize, handle: u32) -> Reply
-        requires { session < length self.old.sessions }
-        ensures { IsOutcome (close_of self.old session handle) result self.new }
-    {
-        if !self.sessions[session].has_handle(handle) {
-            return Reply::Misuse(Reason::BadHandle);
-        }
-        self.sessions[session].close(handle);
-        Reply::Done
-    }
-
-    #[tactic(auto, using(crate::proofs::SoundReads::reads), unfolding(crate::specs::Machine::read_of))]
-    fn read(
-        &mut self,
-        alloc: Global,
-        session: usize,
-        number: u32,
-        size: u32,
-    ) -> Result<Reply, NoMemory>
-        requires { session < length self.old.sessions }
-        ensures ok { IfOk result (λ reply. IsOutcome (read_of self.old session number size) reply self.new) }
-        ensures err { OnErr result (self.new ≡ self.old) }
-    {
-        let Some(handle) = self.handle(session, number) else {
-            return Ok(Reply::Misuse(Reason::BadHandle));
-        };
-        if !handle.flags.has(READ) {
-            return Ok(Reply::Misuse(Reason::NoRight));
-        }
-        let Some(content) = self.content(&handle.name) else {
-            return Ok(Reply::Misuse(Reason::BadHandle));
-        };
-        let given = Bytes::from_slice(alloc, bytes_at(content, handle.position, size))?;
-        let position = handle.position + given.len() as u32;
-        self.replace(session, number, Handle { position, ..handle });
-        Ok(Reply::Content(given))
     }
 
     /// Serves one call of that session, or leaves the state for want of memory.
@@ -289,6 +144,21 @@ impl State {
             Call::Open { id, flags } => Ok(self.open(session, *id, *flags)),
             Call::Close { handle } => Ok(self.close(session, *handle)),
             Call::Read { handle, size } => self.read(alloc, session, *handle, *size),
+            Call::Write { handle, bytes } => self.write(session, *handle, bytes.as_slice()),
+            Call::Truncate { handle, size } => self.truncate(session, *handle, *size),
+            Call::Seek {
+                handle,
+                offset,
+                whence,
+            } => Ok(self.seek(session, *handle, *offset, *whence)),
+            Call::Rename { handle, id } => self.rename(alloc, session, *handle, *id),
+            Call::Delete { handle } => Ok(self.delete(session, *handle)),
+            Call::Info { handle } => self.info(alloc, session, *handle),
+            Call::EnumNew => self.enum_new(session),
+            Call::EnumStart { number } => Ok(self.enum_start(session, *number)),
+            Call::EnumNext { number } => Ok(self.enum_next(session, *number)),
+            Call::EnumReset { number } => Ok(self.enum_reset(session, *number)),
+            Call::EnumFree { number } => Ok(self.enum_free(session, *number)),
         }
     }
 
@@ -296,7 +166,7 @@ impl State {
     pub fn apply(&mut self, alloc: Global, session: u32, call: &Call) -> Reply
         requires { session < length self.old.sessions }
         ensures answer { IsAnswer (outcome_of self.old session call.now) self.old result self.new }
-        ensures refused { is_refusal result ≡ true → self.new ≡ self.old }
+        ensures refused { is_refusal result ≡ true → self.new ≡ left_by_refusal self.old session call.now result }
         ensures unfaulted { is_of_device result ≡ false }
         ensures sessions { length self.new.sessions ≡ length self.old.sessions }
     {
@@ -305,13 +175,4 @@ impl State {
             Err(_) => Reply::NoMemory,
         }
     }
-}
-
-/// At most `size` of the bytes from `position` on, fewer near the end and none past it.
-fn bytes_at(bytes: &[u8], position: u32, size: u32) -> &[u8]
-    ensures { result.now ≡ bytes_at bytes.now position size }
-{
-    let start = (position as usize).min(bytes.len());
-    let end = start + (size as usize).min(bytes.len() - start);
-    &bytes[start..end]
 }

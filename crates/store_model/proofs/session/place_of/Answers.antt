@@ -1,7 +1,7 @@
 use Rattle.std.proofs.Common.{arith, sym, below_more}
 use Rattle.std.proofs.lemmas.List.{get_or_read}
 use Rattle.std.proofs.lemmas.Bool.{ne_eqb}
-use Rattle.store_model.proofs.Entries.{lookup_none, IsPlaceOf-first}
+use Rattle.enumerators.proofs.Entries.{lookup_none, IsPlaceOf-first}
 use Rattle.store_model.proofs.session.place_of.Goals as goal
 
 pub returns-then-handle-number-clause-found : goal.returns-then-handle-number-clause-found

@@ -1,4 +1,4 @@
-use Rattle.store_model.proofs.Entries.{NoneBelow}
+use Rattle.enumerators.proofs.Entries.{NoneBelow}
 use Rattle.store_model.proofs.session.place_of.Given as goal
 
 abbrev pub invariant-loop-place : goal.invariant-loop-place
