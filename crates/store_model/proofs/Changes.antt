@@ -1,5 +1,5 @@
 -- The state after a change of one object.
-use Rattle.std.proofs.Common.{◌≡◌, ℕ, List, [], Option, Some, None, ap, ◌∙◌, sym, unwrap_or, is_some}
+use Rattle.std.proofs.Common.{◌≡◌, ℕ, List, [], Some, None, ap, ◌∙◌, sym, unwrap_or, is_some}
 use Rattle.std.proofs.lemmas.Map.Steps.{set_value_same}
 use Rattle.std.proofs.lemmas.Bool.{false≢true}
 use Rattle.store_model.specs.declared.name.ObjectName.{ObjectName}

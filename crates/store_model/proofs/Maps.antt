@@ -1,5 +1,5 @@
 -- Maps of objects after an insertion, a removal and a change.
-use Rattle.std.proofs.Common.{◌≡◌, ◌≤◌, ℕ, Bool, true, false, cond, List, [], ◌∷◌, length, ap, sym, ◌∙◌, refl, is_some, Option, Some, None, true≢false, ◌+◌, arith}
+use Rattle.std.proofs.Common.{◌≡◌, ◌≤◌, ℕ, Bool, true, false, cond, [], ◌∷◌, length, ap, sym, ◌∙◌, refl, is_some, Some, None, true≢false, ◌+◌, arith}
 use Rattle.std.specs.declared.cmp.Ordering.{Ordering}
 use Rattle.std.specs.declared.cmp.Ordering.TheVariants.{Less, Equal, Greater}
 use Rattle.std.specs.Ordering.{match_ordering}

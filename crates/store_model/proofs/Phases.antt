@@ -1,5 +1,5 @@
 -- Sessions begun anew, one after another.
-use Rattle.std.proofs.Common.{◌≡◌, ◌<◌, ◌+◌, ℕ, List, [], ◌∷◌, ◌++◌, map, length, take, drop, slice_index_or, slice_set, ap, ◌∙◌, sym, refl, arith, suc, zero}
+use Rattle.std.proofs.Common.{◌≡◌, ◌<◌, ◌+◌, ℕ, List, [], ◌∷◌, ◌++◌, map, length, take, drop, slice_index_or, slice_set, ap, ◌∙◌, refl, arith, suc, zero}
 use Rattle.store_model.specs.Machine.{Session, new_session}
 
 abbrev pub anew : Session → Session

@@ -1,7 +1,6 @@
 -- A refused call changes nothing, but for the start that finds no object; and no reply is a device's.
-use Rattle.std.proofs.Common.{◌≡◌, ◌==◌, ◌+◌, not, ℕ, Bool, true, false, List, [], ◌∷◌, Option, Some, None, cond, length, is_some, sym, ap, ◌∙◌, refl, true≢false, ℤ, pos, ◌+ℤ◌, int_lt}
+use Rattle.std.proofs.Common.{◌≡◌, ◌==◌, ◌+◌, ℕ, Bool, true, false, List, [], ◌∷◌, Option, Some, None, cond, length, sym, ap, ◌∙◌, refl, true≢false, pos, ◌+ℤ◌, int_lt}
 use Rattle.std.specs.List.{list_any}
-use Rattle.tee_types.specs.declared.call.Whence.{Whence}
 use Rattle.tee_types.specs.Rights.{has}
 use Rattle.tee_types.specs.declared.flags.TheConstants.{READ, WRITE, WRITE_META}
 use Rattle.tee_types.specs.declared.call.Call.{Call}
@@ -14,11 +13,11 @@ use Rattle.enumerators.specs.declared.cursor.Cursor.{Cursor}
 use Rattle.enumerators.specs.Enumeration.{cursor_at, has_all, reset, started}
 use Rattle.store_model.specs.declared.session.Handle.{Handle}
 use Rattle.store_model.specs.Object.{Object, Contents, Sound, Damaged, object_at, size_at, holds}
-use Rattle.store_model.specs.Machine.{MachineState, Outcome, session_at, name_in, handle_at, unless_refused, first_refusal, refuse, by_handle, by_right, of_sound}
+use Rattle.store_model.specs.Machine.{MachineState, Outcome, session_at, name_in, handle_at, unless_refused, refuse, by_handle, by_right, of_sound}
 use Rattle.store_model.specs.Handles.{create_of, open_of, close_of, create_refusals, open_refusals}
 use Rattle.store_model.specs.Data.{read_of, meets_block, bytes_at, write_of, write_refusals, truncate_of, truncate_refusals, seek_of, seek_base, info_of}
 use Rattle.store_model.specs.Naming.{rename_of, delete_of}
-use Rattle.store_model.specs.Enumerating.{enum_new_of, enum_start_of, enum_next_of, enum_reset_of, enum_free_of, by_cursor, enum_gives, next_object, shown, is_of, with_enumerators}
+use Rattle.store_model.specs.Enumerating.{enum_new_of, enum_start_of, enum_next_of, enum_reset_of, enum_free_of, by_cursor, enum_gives, with_enumerators}
 use Rattle.store_model.specs.Calls.{outcome_of}
 use Rattle.store_model.specs.Answer.{IsOutcome}
 use Rattle.store_model.specs.Refusal.{is_refusal, is_of_device, left_by_refusal, RefusalsChangeNothing, RepliesNameNoDevice}

@@ -1,5 +1,5 @@
 -- No call makes a session or ends one.
-use Rattle.std.proofs.Common.{◌≡◌, ◌==◌, ℕ, Bool, List, [], ◌∷◌, length, true, false, cond, not, ◌+◌, ℤ, pos, ◌+ℤ◌, int_lt, Option, Some, None, refl, ◌∙◌}
+use Rattle.std.proofs.Common.{◌≡◌, ◌==◌, ℕ, Bool, List, [], ◌∷◌, length, true, false, cond, not, ◌+◌, pos, ◌+ℤ◌, int_lt, Option, Some, None, refl, ◌∙◌}
 use Rattle.std.specs.List.{list_any}
 use Rattle.std.proofs.lemmas.List.{length-set}
 use Rattle.tee_types.specs.declared.call.Call.{Call}
@@ -19,7 +19,7 @@ use Rattle.store_model.specs.Handles.{create_of, open_of, close_of, create_refus
 use Rattle.store_model.specs.Data.{read_of, meets_block, bytes_at, write_of, write_refusals, truncate_of, truncate_refusals, seek_of, seek_base, info_of}
 use Rattle.store_model.specs.Naming.{rename_of, delete_of}
 use Rattle.store_model.specs.Enumerating.{enum_new_of, enum_start_of, enum_next_of, enum_reset_of, enum_free_of, by_cursor, enum_gives, is_of, with_enumerators}
-use Rattle.store_model.specs.Calls.{state_after, outcome_of}
+use Rattle.store_model.specs.Calls.{state_after}
 
 -- the outcome has as many sessions as the state
 abbrev Keeps : MachineState → Outcome → Type 0

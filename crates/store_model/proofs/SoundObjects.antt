@@ -1,14 +1,14 @@
 -- Calls on a sound object whose blocks are good, by a live handle.
-use Rattle.std.proofs.Common.{◌≡◌, ◌==◌, ◌+◌, ℕ, true, false, List, [], ◌∷◌, length, Some, None, ap, ◌∙◌, cond}
+use Rattle.std.proofs.Common.{◌≡◌, ◌==◌, ◌+◌, ℕ, true, false, List, [], length, Some, None, ap, ◌∙◌, cond}
 use Rattle.tee_types.specs.Rights.{has}
 use Rattle.tee_types.specs.declared.flags.TheConstants.{READ, WRITE}
 use Rattle.tee_types.specs.declared.reply.Reply.{Reply}
 use Rattle.tee_types.specs.declared.reply.Reply.TheVariants.{Done, Content, Info, Misuse}
 use Rattle.tee_types.specs.declared.reply.Reason.TheVariants.{NoRight}
 use Rattle.store_model.specs.declared.session.Handle.{Handle}
-use Rattle.store_model.specs.Object.{Object, Contents, Sound, object_at}
+use Rattle.store_model.specs.Object.{Contents, Sound, object_at}
 use Rattle.store_model.specs.Machine.{MachineState, Outcome, session_at, handle_at, refuse, first_refusal, by_handle, by_right, of_sound}
-use Rattle.store_model.specs.Data.{read_of, read_from, write_of, write_from, write_refusals, written_contents, truncate_of, truncate_from, truncate_refusals, resized_contents, info_of, with_position, with_contents, written, resized, bytes_at}
+use Rattle.store_model.specs.Data.{read_of, read_from, write_of, write_from, write_refusals, truncate_of, truncate_from, truncate_refusals, info_of, with_position, with_contents, written, resized, bytes_at}
 
 -- a sound object without bad blocks
 abbrev pub good : List ℕ → List ℕ → Contents

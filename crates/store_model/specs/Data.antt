@@ -1,5 +1,5 @@
 -- Calls on the data of an open object.
-use Rattle.std.specs.Prelude.{ℕ, Bool, not, ◌==◌, ◌&&◌, ◌||◌, if◌then◌else◌, nat_lt, ◌+◌, ◌-◌, ◌*◌, min, max, List, [], ◌∷◌, ◌++◌, length, take, drop, replicate, filter, Option, Some, None, ℤ, pos, negsuc, ◌+ℤ◌, int_lt}
+use Rattle.std.specs.Prelude.{ℕ, Bool, not, ◌==◌, ◌&&◌, ◌||◌, if◌then◌else◌, nat_lt, ◌+◌, ◌-◌, ◌*◌, min, max, List, [], ◌∷◌, ◌++◌, length, take, drop, replicate, filter, ℤ, pos, negsuc, ◌+ℤ◌, int_lt}
 use Rattle.std.specs.List.{list_any}
 use Rattle.tee_types.specs.declared.flags.TheConstants.{READ, WRITE}
 use Rattle.tee_types.specs.declared.call.Whence.{Whence}

@@ -4,7 +4,7 @@ use Rattle.std.specs.Prelude.{◌==◌, ℕ, Bool, ◌||◌, if◌then◌else◌
 use Rattle.std.specs.Map.{lookup, set_value, remove_entry}
 use Rattle.tee_types.specs.declared.reply.Reply.{Reply}
 use Rattle.tee_types.specs.declared.reply.Reply.TheVariants.{Misuse, Corrupt}
-use Rattle.tee_types.specs.declared.reply.Reason.TheVariants.{BadHandle, BadEnumerator, NoRight}
+use Rattle.tee_types.specs.declared.reply.Reason.TheVariants.{BadHandle, NoRight}
 use Rattle.tee_types.specs.Rights.{has}
 use Rattle.enumerators.specs.Enumeration.{EnumeratorTable, no_enumerators}
 use Rattle.store_model.specs.declared.name.ObjectName.{ObjectName}

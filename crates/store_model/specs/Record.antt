@@ -1,5 +1,5 @@
 -- Events with what is known of the file of their object.
-use Rattle.std.specs.Prelude.{◌≡◌, ℕ, List, map, Option, Some, None}
+use Rattle.std.specs.Prelude.{ℕ, List, map, Option, None}
 use Rattle.std.specs.Option.{option_map}
 use Rattle.store_model.specs.declared.event.Event.{Event}
 

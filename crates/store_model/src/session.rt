@@ -110,13 +110,6 @@ impl Session {
         Some(self.handles[place].1)
     }
 
-    /// Whether there is a live handle of that number.
-    pub fn has_handle(&self, number: u32) -> bool
-        ensures { result ≡ is_some (handle_at self.now number) }
-    {
-        self.handle(number).is_some()
-    }
-
     /// Takes the live handle of that number away.
     pub fn close(&mut self, number: u32)
         requires { IsSome (handle_at self.old number) }

@@ -5,7 +5,7 @@ use std::alloc::Global;
 use std::test::Fail;
 use tee_types::{
     AppId, Bytes, Call, Code, Flags, NoMemory, OVERWRITE, ObjectId, READ, Reason, Reply,
-    SHARE_READ, WRITE, WRITE_META,
+    SHARE_READ, WRITE, WRITE_META, Whence,
 };
 use uuid::Uuid;
 
@@ -66,6 +66,25 @@ fn close(handle: u32) -> Call {
     Call::Close { handle }
 }
 
+fn write(alloc: Global, bytes: &[u8]) -> Result<Call, NoMemory> {
+    Ok(Call::Write {
+        handle: 0,
+        bytes: Bytes::from_slice(alloc, bytes)?,
+    })
+}
+
+fn truncate(size: u32) -> Call {
+    Call::Truncate { handle: 0, size }
+}
+
+fn seek(offset: i64, whence: Whence) -> Call {
+    Call::Seek {
+        handle: 0,
+        offset,
+        whence,
+    }
+}
+
 fn content(alloc: Global, bytes: &[u8]) -> Result<Reply, NoMemory> {
     Ok(Reply::Content(Bytes::from_slice(alloc, bytes)?))
 }
@@ -122,6 +141,85 @@ fn handles_of_a_session_share_an_object_where_each_allows_it(rt: HostRuntime) ->
         (open(READ | OVERWRITE), Reply::Misuse(Reason::BadFlags)),
     ];
     assert_eq!(rt; first_other_reply(rt.alloc(), &mut state, &steps)?, None);
+    Ok(())
+}
+
+#[test]
+fn data_is_written_cut_and_sought(rt: HostRuntime) -> Result<(), Fail> {
+    let mut state = one_application(rt.alloc())?;
+    let flags = Flags { bits: READ | WRITE };
+    let steps = [
+        (
+            create(rt.alloc(), READ | WRITE, &[5], &[1, 2])?,
+            Reply::Handle(0),
+        ),
+        (seek(4, Whence::Set), Reply::Done),
+        (write(rt.alloc(), &[9])?, Reply::Done),
+        (truncate(6), Reply::Done),
+        (
+            Call::Info { handle: 0 },
+            Reply::Info {
+                size: 6,
+                position: 5,
+                flags,
+                attributes: Bytes::from_slice(rt.alloc(), &[5])?,
+            },
+        ),
+        (seek(-9, Whence::Cur), Reply::Done),
+        (read(0, 9), content(rt.alloc(), &[1, 2, 0, 0, 9, 0])?),
+        (seek(-1, Whence::End), Reply::Done),
+        (read(0, 9), content(rt.alloc(), &[0])?),
+    ];
+    assert_eq!(rt; first_other_reply(rt.alloc(), &mut state, &steps)?, None);
+    assert_eq!(rt; state.size_under(0, 0), 6);
+    Ok(())
+}
+
+#[test]
+fn objects_are_renamed_deleted_and_enumerated(rt: HostRuntime) -> Result<(), Fail> {
+    let mut state = one_application(rt.alloc())?;
+    let other = ObjectId::new(b"l").unwrap();
+    let steps = [
+        (create(rt.alloc(), WRITE_META, &[], &[1])?, Reply::Handle(0)),
+        (
+            Call::Rename {
+                handle: 0,
+                id: other,
+            },
+            Reply::Done,
+        ),
+        (Call::EnumNew, Reply::Handle(0)),
+        (Call::EnumStart { number: 0 }, Reply::Done),
+        (
+            Call::EnumNext { number: 0 },
+            Reply::Found { id: other, size: 1 },
+        ),
+        (
+            Call::EnumNext { number: 0 },
+            Reply::Refused(Code::ItemNotFound),
+        ),
+        (Call::EnumReset { number: 0 }, Reply::Done),
+        (Call::EnumFree { number: 0 }, Reply::Done),
+        (Call::Delete { handle: 0 }, Reply::Done),
+    ];
+    assert_eq!(rt; first_other_reply(rt.alloc(), &mut state, &steps)?, None);
+    assert_eq!(rt; state.objects(), 0);
+    Ok(())
+}
+
+#[test]
+fn a_phase_keeps_the_objects_alone(rt: HostRuntime) -> Result<(), Fail> {
+    let mut state = one_application(rt.alloc())?;
+    let first = [(create(rt.alloc(), READ, &[], &[1])?, Reply::Handle(0))];
+    assert_eq!(rt; first_other_reply(rt.alloc(), &mut state, &first)?, None);
+    state.next_phase(rt.alloc());
+    assert_eq!(rt; state.objects(), 1);
+    let second = [
+        (read(0, 1), Reply::Misuse(Reason::BadHandle)),
+        (open(READ), Reply::Handle(0)),
+        (read(0, 1), content(rt.alloc(), &[1])?),
+    ];
+    assert_eq!(rt; first_other_reply(rt.alloc(), &mut state, &second)?, None);
     Ok(())
 }
 

@@ -1,4 +1,4 @@
-use Rattle.std.proofs.Common.{◌≡◌, ◌++◌, ◌+◌, ◌-◌, ℕ, [], length, take, drop, replicate, ap, sym, ◌∙◌, arith}
+use Rattle.std.proofs.Common.{◌++◌, ◌+◌, [], length, take, drop, ap, ◌∙◌}
 use Rattle.store_model.specs.Object.{Sound, attributes_of, bytes_of}
 use Rattle.store_model.specs.Data.{written}
 use Rattle.store_model.proofs.Writes.{written-reached}

@@ -1,4 +1,4 @@
-use Rattle.std.proofs.Common.{◌≤◌, sym, subst, arith}
+use Rattle.std.proofs.Common.{sym, subst, arith}
 use Rattle.store_model.specs.Object.{AreNamed}
 use Rattle.store_model.proofs.Maps.{AreNamed-remove_entry}
 use Rattle.store_model.proofs.state.State.delete.Goals as goal

@@ -1,5 +1,4 @@
-use Rattle.std.proofs.Common.{◌≡◌, List, ℕ, true, false, cond, None, Some, length, sym, ap, ◌∙◌}
-use Rattle.std.specs.Ordering.{is_eq}
+use Rattle.std.proofs.Common.{length, sym, ap, ◌∙◌}
 use Rattle.std.specs.Option.{option_map}
 use Rattle.std.specs.List.{find}
 use Rattle.std.specs.BTreeMap.Range.{is_from_start}

@@ -1,7 +1,6 @@
-use Rattle.std.proofs.Common.{◌≡◌, sym, ap, ◌∙◌, is_some, Some, None, Option}
-use Rattle.std.specs.Option.{option_map}
+use Rattle.std.proofs.Common.{sym, ap, ◌∙◌, is_some}
 use Rattle.std.specs.List.{find}
-use Rattle.store_model.specs.Enumerating.{is_of, shown}
+use Rattle.store_model.specs.Enumerating.{is_of}
 use Rattle.store_model.proofs.Enumerations.{list_any-find, is_some-shown}
 use Rattle.store_model.proofs.state.State.has_objects.Goals as goal
 

@@ -1,5 +1,5 @@
-use Rattle.std.proofs.Common.{◌≡◌, ◌<◌, length, slice_index_or, slice_set, sym, ap, ◌∙◌, arith}
-use Rattle.store_model.specs.Machine.{MachineState, next_phase}
+use Rattle.std.proofs.Common.{◌≡◌, length, slice_index_or, slice_set, ap, ◌∙◌, arith}
+use Rattle.store_model.specs.Machine.{next_phase}
 use Rattle.store_model.proofs.Phases.{anew, anew_below, slice_set-anew_below, anew_below-all, map-anew}
 use Rattle.store_model.proofs.state.State.next_phase.Goals as goal
 

@@ -1,4 +1,4 @@
-use Rattle.std.proofs.Common.{◌≡◌, Some, sym, ap, ◌∙◌}
+use Rattle.std.proofs.Common.{Some, sym, ap, ◌∙◌}
 use Rattle.store_model.proofs.SoundObjects.{truncate_of-refused}
 use Rattle.store_model.proofs.state.State.truncate.Goals as goal
 

@@ -1,4 +1,4 @@
-use Rattle.std.proofs.Common.{◌≡◌, Some, sym, ap, ◌∙◌}
+use Rattle.std.proofs.Common.{Some, sym, ap, ◌∙◌}
 use Rattle.store_model.proofs.SoundObjects.{write_of-refused}
 use Rattle.store_model.proofs.state.State.write.Goals as goal
 
