@@ -66,6 +66,7 @@ IsQuiet-outcome_of s i (Close handle) =
     IsQuiet-unless_refused ((not (is_some (handle_at (session_at s i) handle)), Misuse BadHandle) ∷ []) s _
     (refl, tt) (IsQuiet-done s _ refl refl)
 IsQuiet-outcome_of s i (Read handle size) = IsQuiet-read_by s i handle size (handle_at (session_at s i) handle)
+IsQuiet-outcome_of s i _ = IsQuiet-refuse s (Misuse BadHandle) refl
 
 pub refusals_change_nothing : RefusalsChangeNothing
 refusals_change_nothing s i call = (IsQuiet-outcome_of s i call).kept

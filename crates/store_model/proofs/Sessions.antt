@@ -84,3 +84,4 @@ length-sessions s i (Create id flags attributes bytes) = KeepsSessions-create_of
 length-sessions s i (Open id flags) = KeepsSessions-open_of s i id flags
 length-sessions s i (Close number) = KeepsSessions-close_of s i number
 length-sessions s i (Read number size) = KeepsSessions-read_by s i number size (handle_at (session_at s i) number)
+length-sessions s i _ = refl

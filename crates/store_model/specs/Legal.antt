@@ -29,6 +29,7 @@ is_commit (Create id flags attributes bytes) reply = is_handle reply
 is_commit (Open id flags) reply = false
 is_commit (Close handle) reply = false
 is_commit (Read handle size) reply = false
+is_commit _ reply = false
 
 -- the mark of a call that is answered as the machine does
 abbrev pub mark_of : ℕ → Call → Reply → Mark

@@ -175,6 +175,7 @@ outcome_of s i (Create id flags attributes bytes) = create_of s i id flags attri
 outcome_of s i (Open id flags) = open_of s i id flags
 outcome_of s i (Close handle) = close_of s i handle
 outcome_of s i (Read handle size) = read_of s i handle size
+outcome_of s i _ = refuse s (Misuse BadHandle)
 
 abbrev pub reply_of : MachineState → ℕ → Call → Reply
 reply_of s i call = (outcome_of s i call).reply

@@ -289,6 +289,7 @@ impl State {
             Call::Open { id, flags } => Ok(self.open(session, *id, *flags)),
             Call::Close { handle } => Ok(self.close(session, *handle)),
             Call::Read { handle, size } => self.read(alloc, session, *handle, *size),
+            _ => Ok(Reply::Misuse(Reason::BadHandle)),
         }
     }
 
