@@ -4,3 +4,5 @@ pub mod Options
 pub mod Digits
 pub mod OneLine
 pub mod Printing
+pub mod Rows
+pub mod PrintedRows
