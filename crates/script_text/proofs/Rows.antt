@@ -52,7 +52,7 @@ each_call : below
     ∷ codes "a seek 0 4095 set\na seek 0 -9 cur\na seek 0 -2 end\na seek 0 +7 cur\na seek 0 -0 set"
     ∷ [])
     ≡ calls (Write 1 (0 ∷ 255 ∷ []) ∷ Write 1 [] ∷ Truncate 2 1044480 ∷ Rename 3 (0x6c ∷ []) ∷ Delete 4 ∷ Info 5 ∷ EnumNew
-        ∷ EnumStart 6 ∷ EnumNext 7 ∷ EnumReset 8 ∷ EnumFree 9 ∷ [])
+    ∷ EnumStart 6 ∷ EnumNext 7 ∷ EnumReset 8 ∷ EnumFree 9 ∷ [])
     ∷ calls (Seek 0 (pos 4095) Set ∷ Seek 0 (negsuc 8) Cur ∷ Seek 0 (negsuc 1) End ∷ Seek 0 (pos 7) Cur ∷ Seek 0 (pos 0) Set ∷ [])
     ∷ []
 unfolding words_of is_name id_of bytes_of numeral_of offset_of whence_of write_words seek_words rename_words one_number two_numbers verb_of call_words call_line app_line control_of step_line words_line line_of script_from decode_pairs by_index

@@ -6,9 +6,7 @@ ghost use Rattle.hex.specs.Hex.{encode_lower};
 ghost use Rattle.script_text.specs.Forms.{bytes_text, flags_text, letters_text, letter};
 
 use itoa::Buffer;
-use tee_types::{
-    Flags, NoMemory, OVERWRITE, READ, SHARE_READ, SHARE_WRITE, WRITE, WRITE_META,
-};
+use tee_types::{Flags, NoMemory, OVERWRITE, READ, SHARE_READ, SHARE_WRITE, WRITE, WRITE_META};
 
 /// Appends a piece of text. A refusal leaves the text.
 pub(crate) fn put(out: &mut Vec<u8>, piece: &[u8]) -> Result<(), NoMemory>

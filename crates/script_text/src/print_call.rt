@@ -45,12 +45,7 @@ fn put_create(
 
 /// Appends a seek.
 #[tactic(auto, unfolding(crate::specs::Forms::call_text))]
-fn put_seek(
-    out: &mut Vec<u8>,
-    handle: u32,
-    offset: i64,
-    whence: Whence,
-) -> Result<(), NoMemory>
+fn put_seek(out: &mut Vec<u8>, handle: u32, offset: i64, whence: Whence) -> Result<(), NoMemory>
     ensures ok { OnOk result (out.new.items ≡ out.old.items ++ call_text (Seek handle offset whence)) }
     ensures kept { take (length out.old.items) out.new.items ≡ out.old.items }
 {

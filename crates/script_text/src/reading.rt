@@ -40,12 +40,7 @@ impl From<AllocError> for ScriptFault {
 
 /// `NAME CALL`: adds the step, and tells whether the line is in the grammar.
 #[tactic(auto, unfolding(crate::specs::Grammar::call_line))]
-fn add_call(
-    alloc: Global,
-    script: &mut Script,
-    name: &[u8],
-    words: &[u8],
-) -> Result<bool, NoMemory>
+fn add_call(alloc: Global, script: &mut Script, name: &[u8], words: &[u8]) -> Result<bool, NoMemory>
     ensures read { IfOk result (λ good. IsRead good script.old script.new
         (call_line script.old name.now (words_of words.now))) }
     ensures grown { OnOk result (HasGrown script.old script.new) }
@@ -99,12 +94,7 @@ fn control(word: &[u8], words: &[u8]) -> Option<Control>
 
 /// Adds the step that a line means, a control or a call, and tells whether the line is in the grammar.
 #[tactic(auto, unfolding(crate::specs::Grammar::step_line))]
-fn add_step(
-    alloc: Global,
-    script: &mut Script,
-    word: &[u8],
-    words: &[u8],
-) -> Result<bool, NoMemory>
+fn add_step(alloc: Global, script: &mut Script, word: &[u8], words: &[u8]) -> Result<bool, NoMemory>
     ensures read { IfOk result (λ good. IsRead good script.old script.new
         (step_line script.old word.now (words_of words.now))) }
     ensures grown { OnOk result (HasGrown script.old script.new) }
