@@ -1,5 +1,5 @@
 -- The first line of a text, and the first word of a line.
-use Rattle.std.proofs.Common.{◌≡◌, ◌==◌, ◌+◌, ◌<◌, ◌≤◌, ℕ, Bool, true, false, not, cond, nat_lt, List, [], ◌∷◌, filter, length, take, drop, refl, sym, ap, subst, ◌∙◌, arith, suc, inl, inr}
+use Rattle.std.proofs.Common.{◌≡◌, ◌==◌, ◌+◌, ◌<◌, ◌≤◌, ℕ, Bool, true, false, not, cond, List, [], ◌∷◌, filter, length, take, drop, refl, sym, ap, subst, ◌∙◌, arith, suc, inl, inr}
 use Rattle.std.specs.List.{prefix_len, position_or_len, slice_split, onto_first}
 use Rattle.std.specs.Str.Lines.{strip_carriage_return, lines_of_parts}
 use Rattle.std.proofs.lemmas.Bool.{cases_lt}

@@ -1,5 +1,5 @@
 -- Short scripts, and what they are, computed from the definitions.
-use Rattle.std.proofs.Common.{◌≡◌, ℕ, true, false, List, [], ◌∷◌, ◌++◌, map, replicate, Option, Some, None, Result, Ok, Err, pos, negsuc, refl}
+use Rattle.std.proofs.Common.{◌≡◌, ℕ, true, false, List, [], ◌∷◌, ◌++◌, map, replicate, Some, None, Result, Ok, Err, pos, negsuc, refl}
 use Rattle.std.specs.Prelude.{codes}
 use Rattle.std.specs.List.{flat_map}
 use Rattle.hex.specs.Hex.{decode_pairs}
@@ -14,7 +14,7 @@ use Rattle.script_text.specs.declared.script.Step.{Step}
 use Rattle.script_text.specs.declared.script.Step.TheVariants.{Call as CallStep, Control as ControlStep}
 use Rattle.script_text.specs.Lines.{words_of}
 use Rattle.script_text.specs.Words.{is_name, id_of, bytes_of, numeral_of, offset_of, whence_of, letter_flags_of, bits_of, flags_of}
-use Rattle.script_text.specs.Script.{Declaration, ScriptValue, no_script}
+use Rattle.script_text.specs.Script.{ScriptValue, no_script}
 use Rattle.script_text.specs.Calls.{create_words, open_words, write_words, seek_words, rename_words, one_number, two_numbers, verb_of, call_words}
 use Rattle.script_text.specs.Grammar.{call_line, app_line, control_of, step_line, words_line, line_of, script_from, script_of}
 

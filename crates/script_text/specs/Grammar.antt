@@ -1,5 +1,5 @@
 -- The grammar of scripts: what each line means under the lines above it.
-use Rattle.std.specs.Prelude.{ℕ, ◌==◌, ◌+◌, Bool, not, ◌&&◌, nat_lt, nat_eq, List, [], ◌∷◌, ◌++◌, length, if◌then◌else◌, codes, Option, Some, None, is_none, position, Result, Ok, Err}
+use Rattle.std.specs.Prelude.{ℕ, ◌+◌, Bool, not, ◌&&◌, nat_lt, nat_eq, List, [], ◌∷◌, ◌++◌, length, if◌then◌else◌, codes, Option, Some, None, is_none, position, Result, Ok, Err}
 use Rattle.std.specs.List.{starts_with}
 use Rattle.script_text.specs.declared.script.Control.{Control}
 use Rattle.script_text.specs.declared.script.Control.TheVariants.{Serial, Phase}

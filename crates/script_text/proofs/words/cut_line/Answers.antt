@@ -1,4 +1,4 @@
-use Rattle.std.proofs.Common.{◌<◌, ◌∷◌, ◌+◌, ◌∙◌, length, take, drop, sym, ap, arith}
+use Rattle.std.proofs.Common.{◌<◌, ◌∷◌, ◌+◌, ◌∙◌, length, drop, sym, ap, arith}
 use Rattle.std.proofs.lemmas.Bool.Decides.{nat_tests}
 use Rattle.std.proofs.lemmas.List.{drop_all}
 use Rattle.script_text.specs.Lines.{lines_of}

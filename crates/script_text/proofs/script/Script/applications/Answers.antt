@@ -1,4 +1,4 @@
-use Rattle.std.proofs.Common.{map, sym, ap, ◌∙◌}
+use Rattle.std.proofs.Common.{map, ap, ◌∙◌}
 use Rattle.script_text.proofs.Declared.{apps-declarations}
 use Rattle.script_text.proofs.script.Script.applications.Goals as goal
 

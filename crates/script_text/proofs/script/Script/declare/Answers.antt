@@ -1,5 +1,5 @@
-use Rattle.std.proofs.Common.{sym, ap, ◌∙◌, ◌++◌, ◌∷◌, []}
-use Rattle.script_text.specs.Script.{ScriptValue, declarations_of}
+use Rattle.std.proofs.Common.{ap, ◌∙◌, ◌++◌, ◌∷◌, []}
+use Rattle.script_text.specs.Script.{declarations_of}
 use Rattle.script_text.specs.Grammar.{place_of}
 use Rattle.script_text.proofs.Declared.{declarations-insert}
 use Rattle.script_text.proofs.script.Script.declare.Goals as goal

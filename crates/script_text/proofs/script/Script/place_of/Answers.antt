@@ -1,4 +1,4 @@
-use Rattle.std.proofs.Common.{sym, ap, ◌∙◌}
+use Rattle.std.proofs.Common.{ap, ◌∙◌}
 use Rattle.script_text.specs.Grammar.{place_of}
 use Rattle.script_text.proofs.Declared.{position-names}
 use Rattle.script_text.proofs.script.Script.place_of.Goals as goal
