@@ -1,88 +1,112 @@
 -- The first line of a text, and the first word of a line.
-use Rattle.std.proofs.Common.{◌≡◌, ◌==◌, ◌+◌, ◌<◌, ◌≤◌, ℕ, Bool, true, false, not, cond, List, [], ◌∷◌, length, take, drop, Option, Some, None, is_some, refl, sym, ap, ◌∙◌, arith, suc}
-use Rattle.std.proofs.lemmas.Bool.{false≢true}
-use Rattle.std.specs.Option.{option_map}
-use Rattle.std.specs.List.{prefix_len}
-use Rattle.script_text.specs.Lines.{in_front, lines_of, words_of, words_left}
+use Rattle.std.proofs.Common.{◌≡◌, ◌==◌, ◌+◌, ◌<◌, ◌≤◌, ℕ, Bool, true, false, not, cond, List, [], ◌∷◌, filter, length, take, drop, refl, sym, ap, subst, ◌∙◌, arith, suc, inl, inr}
+use Rattle.std.specs.List.{prefix_len, position_or_len, slice_split, onto_first}
+use Rattle.std.specs.Str.Lines.{strip_carriage_return, lines_of_parts}
+use Rattle.std.proofs.lemmas.Bool.{cases_lt}
+use Rattle.std.proofs.lemmas.Bool.Decides.{nat_tests}
+use Rattle.std.proofs.lemmas.List.{length-take-le, take_all, drop_all}
+use Rattle.std.proofs.lemmas.List.Splits.{slice_split_first, slice_split-cons_yes, length-slice_split}
+use Rattle.script_text.specs.Lines.{lines_of, words_of, is_blank, has_bytes}
 
--- how many bytes stand before the first that is stop
-abbrev pub before : ℕ → List ℕ → ℕ
-before stop bytes = prefix_len (λ b. not (b == stop)) bytes
-
--- the text is its first line, and the lines behind the first line's end
-abbrev LineCut : List ℕ → Type 0
-LineCut text = lines_of text ≡ take (before 10 text) text ∷ lines_of (drop (suc (before 10 text)) text)
-
-abbrev LineCutBy : Bool → ℕ → List ℕ → Type 0
-LineCutBy ends b text =
-    let n = cond (not ends) (1 + before 10 text) 0 in
-    cond ends ([] ∷ lines_of text) (in_front b (lines_of text)) ≡ take n (b ∷ text) ∷ lines_of (drop (suc n) (b ∷ text))
-
-longer : (b c : ℕ) (text : List ℕ) → LineCut (c ∷ text) → LineCutBy false b (c ∷ text)
-longer b c text h =
-    let n = before 10 (c ∷ text) in
-    let e : suc n ≡ 1 + n = omega arith in
-    ap (in_front b) h ∙ ap (λ k. take k (b ∷ c ∷ text) ∷ lines_of (drop (suc k) (b ∷ c ∷ text))) e
-
-pub lines_of-cut : (b : ℕ) (text : List ℕ) → LineCut (b ∷ text)
-unfolding lines_of
-lines_of-cut b [] = elim (b == 10) as (λ t. LineCutBy t b []) [ true ↦ refl | false ↦ refl ]
-lines_of-cut b (c ∷ text) = elim (b == 10) as (λ t. LineCutBy t b (c ∷ text)) [ true ↦ refl | false ↦ longer b c text (lines_of-cut c text) ]
-
-pub lines_of-first : (text : List ℕ) (n : ℕ) → 0 < length text → n ≡ before 10 text → lines_of text ≡ take n text ∷ lines_of (drop (n + 1) text)
-lines_of-first [] n some is = absurd (omega arith)
-lines_of-first (b ∷ text) n some is =
-    let e : suc (before 10 (b ∷ text)) ≡ n + 1 = omega arith in
-    lines_of-cut b text ∙ ap (λ k. take k (b ∷ text) ∷ lines_of (drop (suc (before 10 (b ∷ text))) (b ∷ text))) (sym is) ∙ ap (λ k. take n (b ∷ text) ∷ lines_of (drop k (b ∷ text))) e
-
--- a line with a space: its first word, and the words behind the space
-abbrev WordCut : Bool → ℕ → List ℕ → Type 0
-WordCut ends b line =
-    let n = cond (not ends) (1 + before 32 line) 0 in
-    n < suc (length line) → cond ends ([] ∷ words_of line) (in_front b (words_of line)) ≡ take n (b ∷ line) ∷ words_of (drop (suc n) (b ∷ line))
-
-pub words_of-cut : (line : List ℕ) → before 32 line < length line → words_of line ≡ take (before 32 line) line ∷ words_of (drop (suc (before 32 line)) line)
-unfolding words_of
-words_of-cut [] lt = absurd (omega arith)
-words_of-cut (b ∷ line) lt = elim (b == 32) as (λ t. WordCut t b line) [
-  | true ↦ λ _. refl
-  | false ↦ λ (h : 1 + before 32 line < suc (length line)).
-      let n = before 32 line in
-      let e : suc n ≡ 1 + n = omega arith in
-      ap (in_front b) (words_of-cut line (omega arith)) ∙ ap (λ k. take k (b ∷ line) ∷ words_of (drop (suc k) (b ∷ line))) e
-] lt
-
--- a line without a space is one word
-abbrev OneWord : Bool → ℕ → List ℕ → Type 0
-OneWord ends b line = suc (length line) ≤ cond (not ends) (1 + before 32 line) 0 → cond ends ([] ∷ words_of line) (in_front b (words_of line)) ≡ (b ∷ line) ∷ []
-
-pub words_of-one : (line : List ℕ) → length line ≤ before 32 line → words_of line ≡ line ∷ []
-unfolding words_of
-words_of-one [] le = refl
-words_of-one (b ∷ line) le = elim (b == 32) as (λ t. OneWord t b line) [
-  | true ↦ λ (h : suc (length line) ≤ 0). absurd (omega arith)
-  | false ↦ λ (h : suc (length line) ≤ 1 + before 32 line). ap (in_front b) (words_of-one line (omega arith))
+-- where nothing passes, there is one part
+slice_split-one : (p : ℕ → Bool) (bytes : List ℕ) → length bytes ≤ position_or_len p bytes → slice_split p bytes ≡ bytes ∷ []
+slice_split-one p [] le = refl
+slice_split-one p (b ∷ bytes) le = elim (p b) as (λ t. suc (length bytes) ≤ cond (not t) (1 + position_or_len p bytes) 0 → cond t ([] ∷ slice_split p bytes) (onto_first b (slice_split p bytes)) ≡ (b ∷ bytes) ∷ []) [
+  | true ↦ λ (h : suc (length bytes) ≤ 0). absurd (omega arith)
+  | false ↦ λ (h : suc (length bytes) ≤ 1 + position_or_len p bytes). ap (onto_first b) (slice_split-one p bytes (omega arith))
 ] le
 
-length-in_front : (b : ℕ) (pieces : List (List ℕ)) → 0 < length (in_front b pieces)
-length-in_front b [] = omega arith
-length-in_front b (piece ∷ pieces) = omega arith
+-- the first part, and the parts behind it
+slice_split-cut : (p : ℕ → Bool) (bytes : List ℕ) (n : ℕ) → n ≡ position_or_len p bytes → n < length bytes → slice_split p bytes ≡ take n bytes ∷ slice_split p (drop (n + 1) bytes)
+slice_split-cut p bytes n is lt = slice_split_first p bytes 0 (omega arith) ∙ ap (λ k. take k bytes ∷ slice_split p (drop (k + 1) bytes)) (sym is)
 
--- a line has a word
-pub words_of-some : (line : List ℕ) → 0 < length (words_of line)
+lines_of_parts-more : (part : List ℕ) (parts : List (List ℕ)) → 0 < length parts → lines_of_parts (part ∷ parts) ≡ strip_carriage_return part ∷ lines_of_parts parts
+lines_of_parts-more part [] some = absurd (omega arith)
+lines_of_parts-more part (next ∷ parts) some = refl
+
+-- a text with an LF: its first line, and the lines behind the LF
+pub lines_of-first : (text : List ℕ) (n : ℕ) → n ≡ position_or_len (λ b. b == 10) text → n < length text → lines_of text ≡ strip_carriage_return (take n text) ∷ lines_of (drop (n + 1) text)
+lines_of-first text n is lt =
+    let rest = slice_split (λ b. b == 10) (drop (n + 1) text) in
+    ap lines_of_parts (slice_split-cut (λ b. b == 10) text n is lt)
+    ∙ lines_of_parts-more (take n text) rest (omega (arith, length-slice_split (λ b. b == 10) (drop (n + 1) text)))
+
+-- a text without one is one line
+pub lines_of-one : (text : List ℕ) → 0 < length text → length text ≤ position_or_len (λ b. b == 10) text → lines_of text ≡ text ∷ []
+lines_of-one text some le =
+    let filled : (length text == 0) ≡ false = grind (arith, nat_tests) in
+    ap lines_of_parts (slice_split-one (λ b. b == 10) text le) ∙ ap (λ t. cond t [] (text ∷ [])) filled
+
+-- a blank in front adds no word
+words_of-blank : (b : ℕ) (line : List ℕ) → is_blank b ≡ true → words_of (b ∷ line) ≡ words_of line
 unfolding words_of
-words_of-some [] = omega arith
-words_of-some (b ∷ line) = elim (b == 32) as (λ t. 0 < length (cond t ([] ∷ words_of line) (in_front b (words_of line)))) [
-  | true ↦ omega arith
-  | false ↦ length-in_front b (words_of line)
+words_of-blank b line blank = ap (filter has_bytes) (slice_split-cons_yes is_blank b line blank)
+
+-- nor do the blanks in front
+pub words_of-skip : (line : List ℕ) → words_of line ≡ words_of (drop (prefix_len is_blank line) line)
+words_of-skip [] = refl
+words_of-skip (b ∷ line) = elim (is_blank b) as (λ t. is_blank b ≡ t → words_of (b ∷ line) ≡ words_of (drop (cond t (1 + prefix_len is_blank line) 0) (b ∷ line))) [
+  | true ↦ λ (blank : is_blank b ≡ true).
+      let one : suc (prefix_len is_blank line) ≡ 1 + prefix_len is_blank line = omega arith in
+      words_of-blank b line blank ∙ words_of-skip line ∙ ap (λ k. words_of (drop k (b ∷ line))) one
+  | false ↦ λ (blank : is_blank b ≡ false). refl
+] refl
+
+-- behind the blanks in front a word begins
+abbrev BeginsWord : ℕ → List ℕ → Type 0
+BeginsWord n line = 0 < length (drop n line) → 0 < position_or_len is_blank (drop n line)
+
+begins_word : (line : List ℕ) → BeginsWord (prefix_len is_blank line) line
+begins_word [] = λ (h : 0 < 0). absurd (omega arith)
+begins_word (b ∷ line) = elim (is_blank b) as (λ t. is_blank b ≡ t → BeginsWord (cond t (1 + prefix_len is_blank line) 0) (b ∷ line)) [
+  | true ↦ λ (blank : is_blank b ≡ true).
+      let one : suc (prefix_len is_blank line) ≡ 1 + prefix_len is_blank line = omega arith in
+      subst (λ n. BeginsWord n (b ∷ line)) one (begins_word line)
+  | false ↦ λ (blank : is_blank b ≡ false) _.
+      let some : 0 < 1 + position_or_len is_blank line = omega arith in
+      subst (λ t. 0 < cond (not t) (1 + position_or_len is_blank line) 0) (sym blank) some
+] refl
+
+-- a line that begins with a word: the word, and the words behind it
+words_of-first : (line : List ℕ) (n : ℕ) → 0 < n → n ≡ position_or_len is_blank line → n < length line → words_of line ≡ take n line ∷ words_of (drop (n + 1) line)
+unfolding words_of
+words_of-first line n some is lt =
+    let filled : has_bytes (take n line) ≡ true = let long : length (take n line) ≡ n = length-take-le n line (omega arith) in grind (arith, nat_tests) in
+    let rest = filter has_bytes (slice_split is_blank (drop (n + 1) line)) in
+    ap (filter has_bytes) (slice_split-cut is_blank line n is lt) ∙ ap (λ t. cond t (take n line ∷ rest) rest) filled
+
+words_of-one : (line : List ℕ) → 0 < length line → length line ≤ position_or_len is_blank line → words_of line ≡ line ∷ []
+unfolding words_of
+words_of-one line some le =
+    let filled : has_bytes line ≡ true = grind (arith, nat_tests) in
+    ap (filter has_bytes) (slice_split-one is_blank line le) ∙ ap (λ t. cond t (line ∷ []) []) filled
+
+words_of-last : (line : List ℕ) (n : ℕ) → 0 < n → n ≡ length line → length line ≤ position_or_len is_blank line → words_of line ≡ take n line ∷ words_of (drop (n + 1) line)
+unfolding words_of
+words_of-last line n some all le =
+    words_of-one line (omega arith) le
+    ∙ ap (λ word. word ∷ []) (sym (take_all n line (omega arith)))
+    ∙ ap (λ rest. take n line ∷ words_of rest) (sym (drop_all (n + 1) line (omega arith)))
+
+words_of-cut : (line : List ℕ) (n : ℕ) → 0 < n → n ≤ length line → n ≡ position_or_len is_blank line → words_of line ≡ take n line ∷ words_of (drop (n + 1) line)
+words_of-cut line n some le is = elim (cases_lt n (length line)) [
+  | inl lt ↦ words_of-first line n some is lt
+  | inr ge ↦ words_of-last line n some (omega arith) (omega arith)
 ]
 
-pub words_of-first : (line : List ℕ) (n : ℕ) → n ≡ before 32 line → n < length line → words_of line ≡ take n line ∷ words_of (drop (n + 1) line)
-words_of-first line n is lt =
-    let e : suc (before 32 line) ≡ n + 1 = omega arith in
-    words_of-cut line (omega arith) ∙ ap (λ k. take k line ∷ words_of (drop (suc (before 32 line)) line)) (sym is) ∙ ap (λ k. take n line ∷ words_of (drop k line)) e
+words_of-nothing : (rest : List ℕ) → length rest ≡ 0 → words_of rest ≡ []
+unfolding words_of
+words_of-nothing [] e = refl
+words_of-nothing (b ∷ rest) e = absurd (omega arith)
 
--- behind a word there is nothing or another word
-pub words_left-one : {X : Type 0} (now : X → List ℕ) (rest : Option X) → is_some rest ≡ true → 0 < length (words_left (option_map now rest))
-words_left-one now None h = absurd (false≢true h)
-words_left-one now (Some line) h = words_of-some (now line)
+-- a line of blanks has no word
+pub words_of-none : (line : List ℕ) (k : ℕ) → k ≡ prefix_len is_blank line → length (drop k line) ≡ 0 → words_of line ≡ []
+words_of-none line k is none = words_of-skip line ∙ ap (λ n. words_of (drop n line)) (sym is) ∙ words_of-nothing (drop k line) none
+
+-- the first word of a line behind k blanks, of n bytes
+pub words_of-word : (line words : List ℕ) (k n : ℕ) → k ≡ prefix_len is_blank line → words ≡ drop k line → 0 < length words → n ≤ length words → n ≡ position_or_len is_blank words → words_of line ≡ take n words ∷ words_of (drop (n + 1) words)
+words_of-word line words k n is cut some le at =
+    let here : words ≡ drop (prefix_len is_blank line) line = cut ∙ ap (λ j. drop j line) is in
+    let long : 0 < length (drop (prefix_len is_blank line) line) = omega (arith, ap length here) in
+    let begins : 0 < position_or_len is_blank words = subst (λ w. 0 < position_or_len is_blank w) (sym here) (begins_word line long) in
+    words_of-skip line ∙ ap words_of (sym here) ∙ words_of-cut words n (omega arith) le at

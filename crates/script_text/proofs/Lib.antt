@@ -1,6 +1,8 @@
 pub mod Cuts
+pub mod Declared
 pub mod Options
 pub mod Digits
 pub mod OneLine
 pub mod Printing
 pub mod Rows
+pub mod PrintedRows

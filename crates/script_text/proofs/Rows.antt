@@ -1,25 +1,22 @@
--- Short scripts and their runs, computed from the definitions.
-use Rattle.std.proofs.Common.{◌≡◌, ℕ, true, false, List, [], ◌∷◌, ◌++◌, map, replicate, Result, Ok, Err, refl}
+-- Short scripts, and what they are, computed from the definitions.
+use Rattle.std.proofs.Common.{◌≡◌, ℕ, true, false, List, [], ◌∷◌, ◌++◌, map, replicate, Some, None, Result, Ok, Err, pos, negsuc, refl}
 use Rattle.std.specs.Prelude.{codes}
-use Rattle.std.specs.Fmt.{digits}
-use Rattle.hex.specs.Hex.{encode_with, decode_pairs}
+use Rattle.std.specs.List.{flat_map}
+use Rattle.hex.specs.Hex.{decode_pairs}
 use Rattle.uuid.specs.Text.{by_index}
 use Rattle.tee_types.specs.declared.call.Call.{Call}
-use Rattle.tee_types.specs.declared.call.Call.TheVariants.{Create, Open, Close, Read}
-use Rattle.tee_types.specs.declared.reply.Reply.TheVariants.{Done, Handle, Content, Info, Found, Refused, Misuse, Corrupt, NotAvailable, InDoubt, CounterSpent, NoMemory}
-use Rattle.tee_types.specs.declared.reply.Code.TheVariants.{NoSpace}
-use Rattle.tee_types.specs.declared.reply.Reason.TheVariants.{TooMany}
-use Rattle.tee_types.specs.declared.reply.Device.TheVariants.{Dir, File}
-use Rattle.tee_types.specs.declared.reply.Cause.TheVariants.{Fault, CardResult}
-use Rattle.store_model.specs.declared.event.Event.{Event}
-use Rattle.store_model.specs.declared.event.Event.TheVariants.{Call as CallEvent, Landed}
-use Rattle.store_model.specs.declared.event.Mark.TheVariants.{Unchanged, Made}
-use Rattle.script_text.specs.declared.script.Step.TheVariants.{Call as CallStep}
-use Rattle.script_text.specs.Lines.{lines_of, words_of}
-use Rattle.script_text.specs.Words.{is_name, id_of, bytes_of, flags_of, number_of}
+use Rattle.tee_types.specs.declared.call.Call.TheVariants.{Create, Open, Close, Read, Write, Truncate, Seek, Rename, Delete, Info, EnumNew, EnumStart, EnumNext, EnumReset, EnumFree}
+use Rattle.tee_types.specs.declared.call.Whence.TheVariants.{Set, Cur, End}
+use Rattle.script_text.specs.declared.reading.ScriptFault.{ScriptFault}
+use Rattle.script_text.specs.declared.reading.ScriptFault.TheVariants.{BadLine, TooManyApps}
+use Rattle.script_text.specs.declared.script.Control.TheVariants.{Serial, Phase}
+use Rattle.script_text.specs.declared.script.Step.{Step}
+use Rattle.script_text.specs.declared.script.Step.TheVariants.{Call as CallStep, Control as ControlStep}
+use Rattle.script_text.specs.Lines.{words_of}
+use Rattle.script_text.specs.Words.{is_name, id_of, bytes_of, numeral_of, offset_of, whence_of, letter_flags_of, bits_of, flags_of}
 use Rattle.script_text.specs.Script.{ScriptValue, no_script}
-use Rattle.script_text.specs.Grammar.{create_words, open_words, close_words, read_words, call_words, call_line, app_line, line_of, script_from, script_of}
-use Rattle.script_text.specs.Text.{flags_text, call_text, reply_text, event_text, events_text, phase_line, script_output}
+use Rattle.script_text.specs.Calls.{create_words, open_words, write_words, seek_words, rename_words, one_number, two_numbers, verb_of, call_words}
+use Rattle.script_text.specs.Grammar.{call_line, app_line, control_of, step_line, words_line, line_of, script_from, script_of}
 
 abbrev app : List ℕ
 app = 0 ∷ 0 ∷ 0 ∷ 0 ∷ 0 ∷ 0 ∷ 0 ∷ 0 ∷ 0 ∷ 0 ∷ 0 ∷ 0 ∷ 0 ∷ 0 ∷ 0 ∷ 1 ∷ []
@@ -27,144 +24,162 @@ app = 0 ∷ 0 ∷ 0 ∷ 0 ∷ 0 ∷ 0 ∷ 0 ∷ 0 ∷ 0 ∷ 0 ∷ 0 ∷ 0 ∷ 0 
 abbrev app_text : List ℕ
 app_text = codes "app a 00000000-0000-0000-0000-000000000001\n"
 
-abbrev first_script : ScriptValue
-first_script = record {
-  applications = record { name = codes "a"; app = app } ∷ [];
-  steps =
-      CallStep 0 (Create (0x6b ∷ []) (record { bits = 1 }) (0 ∷ []) [])
-      ∷ CallStep 0 (Read 0 4)
-      ∷ CallStep 0 (Close 0)
-      ∷ CallStep 0 (Open (0x6b ∷ []) (record { bits = 1 }))
-      ∷ [];
-}
+abbrev script_a : List Step → ScriptValue
+script_a steps = record { applications = record { name = codes "a"; app = app } ∷ []; steps = steps }
 
-first_object : script_of (app_text ++ codes "a create 6b r 00 -\na read 0 4\na close 0\na open 6b r\n") ≡ Ok first_script
-unfolding words_of lines_of create_words open_words close_words read_words call_words call_line app_line line_of script_from is_name id_of bytes_of flags_of number_of decode_pairs by_index
+-- what each of these texts is, below the line of the application `a`
+abbrev below : List (List ℕ) → List (Result ScriptValue ScriptFault)
+below texts = map (λ text. script_of (app_text ++ text)) texts
+
+-- the calls of the application `a`
+abbrev calls : List Call → Result ScriptValue ScriptFault
+calls these = Ok (script_a (map (λ call. CallStep 0 call) these))
+
+first_object : below
+    (codes "a create 6b r 00 -\na read 0 4\na close 0\na open 6b r\n"
+    ∷ codes "a create 6b r 00 -\na read 0 4\na close 0\na open 6b r"
+    ∷ [])
+    ≡ replicate 2 (calls (Create (0x6b ∷ []) (record { bits = 1 }) (0 ∷ []) [] ∷ Read 0 4 ∷ Close 0 ∷ Open (0x6b ∷ []) (record { bits = 1 }) ∷ []))
+unfolding words_of is_name id_of bytes_of numeral_of letter_flags_of bits_of flags_of create_words open_words one_number two_numbers verb_of call_words call_line app_line control_of step_line words_line line_of script_from decode_pairs by_index
 first_object = refl
 
--- the last line may lack its LF
-last_line : script_of (app_text ++ codes "a create 6b r 00 -\na read 0 4\na close 0\na open 6b r") ≡ Ok first_script
-unfolding words_of lines_of create_words open_words close_words read_words call_words call_line app_line line_of script_from is_name id_of bytes_of flags_of number_of decode_pairs by_index
-last_line = refl
-
 empty_script : script_of [] ≡ Ok no_script
-unfolding lines_of script_from
+unfolding script_from
 empty_script = refl
 
--- what each of these lines is, as the second of a script
-abbrev second_lines : List (List ℕ) → List (Result ScriptValue ℕ)
-second_lines lines = map (λ line. script_of (app_text ++ line)) lines
-
-abbrev with_step : Call → Result ScriptValue ℕ
-with_step call = Ok (record { applications = record { name = codes "a"; app = app } ∷ []; steps = CallStep 0 call ∷ [] })
+each_call : below
+    (codes "a write 1 00fF\na write 1 -\na truncate 2 1044480\na rename 3 6c\na delete 4\na info 5\na enum\na start 6\na next 7\na reset 8\na free 9\n"
+    ∷ codes "a seek 0 4095 set\na seek 0 -9 cur\na seek 0 -2 end\na seek 0 +7 cur\na seek 0 -0 set"
+    ∷ [])
+    ≡ calls (Write 1 (0 ∷ 255 ∷ []) ∷ Write 1 [] ∷ Truncate 2 1044480 ∷ Rename 3 (0x6c ∷ []) ∷ Delete 4 ∷ Info 5 ∷ EnumNew
+    ∷ EnumStart 6 ∷ EnumNext 7 ∷ EnumReset 8 ∷ EnumFree 9 ∷ [])
+    ∷ calls (Seek 0 (pos 4095) Set ∷ Seek 0 (negsuc 8) Cur ∷ Seek 0 (negsuc 1) End ∷ Seek 0 (pos 7) Cur ∷ Seek 0 (pos 0) Set ∷ [])
+    ∷ []
+unfolding words_of is_name id_of bytes_of numeral_of offset_of whence_of write_words seek_words rename_words one_number two_numbers verb_of call_words call_line app_line control_of step_line words_line line_of script_from decode_pairs by_index
+each_call = refl
 
 -- zeros in front and capital hex digits are good, and so are 64 bytes of an identifier and the greatest number
-good_lines : second_lines
+good_words : below
     (codes "a read 000 04294967295"
     ∷ codes "a open 6B6b rwmRWo"
     ∷ (codes "a open " ++ replicate 128 48 ++ codes " -")
     ∷ codes "a create 6b oWRmwr - 00FF"
+    ∷ codes "a open 6b 0x8\na open 6b 0x400\na open 6b 0xffFFffFF\na open 6b 0x00000000"
     ∷ [])
-    ≡ with_step (Read 0 4294967295)
-    ∷ with_step (Open (0x6b ∷ 0x6b ∷ []) (record { bits = 0x437 }))
-    ∷ with_step (Open (replicate 64 0) (record { bits = 0 }))
-    ∷ with_step (Create (0x6b ∷ []) (record { bits = 0x437 }) [] (0 ∷ 255 ∷ []))
+    ≡ calls (Read 0 4294967295 ∷ [])
+    ∷ calls (Open (0x6b ∷ 0x6b ∷ []) (record { bits = 0x437 }) ∷ [])
+    ∷ calls (Open (replicate 64 0) (record { bits = 0 }) ∷ [])
+    ∷ calls (Create (0x6b ∷ []) (record { bits = 0x437 }) [] (0 ∷ 255 ∷ []) ∷ [])
+    ∷ calls (map (λ bits. Open (0x6b ∷ []) (record { bits = bits })) (0x8 ∷ 0x400 ∷ 0xffffffff ∷ 0 ∷ []))
     ∷ []
-unfolding words_of lines_of create_words open_words close_words read_words call_words call_line app_line line_of script_from is_name id_of bytes_of flags_of number_of decode_pairs by_index
-good_lines = refl
+unfolding words_of is_name id_of bytes_of numeral_of letter_flags_of bits_of flags_of create_words open_words one_number two_numbers verb_of call_words call_line app_line control_of step_line words_line line_of script_from decode_pairs by_index
+good_words = refl
 
-bad_identifiers : second_lines
-    ((codes "a create " ++ replicate 130 48 ++ codes " r - -")
-    ∷ codes "a open - r"
-    ∷ codes "a open 6b6 r"
-    ∷ codes "a open 6g r"
-    ∷ [])
-    ≡ replicate 4 (Err 2)
-unfolding words_of lines_of create_words open_words close_words read_words call_words call_line app_line line_of script_from is_name id_of bytes_of flags_of number_of decode_pairs by_index
-bad_identifiers = refl
+bad_words : below
+    (map codes
+    ("a close 4294967296" ∷ "a close -1" ∷ "a close +1" ∷ "a close 0x1" ∷ "a open 6b rr" ∷ "a open 6b x" ∷ "a open 6b 0x" ∷ "a open 6b 0x000000001"
+    ∷ "a open 6b 0xg" ∷ "a open 6b 0X1" ∷ "a open 6b x1" ∷ "a create 6b r 0 -" ∷ "a create 6b r - 000" ∷ "a open - r" ∷ "a open 6b6 r" ∷ "a open 6g r"
+    ∷ "a seek 0 - set" ∷ "a seek 0 + set" ∷ "a seek 0 +-1 set" ∷ "a seek 0 0 SET" ∷ "a seek 0 0 begin" ∷ "a Close 0" ∷ "a write 0 f" ∷ [])
+    ++ (codes "a create " ++ replicate 130 48 ++ codes " r - -") ∷ [])
+    ≡ replicate 24 (Err (BadLine 2))
+unfolding words_of is_name id_of bytes_of numeral_of offset_of whence_of letter_flags_of bits_of flags_of create_words open_words write_words seek_words one_number two_numbers verb_of call_words call_line app_line control_of step_line words_line line_of script_from decode_pairs by_index
+bad_words = refl
 
--- two spaces, a space at either end, a tab, a CR, and an empty line
-bad_separators : second_lines
-    (codes "a  open 6b r"
-    ∷ codes "a open 6b r "
-    ∷ codes " a open 6b r"
-    ∷ (codes "a open 6b" ++ 9 ∷ codes "r")
-    ∷ (codes "a close 0" ++ 13 ∷ 10 ∷ [])
-    ∷ codes "\na close 0"
-    ∷ [])
-    ≡ replicate 6 (Err 2)
-unfolding words_of lines_of create_words open_words close_words read_words call_words call_line app_line line_of script_from is_name id_of bytes_of flags_of number_of decode_pairs by_index
-bad_separators = refl
+offsets : map offset_of
+    (codes "9223372036854775807" ∷ codes "-09223372036854775807" ∷ codes "9223372036854775808" ∷ codes "-9223372036854775808" ∷ codes "-" ∷ [] ∷ [])
+    ≡ Some (pos 9223372036854775807) ∷ Some (negsuc 9223372036854775806) ∷ None ∷ None ∷ None ∷ None ∷ []
+unfolding numeral_of offset_of
+offsets = refl
 
--- an unknown word, a second application, an undeclared one, too few words and too many
-bad_forms : second_lines
-    (codes "a write 0 ff"
-    ∷ codes "app b 00000000-0000-0000-0000-000000000002"
-    ∷ codes "b open 6b r"
-    ∷ codes "# a"
-    ∷ codes "a"
-    ∷ codes "a close"
-    ∷ codes "a close 0 0"
-    ∷ [])
-    ≡ replicate 7 (Err 2)
-unfolding words_of lines_of create_words open_words close_words read_words call_words call_line app_line line_of script_from is_name id_of bytes_of flags_of number_of decode_pairs by_index
+-- an unknown word, an undeclared application, too few words and too many, and words whose lines are not built
+bad_forms : below
+    (map codes
+    ("a wrote 0 ff" ∷ "b open 6b r" ∷ "a" ∷ "a close" ∷ "a close 0 0" ∷ "a enum 0" ∷ "a seek 0 0" ∷ "a # 0" ∷ "serial a" ∷ "phase 0" ∷ "threads" ∷ "list"
+    ∷ "stop card 1" ∷ "fail dir 1" ∷ "lose card 1" ∷ "taint 1 1 0 00" ∷ "flip 1 0 00" ∷ "crash 0" ∷ "save m" ∷ "restore 1 m" ∷ []))
+    ≡ replicate 20 (Err (BadLine 2))
+unfolding words_of is_name id_of bytes_of numeral_of offset_of whence_of letter_flags_of bits_of flags_of open_words seek_words one_number two_numbers verb_of call_words call_line app_line control_of step_line words_line line_of script_from decode_pairs by_index
 bad_forms = refl
 
-bad_values : second_lines
-    (codes "a close 4294967296"
-    ∷ codes "a close -1"
-    ∷ codes "a open 6b rr"
-    ∷ codes "a open 6b x"
-    ∷ codes "a open 6b 0x1"
-    ∷ codes "a create 6b r 0 -"
-    ∷ codes "a create 6b r - 000"
+-- further spaces and tabs, a CR before the LF, lines without a word, and comments
+good_separators : below
+    (codes "a  close \t 0"
+    ∷ codes " \ta close 0\t "
+    ∷ (codes "a close 0" ++ 13 ∷ 10 ∷ [])
+    ∷ (codes "\n \t\n" ++ 13 ∷ codes "\na close 0\n\n")
+    ∷ (codes "# a\n\t #a create\n#" ++ 0 ∷ 13 ∷ 127 ∷ codes "\na close 0")
     ∷ [])
-    ≡ replicate 7 (Err 2)
-unfolding words_of lines_of create_words open_words close_words read_words call_words call_line app_line line_of script_from is_name id_of bytes_of flags_of number_of decode_pairs by_index
-bad_values = refl
+    ≡ replicate 5 (calls (Close 0 ∷ []))
+unfolding words_of is_name numeral_of one_number verb_of call_words call_line app_line control_of step_line words_line line_of script_from by_index
+good_separators = refl
 
--- a call before the application is declared, and the first of two bad lines
-first_bad_line : (script_of (codes "a close 0\n") ≡ Err 1) × (script_of (app_text ++ codes "a close 0\na\nb") ≡ Err 3)
-unfolding words_of lines_of create_words open_words close_words read_words call_words call_line app_line line_of script_from is_name id_of bytes_of flags_of number_of decode_pairs by_index
-first_bad_line = (refl, refl)
+-- a CR that stands before no LF, other bytes that are not of words, and a byte past ASCII, in a comment too
+bad_separators : below
+    ((codes "a close 0" ++ 13 ∷ [])
+    ∷ (codes "a close 0" ++ 13 ∷ 13 ∷ 10 ∷ [])
+    ∷ (codes "a close" ++ 13 ∷ codes "0")
+    ∷ (codes "a close" ++ 12 ∷ codes "0")
+    ∷ (codes "a close 0 " ++ 0 ∷ [])
+    ∷ (codes "# a" ++ 128 ∷ [])
+    ∷ (codes " " ++ 255 ∷ codes "#")
+    ∷ [])
+    ≡ replicate 7 (Err (BadLine 2))
+unfolding words_of is_name numeral_of one_number verb_of call_words call_line app_line control_of step_line words_line line_of script_from by_index
+bad_separators = refl
 
-names : map is_name (codes "a" ∷ codes "a_9" ∷ codes "abcdefghijklmnop" ∷ codes "set" ∷ codes "dir" ∷ []) ≡ replicate 5 true
+-- controls stand where they are, also above an application
+controls : below
+    (codes "serial\nphase\napp b 00000000000000000000000000000001\nb enum\n phase \na enum" ∷ [])
+    ≡ Ok (record {
+      applications = record { name = codes "a"; app = app } ∷ record { name = codes "b"; app = app } ∷ [];
+      steps = ControlStep Serial ∷ ControlStep Phase ∷ CallStep 1 EnumNew ∷ ControlStep Phase ∷ CallStep 0 EnumNew ∷ [];
+    }) ∷ []
+unfolding words_of is_name verb_of call_words call_line app_line control_of step_line words_line line_of script_from by_index
+controls = refl
+
+-- a name again, an application below a call, a word too few and too many, and no UUID
+bad_applications : below
+    (codes "app a 00000000-0000-0000-0000-000000000002"
+    ∷ codes "app b"
+    ∷ codes "app b 00000000-0000-0000-0000-000000000002 c"
+    ∷ codes "app b 00000000-0000-0000-0000-00000000000g"
+    ∷ codes "app list 00000000-0000-0000-0000-000000000002"
+    ∷ [])
+    ++ below (codes "a enum\napp b 00000000-0000-0000-0000-000000000002" ∷ [])
+    ≡ replicate 5 (Err (BadLine 2)) ++ Err (BadLine 3) ∷ []
+unfolding words_of is_name verb_of call_words call_line app_line control_of step_line words_line line_of script_from by_index
+bad_applications = refl
+
+-- a call above every application, and the first of two bad lines; comments and empty lines count
+first_bad_line : script_of (codes "a close 0\n") ∷ below (codes "a close 0\na\nb" ∷ codes "\n# a\na close" ∷ [])
+    ≡ Err (BadLine 1) ∷ Err (BadLine 3) ∷ Err (BadLine 4) ∷ []
+unfolding words_of is_name numeral_of one_number verb_of call_words call_line app_line control_of step_line words_line line_of script_from by_index
+first_bad_line = refl
+
+-- the last of four lines is cut off
+truncated_script : below (codes "a create 6b rw - -\na read 0 1\na write 0 f" ∷ []) ≡ Err (BadLine 4) ∷ []
+unfolding words_of is_name id_of bytes_of numeral_of letter_flags_of bits_of flags_of create_words write_words two_numbers verb_of call_words call_line app_line control_of step_line words_line line_of script_from decode_pairs by_index
+truncated_script = refl
+
+-- an application under each of these letters
+abbrev applications : List ℕ → List ℕ
+applications letters = flat_map (λ letter. codes "app " ++ letter ∷ codes " 00000000000000000000000000000001\n") letters
+
+-- sixteen applications are good, a seventeenth is too many, and a bad line below it wins
+seventeen_applications :
+    script_of (applications (codes "abcdefghijklmnopq")) ∷ script_of (applications (codes "abcdefghijklmnopq") ++ codes "list\n") ∷ []
+    ≡ Err (TooManyApps 17) ∷ Err (BadLine 18) ∷ []
+unfolding words_of is_name verb_of call_words call_line app_line control_of step_line words_line line_of script_from by_index
+seventeen_applications = refl
+
+sixteen_applications : script_of (applications (codes "abcdefghijklmnop"))
+    ≡ Ok (record { applications = map (λ letter. record { name = letter ∷ []; app = app }) (codes "abcdefghijklmnop"); steps = [] })
+unfolding words_of is_name verb_of call_words call_line app_line control_of step_line words_line line_of script_from by_index
+sixteen_applications = refl
+
+names : map is_name (codes "a" ∷ codes "a_9" ∷ codes "abcdefghijklmnop" ∷ codes "set" ∷ codes "dir" ∷ codes "create" ∷ codes "card" ∷ []) ≡ replicate 7 true
 unfolding is_name
 names = refl
 
-no_names : map is_name ([] ∷ codes "9a" ∷ codes "_a" ∷ codes "A" ∷ codes "a-b" ∷ codes "abcdefghijklmnopq" ∷ codes "app" ∷ codes "list" ∷ []) ≡ replicate 8 false
+no_names : map is_name ([] ∷ codes "9a" ∷ codes "_a" ∷ codes "A" ∷ codes "a-b" ∷ codes "abcdefghijklmnopq" ∷ codes "app" ∷ codes "list" ∷ codes "restore" ∷ []) ≡ replicate 9 false
 unfolding is_name
 no_names = refl
-
--- the text of a run
-abbrev first_events : List Event
-first_events =
-    CallEvent 0 0 (Create (0x6b ∷ []) (record { bits = 1 }) (0 ∷ []) []) (Handle 0) (Made 1)
-    ∷ CallEvent 0 1 (Read 0 4) (Content []) Unchanged
-    ∷ CallEvent 0 2 (Close 0) Done Unchanged
-    ∷ CallEvent 0 3 (Open (0x6b ∷ []) (record { bits = 1 })) (Handle 1) Unchanged
-    ∷ []
-
-first_output : script_output first_script (record { opening = []; events = first_events } ∷ [])
-    ≡ codes "# phase 0 serial objects 0\n0 a create 6b r 00 - -> ok 0\n1 a read 0 4 -> ok -\n2 a close 0 -> ok\n3 a open 6b r -> ok 1\n"
-unfolding digits encode_with flags_text call_text reply_text event_text events_text phase_line
-first_output = refl
-
-landed : event_text first_script 12 (Landed 3) ≡ codes "12 - landed 3\n"
-unfolding digits event_text
-landed = refl
-
-flags : map (λ bits. flags_text (record { bits = bits })) (0 ∷ 0x1 ∷ 0x437 ∷ 0x400 ∷ 0x8 ∷ 0x408 ∷ 0xffffffff ∷ [])
-    ≡ codes "-" ∷ codes "r" ∷ codes "rwmRWo" ∷ codes "o" ∷ codes "0x00000008" ∷ codes "0x00000408" ∷ codes "0xffffffff" ∷ []
-unfolding encode_with flags_text
-flags = refl
-
-replies : map reply_text
-    (Info 32 5 (record { bits = 1 }) (0xa0 ∷ []) ∷ Found (0x6d ∷ []) 7 ∷ Refused NoSpace ∷ Misuse TooMany ∷ Corrupt
-    ∷ NotAvailable (Fault (File 272) 3) ∷ NotAvailable (Fault Dir 1) ∷ NotAvailable (CardResult 0x85)
-    ∷ InDoubt 3 ∷ CounterSpent 4294967295 ∷ NoMemory ∷ [])
-    ≡ codes "ok 32 5 r a0" ∷ codes "ok 6d 7" ∷ codes "STORAGE_NO_SPACE" ∷ codes "misuse TOO_MANY" ∷ codes "CORRUPT_OBJECT"
-    ∷ codes "STORAGE_NOT_AVAILABLE file 272 3" ∷ codes "STORAGE_NOT_AVAILABLE dir 1" ∷ codes "STORAGE_NOT_AVAILABLE result 0x0085"
-    ∷ codes "in-doubt 3" ∷ codes "counter-spent 4294967295" ∷ codes "no-memory" ∷ []
-unfolding digits encode_with flags_text reply_text
-replies = refl

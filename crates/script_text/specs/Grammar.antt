@@ -1,94 +1,85 @@
 -- The grammar of scripts: what each line means under the lines above it.
-use Rattle.std.specs.Prelude.{ℕ, ◌==◌, ◌+◌, ◌&&◌, List, [], ◌∷◌, ◌++◌, length, if◌then◌else◌, codes, Option, Some, None, option_and_then, position, Result, Ok, Err}
-use Rattle.tee_types.specs.declared.call.Call.{Call}
-use Rattle.tee_types.specs.declared.call.Call.TheVariants.{Create, Open, Close, Read}
-use Rattle.script_text.specs.declared.script.Declaration.{Declaration}
-use Rattle.script_text.specs.declared.script.Step.TheVariants.{Call as CallStep}
-use Rattle.script_text.specs.Lines.{lines_of, words_of}
-use Rattle.script_text.specs.Words.{same_word, is_name, uuid_of, id_of, bytes_of, flags_of, number_of}
-use Rattle.script_text.specs.Script.{ScriptValue, no_script}
-
-infixl 10 ◌>>=◌
-abbrev pub ◌>>=◌ : {A B : Type 0} → Option A → (A → Option B) → Option B
-o >>= f = option_and_then f o
-
--- `create ID FLAGS BYTES BYTES`: attributes, then data
-unfoldable pub create_words : List (List ℕ) → Option Call
-create_words (id ∷ flags ∷ attributes ∷ bytes ∷ []) = do
-  i ← id_of id
-  f ← flags_of flags
-  a ← bytes_of attributes
-  b ← bytes_of bytes
-  Some (Create i f a b)
-create_words _ = None
-
--- `open ID FLAGS`
-unfoldable pub open_words : List (List ℕ) → Option Call
-open_words (id ∷ flags ∷ []) = do
-  i ← id_of id
-  f ← flags_of flags
-  Some (Open i f)
-open_words _ = None
-
--- `close N`
-unfoldable pub close_words : List (List ℕ) → Option Call
-close_words (handle ∷ []) = do
-  h ← number_of handle
-  Some (Close h)
-close_words _ = None
-
--- `read N N`: the handle, then at most so many bytes
-unfoldable pub read_words : List (List ℕ) → Option Call
-read_words (handle ∷ size ∷ []) = do
-  h ← number_of handle
-  s ← number_of size
-  Some (Read h s)
-read_words _ = None
-
--- the words of a call, behind the name of the application
-unfoldable pub call_words : List (List ℕ) → Option Call
-call_words [] = None
-call_words (verb ∷ words) =
-    if same_word verb (codes "create") then create_words words
-    else if same_word verb (codes "open") then open_words words
-    else if same_word verb (codes "close") then close_words words
-    else if same_word verb (codes "read") then read_words words
-    else None
+use Rattle.std.specs.Prelude.{ℕ, ◌+◌, Bool, not, ◌&&◌, nat_lt, nat_eq, List, [], ◌∷◌, ◌++◌, length, if◌then◌else◌, codes, Option, Some, None, is_none, position, Result, Ok, Err}
+use Rattle.std.specs.List.{starts_with}
+use Rattle.script_text.specs.declared.script.Control.{Control}
+use Rattle.script_text.specs.declared.script.Control.TheVariants.{Serial, Phase}
+use Rattle.script_text.specs.declared.script.Step.{Step}
+use Rattle.script_text.specs.declared.script.Step.TheVariants.{Call as CallStep, Control as ControlStep}
+use Rattle.script_text.specs.declared.reading.ScriptFault.{ScriptFault}
+use Rattle.script_text.specs.declared.reading.ScriptFault.TheVariants.{BadLine, TooManyApps}
+use Rattle.script_text.specs.Lines.{lines_of, words_of, is_ascii}
+use Rattle.script_text.specs.Words.{same_word, is_name, uuid_of}
+use Rattle.script_text.specs.Script.{Declaration, ScriptValue, no_script, has_call}
+use Rattle.script_text.specs.Calls.{◌>>=◌, call_words}
 
 -- the place of the application of that name
 abbrev pub place_of : List ℕ → List Declaration → Option ℕ
-place_of name applications = position (λ d. same_word d.name name) applications
+place_of name applications = position (λ d. same_word name d.name) applications
+
+abbrev pub with_step : ScriptValue → Step → ScriptValue
+with_step script step = record script { steps = script.steps ++ step ∷ [] }
 
 -- `NAME CALL`, where NAME is declared above
 unfoldable pub call_line : ScriptValue → List ℕ → List (List ℕ) → Option ScriptValue
 call_line above name words = do
   place ← place_of name above.applications
   call ← call_words words
-  Some (record above { steps = above.steps ++ CallStep place call ∷ [] })
+  Some (with_step above (CallStep place call))
 
--- `app NAME UUID`: one application, declared in the first line
+-- an application may be declared under that name: it has the form of one and is new, and no call stands above
+abbrev pub may_declare : ScriptValue → List ℕ → Bool
+may_declare above name = is_name name && not (has_call above.steps) && is_none (place_of name above.applications)
+
+-- `app NAME UUID`
 unfoldable pub app_line : ScriptValue → List (List ℕ) → Option ScriptValue
 app_line above (name ∷ uuid ∷ []) =
-    if is_name name && (length above.applications == 0)
+    if may_declare above name
     then (do
       app ← uuid_of uuid
       Some (record above { applications = above.applications ++ record { name = name; app = app } ∷ [] }))
     else None
 app_line above _ = None
 
--- the script with one more line
-unfoldable pub line_of : ScriptValue → List (List ℕ) → Option ScriptValue
-line_of above [] = None
-line_of above (word ∷ words) = if same_word word (codes "app") then app_line above words else call_line above word words
+-- a control: `serial` or `phase`
+unfoldable pub control_of : List ℕ → List (List ℕ) → Option Control
+control_of word [] =
+    if same_word word (codes "serial") then Some Serial
+    else if same_word word (codes "phase") then Some Phase
+    else None
+control_of word _ = None
 
--- the script with these lines, numbered from n on; or the number of the first that is outside the grammar
-unfoldable pub script_from : ScriptValue → ℕ → List (List ℕ) → Result ScriptValue ℕ
-script_from above n [] = Ok above
-script_from above n (line ∷ lines) = elim (line_of above (words_of line)) [
-  | Some script ↦ script_from script (n + 1) lines
-  | None ↦ Err n
+-- a control, or a call
+unfoldable pub step_line : ScriptValue → List ℕ → List (List ℕ) → Option ScriptValue
+step_line above word words = elim (control_of word words) [
+  | Some control ↦ Some (with_step above (ControlStep control))
+  | None ↦ call_line above word words
 ]
 
--- the script that a text is; or the number of its first line outside the grammar
-abbrev pub script_of : List ℕ → Result ScriptValue ℕ
-script_of text = script_from no_script 1 (lines_of text)
+-- the script with one more line, of these words; a line without words and a comment add nothing
+unfoldable pub words_line : ScriptValue → List (List ℕ) → Option ScriptValue
+words_line above [] = Some above
+words_line above (word ∷ words) =
+    if starts_with nat_eq word (codes "#") then Some above
+    else if same_word word (codes "app") then app_line above words
+    else step_line above word words
+
+-- the script with one more line
+unfoldable pub line_of : ScriptValue → List ℕ → Option ScriptValue
+line_of above line = if is_ascii line then words_line above (words_of line) else None
+
+-- the script with these lines, numbered from n on; or the number of the first that is outside the grammar
+unfoldable pub script_from : ScriptValue → ℕ → List (List ℕ) → Result ScriptValue ScriptFault
+script_from above n [] = Ok above
+script_from above n (line ∷ lines) = elim (line_of above line) [
+  | Some script ↦ script_from script (n + 1) lines
+  | None ↦ Err (BadLine n)
+]
+
+-- a script has at most 16 applications
+abbrev pub few_applications : Result ScriptValue ScriptFault → Result ScriptValue ScriptFault
+few_applications (Err fault) = Err fault
+few_applications (Ok script) = if nat_lt 16 (length script.applications) then Err (TooManyApps (length script.applications)) else Ok script
+
+-- the script that a text is; or its first line outside the grammar; or, where none is, that it declares too many applications
+abbrev pub script_of : List ℕ → Result ScriptValue ScriptFault
+script_of text = few_applications (script_from no_script 1 (lines_of text))

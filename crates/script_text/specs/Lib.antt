@@ -1,6 +1,8 @@
-pub mod Lines
 pub mod Words
+pub mod Lines
 pub mod Script
+pub mod Calls
 pub mod Grammar
 pub mod Parsed
+pub mod Forms
 pub mod Text

@@ -1,22 +1,23 @@
 -- A text as lines, and a line as words.
-use Rattle.std.specs.Prelude.{ℕ, ◌==◌, List, [], ◌∷◌, if◌then◌else◌, Option, Some, None}
+use Rattle.std.specs.Prelude.{ℕ, ◌==◌, Bool, ◌||◌, nat_lt, List, length, filter}
+use Rattle.std.specs.List.{list_all, slice_split}
+use Rattle.std.specs.Str.Lines.{lines}
 
--- one more byte in front of the first of these pieces
-abbrev pub in_front : ℕ → List (List ℕ) → List (List ℕ)
-in_front byte [] = (byte ∷ []) ∷ []
-in_front byte (piece ∷ pieces) = (byte ∷ piece) ∷ pieces
+-- the lines of a text: LF ends a line, which the last may lack, and a CR right before an LF is dropped
+abbrev pub lines_of : List ℕ → List (List ℕ)
+lines_of text = lines text
 
--- the lines of a text: each is ended by LF, which the last may lack
-unfoldable pub lines_of : List ℕ → List (List ℕ)
-lines_of [] = []
-lines_of (byte ∷ text) = if byte == 10 then [] ∷ lines_of text else in_front byte (lines_of text)
+-- each byte is one of ASCII
+abbrev pub is_ascii : List ℕ → Bool
+is_ascii line = list_all (λ byte. nat_lt byte 128) line
 
--- the words of a line, between its spaces
+-- a space or a tab
+abbrev pub is_blank : ℕ → Bool
+is_blank byte = (byte == 32) || (byte == 9)
+
+abbrev pub has_bytes : List ℕ → Bool
+has_bytes word = nat_lt 0 (length word)
+
+-- the words of a line: what stands between its blanks, of which there may be any number
 unfoldable pub words_of : List ℕ → List (List ℕ)
-words_of [] = [] ∷ []
-words_of (byte ∷ line) = if byte == 32 then [] ∷ words_of line else in_front byte (words_of line)
-
--- the words of what is left of a line: nothing behind the last word
-abbrev pub words_left : Option (List ℕ) → List (List ℕ)
-words_left None = []
-words_left (Some line) = words_of line
+words_of line = filter has_bytes (slice_split is_blank line)

@@ -1,13 +1,18 @@
 -- The forms of words, and the values that they stand for.
-use Rattle.std.specs.Prelude.{ℕ, ◌==◌, ◌+◌, ◌*◌, Bool, not, ◌&&◌, ◌||◌, nat_le, nat_eq, List, [], ◌∷◌, length, if◌then◌else◌, codes, Option, Some, None, count_by, slice_index}
-use Rattle.std.specs.List.{list_any, list_all}
+use Rattle.std.specs.Prelude.{ℕ, ◌==◌, ◌+◌, ◌*◌, Bool, not, ◌&&◌, ◌||◌, nat_lt, nat_le, nat_eq, List, [], ◌∷◌, length, drop, if◌then◌else◌, codes, Option, Some, None, count_by, slice_index, ℤ, pos, neg_ℤ}
+use Rattle.std.specs.List.{list_any, list_all, starts_with}
+use Rattle.std.specs.Option.{option_map}
 use Rattle.std.specs.Cmp.Lexicographic.{pointwise}
+use Rattle.std.specs.Char.{digit_value}
+use Rattle.std.specs.Map.{lookup}
 use Rattle.std.specs.Result.{result_ok}
-use Rattle.std.specs.Str.Parse.{digits_value}
+use Rattle.std.specs.Str.Parse.{digits_value, starts_with_minus, without_leading_plus}
 use Rattle.hex.specs.Hex.{decode_of}
 use Rattle.uuid.specs.Text.{parsed}
 use Rattle.tee_types.specs.declared.flags.Flags.{Flags}
 use Rattle.tee_types.specs.declared.flags.TheConstants.{READ, WRITE, WRITE_META, SHARE_READ, SHARE_WRITE, OVERWRITE}
+use Rattle.tee_types.specs.declared.call.Whence.{Whence}
+use Rattle.tee_types.specs.declared.call.Whence.TheVariants.{Set, Cur, End}
 
 -- the two words are alike
 abbrev pub same_word : List ℕ → List ℕ → Bool
@@ -48,6 +53,35 @@ bytes_of word =
     else if nat_le 2 (length word) then result_ok (decode_of word)
     else None
 
+-- each byte is a digit in that base
+abbrev pub are_digits : ℕ → List ℕ → Bool
+are_digits base word = list_all (λ byte. nat_lt (digit_value byte) base) word
+
+-- digits in that base, at least one, of a number up to the greatest; zeros may lead
+unfoldable pub numeral_of : ℕ → ℕ → List ℕ → Option ℕ
+numeral_of base greatest word =
+    if nat_le 1 (length word) && are_digits base word && nat_le (digits_value base word) greatest
+    then Some (digits_value base word)
+    else None
+
+-- N: decimal digits, of a number up to 4,294,967,295
+abbrev pub number_of : List ℕ → Option ℕ
+number_of word = numeral_of 10 4294967295 word
+
+-- OFFSET: `-`, `+` or no sign, then decimal digits, of a number up to 9,223,372,036,854,775,807
+unfoldable pub offset_of : List ℕ → Option ℤ
+offset_of word =
+    if starts_with_minus word
+    then option_map (λ n. neg_ℤ (pos n)) (numeral_of 10 9223372036854775807 (drop 1 word))
+    else option_map pos (numeral_of 10 9223372036854775807 (without_leading_plus word))
+
+abbrev pub whences : List (List ℕ × Whence)
+whences = (codes "set", Set) ∷ (codes "cur", Cur) ∷ (codes "end", End) ∷ []
+
+-- from where a seek counts
+unfoldable pub whence_of : List ℕ → Option Whence
+whence_of word = lookup (same_word word) whences
+
 abbrev pub count_of : List ℕ → ℕ → ℕ
 count_of word letter = count_by (λ byte. byte == letter) word
 
@@ -59,9 +93,9 @@ are_flag_letters word =
     && nat_le (count_of word 82) 1 && nat_le (count_of word 87) 1 && nat_le (count_of word 111) 1
     && (count_of word 114 + count_of word 119 + count_of word 109 + count_of word 82 + count_of word 87 + count_of word 111 == length word)
 
--- FLAGS: letters of r READ, w WRITE, m WRITE_META, R SHARE_READ, W SHARE_WRITE, o OVERWRITE; or `-` for none
-unfoldable pub flags_of : List ℕ → Option Flags
-flags_of word =
+-- letters of r READ, w WRITE, m WRITE_META, R SHARE_READ, W SHARE_WRITE, o OVERWRITE; or `-` for none
+unfoldable pub letter_flags_of : List ℕ → Option Flags
+letter_flags_of word =
     if same_word word (codes "-") then Some (record { bits = 0 })
     else if are_flag_letters word then Some (record {
       bits = count_of word 114 * READ + count_of word 119 * WRITE + count_of word 109 * WRITE_META
@@ -69,9 +103,11 @@ flags_of word =
     })
     else None
 
--- N: decimal digits, of a number up to 4,294,967,295
-unfoldable pub number_of : List ℕ → Option ℕ
-number_of word =
-    if nat_le 1 (length word) && list_all is_digit word && nat_le (digits_value 10 word) 4294967295
-    then Some (digits_value 10 word)
-    else None
+-- the bits in 1 to 8 hex digits
+unfoldable pub bits_of : List ℕ → Option Flags
+bits_of digits =
+    if nat_le (length digits) 8 then option_map (λ bits. record { bits = bits }) (numeral_of 16 4294967295 digits) else None
+
+-- FLAGS: letters, or `0x` and the bits in hex
+unfoldable pub flags_of : List ℕ → Option Flags
+flags_of word = if starts_with nat_eq word (codes "0x") then bits_of (drop 2 word) else letter_flags_of word

@@ -1,7 +1,11 @@
 //! Scripts of applications: their grammar, read, and the text of a run, written.
 #![tactic(auto)]
 
+mod append;
+mod calls;
 mod print;
+mod print_call;
+mod print_reply;
 mod reading;
 mod script;
 #[cfg(test)]
@@ -9,6 +13,6 @@ mod tests;
 mod values;
 mod words;
 
-pub use print::{print_event, print_phase};
-pub use reading::{ScriptFault, parse};
-pub use script::{Declaration, Script, Step};
+pub use print::{print_control, print_event, print_phase};
+pub use reading::{MAX_APPLICATIONS, ScriptFault, parse};
+pub use script::{Control, Script, Step};

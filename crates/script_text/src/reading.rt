@@ -1,21 +1,28 @@
 //! Reading a script.
 
-ghost use Rattle.std.specs.Prelude.{◌≡◌, ◌^◌, ◌<◌, ◌≤◌, ◌+◌, length, IfOk, OnOk, option_copied, Some, None};
-ghost use Rattle.script_text.specs.Lines.{words_left, words_of};
-ghost use Rattle.script_text.specs.Grammar.{create_words, open_words, close_words, read_words, call_words, app_line, call_line, line_of, script_of};
-ghost use Rattle.script_text.specs.Parsed.{IsParsed, IsRead};
+ghost use Rattle.std.specs.Prelude.{◌≡◌, ◌^◌, ◌<◌, ◌≤◌, ◌+◌, length, IfOk, OnOk};
+ghost use Rattle.script_text.specs.Lines.{lines_of, words_of};
+ghost use Rattle.script_text.specs.Script.{ScriptValue, no_script};
+ghost use Rattle.script_text.specs.Grammar.{app_line, call_line, control_of, step_line, words_line, line_of, script_from, script_of};
+ghost use Rattle.script_text.specs.Parsed.{IsParsed, IsRead, HasGrown};
 
-use crate::script::{Script, Step};
-use crate::values::{bytes, flags, id, is_name, number, same, uuid};
-use crate::words::{Rest, cut_line, cut_word, four, one, two};
+use crate::calls::call;
+use crate::script::{Control, Script, Step};
+use crate::values::{is_name, same, uuid};
+use crate::words::{cut_line, cut_word, is_ascii, two};
 use std::alloc::{AllocError, Global};
-use tee_types::{Bytes, Call, NoMemory};
+use tee_types::NoMemory;
+
+/// The greatest number of applications that a script may declare.
+pub const MAX_APPLICATIONS: u32 = 16;
 
 /// Why a text is not read as a script.
 #[derive(Clone, Copy, Debug, PartialEq, Eq)]
 pub enum ScriptFault {
     /// The line of this number, from 1, is the first outside the grammar.
     BadLine(u32),
+    /// No line is bad, but so many applications are declared, more than 16.
+    TooManyApps(u32),
     /// There is no memory for the script.
     NoMemory,
 }
@@ -31,99 +38,12 @@ impl From<AllocError> for ScriptFault {
     }
 }
 
-/// `create ID FLAGS BYTES BYTES`
-#[tactic(auto, unfolding(crate::specs::Grammar::create_words))]
-fn create<'a>(alloc: Global, words: Rest<'a>) -> Result<Option<Call>, NoMemory>
-    ensures { IfOk result (λ call. call ≡ create_words (words_left (option_copied words.entry))) }
-{
-    let Some((id_word, flags_word, attributes_word, bytes_word)) = four(words) else {
-        return Ok(None);
-    };
-    let Some(id) = id(id_word) else {
-        return Ok(None);
-    };
-    let Some(flags) = flags(flags_word) else {
-        return Ok(None);
-    };
-    let Some(attributes) = bytes(alloc, attributes_word)? else {
-        return Ok(None);
-    };
-    let Some(bytes) = bytes(alloc, bytes_word)? else {
-        return Ok(None);
-    };
-    Ok(Some(Call::Create {
-        id,
-        flags,
-        attributes,
-        bytes,
-    }))
-}
-
-/// `open ID FLAGS`
-#[tactic(auto, unfolding(crate::specs::Grammar::open_words))]
-fn open<'a>(words: Rest<'a>) -> Option<Call>
-    ensures { result ≡ open_words (words_left (option_copied words.entry)) }
-{
-    let (id_word, flags_word) = two(words)?;
-    let id = id(id_word)?;
-    let flags = flags(flags_word)?;
-    Some(Call::Open { id, flags })
-}
-
-/// `close N`
-#[tactic(auto, unfolding(crate::specs::Grammar::close_words))]
-fn close<'a>(words: Rest<'a>) -> Option<Call>
-    ensures { result ≡ close_words (words_left (option_copied words.entry)) }
-{
-    let handle = number(one(words)?)?;
-    Some(Call::Close { handle })
-}
-
-/// `read N N`
-#[tactic(auto, unfolding(crate::specs::Grammar::read_words))]
-fn read<'a>(words: Rest<'a>) -> Option<Call>
-    ensures { result ≡ read_words (words_left (option_copied words.entry)) }
-{
-    let (handle_word, size_word) = two(words)?;
-    let handle = number(handle_word)?;
-    let size = number(size_word)?;
-    Some(Call::Read { handle, size })
-}
-
-/// A call, behind the name of its application.
-#[tactic(auto, unfolding(crate::specs::Grammar::call_words))]
-fn call<'a>(alloc: Global, words: Rest<'a>) -> Result<Option<Call>, NoMemory>
-    ensures { IfOk result (λ call. call ≡ call_words (words_left (option_copied words.entry))) }
-{
-    let Some((verb, words)) = cut_word(words) else {
-        return Ok(None);
-    };
-    if same(verb, b"create") {
-        return create(alloc, words);
-    }
-    if same(verb, b"open") {
-        return Ok(open(words));
-    }
-    if same(verb, b"close") {
-        return Ok(close(words));
-    }
-    if same(verb, b"read") {
-        return Ok(read(words));
-    }
-    Ok(None)
-}
-
 /// `NAME CALL`: adds the step, and tells whether the line is in the grammar.
 #[tactic(auto, unfolding(crate::specs::Grammar::call_line))]
-fn add_call<'a>(
-    alloc: Global,
-    script: &mut Script,
-    name: &[u8],
-    words: Rest<'a>,
-) -> Result<bool, NoMemory>
+fn add_call(alloc: Global, script: &mut Script, name: &[u8], words: &[u8]) -> Result<bool, NoMemory>
     ensures read { IfOk result (λ good. IsRead good script.old script.new
-        (call_line script.old name.now (words_left (option_copied words.entry)))) }
-    ensures short { OnOk result (length script.new.steps ≤ length script.old.steps + 1) }
+        (call_line script.old name.now (words_of words.now))) }
+    ensures grown { OnOk result (HasGrown script.old script.new) }
 {
     let Some(app) = script.place_of(name) else {
         return Ok(false);
@@ -137,44 +57,91 @@ fn add_call<'a>(
 
 /// `app NAME UUID`: declares the application, and tells whether the line is in the grammar.
 #[tactic(auto, unfolding(crate::specs::Grammar::app_line))]
-fn add_app<'a>(alloc: Global, script: &mut Script, words: Rest<'a>) -> Result<bool, NoMemory>
-    ensures read { IfOk result (λ good. IsRead good script.old script.new
-        (app_line script.old (words_left (option_copied words.entry)))) }
-    ensures short { OnOk result (length script.new.steps ≤ length script.old.steps + 1) }
+fn add_app(alloc: Global, script: &mut Script, words: &[u8]) -> Result<bool, NoMemory>
+    requires { length script.old.applications + 1 < 2 ^ 32 }
+    ensures read { IfOk result (λ good. IsRead good script.old script.new (app_line script.old (words_of words.now))) }
+    ensures grown { OnOk result (HasGrown script.old script.new) }
 {
     let Some((name, uuid_word)) = two(words) else {
         return Ok(false);
     };
-    if !is_name(name) || script.apps() != 0 {
+    if !is_name(name) || script.has_call() || script.place_of(name).is_some() {
         return Ok(false);
     }
     let Some(app) = uuid(uuid_word) else {
         return Ok(false);
     };
-    script.declare(Bytes::from_slice(alloc, name)?, app)?;
+    script.declare(Vec::from_slice(alloc, name)?, app)?;
     Ok(true)
+}
+
+/// The control that a line is.
+#[tactic(auto, unfolding(crate::specs::Grammar::control_of))]
+fn control(word: &[u8], words: &[u8]) -> Option<Control>
+    ensures { result ≡ control_of word.now (words_of words.now) }
+{
+    if cut_word(words).is_some() {
+        return None;
+    }
+    if same(word, b"serial") {
+        return Some(Control::Serial);
+    }
+    if same(word, b"phase") {
+        return Some(Control::Phase);
+    }
+    None
+}
+
+/// Adds the step that a line means, a control or a call, and tells whether the line is in the grammar.
+#[tactic(auto, unfolding(crate::specs::Grammar::step_line))]
+fn add_step(alloc: Global, script: &mut Script, word: &[u8], words: &[u8]) -> Result<bool, NoMemory>
+    ensures read { IfOk result (λ good. IsRead good script.old script.new
+        (step_line script.old word.now (words_of words.now))) }
+    ensures grown { OnOk result (HasGrown script.old script.new) }
+{
+    let Some(control) = control(word, words) else {
+        return add_call(alloc, script, word, words);
+    };
+    script.add(Step::Control(control))?;
+    Ok(true)
+}
+
+/// Adds what the words of a line mean, and tells whether the line is in the grammar.
+#[tactic(auto, unfolding(crate::specs::Grammar::words_line))]
+fn add_words(alloc: Global, script: &mut Script, line: &[u8]) -> Result<bool, NoMemory>
+    requires { length script.old.applications + 1 < 2 ^ 32 }
+    ensures read { IfOk result (λ good. IsRead good script.old script.new (words_line script.old (words_of line.now))) }
+    ensures grown { OnOk result (HasGrown script.old script.new) }
+{
+    let Some((word, words)) = cut_word(line) else {
+        return Ok(true);
+    };
+    if word.starts_with(b"#") {
+        return Ok(true);
+    }
+    if same(word, b"app") {
+        return add_app(alloc, script, words);
+    }
+    add_step(alloc, script, word, words)
 }
 
 /// Adds what one line means, and tells whether the line is in the grammar.
 #[tactic(auto, unfolding(crate::specs::Grammar::line_of))]
 fn add_line(alloc: Global, script: &mut Script, line: &[u8]) -> Result<bool, NoMemory>
-    ensures read { IfOk result (λ good. IsRead good script.old script.new (line_of script.old (words_of line.now))) }
-    ensures short { OnOk result (length script.new.steps ≤ length script.old.steps + 1) }
+    requires { length script.old.applications + 1 < 2 ^ 32 }
+    ensures read { IfOk result (λ good. IsRead good script.old script.new (line_of script.old line.now)) }
+    ensures grown { OnOk result (HasGrown script.old script.new) }
 {
-    let Some((word, words)) = cut_word(Some(line)) else {
+    if !is_ascii(line) {
         return Ok(false);
-    };
-    if same(word, b"app") {
-        add_app(alloc, script, words)
-    } else {
-        add_call(alloc, script, word, words)
     }
+    add_words(alloc, script, line)
 }
 
-/// Reads a script. `BadLine` comes exactly where that line is the first outside the grammar.
-pub fn parse(alloc: Global, text: &[u8]) -> Result<Script, ScriptFault>
+/// Reads the lines of a script, however many applications they declare.
+fn read_lines(alloc: Global, text: &[u8]) -> Result<Script, ScriptFault>
     requires { length text.now < 2 ^ 32 }
-    ensures meaning { IsParsed result (script_of text.now) }
+    ensures meaning { IsParsed result (script_from no_script 1 (lines_of text.now)) }
     ensures short { IfOk result (λ script. length script.steps ≤ length text.now) }
 {
     let mut script = Script::new(alloc);
@@ -186,6 +153,20 @@ pub fn parse(alloc: Global, text: &[u8]) -> Result<Script, ScriptFault>
             return Err(ScriptFault::BadLine(number));
         }
         rest = behind;
+    }
+    Ok(script)
+}
+
+/// Reads a script. `BadLine` comes exactly where that line is the first outside the grammar, and `TooManyApps`
+/// exactly where no line is, and more than 16 applications are declared.
+pub fn parse(alloc: Global, text: &[u8]) -> Result<Script, ScriptFault>
+    requires { length text.now < 2 ^ 32 }
+    ensures meaning { IsParsed result (script_of text.now) }
+    ensures short { IfOk result (λ script. length script.steps ≤ length text.now) }
+{
+    let script = read_lines(alloc, text)?;
+    if MAX_APPLICATIONS < script.apps() {
+        return Err(ScriptFault::TooManyApps(script.apps()));
     }
     Ok(script)
 }

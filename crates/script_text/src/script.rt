@@ -1,20 +1,17 @@
 //! A script that was read.
 
-ghost use Rattle.std.specs.Prelude.{◌≡◌, ◌<◌, length, IfSome};
-ghost use Rattle.script_text.specs.Grammar.{place_of};
-
-use crate::values::same;
+use indexmap::IndexMap;
 use std::alloc::Global;
 use std::marker::Model;
-use tee_types::{AppId, Bytes, Call, NoMemory};
+use tee_types::{AppId, Call, NoMemory};
 
-/// An application that a script declares: the name by which its lines call it, and its UUID.
+/// A line that is no call: it ends the phase above it.
 #[derive(Debug, Drop)]
-pub struct Declaration {
-    /// The name in the script.
-    pub name: Bytes,
-    /// The application.
-    pub app: AppId,
+pub enum Control {
+    /// The calls of the phases below are made one after another, in the script's order.
+    Serial,
+    /// The phase above ends, and nothing else is done.
+    Phase,
 }
 
 /// One step of a script.
@@ -27,59 +24,71 @@ pub enum Step {
         /// The call.
         call: Call,
     },
+    /// A control.
+    Control(Control),
 }
 
-/// A script: its applications in the order of declaration, and its steps.
+/// A script: its applications in the order of declaration, each with the name by which its lines call it, and
+/// its steps.
 #[derive(Debug, Drop)]
 pub struct Script {
-    declared: Vec<Declaration>,
+    declared: IndexMap<Vec<u8>, AppId>,
     made: Vec<Step>,
+    // whether a call is among the steps
+    calling: bool,
 }
 
 impl Model for Script {
-    ghost use Rattle.std.specs.Prelude.{◌<◌, ◌^◌, All, vec_len};
-    ghost use Rattle.script_text.specs.Script.{ScriptValue, IsPlaced};
+    ghost use Rattle.std.specs.Prelude.{◌≡◌, ◌<◌, ◌^◌, All};
+    ghost use Rattle.indexmap.specs.IndexMap.{index_map_len};
+    ghost use Rattle.script_text.specs.Script.{ScriptValue, IsPlaced, declarations_of, has_call};
 
     ghost Value = { ScriptValue };
 
-    ghost view = { λ a. record { applications = a.declared.items; steps = a.made.items } };
+    ghost view = { λ a. record { applications = declarations_of a.declared.entries; steps = a.made.items } };
 
-    ghost invariant = { λ a. (vec_len a.declared < 2 ^ 32) × All (IsPlaced (vec_len a.declared)) a.made.items };
+    ghost invariant = { λ a. (index_map_len a.declared < 2 ^ 32)
+        × All (IsPlaced (index_map_len a.declared)) a.made.items
+        × (a.calling ≡ has_call a.made.items) };
 }
 
 impl Script {
-    ghost use Rattle.std.specs.Prelude.{◌≡◌, ◌+◌, ◌^◌, ◌<◌, [], ◌∷◌, ◌++◌, length, slice_get, option_copied, All, IfSome, OnOk};
+    ghost use Rattle.std.specs.Prelude.{◌≡◌, ◌+◌, ◌^◌, ◌<◌, None, [], ◌∷◌, ◌++◌, map, length, slice_get, option_copied, All, IfSome, OnOk};
     ghost use Rattle.std.specs.Option.{option_map};
-    ghost use Rattle.script_text.specs.Script.{no_script, IsPlaced};
-    ghost use Rattle.script_text.specs.Grammar.{place_of};
+    ghost use Rattle.script_text.specs.Script.{no_script, IsPlaced, has_call};
+    ghost use Rattle.script_text.specs.Grammar.{place_of, with_step};
 
     /// A script without applications and steps.
     pub(crate) fn new(alloc: Global) -> Script
         ensures { result ≡ no_script }
     {
         Script {
-            declared: Vec::new(alloc),
+            declared: IndexMap::new(alloc),
             made: Vec::new(alloc),
+            calling: false,
         }
     }
 
-    /// Declares one more application.
-    pub(crate) fn declare(&mut self, name: Bytes, app: AppId) -> Result<(), NoMemory>
-        requires { length self.old.applications + 1 < 2 ^ 32 }
+    /// Declares one more application, under a new name.
+    pub(crate) fn declare(&mut self, name: Vec<u8>, app: AppId) -> Result<(), NoMemory>
+        requires room { length self.old.applications + 1 < 2 ^ 32 }
+        requires new { place_of name.items self.old.applications ≡ None }
         ensures { OnOk result (self.new ≡ record self.old {
-          applications = self.old.applications ++ record { name = name; app = app } ∷ [];
+          applications = self.old.applications ++ record { name = name.items; app = app } ∷ [];
         }) }
     {
-        self.declared.push(Declaration { name, app })?;
+        self.declared.insert(name, app)?;
         Ok(())
     }
 
     /// Adds a step at the end.
     pub(crate) fn add(&mut self, step: Step) -> Result<(), NoMemory>
         requires { IsPlaced (length self.old.applications) step }
-        ensures { OnOk result (self.new ≡ record self.old { steps = self.old.steps ++ step ∷ [] }) }
+        ensures { OnOk result (self.new ≡ with_step self.old step) }
     {
+        let calls = matches!(step, Step::Call { .. });
         self.made.push(step)?;
+        self.calling = self.calling || calls;
         Ok(())
     }
 
@@ -88,8 +97,15 @@ impl Script {
         ensures place { result ≡ place_of name.now self.now.applications }
         ensures within { IfSome result (λ place. place < length self.now.applications) }
     {
-        let place = place_among(self.declared.as_slice(), name)?;
+        let place = self.declared.get_index_of(name)?;
         Some(place as u32)
+    }
+
+    /// Whether a call is among the steps.
+    pub(crate) fn has_call(&self) -> bool
+        ensures { result ≡ has_call self.now.steps }
+    {
+        self.calling
     }
 
     /// How many applications the script declares.
@@ -100,26 +116,26 @@ impl Script {
     }
 
     /// The applications, in the order of declaration.
-    pub fn applications(&self) -> &[Declaration]
-        ensures { result.now ≡ self.now.applications }
+    pub fn applications(&self) -> &[AppId]
+        ensures { result.now ≡ map (λ d. d.app) self.now.applications }
     {
-        self.declared.as_slice()
+        self.declared.values().as_slice()
     }
 
     /// The name of the application at that place.
     pub fn name(&self, app: u32) -> Option<&[u8]>
         ensures { option_copied result ≡ option_map (λ d. d.name) (slice_get self.now.applications app) }
     {
-        let declared = self.declared.get(app as usize)?;
-        Some(declared.name.as_slice())
+        let (name, _) = self.declared.get_index(app as usize)?;
+        Some(name.as_slice())
     }
 
     /// The application at that place.
     pub fn app(&self, app: u32) -> Option<AppId>
         ensures { result ≡ option_map (λ d. d.app) (slice_get self.now.applications app) }
     {
-        let declared = self.declared.get(app as usize)?;
-        Some(declared.app)
+        let (_, app) = self.declared.get_index(app as usize)?;
+        Some(*app)
     }
 
     /// How many steps there are.
@@ -144,12 +160,4 @@ impl Script {
     {
         self.made.get(index as usize)
     }
-}
-
-/// The place of the application of that name among these.
-fn place_among(declared: &[Declaration], name: &[u8]) -> Option<usize>
-    ensures place { result ≡ place_of name.now declared.now }
-    ensures within { IfSome result (λ place. place < length declared.now) }
-{
-    declared.iter().position(|d| same(d.name.as_slice(), name))
 }

@@ -1,14 +1,15 @@
 //! The values that words stand for.
 
-ghost use Rattle.std.specs.Prelude.{◌≡◌, ◌≤◌, ◌==◌, ◌||◌, ◌^◌, true, min, length, IfOk};
+ghost use Rattle.std.specs.Prelude.{◌≡◌, ◌<◌, ◌≤◌, ◌+◌, ◌==◌, ◌||◌, ◌^◌, true, min, length, IfOk, IfSome};
+ghost use Rattle.std.specs.Char.{digit_value};
 ghost use Rattle.std.specs.Str.Parse.{digits_value};
 ghost use Rattle.std.specs.List.{list_any, list_all};
-ghost use Rattle.script_text.specs.Words.{same_word, is_name, uuid_of, id_of, bytes_of, flags_of, number_of, count_of, is_digit, is_small_letter, reserved_words};
+ghost use Rattle.script_text.specs.Words.{same_word, is_name, uuid_of, id_of, bytes_of, letter_flags_of, bits_of, flags_of, numeral_of, number_of, offset_of, whence_of, count_of, are_digits, is_digit, is_small_letter, reserved_words};
 
 use std::alloc::Global;
 use tee_types::{
     AppId, Bytes, Flags, NoMemory, OVERWRITE, ObjectId, READ, SHARE_READ, SHARE_WRITE, WRITE,
-    WRITE_META,
+    WRITE_META, Whence,
 };
 use uuid::Uuid;
 
@@ -37,10 +38,10 @@ pub(crate) fn same(a: &[u8], b: &[u8]) -> bool
     a == b
 }
 
-/// The flags that a word stands for.
-#[tactic(auto, unfolding(crate::specs::Words::flags_of))]
-pub(crate) fn flags(word: &[u8]) -> Option<Flags>
-    ensures { result ≡ flags_of word.now }
+/// The flags that letters stand for.
+#[tactic(auto, unfolding(crate::specs::Words::letter_flags_of))]
+fn letter_flags(word: &[u8]) -> Option<Flags>
+    ensures { result ≡ letter_flags_of word.now }
 {
     if same(word, b"-") {
         return Some(Flags { bits: 0 });
@@ -73,36 +74,113 @@ pub(crate) fn flags(word: &[u8]) -> Option<Flags>
     })
 }
 
-/// Whether each byte is a decimal digit.
-fn are_digits(word: &[u8]) -> bool
-    ensures { result ≡ list_all is_digit word.now }
+/// The flags whose bits are 1 to 8 hex digits.
+#[tactic(auto, unfolding(crate::specs::Words::bits_of))]
+fn bits(digits: &[u8]) -> Option<Flags>
+    ensures { result ≡ bits_of digits.now }
 {
-    word.iter().all(|b| b'0' <= *b && *b <= b'9')
+    if 8 < digits.len() {
+        return None;
+    }
+    let bits = numeral(digits, 16, u32::MAX as u64)?;
+    Some(Flags { bits: bits as u32 })
 }
 
-/// The number of these digits, or 2 ^ 32 where it is above that.
-fn capped(digits: &[u8]) -> u64
-    requires { list_all is_digit digits.now ≡ true }
-    ensures { result ≡ min (digits_value 10 digits.now) (2 ^ 32) }
+/// The flags that a word stands for.
+#[tactic(auto, unfolding(crate::specs::Words::flags_of))]
+pub(crate) fn flags(word: &[u8]) -> Option<Flags>
+    ensures { result ≡ flags_of word.now }
 {
-    let mut value = 0u64;
-    for digit in digits {
-        value = (value * 10 + (*digit - b'0') as u64).min(1 << 32);
+    if word.starts_with(b"0x") {
+        bits(&word[2..])
+    } else {
+        letter_flags(word)
     }
-    value
+}
+
+/// The value of a digit or a letter, from 0 for `0` to 35 for `z`, and 36 for another byte.
+fn digit_value(byte: u8) -> u8
+    ensures value { result ≡ digit_value byte }
+    ensures small { result ≤ 36 }
+{
+    match byte {
+        b'0'..=b'9' => byte - b'0',
+        b'A'..=b'Z' => byte - b'A' + 10,
+        b'a'..=b'z' => byte - b'a' + 10,
+        _ => 36,
+    }
+}
+
+/// Whether each byte is a digit in that base.
+fn are_digits(base: u8, word: &[u8]) -> bool
+    ensures { result ≡ are_digits base word.now }
+{
+    word.iter().all(|b| digit_value(*b) < base)
+}
+
+/// The number of these digits, or `limit` where it is above that.
+fn capped(base: u8, limit: u64, digits: &[u8]) -> u64
+    requires base { 1 ≤ base }
+    ensures { result ≡ min (digits_value base digits.now) limit }
+{
+    let mut value = 0u128;
+    for digit in digits {
+        value = (value * base as u128 + digit_value(*digit) as u128).min(limit as u128);
+    }
+    value as u64
+}
+
+/// The number of these digits, at least one, up to the greatest.
+#[tactic(auto, unfolding(crate::specs::Words::numeral_of))]
+fn numeral(word: &[u8], base: u8, greatest: u64) -> Option<u64>
+    requires base { 1 ≤ base }
+    requires greatest { greatest < 2 ^ 63 }
+    ensures number { result ≡ numeral_of base greatest word.now }
+    ensures within { IfSome result (λ number. number ≤ greatest) }
+{
+    if word.is_empty() || !are_digits(base, word) {
+        return None;
+    }
+    let value = capped(base, greatest + 1, word);
+    if value <= greatest { Some(value) } else { None }
 }
 
 /// The number that a word of decimal digits stands for, at most 4,294,967,295.
-#[tactic(auto, unfolding(crate::specs::Words::number_of))]
 pub(crate) fn number(word: &[u8]) -> Option<u32>
     ensures { result ≡ number_of word.now }
 {
-    if word.is_empty() || !are_digits(word) {
+    let number = numeral(word, 10, u32::MAX as u64)?;
+    Some(number as u32)
+}
+
+/// The offset that a word stands for.
+#[tactic(auto, unfolding(crate::specs::Words::offset_of))]
+pub(crate) fn offset(word: &[u8]) -> Option<i64>
+    ensures { result ≡ offset_of word.now }
+{
+    if word.is_empty() {
         return None;
     }
-    let value = capped(word);
-    if value <= u32::MAX as u64 {
-        Some(value as u32)
+    if word[0] == b'-' {
+        let size = numeral(&word[1..], 10, i64::MAX as u64)?;
+        return Some(-(size as i64));
+    }
+    let digits = if word[0] == b'+' { &word[1..] } else { word };
+    let size = numeral(digits, 10, i64::MAX as u64)?;
+    Some(size as i64)
+}
+
+/// From where a word says that a seek counts.
+#[tactic(auto, unfolding(crate::specs::Words::whence_of))]
+pub(crate) fn whence(word: &[u8]) -> Option<Whence>
+    ensures { result ≡ whence_of word.now }
+{
+    if same(word, b"set") {
+        Some(Whence::Set)
+    } else if same(word, b"cur") {
+        Some(Whence::Cur)
+    } else if same(word, b"end") {
+        Some(Whence::End)
     } else {
         None
     }

@@ -1,20 +1,21 @@
 //! A text as lines, and a line as words.
 
-ghost use Rattle.std.specs.Prelude.{◌≡◌, ◌≢◌, ◌<◌, ◌≤◌, ◌+◌, ◌==◌, not, drop, [], ◌∷◌, length, IfSome, IsNone, IfNone, MatchOption, option_copied};
-ghost use Rattle.std.specs.List.{prefix_len};
-ghost use Rattle.script_text.specs.Lines.{lines_of, words_left};
+ghost use Rattle.std.specs.Prelude.{◌≡◌, ◌≢◌, ◌<◌, ◌≤◌, ◌+◌, ◌==◌, not, drop, [], ◌∷◌, length, IfSome, IsNone, IfNone, MatchOption};
+ghost use Rattle.std.specs.List.{prefix_len, position_or_len};
+ghost use Rattle.std.specs.Str.Lines.{strip_carriage_return};
+ghost use Rattle.script_text.specs.Lines.{lines_of, words_of, is_blank, is_ascii};
 
-/// How many bytes stand before the first that is `stop`, or how many there are.
-fn length_before(bytes: &[u8], stop: u8) -> usize
-    ensures length { result ≡ prefix_len (λ b. not (b == stop)) bytes.now }
-    ensures within { result ≤ length bytes.now }
+/// How many bytes stand before the first LF, or how many there are.
+fn line_length(text: &[u8]) -> usize
+    ensures length { result ≡ position_or_len (λ b. b == 10) text.now }
+    ensures within { result ≤ length text.now }
 {
-    for (i, byte) in bytes.iter().enumerate() {
-        if *byte == stop {
+    for (i, byte) in text.iter().enumerate() {
+        if *byte == b'\n' {
             return i;
         }
     }
-    bytes.len()
+    text.len()
 }
 
 /// The bytes behind the one at that place.
@@ -29,6 +30,17 @@ fn behind(bytes: &[u8], place: usize) -> &[u8]
     }
 }
 
+/// A line that an LF ended, without the CR before the LF.
+fn without_cr(line: &[u8]) -> &[u8]
+    ensures { result.now ≡ strip_carriage_return line.now }
+{
+    if !line.is_empty() && line[line.len() - 1] == b'\r' {
+        &line[..line.len() - 1]
+    } else {
+        line
+    }
+}
+
 /// The first line of a text, and the text behind it.
 pub(crate) fn cut_line(text: &[u8]) -> Option<(&[u8], &[u8])>
     ensures none { IsNone result → text.now ≡ [] }
@@ -38,55 +50,104 @@ pub(crate) fn cut_line(text: &[u8]) -> Option<(&[u8], &[u8])>
     if text.is_empty() {
         return None;
     }
-    let end = length_before(text, b'\n');
-    Some((&text[..end], behind(text, end)))
-}
-
-/// What is left of a line: nothing behind its last word.
-pub(crate) type Rest<'a> = Option<&'a [u8]>;
-
-/// The first word of what is left of a line, and what is left behind it.
-pub(crate) fn cut_word<'a>(rest: Rest<'a>) -> Option<(&'a [u8], Rest<'a>)>
-    ensures { MatchOption result (words_left (option_copied rest.entry) ≡ [])
-        (λ parts. words_left (option_copied rest.entry) ≡ parts.0.now ∷ words_left (option_copied parts.1)) }
-{
-    let line = rest?;
-    let end = length_before(line, b' ');
-    if end == line.len() {
-        return Some((line, None));
+    let end = line_length(text);
+    if end == text.len() {
+        return Some((text, behind(text, end)));
     }
-    Some((&line[..end], Some(behind(line, end))))
+    Some((without_cr(&text[..end]), behind(text, end)))
 }
 
-/// The one word that is left.
-pub(crate) fn one<'a>(rest: Rest<'a>) -> Option<&'a [u8]>
-    ensures found { IfSome result (λ word. words_left (option_copied rest.entry) ≡ word.now ∷ []) }
-    ensures none { IfNone result (length (words_left (option_copied rest.entry)) ≢ 1) }
+/// Whether each byte is one of ASCII.
+pub(crate) fn is_ascii(line: &[u8]) -> bool
+    ensures { result ≡ is_ascii line.now }
 {
-    let (word, rest) = cut_word(rest)?;
-    if rest.is_some() {
+    line.iter().all(|b| *b < 128)
+}
+
+/// Whether a byte stands between words: a space or a tab.
+fn is_blank(byte: u8) -> bool
+    ensures { result ≡ is_blank byte }
+{
+    byte == b' ' || byte == b'\t'
+}
+
+/// How many blanks stand at the front.
+fn blanks_length(line: &[u8]) -> usize
+    ensures length { result ≡ prefix_len is_blank line.now }
+    ensures within { result ≤ length line.now }
+{
+    for (i, byte) in line.iter().enumerate() {
+        if !is_blank(*byte) {
+            return i;
+        }
+    }
+    line.len()
+}
+
+/// How many bytes stand before the first blank, or how many there are.
+fn word_length(line: &[u8]) -> usize
+    ensures length { result ≡ position_or_len is_blank line.now }
+    ensures within { result ≤ length line.now }
+{
+    for (i, byte) in line.iter().enumerate() {
+        if is_blank(*byte) {
+            return i;
+        }
+    }
+    line.len()
+}
+
+/// The first word of a line, and what is left of the line behind it.
+pub(crate) fn cut_word(line: &[u8]) -> Option<(&[u8], &[u8])>
+    ensures { MatchOption result (words_of line.now ≡ [])
+        (λ parts. words_of line.now ≡ parts.0.now ∷ words_of parts.1.now) }
+{
+    let words = &line[blanks_length(line)..];
+    if words.is_empty() {
+        return None;
+    }
+    let end = word_length(words);
+    Some((&words[..end], behind(words, end)))
+}
+
+/// The one word of a line.
+pub(crate) fn one(line: &[u8]) -> Option<&[u8]>
+    ensures found { IfSome result (λ word. words_of line.now ≡ word.now ∷ []) }
+    ensures none { IfNone result (length (words_of line.now) ≢ 1) }
+{
+    let (word, rest) = cut_word(line)?;
+    if cut_word(rest).is_some() {
         return None;
     }
     Some(word)
 }
 
-/// The two words that are left.
-pub(crate) fn two<'a>(rest: Rest<'a>) -> Option<(&'a [u8], &'a [u8])>
-    ensures found { IfSome result (λ words. words_left (option_copied rest.entry) ≡ words.0.now ∷ words.1.now ∷ []) }
-    ensures none { IfNone result (length (words_left (option_copied rest.entry)) ≢ 2) }
+/// The two words of a line.
+pub(crate) fn two(line: &[u8]) -> Option<(&[u8], &[u8])>
+    ensures found { IfSome result (λ words. words_of line.now ≡ words.0.now ∷ words.1.now ∷ []) }
+    ensures none { IfNone result (length (words_of line.now) ≢ 2) }
 {
-    let (first, rest) = cut_word(rest)?;
+    let (first, rest) = cut_word(line)?;
     let second = one(rest)?;
     Some((first, second))
 }
 
-/// The four words that are left.
-pub(crate) fn four<'a>(rest: Rest<'a>) -> Option<(&'a [u8], &'a [u8], &'a [u8], &'a [u8])>
-    ensures found { IfSome result (λ words. words_left (option_copied rest.entry) ≡ words.0.now ∷ words.1.now ∷ words.2.now ∷ words.3.now ∷ []) }
-    ensures none { IfNone result (length (words_left (option_copied rest.entry)) ≢ 4) }
+/// The three words of a line.
+pub(crate) fn three(line: &[u8]) -> Option<(&[u8], &[u8], &[u8])>
+    ensures found { IfSome result (λ words. words_of line.now ≡ words.0.now ∷ words.1.now ∷ words.2.now ∷ []) }
+    ensures none { IfNone result (length (words_of line.now) ≢ 3) }
 {
-    let (first, rest) = cut_word(rest)?;
-    let (second, rest) = cut_word(rest)?;
-    let (third, fourth) = two(rest)?;
+    let (first, rest) = cut_word(line)?;
+    let (second, third) = two(rest)?;
+    Some((first, second, third))
+}
+
+/// The four words of a line.
+pub(crate) fn four(line: &[u8]) -> Option<(&[u8], &[u8], &[u8], &[u8])>
+    ensures found { IfSome result (λ words. words_of line.now ≡ words.0.now ∷ words.1.now ∷ words.2.now ∷ words.3.now ∷ []) }
+    ensures none { IfNone result (length (words_of line.now) ≢ 4) }
+{
+    let (first, rest) = cut_word(line)?;
+    let (second, third, fourth) = three(rest)?;
     Some((first, second, third, fourth))
 }

@@ -1,6 +1,6 @@
 use Rattle.std.proofs.Common.{refl, sym, ◌∙◌, ◌+◌, arith}
 use Rattle.script_text.proofs.OneLine.{script_from-good, script_from-bad, script_from-end, IsRead-good, IsRead-bad}
-use Rattle.script_text.proofs.reading.parse.Goals as goal
+use Rattle.script_text.proofs.reading.read_lines.Goals as goal
 
 pub returns-then-not-branch-clause-meaning : goal.returns-then-not-branch-clause-meaning
 returns-then-not-branch-clause-meaning c =
@@ -15,7 +15,8 @@ loop-line-preserved c = record {
       (IsRead-good _ _ _ _ c.if-not-branch.false c.in_ok-add_line.ensures.read))
       ∙ c.loop-line.invariant.same;
   counted = omega (arith, c.in-Some.ensures.shorter);
-  short = omega (arith, c.in_ok-add_line.ensures.short);
+  declared = omega (arith, c.in_ok-add_line.ensures.grown.applications);
+  short = omega (arith, c.in_ok-add_line.ensures.grown.steps);
 }
 
 pub returns-clause-meaning : goal.returns-clause-meaning
