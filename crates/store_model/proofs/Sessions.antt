@@ -1,7 +1,7 @@
--- No call makes a session or ends one.
-use Rattle.std.proofs.Common.{◌≡◌, ◌==◌, ℕ, Bool, List, [], ◌∷◌, length, true, false, cond, not, ◌+◌, pos, ◌+ℤ◌, int_lt, Option, Some, None, refl, ◌∙◌}
+-- No call makes a session or ends one, or changes whose it is.
+use Rattle.std.proofs.Common.{◌≡◌, ◌==◌, ℕ, Bool, List, [], ◌∷◌, length, slice_set, slice_index_or, suc, zero, ap, sym, true, false, cond, not, ◌+◌, pos, ◌+ℤ◌, int_lt, Option, Some, None, refl, ◌∙◌}
 use Rattle.std.specs.List.{list_any}
-use Rattle.std.proofs.lemmas.List.{length-set}
+use Rattle.std.proofs.lemmas.List.{length-map}
 use Rattle.tee_types.specs.declared.call.Call.{Call}
 use Rattle.tee_types.specs.declared.call.Call.TheVariants.{Create, Open, Close, Read, Write, Truncate, Seek, Rename, Delete, Info, EnumNew, EnumStart, EnumNext, EnumReset, EnumFree}
 use Rattle.tee_types.specs.declared.flags.TheConstants.{READ, WRITE, WRITE_META}
@@ -14,21 +14,23 @@ use Rattle.enumerators.specs.declared.cursor.Cursor.{Cursor}
 use Rattle.enumerators.specs.Enumeration.{cursor_at, has_all, reset}
 use Rattle.store_model.specs.declared.session.Handle.{Handle}
 use Rattle.store_model.specs.Object.{Object, Contents, Sound, Damaged, object_at, size_at, holds}
-use Rattle.store_model.specs.Machine.{MachineState, Outcome, Session, session_at, with_session, name_in, handle_at, unless_refused, first_refusal, refuse, by_handle, by_right, of_sound}
+use Rattle.store_model.specs.Machine.{MachineState, Outcome, Session, applications, new_session, session_at, name_in, handle_at, unless_refused, first_refusal, refuse, by_handle, by_right, of_sound}
 use Rattle.store_model.specs.Handles.{create_of, open_of, close_of, create_refusals, open_refusals}
 use Rattle.store_model.specs.Data.{read_of, meets_block, bytes_at, write_of, write_refusals, truncate_of, truncate_refusals, seek_of, seek_base, info_of}
 use Rattle.store_model.specs.Naming.{rename_of, delete_of}
 use Rattle.store_model.specs.Enumerating.{enum_new_of, enum_start_of, enum_next_of, enum_reset_of, enum_free_of, by_cursor, enum_gives, is_of, with_enumerators}
 use Rattle.store_model.specs.Calls.{state_after}
 
--- the outcome has as many sessions as the state
+-- the outcome has the sessions of the same applications as the state
 abbrev Keeps : MachineState → Outcome → Type 0
-Keeps s outcome = length (outcome.next).sessions ≡ length s.sessions
+Keeps s outcome = applications (outcome.next).sessions ≡ applications s.sessions
 
-Keeps-session : (s t : MachineState) (i : ℕ) (session : Session) → length t.sessions ≡ length s.sessions → length (with_session t i session).sessions ≡ length s.sessions
-Keeps-session s t i session h = length-set t.sessions i session ∙ h
+same_applications : (sessions : List Session) (i : ℕ) (session : Session) → session.application ≡ (slice_index_or sessions i (new_session [])).application → applications (slice_set sessions i session) ≡ applications sessions
+same_applications [] i session h = refl
+same_applications (x ∷ sessions) zero session h = ap (λ a. a ∷ applications sessions) h
+same_applications (x ∷ sessions) (suc i) session h = ap (λ l. x.application ∷ l) (same_applications sessions i session h)
 
-Keeps-unless_refused : (rows : List (Bool × Reply)) (s t : MachineState) (done : Outcome) → length t.sessions ≡ length s.sessions → Keeps s done → Keeps s (unless_refused rows t done)
+Keeps-unless_refused : (rows : List (Bool × Reply)) (s t : MachineState) (done : Outcome) → applications t.sessions ≡ applications s.sessions → Keeps s done → Keeps s (unless_refused rows t done)
 Keeps-unless_refused rows s t done kept h = elim (first_refusal rows) as (λ first. Keeps s (elim first [ Some reply ↦ refuse t reply | None ↦ done ])) [
   | Some reply ↦ kept
   | None ↦ h
@@ -57,35 +59,40 @@ Keeps-by_cursor s (Some cursor) done h = h cursor
 
 Keeps-enum_gives : (s : MachineState) (i number : ℕ) (next : Option (List ℕ × ℕ)) → Keeps s (enum_gives s i number next)
 Keeps-enum_gives s i number None = refl
-Keeps-enum_gives s i number (Some (id, size)) = length-set s.sessions i _
+Keeps-enum_gives s i number (Some (id, size)) = same_applications s.sessions i _ refl
 
-pub length-sessions : (s : MachineState) (i : ℕ) (call : Call) → length (state_after s i call).sessions ≡ length s.sessions
+pub applications-sessions : (s : MachineState) (i : ℕ) (call : Call) → applications (state_after s i call).sessions ≡ applications s.sessions
 unfolding create_of open_of close_of read_of write_of truncate_of seek_of info_of rename_of delete_of enum_new_of enum_start_of enum_next_of enum_reset_of enum_free_of
-length-sessions s i (Create id flags attributes bytes) =
-    Keeps-unless_refused (create_refusals s i (name_in s i id) flags attributes bytes) s s _ refl (length-set s.sessions i _)
-length-sessions s i (Open id flags) = Keeps-unless_refused (open_refusals s i (name_in s i id) flags) s s _ refl (length-set s.sessions i _)
-length-sessions s i (Close number) = Keeps-by_handle s (handle_at (session_at s i) number) _ (λ handle. length-set s.sessions i _)
-length-sessions s i (Read number size) =
+applications-sessions s i (Create id flags attributes bytes) =
+    Keeps-unless_refused (create_refusals s i (name_in s i id) flags attributes bytes) s s _ refl (same_applications s.sessions i _ refl)
+applications-sessions s i (Open id flags) = Keeps-unless_refused (open_refusals s i (name_in s i id) flags) s s _ refl (same_applications s.sessions i _ refl)
+applications-sessions s i (Close number) = Keeps-by_handle s (handle_at (session_at s i) number) _ (λ handle. same_applications s.sessions i _ refl)
+applications-sessions s i (Read number size) =
     Keeps-by_right s READ (handle_at (session_at s i) number) _
-    (λ handle. Keeps-of_sound s (object_at s.objects handle.name) _ (λ c. Keeps-unless_refused ((list_any (meets_block handle.position (handle.position + length (bytes_at c.bytes handle.position size))) c.bad, Corrupt) ∷ []) s s _ refl (length-set s.sessions i _)))
-length-sessions s i (Write number bytes) =
+    (λ handle. Keeps-of_sound s (object_at s.objects handle.name) _ (λ c. Keeps-unless_refused ((list_any (meets_block handle.position (handle.position + length (bytes_at c.bytes handle.position size))) c.bad, Corrupt) ∷ []) s s _ refl (same_applications s.sessions i _ refl)))
+applications-sessions s i (Write number bytes) =
     Keeps-by_right s WRITE (handle_at (session_at s i) number) _
     (λ handle. Keeps-cond (length bytes == 0) s _ _ refl
-    (Keeps-of_sound s (object_at s.objects handle.name) _ (λ c. Keeps-unless_refused (write_refusals c handle.position (length bytes)) s s _ refl (length-set s.sessions i _))))
-length-sessions s i (Truncate number size) =
+    (Keeps-of_sound s (object_at s.objects handle.name) _ (λ c. Keeps-unless_refused (write_refusals c handle.position (length bytes)) s s _ refl (same_applications s.sessions i _ refl))))
+applications-sessions s i (Truncate number size) =
     Keeps-by_right s WRITE (handle_at (session_at s i) number) _
     (λ handle. Keeps-of_sound s (object_at s.objects handle.name) _ (λ c. Keeps-unless_refused (truncate_refusals c size) s s _ refl refl))
-length-sessions s i (Seek number offset whence) =
-    Keeps-by_handle s (handle_at (session_at s i) number) _ (λ handle. Keeps-unless_refused ((int_lt (pos 4294967295) (pos (seek_base whence handle.position (size_at s.objects handle.name)) +ℤ offset), Refused Overflow) ∷ []) s s _ refl (length-set s.sessions i _))
-length-sessions s i (Rename number id) =
-    Keeps-by_right s WRITE_META (handle_at (session_at s i) number) _ (λ handle. Keeps-unless_refused ((holds s.objects (name_in s i id), Refused AccessConflict) ∷ []) s s _ refl (length-set s.sessions i _))
-length-sessions s i (Delete number) = Keeps-by_right s WRITE_META (handle_at (session_at s i) number) _ (λ handle. length-set s.sessions i _)
-length-sessions s i (Info number) =
+applications-sessions s i (Seek number offset whence) =
+    Keeps-by_handle s (handle_at (session_at s i) number) _ (λ handle. Keeps-unless_refused ((int_lt (pos 4294967295) (pos (seek_base whence handle.position (size_at s.objects handle.name)) +ℤ offset), Refused Overflow) ∷ []) s s _ refl (same_applications s.sessions i _ refl))
+applications-sessions s i (Rename number id) =
+    Keeps-by_right s WRITE_META (handle_at (session_at s i) number) _ (λ handle. Keeps-unless_refused ((holds s.objects (name_in s i id), Refused AccessConflict) ∷ []) s s _ refl (same_applications s.sessions i _ refl))
+applications-sessions s i (Delete number) = Keeps-by_right s WRITE_META (handle_at (session_at s i) number) _ (λ handle. same_applications s.sessions i _ refl)
+applications-sessions s i (Info number) =
     Keeps-by_handle s (handle_at (session_at s i) number) _ (λ handle. Keeps-of_sound s (object_at s.objects handle.name) _ (λ c. refl))
-length-sessions s i EnumNew = Keeps-unless_refused ((has_all (session_at s i).enumerators, Misuse TooMany) ∷ []) s s _ refl (length-set s.sessions i _)
-length-sessions s i (EnumStart number) =
+applications-sessions s i EnumNew = Keeps-unless_refused ((has_all (session_at s i).enumerators, Misuse TooMany) ∷ []) s s _ refl (same_applications s.sessions i _ refl)
+applications-sessions s i (EnumStart number) =
     Keeps-by_cursor s (cursor_at (session_at s i).enumerators number) _
-    (λ cursor. Keeps-unless_refused ((not (list_any (is_of (session_at s i).application) s.objects), Refused ItemNotFound) ∷ []) s (with_enumerators s i (reset (session_at s i).enumerators number)) _ (length-set s.sessions i _) (length-set s.sessions i _))
-length-sessions s i (EnumNext number) = Keeps-by_cursor s (cursor_at (session_at s i).enumerators number) _ (λ cursor. Keeps-enum_gives s i number _)
-length-sessions s i (EnumReset number) = Keeps-by_cursor s (cursor_at (session_at s i).enumerators number) _ (λ cursor. length-set s.sessions i _)
-length-sessions s i (EnumFree number) = Keeps-by_cursor s (cursor_at (session_at s i).enumerators number) _ (λ cursor. length-set s.sessions i _)
+    (λ cursor. Keeps-unless_refused ((not (list_any (is_of (session_at s i).application) s.objects), Refused ItemNotFound) ∷ []) s (with_enumerators s i (reset (session_at s i).enumerators number)) _ (same_applications s.sessions i _ refl) (same_applications s.sessions i _ refl))
+applications-sessions s i (EnumNext number) = Keeps-by_cursor s (cursor_at (session_at s i).enumerators number) _ (λ cursor. Keeps-enum_gives s i number _)
+applications-sessions s i (EnumReset number) = Keeps-by_cursor s (cursor_at (session_at s i).enumerators number) _ (λ cursor. same_applications s.sessions i _ refl)
+applications-sessions s i (EnumFree number) = Keeps-by_cursor s (cursor_at (session_at s i).enumerators number) _ (λ cursor. same_applications s.sessions i _ refl)
+
+pub length-sessions : (s : MachineState) (i : ℕ) (call : Call) → length (state_after s i call).sessions ≡ length s.sessions
+length-sessions s i call =
+    sym (length-map (state_after s i call).sessions (λ session. session.application)) ∙ ap length (applications-sessions s i call)
+    ∙ length-map s.sessions (λ session. session.application)

@@ -37,9 +37,13 @@ new_session application = record { application = application; handles = []; next
 abbrev pub opened_store : ObjectMap → List (List ℕ) → MachineState
 opened_store objects applications = record { objects = objects; sessions = map new_session applications }
 
+-- the applications of these sessions
+abbrev pub applications : List Session → List (List ℕ)
+applications sessions = map (λ session. session.application) sessions
+
 -- the same objects, and each session as it begins
 abbrev pub next_phase : MachineState → MachineState
-next_phase s = opened_store s.objects (map (λ session. session.application) s.sessions)
+next_phase s = opened_store s.objects (applications s.sessions)
 
 -- at places past the last session stands one of no application
 abbrev pub session_at : MachineState → ℕ → Session

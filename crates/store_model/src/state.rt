@@ -42,7 +42,7 @@ impl State {
     ghost use Rattle.store_model.specs.Object.{Sound, object_at};
     ghost use Rattle.store_model.specs.Answer.{IsAnswer, IsOutcome};
     ghost use Rattle.store_model.specs.Refusal.{is_refusal, is_of_device, left_by_refusal};
-    ghost use Rattle.store_model.specs.Machine.{opened_store, next_phase, session_at, with_session, name_in, handle_at, with_handle};
+    ghost use Rattle.store_model.specs.Machine.{opened_store, applications, next_phase, session_at, with_session, name_in, handle_at, with_handle};
     ghost use Rattle.store_model.specs.Calls.{outcome_of, size_by};
 
     /// The empty store, with a session for each of these applications.
@@ -168,6 +168,7 @@ impl State {
         ensures answer { IsAnswer (outcome_of self.old session call.now) self.old result self.new }
         ensures refused { is_refusal result ≡ true → self.new ≡ left_by_refusal self.old session call.now result }
         ensures unfaulted { is_of_device result ≡ false }
+        ensures applications { applications self.new.sessions ≡ applications self.old.sessions }
         ensures sessions { length self.new.sessions ≡ length self.old.sessions }
     {
         match self.serve(alloc, session as usize, call) {
