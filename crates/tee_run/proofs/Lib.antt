@@ -1,3 +1,5 @@
 pub mod Pushing
 pub mod Sent
+pub mod Acts
+pub mod Progress
 pub mod Running

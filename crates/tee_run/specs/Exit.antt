@@ -1,6 +1,7 @@
 -- What the program tells of a status: its exit status, and a text on standard error.
 use Rattle.std.specs.Prelude.{ℕ, List, codes}
 use Rattle.tee_run.specs.declared.status.Status.{Status}
+use Rattle.tee_run.specs.declared.status.Excess.TheVariants.{Bytes, Apps}
 use Rattle.tee_run.specs.declared.status.Status.TheVariants.{Done, Usage, BadLine, ReadFault, WriteFault, TooLong, NoMemory}
 
 abbrev pub status_number : Status → ℕ
@@ -18,5 +19,6 @@ status_text Usage = codes "usage: tee_run run | tee_run soak N"
 status_text (BadLine line) = codes "bad line"
 status_text ReadFault = codes "read fault"
 status_text WriteFault = codes "write fault"
-status_text (TooLong excess) = codes "script too long"
+status_text (TooLong Bytes) = codes "script too long"
+status_text (TooLong (Apps n)) = codes "too many applications"
 status_text NoMemory = codes "no memory"

@@ -4,4 +4,5 @@ pub mod Causes
 pub mod Reading
 pub mod Serving
 pub mod Sending
+pub mod Running
 pub mod Exit

@@ -1,14 +1,16 @@
 -- The phases of a script, and the records of those that were run.
-use Rattle.std.specs.Prelude.{ℕ, ◌≡◌, ◌==◌, List, [], ◌∷◌, if◌then◌else◌}
+use Rattle.std.specs.Prelude.{ℕ, ◌≡◌, ◌==◌, List, [], ◌∷◌, if◌then◌else◌, None}
 use Rattle.tee_types.specs.declared.call.Call.{Call}
 use Rattle.store_model.specs.declared.event.Event.{Event}
 use Rattle.store_model.specs.declared.event.Event.TheVariants.{Call as CallEvent, Landed}
 use Rattle.store_model.specs.Object.{ObjectMap}
 use Rattle.store_model.specs.History.{calls_of}
-use Rattle.store_model.specs.Legal.{IsLegal, opening, replay}
+use Rattle.store_model.specs.Record.{untagged}
+use Rattle.store_model.specs.Legal.{opening, replay}
+use Rattle.store_model.specs.LegalHistory.{PhaseOpening, IsLegal}
 use Rattle.script_text.specs.declared.script.Step.{Step}
-use Rattle.script_text.specs.declared.script.Step.TheVariants.{Call as CallStep}
-use Rattle.script_text.specs.Text.{PhaseRecord}
+use Rattle.script_text.specs.declared.script.Step.TheVariants.{Call as CallStep, Control as ControlStep}
+use Rattle.script_text.specs.Text.{PhaseRecord, Act, Serve, Do, acts_of}
 
 -- the steps whose calls these events are, in order
 abbrev pub steps_served : List Event → List Step
@@ -20,6 +22,7 @@ steps_served (Landed commit ∷ events) = steps_served events
 abbrev pub calls_in : ℕ → List Step → List Call
 calls_in app [] = []
 calls_in app (CallStep a call ∷ steps) = if a == app then call ∷ calls_in app steps else calls_in app steps
+calls_in app (ControlStep control ∷ steps) = calls_in app steps
 
 -- The events are the calls of these steps, each once.
 pub record ServesSteps (steps : List Step) (events : List Event) : Type 0 where
@@ -28,10 +31,15 @@ pub record ServesSteps (steps : List Step) (events : List Event) : Type 0 where
   -- the calls of each application are its calls of the script, in order
   pub of_each_application : (app : ℕ) → calls_of app events ≡ calls_in app steps
 
--- the phases that a script makes of its steps; without a step there is none
+-- the calls of each phase among these acts
+abbrev pub phases_of : List Act → List (List Step)
+phases_of [] = []
+phases_of (Do control ∷ acts) = phases_of acts
+phases_of (Serve calls ∷ acts) = calls ∷ phases_of acts
+
+-- the phases that a script makes of its steps; what has no call is no phase
 abbrev pub script_phases : List Step → List (List Step)
-script_phases [] = []
-script_phases (step ∷ steps) = (step ∷ steps) ∷ []
+script_phases steps = phases_of (acts_of steps)
 
 -- The records are of the first of these phases, in order, and each has the calls of its phase.
 abbrev pub ServesPhases : List (List Step) → List PhaseRecord → Type 0
@@ -39,9 +47,22 @@ ServesPhases phases [] = Unit {0}
 ServesPhases [] (phase ∷ rest) = ⊥
 ServesPhases (steps ∷ phases) (phase ∷ rest) = ServesSteps steps phase.events × ServesPhases phases rest
 
--- Each phase opens with the objects and the counter that the one before left, and its history is legal.
+-- what a phase opens with before there are devices: no object has a file
+abbrev pub opened_with : ObjectMap → List (List ℕ) → ℕ → PhaseOpening
+opened_with objects applications counter = record { objects = objects; files = λ _. None; applications = applications; counter = counter }
+
+-- Each phase opens with the objects and the counter that the one before left, and its history is legal: no file is dishonest, and
+-- no commit is left in doubt.
 abbrev pub AreLegalPhases : List (List ℕ) → ObjectMap → ℕ → List PhaseRecord → Type 0
 AreLegalPhases applications objects counter [] = Unit {0}
 AreLegalPhases applications objects counter (phase ∷ rest) =
     let end = replay (opening objects applications counter) phase.events in
-    (phase.opening ≡ objects) × IsLegal objects applications counter phase.events × AreLegalPhases applications (end.state).objects end.counter rest
+    (phase.opening ≡ objects) × IsLegal (opened_with objects applications counter) [] (untagged phase.events) None
+    × AreLegalPhases applications (end.state).objects end.counter rest
+
+-- the objects and the counter that these phases leave
+abbrev pub left_by : List (List ℕ) → ObjectMap → ℕ → List PhaseRecord → ObjectMap × ℕ
+left_by applications objects counter [] = (objects, counter)
+left_by applications objects counter (phase ∷ rest) =
+    let end = replay (opening objects applications counter) phase.events in
+    left_by applications (end.state).objects end.counter rest

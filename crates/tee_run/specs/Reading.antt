@@ -1,12 +1,11 @@
 -- Why reading a script ends without one.
 use Rattle.std.specs.Prelude.{ℕ, ◌≡◌, ◌≤◌, Result, Err}
 use Rattle.script_text.specs.declared.reading.ScriptFault.{ScriptFault}
-use Rattle.script_text.specs.declared.reading.ScriptFault.TheVariants.{BadLine as BadLineFault, NoMemory as NoMemoryFault}
+use Rattle.script_text.specs.declared.reading.ScriptFault.TheVariants.{BadLine as BadLineFault, TooManyApps, NoMemory as NoMemoryFault}
 use Rattle.script_text.specs.Script.{ScriptValue}
-use Rattle.script_text.specs.Parsed.{IsParsed}
 use Rattle.tee_run.specs.declared.status.Status.{Status}
 use Rattle.tee_run.specs.declared.status.Status.TheVariants.{BadLine, ReadFault, TooLong, NoMemory}
-use Rattle.tee_run.specs.declared.status.Excess.TheVariants.{Bytes}
+use Rattle.tee_run.specs.declared.status.Excess.TheVariants.{Bytes, Apps}
 
 -- the source failed, or there is no memory
 abbrev pub IsPieceError : Type 0 → Status → Type 0
@@ -24,14 +23,12 @@ IsReadError failed count _ = ⊥
 -- the status of a text that is no script
 abbrev pub status_of : ScriptFault → Status
 status_of (BadLineFault line) = BadLine line
+status_of (TooManyApps n) = TooLong (Apps n)
 status_of NoMemoryFault = NoMemory
 
--- the first line outside the grammar, or there is no memory
-abbrev pub IsScriptError : Result ScriptValue ℕ → Status → Type 0
-IsScriptError meant (BadLine line) = meant ≡ Err line
+-- the first line outside the grammar, or too many applications, or there is no memory
+abbrev pub IsScriptError : Result ScriptValue ScriptFault → Status → Type 0
+IsScriptError meant (BadLine line) = meant ≡ Err (BadLineFault line)
+IsScriptError meant (TooLong (Apps n)) = meant ≡ Err (TooManyApps n)
 IsScriptError meant NoMemory = Unit {0}
 IsScriptError meant _ = ⊥
-
-pub IsScriptError-fault : (fault : ScriptFault) (meant : Result ScriptValue ℕ) → IsParsed (Err fault) meant → IsScriptError meant (status_of fault)
-IsScriptError-fault (BadLineFault line) meant h = h
-IsScriptError-fault NoMemoryFault meant h = tt

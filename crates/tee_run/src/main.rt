@@ -3,6 +3,7 @@
 #![tactic(auto)]
 
 mod phase;
+mod playing;
 mod printing;
 mod reading;
 mod run;

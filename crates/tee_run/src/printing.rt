@@ -1,14 +1,13 @@
-//! Writing the history of a phase.
+//! Writing the text of phases and controls.
 
-ghost use Rattle.std.specs.Prelude.{◌≡◌, ◌≤◌, ◌⊎◌, ◌++◌, ◌<◌, [], length, slice_get, Some, OnOk, OnErr, IfErr};
+ghost use Rattle.std.specs.Prelude.{◌≡◌, ◌≤◌, ◌⊎◌, ◌++◌, ◌<◌, length, slice_get, Some, OnOk, OnErr, IfErr};
 ghost use Rattle.tee_ports.specs.Faults.{Rose};
-ghost use Rattle.script_text.specs.Text.{event_text, events_text, phase_line};
+ghost use Rattle.script_text.specs.Text.{event_text, events_text, phase_line, control_line};
 ghost use Rattle.tee_run.specs.Sending.{Sends, Stops, IsWriteError};
 
 use crate::status::Status;
 use crate::writing::{PIECE, flush};
-use script_text::{Script, print_event, print_phase};
-use std::alloc::Global;
+use script_text::{Control, Script, print_control, print_event, print_phase};
 use store_model::{Event, History};
 use tee_ports::Sink;
 
@@ -29,28 +28,39 @@ fn send_event<K: Sink>(
     flush(sink, kept, PIECE)
 }
 
-/// Writes the text of the script's phase, which opened with so many objects and has this history.
-pub fn write_phase<K: Sink>(
-    alloc: Global,
+/// Sends the text of a phase of that number, which opened with so many objects and has this history.
+pub fn send_phase<K: Sink>(
     script: &Script,
+    number: u64,
     objects: u16,
     history: &History,
     sink: &mut K,
+    kept: &mut Vec<u8>,
 ) -> Result<(), Status>
-    ensures ok { OnOk result (Sends (K.held sink.old) (K.held sink.new) [] []
-        (phase_line 0 objects ++ events_text script.now 0 history.now.events)) }
-    ensures err { OnErr result (Stops (K.held sink.old) (K.held sink.new) []
-        (phase_line 0 objects ++ events_text script.now 0 history.now.events)) }
+    ensures ok { OnOk result (Sends (K.held sink.old) (K.held sink.new) kept.old.items kept.new.items
+        (phase_line number objects ++ events_text script.now 0 history.now.events)) }
+    ensures err { OnErr result (Stops (K.held sink.old) (K.held sink.new) kept.old.items
+        (phase_line number objects ++ events_text script.now 0 history.now.events)) }
     ensures error { IfErr result (IsWriteError (Rose (K.faults sink.old) (K.faults sink.new) ⊎ K.is_full sink.new)) }
+    ensures counted { K.faults sink.old ≤ K.faults sink.new }
 {
-    let mut kept = Vec::new(alloc);
-    print_phase(0, objects, &mut kept)?;
+    print_phase(number, objects, kept)?;
     for place in 0..history.len() {
         let event = event_at(history, place);
-        send_event(script, place, event, sink, &mut kept)?;
+        send_event(script, place, event, sink, kept)?;
     }
-    flush(sink, &mut kept, 0)?;
     Ok(())
+}
+
+/// Sends the line of a control that is done.
+pub fn send_control<K: Sink>(control: &Control, sink: &mut K, kept: &mut Vec<u8>) -> Result<(), Status>
+    ensures ok { OnOk result (Sends (K.held sink.old) (K.held sink.new) kept.old.items kept.new.items (control_line control.now)) }
+    ensures err { OnErr result (Stops (K.held sink.old) (K.held sink.new) kept.old.items (control_line control.now)) }
+    ensures error { IfErr result (IsWriteError (Rose (K.faults sink.old) (K.faults sink.new) ⊎ K.is_full sink.new)) }
+    ensures counted { K.faults sink.old ≤ K.faults sink.new }
+{
+    print_control(control, kept)?;
+    flush(sink, kept, PIECE)
 }
 
 /// The event at that place.

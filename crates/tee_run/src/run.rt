@@ -12,10 +12,9 @@ ghost use Rattle.tee_run.specs.Trace.{Trace, IsTraceOf, IsTextOf, IsWholeTextOf}
 ghost use Rattle.tee_run.specs.Sending.{IsWriteError};
 ghost use Rattle.tee_run.specs.Causes.{HasCause, IsRun, is_run_form};
 
-use crate::phase::serve_phase;
-use crate::printing::write_phase;
+use crate::playing::run_script;
 use crate::reading::read_text;
-use crate::status::Status;
+use crate::status::{Excess, Status};
 use script_text::{Script, ScriptFault, parse};
 use std::alloc::Global;
 use tee_ports::{Sink, Source};
@@ -36,6 +35,7 @@ fn status_of(fault: ScriptFault) -> Status
 {
     match fault {
         ScriptFault::BadLine(line) => Status::BadLine(line),
+        ScriptFault::TooManyApps(apps) => Status::TooLong(Excess::Apps(apps)),
         ScriptFault::NoMemory => Status::NoMemory,
     }
 }
@@ -51,22 +51,6 @@ fn read_script(alloc: Global, text: &[u8]) -> Result<Script, Status>
         Ok(script) => Ok(script),
         Err(fault) => Err(status_of(fault)),
     }
-}
-
-/// Runs the steps of a script, and writes their text.
-fn run_script<K: Sink>(alloc: Global, script: &Script, sink: &mut K) -> Result<(), Status>
-    requires { length script.now.steps ≤ 16777216 }
-    ensures text { (put : List ℕ) × (phases : List PhaseRecord)
-        × Appends (K.held sink.old) (K.held sink.new) put
-        × IsTextOf script.now put phases
-        × OnOk result (IsWholeTextOf script.now put phases) }
-    ensures error { IfErr result (IsWriteError (Rose (K.faults sink.old) (K.faults sink.new) ⊎ K.is_full sink.new)) }
-{
-    if script.steps() == 0 {
-        return Ok(());
-    }
-    let phase = serve_phase(alloc, script)?;
-    write_phase(alloc, script, phase.objects, &phase.history, sink)
 }
 
 /// Reads a script, runs it and writes its text.

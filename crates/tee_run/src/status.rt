@@ -29,6 +29,8 @@ pub enum Status {
 pub enum Excess {
     /// It has more than 16,777,216 bytes.
     Bytes,
+    /// It declares so many applications, more than 16.
+    Apps(u32),
 }
 
 impl From<AllocError> for Status {
@@ -53,6 +55,7 @@ pub fn status_text(status: &Status) -> &'static str
         Status::ReadFault => "read fault",
         Status::WriteFault => "write fault",
         Status::TooLong(Excess::Bytes) => "script too long",
+        Status::TooLong(Excess::Apps(_)) => "too many applications",
         Status::NoMemory => "no memory",
     }
 }
