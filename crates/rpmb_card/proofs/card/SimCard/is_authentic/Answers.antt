@@ -1,5 +1,5 @@
 use Rattle.std.proofs.Common.{◌∙◌}
-use Rattle.rpmb_card.proofs.Tests.{is_ok-bytes_eq}
+use Rattle.rpmb_card.proofs.Comparison.{is_ok-bytes_eq}
 use Rattle.rpmb_card.proofs.card.SimCard.is_authentic.Goals as goal
 
 pub returns-in-Some : goal.returns-in-Some
