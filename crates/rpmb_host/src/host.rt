@@ -1,0 +1,84 @@
+// The host.
+
+ghost use Rattle.std.specs.Prelude.{◌≡◌, ◌≢◌, ◌↔◌, true, IsTrue};
+ghost use Rattle.rpmb_card.specs.Card.{last_counter};
+ghost use Rattle.rpmb_card.specs.Port.{Exchanged};
+ghost use Rattle.rpmb_host.specs.Requests.{block_request, counter_request, write_request};
+ghost use Rattle.rpmb_host.specs.declared.fault.HostFault.TheVariants.{Spent};
+ghost use Rattle.rpmb_host.specs.Calls.{WriteExchanges, block_wanted, counter_wanted, judged, received, told, write_wanted};
+
+use crate::HostFault;
+use crate::requests::{block_request, counter_request, result_request, write_request};
+use crate::verdict::{Wanted, judge};
+use rpmb_card::{BLOCK_READ, BLOCK_WRITTEN, COUNTER_READ, RpmbPort};
+use rpmb_frame::Frame;
+use std::marker::Model;
+
+/// A host of a card: a port to the card, and the key that it shares with it.
+///
+/// Each call makes the exchanges that its contract names and no others. Contracts see the port and the key.
+#[derive(Drop)]
+pub struct Host<R: RpmbPort> {
+    port: R,
+    key: [u8; 32],
+}
+
+impl<R: RpmbPort> Model for Host<R> {
+    ghost use Rattle.rpmb_host.specs.Calls.{HostState};
+
+    ghost Value = { HostState R };
+
+    ghost view = { λ h. record { port = h.port; key = h.key } };
+}
+
+impl<R: RpmbPort> Host<R> {
+    /// A host over this port, with this key. Nothing is sent.
+    pub fn new(port: R, key: [u8; 32]) -> Host<R>
+        ensures { result ≡ record { port = port; key = key } }
+    {
+        Host { port, key }
+    }
+
+    /// The port, as it is.
+    pub fn into_port(self) -> R
+        ensures { result ≡ self.port }
+    {
+        let Host { port, key: _ } = self;
+        port
+    }
+
+    /// The card's write counter, by one exchange.
+    ///
+    /// # Errors
+    ///
+    /// `Failed` where the exchange failed, `BadFrame` where the frame that came is not the answer to this request and
+    /// nonce, `CardResult` where the card refused.
+    pub fn read_counter(&mut self, nonce: &[u8; 16]) -> Result<u32, HostFault>
+        ensures exchanged { Exchanged (R.state self.old.port) (R.state self.new.port)
+            (counter_request nonce.now) (received (R.state self.new.port) result) }
+        ensures answer { result ≡ told (λ f. f.counter) (judged self.old.key
+            (counter_wanted nonce.now) (received (R.state self.new.port) result)) }
+        ensures key { self.new.key ≡ self.old.key }
+    {
+        let wanted = Wanted {
+            kind: COUNTER_READ,
+            nonce: Some(*nonce),
+            counter: None,
+            address: None,
+        };
+        let answer = self.ask(&counter_request(nonce), &wanted)?;
+        Ok(answer.counter)
+    }
+
+    // One exchange, and the verdict on what came of it.
+    fn ask(&mut self, request: &[u8; 512], wanted: &Wanted) -> Result<Frame, HostFault>
+        ensures exchanged { Exchanged (R.state self.old.port) (R.state self.new.port)
+            request.now (received (R.state self.new.port) result) }
+        ensures judged { result ≡ judged self.old.key wanted.now (received (R.state self.new.port) result) }
+        ensures unspent { result ≢ Err Spent }
+        ensures key { self.new.key ≡ self.old.key }
+    {
+        let answer = self.port.exchange(request)?;
+        judge(&self.key, wanted, &answer)
+    }
+}
