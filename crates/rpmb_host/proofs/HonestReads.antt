@@ -19,7 +19,7 @@ use Rattle.rpmb_host.specs.Honest.{card_block}
 use Rattle.rpmb_host.specs.Calls.{counter_wanted, block_wanted, told}
 use Rattle.rpmb_host.proofs.Widths.{empty_widths, frame_of-sealed, sealed_authentic, with_mac}
 
-bool_cases : (b : Bool) → (b ≡ true) ⊎ (b ≡ false)
+pub bool_cases : (b : Bool) → (b ≡ true) ⊎ (b ≡ false)
 bool_cases true = inl refl
 bool_cases false = inr refl
 

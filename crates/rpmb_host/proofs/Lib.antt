@@ -1,2 +1,4 @@
 pub mod Widths
 pub mod HonestReads
+pub mod HonestWrites
+pub mod HonestCalls
