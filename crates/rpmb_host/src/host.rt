@@ -1,10 +1,11 @@
 // The host.
 
-ghost use Rattle.std.specs.Prelude.{◌≡◌, ◌≢◌, ◌↔◌, true, IsTrue};
-ghost use Rattle.rpmb_card.specs.Card.{last_counter};
+ghost use Rattle.std.specs.Prelude.{◌≡◌, ◌≢◌, ◌↔◌, false, Some};
+ghost use Rattle.rpmb_card.specs.Card.{CardState, last_counter};
 ghost use Rattle.rpmb_card.specs.Port.{Exchanged};
 ghost use Rattle.rpmb_host.specs.Requests.{block_request, counter_request, write_request};
 ghost use Rattle.rpmb_host.specs.declared.fault.HostFault.TheVariants.{Spent};
+ghost use Rattle.rpmb_host.specs.Honest.{HasCard, card_block, has_failed};
 ghost use Rattle.rpmb_host.specs.Calls.{WriteExchanges, block_wanted, counter_wanted, judged, received, told, write_wanted};
 
 use crate::HostFault;
@@ -59,6 +60,11 @@ impl<R: RpmbPort> Host<R> {
         ensures answer { result ≡ told (λ f. f.counter) (judged self.old.key
             (counter_wanted nonce.now) (received (R.state self.new.port) result)) }
         ensures key { self.new.key ≡ self.old.key }
+
+        // The card stays; one that has the host's key tells its counter, worn or not.
+        ensures stays { (R.state self.new.port).card ≡ (R.state self.old.port).card }
+        ensures honest { (card : CardState) → HasCard (R.state self.old.port) self.old.key card
+            → has_failed result ≡ false → result ≡ Ok card.counter }
     {
         let wanted = Wanted {
             kind: COUNTER_READ,
@@ -68,6 +74,34 @@ impl<R: RpmbPort> Host<R> {
         };
         let answer = self.ask(&counter_request(nonce), &wanted)?;
         Ok(answer.counter)
+    }
+
+    /// A block of the card, by one exchange.
+    ///
+    /// # Errors
+    ///
+    /// `Failed` where the exchange failed, `BadFrame` where the frame that came is not the answer to this request and
+    /// nonce, `CardResult` where the card refused.
+    pub fn read_block(&mut self, address: u16, nonce: &[u8; 16]) -> Result<[u8; 256], HostFault>
+        ensures exchanged { Exchanged (R.state self.old.port) (R.state self.new.port)
+            (block_request address nonce.now) (received (R.state self.new.port) result) }
+        ensures answer { result ≡ told (λ f. f.block) (judged self.old.key
+            (block_wanted address nonce.now) (received (R.state self.new.port) result)) }
+        ensures key { self.new.key ≡ self.old.key }
+
+        // The card stays; one that has the host's key gives its block.
+        ensures stays { (R.state self.new.port).card ≡ (R.state self.old.port).card }
+        ensures honest { (card : CardState) → HasCard (R.state self.old.port) self.old.key card
+            → has_failed result ≡ false → result ≡ card_block card address }
+    {
+        let wanted = Wanted {
+            kind: BLOCK_READ,
+            nonce: Some(*nonce),
+            counter: None,
+            address: Some(address),
+        };
+        let answer = self.ask(&block_request(address, nonce), &wanted)?;
+        Ok(answer.block)
     }
 
     // One exchange, and the verdict on what came of it.

@@ -1,0 +1,31 @@
+use Rattle.std.proofs.Common.{ℕ, Result, Ok, Err, ap, arith}
+use Rattle.std.proofs.lemmas.Result.{err_from_is_err_and}
+use Rattle.rpmb_frame.specs.declared.frame.Frame.{Frame}
+use Rattle.rpmb_card.specs.Port.{Exchanged}
+use Rattle.rpmb_host.specs.Calls.{received, told}
+use Rattle.rpmb_host.proofs.HonestCalls.{card_stays, block_honest, block_stays}
+use Rattle.rpmb_host.proofs.host.Host.read_block.Goals as goal
+
+pub returns-in_err-answer-clause-stays : goal.returns-in_err-answer-clause-stays
+returns-in_err-answer-clause-stays g c =
+    card_stays (g.R.RpmbPort.state c.args.self.now.port) (g.R.RpmbPort.state c.ask.new.self.port) c.block_request.result _ c.in_err-answer.ensures.exchanged
+    (λ s. rw c.block_request.ensures (block_stays c.args.address c.args.nonce.now (omega arith) c.told-nonce s))
+
+pub returns-in_err-answer-clause-honest : goal.returns-in_err-answer-clause-honest
+returns-in_err-answer-clause-honest g c =
+    let p = err_from_is_err_and c.from_residual.result c.from_residual.ensures.1 in
+    rw (p.1, p.2)
+    (block_honest (g.R.RpmbPort.state c.args.self.now.port) (g.R.RpmbPort.state c.ask.new.self.port) c.args.self.now.key c.args.address c.args.nonce.now
+    (Err c.in_err-answer.field-0.0) (omega arith) c.told-nonce (rw c.block_request.ensures at c.in_err-answer.ensures.exchanged)
+    (ap (told (λ (f : Frame). f.block)) c.in_err-answer.ensures.judged))
+
+pub returns-clause-stays : goal.returns-clause-stays
+returns-clause-stays g c =
+    card_stays (g.R.RpmbPort.state c.args.self.now.port) (g.R.RpmbPort.state c.ask.new.self.port) c.block_request.result _ c.in_ok-answer.ensures.exchanged
+    (λ s. rw c.block_request.ensures (block_stays c.args.address c.args.nonce.now (omega arith) c.told-nonce s))
+
+pub returns-clause-honest : goal.returns-clause-honest
+returns-clause-honest g c =
+    block_honest (g.R.RpmbPort.state c.args.self.now.port) (g.R.RpmbPort.state c.ask.new.self.port) c.args.self.now.key c.args.address c.args.nonce.now
+    (Ok c.in_ok-answer.answer.block) (omega arith) c.told-nonce (rw c.block_request.ensures at c.in_ok-answer.ensures.exchanged)
+    (ap (told (λ (f : Frame). f.block)) c.in_ok-answer.ensures.judged)
