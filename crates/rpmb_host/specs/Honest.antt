@@ -1,5 +1,5 @@
 -- What a host gets over a port that tells its card, and a card that has the host's key.
-use Rattle.std.specs.Prelude.{ℕ, Bool, true, false, ◌≡◌, ◌==◌, ◌+◌, not, if◌then◌else◌, nat_lt, List, [], slice_index_or, Option, Some, Result, Ok, Err}
+use Rattle.std.specs.Prelude.{ℕ, Bool, true, false, ◌≡◌, ◌==◌, ◌<◌, ◌+◌, not, if◌then◌else◌, nat_lt, List, [], slice_index_or, Option, Some, IfSome, Result, Ok, Err}
 use Rattle.rpmb_card.specs.declared.protocol.TheConstants.{DONE, ADDRESS_FAILURE, COUNTER_FAILURE, WRITE_FAILURE}
 use Rattle.rpmb_card.specs.Card.{CardState, given_result, last_counter, written}
 use Rattle.rpmb_card.specs.Port.{PortState}
@@ -44,3 +44,11 @@ card_write card address counter =
 -- the card after a write
 abbrev pub written_card : CardState → (address counter : ℕ) (block : List ℕ) → CardState
 written_card card address counter block = written card (write_fields address counter block) (write_end card address counter)
+
+-- a write was done: its block stands at its address, and the counter rose by one, to what was told
+pub record IsWritten (old : CardState) (new : Option CardState) (address counter : ℕ) (block : List ℕ) (next : ℕ) : Type 0 where
+  pub within : address < 256
+  pub current : counter ≡ old.counter
+  pub rose : next ≡ counter + 1
+  pub stands : IfSome new (λ card. slice_index_or card.blocks address [] ≡ block)
+  pub counted : IfSome new (λ card. card.counter ≡ next)

@@ -1,11 +1,11 @@
 // The host.
 
-ghost use Rattle.std.specs.Prelude.{◌≡◌, ◌≢◌, ◌↔◌, false, Some};
+ghost use Rattle.std.specs.Prelude.{◌≡◌, ◌≢◌, ◌↔◌, ◌⊎◌, false, IfOk, Some};
 ghost use Rattle.rpmb_card.specs.Card.{CardState, last_counter};
 ghost use Rattle.rpmb_card.specs.Port.{Exchanged};
 ghost use Rattle.rpmb_host.specs.Requests.{block_request, counter_request, write_request};
 ghost use Rattle.rpmb_host.specs.declared.fault.HostFault.TheVariants.{Spent};
-ghost use Rattle.rpmb_host.specs.Honest.{HasCard, card_block, has_failed};
+ghost use Rattle.rpmb_host.specs.Honest.{HasCard, IsWritten, card_block, card_write, has_failed, written_card};
 ghost use Rattle.rpmb_host.specs.Calls.{WriteExchanges, block_wanted, counter_wanted, judged, received, told, write_wanted};
 
 use crate::HostFault;
@@ -102,6 +102,67 @@ impl<R: RpmbPort> Host<R> {
         };
         let answer = self.ask(&block_request(address, nonce), &wanted)?;
         Ok(answer.block)
+    }
+
+    /// Writes a block of the card, whose write counter the caller knows, and gives the counter after it. Two exchanges:
+    /// the write, and if it was answered the read of its result.
+    ///
+    /// # Errors
+    ///
+    /// `Spent` where the counter is at its end; then nothing is sent. `Failed` where an exchange failed, `BadFrame` where
+    /// the frame that came is not the result of this write, `CardResult` where the card refused.
+    pub fn write_block(
+        &mut self,
+        address: u16,
+        counter: u32,
+        block: &[u8; 256],
+    ) -> Result<u32, HostFault>
+        ensures spent { (result ≡ Err Spent) ↔ (counter ≡ last_counter) }
+        ensures unsent { counter ≡ last_counter → self.new ≡ self.old }
+
+        ensures exchanged { counter ≢ last_counter → WriteExchanges (R.state self.old.port)
+            (R.state self.new.port) (write_request self.old.key address counter block.now)
+            (received (R.state self.new.port) result) }
+        ensures answer { counter ≢ last_counter → result ≡ told (λ f. f.counter)
+            (judged self.old.key (write_wanted address counter) (received (R.state self.new.port) result)) }
+        ensures key { self.new.key ≡ self.old.key }
+
+        // What a card that has the host's key does and tells. After a failure it has written, or not.
+        ensures honest { counter ≢ last_counter → (card : CardState)
+            → HasCard (R.state self.old.port) self.old.key card → has_failed result ≡ false
+            → (result ≡ card_write card address counter)
+            × ((R.state self.new.port).card ≡ Some (written_card card address counter block.now)) }
+        ensures left { counter ≢ last_counter → (card : CardState)
+            → HasCard (R.state self.old.port) self.old.key card
+            → ((R.state self.new.port).card ≡ Some card)
+            ⊎ ((R.state self.new.port).card ≡ Some (written_card card address counter block.now)) }
+        ensures written { (card : CardState) → HasCard (R.state self.old.port) self.old.key card
+            → IfOk result (λ next. IsWritten card (R.state self.new.port).card address counter block.now next) }
+    {
+        if counter == u32::MAX {
+            return Err(HostFault::Spent);
+        }
+        let wanted = Wanted {
+            kind: BLOCK_WRITTEN,
+            nonce: None,
+            counter: Some(counter + 1),
+            address: Some(address),
+        };
+        let request = write_request(&self.key, address, counter, block);
+        let answer = self.write(&request, &wanted)?;
+        Ok(answer.counter)
+    }
+
+    // The two exchanges of a write, and the verdict on what came of the last one.
+    fn write(&mut self, request: &[u8; 512], wanted: &Wanted) -> Result<Frame, HostFault>
+        ensures exchanged { WriteExchanges (R.state self.old.port) (R.state self.new.port)
+            request.now (received (R.state self.new.port) result) }
+        ensures judged { result ≡ judged self.old.key wanted.now (received (R.state self.new.port) result) }
+        ensures unspent { result ≢ Err Spent }
+        ensures key { self.new.key ≡ self.old.key }
+    {
+        self.port.exchange(request)?;
+        self.ask(&result_request(), wanted)
     }
 
     // One exchange, and the verdict on what came of it.
