@@ -1,6 +1,6 @@
 -- The card as a machine (JESD84-B51, 6.6.22): what it holds, and what a frame makes of it. A frame is 512 bytes, whatever
 -- they are. Of an answer each field that is not named is zero.
-use Rattle.std.specs.Prelude.{ℕ, Bool, true, false, ◌≡◌, ◌==◌, ◌<◌, ◌^◌, ◌+◌, not, ◌||◌, if◌then◌else◌, nat_lt, bit_or, Option, Some, None, is_none, IfSome, List, [], length, replicate, slice_index_or, slice_set}
+use Rattle.std.specs.Prelude.{ℕ, Bool, false, ◌≡◌, ◌==◌, ◌<◌, ◌^◌, ◌+◌, not, ◌||◌, if◌then◌else◌, nat_lt, bit_or, Option, Some, None, is_none, IfSome, List, [], length, replicate, slice_index_or, slice_set}
 use Rattle.std.specs.Str.{bytes_eq}
 use Rattle.rpmb_frame.specs.declared.frame.Frame.{Frame}
 use Rattle.rpmb_frame.specs.Layout.{frame_of, frame_bytes}

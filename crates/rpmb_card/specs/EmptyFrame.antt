@@ -1,5 +1,5 @@
 -- The frame from which requests and answers are made.
-use Rattle.std.specs.Prelude.{ℕ, List, replicate}
+use Rattle.std.specs.Prelude.{replicate}
 use Rattle.rpmb_frame.specs.declared.frame.Frame.{Frame}
 
 -- every field is zero

@@ -17,6 +17,7 @@ mod tests;
 pub use card::{Register, SimCard};
 pub use card_rig::CardRig;
 pub use frames::empty_frame;
+pub use heard::Heard;
 pub use port::RpmbPort;
 pub use protocol::{
     ADDRESS_FAILURE, AUTHENTICATION_FAILURE, BLOCK_READ, BLOCK_WRITTEN, COUNTER_EXPIRED,

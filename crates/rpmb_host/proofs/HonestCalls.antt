@@ -43,9 +43,9 @@ pub card_stays : (old new : PortState) (frame : List ℕ) (r : Result (List ℕ)
     → ((s : CardState) → card_after s frame ≡ s) → new.card ≡ old.card
 card_stays old new frame (Ok answer) e same = e.acts ∙ acted_same old.card frame same
 card_stays old new frame (Err failed) e same = elim e.may_act [
-    | inl stays ↦ stays
-    | inr acts ↦ acts ∙ acted_same old.card frame same
-  ]
+  | inl stays ↦ stays
+  | inr acts ↦ acts ∙ acted_same old.card frame same
+]
 
 -- what is told of a frame that came from the card
 told_of : {A : Type 0} (old new : PortState) (key frame : List ℕ) (wanted : Wanted) (field : Frame → A) (r : Result A HostFault) (card : CardState)
@@ -137,11 +137,10 @@ write_honest old new key address counter block r low fits long (inr two) says ca
     two.2.acts ∙ acted-write key address counter block old.card card low (omega arith) long has.told has.keyed in
     let sound : IsCard card = card_sound old two.0 w (Ok two.1) card two.2 has.told in
     let field : Frame → ℕ = λ f. f.counter in
-    let wanted : Wanted = write_wanted address counter in
-    (
+    let wanted : Wanted = write_wanted address counter in (
       told_of two.0 new key result_request wanted field r (written_card card address counter block) two.3 says between answers
-      ∙ ap (λ (s : CardState). told field (verdict key wanted (card_answer (written_card s address counter block) result_request))) (sym (is_keyed key card has.keyed))
-      ∙ write-told key address counter block card sound low fits,
+          ∙ ap (λ (s : CardState). told field (verdict key wanted (card_answer (written_card s address counter block) result_request))) (sym (is_keyed key card has.keyed))
+          ∙ write-told key address counter block card sound low fits,
       card_stays two.0 new result_request (received new r) two.3 result_stays ∙ between,
     )
 
@@ -175,17 +174,17 @@ pub write_written : (card : CardState) (new : Option CardState) (address counter
 write_written card new address counter next block sound says is_new =
     elim (bool_cases (nat_eq (write_end card address counter) 0)) [
       | inl is_done ↦
-        let facts = write_end-done card address counter is_done in
-        let same : Ok next ≡ Ok (counter + 1) = says ∙ rw is_done in
-        let rises : next ≡ counter + 1 = cc in
-        let card_is = written_is card address counter block sound is_done in
-        record {
-          within = facts.0;
-          current = facts.1;
-          rose = rises;
-          stands = subst (λ (o : Option CardState). IfSome o (λ s. get_or s.blocks address [] ≡ block)) (sym is_new) card_is.0;
-          counted = subst (λ (o : Option CardState). IfSome o (λ s. s.counter ≡ next)) (sym is_new) (card_is.1 ∙ sym rises);
-        }
+          let facts = write_end-done card address counter is_done in
+          let same : Ok next ≡ Ok (counter + 1) = says ∙ rw is_done in
+          let rises : next ≡ counter + 1 = cc in
+          let card_is = written_is card address counter block sound is_done in
+          record {
+            within = facts.0;
+            current = facts.1;
+            rose = rises;
+            stands = subst (λ (o : Option CardState). IfSome o (λ s. get_or s.blocks address [] ≡ block)) (sym is_new) card_is.0;
+            counted = subst (λ (o : Option CardState). IfSome o (λ s. s.counter ≡ next)) (sym is_new) (card_is.1 ∙ sym rises);
+          }
       | inr refuses ↦ let impossible = rw refuses at says in cc
     ]
 

@@ -1,5 +1,5 @@
 -- What a card that has the host's key answers to the host's requests, and what the host makes of it.
-use Rattle.std.proofs.Common.{◌≡◌, ℕ, Bool, true, false, ◌<◌, ◌^◌, List, [], length, get_or, Option, Some, None, Result, Ok, Err, if◌then◌else◌, nat_eq, nat_lt, bit_or, bit_and, not, refl, sym, ◌∙◌, arith, lit<, ◌⊎◌, inl, inr}
+use Rattle.std.proofs.Common.{◌≡◌, ℕ, Bool, true, false, ◌<◌, ◌^◌, List, [], length, get_or, Some, Ok, Err, if◌then◌else◌, nat_eq, nat_lt, bit_or, bit_and, refl, sym, ◌∙◌, arith, lit<, ◌⊎◌, inl, inr}
 use Rattle.std.specs.Str.{bytes_eq}
 use Rattle.std.proofs.lemmas.Nat.{or_lt}
 use Rattle.std.proofs.lemmas.Bool.{ltb-false, eq-eqb}
@@ -10,7 +10,7 @@ use Rattle.rpmb_frame.proofs.RoundTrips.{frame_of-frame_bytes}
 use Rattle.rpmb_card.proofs.Comparison.{bytes_eq-same}
 use Rattle.rpmb_card.specs.EmptyFrame.{empty_frame}
 use Rattle.rpmb_card.specs.declared.protocol.TheConstants.{READ_COUNTER, READ_BLOCK, BLOCK_READ}
-use Rattle.rpmb_card.specs.Card.{CardState, IsCard, given_result, last_counter, card_answer, card_after, counter_answer}
+use Rattle.rpmb_card.specs.Card.{CardState, IsCard, given_result, card_answer, counter_answer}
 use Rattle.rpmb_host.specs.declared.fault.HostFault.TheVariants.{CardResult}
 use Rattle.rpmb_host.specs.declared.verdict.Wanted.{Wanted}
 use Rattle.rpmb_host.specs.Verdict.{verdict, fields_verdict}

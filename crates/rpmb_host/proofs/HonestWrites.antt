@@ -1,16 +1,15 @@
 -- What a card that has the host's key makes of a write, and what the host makes of its result.
-use Rattle.std.proofs.Common.{◌≡◌, ℕ, Bool, true, false, ◌+◌, ◌<◌, ◌^◌, List, length, Option, Some, None, Result, Ok, Err, if◌then◌else◌, nat_eq, nat_lt, bit_and, not, refl, sym, ap, subst, ◌∙◌, arith, lit<, ◌⊎◌, inl, inr}
+use Rattle.std.proofs.Common.{◌≡◌, ℕ, true, false, ◌+◌, ◌<◌, ◌^◌, List, length, Ok, Err, if◌then◌else◌, nat_eq, nat_lt, bit_and, refl, sym, ap, subst, ◌∙◌, arith, lit<, inl, inr}
 use Rattle.std.specs.Str.{bytes_eq}
-use Rattle.std.proofs.lemmas.Bool.{eq-eqb, eqb-true, eqb-false}
+use Rattle.std.proofs.lemmas.Bool.{eq-eqb, eqb-true}
 use Rattle.rpmb_frame.specs.declared.frame.Frame.{Frame}
-use Rattle.rpmb_frame.specs.Layout.{HasWidths, frame_bytes, frame_of}
-use Rattle.rpmb_frame.specs.Authentication.{carried_mac, mac_of, sealed}
+use Rattle.rpmb_frame.specs.Layout.{HasWidths, frame_of}
+use Rattle.rpmb_frame.specs.Authentication.{carried_mac, mac_of}
 use Rattle.rpmb_frame.proofs.RoundTrips.{frame_of-frame_bytes}
 use Rattle.rpmb_card.proofs.Comparison.{bytes_eq-same}
 use Rattle.rpmb_card.specs.EmptyFrame.{empty_frame}
 use Rattle.rpmb_card.specs.declared.protocol.TheConstants.{READ_RESULT, BLOCK_WRITTEN}
 use Rattle.rpmb_card.specs.Card.{CardState, IsCard, given_result, card_answer, card_after, programmed, write_result, written}
-use Rattle.rpmb_host.specs.declared.fault.HostFault.{HostFault}
 use Rattle.rpmb_host.specs.declared.fault.HostFault.TheVariants.{CardResult}
 use Rattle.rpmb_host.specs.Verdict.{verdict}
 use Rattle.rpmb_host.specs.Requests.{result_request, write_fields, write_request}
@@ -81,7 +80,7 @@ result_widths counter address result fits low small =
 refused : (key : List ℕ) (address counter n : ℕ) (block : List ℕ) (s : CardState) → address < 2 ^ 16 → s.counter < 2 ^ 32
     → n < 2 ^ 16 → nat_eq n 0 ≡ false → nat_eq (bit_and (given_result s.counter n) 127) 0 ≡ false
     → told (λ f. f.counter) (verdict key (write_wanted address counter)
-      (card_answer (written (keyed key s) (write_fields address counter block) n) result_request))
+    (card_answer (written (keyed key s) (write_fields address counter block) n) result_request))
     ≡ Err (CardResult (given_result s.counter n))
 refused key address counter n block s low fits small refuses says =
     let g : Frame = result_frame s.counter address n in
@@ -92,7 +91,7 @@ refused key address counter n block s low fits small refuses says =
 done : (key : List ℕ) (address counter : ℕ) (block : List ℕ) (s : CardState) → address < 2 ^ 16 → counter + 1 < 2 ^ 32
     → counter ≡ s.counter
     → told (λ f. f.counter) (verdict key (write_wanted address counter)
-      (card_answer (written (keyed key s) (write_fields address counter block) 0) result_request))
+    (card_answer (written (keyed key s) (write_fields address counter block) 0) result_request))
     ≡ Ok (counter + 1)
 done key address counter block s low fits same =
     let g : Frame = result_frame (s.counter + 1) address 0 in
@@ -111,33 +110,33 @@ says_no counter n low refuses = ap (λ (m : ℕ). nat_eq m 0) low ∙ refuses
 pub write-told : (key : List ℕ) (address counter : ℕ) (block : List ℕ) (s : CardState) → IsCard s → address < 2 ^ 16
     → counter + 1 < 2 ^ 32
     → told (λ f. f.counter) (verdict key (write_wanted address counter)
-      (card_answer (written (keyed key s) (write_fields address counter block) (write_end s address counter)) result_request))
+    (card_answer (written (keyed key s) (write_fields address counter block) (write_end s address counter)) result_request))
     ≡ card_write s address counter
 write-told key address counter block s sound low fits =
     let refuse : (n : ℕ) → n < 2 ^ 16 → nat_eq n 0 ≡ false → bit_and (given_result s.counter n) 127 ≡ n
     → told (λ f. f.counter) (verdict key (write_wanted address counter)
-      (card_answer (written (keyed key s) (write_fields address counter block) n) result_request))
+    (card_answer (written (keyed key s) (write_fields address counter block) n) result_request))
     ≡ Err (CardResult (given_result s.counter n)) =
     λ n small refuses stays. refused key address counter n block s low sound.counter small refuses (says_no s.counter n stays refuses) in
     let Tells : ℕ → Type 0 = λ n.
     told (λ f. f.counter) (verdict key (write_wanted address counter)
-      (card_answer (written (keyed key s) (write_fields address counter block) n) result_request))
+    (card_answer (written (keyed key s) (write_fields address counter block) n) result_request))
     ≡ (if nat_eq n 0 then Ok (counter + 1) else Err (CardResult (given_result s.counter n))) in
     elim (bool_cases (nat_eq s.counter 4294967295)) [
       | inl worn ↦
-        let ends : write_end s address counter ≡ 5 = rw worn in
-        subst Tells (sym ends) (refuse 5 (lit< tt) refl (given-low s.counter 5 refl refl))
+          let ends : write_end s address counter ≡ 5 = rw worn in
+          subst Tells (sym ends) (refuse 5 (lit< tt) refl (given-low s.counter 5 refl refl))
       | inr fresh ↦ elim (bool_cases (nat_lt 255 address)) [
         | inl past ↦
-          let ends : write_end s address counter ≡ 4 = rw (fresh, past) in
-          subst Tells (sym ends) (refuse 4 (lit< tt) refl (given-low s.counter 4 refl refl))
+            let ends : write_end s address counter ≡ 4 = rw (fresh, past) in
+            subst Tells (sym ends) (refuse 4 (lit< tt) refl (given-low s.counter 4 refl refl))
         | inr within ↦ elim (bool_cases (nat_eq counter s.counter)) [
           | inl same ↦
-            let ends : write_end s address counter ≡ 0 = rw (fresh, within, same) in
-            subst Tells (sym ends) (done key address counter block s low fits (eqb-true counter s.counter same))
+              let ends : write_end s address counter ≡ 0 = rw (fresh, within, same) in
+              subst Tells (sym ends) (done key address counter block s low fits (eqb-true counter s.counter same))
           | inr other ↦
-            let ends : write_end s address counter ≡ 3 = rw (fresh, within, other) in
-            subst Tells (sym ends) (refuse 3 (lit< tt) refl (given-low s.counter 3 refl refl))
+              let ends : write_end s address counter ≡ 3 = rw (fresh, within, other) in
+              subst Tells (sym ends) (refuse 3 (lit< tt) refl (given-low s.counter 3 refl refl))
         ]
       ]
     ]

@@ -1,11 +1,11 @@
 -- The fields of frames that are made from the empty frame, and of sealed frames.
-use Rattle.std.proofs.Common.{◌≡◌, ℕ, ◌+◌, ◌≤◌, List, ◌++◌, length, take, drop, replicate, refl, sym, ap, ◌∙◌, arith, lit<}
+use Rattle.std.proofs.Common.{◌≡◌, ℕ, ◌≤◌, List, ◌++◌, length, refl, ap, ◌∙◌, arith, lit<}
 use Rattle.std.specs.Int.{w16, w32, to_be_bytes}
 use Rattle.std.proofs.lemmas.List.{length-append, length-replicate, take_at}
 use Rattle.sha2.proofs.Facts256.{length-sha256}
 use Rattle.hmac_keys.specs.Hmac.{hmac}
 use Rattle.rpmb_frame.specs.declared.frame.Frame.{Frame}
-use Rattle.rpmb_frame.specs.Layout.{HasWidths, field, frame_bytes, frame_of}
+use Rattle.rpmb_frame.specs.Layout.{HasWidths, frame_bytes, frame_of}
 use Rattle.rpmb_frame.specs.Authentication.{IsAuthentic, mac_of, sealed}
 use Rattle.rpmb_frame.proofs.Fields.{rest_after}
 use Rattle.rpmb_frame.proofs.RoundTrips.{frame_of-frame_bytes}

@@ -1,5 +1,5 @@
 -- What a call of the host makes of its exchanges.
-use Rattle.std.specs.Prelude.{ℕ, ◌≡◌, ◌⊎◌, ◌+◌, ◌-◌, List, [], length, slice_index_or, Option, Some, None, Result, Ok, Err, IsErr}
+use Rattle.std.specs.Prelude.{ℕ, ◌⊎◌, ◌+◌, ◌-◌, List, [], length, slice_index_or, Some, None, Result, Ok, Err, IsErr}
 use Rattle.std.specs.Result.{result_map_both}
 use Rattle.tee_ports.specs.declared.failed.Failed.{Failed}
 use Rattle.rpmb_frame.specs.declared.frame.Frame.{Frame}
@@ -53,4 +53,4 @@ abbrev pub WriteExchanges : PortState → PortState → (write : List ℕ) → R
 WriteExchanges old new write outcome =
     (IsErr outcome × Exchanged old new write outcome)
     ⊎ ((between : PortState) × (answer : List ℕ) × Exchanged old between write (Ok answer)
-      × Exchanged between new result_request outcome)
+    × Exchanged between new result_request outcome)

@@ -11,7 +11,7 @@ ghost use Rattle.rpmb_host.specs.Calls.{WriteExchanges, block_wanted, counter_wa
 use crate::HostFault;
 use crate::requests::{block_request, counter_request, result_request, write_request};
 use crate::verdict::{Wanted, judge};
-use rpmb_card::{BLOCK_READ, BLOCK_WRITTEN, COUNTER_READ, RpmbPort};
+use rpmb_card::{BLOCK_READ, BLOCK_WRITTEN, COUNTER_READ, CardRig, NoMemory, RpmbPort};
 use rpmb_frame::Frame;
 use std::marker::Model;
 
@@ -175,5 +175,48 @@ impl<R: RpmbPort> Host<R> {
     {
         let answer = self.port.exchange(request)?;
         judge(&self.key, wanted, &answer)
+    }
+}
+
+impl<R: CardRig> Host<R> {
+    ghost use Rattle.std.specs.Prelude.{OnOk, OnErr};
+    ghost use Rattle.rpmb_card.specs.Arms.{failing_at, losing_at, stopped_after};
+    ghost use Rattle.rpmb_card.specs.Port.{Rearmed};
+
+    /// Lets this many exchanges pass, and fails all later ones.
+    pub fn stop_after(&mut self, calls: u64)
+        ensures rearmed { Rearmed (R.state self.old.port) (R.state self.new.port)
+            (stopped_after (R.state self.old.port).arms calls) }
+        ensures key { self.new.key ≡ self.old.key }
+    {
+        self.port.stop_after(calls);
+    }
+
+    /// Fails that exchange without reaching the card.
+    ///
+    /// # Errors
+    ///
+    /// Memory ran out; nothing changed.
+    pub fn fail_call(&mut self, call: u64) -> Result<(), NoMemory>
+        ensures ok { OnOk result (Rearmed (R.state self.old.port) (R.state self.new.port)
+            (failing_at (R.state self.old.port).arms call)) }
+        ensures err { OnErr result (R.state self.new.port ≡ R.state self.old.port) }
+        ensures key { self.new.key ≡ self.old.key }
+    {
+        self.port.fail_call(call)
+    }
+
+    /// Lets the card act on that exchange, and loses its answer.
+    ///
+    /// # Errors
+    ///
+    /// Memory ran out; nothing changed.
+    pub fn lose_call(&mut self, call: u64) -> Result<(), NoMemory>
+        ensures ok { OnOk result (Rearmed (R.state self.old.port) (R.state self.new.port)
+            (losing_at (R.state self.old.port).arms call)) }
+        ensures err { OnErr result (R.state self.new.port ≡ R.state self.old.port) }
+        ensures key { self.new.key ≡ self.old.key }
+    {
+        self.port.lose_call(call)
     }
 }

@@ -20,11 +20,7 @@ pub(crate) struct Wanted {
 }
 
 /// The frame, if it is the wanted answer; or what is wrong with it first: MAC, nonce, kind, result, counter, address.
-pub(crate) fn judge(
-    key: &[u8; 32],
-    wanted: &Wanted,
-    bytes: &[u8; 512],
-) -> Result<Frame, HostFault>
+pub(crate) fn judge(key: &[u8; 32], wanted: &Wanted, bytes: &[u8; 512]) -> Result<Frame, HostFault>
     ensures verdict { result ≡ verdict key.now wanted.now bytes.now }
     ensures of_frame { is_of_frame result ≡ true }
 {

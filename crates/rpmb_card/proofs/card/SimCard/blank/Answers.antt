@@ -1,5 +1,5 @@
 use Rattle.std.proofs.Common.{sym, subst, List, ℕ, None}
-use Rattle.rpmb_card.specs.Card.{CardState, IsCard}
+use Rattle.rpmb_card.specs.Card.{IsCard}
 use Rattle.rpmb_card.proofs.Blank.{blank_sound}
 use Rattle.rpmb_card.proofs.card.SimCard.blank.Goals as goal
 

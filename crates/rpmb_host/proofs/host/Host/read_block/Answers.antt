@@ -1,8 +1,7 @@
-use Rattle.std.proofs.Common.{ℕ, Result, Ok, Err, ap, arith}
+use Rattle.std.proofs.Common.{Ok, Err, ap, arith}
 use Rattle.std.proofs.lemmas.Result.{err_from_is_err_and}
 use Rattle.rpmb_frame.specs.declared.frame.Frame.{Frame}
-use Rattle.rpmb_card.specs.Port.{Exchanged}
-use Rattle.rpmb_host.specs.Calls.{received, told}
+use Rattle.rpmb_host.specs.Calls.{told}
 use Rattle.rpmb_host.proofs.HonestCalls.{card_stays, block_honest, block_stays}
 use Rattle.rpmb_host.proofs.host.Host.read_block.Goals as goal
 

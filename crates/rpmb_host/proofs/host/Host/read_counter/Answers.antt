@@ -1,8 +1,7 @@
-use Rattle.std.proofs.Common.{ℕ, Result, Ok, Err, ap, subst, List}
+use Rattle.std.proofs.Common.{Ok, Err, ap}
 use Rattle.std.proofs.lemmas.Result.{err_from_is_err_and}
 use Rattle.rpmb_frame.specs.declared.frame.Frame.{Frame}
-use Rattle.rpmb_card.specs.Port.{Exchanged}
-use Rattle.rpmb_host.specs.Calls.{received, told}
+use Rattle.rpmb_host.specs.Calls.{told}
 use Rattle.rpmb_host.proofs.HonestCalls.{card_stays, counter_honest, counter_stays}
 use Rattle.rpmb_host.proofs.host.Host.read_counter.Goals as goal
 
