@@ -50,7 +50,8 @@ pub record Exchanged (old new : PortState) (frame : List ℕ) (result : Result (
   pub stays_sound : IfSome new.card IsCard
   -- only an answer is heard
   pub heard : new.heard ≡ heard_with old.heard result
-  -- a failure raised the count, and carries it; a card never starves
+  -- a failure raised the count, and carries it; an answer left it; a card never starves
+  pub passed : OnOk result (new.faults ≡ old.faults)
   pub rose : OnErr result (Rose old.faults new.faults)
   pub carried : IfErr result (λ failed. failed.count ≡ new.faults)
   pub counted : old.faults ≤ new.faults
