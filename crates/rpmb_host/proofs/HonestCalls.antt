@@ -11,8 +11,8 @@ use Rattle.rpmb_host.specs.declared.fault.HostFault.TheVariants.{Failed as HostF
 use Rattle.rpmb_host.specs.declared.verdict.Wanted.{Wanted}
 use Rattle.rpmb_host.specs.Verdict.{verdict}
 use Rattle.rpmb_host.specs.Requests.{counter_request, block_request, result_request, write_request}
-use Rattle.rpmb_host.specs.Honest.{HasCard, IsWritten, card_block, card_write, has_failed, write_end, written_card}
-use Rattle.rpmb_host.specs.Calls.{WriteExchanges, block_wanted, counter_wanted, judged, last_heard, received, told, write_wanted}
+use Rattle.rpmb_host.specs.Honest.{HasCard, IsWritten, card_block, card_write, write_end, written_card}
+use Rattle.rpmb_host.specs.Calls.{WriteExchanges, has_failed, block_wanted, counter_wanted, judged, last_heard, received, told, write_wanted}
 use Rattle.rpmb_host.proofs.HonestReads.{block-told, bool_cases, counter-told, is_keyed, request-block, request-counter}
 use Rattle.rpmb_host.proofs.HonestWrites.{card_after-write, request-result, write-told}
 

@@ -2,3 +2,4 @@ pub mod Widths
 pub mod HonestReads
 pub mod HonestWrites
 pub mod HonestCalls
+pub mod Counting

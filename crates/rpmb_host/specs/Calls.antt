@@ -1,7 +1,8 @@
 -- What a call of the host makes of its exchanges.
-use Rattle.std.specs.Prelude.{ℕ, ◌⊎◌, ◌+◌, ◌-◌, List, [], length, slice_index_or, Some, None, Result, Ok, Err, IsErr}
+use Rattle.std.specs.Prelude.{ℕ, Bool, true, false, ◌≡◌, ◌⊎◌, ◌+◌, ◌-◌, List, [], length, slice_index_or, Some, None, Result, Ok, Err, IsErr}
 use Rattle.std.specs.Result.{result_map_both}
 use Rattle.tee_ports.specs.declared.failed.Failed.{Failed}
+use Rattle.tee_ports.specs.Faults.{Rose}
 use Rattle.rpmb_frame.specs.declared.frame.Frame.{Frame}
 use Rattle.rpmb_card.specs.Port.{PortState, Exchanged}
 use Rattle.rpmb_card.specs.declared.protocol.TheConstants.{COUNTER_READ, BLOCK_READ, BLOCK_WRITTEN}
@@ -36,6 +37,24 @@ judged key wanted (Err failed) = Err (HostFailed failed.count)
 
 abbrev pub told : {A : Type 0} → (Frame → A) → Result Frame HostFault → Result A HostFault
 told field answer = result_map_both field (λ fault. fault) answer
+
+-- a failure raised the count of faults, and carries it; any other answer left it
+abbrev pub FaultCounts : PortState → PortState → HostFault → Type 0
+FaultCounts old new (HostFailed count) = Rose old.faults new.faults × (count ≡ new.faults)
+FaultCounts old new _ = new.faults ≡ old.faults
+
+abbrev pub Counts : {A : Type 0} → PortState → PortState → Result A HostFault → Type 0
+Counts old new (Ok value) = new.faults ≡ old.faults
+Counts old new (Err fault) = FaultCounts old new fault
+
+-- an exchange failed
+abbrev pub is_failure : HostFault → Bool
+is_failure (HostFailed count) = true
+is_failure _ = false
+
+abbrev pub has_failed : {A : Type 0} → Result A HostFault → Bool
+has_failed (Ok value) = false
+has_failed (Err fault) = is_failure fault
 
 -- the wanted answers
 abbrev pub counter_wanted : (nonce : List ℕ) → Wanted

@@ -1,25 +1,16 @@
 -- What a host gets over a port that tells its card, and a card that has the host's key.
-use Rattle.std.specs.Prelude.{ℕ, Bool, true, false, ◌≡◌, ◌==◌, ◌<◌, ◌+◌, not, if◌then◌else◌, nat_lt, List, [], slice_index_or, Option, Some, IfSome, Result, Ok, Err}
+use Rattle.std.specs.Prelude.{ℕ, ◌≡◌, ◌==◌, ◌<◌, ◌+◌, not, if◌then◌else◌, nat_lt, List, [], slice_index_or, Option, Some, IfSome, Result, Ok, Err}
 use Rattle.rpmb_card.specs.declared.protocol.TheConstants.{DONE, ADDRESS_FAILURE, COUNTER_FAILURE, WRITE_FAILURE}
 use Rattle.rpmb_card.specs.Card.{CardState, given_result, last_counter, written}
 use Rattle.rpmb_card.specs.Port.{PortState}
 use Rattle.rpmb_host.specs.declared.fault.HostFault.{HostFault}
-use Rattle.rpmb_host.specs.declared.fault.HostFault.TheVariants.{Failed, CardResult}
+use Rattle.rpmb_host.specs.declared.fault.HostFault.TheVariants.{CardResult}
 use Rattle.rpmb_host.specs.Requests.{write_fields}
 
 -- the port tells this card, and its key is the host's
 pub record HasCard (port : PortState) (key : List ℕ) (card : CardState) : Type 0 where
   pub told : port.card ≡ Some card
   pub keyed : card.key ≡ Some key
-
--- an exchange failed
-abbrev pub is_failure : HostFault → Bool
-is_failure (Failed count) = true
-is_failure _ = false
-
-abbrev pub has_failed : {A : Type 0} → Result A HostFault → Bool
-has_failed (Ok value) = false
-has_failed (Err fault) = is_failure fault
 
 -- what a read of a block gives
 abbrev pub card_block : CardState → ℕ → Result (List ℕ) HostFault

@@ -1,12 +1,12 @@
 // The host.
 
-ghost use Rattle.std.specs.Prelude.{◌≡◌, ◌≢◌, ◌↔◌, ◌⊎◌, false, IfOk, Some};
+ghost use Rattle.std.specs.Prelude.{◌≡◌, ◌≢◌, ◌↔◌, ◌⊎◌, false, IfOk, IsTrue, Some};
 ghost use Rattle.rpmb_card.specs.Card.{CardState, last_counter};
 ghost use Rattle.rpmb_card.specs.Port.{Exchanged};
 ghost use Rattle.rpmb_host.specs.Requests.{block_request, counter_request, write_request};
 ghost use Rattle.rpmb_host.specs.declared.fault.HostFault.TheVariants.{Spent};
-ghost use Rattle.rpmb_host.specs.Honest.{HasCard, IsWritten, card_block, card_write, has_failed, written_card};
-ghost use Rattle.rpmb_host.specs.Calls.{WriteExchanges, block_wanted, counter_wanted, judged, received, told, write_wanted};
+ghost use Rattle.rpmb_host.specs.Honest.{HasCard, IsWritten, card_block, card_write, written_card};
+ghost use Rattle.rpmb_host.specs.Calls.{Counts, WriteExchanges, block_wanted, counter_wanted, has_failed, judged, received, told, write_wanted};
 
 use crate::HostFault;
 use crate::requests::{block_request, counter_request, result_request, write_request};
@@ -60,6 +60,9 @@ impl<R: RpmbPort> Host<R> {
         ensures answer { result ≡ told (λ f. f.counter) (judged self.old.key
             (counter_wanted nonce.now) (received (R.state self.new.port) result)) }
         ensures key { self.new.key ≡ self.old.key }
+        ensures counts { Counts (R.state self.old.port) (R.state self.new.port) result }
+        ensures calm { IsTrue (R.state self.old.port).calm
+            → (has_failed result ≡ false) × IsTrue (R.state self.new.port).calm }
 
         // The card stays; one that has the host's key tells its counter, worn or not.
         ensures stays { (R.state self.new.port).card ≡ (R.state self.old.port).card }
@@ -88,6 +91,9 @@ impl<R: RpmbPort> Host<R> {
         ensures answer { result ≡ told (λ f. f.block) (judged self.old.key
             (block_wanted address nonce.now) (received (R.state self.new.port) result)) }
         ensures key { self.new.key ≡ self.old.key }
+        ensures counts { Counts (R.state self.old.port) (R.state self.new.port) result }
+        ensures calm { IsTrue (R.state self.old.port).calm
+            → (has_failed result ≡ false) × IsTrue (R.state self.new.port).calm }
 
         // The card stays; one that has the host's key gives its block.
         ensures stays { (R.state self.new.port).card ≡ (R.state self.old.port).card }
@@ -126,6 +132,9 @@ impl<R: RpmbPort> Host<R> {
         ensures answer { counter ≢ last_counter → result ≡ told (λ f. f.counter)
             (judged self.old.key (write_wanted address counter) (received (R.state self.new.port) result)) }
         ensures key { self.new.key ≡ self.old.key }
+        ensures counts { Counts (R.state self.old.port) (R.state self.new.port) result }
+        ensures calm { IsTrue (R.state self.old.port).calm
+            → (has_failed result ≡ false) × IsTrue (R.state self.new.port).calm }
 
         // What a card that has the host's key does and tells. After a failure it has written, or not.
         ensures honest { counter ≢ last_counter → (card : CardState)

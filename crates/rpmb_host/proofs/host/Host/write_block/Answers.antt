@@ -1,8 +1,10 @@
-use Rattle.std.proofs.Common.{◌≡◌, Ok, Err, ap, arith, refl, rules}
+use Rattle.std.proofs.Common.{Result, ◌≡◌, Ok, Err, ap, arith, refl, rules}
 use Rattle.std.proofs.lemmas.Result.{err_from_is_err_and}
 use Rattle.rpmb_frame.specs.declared.frame.Frame.{Frame}
 use Rattle.rpmb_host.specs.Calls.{told}
 use Rattle.rpmb_host.specs.Requests.{write_request}
+use Rattle.rpmb_host.specs.declared.fault.HostFault.{HostFault}
+use Rattle.rpmb_host.proofs.Counting.{write_calm, write_counts}
 use Rattle.rpmb_host.proofs.HonestCalls.{write_honest, write_left, write_sound, write_written}
 use Rattle.rpmb_host.proofs.host.Host.write_block.Goals as goal
 
@@ -40,3 +42,23 @@ returns-clause-written g c = λ card has.
     write_written card (g.R.RpmbPort.state c.write.new.self.port).card c.args.address c.args.counter c.in_ok-answer.answer.counter c.args.block.now
     (write_sound (g.R.RpmbPort.state c.args.self.now.port) (g.R.RpmbPort.state c.write.new.self.port) _ _ card (rw request at c.in_ok-answer.ensures.exchanged) has.told)
     facts.0 facts.1
+
+pub returns-in_err-answer-clause-counts : goal.returns-in_err-answer-clause-counts
+returns-in_err-answer-clause-counts g c =
+    let p = err_from_is_err_and c.from_residual.result c.from_residual.ensures.1 in
+    rw (p.1, p.2)
+    (write_counts (g.R.RpmbPort.state c.args.self.now.port) (g.R.RpmbPort.state c.write.new.self.port) c.write_request-request.result (let value : Result Frame HostFault = Err c.in_err-answer.field-0.0 in value) c.in_err-answer.ensures.exchanged)
+
+pub returns-in_err-answer-clause-calm : goal.returns-in_err-answer-clause-calm
+returns-in_err-answer-clause-calm g c =
+    let p = err_from_is_err_and c.from_residual.result c.from_residual.ensures.1 in
+    rw (p.1, p.2)
+    (write_calm (g.R.RpmbPort.state c.args.self.now.port) (g.R.RpmbPort.state c.write.new.self.port) c.write_request-request.result (let value : Result Frame HostFault = Err c.in_err-answer.field-0.0 in value) c.in_err-answer.ensures.exchanged)
+
+pub returns-clause-counts : goal.returns-clause-counts
+returns-clause-counts g c =
+    write_counts (g.R.RpmbPort.state c.args.self.now.port) (g.R.RpmbPort.state c.write.new.self.port) c.write_request-request.result (let value : Result Frame HostFault = Ok c.in_ok-answer.answer in value) c.in_ok-answer.ensures.exchanged
+
+pub returns-clause-calm : goal.returns-clause-calm
+returns-clause-calm g c =
+    write_calm (g.R.RpmbPort.state c.args.self.now.port) (g.R.RpmbPort.state c.write.new.self.port) c.write_request-request.result (let value : Result Frame HostFault = Ok c.in_ok-answer.answer in value) c.in_ok-answer.ensures.exchanged
