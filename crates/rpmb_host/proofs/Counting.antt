@@ -1,7 +1,5 @@
 -- Faults and calm over the exchanges of a call.
-use Rattle.std.proofs.Common.{◌≡◌, false, List, ℕ, Result, Ok, Err, IsErr, IsTrue, ◌⊎◌, inl, inr, refl, ◌∙◌}
-use Rattle.tee_ports.specs.declared.failed.Failed.{Failed}
-use Rattle.tee_ports.specs.Faults.{Rose}
+use Rattle.std.proofs.Common.{◌≡◌, false, List, ℕ, Result, Ok, Err, IsTrue, inl, inr, refl, ◌∙◌}
 use Rattle.rpmb_card.specs.Port.{PortState, Exchanged}
 use Rattle.rpmb_host.specs.declared.fault.HostFault.{HostFault}
 use Rattle.rpmb_host.specs.declared.fault.HostFault.TheVariants.{Failed as HostFailed, BadFrame, CardResult, Spent}
