@@ -36,15 +36,15 @@ fate_of arms =
     else Passes
 
 -- after one more call
-abbrev pub called : Arms → Arms
-called arms = record arms { calls = next_call arms }
+abbrev pub count_call : Arms → Arms
+count_call arms = record arms { calls = next_call arms }
 
 -- after each arming
-abbrev pub stopped_after : Arms → ℕ → Arms
-stopped_after arms calls = record arms { calls = 0; stop_after = Some calls }
+abbrev pub arm_stop : Arms → ℕ → Arms
+arm_stop arms calls = record arms { calls = 0; stop_after = Some calls }
 
-abbrev pub failing_at : Arms → ℕ → Arms
-failing_at arms call = record arms { calls = 0; failing = arms.failing ++ call ∷ [] }
+abbrev pub arm_failure : Arms → ℕ → Arms
+arm_failure arms call = record arms { calls = 0; failing = arms.failing ++ call ∷ [] }
 
-abbrev pub losing_at : Arms → ℕ → Arms
-losing_at arms call = record arms { calls = 0; losing = arms.losing ++ call ∷ [] }
+abbrev pub arm_loss : Arms → ℕ → Arms
+arm_loss arms call = record arms { calls = 0; losing = arms.losing ++ call ∷ [] }

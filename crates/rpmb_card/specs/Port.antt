@@ -5,7 +5,7 @@ use Rattle.tee_ports.specs.Faults.{Rose}
 use Rattle.rpmb_card.specs.Card.{CardState, IsCard, card_after, card_answer}
 use Rattle.rpmb_card.specs.declared.arms.Fate.{Fate}
 use Rattle.rpmb_card.specs.declared.arms.Fate.TheVariants.{Passes, Fails, Loses}
-use Rattle.rpmb_card.specs.Arms.{Arms, fate_of, called}
+use Rattle.rpmb_card.specs.Arms.{Arms, fate_of, count_call}
 
 pub record PortState : Type 0 where
   -- how many exchanges failed, and for want of memory
@@ -63,7 +63,7 @@ pub record Exchanged (old new : PortState) (frame : List ℕ) (result : Result (
   -- a port that tells its armed faults fails exactly as they say
   pub tells_arms : new.tells_arms ≡ old.tells_arms
   pub fate : IsTrue old.tells_arms → Meets (fate_of old.arms) old.card new.card frame result
-  pub called : IsTrue old.tells_arms → new.arms ≡ called old.arms
+  pub counted_call : IsTrue old.tells_arms → new.arms ≡ count_call old.arms
 
 -- An arming, or its end, changes only what is armed and whether the port is calm; a port that tells its armed faults
 -- then has these.

@@ -40,7 +40,7 @@ impl Model for ArmedCalls {
 }
 
 impl ArmedCalls {
-    ghost use Rattle.rpmb_card.specs.Arms.{no_arms, fate_of, called, stopped_after, failing_at, losing_at};
+    ghost use Rattle.rpmb_card.specs.Arms.{no_arms, fate_of, count_call, arm_stop, arm_failure, arm_loss};
 
     /// Nothing is armed.
     pub fn new(alloc: Global) -> ArmedCalls
@@ -57,7 +57,7 @@ impl ArmedCalls {
     /// Counts a call, and says what becomes of it.
     pub fn next(&mut self) -> Fate
         ensures fate { result ≡ fate_of self.old }
-        ensures counted { self.new ≡ called self.old }
+        ensures counted { self.new ≡ count_call self.old }
     {
         self.calls = self.calls.saturating_add(1);
         let call = self.calls;
@@ -72,7 +72,7 @@ impl ArmedCalls {
 
     /// Lets this many calls pass, and no later one.
     pub fn stop_after(&mut self, calls: u64)
-        ensures { self.new ≡ stopped_after self.old calls }
+        ensures { self.new ≡ arm_stop self.old calls }
     {
         self.calls = 0;
         self.stop_after = Some(calls);
@@ -80,7 +80,7 @@ impl ArmedCalls {
 
     /// Lets that call fail.
     pub fn fail_call(&mut self, call: u64) -> Result<(), NoMemory>
-        ensures ok { OnOk result (self.new ≡ failing_at self.old call) }
+        ensures ok { OnOk result (self.new ≡ arm_failure self.old call) }
         ensures err { OnErr result (self.new ≡ self.old) }
     {
         self.failing.push(call)?;
@@ -90,7 +90,7 @@ impl ArmedCalls {
 
     /// Lets that call's answer be lost.
     pub fn lose_call(&mut self, call: u64) -> Result<(), NoMemory>
-        ensures ok { OnOk result (self.new ≡ losing_at self.old call) }
+        ensures ok { OnOk result (self.new ≡ arm_loss self.old call) }
         ensures err { OnErr result (self.new ≡ self.old) }
     {
         self.losing.push(call)?;

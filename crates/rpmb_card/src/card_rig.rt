@@ -1,7 +1,7 @@
 // Faults on purpose.
 
 ghost use Rattle.std.specs.Prelude.{◌≡◌, IsTrue, OnOk, OnErr};
-ghost use Rattle.rpmb_card.specs.Arms.{no_arms, stopped_after, failing_at, losing_at};
+ghost use Rattle.rpmb_card.specs.Arms.{no_arms, arm_stop, arm_failure, arm_loss};
 ghost use Rattle.rpmb_card.specs.Port.{Rearmed};
 
 use crate::{NoMemory, RpmbPort};
@@ -11,7 +11,7 @@ pub trait CardRig: RpmbPort {
     /// Lets this many calls pass, and fails all later ones.
     fn stop_after(&mut self, calls: u64)
         ensures { Rearmed (Self.state self.old) (Self.state self.new)
-            (stopped_after (Self.state self.old).arms calls) };
+            (arm_stop (Self.state self.old).arms calls) };
 
     /// Fails that call without reaching the card.
     ///
@@ -20,7 +20,7 @@ pub trait CardRig: RpmbPort {
     /// Memory ran out; nothing changed.
     fn fail_call(&mut self, call: u64) -> Result<(), NoMemory>
         ensures ok { OnOk result (Rearmed (Self.state self.old) (Self.state self.new)
-            (failing_at (Self.state self.old).arms call)) }
+            (arm_failure (Self.state self.old).arms call)) }
         ensures err { OnErr result (Self.state self.new ≡ Self.state self.old) };
 
     /// Lets the card act on that call, and loses its answer.
@@ -30,7 +30,7 @@ pub trait CardRig: RpmbPort {
     /// Memory ran out; nothing changed.
     fn lose_call(&mut self, call: u64) -> Result<(), NoMemory>
         ensures ok { OnOk result (Rearmed (Self.state self.old) (Self.state self.new)
-            (losing_at (Self.state self.old).arms call)) }
+            (arm_loss (Self.state self.old).arms call)) }
         ensures err { OnErr result (Self.state self.new ≡ Self.state self.old) };
 
     /// Removes all of these.

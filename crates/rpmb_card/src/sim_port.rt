@@ -67,6 +67,7 @@ impl RpmbPort for SimPort {
     ghost state = { port_state };
 
     fn exchange(&mut self, frame: &[u8; 512]) -> Result<[u8; 512], Failed> {
+        // What is known of every card is known once a field is read.
         let card = &self.card;
         let _ = &card.key;
         match self.arms.next() {

@@ -189,13 +189,13 @@ impl<R: RpmbPort> Host<R> {
 
 impl<R: CardRig> Host<R> {
     ghost use Rattle.std.specs.Prelude.{OnOk, OnErr};
-    ghost use Rattle.rpmb_card.specs.Arms.{failing_at, losing_at, stopped_after};
+    ghost use Rattle.rpmb_card.specs.Arms.{arm_failure, arm_loss, arm_stop};
     ghost use Rattle.rpmb_card.specs.Port.{Rearmed};
 
     /// Lets this many exchanges pass, and fails all later ones.
     pub fn stop_after(&mut self, calls: u64)
         ensures rearmed { Rearmed (R.state self.old.port) (R.state self.new.port)
-            (stopped_after (R.state self.old.port).arms calls) }
+            (arm_stop (R.state self.old.port).arms calls) }
         ensures key { self.new.key ≡ self.old.key }
     {
         self.port.stop_after(calls);
@@ -208,7 +208,7 @@ impl<R: CardRig> Host<R> {
     /// Memory ran out; nothing changed.
     pub fn fail_call(&mut self, call: u64) -> Result<(), NoMemory>
         ensures ok { OnOk result (Rearmed (R.state self.old.port) (R.state self.new.port)
-            (failing_at (R.state self.old.port).arms call)) }
+            (arm_failure (R.state self.old.port).arms call)) }
         ensures err { OnErr result (R.state self.new.port ≡ R.state self.old.port) }
         ensures key { self.new.key ≡ self.old.key }
     {
@@ -222,7 +222,7 @@ impl<R: CardRig> Host<R> {
     /// Memory ran out; nothing changed.
     pub fn lose_call(&mut self, call: u64) -> Result<(), NoMemory>
         ensures ok { OnOk result (Rearmed (R.state self.old.port) (R.state self.new.port)
-            (losing_at (R.state self.old.port).arms call)) }
+            (arm_loss (R.state self.old.port).arms call)) }
         ensures err { OnErr result (R.state self.new.port ≡ R.state self.old.port) }
         ensures key { self.new.key ≡ self.old.key }
     {
