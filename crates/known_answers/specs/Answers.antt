@@ -1,6 +1,6 @@
 -- The lines that answer the questions.
 use Rattle.std.specs.Prelude.{ℕ, ◌≡◌, ◌≢◌, List, [], ◌∷◌, ◌++◌, codes, map}
-use Rattle.std.specs.Int.{w128, from_be_bytes, to_be_bytes}
+use Rattle.std.specs.Int.{w16, w32, w128, from_be_bytes, to_be_bytes}
 use Rattle.hex.specs.Hex.{encode_lower}
 use Rattle.aes_block.specs.Cipher.{cipher}
 use Rattle.aes_block.specs.InverseCipher.{inv_cipher}
@@ -9,9 +9,13 @@ use Rattle.ghash_field.specs.Ghash.{ghash}
 use Rattle.gcm_mode.specs.Gcm.{gcm_text, gcm_tag}
 use Rattle.hmac_keys.specs.Hmac.{hmac}
 use Rattle.hmac_keys.specs.KeyTable.{ssk, tsk, dir_tsk, rpmb_key}
+use Rattle.rpmb_frame.specs.declared.frame.Frame.{Frame}
+use Rattle.rpmb_frame.specs.Layout.{frame_of}
+use Rattle.rpmb_frame.specs.Authentication.{mac_of}
+use Rattle.rpmb_card.specs.Card.{CardState, blank, card_after, card_answer}
 use Rattle.known_answers.specs.declared.questions.Parts.{Parts}
 use Rattle.known_answers.specs.declared.questions.Question.{Question}
-use Rattle.known_answers.specs.declared.questions.Question.TheVariants.{Aes, AesInverse, Ghash, GcmSeal, GcmOpen, Hmac, Ssk, Tsk, DirTsk, RpmbKey, Wrap, Unwrap}
+use Rattle.known_answers.specs.declared.questions.Question.TheVariants.{Aes, AesInverse, Ghash, GcmSeal, GcmOpen, Hmac, Ssk, Tsk, DirTsk, RpmbKey, Wrap, Unwrap, FrameMac, FrameFields, Card}
 
 -- bytes in hex, or `-` for none
 abbrev pub hex_word : List ℕ → List ℕ
@@ -21,6 +25,26 @@ hex_word (byte ∷ rest) = encode_lower (byte ∷ rest)
 -- two of them, a space apart
 abbrev pub two_words : List ℕ → List ℕ → List ℕ
 two_words first second = hex_word first ++ codes " " ++ hex_word second
+
+-- more of them, each behind a space, and all a space apart
+abbrev pub behind_spaces : List (List ℕ) → List ℕ
+behind_spaces [] = []
+behind_spaces (bytes ∷ rest) = codes " " ++ hex_word bytes ++ behind_spaces rest
+
+abbrev pub spaced : List (List ℕ) → List ℕ
+spaced [] = []
+spaced (bytes ∷ rest) = hex_word bytes ++ behind_spaces rest
+
+-- the fields of a frame, in their order
+abbrev pub fields_line : Frame → List ℕ
+fields_line f =
+    spaced (f.stuff ∷ f.key_or_mac ∷ f.block ∷ f.nonce ∷ to_be_bytes w32 f.counter ∷ to_be_bytes w16 f.address
+    ∷ to_be_bytes w16 f.count ∷ to_be_bytes w16 f.result ∷ to_be_bytes w16 f.kind ∷ [])
+
+-- what a card answers to one frame after the other
+abbrev pub card_answers : CardState → List (List ℕ) → List (List ℕ)
+card_answers card [] = []
+card_answers card (frame ∷ frames) = card_answer card frame ∷ card_answers (card_after card frame) frames
 
 -- GHASH of blocks, all as bytes
 abbrev pub ghash_of : List ℕ → List (List ℕ) → List ℕ
@@ -53,3 +77,6 @@ IsAnswer (DirTsk ssk) line = line ≡ hex_word (dir_tsk ssk)
 IsAnswer (RpmbKey huk) line = line ≡ hex_word (rpmb_key huk)
 IsAnswer (Wrap tsk fek) line = line ≡ hex_word (wrapped_of tsk fek)
 IsAnswer (Unwrap tsk wrapped) line = line ≡ hex_word (unwrapped_of tsk wrapped)
+IsAnswer (FrameMac key frame) line = line ≡ hex_word (mac_of key frame)
+IsAnswer (FrameFields frame) line = line ≡ fields_line (frame_of frame)
+IsAnswer (Card first rest) line = line ≡ spaced (card_answers blank (first ∷ rest.items))

@@ -3,7 +3,7 @@ use Rattle.std.specs.Prelude.{ℕ, ◌≡◌, ◌<◌, List, [], ◌∷◌, code
 use Rattle.known_answers.specs.Words.{IsArray, IsArgument}
 use Rattle.known_answers.specs.declared.questions.Parts.{Parts}
 use Rattle.known_answers.specs.declared.questions.Question.{Question}
-use Rattle.known_answers.specs.declared.questions.Question.TheVariants.{Aes, AesInverse, Ghash, GcmSeal, GcmOpen, Hmac, Ssk, Tsk, DirTsk, RpmbKey, Wrap, Unwrap}
+use Rattle.known_answers.specs.declared.questions.Question.TheVariants.{Aes, AesInverse, Ghash, GcmSeal, GcmOpen, Hmac, Ssk, Tsk, DirTsk, RpmbKey, Wrap, Unwrap, FrameMac, FrameFields, Card}
 
 -- a word, by its place in the line
 abbrev pub word_at : List (List ℕ) → ℕ → List ℕ
@@ -61,3 +61,8 @@ Asks words (DirTsk ssk) = HasOne words (codes "dir-tsk") × IsArray (word_at wor
 Asks words (RpmbKey huk) = HasOne words (codes "rpmb-key") × IsArray (word_at words 1) huk
 Asks words (Wrap tsk fek) = HasArrays words (codes "wrap") tsk fek
 Asks words (Unwrap tsk wrapped) = HasArrays words (codes "unwrap") tsk wrapped
+Asks words (FrameMac key frame) = HasArrays words (codes "frame-mac") key frame
+Asks words (FrameFields frame) = HasOne words (codes "frame-fields") × IsArray (word_at words 1) frame
+Asks words (Card first rest) =
+    (words ≡ codes "card" ∷ word_at words 1 ∷ drop 2 words)
+    × IsArray (word_at words 1) first × AreArrays (drop 2 words) rest.items

@@ -1,15 +1,17 @@
 // The answers.
 
-ghost use Rattle.std.specs.Prelude.{◌≡◌, IfOk, string_bytes};
+ghost use Rattle.std.specs.Prelude.{◌≡◌, ◌∷◌, ◌++◌, IfOk, OnOk, codes, map, string_bytes};
 ghost use Rattle.aes_block.specs.Cipher.{cipher};
 ghost use Rattle.aes_block.specs.InverseCipher.{inv_cipher};
-ghost use Rattle.known_answers.specs.Answers.{IsAnswer, IsOpenedLine, ghash_of, hex_word, sealed_line, two_words};
+ghost use Rattle.known_answers.specs.Answers.{IsAnswer, IsOpenedLine, card_answers, fields_line, ghash_of, hex_word, sealed_line, spaced, two_words};
 
 use crate::questions::{Parts, Question};
 use aes_block::{Aes128, unwrap_key, wrap};
 use gcm_mode::{open_text, seal};
 use ghash_field::Ghash;
 use hmac_keys::{Keys, dir_tsk, hmac, rpmb_key, ssk, tsk};
+use rpmb_card::SimCard;
+use rpmb_frame::{Frame, mac};
 use std::alloc::{AllocError, Global};
 
 // Bytes in hex, or `-` for none.
@@ -88,6 +90,66 @@ fn aes_inverse(key: &[u8; 16], mut block: [u8; 16]) -> [u8; 16]
     block
 }
 
+// One more word, behind a space.
+fn push_word(alloc: Global, line: &mut String, word: &[u8]) -> Result<(), AllocError>
+    ensures { OnOk result (string_bytes line.new ≡ string_bytes line.old ++ (codes " " ++ hex_word word.now)) }
+{
+    line.push_str(" ")?;
+    line.push_str(&word_of(alloc, word)?)
+}
+
+// Words, a space apart.
+fn spaced(alloc: Global, first: &[u8], rest: &[&[u8]]) -> Result<String, AllocError>
+    ensures { IfOk result (λ line. string_bytes line ≡ spaced (first.now ∷ map (λ w. w.now) rest.now)) }
+{
+    let mut line = word_of(alloc, first)?;
+    for word in rest {
+        push_word(alloc, &mut line, word)?;
+    }
+    Ok(line)
+}
+
+fn frame_fields(alloc: Global, frame: &Frame) -> Result<String, AllocError>
+    ensures { IfOk result (λ line. string_bytes line ≡ fields_line frame.now) }
+{
+    let counter = frame.counter.to_be_bytes();
+    let address = frame.address.to_be_bytes();
+    let count = frame.count.to_be_bytes();
+    let result = frame.result.to_be_bytes();
+    let kind = frame.kind.to_be_bytes();
+    spaced(
+        alloc,
+        &frame.stuff,
+        &[
+            &frame.key_or_mac[..],
+            &frame.block,
+            &frame.nonce,
+            &counter,
+            &address,
+            &count,
+            &result,
+            &kind,
+        ],
+    )
+}
+
+// What the card answers, one frame after the other.
+fn card_answers(
+    alloc: Global,
+    card: &mut SimCard,
+    first: &[u8; 512],
+    rest: &[[u8; 512]],
+) -> Result<String, AllocError>
+    ensures { IfOk result (λ line. string_bytes line ≡ spaced (card_answers card.old (first.now ∷ rest.now))) }
+{
+    let mut line = word_of(alloc, &card.answer(first))?;
+    for frame in rest {
+        let answer = card.answer(frame);
+        push_word(alloc, &mut line, &answer)?;
+    }
+    Ok(line)
+}
+
 /// The line that answers a question.
 pub fn answer(alloc: Global, question: Question) -> Result<String, AllocError>
     ensures { IfOk result (λ line. IsAnswer question (string_bytes line)) }
@@ -105,5 +167,10 @@ pub fn answer(alloc: Global, question: Question) -> Result<String, AllocError>
         Question::RpmbKey { huk } => word_of(alloc, &rpmb_key(&Keys { huk, chip: [0; 32] })),
         Question::Wrap { tsk, fek } => word_of(alloc, &wrap(&tsk, &fek)),
         Question::Unwrap { tsk, wrapped } => word_of(alloc, &unwrap_key(&tsk, &wrapped)),
+        Question::FrameMac { key, frame } => word_of(alloc, &mac(&frame, &key)),
+        Question::FrameFields { frame } => frame_fields(alloc, &Frame::parse(&frame)),
+        Question::Card { first, rest } => {
+            card_answers(alloc, &mut SimCard::blank(), &first, &rest)
+        }
     }
 }

@@ -75,14 +75,14 @@ fn parts_of(alloc: Global, key: &str, iv: &str, aad: &str, text: &str) -> Result
     Ok(Parts { key, iv, aad, text })
 }
 
-fn blocks_of(alloc: Global, words: &[&str]) -> Result<Vec<[u8; 16]>, Unreadable>
-    ensures { IfOk result (λ blocks. AreArrays (map (λ w. w.now) words.now) blocks.items) }
+fn arrays_of<const N: usize>(alloc: Global, words: &[&str]) -> Result<Vec<[u8; N]>, Unreadable>
+    ensures { IfOk result (λ arrays. AreArrays (map (λ w. w.now) words.now) arrays.items) }
 {
-    let mut blocks = Vec::new(alloc);
+    let mut arrays = Vec::new(alloc);
     for word in words {
-        blocks.push(array_of(word)?).map_err(AllocError::from)?;
+        arrays.push(array_of(word)?).map_err(AllocError::from)?;
     }
-    Ok(blocks)
+    Ok(arrays)
 }
 
 /// The question of a line.
@@ -105,7 +105,7 @@ fn question_of(alloc: Global, words: &[&str]) -> Result<Question, Unreadable>
         }),
         ["ghash", subkey, words @ ..] => Ok(Question::Ghash {
             subkey: array_of(subkey)?,
-            blocks: blocks_of(alloc, words)?,
+            blocks: arrays_of(alloc, words)?,
         }),
         ["gcm-seal", key, iv, aad, text] => Ok(Question::GcmSeal {
             parts: parts_of(alloc, key, iv, aad, text)?,
@@ -139,6 +139,17 @@ fn question_of(alloc: Global, words: &[&str]) -> Result<Question, Unreadable>
         ["unwrap", tsk, wrapped] => Ok(Question::Unwrap {
             tsk: array_of(tsk)?,
             wrapped: array_of(wrapped)?,
+        }),
+        ["frame-mac", key, frame] => Ok(Question::FrameMac {
+            key: array_of(key)?,
+            frame: array_of(frame)?,
+        }),
+        ["frame-fields", frame] => Ok(Question::FrameFields {
+            frame: array_of(frame)?,
+        }),
+        ["card", first, words @ ..] => Ok(Question::Card {
+            first: array_of(first)?,
+            rest: arrays_of(alloc, words)?,
         }),
         _ => Err(Unreadable::Form),
     }

@@ -1,4 +1,4 @@
-//! Answers questions about the ciphers and keys, for comparison with published answers: a line of
+//! Answers questions about the ciphers, the keys and the card, for comparison with published answers: a line of
 //! standard input is one question, and a line of standard output its answer.
 //!
 //! A line is a word and its arguments, one space apart. Each argument is bytes in hex, in either case,

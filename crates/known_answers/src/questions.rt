@@ -70,4 +70,15 @@ pub enum Question {
         tsk: [u8; 32],
         wrapped: [u8; 16],
     },
+    FrameMac {
+        key: [u8; 32],
+        frame: [u8; 512],
+    },
+    FrameFields {
+        frame: [u8; 512],
+    },
+    Card {
+        first: [u8; 512],
+        rest: Vec<[u8; 512]>,
+    },
 }

@@ -18,6 +18,10 @@ fn lines_that_are_no_question(rt: HostRuntime) {
         "hmac  61",
         "hmac 6 61",
         "gcm-seal 000102030405060708090a0b0c0d0e0f - 00 00",
+        "frame-mac 000102030405060708090a0b0c0d0e0f",
+        "frame-fields -",
+        "card",
+        "card 00",
     ];
     for line in lines {
         assert!(rt; matches!(parse(rt.alloc(), line), Err(Unreadable::Form)));

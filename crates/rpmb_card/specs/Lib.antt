@@ -1,0 +1,5 @@
+pub mod EmptyFrame
+pub mod Card
+pub mod Arms
+pub mod Port
+pub mod SimPort

@@ -1,0 +1,5 @@
+pub mod Widths
+pub mod HonestReads
+pub mod HonestWrites
+pub mod HonestCalls
+pub mod Counting

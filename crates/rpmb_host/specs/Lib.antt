@@ -1,0 +1,4 @@
+pub mod Verdict
+pub mod Requests
+pub mod Calls
+pub mod Honest
