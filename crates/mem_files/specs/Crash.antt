@@ -29,8 +29,8 @@ coin key unit = let word = wrapped (wrapped (key + unit) * STRIDE) in wrapped (w
 abbrev pub unit_length : ℕ → ℕ
 unit_length seed = 16 ^ (seed % 4)
 
--- The image that a crash leaves: the settled bytes for seed 0, those that the file reads as for seed 1, and else a mixture of
--- the two.
+-- The image that a crash leaves: for zero the settled bytes, for one those that the file reads as, and else a mixture of the
+-- two.
 abbrev pub crash_of : List ℕ → List ℕ → ℕ → ℕ → List ℕ
 crash_of settled reads seed file =
     (if seed == 0 then settled else (if seed == 1 then reads else
