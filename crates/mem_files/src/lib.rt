@@ -1,0 +1,13 @@
+//! Files in memory, whose device can be set to fail and to crash.
+#![tactic(auto)]
+
+mod bytes;
+mod content;
+mod crash;
+mod memory;
+mod taint;
+
+pub use memory::MemFile;
+
+#[cfg(test)]
+mod tests;
