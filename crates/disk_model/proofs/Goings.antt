@@ -1,0 +1,49 @@
+-- What every call, and so every run of calls, leaves of a file's meanings and counts.
+use Rattle.std.proofs.Common.{◌≡◌, ◌⊎◌, inl, inr, IsTrue, refl, ◌∙◌, arith}
+use Rattle.disk_model.specs.Faults.{Rose}
+use Rattle.disk_model.specs.State.{FileState}
+use Rattle.disk_model.specs.Calls.{Known, GoesOn}
+
+pub goes_on_none : (s : FileState) → GoesOn s s
+goes_on_none s = record {
+  honest = λ h. h;
+  steady = λ h. h;
+  calm = λ h. h;
+  tells = refl;
+  tells_arms = refl;
+  faults = omega arith;
+  starved = omega arith;
+  quiet = λ h. inl refl;
+  written = omega arith;
+}
+
+pub goes_on_then : (a b c : FileState) → GoesOn a b → GoesOn b c → GoesOn a c
+goes_on_then a b c first second = record {
+  honest = λ h. first.honest (second.honest h);
+  steady = λ h. second.steady (first.steady h);
+  calm = λ h. second.calm (first.calm h);
+  tells = second.tells ∙ first.tells;
+  tells_arms = second.tells_arms ∙ first.tells_arms;
+  faults = omega (arith, first.faults, second.faults);
+  starved = omega (arith, first.starved, second.starved);
+  quiet = quiet;
+  written = omega (arith, first.written, second.written);
+}
+  where
+    quiet : IsTrue a.calm → (c.faults ≡ a.faults) ⊎ Rose a.starved c.starved
+    quiet calm = elim (first.quiet calm) [
+      | inr rose ↦ inr (omega (arith, rose, second.starved))
+      | inl same ↦ elim (second.quiet (first.calm calm)) [
+        | inr rose ↦ inr (omega (arith, rose, first.starved))
+        | inl again ↦ inl (again ∙ same)
+      ]
+    ]
+
+-- what is followed to the end is followed to a point between, and from there
+pub first_known : (a b c : FileState) → GoesOn b c → Known a c → Known a b
+first_known a b c second (inl honest) = inl (second.honest honest)
+first_known a b c second (inr steady) = inr steady
+
+pub then_known : (a b c : FileState) → GoesOn a b → Known a c → Known b c
+then_known a b c first (inl honest) = inl honest
+then_known a b c first (inr steady) = inr (first.steady steady)

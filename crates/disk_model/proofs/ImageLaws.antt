@@ -1,0 +1,93 @@
+-- What follows for images.
+use Rattle.std.proofs.Common.{◌≡◌, ◌≢◌, ◌↔◌, inl, inr, ⊎_elim, ℕ, ◌+◌, List, [], ◌∷◌, ◌++◌, length, get_or, true, false, IsTrue, drop, set, refl, sym, ◌∙◌, ap, subst, arith}
+use Rattle.std.proofs.lemmas.List.{get_or-set_same, get_or-set_other, length-set, ext_get_or}
+use Rattle.std.proofs.lemmas.Bool.{cases_lt, cases_Bool, false≢true}
+use Rattle.disk_model.specs.declared.span.Span.{Span}
+use Rattle.disk_model.specs.Images.{Has, in_spans, MayLeave, IsTouched, Every}
+use Rattle.disk_model.specs.State.{FileState, spans_of, pending, moment, base_at, spans_since, LeftSince, LeftNow, Sound}
+use Rattle.disk_model.proofs.Spans.{in_spans_front, in_spans_drop, spans_nil, not_nil, base_now}
+
+-- the settled bytes are an image
+pub leaves_settled : (b : List ℕ) (spans : List Span) → MayLeave b spans b
+leaves_settled b spans = record { stays = λ p x e h. h; exact = λ e. refl }
+
+-- so are they with one byte changed in a span
+pub leaves_set : (b : List ℕ) (spans : List Span) (p y : ℕ) → in_spans spans p ≡ true → MayLeave b spans (set b p y)
+leaves_set b spans p y hit = record {
+  stays = λ q x e h. let other : q ≢ p = λ is. false≢true (sym e ∙ ap (in_spans spans) is ∙ hit) in record { below = omega (arith, length-set b p y, h.below); is = get_or-set_other b p q y 0 other ∙ h.is };
+  exact = λ e. absurd (false≢true (ap (λ (l : List Span). in_spans l p) (sym e) ∙ hit));
+}
+
+-- where each image has one byte, it is settled there and in no span
+pub every_settled : (b : List ℕ) (spans : List Span) (p x : ℕ) → Every (MayLeave b spans) p x → (in_spans spans p ≡ false) × Has b p x
+every_settled b spans p x every =
+    let here = every b (leaves_settled b spans) in
+    ⊎_elim
+    (λ hit. let changed = every (set b p (x + 1)) (leaves_set b spans p (x + 1) hit) in absurd (omega (arith, changed.is, get_or-set_same b p (x + 1) 0 here.below)))
+    (λ free. (free, here))
+    (cases_Bool (in_spans spans p))
+
+-- two lists that have the same bytes at the same places are one
+pub same_bytes : (a b : List ℕ) → ((p x : ℕ) → Has a p x → Has b p x) → ((p x : ℕ) → Has b p x → Has a p x) → a ≡ b
+same_bytes a b to from = ext_get_or 0 a b same_length (λ i lt. sym (to i (get_or a i 0) (record { below = lt; is = refl })).is)
+  where
+    same_length : length a ≡ length b
+    same_length = elim (cases_lt (length a) (length b)) [
+      | inl lt ↦ let h = from (length a) (get_or b (length a) 0) (record { below = lt; is = refl }) in absurd (omega (arith, h.below))
+      | inr ge ↦ elim (cases_lt (length b) (length a)) [
+        | inl lt ↦ let h = to (length b) (get_or a (length b) 0) (record { below = lt; is = refl }) in absurd (omega (arith, h.below))
+        | inr le ↦ omega arith
+      ]
+    ]
+
+-- what the file reads as is one of its images
+pub reads_left : (s : FileState) → Sound s → LeftNow s s.reads
+reads_left s sound honest = record {
+  stays = λ p x e h. (sound.bytes.agrees honest p x e).0 h;
+  exact = λ e. let free : (p : ℕ) → in_spans (pending s) p ≡ false = λ p. ap (λ (l : List Span). in_spans l p) e in
+      same_bytes s.reads s.settled (λ p x h. (sound.bytes.agrees honest p x (free p)).1 h) (λ p x h. (sound.bytes.agrees honest p x (free p)).0 h);
+}
+
+-- added spans leave no fewer images
+pub more_spans : (b i : List ℕ) (spans more : List Span) → ((p : ℕ) → in_spans more p ≡ false → in_spans spans p ≡ false) → (more ≡ [] → spans ≡ []) → MayLeave b spans i → MayLeave b more i
+more_spans b i spans more fewer none left = record { stays = λ p x e h. left.stays p x (fewer p e) h; exact = λ e. left.exact (none e) }
+
+pub push_span : (b i : List ℕ) (spans : List Span) (s : Span) → MayLeave b spans i → MayLeave b (spans ++ s ∷ []) i
+push_span b i spans s left = more_spans b i spans (spans ++ s ∷ []) (λ p e. in_spans_front spans (s ∷ []) p e) (λ e. absurd (not_nil spans s e)) left
+
+-- a place that is not touched looks after a crash as the settled bytes do
+pub untouched_same : (b i : List ℕ) (spans : List Span) (p : ℕ) → (IsTouched spans (length b) p → ⊥) → MayLeave b spans i → (x : ℕ) → (Has i p x ↔ Has b p x)
+untouched_same b i spans p not left x = elim spans as (λ (l : List Span). (IsTouched l (length b) p → ⊥) → MayLeave b l i → (Has i p x ↔ Has b p x)) [
+  | [] ↦ λ no m. (λ h. subst (λ (l : List ℕ). Has l p x) (m.exact refl) h, λ h. subst (λ (l : List ℕ). Has l p x) (sym (m.exact refl)) h)
+  | s ∷ l ↦ λ no m.
+      let some : s ∷ l ≢ [] = λ e. (cc) in
+      let free : in_spans (s ∷ l) p ≡ false = ⊎_elim (λ hit. absurd (no (some, inr hit))) (λ miss. miss) (cases_Bool (in_spans (s ∷ l) p)) in
+      elim (cases_lt p (length b)) [
+        | inl lt ↦
+            let there = m.stays p (get_or b p 0) free (record { below = lt; is = refl }) in
+            (λ h. record { below = lt; is = sym there.is ∙ h.is }, λ h. m.stays p x free h)
+        | inr ge ↦ absurd (no (some, inl ge))
+      ]
+] not left
+
+-- the spans since this moment are those that are pending
+pub since_now : (s : FileState) → spans_since s (moment s) ≡ pending s
+since_now s = ap (λ (n : ℕ). spans_of (drop n s.trail)) (base_now s.trail s.pending_from)
+
+-- the images since this moment are those of now
+pub left_since_now : (s : FileState) (i : List ℕ) → LeftSince s (moment s) i → LeftNow s i
+left_since_now s i left honest = subst (λ (l : List Span). MayLeave s.settled l i) (since_now s) (left honest)
+
+-- the images of now are among those since any moment
+pub now_since : (s : FileState) (t : ℕ) (i : List ℕ) → Sound s → LeftNow s i → LeftSince s t i
+now_since s t i sound left honest =
+    let k = base_at s.trail s.pending_from t in
+    more_spans s.settled i (pending s) (spans_since s t) (λ p e. in_spans_drop k s.pending_from s.trail p (sound.bytes.bases t) e) (spans_nil k s.pending_from s.trail (sound.bytes.bases t)) (left honest)
+
+-- where all images since a moment have one byte, it is what a read gives
+pub every_reads : (s : FileState) (t p x : ℕ) → Sound s → Every (LeftSince s t) p x → Has s.reads p x
+every_reads s t p x sound every = every s.reads (now_since s t s.reads sound (reads_left s sound))
+
+-- and it is settled, in no span since
+pub every_free : (s : FileState) (t p x : ℕ) → IsTrue s.honest → Every (LeftSince s t) p x → (in_spans (spans_since s t) p ≡ false) × Has s.settled p x
+every_free s t p x honest every = every_settled s.settled (spans_since s t) p x (λ i left. every i (λ h. left))

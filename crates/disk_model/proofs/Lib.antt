@@ -1,0 +1,5 @@
+pub mod Spans
+pub mod ImageLaws
+pub mod Goings
+pub mod Laws
+pub mod Soundness

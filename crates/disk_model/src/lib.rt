@@ -1,0 +1,9 @@
+//! Which bytes a crash may leave of a file.
+//!
+//! A file has settled bytes, which a crash leaves, and spans that changed since its last successful sync, where a crash
+//! may leave anything. An image is a list of bytes that a crash may leave.
+#![tactic(auto)]
+
+mod span;
+
+pub use span::{Change, Span, touched};
