@@ -1,0 +1,9 @@
+pub mod SameBytes
+pub mod Damage
+pub mod ReadParts
+pub mod Sizes
+pub mod Verdicts
+pub mod Transfers
+pub mod Causes
+pub mod SameTable
+pub mod Verified

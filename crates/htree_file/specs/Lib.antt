@@ -1,0 +1,5 @@
+pub mod Opening
+pub mod Pages
+pub mod Standing
+pub mod Answers
+pub mod Value
