@@ -3,3 +3,4 @@ pub mod ImageLaws
 pub mod Goings
 pub mod Laws
 pub mod Soundness
+pub mod Writes

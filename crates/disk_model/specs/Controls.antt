@@ -13,23 +13,32 @@ settled_as s bytes = record s { settled = bytes; reads = bytes; trail = []; pend
 abbrev pub renamed_as : FileState → List ℕ → FileState
 renamed_as s bytes = record (settled_as s bytes) { honest = true }
 
--- a mask at a place changes a byte of the file
-abbrev pub is_struck : FileState → Taint → Bool
+-- what a mask strikes of a file
+pub record Stored : Type 0 where
+  pub settled : List ℕ
+  pub reads : List ℕ
+  pub honest : Bool
+
+abbrev pub stored : FileState → Stored
+stored s = record { settled = s.settled; reads = s.reads; honest = s.honest }
+
+-- the mask changes a byte
+abbrev pub is_struck : Stored → Taint → Bool
 is_struck s taint =
     list_any (λ bits. not (bits == 0)) (take (max (length s.settled) (length s.reads) - taint.at) taint.mask)
 
 -- the mask is laid over both the settled bytes and those that the file reads as; where that changes a byte, the file is no
 -- longer honest
-abbrev pub strike : FileState → Taint → FileState
-strike s taint = (if is_struck s taint then record s {
+abbrev pub strike : Stored → Taint → Stored
+strike s taint = (if is_struck s taint then record {
   settled = after_mask s.settled taint.at taint.mask;
   reads = after_mask s.reads taint.at taint.mask;
   honest = false;
 } else s)
 
 -- what the masks that are armed for the next call leave
-abbrev pub struck : FileState → FileState
-struck s = fold strike s (next_taints s.arms)
+abbrev pub struck : FileState → Stored
+struck s = fold strike (stored s) (next_taints s.arms)
 
 abbrev pub stop_armed : FileState → ℕ → FileState
 stop_armed s calls = record s { arms = arm_stop s.arms calls; calm = false }

@@ -4,7 +4,7 @@ use Rattle.tee_ports.specs.declared.failed.Failed.{Failed}
 use Rattle.disk_model.specs.Faults.{Rose}
 use Rattle.disk_model.specs.Arms.{count_call, NamesNext}
 use Rattle.disk_model.specs.State.{FileState}
-use Rattle.disk_model.specs.Controls.{struck}
+use Rattle.disk_model.specs.Controls.{Stored, struck}
 
 -- A call that failed counted a fault, and its answer carries the count. A calm file counted it for want of memory, and
 -- one that tells its arms did so or was set to fail this call.
@@ -26,9 +26,9 @@ HasCause old new (Ok answer) = Passes old new
 HasCause old new (Err failure) = Fails old new failure.count
 
 -- the settled bytes and those that the file reads as are these
-pub record HasBytes (s from : FileState) : Type 0 where
-  pub settled : s.settled ≡ from.settled
-  pub reads : s.reads ≡ from.reads
+pub record HasBytes (s : FileState) (bytes : Stored) : Type 0 where
+  pub settled : s.settled ≡ bytes.settled
+  pub reads : s.reads ≡ bytes.reads
 
 -- A call of a file that tells its arms: the masks for this call struck first, and nothing else changes honesty; a call that
 -- is set to fail does fail, without reaching the device.

@@ -1,5 +1,5 @@
 // The one error of the calls on outside objects.
-ghost use Rattle.std.specs.Prelude.{◌≡◌};
+ghost use Rattle.std.specs.Prelude.{◌≡◌, ◌≤◌};
 ghost use Rattle.tee_ports.specs.Faults.{next_count};
 
 /// A call on an outside object failed. `count` is the object's count of faults after it.
@@ -13,6 +13,7 @@ pub struct Failed {
 /// Counts one more fault.
 pub(crate) fn count_fault(faults: &mut u64) -> Failed
     ensures rose { faults.new ≡ next_count faults.old }
+    ensures rises { faults.old ≤ faults.new }
     ensures carried { result.count ≡ faults.new }
 {
     *faults = faults.saturating_add(1);

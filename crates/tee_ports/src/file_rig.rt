@@ -55,8 +55,8 @@ pub trait FileRig: StoreFile {
     /// Makes one of the images that a crash may leave now the settled bytes, with nothing pending. The file is honest from
     /// then on.
     ///
-    /// Which image it is follows from the seed, the number `file` and the file's state alone. Seed 0 leaves the settled
-    /// bytes, seed 1 all that was written.
+    /// Which image it is follows from the seed, the number `file` and the state of the file alone. Zero leaves the settled
+    /// bytes, and one all that was written.
     fn crash(&mut self, seed: u64, file: u16) -> Result<(), NoMemory>
         ensures crashed { OnOk result (Self.state self.new ≡
             renamed_as (Self.state self.old) (crash_image (Self.state self.old) seed file)) }
@@ -66,7 +66,7 @@ pub trait FileRig: StoreFile {
     fn starved(&self) -> u64
         ensures { result ≡ (Self.state self.now).starved };
 
-    // What a crash leaves is an image, for seed 0 the settled bytes, and for seed 1 what the file reads as.
+    // What a crash leaves is an image: for zero the settled bytes, and for one what the file reads as.
     ghost crash_leaves: { (rig : Self) (seed file : ℕ) → LeftNow (Self.state rig) (crash_image (Self.state rig) seed file) };
 
     ghost oldest: { (s : FileState) (file : ℕ) → crash_image s 0 file ≡ s.settled };

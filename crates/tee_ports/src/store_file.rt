@@ -34,7 +34,7 @@ pub trait StoreFile {
     /// Reads the bytes from the place `at` on into the front of `into`, and returns how many there were: fewer than `into`
     /// has room for where the file ends.
     fn read_at(&mut self, at: u64, into: &mut [u8]) -> Result<usize, Failed>
-        requires { at + length into.old < 2 ^ 32 }
+        requires { at < 2 ^ 32 }
         ensures rests { Rests (state self.old) (state self.new) }
         ensures within { IfOk result (λ n. n ≤ length into.old) }
         ensures told { IfOk result (λ n. IsTrue (state self.new).tells →

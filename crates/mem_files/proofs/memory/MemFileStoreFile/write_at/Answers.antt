@@ -1,0 +1,33 @@
+use Rattle.std.proofs.Common.{◌+◌, length}
+use Rattle.mem_files.specs.Memory.{file_state, file_armed}
+use Rattle.mem_files.proofs.Steps.{fails_changes, fails_others, starved_fails, wrote_changes, wrote_reads, wrote_others}
+use Rattle.mem_files.proofs.memory.MemFileStoreFile.write_at.Goals as goal
+
+pub returns-in_err-begin-clause-changes : goal.returns-in_err-begin-clause-changes
+returns-in_err-begin-clause-changes c = fails_changes (file_state c.args.self.now) (file_armed c.args.self.now) (file_state c.begin.new.self) _ _ _ c.in_err-begin.ensures.failed
+
+pub returns-in_err-begin-clause-others : goal.returns-in_err-begin-clause-others
+returns-in_err-begin-clause-others c = λ known place byte out has.
+    fails_others (file_state c.args.self.now) (file_armed c.args.self.now) (file_state c.begin.new.self) _ c.in_err-begin.ensures.failed known place byte has
+
+pub returns-in-Ok-clause-changes : goal.returns-in-Ok-clause-changes
+returns-in-Ok-clause-changes c =
+    wrote_changes (file_state c.args.self.now) (file_armed c.args.self.now) (file_state c.begin.new.self) (file_state c.try_write.new.self) c.args.at c.args.from.now c.in_ok-begin.ensures.passed.0 c.in-Ok.ensures.ok c.in-Ok.ensures.counted
+
+pub returns-in-Ok-clause-written : goal.returns-in-Ok-clause-written
+returns-in-Ok-clause-written c =
+    wrote_reads (file_state c.args.self.now) (file_armed c.args.self.now) (file_state c.begin.new.self) (file_state c.try_write.new.self) c.args.at c.args.from.now c.in_ok-begin.ensures.passed.0 c.in-Ok.ensures.ok
+
+pub returns-in-Ok-clause-others : goal.returns-in-Ok-clause-others
+returns-in-Ok-clause-others c =
+    wrote_others (file_state c.args.self.now) (file_armed c.args.self.now) (file_state c.begin.new.self) (file_state c.try_write.new.self) c.args.at c.args.from.now c.in_ok-begin.ensures.passed.0 c.in-Ok.ensures.ok
+
+pub returns-in-Err-clause-changes : goal.returns-in-Err-clause-changes
+returns-in-Err-clause-changes c =
+    let fails = starved_fails (file_state c.args.self.now) (file_state c.begin.new.self) (file_state c.try_write.new.self) (file_state c.starve.new.self) c.in_ok-begin.ensures.passed c.in-Err.ensures.err c.starve.ensures.counted c.starve.ensures.rises in
+    fails_changes (file_state c.args.self.now) (file_armed c.args.self.now) (file_state c.starve.new.self) _ _ _ fails
+
+pub returns-in-Err-clause-others : goal.returns-in-Err-clause-others
+returns-in-Err-clause-others c = λ known place byte out has.
+    let fails = starved_fails (file_state c.args.self.now) (file_state c.begin.new.self) (file_state c.try_write.new.self) (file_state c.starve.new.self) c.in_ok-begin.ensures.passed c.in-Err.ensures.err c.starve.ensures.counted c.starve.ensures.rises in
+    fails_others (file_state c.args.self.now) (file_armed c.args.self.now) (file_state c.starve.new.self) _ fails known place byte has
