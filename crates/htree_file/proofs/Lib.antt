@@ -7,3 +7,4 @@ pub mod Transfers
 pub mod Causes
 pub mod SameTable
 pub mod Verified
+pub mod PageLaws

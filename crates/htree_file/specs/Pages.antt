@@ -27,10 +27,13 @@ abbrev pub page_of : (key : List ℕ) → Head → NodeImage → (k : ℕ) → (
 page_of key head node k ciphertext =
     cond (bytes_eq node.tag (tag_of key head node k ciphertext)) (Some (gcm_text (cipher key) node.iv ciphertext)) None
 
--- block k of a tree in an image
+-- the ciphertext of block k of a tree in an image
+abbrev pub block_in : List ℕ → Loaded → (k : ℕ) → List ℕ
+block_in image tree k = part_in image (block k (block_version tree.nodes k))
+
+-- and its page
 abbrev pub page_in : List ℕ → (key : List ℕ) → Loaded → (k : ℕ) → Option (List ℕ)
-page_in image key tree k =
-    page_of key tree.head (at_node tree.nodes (k + 1)) k (part_in image (block k (block_version tree.nodes k)))
+page_in image key tree k = page_of key tree.head (at_node tree.nodes (k + 1)) k (block_in image tree k)
 
 -- the length of a tree, and each page that is not bad
 pub record Opened : Type 0 where

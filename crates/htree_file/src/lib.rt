@@ -8,6 +8,7 @@
 mod device;
 mod fault;
 mod opening;
+mod pages;
 mod reading;
 mod table;
 mod tree;

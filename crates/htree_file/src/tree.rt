@@ -2,16 +2,19 @@
 ghost use Rattle.std.specs.Prelude.{◌≡◌, ◌⊎◌, ◌+◌, ◌<◌, ◌≤◌, length, IfErr, IfOk, IsTrue, Result};
 ghost use Rattle.aes_block.specs.WrappedKey.{unwrapped_of};
 ghost use Rattle.disk_model.specs.Calls.{Rests};
-ghost use Rattle.htree_file.specs.Answers.{Differs, FaultCause, FilePassed, IsOutside};
+ghost use Rattle.node_image.specs.Tables.{at_node};
+ghost use Rattle.htree_file.specs.Answers.{BlockAnswer, Differs, FaultCause, FilePassed, HasCause, IsOutside};
 ghost use Rattle.htree_file.specs.Opening.{IsVerified, load_of};
-ghost use Rattle.htree_file.specs.Pages.{opened_in, opened_of};
+ghost use Rattle.htree_file.specs.Pages.{block_in};
 ghost use Rattle.htree_file.specs.Standing.{Told};
 
-use crate::fault::{Broken, TreeFault};
+use crate::device::read_padded;
+use crate::fault::{Broken, Page, TreeFault};
+use crate::pages::open_page;
 use crate::reading::read_tree;
-use crate::table::blank_nodes;
+use crate::table::{blank_nodes, block_version};
 use aes_block::{Aes128, unwrap_key};
-use node_image::{Head, NodeImage, RootRef};
+use node_image::{Head, NodeImage, RootRef, block_offset};
 use std::alloc::Global;
 use std::marker::Model;
 use tee_ports::StoreFile;
@@ -95,6 +98,28 @@ impl<F: StoreFile> Tree<F> {
             }),
             Err(fault) => Err(Broken { file, fault }),
         }
+    }
+
+    /// Reads a block, deciphered, into the page. Blocks are numbered from 0. It is one call of the file, and takes no memory.
+    ///
+    /// # Errors
+    ///
+    /// `BadTag` where the block, as the file reads when the call ends, has not the tag that its node has for it; the page
+    /// then holds the ciphertext. Besides `Failed`, where the call of the file failed; the page may then hold anything.
+    pub fn read_block(&mut self, block: u32, into: &mut Page) -> Result<(), TreeFault>
+        requires { block < self.old.tree.head.greatest }
+        ensures answer { let tree = self.old.tree in
+            BlockAnswer self.old.key tree.head (at_node tree.nodes (block + 1)) block
+            (λ ciphertext. IsTrue (F.state self.new.file).tells → ciphertext ≡ block_in (F.state self.new.file).reads tree block)
+            result into.new }
+        ensures same { self.new ≡ record self.old { file = self.new.file } }
+        ensures rests { Rests (F.state self.old.file) (F.state self.new.file) }
+        ensures cause { HasCause (F.state self.old.file) (F.state self.new.file) result }
+    {
+        let node = self.nodes[block as usize];
+        let version = block_version(&self.nodes, block);
+        read_padded(&mut self.file, block_offset(block, version), into)?;
+        open_page(&self.key, &self.head, &node, block, into)
     }
 
     /// How many bytes the tree holds.
