@@ -7,6 +7,7 @@ use Rattle.disk_model.proofs.Goings.{first_known, goes_on_none, goes_on_then, th
 use Rattle.htree_file.specs.declared.fault.TreeFault.{TreeFault}
 use Rattle.htree_file.specs.declared.fault.TreeFault.TheVariants.{BadHead, BadTag, Damaged, Failed, NoEntropy, NoMemory, Short}
 use Rattle.htree_file.specs.Answers.{FaultCause, FileFailed, FilePassed, HasCause}
+use Rattle.htree_file.specs.Making.{IsDeviceFault, IsDrawFault}
 use Rattle.htree_file.specs.Standing.{Told}
 
 pub rests_none : (s : FileState) → Rests s s
@@ -47,3 +48,22 @@ fault_then a b c NoMemory goes passed cause = passed_then a b c passed cause
 -- what is told and followed to the end is so at a point between, and from there
 pub told_then : (a b c : FileState) → GoesOn a b → Told a c → Told b c
 told_then a b c first told = (told.0, then_known a b c first told.1)
+
+-- a draw that failed is no fault of the file
+pub draw_cause : (s : FileState) (fault : TreeFault) → IsDrawFault fault → FaultCause s s fault
+draw_cause s (NoEntropy count) drawn = passed_none s
+draw_cause s (Failed count) drawn = absurd drawn
+draw_cause s (BadHead long greatest) drawn = absurd drawn
+draw_cause s (Short end need) drawn = absurd drawn
+draw_cause s (Damaged n want found) drawn = absurd drawn
+draw_cause s (BadTag k want found) drawn = absurd drawn
+draw_cause s NoMemory drawn = absurd drawn
+
+pub draw_device : (fault : TreeFault) → IsDrawFault fault → IsDeviceFault fault
+draw_device (NoEntropy count) drawn = tt
+draw_device (Failed count) drawn = absurd drawn
+draw_device (BadHead long greatest) drawn = absurd drawn
+draw_device (Short end need) drawn = absurd drawn
+draw_device (Damaged n want found) drawn = absurd drawn
+draw_device (BadTag k want found) drawn = absurd drawn
+draw_device NoMemory drawn = absurd drawn

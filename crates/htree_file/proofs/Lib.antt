@@ -8,3 +8,6 @@ pub mod Causes
 pub mod SameTable
 pub mod Verified
 pub mod PageLaws
+pub mod PartWrites
+pub mod Hashing
+pub mod Building

@@ -3,3 +3,4 @@ pub mod Pages
 pub mod Standing
 pub mod Answers
 pub mod Value
+pub mod Making

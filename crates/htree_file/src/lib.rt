@@ -7,8 +7,10 @@
 
 mod device;
 mod fault;
+mod making;
 mod opening;
 mod pages;
+mod parts;
 mod reading;
 mod table;
 mod tree;

@@ -1,6 +1,7 @@
 // Tables of nodes, node 1 first, and what they name.
-ghost use Rattle.std.specs.Prelude.{◌≡◌, ℕ, ◌+◌, ◌-◌, ◌*◌, ◌<◌, ◌≤◌, length, IfOk, IfSome, IfNone, option_copied, option_map};
-ghost use Rattle.node_image.specs.Tables.{at_node, block_version, hash_in, node_version};
+ghost use Rattle.std.specs.Prelude.{◌≡◌, ◌≢◌, ℕ, ◌+◌, ◌-◌, ◌*◌, ◌<◌, ◌≤◌, length, IfOk, IfSome, IfNone, option_copied, option_map, get_or};
+ghost use Rattle.node_image.specs.Tables.{at_node, block_version, hash_in, no_node, node_version};
+ghost use Rattle.htree_file.specs.Making.{HashedFrom, SameSeal};
 ghost use Rattle.htree_file.specs.Opening.{first_damaged, need_of};
 
 use node_image::{Head, NodeImage, block_offset, node_hash};
@@ -105,4 +106,31 @@ pub(crate) fn need_of(nodes: &[NodeImage]) -> u64
         most = most.max(block_offset(k, block_version(nodes, k)) + 4096);
     }
     most
+}
+
+// Gives node i + 1 the hash that it has. Its children have theirs.
+fn hash_node(nodes: &mut [NodeImage], head: &Head, i: usize)
+    requires all { length nodes.old ≡ head.now.greatest }
+    requires within { (i < length nodes.old) × (length nodes.old ≤ 256) }
+    ensures others { (j : ℕ) → j ≢ i → get_or nodes.new j no_node ≡ get_or nodes.old j no_node }
+    ensures seal { SameSeal (get_or nodes.old i no_node) (get_or nodes.new i no_node) }
+    ensures hashed { HashedFrom nodes.old head.now (i + 1) → HashedFrom nodes.new head.now i }
+{
+    let hash = hash_in(nodes, head, i as u32 + 1);
+    let node = &mut nodes[i];
+    node.hash = hash;
+}
+
+/// Gives each node the hash that it has, from the last one up to the root.
+pub(crate) fn hash_nodes(nodes: &mut [NodeImage], head: &Head)
+    requires all { length nodes.old ≡ head.now.greatest }
+    requires few { length nodes.old ≤ 256 }
+    ensures seals { (k : ℕ) → SameSeal (get_or nodes.old k no_node) (get_or nodes.new k no_node) }
+    ensures hashed { HashedFrom nodes.new head.now 0 }
+{
+    let mut i = nodes.len();
+    while i > 0 {
+        i -= 1;
+        hash_node(nodes, head, i);
+    }
 }
