@@ -9,13 +9,13 @@ use Rattle.disk_model.proofs.Goings.{first_known, then_known}
 use Rattle.disk_model.proofs.Laws.{keeps_fewer, keeps_then}
 use Rattle.node_image.specs.declared.node.NodeImage.{NodeImage}
 use Rattle.node_image.specs.declared.head.Head.{Head}
-use Rattle.node_image.specs.Layout.{node_bytes}
+use Rattle.node_image.specs.Layout.{node_bytes, node_of}
 use Rattle.node_image.specs.Parts.{In, IsPart, Off, Part, size, start}
 use Rattle.node_image.specs.Parts.Part.{block, head, node}
 use Rattle.node_image.specs.Selection.{part_in}
 use Rattle.node_image.specs.Tables.{no_node}
 use Rattle.node_image.proofs.PartPlaces.{off_other}
-use Rattle.htree_file.specs.Making.{NameVersionZero, NodesStand, OffNodes, PageStands, PagesStand, SameSeal}
+use Rattle.htree_file.specs.Making.{NameVersionZero, NodesReturn, NodesStand, OffNodes, PageStands, PagesStand, SameSeal}
 use Rattle.htree_file.specs.Pages.{page_of}
 use Rattle.htree_file.specs.Standing.{Stands}
 use Rattle.htree_file.proofs.PartWrites.{stands_kept}
@@ -111,3 +111,9 @@ block_off_head k p low at = off_other (block k 0) (head 0) p (low, omega arith) 
 
 pub node_off_head : (k p : ℕ) → k < 256 → In (node (k + 1) 0) p → Off (head 0) p
 node_off_head k p low at = off_other (node (k + 1) 0) (head 0) p (omega arith, omega arith, omega arith) (omega arith) (λ e. cc (e)) at
+
+pub returns_step : (nodes : List NodeImage) (k : ℕ) → NodesReturn nodes k → node_of (node_bytes (get_or nodes k no_node)) ≡ get_or nodes k no_node → NodesReturn nodes (k + 1)
+returns_step nodes k before one j under = elim (cases_lt j k) [
+  | inl low ↦ before j low
+  | inr high ↦ let e : k ≡ j = omega arith in subst (λ (m : ℕ). node_of (node_bytes (get_or nodes m no_node)) ≡ get_or nodes m no_node) e one
+]

@@ -11,3 +11,4 @@ pub mod PageLaws
 pub mod PartWrites
 pub mod Hashing
 pub mod Building
+pub mod Made

@@ -1,5 +1,5 @@
 // A tree is made whole, all of it in version 0.
-ghost use Rattle.std.specs.Prelude.{◌≡◌, ℕ, List, [], ◌+◌, ◌<◌, ◌≤◌, length, get_or, IfErr, IfOk, OnOk, IsTrue, IsOk, Result};
+ghost use Rattle.std.specs.Prelude.{◌≡◌, ℕ, List, [], ◌+◌, ◌<◌, ◌≤◌, length, get_or, take, IfErr, IfOk, OnOk, IsTrue, IsOk, Result};
 ghost use Rattle.disk_model.specs.Calls.{GoesOn, Known};
 ghost use Rattle.disk_model.specs.Keeps.{Keeps};
 ghost use Rattle.disk_model.specs.State.{LeftNow};
@@ -8,7 +8,7 @@ ghost use Rattle.node_image.specs.Parts.{Off};
 ghost use Rattle.node_image.specs.Parts.Part.{block};
 ghost use Rattle.node_image.specs.Tables.{at_node, no_node};
 ghost use Rattle.htree_file.specs.Answers.{HasCause, IsFailed};
-ghost use Rattle.htree_file.specs.Making.{DrawCause, HashedFrom, IsDeviceFault, IsDrawFault, IsMade, IsSynced, NameVersionZero, NodesStand, NotEntropy, OffNodes, PageStands, PagesStand};
+ghost use Rattle.htree_file.specs.Making.{DrawCause, HashedFrom, IsDeviceFault, IsDrawFault, IsMade, IsSynced, NameVersionZero, NodesReturn, NodesStand, NotEntropy, OffNodes, PageStands, PagesStand};
 ghost use Rattle.htree_file.specs.Opening.{load_of};
 ghost use Rattle.htree_file.specs.Pages.{page_in};
 ghost use Rattle.htree_file.specs.Standing.{Stands};
@@ -18,7 +18,7 @@ use crate::pages::seal_page;
 use crate::parts::{write_block, write_head, write_node};
 use crate::table::hash_nodes;
 use aes_block::Aes128;
-use node_image::{Head, NodeImage};
+use node_image::{Head, NodeImage, RootRef};
 use tee_ports::{Entropy, StoreFile};
 
 /// Draws 16 bytes.
@@ -98,6 +98,7 @@ fn write_nodes<F: StoreFile>(file: &mut F, nodes: &[NodeImage]) -> Result<(), Tr
     requires { length nodes.now ≤ 256 }
     ensures stand { OnOk result (Known (F.state file.old) (F.state file.new) →
         NodesStand (F.state file.new).reads nodes.now (length nodes.now)) }
+    ensures returns { OnOk result (NodesReturn nodes.now (length nodes.now)) }
     ensures keeps { Keeps (OffNodes (length nodes.now)) (F.state file.old) (F.state file.new) }
     ensures cause { HasCause (F.state file.old) (F.state file.new) result }
     ensures failed { IfErr result IsFailed }
@@ -108,8 +109,8 @@ fn write_nodes<F: StoreFile>(file: &mut F, nodes: &[NodeImage]) -> Result<(), Tr
     Ok(())
 }
 
-/// Enciphers and writes all blocks, then the nodes and the head, in version 0, and settles them. The table gets the nodes.
-pub(crate) fn build<F: StoreFile, E: Entropy>(
+// Enciphers and writes all blocks, then the nodes and the head, in version 0, and settles them. The table gets the nodes.
+fn build<F: StoreFile, E: Entropy>(
     file: &mut F,
     entropy: &mut E,
     key: &Aes128,
@@ -135,4 +136,34 @@ pub(crate) fn build<F: StoreFile, E: Entropy>(
     write_head(file, 0, head)?;
     file.sync()?;
     Ok(())
+}
+
+/// Makes a tree in the file, whose nodes come first in the table, and gives its reference.
+pub(crate) fn build_tree<F: StoreFile, E: Entropy>(
+    file: &mut F,
+    entropy: &mut E,
+    key: &Aes128,
+    head: &Head,
+    pages: &[Page],
+    table: &mut [NodeImage],
+) -> Result<RootRef, TreeFault>
+    requires room { length table.old ≡ 256 }
+    requires pages { length pages.now ≡ head.now.greatest }
+    requires few { (1 ≤ head.now.greatest) × (head.now.greatest ≤ 256) }
+    ensures made { OnOk result (Known (F.state file.old) (F.state file.new) →
+        IsMade (F.state file.new).reads key.now head.now (take head.now.greatest table.new) pages.now) }
+    ensures root { IfOk result (λ root. root ≡ record { hash = (at_node (take head.now.greatest table.new) 1).hash; version = 0 }) }
+    ensures all { length (take head.now.greatest table.new) ≡ head.now.greatest }
+    ensures synced { OnOk result (IsSynced (F.state file.new)) }
+    ensures goes_on { GoesOn (F.state file.old) (F.state file.new) }
+    ensures cause { HasCause (F.state file.old) (F.state file.new) result }
+    ensures draws { DrawCause (E.faults entropy.old) (E.faults entropy.new) result }
+    ensures reliable { E.is_reliable entropy.old → E.is_reliable entropy.new }
+    ensures drawn { E.is_reliable entropy.old → IfErr result NotEntropy }
+    ensures fault { IfErr result IsDeviceFault }
+{
+    let nodes = &mut table[..head.greatest as usize];
+    build(file, entropy, key, head, pages, nodes)?;
+    let hash = nodes[0].hash;
+    Ok(RootRef { hash, version: 0 })
 }

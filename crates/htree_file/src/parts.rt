@@ -2,10 +2,11 @@
 ghost use Rattle.std.specs.Prelude.{◌≡◌, ◌<◌, ◌≤◌, IfErr, OnOk};
 ghost use Rattle.disk_model.specs.Calls.{Known};
 ghost use Rattle.disk_model.specs.Keeps.{Keeps};
-ghost use Rattle.node_image.specs.Layout.{head_bytes, node_bytes};
+ghost use Rattle.node_image.specs.Layout.{head_bytes, node_bytes, node_of};
 ghost use Rattle.node_image.specs.Parts.{Off};
 ghost use Rattle.node_image.specs.Parts.Part.{block, head, node};
 ghost use Rattle.htree_file.specs.Answers.{HasCause, IsFailed};
+ghost use Rattle.htree_file.specs.Making.{HeadReturns};
 ghost use Rattle.htree_file.specs.Standing.{Stands};
 
 use crate::device::put;
@@ -23,6 +24,7 @@ pub(crate) fn write_head<F: StoreFile>(
     ensures keeps { Keeps (Off (head version)) (F.state file.old) (F.state file.new) }
     ensures stands { OnOk result (Known (F.state file.old) (F.state file.new) →
         Stands (F.state file.new).reads (head version) (head_bytes top.now)) }
+    ensures returns { HeadReturns top.now }
     ensures cause { HasCause (F.state file.old) (F.state file.new) result }
     ensures failed { IfErr result IsFailed }
 {
@@ -40,6 +42,7 @@ pub(crate) fn write_node<F: StoreFile>(
     ensures keeps { Keeps (Off (node n version)) (F.state file.old) (F.state file.new) }
     ensures stands { OnOk result (Known (F.state file.old) (F.state file.new) →
         Stands (F.state file.new).reads (node n version) (node_bytes image.now)) }
+    ensures returns { node_of (node_bytes image.now) ≡ image.now }
     ensures cause { HasCause (F.state file.old) (F.state file.new) result }
     ensures failed { IfErr result IsFailed }
 {

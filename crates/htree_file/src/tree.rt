@@ -1,23 +1,26 @@
 // A tree over a file.
-ghost use Rattle.std.specs.Prelude.{◌≡◌, ◌⊎◌, ◌+◌, ◌<◌, ◌≤◌, length, IfErr, IfOk, IsTrue, Result};
+ghost use Rattle.std.specs.Prelude.{◌≡◌, ◌⊎◌, ◌+◌, ◌<◌, ◌≤◌, length, map, IfErr, IfOk, IsTrue, Result, Some};
 ghost use Rattle.aes_block.specs.WrappedKey.{unwrapped_of};
-ghost use Rattle.disk_model.specs.Calls.{Rests};
+ghost use Rattle.disk_model.specs.Calls.{GoesOn, Known, Rests};
+ghost use Rattle.node_image.specs.Layout.{greatest_of, is_sized};
 ghost use Rattle.node_image.specs.Tables.{at_node};
 ghost use Rattle.htree_file.specs.Answers.{BlockAnswer, Differs, FaultCause, FilePassed, HasCause, IsOutside};
+ghost use Rattle.htree_file.specs.Making.{DrawFault, IsMakeFault, NotEntropy};
 ghost use Rattle.htree_file.specs.Opening.{IsVerified, load_of};
-ghost use Rattle.htree_file.specs.Pages.{block_in};
-ghost use Rattle.htree_file.specs.Standing.{Told};
+ghost use Rattle.htree_file.specs.Pages.{block_in, opened_of};
+ghost use Rattle.htree_file.specs.Standing.{IsFirm, Told};
 
 use crate::device::read_padded;
 use crate::fault::{Broken, Page, TreeFault};
+use crate::making::{build_tree, draw};
 use crate::pages::open_page;
 use crate::reading::read_tree;
 use crate::table::{blank_nodes, block_version};
 use aes_block::{Aes128, unwrap_key};
-use node_image::{Head, NodeImage, RootRef, block_offset};
+use node_image::{Head, NodeImage, RootRef, block_offset, greatest_node};
 use std::alloc::Global;
 use std::marker::Model;
-use tee_ports::StoreFile;
+use tee_ports::{Entropy, StoreFile};
 
 /// A tree that was made in a file, or loaded from one.
 ///
@@ -48,7 +51,92 @@ impl<F: StoreFile> Model for Tree<F> {
     ghost invariant = { λ t. (length t.nodes.items ≡ 256) × (1 ≤ t.head.greatest) × (t.head.greatest ≤ 256) × (t.root.version < 2) };
 }
 
+// The head of a new tree.
+fn new_head(wrap: &[u8; 32], fek: &[u8; 16], bytes: u64) -> Head
+    requires { bytes ≤ 1048576 }
+    ensures wrapped { unwrapped_of wrap.now result.wrapped ≡ fek.now }
+    ensures length { result.length ≡ bytes }
+    ensures greatest { result.greatest ≡ greatest_of bytes }
+    ensures sized { IsTrue (is_sized result) }
+    ensures few { (1 ≤ result.greatest) × (result.greatest ≤ 256) }
+{
+    let wrapped = aes_block::wrap(wrap, fek);
+    Head {
+        wrapped,
+        length: bytes,
+        greatest: greatest_node(bytes),
+    }
+}
+
 impl<F: StoreFile> Tree<F> {
+    /// Makes a tree in a file: draws the file's key and an initialization vector for each block, writes all in version 0,
+    /// and settles it. `wrap` is the key that wraps the file's key, `bytes` is how many bytes the tree holds, and `blocks`
+    /// are its pages.
+    ///
+    /// # Errors
+    ///
+    /// `Failed` where a call of the file failed, `NoEntropy` where a draw failed, and `NoMemory`. The file then may hold
+    /// anything in version 0.
+    pub fn make<E: Entropy>(
+        alloc: Global,
+        mut file: F,
+        wrap: &[u8; 32],
+        bytes: u64,
+        blocks: &[Page],
+        entropy: &mut E,
+    ) -> Result<(Tree<F>, RootRef), Broken<F>>
+        requires bytes { bytes ≤ 1048576 }
+        requires blocks { length blocks.now ≡ greatest_of bytes }
+        ensures root { IfOk result (λ made. (made.1 ≡ made.0.root) × (made.1.version ≡ 0)) }
+        ensures loaded { IfOk result (λ made. Known (F.state file) (F.state made.0.file) →
+            load_of (F.state made.0.file).reads made.1 ≡ Result.Ok made.0.tree) }
+        ensures opened { IfOk result (λ made. Known (F.state file) (F.state made.0.file) →
+            opened_of wrap.now (F.state made.0.file).reads made.1
+            ≡ Result.Ok (record { bytes = bytes; pages = map (λ page. Some page) blocks.now })) }
+        ensures firm { IfOk result (λ made. IsTrue (F.state made.0.file).honest →
+            IsFirm (F.state made.0.file) made.1 made.0.tree) }
+        ensures key { IfOk result (λ made. made.0.key ≡ unwrapped_of wrap.now made.0.tree.head.wrapped) }
+        ensures bytes { IfOk result (λ made. made.0.tree.head.length ≡ bytes) }
+        ensures goes_on { IfOk result (λ made. GoesOn (F.state file) (F.state made.0.file)) }
+        ensures goes_on_err { IfErr result (λ b. GoesOn (F.state file) (F.state b.file)) }
+        ensures fault { IfErr result (λ b. IsMakeFault b.fault) }
+        ensures passed { IfOk result (λ made. FilePassed (F.state file) (F.state made.0.file)) }
+        ensures cause { IfErr result (λ b. FaultCause (F.state file) (F.state b.file) b.fault) }
+        ensures drew { IfOk result (λ _. E.faults entropy.new ≡ E.faults entropy.old) }
+        ensures draw_cause { IfErr result (λ b. DrawFault (E.faults entropy.old) (E.faults entropy.new) b.fault) }
+        ensures reliable { E.is_reliable entropy.old → E.is_reliable entropy.new }
+        ensures drawn { E.is_reliable entropy.old → IfErr result (λ b. NotEntropy b.fault) }
+    {
+        let mut nodes = match blank_nodes(alloc) {
+            Ok(nodes) => nodes,
+            Err(_) => {
+                return Err(Broken {
+                    file,
+                    fault: TreeFault::NoMemory,
+                });
+            }
+        };
+        let fek = match draw(entropy) {
+            Ok(fek) => fek,
+            Err(fault) => return Err(Broken { file, fault }),
+        };
+        let head = new_head(wrap, &fek, bytes);
+        let key = Aes128::new(&fek);
+        match build_tree(&mut file, entropy, &key, &head, blocks, &mut nodes) {
+            Ok(root) => {
+                let tree = Tree {
+                    file,
+                    key,
+                    root,
+                    head,
+                    nodes,
+                };
+                Ok((tree, root))
+            }
+            Err(fault) => Err(Broken { file, fault }),
+        }
+    }
+
     /// Loads the tree that a reference names in a file. `wrap` is the key that wraps the file's key.
     ///
     /// Head and nodes are read with one read of the file, and then its length is asked.

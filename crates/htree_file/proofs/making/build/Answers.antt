@@ -47,6 +47,8 @@ returns-clause-made g c = λ known.
       zero = λ k lt. (c.hash_nodes.ensures.seals k).flags ∙ blocks.flags k (omega (arith, lt, long));
       hashed = c.hash_nodes.ensures.hashed;
       top = topped.stands two_three;
+      top_returns = topped.returns;
       nodes_stand = nodes_three;
+      nodes_return = written.returns;
       pages_stand = at_three;
     })

@@ -1,5 +1,5 @@
 use Rattle.std.proofs.Common.{◌≡◌, length, arith}
-use Rattle.htree_file.proofs.Building.{nodes_keep, nodes_step}
+use Rattle.htree_file.proofs.Building.{nodes_keep, nodes_step, returns_step}
 use Rattle.htree_file.proofs.Causes.{passed_then}
 use Rattle.htree_file.proofs.making.write_nodes.Goals as goal
 
@@ -15,6 +15,7 @@ loop-k-preserved g c =
     let step = c.in_ok-write_node.ensures in
     record {
       keeps = nodes_keep entry now new c.args.nodes.now c.loop-k.k (omega arith) before.keeps step.keeps;
+      returns = returns_step c.args.nodes.now c.loop-k.k before.returns step.returns;
       passed = passed_then entry now new before.passed step.cause;
       stand = nodes_step entry now new c.args.nodes.now c.loop-k.k (omega arith) (omega arith) before.keeps step.keeps before.stand step.stands;
     }
