@@ -1,5 +1,5 @@
 -- One turn of the loops that make a tree.
-use Rattle.std.proofs.Common.{◌≡◌, ◌≢◌, inl, inr, ℕ, suc, ◌+◌, ◌-◌, ◌<◌, ◌≤◌, List, [], length, get_or, set, Some, refl, sym, ◌∙◌, ap, subst, arith}
+use Rattle.std.proofs.Common.{◌≡◌, inl, inr, ℕ, ◌+◌, ◌<◌, ◌≤◌, List, [], length, get_or, set, refl, sym, ◌∙◌, ap, subst, arith}
 use Rattle.std.proofs.lemmas.Bool.{cases_lt}
 use Rattle.std.proofs.lemmas.List.{get_or-set_other, get_or-set_same}
 use Rattle.disk_model.specs.State.{FileState}
@@ -10,7 +10,7 @@ use Rattle.disk_model.proofs.Laws.{keeps_fewer, keeps_then}
 use Rattle.node_image.specs.declared.node.NodeImage.{NodeImage}
 use Rattle.node_image.specs.declared.head.Head.{Head}
 use Rattle.node_image.specs.Layout.{node_bytes, node_of}
-use Rattle.node_image.specs.Parts.{In, IsPart, Off, Part, size, start}
+use Rattle.node_image.specs.Parts.{In, Off, Part}
 use Rattle.node_image.specs.Parts.Part.{block, head, node}
 use Rattle.node_image.specs.Selection.{part_in}
 use Rattle.node_image.specs.Tables.{no_node}

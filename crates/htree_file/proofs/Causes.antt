@@ -1,12 +1,12 @@
 -- Runs of calls that change nothing, and the causes of their answers.
-use Rattle.std.proofs.Common.{◌≡◌, ◌⊎◌, inl, inr, ℕ, ◌+◌, ◌-◌, ◌^◌, ◌≤◌, min, Result, Ok, Err, IsTrue, sym, ◌∙◌, ap, subst, refl, arith}
-use Rattle.disk_model.specs.Faults.{Rose, next_count}
+use Rattle.std.proofs.Common.{ℕ, ◌∙◌, subst, refl}
+use Rattle.disk_model.specs.Faults.{Rose}
 use Rattle.disk_model.specs.State.{FileState}
-use Rattle.disk_model.specs.Calls.{GoesOn, Known, Rests}
+use Rattle.disk_model.specs.Calls.{GoesOn, Rests}
 use Rattle.disk_model.proofs.Goings.{first_known, goes_on_none, goes_on_then, then_known}
 use Rattle.htree_file.specs.declared.fault.TreeFault.{TreeFault}
 use Rattle.htree_file.specs.declared.fault.TreeFault.TheVariants.{BadHead, BadTag, Damaged, Failed, NoEntropy, NoMemory, Short}
-use Rattle.htree_file.specs.Answers.{FaultCause, FileFailed, FilePassed, HasCause}
+use Rattle.htree_file.specs.Answers.{FaultCause, FileFailed, FilePassed}
 use Rattle.htree_file.specs.Making.{IsDeviceFault, IsDrawFault}
 use Rattle.htree_file.specs.Standing.{Told}
 

@@ -1,22 +1,22 @@
 -- A tree that was made is the one that its reference names.
-use Rattle.std.proofs.Common.{◌≡◌, inl, inr, ℕ, zero, ◌+◌, ◌-◌, ◌*◌, ◌/◌, ◌%◌, ◌<◌, ◌≤◌, List, [], length, get_or, map, Bool, true, false, cond, leb, ◌==◌, Option, Some, None, Result, Ok, Err, IsTrue, refl, sym, ◌∙◌, ap, subst, arith}
+use Rattle.std.proofs.Common.{◌≡◌, inl, inr, ℕ, ◌+◌, ◌-◌, ◌/◌, ◌%◌, ◌<◌, ◌≤◌, List, [], length, get_or, map, Bool, true, false, cond, leb, ◌==◌, Option, Some, None, Ok, IsTrue, refl, sym, ◌∙◌, ap, subst, arith}
 use Rattle.std.proofs.lemmas.Bool.{cases_lt, cond-true, cond-false, le-leb, lt-leb}
 use Rattle.std.proofs.lemmas.List.{get_or-map, length-map}
-use Rattle.disk_model.specs.State.{FileState, LeftNow}
+use Rattle.disk_model.specs.State.{FileState}
 use Rattle.aes_block.specs.WrappedKey.{unwrapped_of}
 use Rattle.node_image.specs.declared.node.NodeImage.{NodeImage}
 use Rattle.node_image.specs.declared.node.RootRef.{RootRef}
 use Rattle.node_image.specs.declared.head.Head.{Head}
-use Rattle.node_image.specs.Layout.{has_form, head_bytes, head_of, is_sized, node_of}
+use Rattle.node_image.specs.Layout.{has_form, head_of, is_sized, node_of}
 use Rattle.node_image.specs.Parts.{start}
-use Rattle.node_image.specs.Parts.Part.{block, head, node}
+use Rattle.node_image.specs.Parts.Part.{block, head}
 use Rattle.node_image.specs.Tables.{at_node, block_bit, block_version, child_bit, no_node, node_version}
-use Rattle.node_image.specs.Selection.{Matches, head_in, node_in, nodes_in, part_in, row, selected_node, selected_tree}
+use Rattle.node_image.specs.Selection.{Matches, head_in, node_in, part_in, row, selected_node, selected_tree}
 use Rattle.node_image.proofs.Matching.{node_is, row_is}
 use Rattle.htree_file.specs.Making.{IsMade, IsSynced}
-use Rattle.htree_file.specs.Opening.{Loaded, load_of, need_of, table_of}
-use Rattle.htree_file.specs.Pages.{Opened, opened_in, opened_of, page_in, page_of}
-use Rattle.htree_file.specs.Standing.{IsFirm, OpensTo}
+use Rattle.htree_file.specs.Opening.{Loaded, load_of, table_of}
+use Rattle.htree_file.specs.Pages.{opened_in, opened_of, page_in, page_of}
+use Rattle.htree_file.specs.Standing.{IsFirm}
 use Rattle.htree_file.proofs.Damage.{need_within, undamaged}
 use Rattle.htree_file.proofs.Verdicts.{checked_by, table_checked}
 use Rattle.htree_file.proofs.Verified.{long_is}

@@ -1,12 +1,12 @@
 -- A part that is written stands, and what stands elsewhere stays.
-use Rattle.std.proofs.Common.{◌≡◌, ◌⊎◌, inl, inr, ⊎_elim, ℕ, ◌+◌, ◌-◌, ◌<◌, ◌≤◌, List, length, get_or, refl, sym, ◌∙◌, ap, subst, arith}
+use Rattle.std.proofs.Common.{◌≡◌, inl, inr, ⊎_elim, ℕ, ◌+◌, ◌-◌, ◌<◌, ◌≤◌, List, length, get_or, refl, sym, ◌∙◌, arith}
 use Rattle.disk_model.specs.Images.{Has}
 use Rattle.disk_model.specs.State.{FileState}
 use Rattle.disk_model.specs.Calls.{Known}
 use Rattle.disk_model.specs.Keeps.{Keeps, Outside}
 use Rattle.disk_model.proofs.Laws.{keeps_fewer}
 use Rattle.node_image.specs.Parts.{In, Off, Part, size, start}
-use Rattle.node_image.specs.Selection.{bytes_at, part_in}
+use Rattle.node_image.specs.Selection.{bytes_at}
 use Rattle.node_image.proofs.ImageBytes.{bytes_same}
 use Rattle.htree_file.specs.Standing.{Stands}
 

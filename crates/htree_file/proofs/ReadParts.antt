@@ -1,9 +1,9 @@
 -- Nodes that are read one after the other.
-use Rattle.std.proofs.Common.{◌≡◌, ℕ, suc, ◌+◌, ◌*◌, ◌<◌, ◌≤◌, List, [], ◌∷◌, ◌++◌, length, take, set, sym, ◌∙◌, ap, arith}
-use Rattle.std.proofs.lemmas.List.{take_more_set, length-take-le}
+use Rattle.std.proofs.Common.{◌≡◌, ℕ, suc, ◌+◌, ◌<◌, List, [], ◌∷◌, ◌++◌, length, take, set, sym, ◌∙◌, ap, arith}
+use Rattle.std.proofs.lemmas.List.{take_more_set}
 use Rattle.node_image.specs.declared.node.NodeImage.{NodeImage}
 use Rattle.node_image.specs.Layout.{node_of}
-use Rattle.node_image.specs.Parts.{start, size}
+use Rattle.node_image.specs.Parts.{start}
 use Rattle.node_image.specs.Parts.Part.{node}
 use Rattle.node_image.specs.Tables.{node_version}
 use Rattle.node_image.specs.Selection.{bytes_at, node_in, row, selected_node, version_in}

@@ -1,9 +1,8 @@
 -- Files with the same first bytes have the same head and the same nodes.
-use Rattle.std.proofs.Common.{◌≡◌, inl, inr, ℕ, ◌+◌, ◌-◌, ◌*◌, ◌/◌, ◌%◌, ◌<◌, ◌≤◌, List, length, get_or, Bool, true, false, cond, leb, eqb, Result, Ok, Err, refl, sym, ◌∙◌, ap, subst, zero-add, arith}
+use Rattle.std.proofs.Common.{◌≡◌, inl, inr, ℕ, ◌+◌, ◌/◌, ◌%◌, ◌<◌, ◌≤◌, List, get_or, cond, leb, eqb, Err, refl, sym, ◌∙◌, ap, zero-add, arith}
 use Rattle.std.proofs.lemmas.Bool.{cases_Bool, cond_both}
 use Rattle.node_image.specs.declared.node.NodeImage.{NodeImage}
 use Rattle.node_image.specs.declared.node.RootRef.{RootRef}
-use Rattle.node_image.specs.declared.head.Head.{Head}
 use Rattle.node_image.specs.Layout.{has_form, head_of, node_of}
 use Rattle.node_image.specs.Parts.{Part, size, start}
 use Rattle.node_image.specs.Parts.Part.{head, node}
@@ -12,7 +11,7 @@ use Rattle.node_image.specs.Selection.{Matches, bytes_at, head_in, node_in, node
 use Rattle.node_image.proofs.ImageBytes.{bytes_same, get_or-bytes_at}
 use Rattle.node_image.proofs.Matching.{node_is, row_same, table_matches}
 use Rattle.htree_file.specs.declared.fault.TreeFault.TheVariants.{BadHead}
-use Rattle.htree_file.specs.Opening.{Loaded, checked, table_of}
+use Rattle.htree_file.specs.Opening.{checked, table_of}
 use Rattle.htree_file.proofs.Sizes.{form_sized, sized_few}
 use Rattle.htree_file.proofs.Verdicts.{table_unformed}
 

@@ -1,7 +1,7 @@
 -- Bytes that a call of the file moved.
 use Rattle.std.proofs.Common.{◌≡◌, inl, inr, ℕ, ◌+◌, ◌-◌, ◌<◌, ◌≤◌, min, List, ◌++◌, length, get_or, take, drop, replicate, refl, sym, ◌∙◌, ap, arith, length-take, length-drop, length-append}
 use Rattle.std.proofs.lemmas.Bool.{cases_lt}
-use Rattle.std.proofs.lemmas.List.{append_assoc, drop_at, ext_get_or, get_or-drop, get_or-replicate, get_or-take, get_or_append_left, get_or-append_right, get_or_past, length-replicate, length-take-le, take_at, take-append-le}
+use Rattle.std.proofs.lemmas.List.{append_assoc, drop_at, ext_get_or, get_or-drop, get_or-replicate, get_or-take, get_or_append_left, get_or-append_right, get_or_past, length-replicate, take_at}
 use Rattle.disk_model.specs.Bytes.{after_write}
 use Rattle.node_image.specs.Selection.{bytes_at}
 use Rattle.node_image.proofs.ImageBytes.{bytes_within, get_or-bytes_at, length-bytes_at}

@@ -1,5 +1,5 @@
 -- What the tests of a head and its nodes come to.
-use Rattle.std.proofs.Common.{◌≡◌, ◌≢◌, ℕ, ◌+◌, List, length, Bool, true, false, cond, Option, None, Some, Result, Ok, Err, sym, ◌∙◌, ap}
+use Rattle.std.proofs.Common.{◌≡◌, ◌≢◌, ℕ, ◌+◌, List, length, true, false, Option, Err, sym, ◌∙◌, ap}
 use Rattle.std.proofs.lemmas.Bool.{cond-true, cond-false}
 use Rattle.std.specs.Str.{bytes_eq}
 use Rattle.node_image.specs.declared.node.NodeImage.{NodeImage}
@@ -9,9 +9,8 @@ use Rattle.node_image.specs.Layout.{has_form}
 use Rattle.node_image.specs.Parts.Part.{head}
 use Rattle.node_image.specs.Tables.{at_node}
 use Rattle.node_image.specs.Selection.{head_in, nodes_in, part_in, row, selected_node}
-use Rattle.htree_file.specs.declared.fault.TreeFault.{TreeFault}
 use Rattle.htree_file.specs.declared.fault.TreeFault.TheVariants.{BadHead, Damaged}
-use Rattle.htree_file.specs.Opening.{Loaded, checked, first_damaged, or_damaged, table_of}
+use Rattle.htree_file.specs.Opening.{checked, first_damaged, or_damaged, table_of}
 use Rattle.htree_file.proofs.SameBytes.{same_from, same_not}
 
 module _ (h : Head) (nodes : List NodeImage) (root : RootRef) where

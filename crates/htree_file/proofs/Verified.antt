@@ -1,23 +1,22 @@
 -- What a table that was read tells, and what a load of it comes to.
-use Rattle.std.proofs.Common.{◌≡◌, ◌⊎◌, inl, inr, ⊎_elim, ℕ, suc, ◌+◌, ◌-◌, ◌<◌, ◌≤◌, List, length, Bool, true, false, cond, leb, Option, None, Some, Result, Ok, Err, IsTrue, refl, sym, ◌∙◌, ap, subst, arith}
-use Rattle.std.proofs.lemmas.Bool.{cases_Bool, cond-true, cond-false, le-leb, leb-true, lt-leb}
+use Rattle.std.proofs.Common.{◌≡◌, ℕ, ◌+◌, ◌<◌, ◌≤◌, List, length, Bool, true, false, cond, leb, Option, None, Some, Result, Ok, Err, refl, ◌∙◌, ap, subst, arith}
+use Rattle.std.proofs.lemmas.Bool.{cond-true, cond-false, le-leb, lt-leb}
 use Rattle.std.specs.Str.{bytes_eq}
 use Rattle.node_image.specs.declared.node.NodeImage.{NodeImage}
 use Rattle.node_image.specs.declared.node.RootRef.{RootRef}
 use Rattle.node_image.specs.declared.head.Head.{Head}
-use Rattle.node_image.specs.Layout.{has_form, is_sized}
+use Rattle.node_image.specs.Layout.{has_form}
 use Rattle.node_image.specs.Parts.Part.{head}
 use Rattle.node_image.specs.Tables.{at_node, hash_in}
-use Rattle.node_image.specs.Selection.{head_in, nodes_in, part_in, row, selected_node}
+use Rattle.node_image.specs.Selection.{head_in, nodes_in, part_in, selected_node}
 use Rattle.node_image.proofs.Matching.{length-row}
 use Rattle.htree_file.specs.declared.fault.TreeFault.{TreeFault}
 use Rattle.htree_file.specs.declared.fault.TreeFault.TheVariants.{BadHead, BadTag, Damaged, Failed, NoEntropy, NoMemory, Short}
 use Rattle.htree_file.specs.Opening.{IsVerified, Loaded, checked, first_damaged, load_of, long_enough, need_of, or_damaged, table_of}
-use Rattle.htree_file.specs.Answers.{Differs, IsOutside}
+use Rattle.htree_file.specs.Answers.{Differs}
 use Rattle.htree_file.proofs.Damage.{none_damaged}
 use Rattle.htree_file.proofs.SameBytes.{same_is}
 use Rattle.htree_file.proofs.Sizes.{form_sized}
-use Rattle.htree_file.proofs.Verdicts.{table_unformed}
 
 -- a test whose failure is a fault held where the answer is no fault
 pub cond_ok : (b : Bool) (r : Result Loaded TreeFault) (e : TreeFault) (tree : Loaded) → cond b r (Err e) ≡ Ok tree → (b ≡ true) × (r ≡ Ok tree)

@@ -1,13 +1,13 @@
 -- What the answers of a tree's calls say.
-use Rattle.std.specs.Prelude.{◌≡◌, ◌≢◌, ◌⊎◌, ℕ, ◌<◌, List, length, Option, Some, None, Result, Ok, Err, IsTrue}
+use Rattle.std.specs.Prelude.{◌≡◌, ℕ, ◌<◌, List, length, Some, None, Result, Ok, Err, IsTrue}
 use Rattle.disk_model.specs.Faults.{Rose}
 use Rattle.disk_model.specs.State.{FileState}
 use Rattle.node_image.specs.declared.node.NodeImage.{NodeImage}
 use Rattle.node_image.specs.declared.node.RootRef.{RootRef}
 use Rattle.node_image.specs.declared.head.Head.{Head}
 use Rattle.htree_file.specs.declared.fault.TreeFault.{TreeFault}
-use Rattle.htree_file.specs.declared.fault.TreeFault.TheVariants.{BadHead, BadTag, Damaged, Failed, NoEntropy, NoMemory, Short}
-use Rattle.htree_file.specs.Opening.{Loaded, load_of, table_of}
+use Rattle.htree_file.specs.declared.fault.TreeFault.TheVariants.{BadHead, BadTag, Damaged, Failed, NoMemory, Short}
+use Rattle.htree_file.specs.Opening.{table_of}
 use Rattle.htree_file.specs.Pages.{page_of, tag_of}
 
 -- A call of the file failed: the file counted a fault, which the answer carries, and a calm file counted it for want of

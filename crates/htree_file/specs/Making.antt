@@ -1,5 +1,5 @@
 -- A tree while it is made: what stands in the file already.
-use Rattle.std.specs.Prelude.{◌≡◌, ℕ, ◌+◌, ◌<◌, ◌≤◌, List, [], length, get_or, Option, Some, Result, Ok, Err, IsTrue}
+use Rattle.std.specs.Prelude.{◌≡◌, ℕ, ◌+◌, ◌<◌, ◌≤◌, List, [], length, get_or, Some, Result, Ok, Err, IsTrue}
 use Rattle.disk_model.specs.Faults.{Rose}
 use Rattle.disk_model.specs.State.{FileState, LeftNow}
 use Rattle.node_image.specs.declared.node.NodeImage.{NodeImage}

@@ -1,10 +1,10 @@
 -- What a reference names in an image: a head and a table of nodes, or the first fault.
-use Rattle.std.specs.Prelude.{◌≡◌, ℕ, zero, suc, ◌+◌, ◌<◌, ◌≤◌, List, length, Bool, true, nat_le, cond, max, Option, Some, None, Result, Ok, Err}
+use Rattle.std.specs.Prelude.{◌≡◌, ℕ, zero, suc, ◌+◌, ◌≤◌, List, length, true, nat_le, cond, max, Option, Some, None, Result, Ok, Err}
 use Rattle.node_image.specs.declared.node.NodeImage.{NodeImage}
 use Rattle.node_image.specs.declared.node.RootRef.{RootRef}
 use Rattle.node_image.specs.declared.head.Head.{Head}
 use Rattle.node_image.specs.Layout.{has_form, is_sized}
-use Rattle.node_image.specs.Parts.{start, size}
+use Rattle.node_image.specs.Parts.{start}
 use Rattle.node_image.specs.Parts.Part.{head, block}
 use Rattle.node_image.specs.Tables.{at_node, block_version, hash_in}
 use Rattle.node_image.specs.Selection.{head_in, nodes_in, part_in}

@@ -1,5 +1,5 @@
 -- The pages of a tree: blocks of ciphertext under the file's key, deciphered where the tag is the node's.
-use Rattle.std.specs.Prelude.{◌≡◌, ℕ, ◌+◌, List, ◌++◌, length, cond, Option, Some, None, Result, Ok, Err}
+use Rattle.std.specs.Prelude.{ℕ, ◌+◌, List, ◌++◌, length, cond, Option, Some, None, Result, Ok, Err}
 use Rattle.std.specs.Int.{w32, to_be_bytes}
 use Rattle.aes_block.specs.Cipher.{cipher}
 use Rattle.aes_block.specs.WrappedKey.{unwrapped_of}

@@ -1,5 +1,5 @@
 -- Trees and their parts in the bytes of a file, and in all images that it may leave.
-use Rattle.std.specs.Prelude.{◌≡◌, ℕ, ◌+◌, ◌≤◌, List, length, Result, Ok, IsTrue}
+use Rattle.std.specs.Prelude.{◌≡◌, ℕ, ◌+◌, ◌≤◌, List, length, Ok, IsTrue}
 use Rattle.disk_model.specs.State.{FileState, LeftNow}
 use Rattle.disk_model.specs.Calls.{Known}
 use Rattle.node_image.specs.declared.node.RootRef.{RootRef}

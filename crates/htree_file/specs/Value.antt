@@ -1,8 +1,6 @@
 -- What a contract sees of a tree.
 use Rattle.std.specs.Prelude.{ℕ, List}
-use Rattle.node_image.specs.declared.node.NodeImage.{NodeImage}
 use Rattle.node_image.specs.declared.node.RootRef.{RootRef}
-use Rattle.node_image.specs.declared.head.Head.{Head}
 use Rattle.htree_file.specs.Opening.{Loaded}
 
 -- the file, the key that its blocks are enciphered under, the committed reference, and the head and nodes that it names

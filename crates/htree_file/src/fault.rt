@@ -45,6 +45,7 @@ pub enum TreeFault {
 }
 
 /// A file that holds no tree, and why.
+#[derive(Drop)]
 pub struct Broken<F: StoreFile> {
     pub file: F,
     pub fault: TreeFault,

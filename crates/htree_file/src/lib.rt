@@ -13,6 +13,8 @@ mod pages;
 mod parts;
 mod reading;
 mod table;
+#[cfg(test)]
+mod tests;
 mod tree;
 
 pub use fault::{Broken, Page, TreeFault};

@@ -122,6 +122,7 @@ fn build<F: StoreFile, E: Entropy>(
     requires all { length nodes.old ≡ head.now.greatest }
     ensures made { OnOk result (Known (F.state file.old) (F.state file.new) →
         IsMade (F.state file.new).reads key.now head.now nodes.new pages.now) }
+    ensures hashed { OnOk result (HashedFrom nodes.new head.now 0) }
     ensures synced { OnOk result (IsSynced (F.state file.new)) }
     ensures goes_on { GoesOn (F.state file.old) (F.state file.new) }
     ensures cause { HasCause (F.state file.old) (F.state file.new) result }
@@ -152,6 +153,7 @@ pub(crate) fn build_tree<F: StoreFile, E: Entropy>(
     requires few { (1 ≤ head.now.greatest) × (head.now.greatest ≤ 256) }
     ensures made { OnOk result (Known (F.state file.old) (F.state file.new) →
         IsMade (F.state file.new).reads key.now head.now (take head.now.greatest table.new) pages.now) }
+    ensures hashed { OnOk result (HashedFrom (take head.now.greatest table.new) head.now 0) }
     ensures root { IfOk result (λ root. root ≡ record { hash = (at_node (take head.now.greatest table.new) 1).hash; version = 0 }) }
     ensures all { length (take head.now.greatest table.new) ≡ head.now.greatest }
     ensures synced { OnOk result (IsSynced (F.state file.new)) }

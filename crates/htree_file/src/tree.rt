@@ -1,6 +1,7 @@
 // A tree over a file.
-ghost use Rattle.std.specs.Prelude.{◌≡◌, ◌⊎◌, ◌+◌, ◌<◌, ◌≤◌, length, map, IfErr, IfOk, IsTrue, Result, Some};
+ghost use Rattle.std.specs.Prelude.{◌≡◌, ◌⊎◌, ◌+◌, ◌<◌, ◌≤◌, length, map, IfErr, IfOk, IsTrue, OnErr, OnOk, Result, Some};
 ghost use Rattle.aes_block.specs.WrappedKey.{unwrapped_of};
+ghost use Rattle.disk_model.specs.Controls.{disarmed, failure_armed, stop_armed, taint_armed};
 ghost use Rattle.disk_model.specs.Calls.{GoesOn, Known, Rests};
 ghost use Rattle.node_image.specs.Layout.{greatest_of, is_sized};
 ghost use Rattle.node_image.specs.Tables.{at_node};
@@ -20,11 +21,12 @@ use aes_block::{Aes128, unwrap_key};
 use node_image::{Head, NodeImage, RootRef, block_offset, greatest_node};
 use std::alloc::Global;
 use std::marker::Model;
-use tee_ports::{Entropy, StoreFile};
+use tee_ports::{Entropy, FileRig, NoMemory, StoreFile};
 
 /// A tree that was made in a file, or loaded from one.
 ///
 /// It keeps its head and nodes in memory, so that a read of a block is one call of the file and takes no memory.
+#[derive(Drop)]
 pub struct Tree<F: StoreFile> {
     file: F,
     // The key of the blocks.
@@ -95,6 +97,8 @@ impl<F: StoreFile> Tree<F> {
             ≡ Result.Ok (record { bytes = bytes; pages = map (λ page. Some page) blocks.now })) }
         ensures firm { IfOk result (λ made. IsTrue (F.state made.0.file).honest →
             IsFirm (F.state made.0.file) made.1 made.0.tree) }
+        ensures verified { IfOk result (λ made. IsVerified made.1 made.0.tree) }
+        ensures few { IfOk result (λ made. (1 ≤ made.0.tree.head.greatest) × (made.0.tree.head.greatest ≤ 256)) }
         ensures key { IfOk result (λ made. made.0.key ≡ unwrapped_of wrap.now made.0.tree.head.wrapped) }
         ensures bytes { IfOk result (λ made. made.0.tree.head.length ≡ bytes) }
         ensures goes_on { IfOk result (λ made. GoesOn (F.state file) (F.state made.0.file)) }
@@ -161,6 +165,7 @@ impl<F: StoreFile> Tree<F> {
             load_of (F.state b.file).reads root ≡ Result.Err b.fault)) }
         // Of any file.
         ensures verified { IfOk result (λ t. IsVerified root t.tree) }
+        ensures few { IfOk result (λ t. (1 ≤ t.tree.head.greatest) × (t.tree.head.greatest ≤ 256)) }
         ensures differs { IfErr result (λ b. IsTrue (F.state b.file).tells → Differs (F.state b.file).reads root b.fault) }
         ensures rests { IfOk result (λ t. Rests (F.state file) (F.state t.file)) }
         ensures rests_err { IfErr result (λ b. Rests (F.state file) (F.state b.file)) }
@@ -229,5 +234,42 @@ impl<F: StoreFile> Tree<F> {
             nodes: _,
         } = self;
         file
+    }
+}
+
+impl<F: FileRig> Tree<F> {
+    /// Arms the file to pass this many calls, and to fail all later ones.
+    pub fn stop_after(&mut self, calls: u64)
+        ensures file { F.state self.new.file ≡ stop_armed (F.state self.old.file) calls }
+        ensures same { self.new ≡ record self.old { file = self.new.file } }
+    {
+        self.file.stop_after(calls);
+    }
+
+    /// Arms the file to fail this call, counted from 1.
+    pub fn fail_call(&mut self, call: u64) -> Result<(), NoMemory>
+        ensures armed { OnOk result (F.state self.new.file ≡ failure_armed (F.state self.old.file) call) }
+        ensures refused { OnErr result (F.state self.new.file ≡ F.state self.old.file) }
+        ensures same { self.new ≡ record self.old { file = self.new.file } }
+    {
+        self.file.fail_call(call)
+    }
+
+    /// Arms the file to have a mask laid over its bytes from a place on, before this call.
+    pub fn taint_call(&mut self, call: u64, at: u64, mask: &[u8]) -> Result<(), NoMemory>
+        ensures armed { OnOk result (F.state self.new.file ≡
+            taint_armed (F.state self.old.file) (record { call = call; at = at; mask = mask.now })) }
+        ensures refused { OnErr result (F.state self.new.file ≡ F.state self.old.file) }
+        ensures same { self.new ≡ record self.old { file = self.new.file } }
+    {
+        self.file.taint_call(call, at, mask)
+    }
+
+    /// Removes all arms of the file.
+    pub fn disarm(&mut self)
+        ensures file { F.state self.new.file ≡ disarmed (F.state self.old.file) }
+        ensures same { self.new ≡ record self.old { file = self.new.file } }
+    {
+        self.file.disarm();
     }
 }

@@ -1,4 +1,4 @@
-use Rattle.std.proofs.Common.{◌≡◌, ◌+◌, ◌≤◌, List, length, ℕ, sym, ◌∙◌, ap, subst}
+use Rattle.std.proofs.Common.{◌+◌, ◌≤◌, List, length, ℕ, sym, ◌∙◌, ap, subst}
 use Rattle.disk_model.proofs.Laws.{change_keeps}
 use Rattle.node_image.specs.Selection.{bytes_at}
 use Rattle.htree_file.proofs.Transfers.{written_fits, written_stands}

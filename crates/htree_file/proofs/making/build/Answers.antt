@@ -1,5 +1,4 @@
-use Rattle.std.proofs.Common.{◌≡◌, ℕ, ◌<◌, ◌≤◌, List, length, get_or, sym, ◌∙◌, subst, arith}
-use Rattle.disk_model.specs.State.{FileState}
+use Rattle.std.proofs.Common.{◌≡◌, ℕ, ◌≤◌, List, length, sym, ◌∙◌, subst, arith}
 use Rattle.disk_model.specs.Calls.{Known}
 use Rattle.disk_model.proofs.Goings.{first_known, goes_on_then, then_known}
 use Rattle.node_image.specs.declared.node.NodeImage.{NodeImage}

@@ -1,4 +1,4 @@
-use Rattle.std.proofs.Common.{◌∙◌, ◌≡◌, length, arith}
+use Rattle.std.proofs.Common.{◌∙◌, arith}
 use Rattle.disk_model.proofs.Goings.{goes_on_then}
 use Rattle.htree_file.proofs.Building.{blocks_step, flags_step}
 use Rattle.htree_file.proofs.Causes.{passed_then}

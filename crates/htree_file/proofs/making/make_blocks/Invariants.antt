@@ -1,4 +1,4 @@
-use Rattle.std.proofs.Common.{◌≡◌, length}
+use Rattle.std.proofs.Common.{◌≡◌}
 use Rattle.disk_model.specs.Calls.{GoesOn, Known}
 use Rattle.htree_file.specs.Answers.{FilePassed}
 use Rattle.htree_file.specs.Making.{NameVersionZero, PagesStand}

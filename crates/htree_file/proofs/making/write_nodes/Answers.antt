@@ -1,4 +1,4 @@
-use Rattle.std.proofs.Common.{◌≡◌, length, arith}
+use Rattle.std.proofs.Common.{arith}
 use Rattle.htree_file.proofs.Building.{nodes_keep, nodes_step, returns_step}
 use Rattle.htree_file.proofs.Causes.{passed_then}
 use Rattle.htree_file.proofs.making.write_nodes.Goals as goal

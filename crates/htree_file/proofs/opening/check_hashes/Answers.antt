@@ -1,4 +1,4 @@
-use Rattle.std.proofs.Common.{◌≡◌, ◌-◌, ℕ, get_or, Option, None, Some, Result, Err, sym, ◌∙◌, ap}
+use Rattle.std.proofs.Common.{◌-◌, ℕ, get_or, None, Some, Err, sym, ◌∙◌}
 use Rattle.htree_file.specs.declared.fault.TreeFault.TheVariants.{Damaged}
 use Rattle.node_image.specs.Tables.{no_node}
 use Rattle.htree_file.proofs.SameBytes.{unequal_is, unequal_not}

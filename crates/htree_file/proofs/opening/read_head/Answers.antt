@@ -1,5 +1,5 @@
-use Rattle.std.proofs.Common.{◌≡◌, sym, ap, ◌∙◌}
-use Rattle.node_image.specs.Layout.{has_form, head_of, is_sized}
+use Rattle.std.proofs.Common.{ap, ◌∙◌}
+use Rattle.node_image.specs.Layout.{is_sized}
 use Rattle.htree_file.proofs.Sizes.{form_sized, sized_few}
 use Rattle.htree_file.proofs.opening.read_head.Goals as goal
 

@@ -1,4 +1,4 @@
-use Rattle.std.proofs.Common.{◌≡◌, refl, arith}
+use Rattle.std.proofs.Common.{refl, arith}
 use Rattle.htree_file.proofs.ReadParts.{read_step}
 use Rattle.htree_file.proofs.opening.read_nodes.Goals as goal
 

@@ -1,4 +1,4 @@
-use Rattle.std.proofs.Common.{◌≡◌, ℕ, ◌+◌, length, take}
+use Rattle.std.proofs.Common.{◌≡◌, ◌+◌, take}
 use Rattle.node_image.specs.Selection.{row, selected_node}
 use Rattle.htree_file.proofs.opening.read_nodes.Given as goal
 

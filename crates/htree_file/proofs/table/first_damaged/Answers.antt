@@ -1,6 +1,6 @@
-use Rattle.std.proofs.Common.{◌≡◌, ◌+◌, ◌-◌, ℕ, List, length, get_or, sym, ◌∙◌, ap, subst, arith}
+use Rattle.std.proofs.Common.{◌≡◌, ◌+◌, ◌-◌, ℕ, List, length, get_or, sym, ◌∙◌, ap, arith}
 use Rattle.node_image.specs.declared.node.NodeImage.{NodeImage}
-use Rattle.node_image.specs.Tables.{at_node, hash_in, no_node}
+use Rattle.node_image.specs.Tables.{at_node, no_node}
 use Rattle.htree_file.proofs.Damage.{damaged_here, damaged_not}
 use Rattle.htree_file.proofs.SameBytes.{unequal_is, unequal_not}
 use Rattle.htree_file.proofs.table.first_damaged.Goals as goal

@@ -1,4 +1,4 @@
-use Rattle.std.proofs.Common.{◌≡◌, ℕ, ◌+◌, ◌-◌, length}
+use Rattle.std.proofs.Common.{◌≡◌, ◌+◌, ◌-◌, length}
 use Rattle.htree_file.specs.Opening.{first_damaged}
 use Rattle.htree_file.proofs.table.first_damaged.Given as goal
 

@@ -1,4 +1,4 @@
-use Rattle.std.proofs.Common.{◌≡◌, ℕ, ◌<◌, List, take, get_or, inl, inr, subst, sym, ap, ◌∙◌, arith}
+use Rattle.std.proofs.Common.{ℕ, ◌<◌, List, take, get_or, inl, inr, subst, sym, ap, ◌∙◌, arith}
 use Rattle.std.proofs.lemmas.Bool.{cases_lt}
 use Rattle.std.proofs.lemmas.List.{get_or-take, get_or_past, length-take}
 use Rattle.aes_block.specs.InverseCipher.{inv_cipher}

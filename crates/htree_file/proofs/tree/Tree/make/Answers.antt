@@ -1,14 +1,11 @@
-use Rattle.std.proofs.Common.{◌≡◌, ℕ, ◌+◌, ◌≤◌, List, ◌++◌, length, map, get_or, take, drop, Option, Some, Result, Ok, inl, refl, sym, ◌∙◌, ap, subst, arith}
+use Rattle.std.proofs.Common.{◌≡◌, ℕ, List, ◌++◌, length, map, take, drop, Some, Ok, inl, sym, ◌∙◌, ap, arith}
 use Rattle.std.proofs.lemmas.List.{take_at}
-use Rattle.disk_model.specs.State.{FileState}
 use Rattle.aes_block.specs.WrappedKey.{unwrapped_of}
 use Rattle.node_image.specs.declared.node.NodeImage.{NodeImage}
-use Rattle.node_image.specs.declared.node.RootRef.{RootRef}
 use Rattle.node_image.specs.declared.head.Head.{Head}
 use Rattle.node_image.specs.Tables.{at_node}
-use Rattle.htree_file.specs.Opening.{Loaded, load_of}
-use Rattle.htree_file.specs.Pages.{Opened, opened_of}
-use Rattle.htree_file.specs.Standing.{IsFirm}
+use Rattle.htree_file.specs.Opening.{load_of}
+use Rattle.htree_file.specs.Pages.{opened_of}
 use Rattle.htree_file.proofs.Made.{made_loads, made_opens, synced_firm}
 use Rattle.htree_file.proofs.tree.Tree.make.Goals as goal
 
@@ -24,7 +21,7 @@ returns-in-Ok-build_tree-clause-loaded g c = λ known.
     let nodes : List NodeImage = take h.greatest table in
     let built = c.in-Ok-build_tree.ensures in
     let same = held table c.in-Ok.nodes.items c.in-Ok.nodes.len (omega arith) in
-    ap (load_of file) built.root
+    ap (load_of file) {y = record { hash = (at_node nodes 1).hash; version = 0 }} built.root
     ∙ made_loads file c.new-key.result h nodes c.args.blocks.now (built.made known) built.all (omega (arith, built.all, c.new_head-head.ensures.few.0)) c.new_head-head.ensures.sized
     ∙ (λ i. Ok (record { head = h; nodes = take h.greatest (same i) }))
 
