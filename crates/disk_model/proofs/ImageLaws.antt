@@ -1,9 +1,9 @@
 -- What follows for images.
-use Rattle.std.proofs.Common.{◌≡◌, ◌≢◌, ◌↔◌, inl, inr, ⊎_elim, ℕ, ◌+◌, List, [], ◌∷◌, ◌++◌, length, get_or, true, false, IsTrue, drop, set, refl, sym, ◌∙◌, ap, subst, arith}
-use Rattle.std.proofs.lemmas.List.{get_or-set_same, get_or-set_other, length-set, ext_get_or}
+use Rattle.std.proofs.Common.{length-append, replicate, ◌-◌, ◌≡◌, ◌≢◌, inl, inr, ⊎_elim, ℕ, ◌+◌, List, [], ◌∷◌, ◌++◌, length, get_or, true, false, IsTrue, drop, set, refl, sym, ◌∙◌, ap, subst, arith}
+use Rattle.std.proofs.lemmas.List.{get_or_append_left, length-replicate, get_or-set_same, get_or-set_other, length-set, ext_get_or}
 use Rattle.std.proofs.lemmas.Bool.{cases_lt, cases_Bool, false≢true}
 use Rattle.disk_model.specs.declared.span.Span.{Span}
-use Rattle.disk_model.specs.Images.{Has, in_spans, MayLeave, IsTouched, Every}
+use Rattle.disk_model.specs.Images.{Has, in_spans, MayLeave, IsTouched, SameAt, DiffersAt, Every}
 use Rattle.disk_model.specs.State.{FileState, spans_of, pending, moment, base_at, spans_since, LeftSince, LeftNow, Sound}
 use Rattle.disk_model.proofs.Spans.{in_spans_front, in_spans_drop, spans_nil, not_nil, base_now}
 
@@ -55,20 +55,36 @@ more_spans b i spans more fewer none left = record { stays = λ p x e h. left.st
 pub push_span : (b i : List ℕ) (spans : List Span) (s : Span) → MayLeave b spans i → MayLeave b (spans ++ s ∷ []) i
 push_span b i spans s left = more_spans b i spans (spans ++ s ∷ []) (λ p e. in_spans_front spans (s ∷ []) p e) (λ e. absurd (not_nil spans s e)) left
 
--- a place that is not touched looks after a crash as the settled bytes do
-pub untouched_same : (b i : List ℕ) (spans : List Span) (p : ℕ) → (IsTouched spans (length b) p → ⊥) → MayLeave b spans i → (x : ℕ) → (Has i p x ↔ Has b p x)
-untouched_same b i spans p not left x = elim spans as (λ (l : List Span). (IsTouched l (length b) p → ⊥) → MayLeave b l i → (Has i p x ↔ Has b p x)) [
-  | [] ↦ λ no m. (λ h. subst (λ (l : List ℕ). Has l p x) (m.exact refl) h, λ h. subst (λ (l : List ℕ). Has l p x) (sym (m.exact refl)) h)
-  | s ∷ l ↦ λ no m.
-      let some : s ∷ l ≢ [] = λ e. (cc) in
-      let free : in_spans (s ∷ l) p ≡ false = ⊎_elim (λ hit. absurd (no (some, inr hit))) (λ miss. miss) (cases_Bool (in_spans (s ∷ l) p)) in
-      elim (cases_lt p (length b)) [
-        | inl lt ↦
-            let there = m.stays p (get_or b p 0) free (record { below = lt; is = refl }) in
-            (λ h. record { below = lt; is = sym there.is ∙ h.is }, λ h. m.stays p x free h)
-        | inr ge ↦ absurd (no (some, inl ge))
-      ]
-] not left
+-- a place that is not touched looks in each image as in the settled bytes
+pub untouched_same : (b i : List ℕ) (spans : List Span) (p : ℕ) → (IsTouched spans (length b) p → ⊥) → MayLeave b spans i → SameAt p i b
+untouched_same b i [] p not left x = (λ h. subst (λ (l : List ℕ). Has l p x) (left.exact refl) h, λ h. subst (λ (l : List ℕ). Has l p x) (sym (left.exact refl)) h)
+untouched_same b i (s ∷ spans) p not left x =
+    let some : s ∷ spans ≢ [] = λ e. (cc) in
+    let free : in_spans (s ∷ spans) p ≡ false = ⊎_elim (λ hit. absurd (not (some, inr hit))) (λ miss. miss) (cases_Bool (in_spans (s ∷ spans) p)) in
+    elim (cases_lt p (length b)) [
+      | inl lt ↦
+          let there = left.stays p (get_or b p 0) free (record { below = lt; is = refl }) in
+          (λ h. record { below = lt; is = sym there.is ∙ h.is }, λ h. left.stays p x free h)
+      | inr ge ↦ absurd (not (some, inl ge))
+    ]
+
+-- a touched place looks otherwise in some image
+pub touched_differs : (b : List ℕ) (spans : List Span) (p : ℕ) → IsTouched spans (length b) p → (i : List ℕ) × MayLeave b spans i × DiffersAt p i b
+touched_differs b spans p touched = elim (cases_lt p (length b)) [
+  | inr past ↦
+      let longer = b ++ replicate (p + 1 - length b) 0 in (
+        longer,
+        record { stays = λ q x e h. record { below = omega (arith, h.below, length-append b (replicate (p + 1 - length b) 0)); is = get_or_append_left b (replicate (p + 1 - length b) 0) 0 q h.below ∙ h.is }; exact = λ e. absurd (touched.0 e) },
+        (get_or longer p 0, record { below = omega (arith, length-append b (replicate (p + 1 - length b) 0), length-replicate {A = ℕ} (p + 1 - length b) 0); is = refl }, λ h. omega (arith, h.below)),
+      )
+  | inl lt ↦
+      let hit : in_spans spans p ≡ true = ⊎_elim (λ past. absurd (omega arith)) (λ is. is) touched.1 in
+      let x = get_or b p 0 in (
+        set b p (x + 1),
+        leaves_set b spans p (x + 1) hit,
+        (x + 1, record { below = omega (arith, length-set b p (x + 1)); is = get_or-set_same b p (x + 1) 0 lt }, λ h. omega (arith, h.is)),
+      )
+]
 
 -- the spans since this moment are those that are pending
 pub since_now : (s : FileState) → spans_since s (moment s) ≡ pending s

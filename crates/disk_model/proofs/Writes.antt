@@ -1,7 +1,6 @@
 -- What stands where after a write or a change of the length.
-use Rattle.std.proofs.Common.{append_assoc, ◌≡◌, ◌⊎◌, ◌↔◌, inl, inr, ⊎_elim, ℕ, zero, suc, ◌+◌, ◌-◌, ◌<◌, ◌≤◌, List, [], ◌∷◌, ◌++◌, length, get_or, take, drop, min, refl, sym, ◌∙◌, ap, subst, arith, rules, length-append, length-drop, length-take, replicate}
-use Rattle.std.proofs.lemmas.List.{length-replicate, get_or_append_left, get_or-append-add, get_or-append_right, get_or-take, get_or-drop, get_or-replicate, places}
-use Rattle.std.proofs.lemmas.Bool.{cases_lt}
+use Rattle.std.proofs.Common.{append_assoc, ◌≡◌, ◌⊎◌, inl, inr, ℕ, ◌+◌, ◌-◌, ◌<◌, ◌≤◌, List, ◌++◌, length, get_or, take, drop, min, refl, sym, ◌∙◌, ap, arith, length-append, length-drop, length-take, replicate}
+use Rattle.std.proofs.lemmas.List.{length-replicate, get_or_append_left, get_or-append_right, get_or-take, get_or-drop}
 use Rattle.disk_model.specs.Images.{Has}
 use Rattle.disk_model.specs.Bytes.{after_write, after_resize}
 

@@ -1,5 +1,5 @@
 -- Images: what a crash may leave of a file, given its settled bytes and the spans that changed since.
-use Rattle.std.specs.Prelude.{◌≡◌, ◌≢◌, ◌⊎◌, ℕ, ◌+◌, ◌<◌, ◌≤◌, List, [], length, slice_index, Bool, true, false, ◌&&◌, nat_lt, nat_le}
+use Rattle.std.specs.Prelude.{◌≡◌, ◌≢◌, ◌⊎◌, ◌↔◌, ℕ, ◌+◌, ◌<◌, ◌≤◌, List, [], length, slice_index, Bool, true, false, ◌&&◌, nat_lt, nat_le}
 use Rattle.std.specs.List.{list_any}
 use Rattle.disk_model.specs.declared.span.Span.{Span}
 
@@ -25,6 +25,14 @@ pub record MayLeave (settled : List ℕ) (spans : List Span) (image : List ℕ) 
 -- the place may look otherwise after a crash, where the settled bytes end at `old_end`
 abbrev pub IsTouched : List Span → ℕ → ℕ → Type 0
 IsTouched spans old_end place = (spans ≢ []) × ((old_end ≤ place) ⊎ (in_spans spans place ≡ true))
+
+-- two lists have the same byte at this place, or neither has one
+abbrev pub SameAt : ℕ → List ℕ → List ℕ → Type 0
+SameAt place a b = (byte : ℕ) → (Has a place byte ↔ Has b place byte)
+
+-- the first list has a byte at this place that the other has not
+abbrev pub DiffersAt : ℕ → List ℕ → List ℕ → Type 0
+DiffersAt place a b = (byte : ℕ) × Has a place byte × (Has b place byte → ⊥)
 
 -- each of these images has this byte at this place
 abbrev pub Every : (List ℕ → Type 0) → ℕ → ℕ → Type 0

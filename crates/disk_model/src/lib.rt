@@ -7,3 +7,6 @@
 mod span;
 
 pub use span::{Change, Span, touched};
+
+#[cfg(test)]
+mod tests;

@@ -1,6 +1,7 @@
 // The places of a file that changed since they were last known to be on the disk.
-ghost use Rattle.std.specs.Prelude.{◌≡◌, ◌↔◌, IsTrue};
-ghost use Rattle.disk_model.specs.Images.{in_span, in_spans, IsTouched};
+ghost use Rattle.std.specs.Prelude.{◌≡◌, ◌↔◌, ℕ, List, length, IsTrue};
+ghost use Rattle.std.specs.Bool.{OnTrue, OnFalse};
+ghost use Rattle.disk_model.specs.Images.{in_span, in_spans, IsTouched, MayLeave, SameAt, DiffersAt};
 
 /// The `length` places of a file from `at` on, in bytes.
 #[derive(Clone, Copy, Debug, PartialEq, Eq)]
@@ -32,6 +33,18 @@ impl Span {
 /// `spans` are those that changed since the last successful sync, and `old_end` is the number of settled bytes. Without
 /// any span a crash leaves the settled bytes, so no place is touched.
 pub fn touched(spans: &[Span], old_end: u64, at: u64) -> bool
+    ensures holds { IsTrue result ↔ IsTouched spans.now old_end at }
+
+    // In each image a place that is not touched looks as in the settled bytes, and in some image a touched one does not.
+    ensures untouched { OnFalse result ((settled image : List ℕ) → length settled ≡ old_end →
+        MayLeave settled spans.now image → SameAt at image settled) }
+    ensures differs { OnTrue result ((settled : List ℕ) → length settled ≡ old_end →
+        (image : List ℕ) × MayLeave settled spans.now image × DiffersAt at image settled) }
+{
+    is_touched(spans, old_end, at)
+}
+
+fn is_touched(spans: &[Span], old_end: u64, at: u64) -> bool
     ensures { IsTrue result ↔ IsTouched spans.now old_end at }
 {
     !spans.is_empty() && (old_end <= at || any_holds(spans, at))

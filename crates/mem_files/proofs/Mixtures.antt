@@ -1,6 +1,6 @@
 -- A mixture of two lists, step by step.
-use Rattle.std.proofs.Common.{◌≡◌, ◌⊎◌, inl, inr, ℕ, ◌+◌, ◌-◌, ◌<◌, ◌≤◌, List, [], ◌∷◌, ◌++◌, length, min, get_or, drop, Bool, true, false, ltb, if◌then◌else◌, refl, sym, ◌∙◌, ap, arith, add-one}
-use Rattle.std.proofs.lemmas.List.{drop_all, append-nil, append_assoc}
+use Rattle.std.proofs.Common.{◌≡◌, inl, inr, ℕ, ◌+◌, ◌<◌, List, [], ◌∷◌, ◌++◌, length, min, get_or, drop, Bool, ltb, if◌then◌else◌, refl, sym, ◌∙◌, ap, arith, add-one}
+use Rattle.std.proofs.lemmas.List.{drop_all, append_assoc}
 use Rattle.std.proofs.lemmas.Bool.{cases_lt, lt-ltb, le-ltb}
 use Rattle.std.proofs.Math.Seq.{drop-cons}
 use Rattle.mem_files.specs.Crash.{mixture}

@@ -1,5 +1,5 @@
 -- A mask laid over bytes, byte by byte.
-use Rattle.std.proofs.Common.{◌≡◌, ℕ, zero, suc, ◌+◌, ◌<◌, ◌≤◌, List, [], ◌∷◌, length, min, get_or, take, set, bit_xor, refl, sym, ◌∙◌, ap, arith, add-one}
+use Rattle.std.proofs.Common.{◌≡◌, ℕ, zero, suc, ◌+◌, ◌<◌, List, [], ◌∷◌, length, min, get_or, take, set, bit_xor, refl, sym, ◌∙◌, ap, arith, add-one}
 use Rattle.disk_model.specs.Bytes.{overlaid}
 
 pub overlaid-nil : (bytes : List ℕ) → overlaid bytes [] ≡ bytes

@@ -1,18 +1,17 @@
 -- The steps of a file in memory are those of a file.
-use Rattle.std.proofs.Common.{◌≡◌, ◌⊎◌, ◌↔◌, inl, inr, ⊎_elim, ℕ, ◌+◌, ◌-◌, ◌^◌, ◌<◌, ◌≤◌, List, [], ◌∷◌, ◌++◌, length, min, max, Bool, true, false, IsTrue, IsSomeAnd, Option, Some, None, Contains, fold, filter, ◌==◌, if◌then◌else◌, take, drop, length-append, length-take, length-drop, refl, sym, ◌∙◌, ap, subst, arith}
+use Rattle.std.proofs.Common.{◌≡◌, ◌⊎◌, inl, inr, ⊎_elim, ℕ, ◌+◌, ◌<◌, ◌≤◌, List, [], ◌∷◌, length, min, max, Bool, true, false, IsTrue, IsSomeAnd, Option, Some, None, Contains, fold, filter, ◌==◌, if◌then◌else◌, length-append, length-take, length-drop, refl, sym, ◌∙◌, ap, subst, arith}
 use Rattle.std.proofs.lemmas.Bool.{cases_lt, false≢true}
 use Rattle.disk_model.specs.declared.span.Change.{Change}
-use Rattle.disk_model.specs.Faults.{next_count, Rose}
-use Rattle.disk_model.specs.Images.{Has, in_span}
-use Rattle.disk_model.specs.Bytes.{overlaid, after_mask, after_write, after_resize}
-use Rattle.disk_model.specs.Arms.{Taint, NamesNext, NamesNone, next_taints}
+use Rattle.disk_model.specs.Faults.{next_count}
+use Rattle.disk_model.specs.Images.{Has}
+use Rattle.disk_model.specs.Bytes.{after_mask, after_write, after_resize}
+use Rattle.disk_model.specs.Arms.{Taint, NamesNext, next_taints}
 use Rattle.disk_model.specs.State.{FileState}
-use Rattle.disk_model.specs.Calls.{Known, GoesOn, AddsChange, Changes, Rests, Syncs}
+use Rattle.disk_model.specs.Calls.{Known, GoesOn, Changes, Rests, Syncs}
 use Rattle.disk_model.specs.Keeps.{Outside}
 use Rattle.disk_model.specs.Controls.{Stored, stored, is_struck, strike, struck}
 use Rattle.disk_model.proofs.Spans.{within_span}
 use Rattle.disk_model.proofs.Writes.{written_keeps, resized_keeps}
-use Rattle.tee_ports.specs.Files.{Fails, Passes, HasBytes, ActsByArms, StaysByArms}
 use Rattle.mem_files.specs.Held.{change_of}
 use Rattle.mem_files.specs.Memory.{IsArmed}
 use Rattle.mem_files.specs.Machine.{begun, wrote, resized, synced, FailsBegun}

@@ -1,8 +1,7 @@
 -- What a simulated crash leaves is an image.
-use Rattle.std.proofs.Common.{◌≡◌, ◌⊎◌, ◌↔◌, inl, inr, ℕ, zero, suc, ◌+◌, ◌<◌, List, [], ◌∷◌, length, Bool, true, false, IsTrue, if◌then◌else◌, ◌==◌, refl, sym, ◌∙◌, ap, subst, arith}
-use Rattle.std.proofs.lemmas.Bool.{false≢true}
-use Rattle.disk_model.specs.Images.{Has, in_spans, MayLeave}
-use Rattle.disk_model.specs.State.{FileState, Sound, pending, LeftNow}
+use Rattle.std.proofs.Common.{◌≡◌, ℕ, zero, suc, ◌+◌, List, [], ◌∷◌, Bool, true, false, if◌then◌else◌, ◌==◌, refl, sym, ◌∙◌, ap, subst, arith}
+use Rattle.disk_model.specs.Images.{Has}
+use Rattle.disk_model.specs.State.{FileState, Sound, LeftNow}
 use Rattle.disk_model.proofs.ImageLaws.{reads_left}
 use Rattle.mem_files.specs.Crash.{mixture, crash_of}
 

@@ -1,7 +1,6 @@
 -- What a file in memory holds.
 use Rattle.std.specs.Prelude.{ℕ, ◌-◌, List, [], Bool, true, Option, Some, None, Vec}
 use Rattle.std.specs.declared.alloc.Global.{Global}
-use Rattle.disk_model.specs.declared.span.Span.{Span}
 use Rattle.disk_model.specs.declared.span.Change.{Change}
 
 -- the settled bytes are kept apart only where they may differ from those that a read gives

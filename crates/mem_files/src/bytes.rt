@@ -1,5 +1,5 @@
 // Changes of bytes in place.
-ghost use Rattle.std.specs.Prelude.{◌≡◌, ℕ, List, ◌+◌, ◌-◌, ◌<◌, ◌≤◌, ◌^◌, ◌++◌, length, take, drop, OnOk, OnErr, not, ◌==◌};
+ghost use Rattle.std.specs.Prelude.{◌≡◌, ℕ, List, ◌+◌, ◌-◌, ◌<◌, ◌^◌, length, take, OnOk, OnErr, not, ◌==◌};
 ghost use Rattle.std.specs.List.{list_any};
 ghost use Rattle.disk_model.specs.Bytes.{overlaid, after_mask, after_write, after_resize};
 ghost use Rattle.tee_ports.specs.Files.{ReadsAt};

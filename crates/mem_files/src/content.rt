@@ -5,7 +5,7 @@ ghost use Rattle.disk_model.specs.Bytes.{after_mask, after_write, after_resize};
 ghost use Rattle.disk_model.specs.State.{BytesAgree};
 ghost use Rattle.tee_ports.specs.Files.{ReadsAt};
 ghost use Rattle.mem_files.specs.Crash.{crash_of};
-ghost use Rattle.mem_files.specs.Held.{settled_bytes, Held, change_of, held_as, held_anew};
+ghost use Rattle.mem_files.specs.Held.{settled_bytes, change_of, held_as, held_anew};
 
 use crate::bytes::{copy_from, has_bits, lay_over, lay_over_settled, resize, write_over};
 use crate::crash::image_of;
@@ -17,12 +17,12 @@ use tee_ports::NoMemory;
 /// The bytes of a file in memory.
 #[derive(Drop)]
 pub struct Content {
-    pub bytes: Vec<u8>,
+    bytes: Vec<u8>,
     // The settled bytes, where they may differ from `bytes`.
-    pub settled: Option<Vec<u8>>,
-    pub trail: Vec<Change>,
-    pub pending_from: u64,
-    pub honest: bool,
+    settled: Option<Vec<u8>>,
+    trail: Vec<Change>,
+    pending_from: u64,
+    honest: bool,
     ghost agree: { BytesAgree (settled_bytes settled bytes.items) bytes.items trail.items pending_from honest } by { Prim.hlevel props },
 }
 
@@ -42,6 +42,20 @@ impl Content {
             pending_from: 0,
             honest: true,
         }
+    }
+
+    /// How many bytes a read gives.
+    pub fn len(&self) -> usize
+        ensures { result ≡ length (held self.now).reads }
+    {
+        self.bytes.len()
+    }
+
+    /// The bytes that a read gives.
+    pub fn copy(&self, alloc: Global) -> Result<Vec<u8>, NoMemory>
+        ensures { IfOk result (λ copy. copy.items ≡ (held self.now).reads) }
+    {
+        self.bytes.to_vec(alloc)
     }
 
     /// Copies the bytes from the place `at` on into the front of `into`, and says how many there were.

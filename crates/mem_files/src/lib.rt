@@ -8,3 +8,6 @@ mod memory;
 mod taint;
 
 pub use memory::MemFile;
+
+#[cfg(test)]
+mod tests;

@@ -1,10 +1,7 @@
 // A file in memory, whose device can be set to fail and to crash.
-ghost use Rattle.std.specs.Prelude.{◌≡◌, ◌⊎◌, ℕ, ◌+◌, ◌-◌, ◌<◌, ◌≤◌, ◌^◌, ◌++◌, [], ◌∷◌, ◌↔◌, map, length, take, drop, min, None, true, IsTrue, IfOk, IfErr, OnOk, OnErr, IsErr, is_err, IsSomeAnd, Contains, refl};
+ghost use Rattle.std.specs.Prelude.{◌≡◌, ◌+◌, ◌-◌, ◌<◌, ◌≤◌, ◌^◌, ◌↔◌, length, None, IsTrue, IfErr, OnOk, OnErr, IsSomeAnd, Contains, refl};
 ghost use Rattle.disk_model.specs.Faults.{next_count};
-ghost use Rattle.disk_model.specs.Images.{Has};
-ghost use Rattle.disk_model.specs.Arms.{no_arms, NamesNext, count_call};
-ghost use Rattle.disk_model.specs.State.{FileState, Sound};
-ghost use Rattle.disk_model.specs.Calls.{Known, Changes, Rests, Syncs};
+ghost use Rattle.disk_model.specs.Arms.{NamesNext};
 ghost use Rattle.mem_files.specs.Machine.{begun, wrote, resized, synced};
 
 use crate::content::Content;
@@ -129,7 +126,7 @@ impl StoreFile for MemFile {
 
     fn len(&mut self) -> Result<u64, Failed> {
         self.begin()?;
-        Ok(self.content.bytes.len() as u64)
+        Ok(self.content.len() as u64)
     }
 
     fn read_at(&mut self, at: u64, into: &mut [u8]) -> Result<usize, Failed> {
@@ -195,7 +192,7 @@ impl FileRig for MemFile {
     }
 
     fn save(&self) -> Result<Image, NoMemory> {
-        Ok(Image::from_vec(self.content.bytes.clone()?))
+        Ok(Image::from_vec(self.content.copy(self.alloc)?))
     }
 
     fn restore(&mut self, image: &Image) -> Result<(), NoMemory> {

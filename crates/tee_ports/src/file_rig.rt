@@ -1,5 +1,5 @@
 // What a simulator of a file can be told to do.
-ghost use Rattle.std.specs.Prelude.{◌≡◌, ℕ, ◌<◌, ◌^◌, List, IfOk, OnOk, OnErr};
+ghost use Rattle.std.specs.Prelude.{◌≡◌, ℕ, ◌<◌, List, IfOk, OnOk, OnErr};
 ghost use Rattle.disk_model.specs.Bytes.{after_mask};
 ghost use Rattle.disk_model.specs.State.{FileState, LeftNow};
 ghost use Rattle.disk_model.specs.Controls.{settled_as, renamed_as, stop_armed, failure_armed, taint_armed, disarmed};

@@ -1,4 +1,4 @@
-use Rattle.std.proofs.Common.{◌≡◌, ℕ, ◌+◌, ◌-◌, ◌/◌, ◌^◌, ◌<◌, ◌++◌, ◌∷◌, [], List, length, drop, get_or, min, ltb, Bool, true, false, if◌then◌else◌, sym, ◌∙◌, ap, subst, arith, rules, append-nil}
+use Rattle.std.proofs.Common.{◌≡◌, ℕ, ◌+◌, ◌-◌, ◌/◌, ◌^◌, ◌++◌, ◌∷◌, [], List, length, drop, get_or, ltb, Bool, if◌then◌else◌, sym, ◌∙◌, ap, subst, arith, rules}
 use Rattle.mem_files.specs.Crash.{coin, mixture}
 use Rattle.mem_files.proofs.Mixtures.{mixture_push, mixture_end}
 use Rattle.mem_files.proofs.crash.mix.Goals as goal

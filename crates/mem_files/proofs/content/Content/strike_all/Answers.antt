@@ -1,4 +1,4 @@
-use Rattle.std.proofs.Common.{◌∙◌, arith, rules}
+use Rattle.std.proofs.Common.{◌∙◌}
 use Rattle.mem_files.specs.Contents.{stored_in}
 use Rattle.mem_files.proofs.Strikes.{struck_next}
 use Rattle.mem_files.proofs.content.Content.strike_all.Goals as goal

@@ -1,4 +1,3 @@
-use Rattle.std.proofs.Common.{◌+◌, length}
 use Rattle.mem_files.specs.Memory.{file_state, file_armed}
 use Rattle.mem_files.proofs.Steps.{fails_changes, fails_others, starved_fails, wrote_changes, wrote_reads, wrote_others}
 use Rattle.mem_files.proofs.memory.MemFileStoreFile.write_at.Goals as goal
