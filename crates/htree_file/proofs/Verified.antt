@@ -13,7 +13,7 @@ use Rattle.node_image.proofs.Matching.{length-row}
 use Rattle.htree_file.specs.declared.fault.TreeFault.{TreeFault}
 use Rattle.htree_file.specs.declared.fault.TreeFault.TheVariants.{BadHead, BadTag, Damaged, Failed, NoEntropy, NoMemory, Short}
 use Rattle.htree_file.specs.Opening.{IsVerified, Loaded, checked, first_damaged, load_of, long_enough, need_of, or_damaged, table_of}
-use Rattle.htree_file.specs.Answers.{Differs}
+use Rattle.htree_file.specs.Answers.{Differs, IsLoadFault}
 use Rattle.htree_file.proofs.Damage.{none_damaged}
 use Rattle.htree_file.proofs.SameBytes.{same_is}
 use Rattle.htree_file.proofs.Sizes.{form_sized}
@@ -84,3 +84,13 @@ table_differs reads root fault is = by_kind fault (one_of fault is) is
     by_kind (Failed count) of_two f = tt
     by_kind (NoEntropy count) of_two f = absurd (of_two (λ a b e. cc (e)) (λ a b d e. cc (e)))
     by_kind NoMemory of_two f = tt
+
+-- and nothing else is answered
+pub differs_kind : (reads : List ℕ) (root : RootRef) (fault : TreeFault) → Differs reads root fault → IsLoadFault fault
+differs_kind reads root (BadHead long greatest) d = tt
+differs_kind reads root (Short end need) d = tt
+differs_kind reads root (Damaged n want found) d = tt
+differs_kind reads root (BadTag k want found) d = absurd d
+differs_kind reads root (Failed count) d = tt
+differs_kind reads root (NoEntropy count) d = absurd d
+differs_kind reads root NoMemory d = tt

@@ -6,7 +6,7 @@ use Rattle.node_image.specs.declared.node.NodeImage.{NodeImage}
 use Rattle.node_image.specs.declared.node.RootRef.{RootRef}
 use Rattle.node_image.specs.declared.head.Head.{Head}
 use Rattle.htree_file.specs.declared.fault.TreeFault.{TreeFault}
-use Rattle.htree_file.specs.declared.fault.TreeFault.TheVariants.{BadHead, BadTag, Damaged, Failed, NoMemory, Short}
+use Rattle.htree_file.specs.declared.fault.TreeFault.TheVariants.{BadHead, BadTag, Damaged, Failed, NoEntropy, NoMemory, Short}
 use Rattle.htree_file.specs.Opening.{table_of}
 use Rattle.htree_file.specs.Pages.{page_of, tag_of}
 
@@ -42,6 +42,12 @@ abbrev pub IsOutside : TreeFault → Type 0
 IsOutside (Failed count) = Unit {0}
 IsOutside NoMemory = Unit {0}
 IsOutside fault = ⊥
+
+-- what loading a tree can answer
+abbrev pub IsLoadFault : TreeFault → Type 0
+IsLoadFault (BadTag k want found) = ⊥
+IsLoadFault (NoEntropy count) = ⊥
+IsLoadFault fault = Unit {0}
 
 -- What a refusal to load says of any file: the value that it carries is what differs, as the file reads.
 abbrev pub Differs : List ℕ → RootRef → TreeFault → Type 0

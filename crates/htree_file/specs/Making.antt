@@ -14,6 +14,10 @@ use Rattle.htree_file.specs.declared.fault.TreeFault.TheVariants.{Failed, NoEntr
 use Rattle.htree_file.specs.Pages.{page_of}
 use Rattle.htree_file.specs.Standing.{Stands}
 
+-- no place
+abbrev pub Nowhere : ℕ → Type 0
+Nowhere place = ⊥
+
 -- block k stands in version 0, and deciphers to the page by the node
 pub record PageStands (file key : List ℕ) (h : Head) (n : NodeImage) (k : ℕ) (page : List ℕ) : Type 0 where
   pub fits : start (block k 0) + 4096 ≤ length file

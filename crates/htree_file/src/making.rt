@@ -8,7 +8,7 @@ ghost use Rattle.node_image.specs.Parts.{Off};
 ghost use Rattle.node_image.specs.Parts.Part.{block};
 ghost use Rattle.node_image.specs.Tables.{at_node, no_node};
 ghost use Rattle.htree_file.specs.Answers.{HasCause, IsFailed};
-ghost use Rattle.htree_file.specs.Making.{DrawCause, HashedFrom, IsDeviceFault, IsDrawFault, IsMade, IsSynced, NameVersionZero, NodesReturn, NodesStand, NotEntropy, OffNodes, PageStands, PagesStand};
+ghost use Rattle.htree_file.specs.Making.{DrawCause, HashedFrom, IsDeviceFault, IsDrawFault, IsMade, IsSynced, NameVersionZero, NodesReturn, NodesStand, NotEntropy, Nowhere, OffNodes, PageStands, PagesStand};
 ghost use Rattle.htree_file.specs.Opening.{load_of};
 ghost use Rattle.htree_file.specs.Pages.{page_in};
 ghost use Rattle.htree_file.specs.Standing.{Stands};
@@ -80,7 +80,7 @@ fn make_blocks<F: StoreFile, E: Entropy>(
     ensures flags { OnOk result (NameVersionZero nodes.new (length nodes.old)) }
     ensures stand { OnOk result (Known (F.state file.old) (F.state file.new) →
         PagesStand (F.state file.new).reads key.now head.now nodes.new pages.now (length nodes.old)) }
-    ensures goes_on { GoesOn (F.state file.old) (F.state file.new) }
+    ensures keeps { Keeps Nowhere (F.state file.old) (F.state file.new) }
     ensures cause { HasCause (F.state file.old) (F.state file.new) result }
     ensures draws { DrawCause (E.faults entropy.old) (E.faults entropy.new) result }
     ensures reliable { E.is_reliable entropy.old → E.is_reliable entropy.new }
@@ -124,7 +124,7 @@ fn build<F: StoreFile, E: Entropy>(
         IsMade (F.state file.new).reads key.now head.now nodes.new pages.now) }
     ensures hashed { OnOk result (HashedFrom nodes.new head.now 0) }
     ensures synced { OnOk result (IsSynced (F.state file.new)) }
-    ensures goes_on { GoesOn (F.state file.old) (F.state file.new) }
+    ensures keeps { Keeps Nowhere (F.state file.old) (F.state file.new) }
     ensures cause { HasCause (F.state file.old) (F.state file.new) result }
     ensures draws { DrawCause (E.faults entropy.old) (E.faults entropy.new) result }
     ensures reliable { E.is_reliable entropy.old → E.is_reliable entropy.new }
@@ -157,7 +157,7 @@ pub(crate) fn build_tree<F: StoreFile, E: Entropy>(
     ensures root { IfOk result (λ root. root ≡ record { hash = (at_node (take head.now.greatest table.new) 1).hash; version = 0 }) }
     ensures all { length (take head.now.greatest table.new) ≡ head.now.greatest }
     ensures synced { OnOk result (IsSynced (F.state file.new)) }
-    ensures goes_on { GoesOn (F.state file.old) (F.state file.new) }
+    ensures keeps { Keeps Nowhere (F.state file.old) (F.state file.new) }
     ensures cause { HasCause (F.state file.old) (F.state file.new) result }
     ensures draws { DrawCause (E.faults entropy.old) (E.faults entropy.new) result }
     ensures reliable { E.is_reliable entropy.old → E.is_reliable entropy.new }

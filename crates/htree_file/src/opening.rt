@@ -3,6 +3,7 @@ ghost use Rattle.std.specs.Prelude.{◌≡◌, ℕ, ◌+◌, ◌-◌, ◌*◌, �
 ghost use Rattle.node_image.specs.Layout.{has_form, is_sized};
 ghost use Rattle.node_image.specs.Parts.Part.{head};
 ghost use Rattle.node_image.specs.Selection.{bytes_at, head_in, part_in, row, selected_node};
+ghost use Rattle.htree_file.specs.Answers.{IsLoadFault};
 ghost use Rattle.htree_file.specs.Opening.{checked, table_of};
 ghost use Rattle.htree_file.specs.declared.fault.TreeFault.TheVariants.{BadHead};
 
@@ -94,6 +95,7 @@ pub(crate) fn read_table(
     ensures sized { IfOk result (λ h. IsTrue (is_sized h)) }
     ensures few { IfOk result (λ h. (1 ≤ h.greatest) × (h.greatest ≤ 256)) }
     ensures err { IfErr result (λ fault. table_of image.now root ≡ Result.Err fault) }
+    ensures kind { IfErr result IsLoadFault }
 {
     let head = read_head(image, root.version)?;
     let count = head.greatest as usize;

@@ -3,7 +3,7 @@ ghost use Rattle.std.specs.Prelude.{◌≡◌, ◌⊎◌, ◌<◌, ◌≤◌, le
 ghost use Rattle.disk_model.specs.Calls.{Rests};
 ghost use Rattle.node_image.specs.Layout.{is_sized};
 ghost use Rattle.node_image.specs.Selection.{bytes_at};
-ghost use Rattle.htree_file.specs.Answers.{Differs, HasCause, IsFailed, IsOutside};
+ghost use Rattle.htree_file.specs.Answers.{Differs, HasCause, IsLoadFault, IsOutside};
 ghost use Rattle.htree_file.specs.Opening.{IsVerified, load_of};
 ghost use Rattle.htree_file.specs.Standing.{Told};
 
@@ -37,6 +37,7 @@ pub(crate) fn read_tree<F: StoreFile>(
     ensures few { IfOk result (λ h. (1 ≤ h.greatest) × (h.greatest ≤ 256)) }
     ensures fault { IfErr result (λ e. IsOutside e ⊎ (Told (F.state file.old) (F.state file.new) →
         load_of (F.state file.new).reads root ≡ Result.Err e)) }
+    ensures kind { IfErr result IsLoadFault }
     ensures differs { IfErr result (λ e. IsTrue (F.state file.new).tells → Differs (F.state file.new).reads root e) }
     ensures rests { Rests (F.state file.old) (F.state file.new) }
     ensures cause { HasCause (F.state file.old) (F.state file.new) result }

@@ -2,11 +2,12 @@
 ghost use Rattle.std.specs.Prelude.{◌≡◌, ◌⊎◌, ◌+◌, ◌<◌, ◌≤◌, length, map, IfErr, IfOk, IsTrue, OnErr, OnOk, Result, Some};
 ghost use Rattle.aes_block.specs.WrappedKey.{unwrapped_of};
 ghost use Rattle.disk_model.specs.Controls.{disarmed, failure_armed, stop_armed, taint_armed};
-ghost use Rattle.disk_model.specs.Calls.{GoesOn, Known, Rests};
+ghost use Rattle.disk_model.specs.Calls.{Known, Rests};
+ghost use Rattle.disk_model.specs.Keeps.{Keeps};
 ghost use Rattle.node_image.specs.Layout.{greatest_of, is_sized};
 ghost use Rattle.node_image.specs.Tables.{at_node};
-ghost use Rattle.htree_file.specs.Answers.{BlockAnswer, Differs, FaultCause, FilePassed, HasCause, IsOutside};
-ghost use Rattle.htree_file.specs.Making.{DrawFault, IsMakeFault, NotEntropy};
+ghost use Rattle.htree_file.specs.Answers.{BlockAnswer, Differs, FaultCause, FilePassed, HasCause, IsLoadFault, IsOutside};
+ghost use Rattle.htree_file.specs.Making.{DrawFault, IsMakeFault, NotEntropy, Nowhere};
 ghost use Rattle.htree_file.specs.Opening.{IsVerified, load_of};
 ghost use Rattle.htree_file.specs.Pages.{block_in, opened_of};
 ghost use Rattle.htree_file.specs.Standing.{IsFirm, Told};
@@ -101,8 +102,8 @@ impl<F: StoreFile> Tree<F> {
         ensures few { IfOk result (λ made. (1 ≤ made.0.tree.head.greatest) × (made.0.tree.head.greatest ≤ 256)) }
         ensures key { IfOk result (λ made. made.0.key ≡ unwrapped_of wrap.now made.0.tree.head.wrapped) }
         ensures bytes { IfOk result (λ made. made.0.tree.head.length ≡ bytes) }
-        ensures goes_on { IfOk result (λ made. GoesOn (F.state file) (F.state made.0.file)) }
-        ensures goes_on_err { IfErr result (λ b. GoesOn (F.state file) (F.state b.file)) }
+        ensures keeps { IfOk result (λ made. Keeps Nowhere (F.state file) (F.state made.0.file)) }
+        ensures keeps_err { IfErr result (λ b. Keeps Nowhere (F.state file) (F.state b.file)) }
         ensures fault { IfErr result (λ b. IsMakeFault b.fault) }
         ensures passed { IfOk result (λ made. FilePassed (F.state file) (F.state made.0.file)) }
         ensures cause { IfErr result (λ b. FaultCause (F.state file) (F.state b.file) b.fault) }
@@ -164,6 +165,7 @@ impl<F: StoreFile> Tree<F> {
         ensures fault { IfErr result (λ b. IsOutside b.fault ⊎ (Told (F.state file) (F.state b.file) →
             load_of (F.state b.file).reads root ≡ Result.Err b.fault)) }
         // Of any file.
+        ensures kind { IfErr result (λ b. IsLoadFault b.fault) }
         ensures verified { IfOk result (λ t. IsVerified root t.tree) }
         ensures few { IfOk result (λ t. (1 ≤ t.tree.head.greatest) × (t.tree.head.greatest ≤ 256)) }
         ensures differs { IfErr result (λ b. IsTrue (F.state b.file).tells → Differs (F.state b.file).reads root b.fault) }

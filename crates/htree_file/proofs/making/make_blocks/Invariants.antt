@@ -1,12 +1,13 @@
 use Rattle.std.proofs.Common.{◌≡◌}
-use Rattle.disk_model.specs.Calls.{GoesOn, Known}
+use Rattle.disk_model.specs.Calls.{Known}
+use Rattle.disk_model.specs.Keeps.{Keeps}
 use Rattle.htree_file.specs.Answers.{FilePassed}
-use Rattle.htree_file.specs.Making.{NameVersionZero, PagesStand}
+use Rattle.htree_file.specs.Making.{NameVersionZero, Nowhere, PagesStand}
 use Rattle.htree_file.proofs.making.make_blocks.Given as goal
 
 abbrev pub invariant-loop-k : goal.invariant-loop-k
 invariant-loop-k g l = record {
-  goes_on : GoesOn (g.F.StoreFile.state l.initial.file) (g.F.StoreFile.state l.file);
+  keeps : Keeps Nowhere (g.F.StoreFile.state l.initial.file) (g.F.StoreFile.state l.file);
   passed : FilePassed (g.F.StoreFile.state l.initial.file) (g.F.StoreFile.state l.file);
   draws : g.E.Entropy.faults l.entropy ≡ g.E.Entropy.faults l.initial.entropy;
   reliable : g.E.Entropy.is_reliable l.initial.entropy → g.E.Entropy.is_reliable l.entropy;
