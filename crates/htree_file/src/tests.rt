@@ -1,6 +1,10 @@
+use crate::pages::seal_page;
+use crate::parts::{write_block, write_head, write_node};
+use crate::table::hash_nodes;
 use crate::{Broken, Page, Tree, TreeFault};
+use aes_block::{Aes128, wrap};
 use mem_files::MemFile;
-use node_image::RootRef;
+use node_image::{Head, NodeImage, RootRef};
 use std::alloc::Global;
 use std::test::Fail;
 use tee_ports::{FileRig, ListEntropy, StoreFile};
@@ -222,5 +226,63 @@ fn armed_reads_fail_and_are_tainted(rt: HostRuntime) -> Result<(), Fail> {
         tree.read_block(0, &mut page),
         Err(TreeFault::Failed { count: 2 })
     );
+    Ok(())
+}
+
+fn blank_node(flags: u16) -> NodeImage {
+    NodeImage {
+        hash: [0; 32],
+        iv: [0; 16],
+        tag: [0; 16],
+        flags,
+    }
+}
+
+// A tree of the pages 1, 2 and 3 throughout: the root, node 3 and blocks 0 and 2 stand in version 1, node 2 and block 1
+// in version 0.
+fn tree_in_both_versions(alloc: Global) -> Result<(MemFile, RootRef), TreeFault> {
+    let fek = 1u128.to_le_bytes();
+    let head = Head {
+        wrapped: wrap(&WRAP, &fek),
+        length: 8193,
+        greatest: 3,
+    };
+    let key = Aes128::new(&fek);
+    let mut file = MemFile::new(alloc);
+    let mut nodes = [blank_node(5), blank_node(0), blank_node(1)];
+    for (k, node) in nodes.iter_mut().enumerate() {
+        let mut page = [k as u8 + 1; 4096];
+        node.iv = (k as u128 + 2).to_le_bytes();
+        node.tag = seal_page(&key, &head, &node.iv, k as u32, &mut page);
+        write_block(&mut file, k as u32, (node.flags % 2) as u8, &page)?;
+    }
+    hash_nodes(&mut nodes, &head);
+    write_node(&mut file, 1, 1, &nodes[0])?;
+    write_node(&mut file, 2, 0, &nodes[1])?;
+    write_node(&mut file, 3, 1, &nodes[2])?;
+    write_head(&mut file, 1, &head)?;
+    let hash = nodes[0].hash;
+    Ok((file, RootRef { hash, version: 1 }))
+}
+
+// The expected hash is from the same program in Python.
+#[test]
+fn versions_are_named_from_the_root_down(rt: HostRuntime) -> Result<(), Fail> {
+    let alloc = rt.alloc();
+    let (file, root) = tree_in_both_versions(alloc)?;
+    assert_eq!(rt;
+        root.hash,
+        hash_of(
+            0x78b32a11305b9380f31e2792a8f4432a,
+            0x885906876dabe4404bfa797b4fdcd506
+        )
+    );
+    assert!(rt; root.version < 2);
+    let mut tree = Tree::load(alloc, file, &WRAP, root)
+        .ok()
+        .ok_or("not loaded")?;
+    let mut page = [0; 4096];
+    assert_eq!(rt; tree.read_block(0, &mut page), Ok(()));
+    assert!(rt; page == [1; 4096]);
     Ok(())
 }
