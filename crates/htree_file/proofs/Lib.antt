@@ -1,0 +1,14 @@
+pub mod SameBytes
+pub mod Damage
+pub mod ReadParts
+pub mod Sizes
+pub mod Verdicts
+pub mod Transfers
+pub mod Causes
+pub mod SameTable
+pub mod Verified
+pub mod PageLaws
+pub mod PartWrites
+pub mod Hashing
+pub mod Building
+pub mod Made

@@ -1,0 +1,31 @@
+-- A part that is written stands, and what stands elsewhere stays.
+use Rattle.std.proofs.Common.{◌≡◌, inl, inr, ⊎_elim, ℕ, ◌+◌, ◌-◌, ◌<◌, ◌≤◌, List, length, get_or, refl, sym, ◌∙◌, arith}
+use Rattle.disk_model.specs.Images.{Has}
+use Rattle.disk_model.specs.State.{FileState}
+use Rattle.disk_model.specs.Calls.{Known}
+use Rattle.disk_model.specs.Keeps.{Keeps, Outside}
+use Rattle.disk_model.proofs.Laws.{keeps_fewer}
+use Rattle.node_image.specs.Parts.{In, Off, Part, size, start}
+use Rattle.node_image.specs.Selection.{bytes_at}
+use Rattle.node_image.proofs.ImageBytes.{bytes_same}
+use Rattle.htree_file.specs.Standing.{Stands}
+
+pub put_keeps : (q : Part) (at wide : ℕ) (old new : FileState) → at ≡ start q → wide ≡ size q → Keeps (Outside at (at + wide)) old new → Keeps (Off q) old new
+put_keeps q at wide old new begin long keeps =
+    keeps_fewer (Outside at (at + wide)) (Off q) old new (λ p off. ⊎_elim (λ low. inl (omega (arith, low, begin))) (λ high. inr (omega (arith, high, begin, long))) off) keeps
+
+pub put_stands : (q : Part) (at wide : ℕ) (bytes file : List ℕ) → at ≡ start q → wide ≡ size q → at + wide ≤ length file → bytes_at file at wide ≡ bytes → Stands file q bytes
+put_stands q at wide bytes file begin long fits is = record {
+  fits = omega (arith, fits, begin, long);
+  is = (λ i. bytes_at file (sym begin i) (sym long i)) ∙ is;
+}
+
+-- what stands off all that changed stays
+pub stands_kept : (K : ℕ → Type 0) (a b : FileState) (q : Part) (bytes : List ℕ) → 1 ≤ size q → Keeps K a b → Known a b → ((p : ℕ) → In q p → K p) → Stands a.reads q bytes → Stands b.reads q bytes
+stands_kept K a b q bytes some keeps known at stands =
+    let each : (j : ℕ) → j < size q → Has b.reads (start q + j) (get_or a.reads (start q + j) 0) =
+    λ j lt. keeps.reads known (start q + j) (get_or a.reads (start q + j) 0) (at (start q + j) (record { from = omega arith; upto = omega (arith, lt) })) (record { below = omega (arith, lt, stands.fits); is = refl }) in
+    record {
+      fits = omega (arith, some, (each (size q - 1) (omega (arith, some))).below);
+      is = bytes_same b.reads a.reads (start q) (size q) (λ j lt. (each j lt).is) ∙ stands.is;
+    }

@@ -1,0 +1,21 @@
+//! Hash trees in a file: 1 to 256 blocks of 4,096 bytes, each enciphered and authenticated with AES-128-GCM, and a tree of
+//! SHA-256 hashes over them whose root is named by a reference that is kept elsewhere.
+//!
+//! A tree is made whole, or loaded from a file that may hold anything. What is loaded is verified against the reference:
+//! a page that is read is the deciphering of a ciphertext with the tag that a verified node has for it.
+#![tactic(auto)]
+
+mod device;
+mod fault;
+mod making;
+mod opening;
+mod pages;
+mod parts;
+mod reading;
+mod table;
+#[cfg(test)]
+mod tests;
+mod tree;
+
+pub use fault::{Broken, Page, TreeFault};
+pub use tree::Tree;

@@ -1,0 +1,171 @@
+// A tree is made whole, all of it in version 0.
+ghost use Rattle.std.specs.Prelude.{◌≡◌, ℕ, List, [], ◌+◌, ◌<◌, ◌≤◌, length, get_or, take, IfErr, IfOk, OnOk, IsTrue, IsOk, Result};
+ghost use Rattle.disk_model.specs.Calls.{GoesOn, Known};
+ghost use Rattle.disk_model.specs.Keeps.{Keeps};
+ghost use Rattle.disk_model.specs.State.{LeftNow};
+ghost use Rattle.node_image.specs.Layout.{head_bytes, is_sized};
+ghost use Rattle.node_image.specs.Parts.{Off};
+ghost use Rattle.node_image.specs.Parts.Part.{block};
+ghost use Rattle.node_image.specs.Tables.{at_node, no_node};
+ghost use Rattle.htree_file.specs.Answers.{HasCause, IsFailed};
+ghost use Rattle.htree_file.specs.Making.{DrawCause, HashedFrom, IsDeviceFault, IsDrawFault, IsMade, IsSynced, NameVersionZero, NodesReturn, NodesStand, NotEntropy, Nowhere, OffNodes, PageStands, PagesStand};
+ghost use Rattle.htree_file.specs.Opening.{load_of};
+ghost use Rattle.htree_file.specs.Pages.{page_in};
+ghost use Rattle.htree_file.specs.Standing.{Stands};
+
+use crate::fault::{Page, TreeFault};
+use crate::pages::seal_page;
+use crate::parts::{write_block, write_head, write_node};
+use crate::table::hash_nodes;
+use aes_block::Aes128;
+use node_image::{Head, NodeImage, RootRef};
+use tee_ports::{Entropy, StoreFile};
+
+/// Draws 16 bytes.
+pub(crate) fn draw<E: Entropy>(entropy: &mut E) -> Result<[u8; 16], TreeFault>
+    ensures cause { DrawCause (E.faults entropy.old) (E.faults entropy.new) result }
+    ensures reliable { E.is_reliable entropy.old → E.is_reliable entropy.new × IsOk result }
+    ensures fault { IfErr result IsDrawFault }
+{
+    let mut bytes = [0; 16];
+    match entropy.draw(&mut bytes) {
+        Ok(()) => Ok(bytes),
+        Err(failed) => Err(TreeFault::NoEntropy {
+            count: failed.count,
+        }),
+    }
+}
+
+// Enciphers block k under a new initialization vector, and writes it. Gives its node, without its hash.
+fn make_block<F: StoreFile, E: Entropy>(
+    file: &mut F,
+    entropy: &mut E,
+    key: &Aes128,
+    head: &Head,
+    k: u32,
+    page: &Page,
+) -> Result<NodeImage, TreeFault>
+    requires { k < 256 }
+    ensures flags { IfOk result (λ node. node.flags ≡ 0) }
+    ensures stands { IfOk result (λ node. Known (F.state file.old) (F.state file.new) →
+        PageStands (F.state file.new).reads key.now head.now node k page.now) }
+    ensures kept { Keeps (Off (block k 0)) (F.state file.old) (F.state file.new) }
+    ensures cause { HasCause (F.state file.old) (F.state file.new) result }
+    ensures draws { DrawCause (E.faults entropy.old) (E.faults entropy.new) result }
+    ensures reliable { E.is_reliable entropy.old → E.is_reliable entropy.new }
+    ensures drawn { E.is_reliable entropy.old → IfErr result NotEntropy }
+    ensures fault { IfErr result IsDeviceFault }
+{
+    let iv = draw(entropy)?;
+    let mut block = *page;
+    let tag = seal_page(key, head, &iv, k, &mut block);
+    write_block(file, k, 0, &block)?;
+    Ok(NodeImage {
+        hash: [0; 32],
+        iv,
+        tag,
+        flags: 0,
+    })
+}
+
+fn make_blocks<F: StoreFile, E: Entropy>(
+    file: &mut F,
+    entropy: &mut E,
+    key: &Aes128,
+    head: &Head,
+    pages: &[Page],
+    nodes: &mut [NodeImage],
+) -> Result<(), TreeFault>
+    requires { (length pages.now ≡ length nodes.old) × (length nodes.old ≤ 256) }
+    ensures flags { OnOk result (NameVersionZero nodes.new (length nodes.old)) }
+    ensures stand { OnOk result (Known (F.state file.old) (F.state file.new) →
+        PagesStand (F.state file.new).reads key.now head.now nodes.new pages.now (length nodes.old)) }
+    ensures keeps { Keeps Nowhere (F.state file.old) (F.state file.new) }
+    ensures cause { HasCause (F.state file.old) (F.state file.new) result }
+    ensures draws { DrawCause (E.faults entropy.old) (E.faults entropy.new) result }
+    ensures reliable { E.is_reliable entropy.old → E.is_reliable entropy.new }
+    ensures drawn { E.is_reliable entropy.old → IfErr result NotEntropy }
+    ensures fault { IfErr result IsDeviceFault }
+{
+    for k in 0..pages.len() {
+        let node = make_block(file, entropy, key, head, k as u32, &pages[k])?;
+        nodes[k] = node;
+    }
+    Ok(())
+}
+
+fn write_nodes<F: StoreFile>(file: &mut F, nodes: &[NodeImage]) -> Result<(), TreeFault>
+    requires { length nodes.now ≤ 256 }
+    ensures stand { OnOk result (Known (F.state file.old) (F.state file.new) →
+        NodesStand (F.state file.new).reads nodes.now (length nodes.now)) }
+    ensures returns { OnOk result (NodesReturn nodes.now (length nodes.now)) }
+    ensures keeps { Keeps (OffNodes (length nodes.now)) (F.state file.old) (F.state file.new) }
+    ensures cause { HasCause (F.state file.old) (F.state file.new) result }
+    ensures failed { IfErr result IsFailed }
+{
+    for k in 0..nodes.len() {
+        write_node(file, k as u32 + 1, 0, &nodes[k])?;
+    }
+    Ok(())
+}
+
+// Enciphers and writes all blocks, then the nodes and the head, in version 0, and settles them. The table gets the nodes.
+fn build<F: StoreFile, E: Entropy>(
+    file: &mut F,
+    entropy: &mut E,
+    key: &Aes128,
+    head: &Head,
+    pages: &[Page],
+    nodes: &mut [NodeImage],
+) -> Result<(), TreeFault>
+    requires pages { (length pages.now ≡ length nodes.old) × (length nodes.old ≤ 256) }
+    requires all { length nodes.old ≡ head.now.greatest }
+    ensures made { OnOk result (Known (F.state file.old) (F.state file.new) →
+        IsMade (F.state file.new).reads key.now head.now nodes.new pages.now) }
+    ensures hashed { OnOk result (HashedFrom nodes.new head.now 0) }
+    ensures synced { OnOk result (IsSynced (F.state file.new)) }
+    ensures keeps { Keeps Nowhere (F.state file.old) (F.state file.new) }
+    ensures cause { HasCause (F.state file.old) (F.state file.new) result }
+    ensures draws { DrawCause (E.faults entropy.old) (E.faults entropy.new) result }
+    ensures reliable { E.is_reliable entropy.old → E.is_reliable entropy.new }
+    ensures drawn { E.is_reliable entropy.old → IfErr result NotEntropy }
+    ensures fault { IfErr result IsDeviceFault }
+{
+    make_blocks(file, entropy, key, head, pages, nodes)?;
+    hash_nodes(nodes, head);
+    write_nodes(file, nodes)?;
+    write_head(file, 0, head)?;
+    file.sync()?;
+    Ok(())
+}
+
+/// Makes a tree in the file, whose nodes come first in the table, and gives its reference.
+pub(crate) fn build_tree<F: StoreFile, E: Entropy>(
+    file: &mut F,
+    entropy: &mut E,
+    key: &Aes128,
+    head: &Head,
+    pages: &[Page],
+    table: &mut [NodeImage],
+) -> Result<RootRef, TreeFault>
+    requires room { length table.old ≡ 256 }
+    requires pages { length pages.now ≡ head.now.greatest }
+    requires few { (1 ≤ head.now.greatest) × (head.now.greatest ≤ 256) }
+    ensures made { OnOk result (Known (F.state file.old) (F.state file.new) →
+        IsMade (F.state file.new).reads key.now head.now (take head.now.greatest table.new) pages.now) }
+    ensures hashed { OnOk result (HashedFrom (take head.now.greatest table.new) head.now 0) }
+    ensures root { IfOk result (λ root. root ≡ record { hash = (at_node (take head.now.greatest table.new) 1).hash; version = 0 }) }
+    ensures all { length (take head.now.greatest table.new) ≡ head.now.greatest }
+    ensures synced { OnOk result (IsSynced (F.state file.new)) }
+    ensures keeps { Keeps Nowhere (F.state file.old) (F.state file.new) }
+    ensures cause { HasCause (F.state file.old) (F.state file.new) result }
+    ensures draws { DrawCause (E.faults entropy.old) (E.faults entropy.new) result }
+    ensures reliable { E.is_reliable entropy.old → E.is_reliable entropy.new }
+    ensures drawn { E.is_reliable entropy.old → IfErr result NotEntropy }
+    ensures fault { IfErr result IsDeviceFault }
+{
+    let nodes = &mut table[..head.greatest as usize];
+    build(file, entropy, key, head, pages, nodes)?;
+    let hash = nodes[0].hash;
+    Ok(RootRef { hash, version: 0 })
+}

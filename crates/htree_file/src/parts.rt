@@ -1,0 +1,67 @@
+// Each part is written by one call of the file.
+ghost use Rattle.std.specs.Prelude.{◌≡◌, ◌<◌, ◌≤◌, IfErr, OnOk};
+ghost use Rattle.disk_model.specs.Calls.{Known};
+ghost use Rattle.disk_model.specs.Keeps.{Keeps};
+ghost use Rattle.node_image.specs.Layout.{head_bytes, node_bytes, node_of};
+ghost use Rattle.node_image.specs.Parts.{Off};
+ghost use Rattle.node_image.specs.Parts.Part.{block, head, node};
+ghost use Rattle.htree_file.specs.Answers.{HasCause, IsFailed};
+ghost use Rattle.htree_file.specs.Making.{HeadReturns};
+ghost use Rattle.htree_file.specs.Standing.{Stands};
+
+use crate::device::put;
+use crate::fault::{Page, TreeFault};
+use node_image::{Head, NodeImage, block_offset, head_offset, node_offset};
+use tee_ports::StoreFile;
+
+/// Writes the head in a version.
+pub(crate) fn write_head<F: StoreFile>(
+    file: &mut F,
+    version: u8,
+    top: &Head,
+) -> Result<(), TreeFault>
+    requires { version < 2 }
+    ensures keeps { Keeps (Off (head version)) (F.state file.old) (F.state file.new) }
+    ensures stands { OnOk result (Known (F.state file.old) (F.state file.new) →
+        Stands (F.state file.new).reads (head version) (head_bytes top.now)) }
+    ensures returns { HeadReturns top.now }
+    ensures cause { HasCause (F.state file.old) (F.state file.new) result }
+    ensures failed { IfErr result IsFailed }
+{
+    put(file, head_offset(version), &top.to_bytes())
+}
+
+/// Writes node `n` in a version.
+pub(crate) fn write_node<F: StoreFile>(
+    file: &mut F,
+    n: u32,
+    version: u8,
+    image: &NodeImage,
+) -> Result<(), TreeFault>
+    requires { (1 ≤ n) × (n ≤ 256) × (version < 2) }
+    ensures keeps { Keeps (Off (node n version)) (F.state file.old) (F.state file.new) }
+    ensures stands { OnOk result (Known (F.state file.old) (F.state file.new) →
+        Stands (F.state file.new).reads (node n version) (node_bytes image.now)) }
+    ensures returns { node_of (node_bytes image.now) ≡ image.now }
+    ensures cause { HasCause (F.state file.old) (F.state file.new) result }
+    ensures failed { IfErr result IsFailed }
+{
+    put(file, node_offset(n, version), &image.to_bytes())
+}
+
+/// Writes block `k`, a ciphertext, in a version.
+pub(crate) fn write_block<F: StoreFile>(
+    file: &mut F,
+    k: u32,
+    version: u8,
+    ciphertext: &Page,
+) -> Result<(), TreeFault>
+    requires { (k < 256) × (version < 2) }
+    ensures keeps { Keeps (Off (block k version)) (F.state file.old) (F.state file.new) }
+    ensures stands { OnOk result (Known (F.state file.old) (F.state file.new) →
+        Stands (F.state file.new).reads (block k version) ciphertext.now) }
+    ensures cause { HasCause (F.state file.old) (F.state file.new) result }
+    ensures failed { IfErr result IsFailed }
+{
+    put(file, block_offset(k, version), ciphertext)
+}

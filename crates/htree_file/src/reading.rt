@@ -1,0 +1,54 @@
+// A tree is read from a file that may hold anything.
+ghost use Rattle.std.specs.Prelude.{◌≡◌, ◌⊎◌, ◌<◌, ◌≤◌, length, take, IfErr, IfOk, IsTrue, Result};
+ghost use Rattle.disk_model.specs.Calls.{Rests};
+ghost use Rattle.node_image.specs.Layout.{is_sized};
+ghost use Rattle.node_image.specs.Selection.{bytes_at};
+ghost use Rattle.htree_file.specs.Answers.{Differs, HasCause, IsLoadFault, IsOutside};
+ghost use Rattle.htree_file.specs.Opening.{IsVerified, load_of};
+ghost use Rattle.htree_file.specs.Standing.{Told};
+
+use crate::device::read_padded;
+use crate::fault::TreeFault;
+use crate::opening::{NODES_END, read_table};
+use crate::table::need_of;
+use node_image::{Head, NodeImage, RootRef};
+use std::alloc::Global;
+use tee_ports::{NoMemory, StoreFile};
+
+fn room_for_nodes(alloc: Global) -> Result<Vec<u8>, NoMemory>
+    ensures { IfOk result (λ bytes. length bytes.items ≡ 37888) }
+{
+    vec![in alloc; 0; NODES_END]
+}
+
+/// Reads head and nodes with one read, and then the file's length. The head tells how many of the table's entries are the
+/// tree's.
+pub(crate) fn read_tree<F: StoreFile>(
+    alloc: Global,
+    file: &mut F,
+    root: RootRef,
+    nodes: &mut [NodeImage],
+) -> Result<Head, TreeFault>
+    requires version { root.version < 2 }
+    requires room { length nodes.old ≡ 256 }
+    ensures loaded { IfOk result (λ h. Told (F.state file.old) (F.state file.new) →
+        load_of (F.state file.new).reads root ≡ Result.Ok (record { head = h; nodes = take h.greatest nodes.new })) }
+    ensures verified { IfOk result (λ h. IsVerified root (record { head = h; nodes = take h.greatest nodes.new })) }
+    ensures few { IfOk result (λ h. (1 ≤ h.greatest) × (h.greatest ≤ 256)) }
+    ensures fault { IfErr result (λ e. IsOutside e ⊎ (Told (F.state file.old) (F.state file.new) →
+        load_of (F.state file.new).reads root ≡ Result.Err e)) }
+    ensures kind { IfErr result IsLoadFault }
+    ensures differs { IfErr result (λ e. IsTrue (F.state file.new).tells → Differs (F.state file.new).reads root e) }
+    ensures rests { Rests (F.state file.old) (F.state file.new) }
+    ensures cause { HasCause (F.state file.old) (F.state file.new) result }
+{
+    let mut image = room_for_nodes(alloc)?;
+    read_padded(file, 0, &mut image)?;
+    let head = read_table(&image, root, nodes)?;
+    let end = file.len()?;
+    let need = need_of(&nodes[..head.greatest as usize]);
+    if end < need {
+        return Err(TreeFault::Short { end, need });
+    }
+    Ok(head)
+}

@@ -1,0 +1,277 @@
+// A tree over a file.
+ghost use Rattle.std.specs.Prelude.{◌≡◌, ◌⊎◌, ◌+◌, ◌<◌, ◌≤◌, length, map, IfErr, IfOk, IsTrue, OnErr, OnOk, Result, Some};
+ghost use Rattle.aes_block.specs.WrappedKey.{unwrapped_of};
+ghost use Rattle.disk_model.specs.Controls.{disarmed, failure_armed, stop_armed, taint_armed};
+ghost use Rattle.disk_model.specs.Calls.{Known, Rests};
+ghost use Rattle.disk_model.specs.Keeps.{Keeps};
+ghost use Rattle.node_image.specs.Layout.{greatest_of, is_sized};
+ghost use Rattle.node_image.specs.Tables.{at_node};
+ghost use Rattle.htree_file.specs.Answers.{BlockAnswer, Differs, FaultCause, FilePassed, HasCause, IsLoadFault, IsOutside};
+ghost use Rattle.htree_file.specs.Making.{DrawFault, IsMakeFault, NotEntropy, Nowhere};
+ghost use Rattle.htree_file.specs.Opening.{IsVerified, load_of};
+ghost use Rattle.htree_file.specs.Pages.{block_in, opened_of};
+ghost use Rattle.htree_file.specs.Standing.{IsFirm, Told};
+
+use crate::device::read_padded;
+use crate::fault::{Broken, Page, TreeFault};
+use crate::making::{build_tree, draw};
+use crate::pages::open_page;
+use crate::reading::read_tree;
+use crate::table::{blank_nodes, block_version};
+use aes_block::{Aes128, unwrap_key};
+use node_image::{Head, NodeImage, RootRef, block_offset, greatest_node};
+use std::alloc::Global;
+use std::marker::Model;
+use tee_ports::{Entropy, FileRig, NoMemory, StoreFile};
+
+/// A tree that was made in a file, or loaded from one.
+///
+/// It keeps its head and nodes in memory, so that a read of a block is one call of the file and takes no memory.
+#[derive(Drop)]
+pub struct Tree<F: StoreFile> {
+    file: F,
+    // The key of the blocks.
+    key: Aes128,
+    root: RootRef,
+    head: Head,
+    // The nodes, with room for those of any tree.
+    nodes: Vec<NodeImage>,
+}
+
+impl<F: StoreFile> Model for Tree<F> {
+    ghost use Rattle.std.specs.Prelude.{◌≡◌, ◌<◌, ◌≤◌, length, take};
+    ghost use Rattle.htree_file.specs.Value.{TreeValue};
+
+    ghost Value = { TreeValue F };
+
+    ghost view = { λ t. record {
+      file = t.file;
+      key = t.key;
+      root = t.root;
+      tree = record { head = t.head; nodes = take t.head.greatest t.nodes.items };
+    } };
+
+    ghost invariant = { λ t. (length t.nodes.items ≡ 256) × (1 ≤ t.head.greatest) × (t.head.greatest ≤ 256) × (t.root.version < 2) };
+}
+
+// The head of a new tree.
+fn new_head(wrap: &[u8; 32], fek: &[u8; 16], bytes: u64) -> Head
+    requires { bytes ≤ 1048576 }
+    ensures wrapped { unwrapped_of wrap.now result.wrapped ≡ fek.now }
+    ensures length { result.length ≡ bytes }
+    ensures greatest { result.greatest ≡ greatest_of bytes }
+    ensures sized { IsTrue (is_sized result) }
+    ensures few { (1 ≤ result.greatest) × (result.greatest ≤ 256) }
+{
+    let wrapped = aes_block::wrap(wrap, fek);
+    Head {
+        wrapped,
+        length: bytes,
+        greatest: greatest_node(bytes),
+    }
+}
+
+impl<F: StoreFile> Tree<F> {
+    /// Makes a tree in a file: draws the file's key and an initialization vector for each block, writes all in version 0,
+    /// and settles it. `wrap` is the key that wraps the file's key, `bytes` is how many bytes the tree holds, and `blocks`
+    /// are its pages.
+    ///
+    /// # Errors
+    ///
+    /// `Failed` where a call of the file failed, `NoEntropy` where a draw failed, and `NoMemory`. The file then may hold
+    /// anything in version 0.
+    pub fn make<E: Entropy>(
+        alloc: Global,
+        mut file: F,
+        wrap: &[u8; 32],
+        bytes: u64,
+        blocks: &[Page],
+        entropy: &mut E,
+    ) -> Result<(Tree<F>, RootRef), Broken<F>>
+        requires bytes { bytes ≤ 1048576 }
+        requires blocks { length blocks.now ≡ greatest_of bytes }
+        ensures root { IfOk result (λ made. (made.1 ≡ made.0.root) × (made.1.version ≡ 0)) }
+        ensures loaded { IfOk result (λ made. Known (F.state file) (F.state made.0.file) →
+            load_of (F.state made.0.file).reads made.1 ≡ Result.Ok made.0.tree) }
+        ensures opened { IfOk result (λ made. Known (F.state file) (F.state made.0.file) →
+            opened_of wrap.now (F.state made.0.file).reads made.1
+            ≡ Result.Ok (record { bytes = bytes; pages = map (λ page. Some page) blocks.now })) }
+        ensures firm { IfOk result (λ made. IsTrue (F.state made.0.file).honest →
+            IsFirm (F.state made.0.file) made.1 made.0.tree) }
+        ensures verified { IfOk result (λ made. IsVerified made.1 made.0.tree) }
+        ensures few { IfOk result (λ made. (1 ≤ made.0.tree.head.greatest) × (made.0.tree.head.greatest ≤ 256)) }
+        ensures key { IfOk result (λ made. made.0.key ≡ unwrapped_of wrap.now made.0.tree.head.wrapped) }
+        ensures bytes { IfOk result (λ made. made.0.tree.head.length ≡ bytes) }
+        ensures keeps { IfOk result (λ made. Keeps Nowhere (F.state file) (F.state made.0.file)) }
+        ensures keeps_err { IfErr result (λ b. Keeps Nowhere (F.state file) (F.state b.file)) }
+        ensures fault { IfErr result (λ b. IsMakeFault b.fault) }
+        ensures passed { IfOk result (λ made. FilePassed (F.state file) (F.state made.0.file)) }
+        ensures cause { IfErr result (λ b. FaultCause (F.state file) (F.state b.file) b.fault) }
+        ensures drew { IfOk result (λ _. E.faults entropy.new ≡ E.faults entropy.old) }
+        ensures draw_cause { IfErr result (λ b. DrawFault (E.faults entropy.old) (E.faults entropy.new) b.fault) }
+        ensures reliable { E.is_reliable entropy.old → E.is_reliable entropy.new }
+        ensures drawn { E.is_reliable entropy.old → IfErr result (λ b. NotEntropy b.fault) }
+    {
+        let mut nodes = match blank_nodes(alloc) {
+            Ok(nodes) => nodes,
+            Err(_) => {
+                return Err(Broken {
+                    file,
+                    fault: TreeFault::NoMemory,
+                });
+            }
+        };
+        let fek = match draw(entropy) {
+            Ok(fek) => fek,
+            Err(fault) => return Err(Broken { file, fault }),
+        };
+        let head = new_head(wrap, &fek, bytes);
+        let key = Aes128::new(&fek);
+        match build_tree(&mut file, entropy, &key, &head, blocks, &mut nodes) {
+            Ok(root) => {
+                let tree = Tree {
+                    file,
+                    key,
+                    root,
+                    head,
+                    nodes,
+                };
+                Ok((tree, root))
+            }
+            Err(fault) => Err(Broken { file, fault }),
+        }
+    }
+
+    /// Loads the tree that a reference names in a file. `wrap` is the key that wraps the file's key.
+    ///
+    /// Head and nodes are read with one read of the file, and then its length is asked.
+    ///
+    /// # Errors
+    ///
+    /// The first that holds: `BadHead` where the head of the reference's version has not the form of one; `Damaged` where
+    /// node 1 has not the reference's hash, or a node not its own; `Short` where a selected block does not end within the
+    /// file. On a file that is neither honest nor steady, each of these says what the file reads as when the call ends.
+    /// Besides `Failed`, where a call of the file failed, and `NoMemory`.
+    pub fn load(
+        alloc: Global,
+        mut file: F,
+        wrap: &[u8; 32],
+        root: RootRef,
+    ) -> Result<Tree<F>, Broken<F>>
+        requires { root.version < 2 }
+        ensures root { IfOk result (λ t. t.root ≡ root) }
+        ensures key { IfOk result (λ t. t.key ≡ unwrapped_of wrap.now t.tree.head.wrapped) }
+        ensures loaded { IfOk result (λ t. Told (F.state file) (F.state t.file) → load_of (F.state t.file).reads root ≡ Result.Ok t.tree) }
+        ensures fault { IfErr result (λ b. IsOutside b.fault ⊎ (Told (F.state file) (F.state b.file) →
+            load_of (F.state b.file).reads root ≡ Result.Err b.fault)) }
+        // Of any file.
+        ensures kind { IfErr result (λ b. IsLoadFault b.fault) }
+        ensures verified { IfOk result (λ t. IsVerified root t.tree) }
+        ensures few { IfOk result (λ t. (1 ≤ t.tree.head.greatest) × (t.tree.head.greatest ≤ 256)) }
+        ensures differs { IfErr result (λ b. IsTrue (F.state b.file).tells → Differs (F.state b.file).reads root b.fault) }
+        ensures rests { IfOk result (λ t. Rests (F.state file) (F.state t.file)) }
+        ensures rests_err { IfErr result (λ b. Rests (F.state file) (F.state b.file)) }
+        ensures passed { IfOk result (λ t. FilePassed (F.state file) (F.state t.file)) }
+        ensures cause { IfErr result (λ b. FaultCause (F.state file) (F.state b.file) b.fault) }
+    {
+        let mut nodes = match blank_nodes(alloc) {
+            Ok(nodes) => nodes,
+            Err(_) => {
+                return Err(Broken {
+                    file,
+                    fault: TreeFault::NoMemory,
+                });
+            }
+        };
+        match read_tree(alloc, &mut file, root, &mut nodes) {
+            Ok(head) => Ok(Tree {
+                file,
+                key: Aes128::new(&unwrap_key(wrap, &head.wrapped)),
+                root,
+                head,
+                nodes,
+            }),
+            Err(fault) => Err(Broken { file, fault }),
+        }
+    }
+
+    /// Reads a block, deciphered, into the page. Blocks are numbered from 0. It is one call of the file, and takes no memory.
+    ///
+    /// # Errors
+    ///
+    /// `BadTag` where the block, as the file reads when the call ends, has not the tag that its node has for it; the page
+    /// then holds the ciphertext. Besides `Failed`, where the call of the file failed; the page may then hold anything.
+    pub fn read_block(&mut self, block: u32, into: &mut Page) -> Result<(), TreeFault>
+        requires { block < self.old.tree.head.greatest }
+        ensures answer { let tree = self.old.tree in
+            BlockAnswer self.old.key tree.head (at_node tree.nodes (block + 1)) block
+            (λ ciphertext. IsTrue (F.state self.new.file).tells → ciphertext ≡ block_in (F.state self.new.file).reads tree block)
+            result into.new }
+        ensures same { self.new ≡ record self.old { file = self.new.file } }
+        ensures rests { Rests (F.state self.old.file) (F.state self.new.file) }
+        ensures cause { HasCause (F.state self.old.file) (F.state self.new.file) result }
+    {
+        let node = self.nodes[block as usize];
+        let version = block_version(&self.nodes, block);
+        read_padded(&mut self.file, block_offset(block, version), into)?;
+        open_page(&self.key, &self.head, &node, block, into)
+    }
+
+    /// How many bytes the tree holds.
+    pub fn length(&self) -> u64
+        ensures { result ≡ self.now.tree.head.length }
+    {
+        self.head.length
+    }
+
+    /// Gives the file back.
+    pub fn into_file(self) -> F
+        ensures { result ≡ self.file }
+    {
+        let Tree {
+            file,
+            key: _,
+            root: _,
+            head: _,
+            nodes: _,
+        } = self;
+        file
+    }
+}
+
+impl<F: FileRig> Tree<F> {
+    /// Arms the file to pass this many calls, and to fail all later ones.
+    pub fn stop_after(&mut self, calls: u64)
+        ensures file { F.state self.new.file ≡ stop_armed (F.state self.old.file) calls }
+        ensures same { self.new ≡ record self.old { file = self.new.file } }
+    {
+        self.file.stop_after(calls);
+    }
+
+    /// Arms the file to fail this call, counted from 1.
+    pub fn fail_call(&mut self, call: u64) -> Result<(), NoMemory>
+        ensures armed { OnOk result (F.state self.new.file ≡ failure_armed (F.state self.old.file) call) }
+        ensures refused { OnErr result (F.state self.new.file ≡ F.state self.old.file) }
+        ensures same { self.new ≡ record self.old { file = self.new.file } }
+    {
+        self.file.fail_call(call)
+    }
+
+    /// Arms the file to have a mask laid over its bytes from a place on, before this call.
+    pub fn taint_call(&mut self, call: u64, at: u64, mask: &[u8]) -> Result<(), NoMemory>
+        ensures armed { OnOk result (F.state self.new.file ≡
+            taint_armed (F.state self.old.file) (record { call = call; at = at; mask = mask.now })) }
+        ensures refused { OnErr result (F.state self.new.file ≡ F.state self.old.file) }
+        ensures same { self.new ≡ record self.old { file = self.new.file } }
+    {
+        self.file.taint_call(call, at, mask)
+    }
+
+    /// Removes all arms of the file.
+    pub fn disarm(&mut self)
+        ensures file { F.state self.new.file ≡ disarmed (F.state self.old.file) }
+        ensures same { self.new ≡ record self.old { file = self.new.file } }
+    {
+        self.file.disarm();
+    }
+}

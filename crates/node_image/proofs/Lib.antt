@@ -1,0 +1,5 @@
+pub mod Fields
+pub mod RoundTrips
+pub mod Matching
+pub mod PartPlaces
+pub mod ImageBytes

@@ -1,0 +1,5 @@
+pub mod Layout
+pub mod Hashes
+pub mod Parts
+pub mod Tables
+pub mod Selection
