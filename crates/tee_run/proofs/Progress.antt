@@ -45,11 +45,11 @@ IsLegal-served apps objects start steps state counter numbers events h = record 
   altered = IsAlteredBack-same _ (untagged events) objects;
   events_legal = h.legal;
   doubt_left =
-    ap (λ es. option_map (λ d. d.commit) (replay (opening objects apps start) es).doubt) (events_of-untagged events)
-    ∙ ap (λ s. option_map (λ d. d.commit) s.doubt) h.stands;
+      ap (λ es. option_map (λ d. d.commit) (replay (opening objects apps start) es).doubt) (events_of-untagged events)
+      ∙ ap (λ s. option_map (λ d. d.commit) s.doubt) h.stands;
   numbered = λ session.
-    subst (λ es. numbers_of session es ≡ range_with_len 0 (length (numbers_of session es))) (sym (events_of-untagged events))
-    (h.numbered session ∙ ap (range_with_len 0) (sym (ap length (h.numbered session) ∙ length-range_with_len 0 _)));
+      subst (λ es. numbers_of session es ≡ range_with_len 0 (length (numbers_of session es))) (sym (events_of-untagged events))
+      (h.numbered session ∙ ap (range_with_len 0) (sym (ap length (h.numbered session) ∙ length-range_with_len 0 _)));
 }
 
 ServesSteps-served : (steps : List Step) (events : List Event) → steps_served events ≡ steps → ServesSteps steps events
@@ -89,8 +89,8 @@ HasStopped-text script held between new steps state counter numbers number kept 
         begins = (
           whole.2.0 ++ rest,
           script_output-from script h.done (acts_of steps) h.records more h.acts h.phases
-          ∙ ap (λ t. done ++ t) is ∙ sym (append_assoc done text rest)
-          ∙ ap (λ t. t ++ rest) whole.2.1 ∙ append_assoc whole.0 whole.2.0 rest,
+              ∙ ap (λ t. done ++ t) is ∙ sym (append_assoc done text rest)
+              ∙ ap (λ t. t ++ rest) whole.2.1 ∙ append_assoc whole.0 whole.2.0 rest,
         );
         legal = legal;
         calls = calls;
@@ -120,9 +120,9 @@ pub HasRun-control : (script : ScriptValue) (held between new : Option (List ℕ
 HasRun-control script held between new control steps state counter numbers number kept kept_new h sends =
     let text = acts_text script 0 h.done h.records in
     let same : acts_text script 0 (h.done ++ Do control ∷ []) h.records ≡ text ++ control_line control =
-      ap (acts_text script 0 (h.done ++ Do control ∷ [])) (sym (append-nil h.records))
-      ∙ acts_text-append script 0 h.done (Do control ∷ []) h.records [] h.phases
-      ∙ ap (λ t. text ++ t) (append-nil (control_line control)) in
+    ap (acts_text script 0 (h.done ++ Do control ∷ [])) (sym (append-nil h.records))
+    ∙ acts_text-append script 0 h.done (Do control ∷ []) h.records [] h.phases
+    ∙ ap (λ t. text ++ t) (append-nil (control_line control)) in
     let phases : phases_of (h.done ++ Do control ∷ []) ≡ phases_of h.done = phases_of-append h.done (Do control ∷ []) ∙ append-nil (phases_of h.done) in record {
       done = h.done ++ Do control ∷ [];
       records = h.records;
@@ -170,7 +170,7 @@ HasStopped-phase script held between new steps state new_state counter new_count
     let acts : acts_of script.steps ≡ (h.done ++ Serve front ∷ []) ++ behind = h.acts ∙ ap (λ a. h.done ++ a) (acts_of-calls steps first) ∙ sym (append_assoc h.done (Serve front ∷ []) behind) in
     HasStopped-text script held between new steps state counter numbers number kept (phase_line number (length state.objects) ++ events_text script 0 events) _ (r ∷ []) h stops
     (ap (λ a. acts_text script (0 + length h.records) a (r ∷ [])) (acts_of-calls steps first)
-      ∙ ap (λ n. phase_text script n r ++ acts_text script (n + 1) behind []) number-is)
+    ∙ ap (λ n. phase_text script n r ++ acts_text script (n + 1) behind []) number-is)
     next.legal
     (ServesPhases-script script (h.done ++ Serve front ∷ []) behind (h.records ++ r ∷ []) acts (subst (λ p. ServesPhases p (h.records ++ r ∷ [])) (sym (phases_of-append h.done (Serve front ∷ []))) next.served))
 
@@ -186,9 +186,9 @@ HasRun-phase script held between new steps state new_state counter new_counter n
     let number-is : 0 + length h.records ≡ number = omega (arith, h.counted) in
     let phases : phases_of (h.done ++ Serve front ∷ []) ≡ phases_of h.done ++ front ∷ [] = phases_of-append h.done (Serve front ∷ []) in
     let same : acts_text script 0 (h.done ++ Serve front ∷ []) (h.records ++ r ∷ []) ≡ text ++ (phase_line number (length state.objects) ++ events_text script 0 events) =
-      acts_text-append script 0 h.done (Serve front ∷ []) h.records (r ∷ []) h.phases
-      ∙ ap (λ n. text ++ (phase_text script n r ++ [])) number-is
-      ∙ ap (λ t. text ++ t) (append-nil (phase_text script number r)) in
+    acts_text-append script 0 h.done (Serve front ∷ []) h.records (r ∷ []) h.phases
+    ∙ ap (λ n. text ++ (phase_text script n r ++ [])) number-is
+    ∙ ap (λ t. text ++ t) (append-nil (phase_text script number r)) in
     let lengths : length front + length behind ≡ length steps = sym (length-append front behind) ∙ ap length (take-append-drop count steps) in
     let short : length front ≡ count = length-take-le count steps within in
     let some = prefix_len-some steps first in record {
@@ -232,7 +232,7 @@ text_of_run script held between new state counter numbers number kept h sends =
     let text = acts_text script 0 h.done h.records in
     let all = Sends-append held between new [] kept [] text [] h.sent sends in
     let output : script_output script h.records ≡ text =
-      ap (script_output script) (sym (append-nil h.records)) ∙ script_output-from script h.done [] h.records [] h.acts h.phases ∙ append-nil text in
+    ap (script_output script) (sym (append-nil h.records)) ∙ script_output-from script h.done [] h.records [] h.acts h.phases ∙ append-nil text in
     let whole : all.0 ≡ script_output script h.records = sym (append-nil all.0) ∙ sym all.2 ∙ append-nil text ∙ sym output in
     let phases : script_phases script.steps ≡ phases_of h.done = ap phases_of h.acts ∙ ap phases_of (append-nil h.done) in (
       all.0,

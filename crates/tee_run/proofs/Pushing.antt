@@ -199,7 +199,7 @@ HasServed-next apps objects start items i step state new_state counter new_count
     let this = calls i step lt in
     let short : length (take i items) ≡ i = length-take-le i items (omega arith) in
     rw more (HasServed-step apps objects start (take i items) step state new_state counter new_counter numbers new_numbers events new_events h
-      (ap is_call at ∙ this.1) (subst (IsPlaced (length apps)) (sym at) this.0) (omega arith) served)
+    (ap is_call at ∙ this.1) (subst (IsPlaced (length apps)) (sym at) this.0) (omega arith) served)
 
 pub applications-new : (apps : List (List ℕ)) → applications (map new_session apps) ≡ apps
 applications-new [] = refl

@@ -65,7 +65,14 @@ fn run_phase<'a, K: Sink>(
     let count = calls_length(steps);
     serve_phase(alloc, &steps[..count], &mut run.phase)?;
     let objects = run.phase.objects;
-    send_phase(script, run.number, objects, &run.phase.history, sink, &mut run.kept)?;
+    send_phase(
+        script,
+        run.number,
+        objects,
+        &run.phase.history,
+        sink,
+        &mut run.kept,
+    )?;
     run.number += 1;
     Ok(&steps[count..])
 }

@@ -53,7 +53,11 @@ pub fn send_phase<K: Sink>(
 }
 
 /// Sends the line of a control that is done.
-pub fn send_control<K: Sink>(control: &Control, sink: &mut K, kept: &mut Vec<u8>) -> Result<(), Status>
+pub fn send_control<K: Sink>(
+    control: &Control,
+    sink: &mut K,
+    kept: &mut Vec<u8>,
+) -> Result<(), Status>
     ensures ok { OnOk result (Sends (K.held sink.old) (K.held sink.new) kept.old.items kept.new.items (control_line control.now)) }
     ensures err { OnErr result (Stops (K.held sink.old) (K.held sink.new) kept.old.items (control_line control.now)) }
     ensures error { IfErr result (IsWriteError (Rose (K.faults sink.old) (K.faults sink.new) ⊎ K.is_full sink.new)) }

@@ -21,7 +21,7 @@ serve_phase-requires-clause-calls g c =
     let same : length sessions ≡ length (applications sessions) = sym (length-map sessions (λ session. session.application)) in
     subst (λ n. AreCalls (length sessions) (take n steps)) (sym count.length)
     (AreCalls-front (length sessions) steps (subst (λ n. n ≤ length steps) count.length count.within)
-      (subst (λ n. All (IsPlaced n) steps) (sym (same ∙ ap length h.sessions)) h.placed))
+    (subst (λ n. All (IsPlaced n) steps) (sym (same ∙ ap length h.sessions)) h.placed))
 
 pub returns-in_err-serve_phase-clause-err : goal.returns-in_err-serve_phase-clause-err
 returns-in_err-serve_phase-clause-err g c = λ held h.
@@ -47,7 +47,7 @@ returns-clause-ok g c = λ held h.
     let served = subst (λ n. HasServed (applications old.state.sessions) old.state.objects old.counter (take n steps) new.state new.counter new.numbers.items new.history.events) count.length c.in_ok-serve_phase.ensures.served in
     let sends = subst (λ n. Sends (g.K.Sink.held c.args.sink.now) (g.K.Sink.held c.send_phase.new.sink) c.args.run.now.kept.items c.send_phase.new.kept.items (phase_line number n ++ events_text script 0 new.history.events)) c.in_ok-serve_phase.ensures.objects c.in_ok-send_phase.ensures.ok in
     let run = HasRun-phase script held _ _ steps old.state new.state old.counter new.counter old.numbers.items new.numbers.items number c.args.run.now.kept.items c.send_phase.new.kept.items new.history.events c.requires.call
-      (subst (λ n. n ≤ length steps) count.length count.within) h served sends in
+    (subst (λ n. n ≤ length steps) count.length count.within) h served sends in
     let all : take (length steps - c.calls_length-count.result) (drop c.calls_length-count.result steps) ≡ drop c.calls_length-count.result steps = grind (arith, common_steps) in
     subst (λ l. HasRun script held (g.K.Sink.held c.send_phase.new.sink) l new.state new.counter new.numbers.items (number + 1) c.send_phase.new.kept.items)
     (sym (all ∙ ap (λ n. drop n steps) count.length)) run
