@@ -7,7 +7,7 @@ use Rattle.node_image.specs.declared.node.RootRef.{RootRef}
 use Rattle.node_image.specs.declared.head.Head.{Head}
 use Rattle.htree_file.specs.declared.fault.TreeFault.{TreeFault}
 use Rattle.htree_file.specs.declared.fault.TreeFault.TheVariants.{BadHead, BadTag, Damaged, Failed, NoEntropy, NoMemory, Short}
-use Rattle.htree_file.specs.Opening.{table_of}
+use Rattle.htree_file.specs.Opening.{IsVerified, Loaded, need_of, table_of}
 use Rattle.htree_file.specs.Pages.{page_of, tag_of}
 
 -- A call of the file failed: the file counted a fault, which the answer carries, and a calm file counted it for want of
@@ -49,11 +49,17 @@ IsLoadFault (BadTag k want found) = ⊥
 IsLoadFault (NoEntropy count) = ⊥
 IsLoadFault fault = Unit {0}
 
+-- the blocks of a tree that is verified under the reference end there
+pub record IsNeed (root : RootRef) (need : ℕ) : Type 0 where
+  pub tree : Loaded
+  pub verified : IsVerified root tree
+  pub is : need ≡ need_of tree.nodes (length tree.nodes)
+
 -- What a refusal to load says of any file: the value that it carries is what differs, as the file reads.
 abbrev pub Differs : List ℕ → RootRef → TreeFault → Type 0
 Differs reads root (BadHead long greatest) = table_of reads root ≡ Err (BadHead long greatest)
 Differs reads root (Damaged n want found) = table_of reads root ≡ Err (Damaged n want found)
-Differs reads root (Short end need) = (end ≡ length reads) × (end < need)
+Differs reads root (Short end need) = (end ≡ length reads) × (end < need) × IsNeed root need
 Differs reads root fault = IsOutside fault
 
 -- What reading block k answers, where these are the ciphertexts that may have been read: the page of one that has the

@@ -78,3 +78,14 @@ returns-then-end-need-clause-fault g c = inr (λ told.
     let need : need_of nodes (length nodes) ≡ c.need_of-need.result = sym c.need_of-need.ensures in
     short_is (length new.reads) (table_of new.reads c.args.root) tree table (omega (arith, c.if-end-need.true, need, end))
     ∙ (λ i. Err (Short (end i) (need i))))
+
+pub returns-then-end-need-clause-differs : goal.returns-then-end-need-clause-differs
+returns-then-end-need-clause-differs g c = λ tells. (
+  c.in_ok-end.ensures.told tells,
+  c.if-end-need.true,
+  record {
+    tree = record { head = c.in_ok-head.head; nodes = take c.in_ok-head.head.greatest c.read_table.new.nodes };
+    verified = table_verified c.deref.result.now c.args.root _ c.in_ok-head.ensures.ok;
+    is = c.need_of-need.ensures;
+  },
+)
