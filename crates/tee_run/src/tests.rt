@@ -120,6 +120,15 @@ fn push_many(
     Ok(())
 }
 
+/// So many zero bytes, in hex.
+fn zero_bytes(alloc: Global, count: u32) -> Result<String, Fail> {
+    let mut zeros = String::new(alloc);
+    for _ in 0..count {
+        zeros.push_str("00")?;
+    }
+    Ok(zeros)
+}
+
 #[test]
 fn rows_at_the_limits(rt: HostRuntime) -> Result<(), Fail> {
     let alloc = rt.alloc();
@@ -148,20 +157,15 @@ fn rows_at_the_limits(rt: HostRuntime) -> Result<(), Fail> {
     check_table(&rt, alloc, APP, table.as_str())?;
 
     // write_at_block_boundary
-    let mut zeros = String::new(alloc);
-    for _ in 0..4096 {
-        zeros.push_str("00")?;
-    }
+    let zeros = zero_bytes(alloc, 4096)?;
     let table = format!(in alloc;
         "a create 6b rw - - -> ok 0\na write 0 {zeros} -> ok\na write 0 aa -> ok\na info 0 -> ok 4097 4097 rw -\na seek 0 4095 set -> ok\na read 0 4 -> ok 00aa\n"
     )?;
     check_table(&rt, alloc, APP, table.as_str())?;
 
     // attributes of 2,049 bytes
-    let table = format!(in alloc;
-        "a create 6b r {}00 - -> BAD_PARAMETERS\n",
-        &zeros.as_str()[..4096]
-    )?;
+    let zeros = zero_bytes(alloc, 2049)?;
+    let table = format!(in alloc; "a create 6b r {zeros} - -> BAD_PARAMETERS\n")?;
     check_table(&rt, alloc, APP, table.as_str())
 }
 
