@@ -35,7 +35,8 @@ HasCause w form t (TooLong Bytes) = (form ≡ true) × (length t.taken ≡ 16777
 HasCause w form t (TooLong (Apps n)) = (form ≡ true) × WasRead w t × (script_of t.taken ≡ Err (TooManyApps n)) × (t.put ≡ [])
 HasCause w form t NoMemory = form ≡ true
 
--- where a cause holds, its status comes, or want of memory stands in its place
+-- Where the words, the length or the text decide the status, it comes, or want of memory stands in its place. A fault of the source
+-- may come before what its bytes would decide; faults of reading and writing have no line here, since `HasCause` shuts other statuses out.
 pub record IsExact (w : World) (form : Bool) (t : Trace) (status : Status) : Type 0 where
   pub usage : form ≡ false → status ≡ Usage
   pub bad_line : (line : ℕ) → form ≡ true → WasRead w t → script_of t.taken ≡ Err (BadLineFault line) → (status ≡ BadLine line) ⊎ (status ≡ NoMemory) ⊎ w.source_failed

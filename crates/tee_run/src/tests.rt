@@ -1,4 +1,4 @@
-//! The worked rows, and the ends of a run.
+//! The worked rows, and the ends of a run. Rows that are named like a script of `examples/` are that script.
 use crate::run::run;
 use crate::status::{Excess, Status};
 use std::alloc::Global;
@@ -167,6 +167,17 @@ fn rows_at_the_limits(rt: HostRuntime) -> Result<(), Fail> {
     let zeros = zero_bytes(alloc, 2049)?;
     let table = format!(in alloc; "a create 6b r {zeros} - -> BAD_PARAMETERS\n")?;
     check_table(&rt, alloc, APP, table.as_str())
+}
+
+#[test]
+fn payment_counter(rt: HostRuntime) -> Result<(), Fail> {
+    check_row(
+        &rt,
+        rt.alloc(),
+        "a create 636f756e74 rw - 00000000\nphase\na open 636f756e74 rw\na read 0 4\na seek 0 0 set\na write 0 00000001\nphase\na open 636f756e74 rw\na read 0 4\na seek 0 0 set\na write 0 00000002\na seek 0 0 set\na read 0 4\na close 1\n",
+        Status::Done,
+        "# phase 0 serial objects 0\n0 a create 636f756e74 rw - 00000000 -> ok 0\n# phase\n# phase 1 serial objects 1\n0 a open 636f756e74 rw -> ok 0\n1 a read 0 4 -> ok 00000000\n2 a seek 0 0 set -> ok\n3 a write 0 00000001 -> ok\n# phase\n# phase 2 serial objects 1\n0 a open 636f756e74 rw -> ok 0\n1 a read 0 4 -> ok 00000001\n2 a seek 0 0 set -> ok\n3 a write 0 00000002 -> ok\n4 a seek 0 0 set -> ok\n5 a read 0 4 -> ok 00000002\n6 a close 1 -> misuse BAD_HANDLE\n",
+    )
 }
 
 #[test]
