@@ -2,7 +2,8 @@
 use Rattle.std.proofs.Common.{◌≡◌, ℕ, ◌+◌, ◌/◌, ◌≤◌, max, List, true, leb, ◌==◌, arith}
 use Rattle.std.proofs.lemmas.Bool.{and_parts, eqb-true, leb-true}
 use Rattle.node_image.specs.declared.head.Head.{Head}
-use Rattle.node_image.specs.Layout.{field, greatest_of, has_form, head_of, is_sized}
+use Rattle.byte_fields.specs.Field.{field}
+use Rattle.node_image.specs.Layout.{greatest_of, has_form, head_of, is_sized}
 use Rattle.std.specs.Int.{w32, from_be_bytes}
 
 -- a form that holds is that of a head whose numbers fit

@@ -1,4 +1,3 @@
-pub mod Fields
 pub mod RoundTrips
 pub mod Matching
 pub mod PartPlaces

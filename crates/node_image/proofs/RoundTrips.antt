@@ -6,8 +6,9 @@ use Rattle.std.proofs.lemmas.List.{append-nil, drop_all}
 use Rattle.std.proofs.lemmas.Nat.{be_bytes_2, be_bytes_4, be_bytes_8, from_be_bytes-to_be_bytes_2, from_be_bytes-to_be_bytes_4, from_be_bytes-to_be_bytes_8}
 use Rattle.node_image.specs.declared.node.NodeImage.{NodeImage}
 use Rattle.node_image.specs.declared.head.Head.{Head}
-use Rattle.node_image.specs.Layout.{HasWidths, field, has_form, head_bytes, head_of, is_sized, node_bytes, node_of}
-use Rattle.node_image.proofs.Fields.{field-append-drop, field_byte, field_here, length-field, rest_after}
+use Rattle.byte_fields.specs.Field.{field}
+use Rattle.node_image.specs.Layout.{HasWidths, has_form, head_bytes, head_of, is_sized, node_bytes, node_of}
+use Rattle.byte_fields.proofs.Fields.{field-append-drop, field_byte, field_here, length-field, rest_after}
 
 -- the bytes of a node, read
 pub node_of-node_bytes : (n : NodeImage) → HasWidths n → node_of (node_bytes n) ≡ n

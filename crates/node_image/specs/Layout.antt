@@ -1,12 +1,9 @@
 -- The bytes of a node and of a head: fields one after the other, numbers big-endian.
-use Rattle.std.specs.Prelude.{◌≡◌, ℕ, ◌+◌, ◌/◌, ◌^◌, ◌<◌, max, List, [], ◌∷◌, ◌++◌, length, take, drop, Bool, ◌==◌, ◌&&◌, nat_le}
+use Rattle.std.specs.Prelude.{◌≡◌, ℕ, ◌+◌, ◌/◌, ◌^◌, ◌<◌, max, List, [], ◌∷◌, ◌++◌, length, Bool, ◌==◌, ◌&&◌, nat_le}
 use Rattle.std.specs.Int.{w16, w32, w64, from_be_bytes, to_be_bytes}
+use Rattle.byte_fields.specs.Field.{field}
 use Rattle.node_image.specs.declared.node.NodeImage.{NodeImage}
 use Rattle.node_image.specs.declared.head.Head.{Head}
-
--- the bytes of a field
-abbrev pub field : (offset width : ℕ) → List ℕ → List ℕ
-field offset width bytes = take width (drop offset bytes)
 
 -- the node that 66 bytes hold
 unfoldable pub node_of : List ℕ → NodeImage

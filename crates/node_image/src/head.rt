@@ -3,7 +3,7 @@
 ghost use Rattle.std.specs.Prelude.{◌≡◌, ◌≤◌, ◌<◌, ◌^◌, IfOk, IsTrue, IsFalse, MatchResult};
 ghost use Rattle.node_image.specs.Layout.{greatest_of, has_form, head_bytes, head_of, is_sized};
 
-use crate::bytes::{field, put};
+use byte_fields::{field, put};
 
 // The most bytes that a tree holds: 256 blocks.
 const MOST_BYTES: u64 = 1_048_576;

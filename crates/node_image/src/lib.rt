@@ -5,7 +5,6 @@
 //! Numbers are big-endian, offsets count bytes from 0.
 #![tactic(auto)]
 
-mod bytes;
 mod hashing;
 mod head;
 mod node;

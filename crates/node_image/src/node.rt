@@ -3,7 +3,7 @@
 ghost use Rattle.std.specs.Prelude.{◌≡◌};
 ghost use Rattle.node_image.specs.Layout.{node_bytes, node_of};
 
-use crate::bytes::{field, put};
+use byte_fields::{field, put};
 
 /// A node as it is stored, in 66 bytes.
 #[derive(Clone, Copy, PartialEq, Eq, Debug)]

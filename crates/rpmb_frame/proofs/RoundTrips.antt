@@ -1,12 +1,12 @@
 -- A frame and its bytes give each other back.
-use Rattle.std.proofs.Common.{◌≡◌, ℕ, ◌+◌, ◌^◌, ◌<◌, ◌≤◌, List, [], ◌++◌, length, drop, get_or, refl, sym, ap, subst, ◌∙◌, arith, inl, inr}
+use Rattle.std.proofs.Common.{◌≡◌, ℕ, ◌+◌, ◌^◌, ◌<◌, ◌≤◌, List, [], ◌++◌, length, drop, get_or, refl, sym, ap, ◌∙◌, arith}
 use Rattle.std.specs.Int.{w16, w32, from_be_bytes, to_be_bytes}
-use Rattle.std.proofs.lemmas.Bool.{cases_lt}
-use Rattle.std.proofs.lemmas.List.{append-nil, drop_all, get_or_past, get_or-drop, get_or-take}
+use Rattle.std.proofs.lemmas.List.{append-nil, drop_all}
 use Rattle.std.proofs.lemmas.Nat.{be_bytes_2, be_bytes_4, from_be_bytes-to_be_bytes_2, from_be_bytes-to_be_bytes_4}
 use Rattle.rpmb_frame.specs.declared.frame.Frame.{Frame}
-use Rattle.rpmb_frame.specs.Layout.{HasWidths, field, frame_bytes, frame_of}
-use Rattle.rpmb_frame.proofs.Fields.{field-append-drop, field_here, length-field, rest_after}
+use Rattle.byte_fields.specs.Field.{field}
+use Rattle.byte_fields.proofs.Fields.{field-append-drop, field_byte, field_here, length-field, rest_after}
+use Rattle.rpmb_frame.specs.Layout.{HasWidths, frame_bytes, frame_of}
 
 -- the bytes of a frame, parsed
 pub frame_of-frame_bytes : (f : Frame) → HasWidths f → frame_of (frame_bytes f) ≡ f
@@ -35,13 +35,6 @@ frame_of-frame_bytes f widths =
       result = number 508 f.result _ at_result widths.7 i;
       kind = number 510 f.kind [] last widths.8 i;
     }
-
--- a byte of a field is a byte of the frame
-field_byte : (bytes : List ℕ) (n k : ℕ) → n + k ≤ length bytes → ((i : ℕ) → get_or bytes i 0 < 256) → (i : ℕ) → get_or (field n k bytes) i 0 < 256
-field_byte bytes n k fits low i = elim (cases_lt i k) [
-  | inl lt ↦ subst (λ x. x < 256) (sym (get_or-take k (drop n bytes) i 0 lt ∙ get_or-drop n bytes i 0)) (low (n + i))
-  | inr ge ↦ subst (λ x. x < 256) (sym (get_or_past (field n k bytes) i 0 (omega (arith, length-field bytes n k fits)))) (omega arith)
-]
 
 -- the fields of a frame, written
 pub frame_bytes-frame_of : (bytes : List ℕ) → length bytes ≡ 512 → ((i : ℕ) → get_or bytes i 0 < 256) → frame_bytes (frame_of bytes) ≡ bytes

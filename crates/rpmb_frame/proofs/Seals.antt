@@ -3,7 +3,7 @@ use Rattle.std.proofs.Common.{◌≡◌, ℕ, ◌≤◌, List, ◌++◌, length,
 use Rattle.std.proofs.lemmas.List.{drop_at, length-take-le}
 use Rattle.hmac_keys.specs.Hmac.{hmac}
 use Rattle.rpmb_frame.specs.Authentication.{IsAuthentic, mac_of, sealed}
-use Rattle.rpmb_frame.proofs.Fields.{field_here, rest_after}
+use Rattle.byte_fields.proofs.Fields.{field_here, rest_after}
 
 -- the MAC and what follows it in a sealed frame
 drop-sealed : (key bytes : List ℕ) → 196 ≤ length bytes → drop 196 (sealed key bytes) ≡ mac_of key bytes ++ drop 228 bytes

@@ -2,7 +2,7 @@
 -- the block, the nonce and all that follows. The MAC is bytes 196 to 227.
 use Rattle.std.specs.Prelude.{◌≡◌, ℕ, List, ◌++◌, take, drop}
 use Rattle.hmac_keys.specs.Hmac.{hmac}
-use Rattle.rpmb_frame.specs.Layout.{field}
+use Rattle.byte_fields.specs.Field.{field}
 
 -- the MAC of a frame under a key
 unfoldable pub mac_of : (key bytes : List ℕ) → List ℕ

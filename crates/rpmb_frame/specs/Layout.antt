@@ -1,12 +1,9 @@
 -- The data frame of the replay-protected memory block (JESD84-B51, 6.6.22): 512 bytes, numbers
 -- big-endian, each field at its offset.
-use Rattle.std.specs.Prelude.{◌≡◌, ℕ, ◌^◌, ◌<◌, List, ◌++◌, length, take, drop}
+use Rattle.std.specs.Prelude.{◌≡◌, ℕ, ◌^◌, ◌<◌, List, ◌++◌, length}
 use Rattle.std.specs.Int.{w16, w32, from_be_bytes, to_be_bytes}
+use Rattle.byte_fields.specs.Field.{field}
 use Rattle.rpmb_frame.specs.declared.frame.Frame.{Frame}
-
--- the bytes of a field
-abbrev pub field : (offset width : ℕ) → List ℕ → List ℕ
-field offset width bytes = take width (drop offset bytes)
 
 -- the frame that 512 bytes hold
 unfoldable pub frame_of : List ℕ → Frame

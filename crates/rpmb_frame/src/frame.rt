@@ -3,7 +3,7 @@
 ghost use Rattle.std.specs.Prelude.{◌≡◌};
 ghost use Rattle.rpmb_frame.specs.Layout.{frame_bytes, frame_of};
 
-use crate::bytes::{field, put};
+use byte_fields::{field, put};
 
 /// The fields of a frame, in their order in its 512 bytes.
 #[derive(Clone, Copy, PartialEq, Eq, Debug)]
@@ -55,16 +55,18 @@ impl Frame {
         // Parsed, they are the fields again.
         ensures parsed { frame_of result ≡ self.now }
     {
+        let (counter, address, count) = (self.counter, self.address, self.count);
+        let (result, kind) = (self.result, self.kind);
         let mut bytes = [0; 512];
         put(&mut bytes, 0, &self.stuff);
         put(&mut bytes, 196, &self.key_or_mac);
         put(&mut bytes, 228, &self.block);
         put(&mut bytes, 484, &self.nonce);
-        put(&mut bytes, 500, &self.counter.to_be_bytes());
-        put(&mut bytes, 504, &self.address.to_be_bytes());
-        put(&mut bytes, 506, &self.count.to_be_bytes());
-        put(&mut bytes, 508, &self.result.to_be_bytes());
-        put(&mut bytes, 510, &self.kind.to_be_bytes());
+        put(&mut bytes, 500, &counter.to_be_bytes());
+        put(&mut bytes, 504, &address.to_be_bytes());
+        put(&mut bytes, 506, &count.to_be_bytes());
+        put(&mut bytes, 508, &result.to_be_bytes());
+        put(&mut bytes, 510, &kind.to_be_bytes());
         bytes
     }
 }

@@ -9,12 +9,11 @@ ghost use Rattle.std.specs.Prelude.{◌≡◌, MatchResult};
 ghost use Rattle.tee_types.specs.declared.reply.FrameFault.TheVariants.{Mac};
 ghost use Rattle.rpmb_frame.specs.Authentication.{IsAuthentic, carried_mac, mac_of, sealed};
 
-use bytes::{field, put};
+use byte_fields::{field, put};
 pub use frame::Frame;
 use hmac_keys::hmac;
 use tee_types::FrameFault;
 
-mod bytes;
 mod frame;
 #[cfg(test)]
 mod tests;

@@ -7,7 +7,7 @@ use Rattle.hmac_keys.specs.Hmac.{hmac}
 use Rattle.rpmb_frame.specs.declared.frame.Frame.{Frame}
 use Rattle.rpmb_frame.specs.Layout.{HasWidths, frame_bytes, frame_of}
 use Rattle.rpmb_frame.specs.Authentication.{IsAuthentic, mac_of, sealed}
-use Rattle.rpmb_frame.proofs.Fields.{rest_after}
+use Rattle.byte_fields.proofs.Fields.{rest_after}
 use Rattle.rpmb_frame.proofs.RoundTrips.{frame_of-frame_bytes}
 use Rattle.rpmb_frame.proofs.Seals.{IsAuthentic-sealed}
 use Rattle.rpmb_card.specs.EmptyFrame.{empty_frame}

@@ -1,7 +1,8 @@
 use Rattle.std.proofs.Common.{◌≡◌, inl, inr, ◌==◌, ◌&&◌, ℕ, List, Bool, sym, ap, ◌∙◌}
 use Rattle.std.proofs.lemmas.Bool.{ne_eqb}
 use Rattle.std.specs.Int.{w32, w64, from_be_bytes}
-use Rattle.node_image.specs.Layout.{field, has_form, head_bytes, head_of, is_sized}
+use Rattle.byte_fields.specs.Field.{field}
+use Rattle.node_image.specs.Layout.{has_form, head_bytes, head_of, is_sized}
 use Rattle.node_image.specs.declared.head.Head.{Head}
 use Rattle.node_image.proofs.RoundTrips.{head_bytes-head_of}
 use Rattle.node_image.proofs.head.Head.from_bytes.Goals as goal

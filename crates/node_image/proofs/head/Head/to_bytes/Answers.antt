@@ -2,7 +2,7 @@ use Rattle.std.proofs.Common.{◌≡◌, ◌∷◌, [], ◌++◌, length, take, 
 use Rattle.std.proofs.lemmas.List.{append-nil, take_all}
 use Rattle.node_image.specs.declared.head.Head.{Head}
 use Rattle.node_image.specs.Layout.{has_form, head_bytes, head_of}
-use Rattle.node_image.proofs.Fields.{take-first, take-put}
+use Rattle.byte_fields.proofs.Fields.{take-first, take-put}
 use Rattle.node_image.proofs.RoundTrips.{has_form-head_bytes, head_of-head_bytes}
 use Rattle.node_image.proofs.head.Head.to_bytes.Goals as goal
 

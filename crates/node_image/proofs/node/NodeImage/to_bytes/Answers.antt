@@ -2,7 +2,7 @@ use Rattle.std.proofs.Common.{◌≡◌, [], ◌++◌, length, take, sym, ap, �
 use Rattle.std.proofs.lemmas.List.{append-nil, take_all}
 use Rattle.node_image.specs.declared.node.NodeImage.{NodeImage}
 use Rattle.node_image.specs.Layout.{HasWidths, node_bytes, node_of}
-use Rattle.node_image.proofs.Fields.{take-first, take-put}
+use Rattle.byte_fields.proofs.Fields.{take-first, take-put}
 use Rattle.node_image.proofs.RoundTrips.{node_of-node_bytes}
 use Rattle.node_image.proofs.node.NodeImage.to_bytes.Goals as goal
 

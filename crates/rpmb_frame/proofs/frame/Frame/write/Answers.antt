@@ -2,7 +2,7 @@ use Rattle.std.proofs.Common.{◌≡◌, [], ◌++◌, length, take, sym, ap, �
 use Rattle.std.proofs.lemmas.List.{append-nil, take_all}
 use Rattle.rpmb_frame.specs.declared.frame.Frame.{Frame}
 use Rattle.rpmb_frame.specs.Layout.{HasWidths, frame_bytes, frame_of}
-use Rattle.rpmb_frame.proofs.Fields.{take-first, take-put}
+use Rattle.byte_fields.proofs.Fields.{take-first, take-put}
 use Rattle.rpmb_frame.proofs.RoundTrips.{frame_of-frame_bytes}
 use Rattle.rpmb_frame.proofs.frame.Frame.write.Goals as goal
 

@@ -1,7 +1,8 @@
--- Fields and their places among the bytes of a frame.
-use Rattle.std.proofs.Common.{◌≡◌, ℕ, ◌+◌, ◌≤◌, List, ◌++◌, length, take, drop, sym, ap, ◌∙◌, arith, length-drop}
-use Rattle.std.proofs.lemmas.List.{append_assoc, drop-drop, drop_at, length-take-le, length-append, take-append-drop, take_at}
-use Rattle.rpmb_frame.specs.Layout.{field}
+-- Fields and their places among bytes.
+use Rattle.std.proofs.Common.{◌≡◌, ℕ, ◌+◌, ◌<◌, ◌≤◌, List, ◌++◌, length, get_or, take, drop, sym, ap, subst, ◌∙◌, inl, inr, arith, length-drop}
+use Rattle.std.proofs.lemmas.Bool.{cases_lt}
+use Rattle.std.proofs.lemmas.List.{append_assoc, drop-drop, drop_at, length-take-le, length-append, take-append-drop, take_at, get_or_past, get_or-drop, get_or-take}
+use Rattle.byte_fields.specs.Field.{field}
 
 -- the field that stands at an offset
 pub field_here : (bytes f rest : List ℕ) (n k : ℕ) → drop n bytes ≡ f ++ rest → length f ≡ k → field n k bytes ≡ f
@@ -22,6 +23,13 @@ field-append-drop bytes n k m all =
 
 pub length-field : (bytes : List ℕ) (n k : ℕ) → n + k ≤ length bytes → length (field n k bytes) ≡ k
 length-field bytes n k fits = length-take-le k (drop n bytes) (omega (arith, length-drop n bytes))
+
+-- a byte of a field is a byte of the whole
+pub field_byte : (bytes : List ℕ) (n k : ℕ) → n + k ≤ length bytes → ((i : ℕ) → get_or bytes i 0 < 256) → (i : ℕ) → get_or (field n k bytes) i 0 < 256
+field_byte bytes n k fits low i = elim (cases_lt i k) [
+  | inl lt ↦ subst (λ x. x < 256) (sym (get_or-take k (drop n bytes) i 0 lt ∙ get_or-drop n bytes i 0)) (low (n + i))
+  | inr ge ↦ subst (λ x. x < 256) (sym (get_or_past (field n k bytes) i 0 (omega (arith, length-field bytes n k fits)))) (omega arith)
+]
 
 -- the bytes up to the end of a field that was put at the offset n
 pub take-put : (before after f tail : List ℕ) (n m : ℕ) → after ≡ take n before ++ (f ++ drop (n + length f) before)
