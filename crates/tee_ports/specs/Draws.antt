@@ -1,5 +1,6 @@
 -- A generator in memory, as contracts see it.
-use Rattle.std.specs.Prelude.{◌≡◌, ℕ, List, All, Result, Ok, Err}
+use Rattle.std.specs.Prelude.{◌≡◌, ℕ, List, ◌++◌, All, Result, Ok, Err}
+use Rattle.std.specs.Int.{w64, to_le_bytes}
 use Rattle.tee_ports.specs.declared.failed.Failed.{Failed}
 use Rattle.disk_model.specs.Faults.{next_count}
 
@@ -18,3 +19,8 @@ NeverFails s = All (λ call. call ≡ 0) s.failing
 abbrev pub draw_after : {A : Type 0} → DrawState → Result A Failed → DrawState
 draw_after s (Ok drawn) = record s { calls = next_count s.calls }
 draw_after s (Err e) = record s { calls = next_count s.calls; faults = next_count s.faults }
+
+-- The bytes that the next call of `draw` gives where it does not fail: the number of that call, and the generator's own
+-- number, each in 8 bytes, the least first.
+abbrev pub drawn_of : DrawState → List ℕ
+drawn_of s = to_le_bytes w64 (next_count s.calls) ++ to_le_bytes w64 s.number

@@ -1,13 +1,15 @@
 // A generator for tests.
-ghost use Rattle.std.specs.Prelude.{◌≡◌, IsTrue, ◌↔◌, ◌<◌, ◌≤◌, ◌^◌, IsOk, IsErr, IfErr, OnErr, Contains};
+ghost use Rattle.std.specs.Prelude.{◌≡◌, IsTrue, ◌↔◌, ◌<◌, ◌≤◌, ◌^◌, IsOk, IsErr, IfErr, OnOk, OnErr, Contains};
 ghost use Rattle.tee_ports.specs.Faults.{next_count};
-ghost use Rattle.tee_ports.specs.Draws.{NeverFails, draw_after};
+ghost use Rattle.tee_ports.specs.Draws.{NeverFails, draw_after, drawn_of};
 
 use crate::failed::count_fault;
 use crate::{Entropy, Failed};
 use std::marker::Model;
 
-/// A generator for tests, with chosen calls that fail. It draws no random bytes, but the numbers of its calls.
+/// A generator for tests, with chosen calls that fail.
+///
+/// It draws no random bytes, but in 8 bytes the number of the call and in 8 its own, each with the least byte first.
 ///
 /// Calls of `draw` are counted from 1, up to `u64::MAX`, where the count stands still.
 #[derive(Drop)]
@@ -46,8 +48,9 @@ impl Entropy for ListEntropy {
     ghost faults = { λ e. e.faults };
 
     fn draw(&mut self, into: &mut [u8; 16]) -> Result<(), Failed>
-        // Which calls fail, and what each call leaves.
+        // Which calls fail, which bytes the others give, and what each call leaves.
         ensures fails { IsErr result ↔ Contains self.old.failing (next_count self.old.calls) }
+        ensures drawn { OnOk result (into.new ≡ drawn_of self.old) }
         ensures after { self.new ≡ draw_after self.old result }
 
         // As every generator.
@@ -61,7 +64,9 @@ impl Entropy for ListEntropy {
         if is_among(&self.failing, self.calls) {
             return Err(count_fault(&mut self.faults));
         }
-        *into = (u128::from(self.number) << 64 | u128::from(self.calls)).to_le_bytes();
+        let (call, number) = (self.calls, self.number);
+        into[..8].copy_from_slice(&call.to_le_bytes());
+        into[8..].copy_from_slice(&number.to_le_bytes());
         Ok(())
     }
 

@@ -1,6 +1,8 @@
 ghost use Rattle.std.specs.Prelude.{◌≤◌, IfOk};
 
-use crate::{Failed, MemSink, MemSource, Sink, Source, StdSink, StdSource};
+use crate::{
+    Entropy, Failed, Image, ListEntropy, MemSink, MemSource, Sink, Source, StdSink, StdSource,
+};
 use std::io;
 use std::io::{ErrorKind, Read, Write};
 use std::test::Fail;
@@ -41,6 +43,45 @@ fn a_sink_in_memory_holds_what_it_has_room_for(rt: HostRuntime) -> Result<(), Fa
     let mut no_room = MemSink::new(rt.alloc(), 0, &[])?;
     assert_eq!(rt; put_to(&mut no_room, b"a"), Ok(0));
     assert_eq!(rt; no_room.bytes(), b"".as_slice());
+    Ok(())
+}
+
+fn draw_of<E: Entropy>(entropy: &mut E) -> Result<[u8; 16], Failed> {
+    let mut into = [9; 16];
+    entropy.draw(&mut into)?;
+    Ok(into)
+}
+
+fn stream_of<E: Entropy>(entropy: &E) -> E {
+    entropy.stream(258)
+}
+
+#[test]
+fn a_generator_for_tests_draws_its_calls_and_fails_where_it_is_told_to(rt: HostRuntime) {
+    let mut failing = [0; 16];
+    failing[15] = 2;
+    let mut entropy = ListEntropy::new(failing);
+    assert_eq!(rt;
+        draw_of(&mut entropy),
+        Ok([1, 0, 0, 0, 0, 0, 0, 0, 0, 0, 0, 0, 0, 0, 0, 0])
+    );
+    assert_eq!(rt; draw_of(&mut entropy), Err(Failed { count: 1 }));
+    let mut stream = stream_of(&entropy);
+    assert_eq!(rt;
+        draw_of(&mut stream),
+        Ok([1, 0, 0, 0, 0, 0, 0, 0, 2, 1, 0, 0, 0, 0, 0, 0])
+    );
+    assert_eq!(rt;
+        draw_of(&mut entropy),
+        Ok([3, 0, 0, 0, 0, 0, 0, 0, 0, 0, 0, 0, 0, 0, 0, 0])
+    );
+}
+
+#[test]
+fn an_image_gives_its_bytes_back(rt: HostRuntime) -> Result<(), Fail> {
+    let image = Image::from_vec(vec![in rt.alloc(); 1, 2, 3]?);
+    assert_eq!(rt; image.bytes(), [1, 2, 3].as_slice());
+    assert_eq!(rt; image.into_vec().as_slice(), [1, 2, 3].as_slice());
     Ok(())
 }
 
