@@ -189,7 +189,7 @@ impl Content {
         ensures err { OnErr result (held self.new ≡ held self.old) }
     {
         let bytes = image.to_vec(alloc)?;
-        self.rename(bytes);
+        self.take_over(bytes);
         Ok(())
     }
 
@@ -200,11 +200,12 @@ impl Content {
         ensures err { OnErr result (held self.new ≡ held self.old) }
     {
         let image = image_of(alloc, self.settled(), &self.bytes, seed, file)?;
-        self.rename(image);
+        self.take_over(image);
         Ok(())
     }
 
-    fn rename(&mut self, bytes: Vec<u8>)
+    // Makes these the settled bytes of an honest file, without a copy.
+    fn take_over(&mut self, bytes: Vec<u8>)
         ensures { held self.new ≡ held_anew bytes.items }
     {
         self.bytes = bytes;
