@@ -3,11 +3,11 @@ use crate::{
     print_phase,
 };
 use std::alloc::Global;
+use std::process::Abort;
 use std::test::Fail;
 use store_model::{Event, Mark};
 use tee_types::{
-    Bytes, Call, Cause, Code, Device, Flags, FrameFault, NoMemory, OVERWRITE, ObjectId, READ,
-    Reason, Reply, SHARE_READ, SHARE_WRITE, WRITE, WRITE_META, Whence,
+    Bytes, Call, Cause, Code, Device, Flags, FrameFault, NoMemory, ObjectId, READ, Reason, Reply,
 };
 
 const APPLICATION: &[u8] = b"app a 00000000-0000-0000-0000-000000000001\n";
@@ -38,69 +38,46 @@ fn call_of(step: Option<&Step>) -> Option<(u32, &Call)> {
     }
 }
 
+/// The lines that are printed of the calls of a script, each answered `ok`.
+fn printed(alloc: Global, script: &Script) -> Result<Vec<u8>, NoMemory> {
+    let mut out = Vec::new(alloc);
+    for (place, step) in script.all_steps().iter().enumerate() {
+        if let Some((session, call)) = call_of(Some(step)) {
+            let event = Event::Call {
+                session,
+                number: 0,
+                call: call.copy(alloc)?,
+                reply: Reply::Done,
+                mark: Mark::Unchanged,
+            };
+            print_event(place as u64, script, &event, &mut out)?;
+        }
+    }
+    Ok(out)
+}
+
+/// Each call line, with more than one form of some words.
+const CALLS: &[u8] =
+    b"a create 6Bff rwmRWo - 00aB\na open 6bff 0x408\na open 6bff Rr\na open 6bff -\na close 012\n\
+a read 0 4294967295\na write 1 aA\na truncate 2 10\na seek 3 -9 cur\na seek 3 +7 set\na seek 3 -0 end\na rename 4 6C\n\
+a delete 5\na info 6\na enum\na start 1\na next 2\na reset 3\na free 4";
+
+/// Their lines, as they are printed.
+const PRINTED: &[u8] =
+    b"0 a create 6bff rwmRWo - 00ab -> ok\n1 a open 6bff 0x00000408 -> ok\n2 a open 6bff rR -> ok\n\
+3 a open 6bff - -> ok\n4 a close 12 -> ok\n5 a read 0 4294967295 -> ok\n6 a write 1 aa -> ok\n7 a truncate 2 10 -> ok\n\
+8 a seek 3 -9 cur -> ok\n9 a seek 3 7 set -> ok\n10 a seek 3 0 end -> ok\n11 a rename 4 6c -> ok\n12 a delete 5 -> ok\n\
+13 a info 6 -> ok\n14 a enum -> ok\n15 a start 1 -> ok\n16 a next 2 -> ok\n17 a reset 3 -> ok\n18 a free 4 -> ok\n";
+
 #[test]
-fn each_call_line_is_read(rt: HostRuntime) -> Result<(), Fail> {
-    let lines =
-        b"a create 6b r 00 -\na open 6B rRo\na close 0\na read 0 4\na write 1 aA\na truncate 2 10\n\
-a seek 0 -9 cur\na rename 3 6c\na delete 4\na info 5\na enum\na start 6\na next 7\na reset 8\na free 9";
-    let id = ObjectId::new(b"k").unwrap();
-    let wanted = [
-        Call::Create {
-            id,
-            flags: Flags { bits: READ },
-            attributes: Bytes::from_slice(rt.alloc(), &[0])?,
-            bytes: Bytes::empty(rt.alloc()),
-        },
-        Call::Open {
-            id,
-            flags: Flags {
-                bits: READ | SHARE_READ | OVERWRITE,
-            },
-        },
-        Call::Close { handle: 0 },
-        Call::Read { handle: 0, size: 4 },
-        Call::Write {
-            handle: 1,
-            bytes: Bytes::from_slice(rt.alloc(), &[0xaa])?,
-        },
-        Call::Truncate {
-            handle: 2,
-            size: 10,
-        },
-        Call::Seek {
-            handle: 0,
-            offset: -9,
-            whence: Whence::Cur,
-        },
-        Call::Rename {
-            handle: 3,
-            id: ObjectId::new(b"l").unwrap(),
-        },
-        Call::Delete { handle: 4 },
-        Call::Info { handle: 5 },
-        Call::EnumNew,
-        Call::EnumStart { number: 6 },
-        Call::EnumNext { number: 7 },
-        Call::EnumReset { number: 8 },
-        Call::EnumFree { number: 9 },
-    ];
-    let Ok(script) = with_lines(rt.alloc(), lines)? else {
+fn each_call_is_read_and_printed(rt: HostRuntime) -> Result<(), Fail> {
+    let Ok(script) = with_lines(rt.alloc(), CALLS)? else {
         assert!(rt; false, "a line is refused");
         return Ok(());
     };
-    assert_eq!(rt; script.steps(), 15);
-    assert!(rt; script.step(15).is_none());
-    for (place, wanted) in wanted.iter().enumerate() {
-        let Some((app, call)) = call_of(script.step(place as u64)) else {
-            assert!(rt; false, "no call {place}");
-            return Ok(());
-        };
-        assert_eq!(rt; app, 0);
-        assert_eq!(rt;
-            format!(in rt.alloc(); "{call:?}")?,
-            format!(in rt.alloc(); "{wanted:?}")?
-        );
-    }
+    assert_eq!(rt; script.steps(), 19);
+    assert!(rt; script.step(19).is_none());
+    assert_eq!(rt; printed(rt.alloc(), &script)?.as_slice(), PRINTED);
     Ok(())
 }
 
@@ -188,213 +165,124 @@ fn a_seventeenth_application_is_too_many(rt: HostRuntime) -> Result<(), Fail> {
     Ok(())
 }
 
-/// The line that is printed of this call and reply, of the application `a` at place 7.
-fn line(alloc: Global, names: &Script, call: Call, reply: Reply) -> Result<Vec<u8>, NoMemory> {
+/// Compares what is printed of this reply, behind the arrow.
+fn check_reply(
+    rt: &impl Abort,
+    alloc: Global,
+    names: &Script,
+    reply: Reply,
+    wanted: &str,
+) -> Result<(), NoMemory> {
     let event = Event::Call {
         session: 0,
         number: 7,
-        call,
+        call: Call::EnumNew,
         reply,
         mark: Mark::Unchanged,
     };
     let mut out = Vec::new(alloc);
     print_event(7, names, &event, &mut out)?;
-    Ok(out)
-}
-
-#[test]
-fn each_call_is_printed(rt: HostRuntime) -> Result<(), Fail> {
-    let Ok(names) = with_lines(rt.alloc(), b"")? else {
-        assert!(rt; false, "a line is refused");
-        return Ok(());
-    };
-    let id = ObjectId::new(&[0x6b, 0xff]).unwrap();
-    let every = READ | WRITE | WRITE_META | SHARE_READ | SHARE_WRITE | OVERWRITE;
-    let calls = [
-        (
-            Call::Create {
-                id,
-                flags: Flags { bits: every },
-                attributes: Bytes::empty(rt.alloc()),
-                bytes: Bytes::from_slice(rt.alloc(), &[0, 0xab])?,
-            },
-            b"7 a create 6bff rwmRWo - 00ab -> ok\n".as_slice(),
-        ),
-        (
-            Call::Open {
-                id,
-                flags: Flags { bits: 0x408 },
-            },
-            b"7 a open 6bff 0x00000408 -> ok\n",
-        ),
-        (
-            Call::Open {
-                id,
-                flags: Flags { bits: 0 },
-            },
-            b"7 a open 6bff - -> ok\n",
-        ),
-        (Call::Close { handle: 12 }, b"7 a close 12 -> ok\n"),
-        (
-            Call::Read {
-                handle: 0,
-                size: 4_294_967_295,
-            },
-            b"7 a read 0 4294967295 -> ok\n",
-        ),
-        (
-            Call::Write {
-                handle: 1,
-                bytes: Bytes::from_slice(rt.alloc(), &[0xaa])?,
-            },
-            b"7 a write 1 aa -> ok\n",
-        ),
-        (
-            Call::Truncate {
-                handle: 2,
-                size: 10,
-            },
-            b"7 a truncate 2 10 -> ok\n",
-        ),
-        (
-            Call::Seek {
-                handle: 3,
-                offset: -9,
-                whence: Whence::Cur,
-            },
-            b"7 a seek 3 -9 cur -> ok\n",
-        ),
-        (
-            Call::Seek {
-                handle: 3,
-                offset: 0,
-                whence: Whence::End,
-            },
-            b"7 a seek 3 0 end -> ok\n",
-        ),
-        (Call::Rename { handle: 4, id }, b"7 a rename 4 6bff -> ok\n"),
-        (Call::Delete { handle: 5 }, b"7 a delete 5 -> ok\n"),
-        (Call::Info { handle: 6 }, b"7 a info 6 -> ok\n"),
-        (Call::EnumNew, b"7 a enum -> ok\n"),
-        (Call::EnumStart { number: 1 }, b"7 a start 1 -> ok\n"),
-        (Call::EnumNext { number: 2 }, b"7 a next 2 -> ok\n"),
-        (Call::EnumReset { number: 3 }, b"7 a reset 3 -> ok\n"),
-        (Call::EnumFree { number: 4 }, b"7 a free 4 -> ok\n"),
-    ];
-    for (call, wanted) in calls {
-        let found = line(rt.alloc(), &names, call, Reply::Done)?;
-        assert_eq!(rt; found.as_slice(), wanted);
-    }
+    let line = format!(in alloc; "7 a enum -> {wanted}\n")?;
+    assert_eq!(rt; out.as_slice(), line.as_bytes());
     Ok(())
 }
 
 #[test]
-fn each_reply_is_printed(rt: HostRuntime) -> Result<(), Fail> {
-    let Ok(names) = with_lines(rt.alloc(), b"")? else {
+fn replies_with_values_are_printed(rt: HostRuntime) -> Result<(), Fail> {
+    let alloc = rt.alloc();
+    let Ok(names) = with_lines(alloc, b"")? else {
         assert!(rt; false, "a line is refused");
         return Ok(());
     };
-    let fault = |device, count| Reply::NotAvailable(Cause::Fault { device, count });
-    let replies = [
-        (Reply::Done, b"7 a close 0 -> ok\n".as_slice()),
-        (Reply::Handle(5), b"7 a close 0 -> ok 5\n"),
-        (
-            Reply::Content(Bytes::from_slice(rt.alloc(), &[0xaf])?),
-            b"7 a close 0 -> ok af\n",
-        ),
-        (
-            Reply::Content(Bytes::empty(rt.alloc())),
-            b"7 a close 0 -> ok -\n",
-        ),
-        (
-            Reply::Info {
-                size: 32,
-                position: 4,
-                flags: Flags { bits: READ },
-                attributes: Bytes::from_slice(rt.alloc(), &[0xa0])?,
-            },
-            b"7 a close 0 -> ok 32 4 r a0\n",
-        ),
-        (
-            Reply::Found {
-                id: ObjectId::new(b"m").unwrap(),
-                size: 3,
-            },
-            b"7 a close 0 -> ok 6d 3\n",
-        ),
-        (
-            Reply::Refused(Code::AccessConflict),
-            b"7 a close 0 -> ACCESS_CONFLICT\n",
-        ),
-        (
-            Reply::Refused(Code::BadParameters),
-            b"7 a close 0 -> BAD_PARAMETERS\n",
-        ),
-        (
-            Reply::Refused(Code::ItemNotFound),
-            b"7 a close 0 -> ITEM_NOT_FOUND\n",
-        ),
-        (Reply::Refused(Code::Overflow), b"7 a close 0 -> OVERFLOW\n"),
-        (
-            Reply::Refused(Code::NoSpace),
-            b"7 a close 0 -> STORAGE_NO_SPACE\n",
-        ),
-        (
-            Reply::Misuse(Reason::BadHandle),
-            b"7 a close 0 -> misuse BAD_HANDLE\n",
-        ),
-        (
-            Reply::Misuse(Reason::BadEnumerator),
-            b"7 a close 0 -> misuse BAD_ENUMERATOR\n",
-        ),
-        (
-            Reply::Misuse(Reason::BadFlags),
-            b"7 a close 0 -> misuse BAD_FLAGS\n",
-        ),
-        (
-            Reply::Misuse(Reason::NoRight),
-            b"7 a close 0 -> misuse NO_RIGHT\n",
-        ),
-        (
-            Reply::Misuse(Reason::TooMany),
-            b"7 a close 0 -> misuse TOO_MANY\n",
-        ),
-        (Reply::Corrupt, b"7 a close 0 -> CORRUPT_OBJECT\n"),
-        (
-            fault(Device::Dir, 1),
-            b"7 a close 0 -> STORAGE_NOT_AVAILABLE dir 1\n",
-        ),
-        (
-            fault(Device::File(3), 2),
-            b"7 a close 0 -> STORAGE_NOT_AVAILABLE file 3 2\n",
-        ),
-        (
-            fault(Device::Card, 3),
-            b"7 a close 0 -> STORAGE_NOT_AVAILABLE card 3\n",
-        ),
-        (
-            fault(Device::Entropy, 4),
-            b"7 a close 0 -> STORAGE_NOT_AVAILABLE entropy 4\n",
-        ),
-        (
-            Reply::NotAvailable(Cause::Frame(FrameFault::Kind { want: 1, found: 2 })),
-            b"7 a close 0 -> STORAGE_NOT_AVAILABLE frame\n",
-        ),
-        (
-            Reply::NotAvailable(Cause::CardResult(0x85)),
-            b"7 a close 0 -> STORAGE_NOT_AVAILABLE result 0x0085\n",
-        ),
-        (Reply::InDoubt(3), b"7 a close 0 -> in-doubt 3\n"),
-        (
-            Reply::CounterSpent(4_294_967_295),
-            b"7 a close 0 -> counter-spent 4294967295\n",
-        ),
-        (Reply::NoMemory, b"7 a close 0 -> no-memory\n"),
+    let content = Reply::Content(Bytes::from_slice(alloc, &[0xaf])?);
+    let info = Reply::Info {
+        size: 32,
+        position: 4,
+        flags: Flags { bits: READ },
+        attributes: Bytes::from_slice(alloc, &[0xa0])?,
+    };
+    let id = ObjectId::new(b"m").unwrap();
+    check_reply(&rt, alloc, &names, Reply::Handle(5), "ok 5")?;
+    check_reply(&rt, alloc, &names, content, "ok af")?;
+    check_reply(
+        &rt,
+        alloc,
+        &names,
+        Reply::Content(Bytes::empty(alloc)),
+        "ok -",
+    )?;
+    check_reply(&rt, alloc, &names, info, "ok 32 4 r a0")?;
+    check_reply(&rt, alloc, &names, Reply::Found { id, size: 3 }, "ok 6d 3")?;
+    Ok(())
+}
+
+#[test]
+fn refusals_are_printed(rt: HostRuntime) -> Result<(), Fail> {
+    let alloc = rt.alloc();
+    let Ok(names) = with_lines(alloc, b"")? else {
+        assert!(rt; false, "a line is refused");
+        return Ok(());
+    };
+    let codes = [
+        (Code::AccessConflict, "ACCESS_CONFLICT"),
+        (Code::BadParameters, "BAD_PARAMETERS"),
+        (Code::ItemNotFound, "ITEM_NOT_FOUND"),
+        (Code::Overflow, "OVERFLOW"),
+        (Code::NoSpace, "STORAGE_NO_SPACE"),
     ];
-    for (reply, wanted) in replies {
-        let found = line(rt.alloc(), &names, Call::Close { handle: 0 }, reply)?;
-        assert_eq!(rt; found.as_slice(), wanted);
+    for (code, wanted) in codes {
+        check_reply(&rt, alloc, &names, Reply::Refused(code), wanted)?;
     }
+    let reasons = [
+        (Reason::BadHandle, "misuse BAD_HANDLE"),
+        (Reason::BadEnumerator, "misuse BAD_ENUMERATOR"),
+        (Reason::BadFlags, "misuse BAD_FLAGS"),
+        (Reason::NoRight, "misuse NO_RIGHT"),
+        (Reason::TooMany, "misuse TOO_MANY"),
+    ];
+    for (reason, wanted) in reasons {
+        check_reply(&rt, alloc, &names, Reply::Misuse(reason), wanted)?;
+    }
+    check_reply(&rt, alloc, &names, Reply::Corrupt, "CORRUPT_OBJECT")?;
+    check_reply(&rt, alloc, &names, Reply::InDoubt(3), "in-doubt 3")?;
+    check_reply(
+        &rt,
+        alloc,
+        &names,
+        Reply::CounterSpent(4_294_967_295),
+        "counter-spent 4294967295",
+    )?;
+    check_reply(&rt, alloc, &names, Reply::NoMemory, "no-memory")?;
+    Ok(())
+}
+
+#[test]
+fn faults_of_devices_are_printed(rt: HostRuntime) -> Result<(), Fail> {
+    let alloc = rt.alloc();
+    let Ok(names) = with_lines(alloc, b"")? else {
+        assert!(rt; false, "a line is refused");
+        return Ok(());
+    };
+    let devices = [
+        (Device::Dir, "STORAGE_NOT_AVAILABLE dir 9"),
+        (Device::File(3), "STORAGE_NOT_AVAILABLE file 3 9"),
+        (Device::Card, "STORAGE_NOT_AVAILABLE card 9"),
+        (Device::Entropy, "STORAGE_NOT_AVAILABLE entropy 9"),
+    ];
+    for (device, wanted) in devices {
+        let fault = Reply::NotAvailable(Cause::Fault { device, count: 9 });
+        check_reply(&rt, alloc, &names, fault, wanted)?;
+    }
+    let frame = Reply::NotAvailable(Cause::Frame(FrameFault::Kind { want: 1, found: 2 }));
+    check_reply(&rt, alloc, &names, frame, "STORAGE_NOT_AVAILABLE frame")?;
+    let result = Reply::NotAvailable(Cause::CardResult(0x85));
+    check_reply(
+        &rt,
+        alloc,
+        &names,
+        result,
+        "STORAGE_NOT_AVAILABLE result 0x0085",
+    )?;
     Ok(())
 }
 
