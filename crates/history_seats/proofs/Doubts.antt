@@ -1,0 +1,77 @@
+-- Places below which each doubt is settled for good.
+use Rattle.std.proofs.Common.{◌≡◌, ◌⊎◌, ℕ, suc, ◌+◌, ◌<◌, ◌≤◌, List, [], ◌∷◌, ◌++◌, length, Bool, true, false, true≢false, cond, not, ◌&&◌, refl, sym, ap, ◌∙◌, inl, inr, ⊎_elim, arith}
+use Rattle.std.proofs.lemmas.Bool.{lt-leb}
+use borrow.Author.Tests.{ltb-true}
+use Rattle.std.specs.Prelude.{nat_le, nat_lt}
+use Rattle.std.specs.List.{list_any}
+use Rattle.store_model.specs.declared.event.Event.{Event}
+use Rattle.store_model.specs.declared.event.Event.TheVariants.{Call as CallEvent, Landed}
+use Rattle.store_model.specs.declared.event.Mark.{Mark}
+use Rattle.store_model.specs.declared.event.Mark.TheVariants.{Unchanged, Made, Doubtful}
+use Rattle.store_model.specs.LegalHistory.{events_of}
+use Rattle.history_seats.specs.Records.{HistoryRecord}
+use Rattle.history_seats.specs.Settling.{is_settling_mark, is_doubtful_mark, settles, is_landing, is_doubtful, is_mark_of, is_early, IsSettledBelow}
+use Rattle.history_seats.proofs.Lists.{or_left, or_right, or_second}
+
+either_true : (b c d : Bool) → c ≡ true → d ≡ true → cond b c d ≡ true
+either_true true c d e f = e
+either_true false c d e f = f
+
+off_first : (b c : Bool) → b ≡ false → not (b && c) ≡ true
+off_first b c e = rw e refl
+
+off_second : (b c : Bool) → c ≡ false → not (b && c) ≡ true
+off_second true c e = rw e refl
+off_second false c e = refl
+
+next : (b c p q : Bool) → cond b c p ≡ true → (b ≡ false → p ≡ true → q ≡ true) → cond b c q ≡ true
+next true c p q h f = h
+next false c p q h f = f refl h
+
+-- a record behind the others is no late landing where it is none, or where another settles before it
+early-snoc : (z k : ℕ) (rs : List HistoryRecord) (r : HistoryRecord) → is_early z k rs ≡ true → (list_any settles (events_of rs) ≡ true) ⊎ (is_landing r.event ≡ false) → is_early z k (rs ++ r ∷ []) ≡ true
+early-snoc z k [] r n (inl e) = absurd (true≢false (sym e))
+early-snoc z k [] r n (inr e) = either_true (settles r.event) (not (is_landing r.event && nat_le z k)) true (off_first (is_landing r.event) (nat_le z k) e) refl
+early-snoc z k (x ∷ rs) r n o =
+    next (settles x.event) (not (is_landing x.event && nat_le z k)) (is_early z (suc k) rs) (is_early z (suc k) (rs ++ r ∷ [])) n
+    (λ none m. early-snoc z (suc k) rs r m (⊎_elim (λ any. inl (or_second (settles x.event) (list_any settles (events_of rs)) any none)) (λ e. inr e) o))
+
+any_within : (front : List HistoryRecord) (d : HistoryRecord) (back : List HistoryRecord) → settles d.event ≡ true → list_any settles (events_of (front ++ d ∷ back)) ≡ true
+any_within [] d back e = or_left (settles d.event) (list_any settles (events_of back)) e
+any_within (x ∷ front) d back e = or_right (settles x.event) (list_any settles (events_of (front ++ d ∷ back))) (any_within front d back e)
+
+-- from the place on none is below it
+settled-above : (z k : ℕ) (rs : List HistoryRecord) → z ≤ k → IsSettledBelow z k rs
+settled-above z k [] le = tt
+settled-above z k (r ∷ rs) le = ((λ d l. let lt : k < z = ltb-true k z l in absurd (omega arith)), settled-above z (suc k) rs (omega arith))
+
+-- where all stand below the place none is late
+early-whole : (z k : ℕ) (rs : List HistoryRecord) → k + length rs ≤ z → is_early z k rs ≡ true
+early-whole z k [] le = refl
+early-whole z k (r ∷ rs) le =
+    either_true (settles r.event) (not (is_landing r.event && nat_le z k)) (is_early z (suc k) rs)
+    (off_second (is_landing r.event) (nat_le z k) (lt-leb z k (omega arith)))
+    (early-whole z (suc k) rs (omega arith))
+
+pub settled-whole : (z k : ℕ) (rs : List HistoryRecord) → k + length rs ≤ z → IsSettledBelow z k rs
+settled-whole z k [] le = tt
+settled-whole z k (r ∷ rs) le = ((λ d l. early-whole z (suc k) rs (omega arith)), settled-whole z (suc k) rs (omega arith))
+
+-- one more record that is no landing
+pub settled-snoc : (z k : ℕ) (rs : List HistoryRecord) (r : HistoryRecord) → IsSettledBelow z k rs → is_landing r.event ≡ false → IsSettledBelow z k (rs ++ r ∷ [])
+settled-snoc z k [] r s e = ((λ d l. refl), tt)
+settled-snoc z k (x ∷ rs) r s e = ((λ d l. early-snoc z (suc k) rs r (s.0 d l) (inr e)), settled-snoc z (suc k) rs r s.1 e)
+
+-- a landing that settles an event at the place or later
+pub settled-lands : (z k : ℕ) (front : List HistoryRecord) (d : HistoryRecord) (back : List HistoryRecord) (r : HistoryRecord) → z ≤ k + length front → settles d.event ≡ true
+    → IsSettledBelow z k (front ++ d ∷ back) → IsSettledBelow z k ((front ++ d ∷ back) ++ r ∷ [])
+settled-lands z k [] d back r le is s = settled-above z k (d ∷ (back ++ r ∷ [])) (omega arith)
+settled-lands z k (x ∷ front) d back r le is s = (
+  (λ q l. early-snoc z (suc k) (front ++ d ∷ back) r (s.0 q l) (inl (any_within front d back is))),
+  settled-lands z (suc k) front d back r (omega arith) is s.1,
+)
+
+-- a doubtful event settles the doubt before it
+pub marked-settles : (commit : ℕ) (event : Event) → is_mark_of (Doubtful commit) event → settles event ≡ true
+marked-settles commit (CallEvent session number call reply mark) e = ap is_settling_mark e
+marked-settles commit (Landed n) e = absurd e

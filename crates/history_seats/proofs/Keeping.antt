@@ -1,0 +1,140 @@
+-- What each step keeps of the rule: the views that it leaves as they are.
+use Rattle.std.proofs.Common.{◌≡◌, ◌≢◌, ◌⊎◌, ℕ, zero, suc, ◌+◌, ◌%◌, ◌^◌, ◌<◌, ◌≤◌, List, [], ◌∷◌, ◌++◌, length, set, get_or, true, false, Option, Some, None, refl, sym, ap, ◌∙◌, subst, ⊎_elim, arith, length-append, length-set}
+use Rattle.std.specs.Prelude.{unwrap_or}
+use mathlib.Core.Option.{some, some-ne-none, some-injective}
+use lib.ListN.{get_elem?}
+use Rattle.atomic_table.proofs.Lists.{at_set}
+use Rattle.std.proofs.lemmas.List.Elements.{All-nil}
+use Rattle.history_seats.specs.Records.{HistoryRecord, Begins, IsFaultTagged, concerns_file, is_of_session}
+use Rattle.history_seats.specs.Settling.{IsSettledBelow}
+use Rattle.history_seats.specs.Mounts.{Mounted}
+use Rattle.history_seats.specs.Views.{GateView, SlotView, PassView, Joined, SeatView, alone, new_gate}
+use Rattle.history_seats.specs.Views.SeatView.{Gate, Slot, Pass, Spent}
+use Rattle.history_seats.specs.Rule.{SlotFits, PassFits, IsSound, Agrees, Fits, Holds, SeatRule}
+use Rattle.history_seats.proofs.Lists.{at_snoc, no_some}
+
+-- the rule, read at the gate's own view
+pub at_gate : (words : List ℕ) (views : List SeatView) (id : ℕ) (j : Joined) → SeatRule words views → get_elem? views id ≡ some (Gate j)
+    → (slot_at : ℕ → Option ℕ) × (pass_at : ℕ → Option ℕ) × Holds j id slot_at pass_at words views
+at_gate words views id j k at =
+    let same = k.4.fit id (Gate j) at in
+    (k.2, k.3, subst (λ (y : ℕ × Joined). Holds y.1 y.0 k.2 k.3 words views) (λ i. (sym same.0 i, sym same.1 i)) k.4)
+
+-- a view that is not the gate's, where the gate's changes and seats move
+pub others : (j k : Joined) (id : ℕ) (sa sb pa pb : ℕ → Option ℕ) (seat : ℕ) (v : SeatView) → seat ≢ id
+    → ((s : SlotView) → v ≡ Slot s → sa s.file ≡ Some seat → SlotFits j.gate s → (sb s.file ≡ Some seat) × SlotFits k.gate s)
+    → ((p : PassView) → v ≡ Pass p → pa p.session ≡ Some seat → PassFits j.gate p → (pb p.session ≡ Some seat) × PassFits k.gate p)
+    → Fits j id sa pa seat v → Fits k id sb pb seat v
+others j k id sa sb pa pb seat (Gate x) apart slots passes f = absurd (apart f.0)
+others j k id sa sb pa pb seat (Slot s) apart slots passes f = slots s refl f.0 f.1
+others j k id sa sb pa pb seat (Pass p) apart slots passes f = passes p refl f.0 f.1
+others j k id sa sb pa pb seat Spent apart slots passes f = tt
+
+-- one view is set, and a fact holds of each
+pub set_each : (views : List SeatView) (id : ℕ) (w : SeatView) (P : ℕ → SeatView → Type 0)
+    → ((seat : ℕ) (v : SeatView) → seat ≢ id → get_elem? views seat ≡ some v → P seat v) → P id w
+    → (seat : ℕ) (v : SeatView) → get_elem? (set views id w) seat ≡ some v → P seat v
+set_each views id w P rest mine seat v e =
+    ⊎_elim
+    (λ (x : (seat ≡ id) × (w ≡ v)). subst (λ (y : ℕ × SeatView). P y.0 y.1) (λ i. (sym x.0 i, x.1 i)) mine)
+    (λ (x : (seat ≢ id) × (get_elem? views seat ≡ some v)). rest seat v x.0 x.1)
+    (at_set views id seat w v e)
+
+-- one view comes behind the others
+pub snoc_each : (views : List SeatView) (w : SeatView) (P : ℕ → SeatView → Type 0)
+    → ((seat : ℕ) (v : SeatView) → get_elem? views seat ≡ some v → P seat v) → P (length views) w
+    → (seat : ℕ) (v : SeatView) → get_elem? (views ++ w ∷ []) seat ≡ some v → P seat v
+snoc_each views w P rest mine seat v e =
+    ⊎_elim
+    (λ (x : get_elem? views seat ≡ some v). rest seat v x)
+    (λ (x : (seat ≡ length views) × (w ≡ v)). subst (λ (y : ℕ × SeatView). P y.0 y.1) (λ i. (sym x.0 i, x.1 i)) mine)
+    (at_snoc views w v seat e)
+
+-- the gate's view is set, and seats stay where they are
+pub in_place : (j k : Joined) (id : ℕ) (sa pa : ℕ → Option ℕ) (words : List ℕ) (views : List SeatView) → Holds j id sa pa words views
+    → ((s : SlotView) (seat : ℕ) → sa s.file ≡ Some seat → SlotFits j.gate s → SlotFits k.gate s)
+    → ((p : PassView) (seat : ℕ) → pa p.session ≡ Some seat → PassFits j.gate p → PassFits k.gate p)
+    → (seat : ℕ) (v : SeatView) → get_elem? (set views id (Gate k)) seat ≡ some v → Fits k id sa pa seat v
+in_place j k id sa pa words views h slots passes =
+    set_each views id (Gate k) (Fits k id sa pa)
+    (λ seat v apart e. others j k id sa sa pa pa seat v apart (λ s _ out f. (out, slots s seat out f)) (λ p _ out f. (out, passes p seat out f)) (h.fit seat v e))
+    (refl, refl)
+
+-- the gate's view is set, and a new seat comes
+pub and_new : (j k : Joined) (id : ℕ) (w : SeatView) (sa sb pa pb : ℕ → Option ℕ) (words : List ℕ) (views : List SeatView) → Holds j id sa pa words views
+    → ((s : SlotView) (seat : ℕ) → sa s.file ≡ Some seat → SlotFits j.gate s → (sb s.file ≡ Some seat) × SlotFits k.gate s)
+    → ((p : PassView) (seat : ℕ) → pa p.session ≡ Some seat → PassFits j.gate p → (pb p.session ≡ Some seat) × PassFits k.gate p)
+    → Fits k id sb pb (length views) w
+    → (seat : ℕ) (v : SeatView) → get_elem? (set views id (Gate k) ++ w ∷ []) seat ≡ some v → Fits k id sb pb seat v
+and_new j k id w sa sb pa pb words views h slots passes mine =
+    snoc_each (set views id (Gate k)) w (Fits k id sb pb)
+    (set_each views id (Gate k) (Fits k id sb pb)
+    (λ seat v apart e. others j k id sa sb pa pb seat v apart (λ s _ out f. slots s seat out f) (λ p _ out f. passes p seat out f) (h.fit seat v e))
+    (refl, refl))
+    (subst (λ (n : ℕ). Fits k id sb pb n w) (sym (length-set views id (Gate k))) mine)
+
+-- a seat fits a gate with the same records, devices and place
+pub keep_slot : (g h : GateView) (s : SlotView) → h.all ≡ g.all → (g.mounted ≡ Some s.mounted → h.mounted ≡ Some s.mounted) → (g.served ≡ Some s.served → h.served ≡ Some s.served) → h.settled ≡ g.settled → SlotFits g s → SlotFits h s
+keep_slot g h s all mounted served settled f = record {
+  begins = subst (λ (l : List HistoryRecord). Begins (concerns_file s.file) s.seen l) (sym all) f.begins;
+  mounted = mounted f.mounted;
+  served = served f.served;
+  settled_before = subst (λ (z : ℕ). s.settled ≤ z) (sym settled) f.settled_before;
+  settled_seen = f.settled_seen;
+  settled_below = subst (λ (l : List HistoryRecord). IsSettledBelow s.settled 0 l) (sym all) f.settled_below;
+}
+
+pub keep_pass : (g h : GateView) (p : PassView) → h.all ≡ g.all → (g.mounted ≡ Some p.mounted → h.mounted ≡ Some p.mounted) → PassFits g p → PassFits h p
+keep_pass g h p all mounted f = record {
+  begins = subst (λ (l : List HistoryRecord). Begins (is_of_session p.session) p.seen l) (sym all) f.begins;
+  mounted = mounted f.mounted;
+}
+
+-- what was told stays
+pub still_told : {A : Type 0} (o : Option A) (d x : A) → o ≡ Some x → Some (unwrap_or o d) ≡ Some x
+still_told None d x e = absurd (no_some x e)
+still_told (Some y) d x e = e
+
+-- the word after one more record, and after none
+pub counted : (words : List ℕ) (xs : List HistoryRecord) (r : HistoryRecord) → words ≡ length xs ∷ [] → length xs + 1 < 2 ^ 64 → set words 0 ((get_or words 0 0 + 1) % 2 ^ 64) ≡ length (xs ++ r ∷ []) ∷ []
+counted words xs r is room =
+    let n : (length xs + 1) % 2 ^ 64 ≡ length (xs ++ r ∷ []) = omega (arith, length-append xs (r ∷ [])) in
+    subst (λ (ws : List ℕ). set ws 0 ((get_or ws 0 0 + 1) % 2 ^ 64) ≡ length (xs ++ r ∷ []) ∷ []) (sym is) (ap (λ (m : ℕ). m ∷ []) n)
+
+pub same_word : (words : List ℕ) (n : ℕ) → words ≡ n ∷ [] → set words 0 (get_or words 0 0) ≡ n ∷ []
+same_word words n is = subst (λ (ws : List ℕ). set ws 0 (get_or ws 0 0) ≡ n ∷ []) (sym is) refl
+
+-- a table as it is made
+pub begins : SeatRule (0 ∷ []) (Gate (alone new_gate) ∷ [])
+begins = (
+  alone new_gate,
+  0,
+  (λ _. None),
+  (λ _. None),
+  record {
+    word = refl;
+    fit = one;
+    files_out = λ file seat e. absurd (no_some seat e);
+    sessions_out = λ session seat e. absurd (no_some seat e);
+    slot_in = λ slot e. refl;
+    pass_in = λ pass e. refl;
+    agrees = record {
+      gate = record {
+        settled_within = omega arith;
+        settled_below = tt;
+        tags_right = λ mounted e. tt;
+        faults_tagged = All-nil IsFaultTagged;
+        numbered = λ session. refl;
+        files_distinct = refl;
+        sessions_distinct = refl;
+      };
+      slot = λ slot e. absurd (no_some slot e);
+      pass = λ pass e. absurd (no_some pass e);
+    };
+    unmounted = λ e. refl;
+  },
+)
+  where
+    one : (seat : ℕ) (v : SeatView) → get_elem? (Gate (alone new_gate) ∷ []) seat ≡ some v → Fits (alone new_gate) 0 (λ _. None) (λ _. None) seat v
+    one zero v e = subst (Fits (alone new_gate) 0 (λ _. None) (λ _. None) 0) (some-injective _ _ e) (refl, refl)
+    one (suc seat) v e = absurd (some-ne-none v (sym e))

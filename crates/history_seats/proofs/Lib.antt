@@ -1,0 +1,11 @@
+pub mod Lists
+pub mod Numbers
+pub mod Prefixes
+pub mod Numbering
+pub mod Doubts
+pub mod Tags
+pub mod Keeping
+pub mod Outs
+pub mod WordSteps
+pub mod SeatSteps
+pub mod Moves

@@ -1,0 +1,100 @@
+-- The numbers of each session's events.
+use Rattle.std.proofs.Common.{◌≡◌, ℕ, zero, suc, ◌+◌, ◌==◌, List, [], ◌∷◌, ◌++◌, length, map, Bool, true, false, cond, refl, sym, ap, ◌∙◌, subst, arith, length-append, append_assoc, add-one, ⊎_elim}
+use Rattle.std.proofs.lemmas.List.{append-nil, map-append}
+use Rattle.std.proofs.lemmas.Bool.Decides.{eqb_tells}
+use Rattle.std.specs.List.{list_any, range_with_len}
+use Rattle.store_model.specs.declared.event.Event.{Event}
+use Rattle.store_model.specs.declared.event.Event.TheVariants.{Call as CallEvent, Landed}
+use Rattle.store_model.specs.History.{numbers_of}
+use Rattle.store_model.specs.LegalHistory.{events_of}
+use Rattle.history_seats.specs.Records.{HistoryRecord, Begins, is_event_of, is_of_session, count_of, AreNumbered}
+use Rattle.history_seats.proofs.Lists.{neither}
+
+-- the numbers that one event adds
+abbrev number_in : ℕ → Event → List ℕ
+number_in session event = numbers_of session (event ∷ [])
+
+numbers-append : (session : ℕ) (xs ys : List Event) → numbers_of session (xs ++ ys) ≡ numbers_of session xs ++ numbers_of session ys
+numbers-append session [] ys = refl
+numbers-append session (CallEvent s number call reply mark ∷ xs) ys = one (s == session) (numbers-append session xs ys)
+  where
+    one : (b : Bool) → numbers_of session (xs ++ ys) ≡ numbers_of session xs ++ numbers_of session ys
+        → cond b (number ∷ numbers_of session (xs ++ ys)) (numbers_of session (xs ++ ys)) ≡ cond b (number ∷ numbers_of session xs) (numbers_of session xs) ++ numbers_of session ys
+    one true hyp = ap (λ l. number ∷ l) hyp
+    one false hyp = hyp
+numbers-append session (Landed commit ∷ xs) ys = numbers-append session xs ys
+
+range-snoc : (a n : ℕ) → range_with_len a (suc n) ≡ range_with_len a n ++ (a + n) ∷ []
+range-snoc a zero = let same : a ≡ a + 0 = omega arith in ap (λ (k : ℕ). k ∷ []) same
+range-snoc a (suc n) =
+    let same : a + 1 + n ≡ a + suc n = omega arith in
+    ap (λ (l : List ℕ). a ∷ l) (range-snoc (a + 1) n ∙ ap (λ (k : ℕ). range_with_len (a + 1) n ++ k ∷ []) same)
+
+-- one more number behind those that are in order
+more : (ns : List ℕ) (n : ℕ) → ns ≡ range_with_len 0 (length ns) → n ≡ length ns → ns ++ n ∷ [] ≡ range_with_len 0 (length (ns ++ n ∷ []))
+more ns n is e =
+    let last : n ≡ 0 + length ns = omega arith in
+    let longer : suc (length ns) ≡ length (ns ++ n ∷ []) = omega (arith, length-append ns (n ∷ [])) in
+    ap (λ (l : List ℕ). l ++ n ∷ []) is ∙ ap (λ (k : ℕ). range_with_len 0 (length ns) ++ k ∷ []) last ∙ sym (range-snoc 0 (length ns)) ∙ ap (range_with_len 0) longer
+
+abbrev IsNumbered : List ℕ → Type 0
+IsNumbered ns = ns ≡ range_with_len 0 (length ns)
+
+-- a call with its session's next number, or another event, keeps the numbers of a session in order
+step : (session : ℕ) (ns : List ℕ) (event : Event) → IsNumbered ns → ((number : ℕ) → number_in session event ≡ number ∷ [] → number ≡ length ns) → IsNumbered (ns ++ number_in session event)
+step session ns (CallEvent s number call reply mark) is next = one (s == session) next
+  where
+    one : (b : Bool) → ((n : ℕ) → cond b (number ∷ []) [] ≡ n ∷ [] → n ≡ length ns) → IsNumbered (ns ++ cond b (number ∷ []) [])
+    one true f = more ns number is (f number refl)
+    one false f = subst IsNumbered (sym (append-nil ns)) is
+step session ns (Landed commit) is next = subst IsNumbered (sym (append-nil ns)) is
+
+-- the event has its session's next number
+abbrev pub HasNextNumber : List HistoryRecord → Event → Type 0
+HasNextNumber records (CallEvent session number call reply mark) = number ≡ count_of session records
+HasNextNumber records (Landed commit) = Unit {0}
+
+next_in : (records : List HistoryRecord) (event : Event) → HasNextNumber records event → (session number : ℕ) → number_in session event ≡ number ∷ [] → number ≡ count_of session records
+next_in records (CallEvent s n call reply mark) is session number e =
+    ⊎_elim
+    (λ (y : ((s == session) ≡ true) × (s ≡ session)).
+    let found : n ∷ [] ≡ number ∷ [] = sym (ap (λ (b : Bool). cond b (n ∷ []) []) y.0) ∙ e in
+    let same : n ≡ number = cc in
+    sym same ∙ is ∙ ap (λ (i : ℕ). count_of i records) y.1)
+    (λ (y : ((s == session) ≡ false) × (s ≡ session → ⊥)).
+    let found : [] ≡ number ∷ [] = sym (ap (λ (b : Bool). cond b (n ∷ []) []) y.0) ∙ e in
+    absurd (nothing number found))
+    (eqb_tells s session)
+  where
+    nothing : (m : ℕ) → [] ≡ m ∷ [] → ⊥
+    nothing m q = cc
+next_in records (Landed commit) is session number e = absurd (nothing number e)
+  where
+    nothing : (m : ℕ) → [] ≡ m ∷ [] → ⊥
+    nothing m q = cc
+
+pub numbered-snoc : (records : List HistoryRecord) (r : HistoryRecord) → AreNumbered records → HasNextNumber records r.event → AreNumbered (records ++ r ∷ [])
+numbered-snoc records r all next = λ session.
+    let parts : numbers_of session (events_of (records ++ r ∷ [])) ≡ numbers_of session (events_of records) ++ number_in session r.event =
+    ap (numbers_of session) (map-append (λ (x : HistoryRecord). x.event) records (r ∷ [])) ∙ numbers-append session (events_of records) (r.event ∷ []) in
+    subst IsNumbered (sym parts) (step session (numbers_of session (events_of records)) r.event (all session) (next_in records r.event next session))
+
+-- where no event is of the session it has no numbers
+none_of : (session : ℕ) (records : List HistoryRecord) → list_any (is_of_session session) records ≡ false → numbers_of session (events_of records) ≡ []
+none_of session [] e = refl
+none_of session (r ∷ records) e =
+    let off = neither (is_of_session session r) (list_any (is_of_session session) records) e in
+    one r.event off.0 (none_of session records off.1)
+  where
+    one : (event : Event) → is_event_of session event ≡ false → numbers_of session (events_of records) ≡ [] → numbers_of session (event ∷ events_of records) ≡ []
+    one (CallEvent s number call reply mark) off rest = rw off rest
+    one (Landed commit) off rest = rest
+
+-- a pass knows how many events its session has
+pub count-begins : (session : ℕ) (seen whole : List HistoryRecord) → Begins (is_of_session session) seen whole → count_of session whole ≡ count_of session seen
+count-begins session seen whole b =
+    let parts : numbers_of session (events_of whole) ≡ numbers_of session (events_of seen) ++ numbers_of session (events_of b.rest) =
+    ap (λ (l : List HistoryRecord). numbers_of session (events_of l)) (sym b.is)
+        ∙ ap (numbers_of session) (map-append (λ (x : HistoryRecord). x.event) seen b.rest)
+        ∙ numbers-append session (events_of seen) (events_of b.rest) in
+    ap length (parts ∙ ap (λ (l : List ℕ). numbers_of session (events_of seen) ++ l) (none_of session b.rest b.lacks) ∙ append-nil (numbers_of session (events_of seen)))

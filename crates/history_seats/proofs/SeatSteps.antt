@@ -1,0 +1,267 @@
+-- Splits and joins of seats keep the rule.
+use Rattle.std.proofs.Common.{◌≡◌, ◌≢◌, ◌⊎◌, ℕ, ◌==◌, List, [], ◌∷◌, ◌++◌, length, set, true, false, true≢false, Option, Some, None, refl, sym, ap, ◌∙◌, subst, arith}
+use Rattle.std.specs.Prelude.{unwrap_or}
+use mathlib.Core.Option.{some}
+use lib.ListN.{get_elem?}
+use Rattle.atomic_table.proofs.Lists.{set_else}
+use Rattle.history_seats.specs.Records.{HistoryRecord, concerns_file, is_of_session}
+use Rattle.history_seats.specs.Mounts.{Mounted}
+use Rattle.history_seats.specs.Versions.{AreTagsRight}
+use Rattle.history_seats.specs.Views.{GateView, SlotView, PassView, Joined, SeatView}
+use Rattle.history_seats.specs.Views.SeatView.{Gate, Slot, Pass, Spent}
+use Rattle.history_seats.specs.Rule.{is_in, are_distinct, SlotFits, PassFits, IsSound, Agrees, Fits, SeatRule}
+use Rattle.history_seats.specs.Steps.{Told, with_slot_out, new_slot, with_pass_out, new_pass}
+use Rattle.history_seats.proofs.Lists.{no_some, none_or_some, or_right, put, put_here, put_else}
+use Rattle.history_seats.proofs.Numbers.{distinct-more}
+use Rattle.history_seats.proofs.Outs.{other_than, not_the_same, out-more, out-again, out-less}
+use Rattle.history_seats.proofs.Prefixes.{begins-whole}
+use Rattle.history_seats.proofs.Keeping.{at_gate, others, set_each, and_new, keep_slot, keep_pass, still_told}
+
+-- the tags are right from the mount that is told, which is the first
+told_tags : (o : Option Mounted) (d : Mounted) (all : List HistoryRecord) → (o ≡ None → all ≡ []) → ((m : Mounted) → o ≡ Some m → AreTagsRight m [] all)
+    → (m : Mounted) → Some (unwrap_or o d) ≡ Some m → AreTagsRight m [] all
+told_tags None d all first right m e = subst (λ (l : List HistoryRecord). AreTagsRight m [] l) (sym (first refl)) tt
+told_tags (Some x) d all first right m e = right m e
+
+never_none : {A : Type 0} {X : Type 0} (x : A) → Some x ≡ None → X
+never_none x e = absurd (no_some x (sym e))
+
+-- a new slot's seat
+pub slot_split : (told : Told) (file generation id : ℕ) (j : Joined) → is_in file j.gate.files ≡ false → (words : List ℕ) (views : List SeatView) → SeatRule words views → get_elem? views id ≡ some (Gate j)
+    → SeatRule words (set views id (Gate (record j { gate = with_slot_out told file j.gate })) ++ Slot (new_slot told file generation j.gate) ∷ [])
+slot_split told file generation id j new words views kept at =
+    let o = at_gate words views id j kept at in
+    let sa = o.0 in
+    let pa = o.1 in
+    let h = o.2 in
+    let g = j.gate in
+    let k : Joined = record j { gate = with_slot_out told file g } in
+    let sb = put sa file (Some (length views)) in
+    let s = h.agrees.gate in
+    let slot_stays : (t : SlotView) → SlotFits g t → SlotFits k.gate t = λ t f. keep_slot g k.gate t refl (still_told g.mounted told.mounted t.mounted) (still_told g.served told.served t.served) refl f in
+    let pass_stays : (p : PassView) → PassFits g p → PassFits k.gate p = λ p f. keep_pass g k.gate p refl (still_told g.mounted told.mounted p.mounted) f in (
+      k,
+      id,
+      sb,
+      pa,
+      record {
+        word = h.word;
+        fit = and_new j k id (Slot (new_slot told file generation g)) sa sb pa pa words views h
+            (λ t seat out f. (put_else sa file (Some (length views)) t.file (other_than sa g.files file t.file seat h.files_out new out) ∙ out, slot_stays t f))
+            (λ p seat out f. (out, pass_stays p f))
+            (
+              put_here sa file (Some (length views)) file refl,
+              record { begins = begins-whole (concerns_file file) g.all; mounted = refl; served = refl; settled_before = omega arith; settled_seen = s.settled_within; settled_below = s.settled_below },
+            );
+        files_out = out-more sa g.files file (length views) h.files_out;
+        sessions_out = h.sessions_out;
+        slot_in = λ t e. put_else sa file (Some (length views)) t.file (λ q. true≢false (sym (h.agrees.slot t e).1 ∙ ap (λ (m : ℕ). is_in m g.files) q ∙ new)) ∙ h.slot_in t e;
+        pass_in = h.pass_in;
+        agrees = record {
+          gate = record {
+            settled_within = s.settled_within;
+            settled_below = s.settled_below;
+            tags_right = told_tags g.mounted told.mounted g.all h.unmounted s.tags_right;
+            faults_tagged = s.faults_tagged;
+            numbered = s.numbered;
+            files_distinct = distinct-more file g.files new s.files_distinct;
+            sessions_distinct = s.sessions_distinct;
+          };
+          slot = λ t e. let w = h.agrees.slot t e in (slot_stays t w.0, or_right (file == t.file) (is_in t.file g.files) w.1);
+          pass = λ p e. let w = h.agrees.pass p e in (pass_stays p w.0, w.1);
+        };
+        unmounted = λ e. never_none (unwrap_or g.mounted told.mounted) e;
+      },
+    )
+
+-- a new pass
+pub pass_split : (mounted : Mounted) (session id : ℕ) (j : Joined) → is_in session j.gate.sessions ≡ false → (words : List ℕ) (views : List SeatView) → SeatRule words views → get_elem? views id ≡ some (Gate j)
+    → SeatRule words (set views id (Gate (record j { gate = with_pass_out mounted session j.gate })) ++ Pass (new_pass mounted session j.gate) ∷ [])
+pass_split mounted session id j new words views kept at =
+    let o = at_gate words views id j kept at in
+    let sa = o.0 in
+    let pa = o.1 in
+    let h = o.2 in
+    let g = j.gate in
+    let k : Joined = record j { gate = with_pass_out mounted session g } in
+    let pb = put pa session (Some (length views)) in
+    let s = h.agrees.gate in
+    let slot_stays : (t : SlotView) → SlotFits g t → SlotFits k.gate t = λ t f. keep_slot g k.gate t refl (still_told g.mounted mounted t.mounted) (λ e. e) refl f in
+    let pass_stays : (p : PassView) → PassFits g p → PassFits k.gate p = λ p f. keep_pass g k.gate p refl (still_told g.mounted mounted p.mounted) f in (
+      k,
+      id,
+      sa,
+      pb,
+      record {
+        word = h.word;
+        fit = and_new j k id (Pass (new_pass mounted session g)) sa sa pa pb words views h
+            (λ t seat out f. (out, slot_stays t f))
+            (λ p seat out f. (put_else pa session (Some (length views)) p.session (other_than pa g.sessions session p.session seat h.sessions_out new out) ∙ out, pass_stays p f))
+            (put_here pa session (Some (length views)) session refl, record { begins = begins-whole (is_of_session session) g.all; mounted = refl });
+        files_out = h.files_out;
+        sessions_out = out-more pa g.sessions session (length views) h.sessions_out;
+        slot_in = h.slot_in;
+        pass_in = λ p e. put_else pa session (Some (length views)) p.session (λ q. true≢false (sym (h.agrees.pass p e).1 ∙ ap (λ (m : ℕ). is_in m g.sessions) q ∙ new)) ∙ h.pass_in p e;
+        agrees = record {
+          gate = record {
+            settled_within = s.settled_within;
+            settled_below = s.settled_below;
+            tags_right = told_tags g.mounted mounted g.all h.unmounted s.tags_right;
+            faults_tagged = s.faults_tagged;
+            numbered = s.numbered;
+            files_distinct = s.files_distinct;
+            sessions_distinct = distinct-more session g.sessions new s.sessions_distinct;
+          };
+          slot = λ t e. let w = h.agrees.slot t e in (slot_stays t w.0, w.1);
+          pass = λ p e. let w = h.agrees.pass p e in (pass_stays p w.0, or_right (session == p.session) (is_in p.session g.sessions) w.1);
+        };
+        unmounted = λ e. never_none (unwrap_or g.mounted mounted) e;
+      },
+    )
+
+-- the slot's seat that was taken in leaves again
+pub slot_leave : (id : ℕ) (j : Joined) (s : SlotView) → j.slot ≡ Some s → (words : List ℕ) (views : List SeatView) → SeatRule words views → get_elem? views id ≡ some (Gate j)
+    → SeatRule words (set views id (Gate (record j { slot = None })) ++ Slot s ∷ [])
+slot_leave id j s is words views kept at =
+    let o = at_gate words views id j kept at in
+    let sa = o.0 in
+    let pa = o.1 in
+    let h = o.2 in
+    let k : Joined = record j { slot = None } in
+    let was = h.agrees.slot s is in
+    let sb = put sa s.file (Some (length views)) in (
+      k,
+      id,
+      sb,
+      pa,
+      record {
+        word = h.word;
+        fit = and_new j k id (Slot s) sa sb pa pa words views h
+            (λ t seat out f. (put_else sa s.file (Some (length views)) t.file (not_the_same sa s.file t.file seat (h.slot_in s is) out) ∙ out, f))
+            (λ p seat out f. (out, f))
+            (put_here sa s.file (Some (length views)) s.file refl, was.0);
+        files_out = out-again sa j.gate.files s.file (length views) was.1 h.files_out;
+        sessions_out = h.sessions_out;
+        slot_in = λ t e. absurd (no_some t e);
+        pass_in = h.pass_in;
+        agrees = record { gate = h.agrees.gate; slot = λ t e. absurd (no_some t e); pass = h.agrees.pass };
+        unmounted = h.unmounted;
+      },
+    )
+
+-- the pass that was taken in leaves again
+pub pass_leave : (id : ℕ) (j : Joined) (p : PassView) → j.pass ≡ Some p → (words : List ℕ) (views : List SeatView) → SeatRule words views → get_elem? views id ≡ some (Gate j)
+    → SeatRule words (set views id (Gate (record j { pass = None })) ++ Pass p ∷ [])
+pass_leave id j p is words views kept at =
+    let o = at_gate words views id j kept at in
+    let sa = o.0 in
+    let pa = o.1 in
+    let h = o.2 in
+    let k : Joined = record j { pass = None } in
+    let was = h.agrees.pass p is in
+    let pb = put pa p.session (Some (length views)) in (
+      k,
+      id,
+      sa,
+      pb,
+      record {
+        word = h.word;
+        fit = and_new j k id (Pass p) sa sa pa pb words views h
+            (λ t seat out f. (out, f))
+            (λ q seat out f. (put_else pa p.session (Some (length views)) q.session (not_the_same pa p.session q.session seat (h.pass_in p is) out) ∙ out, f))
+            (put_here pa p.session (Some (length views)) p.session refl, was.0);
+        files_out = h.files_out;
+        sessions_out = out-again pa j.gate.sessions p.session (length views) was.1 h.sessions_out;
+        slot_in = h.slot_in;
+        pass_in = λ t e. absurd (no_some t e);
+        agrees = record { gate = h.agrees.gate; slot = h.agrees.slot; pass = λ t e. absurd (no_some t e) };
+        unmounted = h.unmounted;
+      },
+    )
+
+-- what stands at another place after a view was set
+elsewhere : (views : List SeatView) (id other : ℕ) (x w : SeatView) → (other ≡ id → ⊥) → get_elem? (set views id x) other ≡ some w → get_elem? views other ≡ some w
+elsewhere views id other x w apart e = sym (set_else views id other x apart) ∙ e
+
+same_seat : {A : Type 0} (a b : A) (o : Option A) → o ≡ Some a → o ≡ Some b → a ≡ b
+same_seat a b o e d = let both : Some a ≡ Some b = sym e ∙ d in cc
+
+-- a slot's seat is taken in, where none was
+pub slot_enter : (id : ℕ) (j : Joined) (other : ℕ) (s : SlotView) → j.slot ≡ None → (words : List ℕ) (views : List SeatView) → SeatRule words views → get_elem? views id ≡ some (Gate j)
+    → (other ≡ id → ⊥) → get_elem? (set views id (Gate (record j { slot = Some s }))) other ≡ some (Slot s)
+    → SeatRule words (set (set views id (Gate (record j { slot = Some s }))) other Spent)
+slot_enter id j other s free words views kept at apart there =
+    let o = at_gate words views id j kept at in
+    let sa = o.0 in
+    let pa = o.1 in
+    let h = o.2 in
+    let k : Joined = record j { slot = Some s } in
+    let sb = put sa s.file None in
+    let was = h.fit other (Slot s) (elsewhere views id other (Gate k) (Slot s) apart there) in (
+      k,
+      id,
+      sb,
+      pa,
+      record {
+        word = h.word;
+        fit = set_each (set views id (Gate k)) other Spent (Fits k id sb pa)
+            (λ seat v far e. set_each views id (Gate k) (λ i u. (i ≢ other) → Fits k id sb pa i u)
+            (λ i u near q. λ away. others j k id sa sb pa pa i u near
+            (λ t _ out f. (put_else sa s.file None t.file (λ y. away (same_seat i other (sa t.file) out (ap sa y ∙ was.0))) ∙ out, f))
+            (λ p _ out f. (out, f))
+            (h.fit i u q))
+            (λ _. (refl, refl))
+            seat v e far)
+            tt;
+        files_out = out-less sa j.gate.files s.file h.files_out;
+        sessions_out = h.sessions_out;
+        slot_in = λ t e. let same : s ≡ t = cc (e) in put_here sa s.file None t.file (ap (λ (x : SlotView). x.file) (sym same));
+        pass_in = h.pass_in;
+        agrees = record {
+          gate = h.agrees.gate;
+          slot = λ t e. let same : s ≡ t = cc (e) in subst (λ (x : SlotView). SlotFits j.gate x × (is_in x.file j.gate.files ≡ true)) same (was.1, h.files_out s.file other was.0);
+          pass = h.agrees.pass;
+        };
+        unmounted = h.unmounted;
+      },
+    )
+
+-- a pass is taken in, where none was
+pub pass_enter : (id : ℕ) (j : Joined) (other : ℕ) (p : PassView) → j.pass ≡ None → (words : List ℕ) (views : List SeatView) → SeatRule words views → get_elem? views id ≡ some (Gate j)
+    → (other ≡ id → ⊥) → get_elem? (set views id (Gate (record j { pass = Some p }))) other ≡ some (Pass p)
+    → SeatRule words (set (set views id (Gate (record j { pass = Some p }))) other Spent)
+pass_enter id j other p free words views kept at apart there =
+    let o = at_gate words views id j kept at in
+    let sa = o.0 in
+    let pa = o.1 in
+    let h = o.2 in
+    let k : Joined = record j { pass = Some p } in
+    let pb = put pa p.session None in
+    let was = h.fit other (Pass p) (elsewhere views id other (Gate k) (Pass p) apart there) in (
+      k,
+      id,
+      sa,
+      pb,
+      record {
+        word = h.word;
+        fit = set_each (set views id (Gate k)) other Spent (Fits k id sa pb)
+            (λ seat v far e. set_each views id (Gate k) (λ i u. (i ≢ other) → Fits k id sa pb i u)
+            (λ i u near q. λ away. others j k id sa sa pa pb i u near
+            (λ t _ out f. (out, f))
+            (λ t _ out f. (put_else pa p.session None t.session (λ y. away (same_seat i other (pa t.session) out (ap pa y ∙ was.0))) ∙ out, f))
+            (h.fit i u q))
+            (λ _. (refl, refl))
+            seat v e far)
+            tt;
+        files_out = h.files_out;
+        sessions_out = out-less pa j.gate.sessions p.session h.sessions_out;
+        slot_in = h.slot_in;
+        pass_in = λ t e. let same : p ≡ t = cc (e) in put_here pa p.session None t.session (ap (λ (x : PassView). x.session) (sym same));
+        agrees = record {
+          gate = h.agrees.gate;
+          slot = h.agrees.slot;
+          pass = λ t e. let same : p ≡ t = cc (e) in subst (λ (x : PassView). PassFits j.gate x × (is_in x.session j.gate.sessions ≡ true)) same (was.1, h.sessions_out p.session other was.0);
+        };
+        unmounted = h.unmounted;
+      },
+    )

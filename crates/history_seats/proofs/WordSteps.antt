@@ -1,0 +1,333 @@
+-- Steps on the word keep the rule: append, landing, drop of a doubt, retirement, and a look.
+use Rattle.std.proofs.Common.{◌≡◌, ◌≢◌, ◌⊎◌, ℕ, zero, suc, ◌+◌, ◌%◌, ◌^◌, ◌<◌, ◌≤◌, ◌==◌, List, [], ◌∷◌, ◌++◌, length, set, get_or, Bool, true, false, true≢false, Option, Some, None, refl, sym, ap, ◌∙◌, subst, ⊎_elim, arith, length-append, ne_eqb}
+use mathlib.Core.Option.{some}
+use lib.ListN.{get_elem?}
+use Rattle.store_model.specs.declared.event.Event.{Event}
+use Rattle.store_model.specs.declared.event.Event.TheVariants.{Call as CallEvent, Landed}
+use Rattle.history_seats.specs.Records.{HistoryRecord, Begins, names_file, concerns_file, is_event_of, is_of_session, count_of, faulty_file}
+use Rattle.history_seats.specs.Settling.{settles, is_landing, IsSettledBelow, IsOpenDoubt}
+use Rattle.history_seats.specs.Mounts.{Mounted, Served}
+use Rattle.history_seats.specs.Views.{GateView, SlotView, PassView, Joined, SeatView}
+use Rattle.history_seats.specs.Views.SeatView.{Gate}
+use Rattle.history_seats.specs.Rule.{is_in, are_distinct, SlotFits, PassFits, IsSound, Agrees, SeatRule}
+use Rattle.history_seats.specs.Steps.{landing_of, IsNextOf, with_record, slot_renewed, pass_renewed, slots_renewed, passes_renewed, renewed, appended, landing_appended, doubts_dropped, files_left, sessions_left, retired, IsTagIn, IsEventIn, IsFitting}
+use Rattle.history_seats.proofs.Lists.{either_bool, no_some, none_or_some}
+use Rattle.history_seats.proofs.Numbers.{distinct-without}
+use Rattle.history_seats.proofs.Outs.{AllOut, out-without}
+use Rattle.history_seats.proofs.Prefixes.{begins-more, begins-whole}
+use Rattle.history_seats.proofs.Numbering.{HasNextNumber, numbered-snoc, count-begins}
+use Rattle.history_seats.proofs.Doubts.{settled-snoc, settled-lands, settled-whole, marked-settles}
+use Rattle.history_seats.proofs.Tags.{tags-snoc, faults-snoc}
+use Rattle.history_seats.proofs.Keeping.{at_gate, in_place, keep_slot, keep_pass, counted, same_word}
+
+-- What such a step has to show: the word becomes n of what it was, and the gate's view changes.
+abbrev pub Keeps : (Joined → Joined) → (ℕ → ℕ) → ℕ → Joined → Type 0
+Keeps change n id j =
+    (words : List ℕ) (views : List SeatView) → SeatRule words views → get_elem? views id ≡ some (Gate j)
+    → SeatRule (set words 0 (n (get_or words 0 0))) (set views id (Gate (change j))) × (get_or words 0 0 ≡ length j.gate.all) × Agrees j
+
+-- a slot that sees all fits
+slot_whole : (h : GateView) (t : SlotView) → h.settled ≤ length h.all → IsSettledBelow h.settled 0 h.all → h.mounted ≡ Some t.mounted → h.served ≡ Some t.served → SlotFits h (slot_renewed h t)
+slot_whole h t within below mounted served = record {
+  begins = begins-whole (concerns_file t.file) h.all;
+  mounted = mounted;
+  served = served;
+  settled_before = omega arith;
+  settled_seen = within;
+  settled_below = below;
+}
+
+-- what was taken in, once it sees all
+slot_taken : (h : GateView) (P : ℕ → Type 0) (o : Option SlotView) → h.settled ≤ length h.all → IsSettledBelow h.settled 0 h.all
+    → ((t : SlotView) → o ≡ Some t → (h.mounted ≡ Some t.mounted) × (h.served ≡ Some t.served) × P t.file)
+    → (s : SlotView) → slots_renewed h o ≡ Some s → SlotFits h s × P s.file
+slot_taken h P None within below was s e = absurd (no_some s e)
+slot_taken h P (Some t) within below was s e =
+    let w = was t refl in
+    let same : slot_renewed h t ≡ s = cc (e) in
+    subst (λ (x : SlotView). SlotFits h x × P x.file) same (slot_whole h t within below w.0 w.1, w.2)
+
+pass_taken : (h : GateView) (P : ℕ → Type 0) (o : Option PassView)
+    → ((t : PassView) → o ≡ Some t → (h.mounted ≡ Some t.mounted) × P t.session)
+    → (p : PassView) → passes_renewed h o ≡ Some p → PassFits h p × P p.session
+pass_taken h P None was p e = absurd (no_some p e)
+pass_taken h P (Some t) was p e =
+    let w = was t refl in
+    let same : pass_renewed h t ≡ p = cc (e) in
+    subst (λ (x : PassView). PassFits h x × P x.session) same (record { begins = begins-whole (is_of_session t.session) h.all; mounted = w.0 }, w.1)
+
+-- What the next call of a session is: no landing, of no other session, and with the next number.
+record IsNextCall (p : PassView) (event : Event) : Type 0 where
+  pub call : is_landing event ≡ false
+  pub own : (session : ℕ) → session ≢ p.session → is_event_of session event ≡ false
+  pub next : (records : List HistoryRecord) → count_of p.session records ≡ count_of p.session p.seen → HasNextNumber records event
+
+next_call : (p : PassView) (event : Event) → IsNextOf p event → IsNextCall p event
+next_call p (CallEvent s n call reply mark) is = record {
+  call = refl;
+  own = λ session apart. ne_eqb s session (λ q. apart (sym q ∙ is.0));
+  next = λ records same. is.1 ∙ sym same ∙ ap (λ (i : ℕ). count_of i records) (sym is.0);
+}
+next_call p (Landed commit) is = absurd is
+
+-- the history with one more record is sound
+sound-more : (r : HistoryRecord) (g : GateView) → IsSound g → IsSettledBelow g.settled 0 (g.all ++ r ∷ []) → HasNextNumber g.all r.event → IsFitting g r → IsSound (with_record r g)
+sound-more r g s below next fits = record {
+  settled_within = omega (arith, length-append g.all (r ∷ []), s.settled_within);
+  settled_below = below;
+  tags_right = λ m e. tags-snoc m [] g.all r (s.tags_right m e) (fits.right m e);
+  faults_tagged = faults-snoc g.all r s.faults_tagged fits.fault_tagged;
+  numbered = numbered-snoc g.all r s.numbered next;
+  files_distinct = s.files_distinct;
+  sessions_distinct = s.sessions_distinct;
+}
+
+-- a record is appended
+pub append_keeps : (r : HistoryRecord) (id : ℕ) (j : Joined) → length j.gate.all + 1 < 2 ^ 64 → IsTagIn j r → IsEventIn j r → IsFitting j.gate r
+    → Keeps (appended r) (λ n. (n + 1) % 2 ^ 64) id j
+append_keeps r id j room tag event fits words views kept at =
+    let o = at_gate words views id j kept at in
+    let sa = o.0 in
+    let pa = o.1 in
+    let h = o.2 in
+    let g = j.gate in
+    let k = appended r j in
+    let p = event.0 in
+    let mine = (h.agrees.pass p event.1).0 in
+    let call = next_call p r.event event.2 in
+    let next : HasNextNumber g.all r.event = call.next g.all (count-begins p.session p.seen g.all mine.begins) in
+    let not_out : (file seat : ℕ) → concerns_file file r ≡ true → sa file ≡ Some seat → ⊥ = λ file seat c out.
+    let t = tag file c in
+    none_or_some seat (sa file) (ap sa (sym t.2) ∙ h.slot_in t.0 t.1) out in
+    let below : (z : ℕ) → IsSettledBelow z 0 g.all → IsSettledBelow z 0 k.gate.all = λ z s. settled-snoc z 0 g.all r s call.call in
+    let sound : IsSound k.gate = sound-more r g h.agrees.gate (below g.settled h.agrees.gate.settled_below) next fits in
+    let slots = slot_taken k.gate (λ f. (sa f ≡ None) × (is_in f g.files ≡ true)) j.slot sound.settled_within sound.settled_below
+        (λ t e. let w = h.agrees.slot t e in (w.0.mounted, w.0.served, (h.slot_in t e, w.1))) in
+    let passes = pass_taken k.gate (λ s. (pa s ≡ None) × (is_in s g.sessions ≡ true)) j.pass
+        (λ t e. let w = h.agrees.pass t e in (w.0.mounted, (h.pass_in t e, w.1))) in (
+      (
+        k,
+        id,
+        sa,
+        pa,
+        record {
+          word = counted words g.all r h.word room;
+          fit = in_place j k id sa pa words views h
+              (λ s seat out f. record {
+                begins = ⊎_elim (λ (y : concerns_file s.file r ≡ true). absurd (not_out s.file seat y out)) (λ (y : concerns_file s.file r ≡ false). begins-more (concerns_file s.file) s.seen g.all r f.begins y) (either_bool (concerns_file s.file r));
+                mounted = f.mounted;
+                served = f.served;
+                settled_before = f.settled_before;
+                settled_seen = f.settled_seen;
+                settled_below = below s.settled f.settled_below;
+              })
+              (λ q seat out f. record {
+                begins = begins-more (is_of_session q.session) q.seen g.all r f.begins (call.own q.session (λ y. none_or_some seat (pa q.session) (ap pa y ∙ h.pass_in p event.1) out));
+                mounted = f.mounted;
+              });
+          files_out = h.files_out;
+          sessions_out = h.sessions_out;
+          slot_in = λ s e. (slots s e).1.0;
+          pass_in = λ q e. (passes q e).1.0;
+          agrees = record { gate = sound; slot = λ s e. ((slots s e).0, (slots s e).1.1); pass = λ q e. ((passes q e).0, (passes q e).1.1) };
+          unmounted = λ e. absurd (none_or_some p.mounted g.mounted e mine.mounted);
+        },
+      ),
+      ap (λ (ws : List ℕ). get_or ws 0 0) h.word,
+      h.agrees,
+    )
+
+no_middle : (front : List HistoryRecord) (d : HistoryRecord) (back : List HistoryRecord) → front ++ d ∷ back ≡ [] → ⊥
+no_middle [] d back e = cc
+no_middle (x ∷ front) d back e = cc
+
+-- a landing fits anywhere
+landing_fits : (commit : ℕ) (g : GateView) → IsFitting g (landing_of commit)
+landing_fits commit g = record { right = λ m _ tag version e _ _. absurd (no_some tag e); fault_tagged = λ file e. absurd (no_some file e) }
+
+-- the doubt landed
+pub landing_keeps : (commit id : ℕ) (j : Joined) → length j.gate.all + 1 < 2 ^ 64 → j.slot ≡ None → j.pass ≡ None → IsOpenDoubt commit j.gate.settled j.gate.all
+    → Keeps (landing_appended (landing_of commit)) (λ n. (n + 1) % 2 ^ 64) id j
+landing_keeps commit id j room no_slot no_pass doubt words views kept at =
+    let o = at_gate words views id j kept at in
+    let h = o.2 in
+    let g = j.gate in
+    let r = landing_of commit in
+    let k = landing_appended r j in
+    let below : (z : ℕ) → z ≤ g.settled → IsSettledBelow z 0 g.all → IsSettledBelow z 0 k.gate.all = λ z le s.
+    let here : IsSettledBelow z 0 (doubt.front ++ doubt.doubted ∷ doubt.back) = subst (IsSettledBelow z 0) (sym doubt.is) s in
+    subst (λ (l : List HistoryRecord). IsSettledBelow z 0 (l ++ r ∷ [])) doubt.is
+    (settled-lands z 0 doubt.front doubt.doubted doubt.back r (omega (arith, doubt.late)) (marked-settles commit doubt.doubted.event doubt.marked) here) in (
+      (
+        k,
+        id,
+        o.0,
+        o.1,
+        record {
+          word = counted words g.all r h.word room;
+          fit = in_place j k id o.0 o.1 words views h
+              (λ s seat out f. record {
+                begins = begins-more (concerns_file s.file) s.seen g.all r f.begins refl;
+                mounted = f.mounted;
+                served = f.served;
+                settled_before = f.settled_before;
+                settled_seen = f.settled_seen;
+                settled_below = below s.settled f.settled_before f.settled_below;
+              })
+              (λ q seat out f. record { begins = begins-more (is_of_session q.session) q.seen g.all r f.begins refl; mounted = f.mounted });
+          files_out = h.files_out;
+          sessions_out = h.sessions_out;
+          slot_in = h.slot_in;
+          pass_in = h.pass_in;
+          agrees = record {
+            gate = sound-more r g h.agrees.gate (below g.settled (omega arith) h.agrees.gate.settled_below) tt (landing_fits commit g);
+            slot = λ s e. absurd (none_or_some s j.slot no_slot e);
+            pass = λ q e. absurd (none_or_some q j.pass no_pass e);
+          };
+          unmounted = λ e. absurd (no_middle doubt.front doubt.doubted doubt.back (doubt.is ∙ h.unmounted e));
+        },
+      ),
+      ap (λ (ws : List ℕ). get_or ws 0 0) h.word,
+      h.agrees,
+    )
+
+-- a doubt is dropped: the place rises to the length of the history
+pub drop_keeps : (id : ℕ) (j : Joined) → j.slot ≡ None → j.pass ≡ None → Keeps doubts_dropped (λ n. n) id j
+drop_keeps id j no_slot no_pass words views kept at =
+    let o = at_gate words views id j kept at in
+    let h = o.2 in
+    let g = j.gate in
+    let k = doubts_dropped j in
+    let s = h.agrees.gate in (
+      (
+        k,
+        id,
+        o.0,
+        o.1,
+        record {
+          word = same_word words (length g.all) h.word;
+          fit = in_place j k id o.0 o.1 words views h
+              (λ t seat out f. record {
+                begins = f.begins;
+                mounted = f.mounted;
+                served = f.served;
+                settled_before = omega (arith, f.settled_before, s.settled_within);
+                settled_seen = f.settled_seen;
+                settled_below = f.settled_below;
+              })
+              (λ q seat out f. keep_pass g k.gate q refl (λ e. e) f);
+          files_out = h.files_out;
+          sessions_out = h.sessions_out;
+          slot_in = h.slot_in;
+          pass_in = h.pass_in;
+          agrees = record {
+            gate = record {
+              settled_within = omega arith;
+              settled_below = settled-whole (length g.all) 0 g.all (omega arith);
+              tags_right = s.tags_right;
+              faults_tagged = s.faults_tagged;
+              numbered = s.numbered;
+              files_distinct = s.files_distinct;
+              sessions_distinct = s.sessions_distinct;
+            };
+            slot = λ t e. absurd (none_or_some t j.slot no_slot e);
+            pass = λ q e. absurd (none_or_some q j.pass no_pass e);
+          };
+          unmounted = h.unmounted;
+        },
+      ),
+      ap (λ (ws : List ℕ). get_or ws 0 0) h.word,
+      h.agrees,
+    )
+
+files_still_out : (sa : ℕ → Option ℕ) (files : List ℕ) (o : Option SlotView) → ((t : SlotView) → o ≡ Some t → sa t.file ≡ None) → AllOut sa files → AllOut sa (files_left files o)
+files_still_out sa files None free all = all
+files_still_out sa files (Some t) free all = out-without sa files t.file (free t refl) all
+
+sessions_still_out : (pa : ℕ → Option ℕ) (sessions : List ℕ) (o : Option PassView) → ((t : PassView) → o ≡ Some t → pa t.session ≡ None) → AllOut pa sessions → AllOut pa (sessions_left sessions o)
+sessions_still_out pa sessions None free all = all
+sessions_still_out pa sessions (Some t) free all = out-without pa sessions t.session (free t refl) all
+
+files_still_distinct : (files : List ℕ) (o : Option SlotView) → are_distinct files ≡ true → are_distinct (files_left files o) ≡ true
+files_still_distinct files None h = h
+files_still_distinct files (Some t) h = distinct-without t.file files h
+
+sessions_still_distinct : (sessions : List ℕ) (o : Option PassView) → are_distinct sessions ≡ true → are_distinct (sessions_left sessions o) ≡ true
+sessions_still_distinct sessions None h = h
+sessions_still_distinct sessions (Some t) h = distinct-without t.session sessions h
+
+-- what was taken in stays for good
+pub retire_keeps : (id : ℕ) (j : Joined) → Keeps retired (λ n. n) id j
+retire_keeps id j words views kept at =
+    let o = at_gate words views id j kept at in
+    let sa = o.0 in
+    let pa = o.1 in
+    let h = o.2 in
+    let g = j.gate in
+    let k = retired j in
+    let s = h.agrees.gate in (
+      (
+        k,
+        id,
+        sa,
+        pa,
+        record {
+          word = same_word words (length g.all) h.word;
+          fit = in_place j k id sa pa words views h (λ t seat out f. keep_slot g k.gate t refl (λ e. e) (λ e. e) refl f) (λ q seat out f. keep_pass g k.gate q refl (λ e. e) f);
+          files_out = files_still_out sa g.files j.slot h.slot_in h.files_out;
+          sessions_out = sessions_still_out pa g.sessions j.pass h.pass_in h.sessions_out;
+          slot_in = λ t e. absurd (no_some t e);
+          pass_in = λ q e. absurd (no_some q e);
+          agrees = record {
+            gate = record {
+              settled_within = s.settled_within;
+              settled_below = s.settled_below;
+              tags_right = s.tags_right;
+              faults_tagged = s.faults_tagged;
+              numbered = s.numbered;
+              files_distinct = files_still_distinct g.files j.slot s.files_distinct;
+              sessions_distinct = sessions_still_distinct g.sessions j.pass s.sessions_distinct;
+            };
+            slot = λ t e. absurd (no_some t e);
+            pass = λ q e. absurd (no_some q e);
+          };
+          unmounted = h.unmounted;
+        },
+      ),
+      ap (λ (ws : List ℕ). get_or ws 0 0) h.word,
+      h.agrees,
+    )
+
+-- what was taken in sees the whole history
+pub look_keeps : (id : ℕ) (j : Joined) → Keeps renewed (λ n. n) id j
+look_keeps id j words views kept at =
+    let o = at_gate words views id j kept at in
+    let sa = o.0 in
+    let pa = o.1 in
+    let h = o.2 in
+    let g = j.gate in
+    let k = renewed j in
+    let s = h.agrees.gate in
+    let slots = slot_taken g (λ f. (sa f ≡ None) × (is_in f g.files ≡ true)) j.slot s.settled_within s.settled_below
+        (λ t e. let w = h.agrees.slot t e in (w.0.mounted, w.0.served, (h.slot_in t e, w.1))) in
+    let passes = pass_taken g (λ n. (pa n ≡ None) × (is_in n g.sessions ≡ true)) j.pass
+        (λ t e. let w = h.agrees.pass t e in (w.0.mounted, (h.pass_in t e, w.1))) in (
+      (
+        k,
+        id,
+        sa,
+        pa,
+        record {
+          word = same_word words (length g.all) h.word;
+          fit = in_place j k id sa pa words views h (λ t seat out f. f) (λ q seat out f. f);
+          files_out = h.files_out;
+          sessions_out = h.sessions_out;
+          slot_in = λ t e. (slots t e).1.0;
+          pass_in = λ q e. (passes q e).1.0;
+          agrees = record { gate = s; slot = λ t e. ((slots t e).0, (slots t e).1.1); pass = λ q e. ((passes q e).0, (passes q e).1.1) };
+          unmounted = h.unmounted;
+        },
+      ),
+      ap (λ (ws : List ℕ). get_or ws 0 0) h.word,
+      h.agrees,
+    )

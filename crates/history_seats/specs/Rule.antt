@@ -1,0 +1,83 @@
+-- The rule of the table: word 0 is the length of the history, and each seat's view fits the gate's.
+use Rattle.std.specs.Prelude.{◌≡◌, ◌==◌, ◌≤◌, ℕ, Bool, true, false, not, ◌&&◌, if◌then◌else◌, List, [], ◌∷◌, length, Option, Some, None}
+use Rattle.std.specs.List.{list_any}
+use mathlib.Core.Option.{some}
+use lib.ListN.{get_elem?}
+use Rattle.history_seats.specs.Records.{HistoryRecord, Begins, concerns_file, is_of_session, AreNumbered, AreFaultsTagged}
+use Rattle.history_seats.specs.Settling.{IsSettledBelow}
+use Rattle.history_seats.specs.Mounts.{Mounted}
+use Rattle.history_seats.specs.Versions.{AreTagsRight}
+use Rattle.history_seats.specs.Views.{GateView, SlotView, PassView, Joined, SeatView}
+use Rattle.history_seats.specs.Views.SeatView.{Gate, Slot, Pass, Spent}
+
+-- the number is in the list
+abbrev pub is_in : ℕ → List ℕ → Bool
+is_in n numbers = list_any (λ m. m == n) numbers
+
+-- no number is in the list twice
+abbrev pub are_distinct : List ℕ → Bool
+are_distinct [] = true
+are_distinct (n ∷ numbers) = not (is_in n numbers) && are_distinct numbers
+
+-- the list without the first such number
+abbrev pub without : ℕ → List ℕ → List ℕ
+without n [] = []
+without n (m ∷ numbers) = if m == n then numbers else m ∷ without n numbers
+
+-- What holds of the gate's view alone.
+pub record IsSound (gate : GateView) : Type 0 where
+  -- no doubtful event below its place is settled by a landing at it or later
+  pub settled_within : gate.settled ≤ length gate.all
+  pub settled_below : IsSettledBelow gate.settled 0 gate.all
+  -- each tag names the version that stood before it, and each fault of an object file has its tag
+  pub tags_right : (mounted : Mounted) → gate.mounted ≡ Some mounted → AreTagsRight mounted [] gate.all
+  pub faults_tagged : AreFaultsTagged gate.all
+  pub numbered : AreNumbered gate.all
+  pub files_distinct : are_distinct gate.files ≡ true
+  pub sessions_distinct : are_distinct gate.sessions ≡ true
+
+-- A slot's view fits the gate's: past what it has seen no record concerns its file, and each doubt below its place is settled there.
+pub record SlotFits (gate : GateView) (slot : SlotView) : Type 0 where
+  pub begins : Begins (concerns_file slot.file) slot.seen gate.all
+  pub mounted : gate.mounted ≡ Some slot.mounted
+  pub served : gate.served ≡ Some slot.served
+  pub settled_before : slot.settled ≤ gate.settled
+  pub settled_seen : slot.settled ≤ length slot.seen
+  pub settled_below : IsSettledBelow slot.settled 0 gate.all
+
+-- A pass's view fits the gate's: past what it has seen no event is of its session.
+pub record PassFits (gate : GateView) (pass : PassView) : Type 0 where
+  pub begins : Begins (is_of_session pass.session) pass.seen gate.all
+  pub mounted : gate.mounted ≡ Some pass.mounted
+
+-- what the gate has taken in fits its view, and is out
+pub record Agrees (joined : Joined) : Type 0 where
+  pub gate : IsSound joined.gate
+  pub slot : (slot : SlotView) → joined.slot ≡ Some slot → SlotFits joined.gate slot × (is_in slot.file joined.gate.files ≡ true)
+  pub pass : (pass : PassView) → joined.pass ≡ Some pass → PassFits joined.gate pass × (is_in pass.session joined.gate.sessions ≡ true)
+
+module _ (joined : Joined) (gate_at : ℕ) (slot_at pass_at : ℕ → Option ℕ) where
+  -- what the rule says of one seat's view: there is one gate, one slot of a file and one pass of a session
+  abbrev pub Fits : ℕ → SeatView → Type 0
+  Fits seat (Gate view) = (seat ≡ gate_at) × (view ≡ joined)
+  Fits seat (Slot slot) = (slot_at slot.file ≡ Some seat) × SlotFits joined.gate slot
+  Fits seat (Pass pass) = (pass_at pass.session ≡ Some seat) × PassFits joined.gate pass
+  Fits seat Spent = Unit {0}
+
+-- The rule, for a gate's view, and for the seats that have each file and each session.
+pub record Holds (joined : Joined) (gate_at : ℕ) (slot_at pass_at : ℕ → Option ℕ) (words : List ℕ) (views : List SeatView) : Type 0 where
+  pub word : words ≡ length joined.gate.all ∷ []
+  pub fit : (seat : ℕ) (view : SeatView) → get_elem? views seat ≡ some view → Fits joined gate_at slot_at pass_at seat view
+  -- who has a seat is out, and what was taken in has none
+  pub files_out : (file seat : ℕ) → slot_at file ≡ Some seat → is_in file joined.gate.files ≡ true
+  pub sessions_out : (session seat : ℕ) → pass_at session ≡ Some seat → is_in session joined.gate.sessions ≡ true
+  pub slot_in : (slot : SlotView) → joined.slot ≡ Some slot → slot_at slot.file ≡ None
+  pub pass_in : (pass : PassView) → joined.pass ≡ Some pass → pass_at pass.session ≡ None
+  pub agrees : Agrees joined
+  -- before the mount is told there is no record
+  pub unmounted : joined.gate.mounted ≡ None → joined.gate.all ≡ []
+
+-- The rule that the table keeps between any two steps.
+abbrev pub SeatRule : List ℕ → List SeatView → Type 0
+SeatRule words views =
+    (joined : Joined) × (gate_at : ℕ) × (slot_at : ℕ → Option ℕ) × (pass_at : ℕ → Option ℕ) × Holds joined gate_at slot_at pass_at words views

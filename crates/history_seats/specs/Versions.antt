@@ -1,0 +1,62 @@
+-- Which version of a file stands, by the tags of the records.
+use Rattle.std.specs.Prelude.{◌≡◌, ℕ, Bool, true, false, ◌==◌, ◌&&◌, if◌then◌else◌, List, [], ◌∷◌, ◌++◌, Option, Some, None}
+use Rattle.store_model.specs.declared.event.Event.{Event}
+use Rattle.store_model.specs.declared.event.Event.TheVariants.{Call as CallEvent, Landed}
+use Rattle.store_model.specs.declared.event.Mark.{Mark}
+use Rattle.store_model.specs.declared.event.Mark.TheVariants.{Unchanged, Made, Doubtful}
+use Rattle.store_model.specs.Record.{Tag}
+use Rattle.history_seats.specs.Records.{Version, HistoryRecord, names_object}
+use Rattle.history_seats.specs.Settling.{Pending, landed, settled_by}
+use Rattle.history_seats.specs.Mounts.{MountedEntry, Mounted, Entry}
+
+abbrev pub is_entry_of : (file generation : ℕ) → Entry → Bool
+is_entry_of file generation entry = (entry.file == file) && (entry.generation == generation)
+
+-- the version that an entry named at the mount
+abbrev pub version_among : (file generation : ℕ) → List MountedEntry → Option Version
+version_among file generation [] = None
+version_among file generation (e ∷ entries) = if is_entry_of file generation e.entry then Some e.version else version_among file generation entries
+
+abbrev pub mounted_version : (file generation : ℕ) → Mounted → Pending (Option Version)
+mounted_version file generation mounted = record { now = version_among file generation mounted.entries; if_landed = None }
+
+-- what the tag of an event with that mark says: what stands after it, and what stands once its doubt landed
+abbrev pub version_tagged : Mark → Tag Version → Pending (Option Version) → Pending (Option Version)
+version_tagged Unchanged tag p = record { now = tag.committed; if_landed = p.if_landed }
+version_tagged (Made commit) tag p = record { now = tag.committed; if_landed = None }
+version_tagged (Doubtful commit) tag p = record { now = tag.committed; if_landed = Some tag.doubted }
+
+-- the same of any event; a landing has no tag
+abbrev pub version_after : Event → Option (Tag Version) → Pending (Option Version) → Pending (Option Version)
+version_after (CallEvent session number call reply mark) (Some tag) p = version_tagged mark tag p
+version_after (CallEvent session number call reply mark) None p = settled_by (CallEvent session number call reply mark) p
+version_after (Landed commit) tag p = landed p
+
+-- The version of a file's generation after these records: that of the last tag, or that of its doubtful event once the doubt landed.
+abbrev pub version_from : (file generation : ℕ) → Pending (Option Version) → List HistoryRecord → Pending (Option Version)
+version_from file generation p [] = p
+version_from file generation p (r ∷ records) =
+    version_from file generation (if names_object file generation r.tag then version_after r.event r.tag p else settled_by r.event p) records
+
+-- where no tag names it, that of the mount
+abbrev pub version_of : (file generation : ℕ) → Mounted → List HistoryRecord → Pending (Option Version)
+version_of file generation mounted records = version_from file generation (mounted_version file generation mounted) records
+
+abbrev pub is_made_mark : Mark → Bool
+is_made_mark (Made commit) = true
+is_made_mark _ = false
+
+abbrev pub is_made : Event → Bool
+is_made (CallEvent session number call reply mark) = is_made_mark mark
+is_made (Landed commit) = false
+
+-- The tag of an object that is there after its event names the version that stood before it, unless the event made a commit.
+abbrev pub IsTagRight : Mounted → List HistoryRecord → HistoryRecord → Type 0
+IsTagRight mounted before r =
+    (tag : Tag Version) (version : Version) → r.tag ≡ Some tag → tag.committed ≡ Some version → is_made r.event ≡ false
+    → (version_of tag.file tag.generation mounted before).now ≡ Some version
+
+-- each record's tag is right behind those before it
+abbrev pub AreTagsRight : Mounted → (before records : List HistoryRecord) → Type 0
+AreTagsRight mounted before [] = Unit {0}
+AreTagsRight mounted before (r ∷ records) = IsTagRight mounted before r × AreTagsRight mounted (before ++ r ∷ []) records

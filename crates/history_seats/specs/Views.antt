@@ -1,0 +1,74 @@
+-- What each seat knows.
+use Rattle.std.specs.Prelude.{ℕ, false, List, [], Option, Some, None}
+use Rattle.atomic_table.specs.Seated.{TableId}
+use Rattle.history_seats.specs.Records.{HistoryRecord}
+use Rattle.history_seats.specs.Mounts.{Mounted, Served}
+
+-- The gate's: the whole history; a place below which each doubt is settled for good; and the files and sessions whose seats are
+-- out. The mount is told with the first seat that is split, the devices with the first of a slot.
+pub record GateView : Type 0 where
+  pub mounted : Option Mounted
+  pub served : Option Served
+  pub all : List HistoryRecord
+  pub settled : ℕ
+  pub files : List ℕ
+  pub sessions : List ℕ
+
+-- a file's: a beginning of the history that lacks no record of the file
+pub record SlotView : Type 0 where
+  pub mounted : Mounted
+  pub served : Served
+  pub seen : List HistoryRecord
+  pub settled : ℕ
+  pub file : ℕ
+  pub generation : ℕ
+
+-- a session's: a beginning of the history that lacks no event of the session
+pub record PassView : Type 0 where
+  pub mounted : Mounted
+  pub seen : List HistoryRecord
+  pub session : ℕ
+
+-- the gate's view, with the seats that it has taken in
+pub record Joined : Type 0 where
+  pub gate : GateView
+  pub slot : Option SlotView
+  pub pass : Option PassView
+
+-- what a seat knows; a spent one knows nothing
+pub data SeatView : Type 0 where
+  Gate : Joined → SeatView
+  Slot : SlotView → SeatView
+  Pass : PassView → SeatView
+  Spent : SeatView
+
+-- What contracts see of a seat: its table, and what it knows.
+pub record Sight (Known : Type 0) : Type 0 where
+  pub table : TableId
+  pub knows : Known
+
+-- with no seat taken in
+abbrev pub alone : GateView → Joined
+alone gate = record { gate = gate; slot = None; pass = None }
+
+abbrev pub new_gate : GateView
+new_gate = record { mounted = None; served = None; all = []; settled = 0; files = []; sessions = [] }
+
+abbrev pub no_mount : Mounted
+no_mount = record { entries = []; file_faults = []; card_faults = 0 }
+
+abbrev pub no_devices : Served
+no_devices = record { files = []; card = record { faults = 0; starved = 0; is_calm = false } }
+
+-- what a view is, where it is of that kind
+abbrev pub gate_of : SeatView → Joined
+gate_of (Gate joined) = joined
+gate_of _ = alone new_gate
+
+abbrev pub slot_of : SeatView → SlotView
+slot_of (Slot slot) = slot
+slot_of _ = record { mounted = no_mount; served = no_devices; seen = []; settled = 0; file = 0; generation = 0 }
+
+abbrev pub pass_of : SeatView → PassView
+pass_of (Pass pass) = pass
+pass_of _ = record { mounted = no_mount; seen = []; session = 0 }
