@@ -95,6 +95,6 @@ pub count-begins : (session : ℕ) (seen whole : List HistoryRecord) → Begins 
 count-begins session seen whole b =
     let parts : numbers_of session (events_of whole) ≡ numbers_of session (events_of seen) ++ numbers_of session (events_of b.rest) =
     ap (λ (l : List HistoryRecord). numbers_of session (events_of l)) (sym b.is)
-        ∙ ap (numbers_of session) (map-append (λ (x : HistoryRecord). x.event) seen b.rest)
-        ∙ numbers-append session (events_of seen) (events_of b.rest) in
+    ∙ ap (numbers_of session) (map-append (λ (x : HistoryRecord). x.event) seen b.rest)
+    ∙ numbers-append session (events_of seen) (events_of b.rest) in
     ap length (parts ∙ ap (λ (l : List ℕ). numbers_of session (events_of seen) ++ l) (none_of session b.rest b.lacks) ∙ append-nil (numbers_of session (events_of seen)))

@@ -48,8 +48,7 @@ slot_split told file generation id j new words views kept at =
         word = h.word;
         fit = and_new j k id (Slot (new_slot told file generation g)) sa sb pa pa words views h
             (λ t seat out f. (put_else sa file (Some (length views)) t.file (other_than sa g.files file t.file seat h.files_out new out) ∙ out, slot_stays t f))
-            (λ p seat out f. (out, pass_stays p f))
-            (
+            (λ p seat out f. (out, pass_stays p f)) (
               put_here sa file (Some (length views)) file refl,
               record { begins = begins-whole (concerns_file file) g.all; mounted = refl; served = refl; settled_before = omega arith; settled_seen = s.settled_within; settled_below = s.settled_below },
             );

@@ -1,10 +1,14 @@
 -- Tags that name the version which stood before them.
-use Rattle.std.proofs.Common.{◌≡◌, List, [], ◌∷◌, ◌++◌, sym, subst, append_assoc}
+use Rattle.std.proofs.Common.{◌≡◌, List, [], ◌∷◌, ◌++◌, true≢false, Option, Some, None, refl, sym, subst, append_assoc}
+use Rattle.std.proofs.lemmas.Bool.{eqb-true}
 use Rattle.std.proofs.lemmas.List.{append-nil}
 use Rattle.std.proofs.lemmas.List.Elements.{All-append, All-cons, All-nil}
 use Rattle.history_seats.specs.Records.{HistoryRecord, IsFaultTagged, AreFaultsTagged}
 use Rattle.history_seats.specs.Mounts.{Mounted}
 use Rattle.history_seats.specs.Versions.{IsTagRight, AreTagsRight}
+use Rattle.history_seats.specs.Views.{GateView, SlotView, PassView}
+use Rattle.history_seats.specs.Steps.{Left, record_of, IsTagIn, together}
+use Rattle.store_model.specs.declared.event.Event.{Event}
 
 pub tags-snoc : (m : Mounted) (before records : List HistoryRecord) (r : HistoryRecord) → AreTagsRight m before records → IsTagRight m (before ++ records) r → AreTagsRight m before (records ++ r ∷ [])
 tags-snoc m before [] r n e = (subst (λ (l : List HistoryRecord). IsTagRight m l r) (append-nil before) e, tt)
@@ -15,3 +19,12 @@ tags-snoc m before (x ∷ records) r n e = (
 
 pub faults-snoc : (records : List HistoryRecord) (r : HistoryRecord) → AreFaultsTagged records → IsFaultTagged r → AreFaultsTagged (records ++ r ∷ [])
 faults-snoc records r all here = All-append IsFaultTagged records (r ∷ []) all (All-cons IsFaultTagged r [] here (All-nil IsFaultTagged))
+
+-- a record's tag names the file of the slot that came with it, and no other
+pub tag_in : (gate : GateView) (pass : Option PassView) (event : Event) (slot : Option SlotView) (left : Left) → IsTagIn (together gate slot pass) (record_of event slot left)
+tag_in gate pass event None left = λ file e. absurd (true≢false (sym e))
+tag_in gate pass event (Some s) left = λ file e. (s, refl, eqb-true s.file file e)
+
+pub event_in : (event : Event) (slot : Option SlotView) (left : Left) → (record_of event slot left).event ≡ event
+event_in event None left = refl
+event_in event (Some s) left = refl

@@ -102,9 +102,9 @@ append_keeps r id j room tag event fits words views kept at =
     let below : (z : ℕ) → IsSettledBelow z 0 g.all → IsSettledBelow z 0 k.gate.all = λ z s. settled-snoc z 0 g.all r s call.call in
     let sound : IsSound k.gate = sound-more r g h.agrees.gate (below g.settled h.agrees.gate.settled_below) next fits in
     let slots = slot_taken k.gate (λ f. (sa f ≡ None) × (is_in f g.files ≡ true)) j.slot sound.settled_within sound.settled_below
-        (λ t e. let w = h.agrees.slot t e in (w.0.mounted, w.0.served, (h.slot_in t e, w.1))) in
+    (λ t e. let w = h.agrees.slot t e in (w.0.mounted, w.0.served, (h.slot_in t e, w.1))) in
     let passes = pass_taken k.gate (λ s. (pa s ≡ None) × (is_in s g.sessions ≡ true)) j.pass
-        (λ t e. let w = h.agrees.pass t e in (w.0.mounted, (h.pass_in t e, w.1))) in (
+    (λ t e. let w = h.agrees.pass t e in (w.0.mounted, (h.pass_in t e, w.1))) in (
       (
         k,
         id,
@@ -309,9 +309,9 @@ look_keeps id j words views kept at =
     let k = renewed j in
     let s = h.agrees.gate in
     let slots = slot_taken g (λ f. (sa f ≡ None) × (is_in f g.files ≡ true)) j.slot s.settled_within s.settled_below
-        (λ t e. let w = h.agrees.slot t e in (w.0.mounted, w.0.served, (h.slot_in t e, w.1))) in
+    (λ t e. let w = h.agrees.slot t e in (w.0.mounted, w.0.served, (h.slot_in t e, w.1))) in
     let passes = pass_taken g (λ n. (pa n ≡ None) × (is_in n g.sessions ≡ true)) j.pass
-        (λ t e. let w = h.agrees.pass t e in (w.0.mounted, (h.pass_in t e, w.1))) in (
+    (λ t e. let w = h.agrees.pass t e in (w.0.mounted, (h.pass_in t e, w.1))) in (
       (
         k,
         id,

@@ -3,10 +3,11 @@ use Rattle.std.specs.Prelude.{◌≡◌, ◌==◌, ℕ, true, List, [], ◌∷�
 use Rattle.store_model.specs.declared.event.Event.{Event}
 use Rattle.store_model.specs.declared.event.Event.TheVariants.{Call as CallEvent, Landed}
 use Rattle.store_model.specs.Record.{Tag}
+use Rattle.atomic_table.specs.Seated.{TableId}
 use Rattle.history_seats.specs.Records.{Version, HistoryRecord, count_of, concerns_file, IsFaultTagged}
 use Rattle.history_seats.specs.Mounts.{Mounted, Served}
 use Rattle.history_seats.specs.Versions.{IsTagRight}
-use Rattle.history_seats.specs.Views.{GateView, SlotView, PassView, Joined, SeatView, Sight, alone}
+use Rattle.history_seats.specs.Views.{GateView, SlotView, PassView, Joined, SeatView, Sight, alone, no_mount, no_devices}
 use Rattle.history_seats.specs.Views.SeatView.{Gate, Slot, Pass, Spent}
 use Rattle.history_seats.specs.Rule.{without, Agrees}
 
@@ -38,6 +39,9 @@ IsNextOf pass (Landed commit) = ⊥
 -- one more record
 abbrev pub with_record : HistoryRecord → GateView → GateView
 with_record r gate = record gate { all = gate.all ++ r ∷ [] }
+
+abbrev pub nothing_told : Told
+nothing_told = record { mounted = no_mount; served = no_devices }
 
 -- the gate with one more file out, and the new seat; what was told before stays
 abbrev pub with_slot_out : Told → ℕ → GateView → GateView
@@ -181,7 +185,26 @@ pub record IsFitting (gate : GateView) (r : HistoryRecord) : Type 0 where
   pub right : (mounted : Mounted) → gate.mounted ≡ Some mounted → IsTagRight mounted gate.all r
   pub fault_tagged : IsFaultTagged r
 
--- the views of seats that may be there
-abbrev pub slot_views : Option (Sight SlotView) → Option SlotView
-slot_views None = None
-slot_views (Some slot) = Some slot.knows
+-- the view of a seat that may be there
+abbrev pub view_in : Option (Sight SlotView) → Option SlotView
+view_in None = None
+view_in (Some slot) = Some slot.knows
+
+-- the file and the generation of a slot that may be there
+abbrev pub ids_in : Option SlotView → Option (ℕ × ℕ)
+ids_in None = None
+ids_in (Some slot) = Some (slot.file, slot.generation)
+
+-- a seat that may be there is of that table
+abbrev pub IsOf : TableId → Option (Sight SlotView) → Type 0
+IsOf table None = Unit {0}
+IsOf table (Some slot) = slot.table ≡ table
+
+-- a seat that may be there, once it sees the whole history
+abbrev pub seat_renewed : GateView → Option (Sight SlotView) → Option (Sight SlotView)
+seat_renewed gate None = None
+seat_renewed gate (Some slot) = Some (record slot { knows = slot_renewed gate slot.knows })
+
+-- the gate with these seats
+abbrev pub together : GateView → Option SlotView → Option PassView → Joined
+together gate slot pass = record { gate = gate; slot = slot; pass = pass }

@@ -1,8 +1,10 @@
 //! One history, seen in prefixes: a table whose word is the history's length, and the seats of the gate, of files and of sessions.
 #![tactic(auto)]
 
+mod gate;
 mod rule;
 mod seats;
+mod steps;
 
-pub use rule::View;
+pub use gate::{Appended, Refreshed};
 pub use seats::{GateSeat, HistoryTable, PassSeat, SlotSeat};

@@ -12,7 +12,7 @@ use tee_types::NoMemory;
 /// The table, whose word 0 is the length of the history.
 #[derive(Drop)]
 pub struct HistoryTable {
-    table: Table<(), View, (), Law, Global>,
+    pub(crate) table: Table<(), View, (), Law, Global>,
 }
 
 impl Model for HistoryTable {
@@ -29,7 +29,7 @@ impl Model for HistoryTable {
 /// The seat of the gate. It knows the whole history.
 #[derive(Drop)]
 pub struct GateSeat {
-    seat: Seat<(), View>,
+    pub(crate) seat: Seat<(), View>,
 }
 
 impl Model for GateSeat {
@@ -47,9 +47,9 @@ impl Model for GateSeat {
 /// The seat of a file.
 #[derive(Drop)]
 pub struct SlotSeat {
-    seat: Seat<(), View>,
-    file: u16,
-    generation: u32,
+    pub(crate) seat: Seat<(), View>,
+    pub(crate) file: u16,
+    pub(crate) generation: u32,
 }
 
 impl Model for SlotSeat {
@@ -67,8 +67,8 @@ impl Model for SlotSeat {
 /// The seat of a session.
 #[derive(Drop)]
 pub struct PassSeat {
-    seat: Seat<(), View>,
-    session: u32,
+    pub(crate) seat: Seat<(), View>,
+    pub(crate) session: u32,
 }
 
 impl Model for PassSeat {

@@ -1,0 +1,5 @@
+use Rattle.history_seats.specs.Steps.{landing_of}
+use Rattle.history_seats.proofs.seats.GateSeat.append_landed.Given as goal
+
+abbrev pub ghosts-add_landing : goal.ghosts-add_landing
+ghosts-add_landing a = record { entry = landing_of a.commit }

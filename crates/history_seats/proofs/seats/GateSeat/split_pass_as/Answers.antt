@@ -1,0 +1,16 @@
+use Rattle.std.proofs.Common.{◌≡◌, ℕ, ap, sym, ◌∙◌, false, arith}
+use Rattle.history_seats.specs.Views.{Sight, GateView, gate_of, alone}
+use Rattle.history_seats.specs.Rule.{is_in}
+use Rattle.history_seats.proofs.Moves.{splits_pass}
+use Rattle.history_seats.proofs.seats.GateSeat.split_pass_as.Goals as goal
+
+pub split_seat-seat-requires : goal.split_seat-seat-requires
+split_seat-seat-requires g c =
+    let seat = c.self.inside.seat in
+    let sessions = (gate_of seat.me.0).gate.sessions in
+    let new : is_in c.args.session sessions ≡ false = ap (λ (s : Sight GateView). is_in c.args.session s.knows.sessions) c.self.view_is ∙ c.requires.new in (
+      ap (λ (s : Sight GateView). s.table) c.self.view_is ∙ c.requires.table ∙ sym c.table.view_is,
+      omega (arith, c.table.invariant.0),
+      splits_pass g.N.PassName.mounted g.N.PassName.session seat.id seat.me.0 (alone (gate_of seat.me.0).gate) (ap (λ m. m.0) c.self.invariant)
+          (ap (λ (n : ℕ). is_in n sessions) c.requires.name ∙ new),
+    )

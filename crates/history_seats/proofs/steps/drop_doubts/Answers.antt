@@ -1,0 +1,15 @@
+use Rattle.std.proofs.Common.{◌≡◌, ap, sym, ◌∙◌, arith}
+use Rattle.history_seats.specs.Views.{gate_of}
+use Rattle.history_seats.specs.Steps.{doubts_dropped}
+use Rattle.history_seats.proofs.WordSteps.{drop_keeps}
+use Rattle.history_seats.proofs.Moves.{moves}
+use Rattle.history_seats.proofs.steps.drop_doubts.Goals as goal
+
+pub load-requires : goal.load-requires
+load-requires c =
+    let seat = c.args.seat.now in
+    let joined = gate_of seat.me.0 in (
+      c.requires.table ∙ sym c.table.view_is,
+      omega (arith, c.table.invariant.0),
+      moves doubts_dropped (λ n. n) _ seat.id seat.me joined (ap (λ m. m.0) c.requires.gate) (drop_keeps seat.id joined c.requires.alone.0 c.requires.alone.1),
+    )
