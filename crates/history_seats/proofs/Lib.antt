@@ -9,3 +9,7 @@ pub mod Outs
 pub mod WordSteps
 pub mod SeatSteps
 pub mod Moves
+pub mod Parts
+pub mod Givens
+pub mod OtherSessions
+pub mod SessionParts

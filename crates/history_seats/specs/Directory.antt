@@ -1,6 +1,6 @@
 -- The directory after some records, and which version they give for a file's generation.
 use Rattle.std.specs.Prelude.{◌≡◌, ℕ, Bool, true, false, not, ◌&&◌, ◌||◌, if◌then◌else◌, List, [], ◌∷◌, map, filter, Option, Some, None, slice_index_or}
-use Rattle.std.specs.List.{list_any}
+use Rattle.std.specs.List.{list_any, fold}
 use Rattle.tee_types.specs.declared.call.Call.{Call}
 use Rattle.tee_types.specs.declared.call.Call.TheVariants.{Create, Rename, Delete}
 use Rattle.store_model.specs.declared.event.Event.{Event}
@@ -31,12 +31,17 @@ with_name tag name entries = map (renamed tag name) entries
 abbrev pub without_entry : Tag Version → List Entry → List Entry
 without_entry tag entries = filter (λ e. not (is_entry_of tag.file tag.generation e)) entries
 
--- the entries after the commit of that call of an application, with that tag
+-- the entries after the commit of that call of an application, on the object with that tag
+abbrev pub entries_tagged : List ℕ → Call → Tag Version → List Entry → List Entry
+entries_tagged application (Create id flags attributes bytes) tag entries = with_entry tag (record { app = application; id = id }) entries
+entries_tagged application (Rename handle id) tag entries = with_name tag (record { app = application; id = id }) entries
+entries_tagged application (Delete handle) tag entries = without_entry tag entries
+entries_tagged application _ tag entries = entries
+
+-- a commit without a tag moves none
 abbrev pub entries_committed : List ℕ → Call → Option (Tag Version) → List Entry → List Entry
-entries_committed application (Create id flags attributes bytes) (Some tag) entries = with_entry tag (record { app = application; id = id }) entries
-entries_committed application (Rename handle id) (Some tag) entries = with_name tag (record { app = application; id = id }) entries
-entries_committed application (Delete handle) (Some tag) entries = without_entry tag entries
-entries_committed application _ _ entries = entries
+entries_committed application call None entries = entries
+entries_committed application call (Some tag) entries = entries_tagged application call tag entries
 
 -- the entries after an event with that mark, where its commit leaves those
 abbrev pub entries_marked : Mark → List Entry → Pending (List Entry) → Pending (List Entry)
@@ -44,20 +49,21 @@ entries_marked Unchanged committed p = p
 entries_marked (Made commit) committed p = record { now = committed; if_landed = None }
 entries_marked (Doubtful commit) committed p = record { now = p.now; if_landed = Some committed }
 
--- the entries after a record; the sessions are those of these applications
 abbrev pub entries_after : List (List ℕ) → Event → Option (Tag Version) → Pending (List Entry) → Pending (List Entry)
 entries_after applications (CallEvent session number call reply mark) tag p =
     entries_marked mark (entries_committed (slice_index_or applications session []) call tag p.now) p
 entries_after applications (Landed commit) tag p = landed p
 
-abbrev pub entries_from : List (List ℕ) → Pending (List Entry) → List HistoryRecord → Pending (List Entry)
-entries_from applications p [] = p
-entries_from applications p (r ∷ records) = entries_from applications (entries_after applications r.event r.tag p) records
+-- what one record does to the entries; the sessions are those of these applications
+abbrev pub entries_next : List (List ℕ) → Pending (List Entry) → HistoryRecord → Pending (List Entry)
+entries_next applications p r = entries_after applications r.event r.tag p
+
+abbrev pub mounted_entries : Mounted → Pending (List Entry)
+mounted_entries mounted = record { now = map (λ e. e.entry) mounted.entries; if_landed = None }
 
 -- the directory after these records, from the mount on
 abbrev pub directory_of : List (List ℕ) → Mounted → List HistoryRecord → Pending (List Entry)
-directory_of applications mounted records =
-    entries_from applications (record { now = map (λ e. e.entry) mounted.entries; if_landed = None }) records
+directory_of applications mounted records = fold (entries_next applications) (mounted_entries mounted) records
 
 -- an entry has that file and generation
 abbrev pub has_entry : (file generation : ℕ) → List Entry → Bool

@@ -6,3 +6,5 @@ pub mod Directory
 pub mod Views
 pub mod Rule
 pub mod Steps
+pub mod Sessions
+pub mod Laws

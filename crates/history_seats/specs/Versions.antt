@@ -1,5 +1,6 @@
 -- Which version of a file stands, by the tags of the records.
 use Rattle.std.specs.Prelude.{◌≡◌, ℕ, Bool, true, false, ◌==◌, ◌&&◌, if◌then◌else◌, List, [], ◌∷◌, ◌++◌, Option, Some, None}
+use Rattle.std.specs.List.{fold}
 use Rattle.store_model.specs.declared.event.Event.{Event}
 use Rattle.store_model.specs.declared.event.Event.TheVariants.{Call as CallEvent, Landed}
 use Rattle.store_model.specs.declared.event.Mark.{Mark}
@@ -20,27 +21,33 @@ version_among file generation (e ∷ entries) = if is_entry_of file generation e
 abbrev pub mounted_version : (file generation : ℕ) → Mounted → Pending (Option Version)
 mounted_version file generation mounted = record { now = version_among file generation mounted.entries; if_landed = None }
 
--- what the tag of an event with that mark says: what stands after it, and what stands once its doubt landed
-abbrev pub version_tagged : Mark → Tag Version → Pending (Option Version) → Pending (Option Version)
-version_tagged Unchanged tag p = record { now = tag.committed; if_landed = p.if_landed }
-version_tagged (Made commit) tag p = record { now = tag.committed; if_landed = None }
-version_tagged (Doubtful commit) tag p = record { now = tag.committed; if_landed = Some tag.doubted }
+-- what a tag says is committed after its event, and what the doubt of its event leaves
+abbrev pub committed_in : Option (Tag Version) → Option Version
+committed_in None = None
+committed_in (Some tag) = tag.committed
 
--- the same of any event; a landing has no tag
+abbrev pub doubted_in : Option (Tag Version) → Option Version
+doubted_in None = None
+doubted_in (Some tag) = tag.doubted
+
+abbrev pub version_marked : Mark → Option (Tag Version) → Pending (Option Version) → Pending (Option Version)
+version_marked Unchanged tag p = record { now = committed_in tag; if_landed = p.if_landed }
+version_marked (Made commit) tag p = record { now = committed_in tag; if_landed = None }
+version_marked (Doubtful commit) tag p = record { now = committed_in tag; if_landed = Some (doubted_in tag) }
+
+-- the version after an event with that tag; a landing has none
 abbrev pub version_after : Event → Option (Tag Version) → Pending (Option Version) → Pending (Option Version)
-version_after (CallEvent session number call reply mark) (Some tag) p = version_tagged mark tag p
-version_after (CallEvent session number call reply mark) None p = settled_by (CallEvent session number call reply mark) p
+version_after (CallEvent session number call reply mark) tag p = version_marked mark tag p
 version_after (Landed commit) tag p = landed p
 
--- The version of a file's generation after these records: that of the last tag, or that of its doubtful event once the doubt landed.
-abbrev pub version_from : (file generation : ℕ) → Pending (Option Version) → List HistoryRecord → Pending (Option Version)
-version_from file generation p [] = p
-version_from file generation p (r ∷ records) =
-    version_from file generation (if names_object file generation r.tag then version_after r.event r.tag p else settled_by r.event p) records
+-- what one record does to the version of a file's generation: its tag says, where it names them, else the event may settle their doubt
+abbrev pub version_next : (file generation : ℕ) → Pending (Option Version) → HistoryRecord → Pending (Option Version)
+version_next file generation p r = if names_object file generation r.tag then version_after r.event r.tag p else settled_by r.event p
 
--- where no tag names it, that of the mount
+-- The version of a file's generation after these records: that of the last tag, or that of its doubtful event once the doubt landed;
+-- where no tag names them, that of the mount.
 abbrev pub version_of : (file generation : ℕ) → Mounted → List HistoryRecord → Pending (Option Version)
-version_of file generation mounted records = version_from file generation (mounted_version file generation mounted) records
+version_of file generation mounted records = fold (version_next file generation) (mounted_version file generation mounted) records
 
 abbrev pub is_made_mark : Mark → Bool
 is_made_mark (Made commit) = true

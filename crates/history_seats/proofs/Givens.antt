@@ -1,0 +1,174 @@
+-- What a slot's view tells of its file after the whole history.
+use Rattle.std.proofs.Common.{◌≡◌, ◌⊎◌, ℕ, suc, ◌+◌, ◌<◌, ◌≤◌, ◌==◌, List, [], ◌∷◌, ◌++◌, length, map, Bool, true, false, true≢false, cond, not, ◌&&◌, ◌||◌, Option, Some, None, refl, sym, ap, ◌∙◌, subst, inl, inr, ⊎_elim, arith, length-append, append_assoc}
+use Rattle.std.proofs.lemmas.Bool.{lt-ltb, le-leb}
+use Rattle.std.proofs.lemmas.List.Sums.{fold-append}
+use Rattle.std.specs.Prelude.{filter, nat_le, nat_lt, slice_index_or}
+use Rattle.std.specs.List.{list_any, fold}
+use Rattle.tee_types.specs.declared.call.Call.{Call}
+use Rattle.tee_types.specs.declared.call.Call.TheVariants.{Create, Rename, Delete}
+use Rattle.store_model.specs.declared.event.Event.{Event}
+use Rattle.store_model.specs.declared.event.Event.TheVariants.{Call as CallEvent, Landed}
+use Rattle.store_model.specs.declared.event.Mark.{Mark}
+use Rattle.store_model.specs.declared.event.Mark.TheVariants.{Unchanged, Made, Doubtful}
+use Rattle.store_model.specs.declared.name.ObjectName.{ObjectName}
+use Rattle.store_model.specs.Name.{name_eq}
+use Rattle.store_model.specs.Record.{Tag}
+use Rattle.store_model.specs.LegalHistory.{events_of}
+use Rattle.history_seats.specs.Records.{Version, HistoryRecord, Begins, names_file, names_object, concerns_file}
+use Rattle.history_seats.specs.Settling.{Pending, landed, dropped, settled_by_mark, settled_by, settles, is_landing, is_doubtful, is_mark_of, is_doubtful_mark, settling, settled, is_early, IsSettledBelow, IsOpenDoubt}
+use Rattle.history_seats.specs.Mounts.{Entry, Mounted}
+use Rattle.history_seats.specs.Versions.{is_entry_of, mounted_version, version_after, version_next, version_of}
+use Rattle.history_seats.specs.Directory.{with_entry, renamed, with_name, without_entry, entries_tagged, entries_committed, entries_marked, entries_after, entries_next, mounted_entries, directory_of, has_entry, given_version}
+use Rattle.history_seats.specs.Laws.{IsGiven}
+use Rattle.history_seats.proofs.Lists.{either_bool, neither, or_kept, or_right}
+use Rattle.history_seats.proofs.Parts.{settled-all, part-kept}
+
+-- a tag that names another file names another object
+other_object : (file generation : ℕ) (tag : Option (Tag Version)) → names_file file tag ≡ false → names_object file generation tag ≡ false
+other_object file generation None e = refl
+other_object file generation (Some tag) e = rw e refl
+
+version-rest : (file generation : ℕ) (p : Pending (Option Version)) (records : List HistoryRecord) → list_any (concerns_file file) records ≡ false
+    → fold (version_next file generation) p records ≡ settled (settling records) p
+version-rest file generation p records lacks =
+    part-kept (version_next file generation) (λ q. q) (concerns_file file) (λ q rs. Unit {0})
+    (λ q r rs fine off. ap (λ (b : Bool). cond b (version_after r.event r.tag q) (settled_by r.event q)) (other_object file generation r.tag off))
+    (λ q r rs fine. tt) p records tt lacks
+
+pub version-whole : (file generation : ℕ) (mounted : Mounted) (seen whole : List HistoryRecord) (b : Begins (concerns_file file) seen whole)
+    → version_of file generation mounted whole ≡ settled (settling b.rest) (version_of file generation mounted seen)
+version-whole file generation mounted seen whole b =
+    ap (fold (version_next file generation) (mounted_version file generation mounted)) (sym b.is)
+    ∙ fold-append (version_next file generation) (mounted_version file generation mounted) seen b.rest
+    ∙ version-rest file generation (version_of file generation mounted seen) b.rest b.lacks
+
+-- what a filter leaves was there
+any-filter : {A : Type 0} (p q : A → Bool) (xs : List A) → list_any p (filter q xs) ≡ true → list_any p xs ≡ true
+any-filter p q [] h = h
+any-filter p q (x ∷ xs) h = one (q x) (any-filter p q xs) h
+  where
+    one : (b : Bool) → (list_any p (filter q xs) ≡ true → list_any p xs ≡ true) → list_any p (cond b (x ∷ filter q xs) (filter q xs)) ≡ true → (p x || list_any p xs) ≡ true
+    one true hyp e = or_kept (p x) (list_any p (filter q xs)) (list_any p xs) e hyp
+    one false hyp e = or_right (p x) (list_any p xs) (hyp e)
+
+-- a name changes no file
+any-renamed : (file generation : ℕ) (tag : Tag Version) (name : ObjectName) (entries : List Entry) → has_entry file generation (with_name tag name entries) ≡ has_entry file generation entries
+any-renamed file generation tag name [] = refl
+any-renamed file generation tag name (e ∷ entries) =
+    ap (λ (b : Bool). b || has_entry file generation (with_name tag name entries)) (one (is_entry_of tag.file tag.generation e))
+    ∙ ap (λ (b : Bool). is_entry_of file generation e || b) (any-renamed file generation tag name entries)
+  where
+    one : (b : Bool) → is_entry_of file generation (cond b (record e { name = name }) e) ≡ is_entry_of file generation e
+    one true = refl
+    one false = refl
+
+-- a commit of another file brings no entry of this one
+none-comes : (file generation : ℕ) (application : List ℕ) (call : Call) (tag : Option (Tag Version)) (entries : List Entry) → names_file file tag ≡ false
+    → has_entry file generation (entries_committed application call tag entries) ≡ true → has_entry file generation entries ≡ true
+none-comes file generation application call None entries off h = h
+none-comes file generation application (Create id flags attributes bytes) (Some tag) entries off h =
+    let name : ObjectName = record { app = application; id = id } in
+    any-filter (is_entry_of file generation) (λ e. not (name_eq name e.name)) entries (past (tag.file == file) (tag.generation == generation) _ off h)
+  where
+    past : (b same rest : Bool) → b ≡ false → ((b && same) || rest) ≡ true → rest ≡ true
+    past true same rest e q = absurd (true≢false e)
+    past false same rest e q = q
+none-comes file generation application (Rename handle id) (Some tag) entries off h = sym (any-renamed file generation tag (record { app = application; id = id }) entries) ∙ h
+none-comes file generation application (Delete handle) (Some tag) entries off h = any-filter (is_entry_of file generation) (λ e. not (is_entry_of tag.file tag.generation e)) entries h
+none-comes file generation application _ (Some tag) entries off h = h
+
+-- no entry of the file is in the first that is not in the second, now or once the doubt landed
+record IsWithin (file generation : ℕ) (p q : Pending (List Entry)) : Type 0 where
+  pub now : has_entry file generation p.now ≡ true → has_entry file generation q.now ≡ true
+  pub then : has_entry file generation (landed p).now ≡ true → has_entry file generation (landed q).now ≡ true
+
+within-next : (file generation : ℕ) (applications : List (List ℕ)) (p q : Pending (List Entry)) (r : HistoryRecord) → concerns_file file r ≡ false → IsWithin file generation p q
+    → IsWithin file generation (entries_next applications p r) (settled_by r.event q)
+within-next file generation applications p q r off w = one r.event
+  where
+    marked : (m : Mark) (committed : List Entry) → (has_entry file generation committed ≡ true → has_entry file generation p.now ≡ true) → IsWithin file generation (entries_marked m committed p) (settled_by_mark m q)
+    marked Unchanged committed none = w
+    marked (Made commit) committed none = record { now = λ h. w.now (none h); then = λ h. w.now (none h) }
+    marked (Doubtful commit) committed none = record { now = w.now; then = λ h. w.now (none h) }
+
+    one : (event : Event) → IsWithin file generation (entries_after applications event r.tag p) (settled_by event q)
+    one (CallEvent session number call reply mark) =
+        marked mark (entries_committed (slice_index_or applications session []) call r.tag p.now) (none-comes file generation (slice_index_or applications session []) call r.tag p.now off)
+    one (Landed commit) = record { now = w.then; then = w.then }
+
+within-rest : (file generation : ℕ) (applications : List (List ℕ)) (p q : Pending (List Entry)) (records : List HistoryRecord) → list_any (concerns_file file) records ≡ false → IsWithin file generation p q
+    → IsWithin file generation (fold (entries_next applications) p records) (fold (λ x r. settled_by r.event x) q records)
+within-rest file generation applications p q [] lacks w = w
+within-rest file generation applications p q (r ∷ records) lacks w =
+    let off = neither (concerns_file file r) (list_any (concerns_file file) records) lacks in
+    within-rest file generation applications (entries_next applications p r) (settled_by r.event q) records off.1 (within-next file generation applications p q r off.0 w)
+
+-- an entry of the file after the whole history is one that the beginning tells
+pub entry-whole : (file generation : ℕ) (applications : List (List ℕ)) (mounted : Mounted) (seen whole : List HistoryRecord) (b : Begins (concerns_file file) seen whole)
+    → has_entry file generation (directory_of applications mounted whole).now ≡ true
+    → has_entry file generation (settled (settling b.rest) (directory_of applications mounted seen)).now ≡ true
+entry-whole file generation applications mounted seen whole b h =
+    let known = directory_of applications mounted seen in
+    let parts : directory_of applications mounted whole ≡ fold (entries_next applications) known b.rest =
+    ap (fold (entries_next applications) (mounted_entries mounted)) (sym b.is) ∙ fold-append (entries_next applications) (mounted_entries mounted) seen b.rest in
+    let within = within-rest file generation applications known known b.rest b.lacks (record { now = λ x. x; then = λ x. x }) in
+    sym (ap (λ (x : Pending (List Entry)). has_entry file generation x.now) (settled-all known b.rest))
+    ∙ within.now (sym (ap (λ (x : Pending (List Entry)). has_entry file generation x.now) parts) ∙ h)
+
+pub given-whole : (file generation : ℕ) (applications : List (List ℕ)) (mounted : Mounted) (seen whole : List HistoryRecord) (b : Begins (concerns_file file) seen whole)
+    → IsGiven (settled (settling b.rest) (version_of file generation mounted seen)).now (settled (settling b.rest) (directory_of applications mounted seen)).now file generation (given_version applications mounted whole file generation)
+given-whole file generation applications mounted seen whole b = record {
+  version = ⊎_elim
+      (λ (y : has_entry file generation (directory_of applications mounted whole).now ≡ true). inr (rw y (ap (λ (x : Pending (Option Version)). x.now) (version-whole file generation mounted seen whole b))))
+      (λ (y : has_entry file generation (directory_of applications mounted whole).now ≡ false). inl (rw y refl))
+      (either_bool (has_entry file generation (directory_of applications mounted whole).now));
+  nothing = λ none. ⊎_elim
+      (λ (y : has_entry file generation (directory_of applications mounted whole).now ≡ true). absurd (true≢false (sym (entry-whole file generation applications mounted seen whole b y) ∙ none)))
+      (λ (y : has_entry file generation (directory_of applications mounted whole).now ≡ false). rw y refl)
+      (either_bool (has_entry file generation (directory_of applications mounted whole).now));
+}
+
+-- what is early for a doubtful event stays so past the events that do not settle it
+below-at : (z k : ℕ) (front : List HistoryRecord) (d : HistoryRecord) (back : List HistoryRecord) → IsSettledBelow z k (front ++ d ∷ back) → is_doubtful d.event ≡ true → k + length front < z
+    → is_early z (suc (k + length front)) back ≡ true
+below-at z k [] d back s is lt =
+    let here : k < z = omega arith in
+    subst (λ (n : ℕ). is_early z (suc n) back ≡ true) (omega arith) (s.0 is (lt-ltb k z here))
+below-at z k (x ∷ front) d back s is lt =
+    subst (λ (n : ℕ). is_early z (suc n) back ≡ true) (omega arith) (below-at z (suc k) front d back s.1 is (omega arith))
+
+early-past : (z k : ℕ) (back rest : List HistoryRecord) → is_early z k (back ++ rest) ≡ true → list_any settles (events_of back) ≡ false → is_early z (k + length back) rest ≡ true
+early-past z k [] rest e none = subst (λ (n : ℕ). is_early z n rest ≡ true) (omega arith) e
+early-past z k (x ∷ back) rest e none =
+    let off = neither (settles x.event) (list_any settles (events_of back)) none in
+    let past : is_early z (suc k) (back ++ rest) ≡ true = sym (ap (λ (b : Bool). cond b (not (is_landing x.event && nat_le z k)) (is_early z (suc k) (back ++ rest))) off.0) ∙ e in
+    subst (λ (n : ℕ). is_early z n rest ≡ true) (omega arith) (early-past z (suc k) back rest past off.1)
+
+none-lands : (z k : ℕ) (rest : List HistoryRecord) → z ≤ k → is_early z k rest ≡ true → (event : Event) → settling rest ≡ Some event → is_landing event ≡ false
+none-lands z k [] le e event is = cc
+none-lands z k (r ∷ rest) le e event is = one (settles r.event) (none-lands z (suc k) rest (omega arith)) e is
+  where
+    off : (b : Bool) → not (b && nat_le z k) ≡ true → b ≡ false
+    off true h = absurd (true≢false (sym h ∙ ap (λ (c : Bool). not c) (le-leb z k le)))
+    off false h = refl
+
+    one : (b : Bool) → (is_early z (suc k) rest ≡ true → (x : Event) → settling rest ≡ Some x → is_landing x ≡ false)
+        → cond b (not (is_landing r.event && nat_le z k)) (is_early z (suc k) rest) ≡ true → cond b (Some r.event) (settling rest) ≡ Some event → is_landing event ≡ false
+    one true hyp h q = let same : r.event ≡ event = cc in subst (λ (x : Event). is_landing x ≡ false) same (off (is_landing r.event) h)
+    one false hyp h q = hyp h event q
+
+marked-doubtful : (commit : ℕ) (event : Event) → is_mark_of (Doubtful commit) event → is_doubtful event ≡ true
+marked-doubtful commit (CallEvent session number call reply mark) e = ap is_doubtful_mark e
+marked-doubtful commit (Landed n) e = absurd e
+
+pub doubt-stays : (z commit : ℕ) (those : HistoryRecord → Bool) (seen whole : List HistoryRecord) (b : Begins those seen whole) (doubt : IsOpenDoubt commit 0 seen)
+    → IsSettledBelow z 0 whole → z ≤ length seen → length doubt.front < z → (event : Event) → settling b.rest ≡ Some event → is_landing event ≡ false
+doubt-stays z commit those seen whole b doubt s within lt =
+    let front = doubt.front in
+    let back = doubt.back in
+    let all : front ++ doubt.doubted ∷ (back ++ b.rest) ≡ whole =
+    sym (append_assoc front (doubt.doubted ∷ back) b.rest) ∙ ap (λ (l : List HistoryRecord). l ++ b.rest) doubt.is ∙ b.is in
+    let here : IsSettledBelow z 0 (front ++ doubt.doubted ∷ (back ++ b.rest)) = subst (IsSettledBelow z 0) (sym all) s in
+    let early = below-at z 0 front doubt.doubted (back ++ b.rest) here (marked-doubtful commit doubt.doubted.event doubt.marked) (omega arith) in
+    let count : length front + length (doubt.doubted ∷ back) ≡ length seen = sym (length-append front (doubt.doubted ∷ back)) ∙ ap length doubt.is in
+    none-lands z (suc (0 + length front) + length back) b.rest (omega arith) (early-past z (suc (0 + length front)) back b.rest early doubt.last)

@@ -1,0 +1,7 @@
+use Rattle.history_seats.specs.Records.{concerns_file}
+use Rattle.history_seats.proofs.Givens.{doubt-stays}
+use Rattle.history_seats.proofs.laws.dropped_doubts_stay.Goals as goal
+
+pub returns : goal.returns
+returns c = λ gate slot fits commit doubt below event is.
+    doubt-stays slot.settled commit (concerns_file slot.file) slot.seen gate.all fits.begins doubt fits.settled_below fits.settled_seen below event is
