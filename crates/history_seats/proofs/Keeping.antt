@@ -1,5 +1,5 @@
 -- What each step keeps of the rule: the views that it leaves as they are.
-use Rattle.std.proofs.Common.{◌≡◌, ◌≢◌, ◌⊎◌, ℕ, zero, suc, ◌+◌, ◌%◌, ◌^◌, ◌<◌, ◌≤◌, List, [], ◌∷◌, ◌++◌, length, set, get_or, true, false, Option, Some, None, refl, sym, ap, ◌∙◌, subst, ⊎_elim, arith, length-append, length-set}
+use Rattle.std.proofs.Common.{◌≡◌, ◌≢◌, ◌⊎◌, ℕ, zero, suc, ◌+◌, ◌%◌, ◌^◌, ◌<◌, ◌≤◌, List, [], ◌∷◌, ◌++◌, length, set, get_or, true, true≢false, Option, Some, None, refl, sym, ap, ◌∙◌, subst, ⊎_elim, arith, length-append, length-set}
 use Rattle.std.specs.Prelude.{unwrap_or}
 use mathlib.Core.Option.{some, some-ne-none, some-injective}
 use lib.ListN.{get_elem?}
@@ -114,6 +114,8 @@ begins = (
   record {
     word = refl;
     fit = one;
+    files_held = λ file e. absurd (true≢false (sym e));
+    sessions_held = λ session e. absurd (true≢false (sym e));
     files_out = λ file seat e. absurd (no_some seat e);
     sessions_out = λ session seat e. absurd (no_some seat e);
     slot_in = λ slot e. refl;

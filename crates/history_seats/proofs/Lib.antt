@@ -6,6 +6,7 @@ pub mod Doubts
 pub mod Tags
 pub mod Keeping
 pub mod Outs
+pub mod Held
 pub mod WordSteps
 pub mod SeatSteps
 pub mod Moves

@@ -14,7 +14,7 @@ is_in-without n k (m ∷ ms) h d =
     (eqb_tells m k)
 
 -- none comes
-stays_in : (n k : ℕ) (ms : List ℕ) → is_in n (without k ms) ≡ true → is_in n ms ≡ true
+pub stays_in : (n k : ℕ) (ms : List ℕ) → is_in n (without k ms) ≡ true → is_in n ms ≡ true
 stays_in n k [] h = h
 stays_in n k (m ∷ ms) h =
     ⊎_elim

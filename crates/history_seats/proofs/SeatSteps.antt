@@ -1,5 +1,5 @@
 -- Splits and joins of seats keep the rule.
-use Rattle.std.proofs.Common.{◌≡◌, ◌≢◌, ◌⊎◌, ℕ, ◌==◌, List, [], ◌∷◌, ◌++◌, length, set, true, false, true≢false, Option, Some, None, refl, sym, ap, ◌∙◌, subst, arith}
+use Rattle.std.proofs.Common.{◌≡◌, ◌≢◌, ◌⊎◌, ℕ, ◌==◌, List, [], ◌∷◌, ◌++◌, length, set, true, false, true≢false, Option, Some, None, refl, sym, ap, ◌∙◌, subst, arith, length-set}
 use Rattle.std.specs.Prelude.{unwrap_or}
 use mathlib.Core.Option.{some}
 use lib.ListN.{get_elem?}
@@ -9,11 +9,12 @@ use Rattle.history_seats.specs.Mounts.{Mounted}
 use Rattle.history_seats.specs.Versions.{AreTagsRight}
 use Rattle.history_seats.specs.Views.{GateView, SlotView, PassView, Joined, SeatView}
 use Rattle.history_seats.specs.Views.SeatView.{Gate, Slot, Pass, Spent}
-use Rattle.history_seats.specs.Rule.{is_in, are_distinct, SlotFits, PassFits, IsSound, Agrees, Fits, SeatRule}
+use Rattle.history_seats.specs.Rule.{is_in, are_distinct, SlotFits, PassFits, IsSound, Agrees, Fits, slot_file, pass_session, file_taken, session_taken, AreHeld, SeatRule}
 use Rattle.history_seats.specs.Steps.{Told, with_slot_out, new_slot, with_pass_out, new_pass}
 use Rattle.history_seats.proofs.Lists.{no_some, none_or_some, or_right, put, put_here, put_else}
 use Rattle.history_seats.proofs.Numbers.{distinct-more}
 use Rattle.history_seats.proofs.Outs.{other_than, not_the_same, out-more, out-again, out-less}
+use Rattle.history_seats.proofs.Held.{held-set, held-snoc, held-more, held-leave, held-enter}
 use Rattle.history_seats.proofs.Prefixes.{begins-whole}
 use Rattle.history_seats.proofs.Keeping.{at_gate, others, set_each, and_new, keep_slot, keep_pass, still_told}
 
@@ -52,6 +53,8 @@ slot_split told file generation id j new words views kept at =
               put_here sa file (Some (length views)) file refl,
               record { begins = begins-whole (concerns_file file) g.all; mounted = refl; served = refl; settled_before = omega arith; settled_seen = s.settled_within; settled_below = s.settled_below },
             );
+        files_held = subst (λ (n : ℕ). AreHeld slot_file (file_taken j.slot) (put sa file (Some n)) (file ∷ g.files) ((set views id (Gate k)) ++ Slot (new_slot told file generation g) ∷ [])) (length-set views id (Gate k)) (held-more slot_file (file_taken j.slot) sa g.files (set views id (Gate k)) (Slot (new_slot told file generation g)) file refl (held-set slot_file (file_taken j.slot) sa j.gate.files views id (Gate j) (Gate k) at refl h.files_held));
+        sessions_held = held-snoc pass_session (session_taken j.pass) pa g.sessions (set views id (Gate k)) (Slot (new_slot told file generation g)) (held-set pass_session (session_taken j.pass) pa j.gate.sessions views id (Gate j) (Gate k) at refl h.sessions_held);
         files_out = out-more sa g.files file (length views) h.files_out;
         sessions_out = h.sessions_out;
         slot_in = λ t e. put_else sa file (Some (length views)) t.file (λ q. true≢false (sym (h.agrees.slot t e).1 ∙ ap (λ (m : ℕ). is_in m g.files) q ∙ new)) ∙ h.slot_in t e;
@@ -97,6 +100,8 @@ pass_split mounted session id j new words views kept at =
             (λ t seat out f. (out, slot_stays t f))
             (λ p seat out f. (put_else pa session (Some (length views)) p.session (other_than pa g.sessions session p.session seat h.sessions_out new out) ∙ out, pass_stays p f))
             (put_here pa session (Some (length views)) session refl, record { begins = begins-whole (is_of_session session) g.all; mounted = refl });
+        files_held = held-snoc slot_file (file_taken j.slot) sa g.files (set views id (Gate k)) (Pass (new_pass mounted session g)) (held-set slot_file (file_taken j.slot) sa j.gate.files views id (Gate j) (Gate k) at refl h.files_held);
+        sessions_held = subst (λ (n : ℕ). AreHeld pass_session (session_taken j.pass) (put pa session (Some n)) (session ∷ g.sessions) ((set views id (Gate k)) ++ Pass (new_pass mounted session g) ∷ [])) (length-set views id (Gate k)) (held-more pass_session (session_taken j.pass) pa g.sessions (set views id (Gate k)) (Pass (new_pass mounted session g)) session refl (held-set pass_session (session_taken j.pass) pa j.gate.sessions views id (Gate j) (Gate k) at refl h.sessions_held));
         files_out = h.files_out;
         sessions_out = out-more pa g.sessions session (length views) h.sessions_out;
         slot_in = h.slot_in;
@@ -139,6 +144,8 @@ slot_leave id j s is words views kept at =
             (λ t seat out f. (put_else sa s.file (Some (length views)) t.file (not_the_same sa s.file t.file seat (h.slot_in s is) out) ∙ out, f))
             (λ p seat out f. (out, f))
             (put_here sa s.file (Some (length views)) s.file refl, was.0);
+        files_held = subst (λ (n : ℕ). AreHeld slot_file None (put sa s.file (Some n)) j.gate.files ((set views id (Gate k)) ++ Slot s ∷ [])) (length-set views id (Gate k)) (held-leave slot_file sa j.gate.files (set views id (Gate k)) (Slot s) s.file refl (h.slot_in s is) (subst (λ (o : Option SlotView). AreHeld slot_file (file_taken o) sa j.gate.files (set views id (Gate k))) is (held-set slot_file (file_taken j.slot) sa j.gate.files views id (Gate j) (Gate k) at refl h.files_held)));
+        sessions_held = held-snoc pass_session (session_taken j.pass) pa j.gate.sessions (set views id (Gate k)) (Slot s) (held-set pass_session (session_taken j.pass) pa j.gate.sessions views id (Gate j) (Gate k) at refl h.sessions_held);
         files_out = out-again sa j.gate.files s.file (length views) was.1 h.files_out;
         sessions_out = h.sessions_out;
         slot_in = λ t e. absurd (no_some t e);
@@ -169,6 +176,8 @@ pass_leave id j p is words views kept at =
             (λ t seat out f. (out, f))
             (λ q seat out f. (put_else pa p.session (Some (length views)) q.session (not_the_same pa p.session q.session seat (h.pass_in p is) out) ∙ out, f))
             (put_here pa p.session (Some (length views)) p.session refl, was.0);
+        files_held = held-snoc slot_file (file_taken j.slot) sa j.gate.files (set views id (Gate k)) (Pass p) (held-set slot_file (file_taken j.slot) sa j.gate.files views id (Gate j) (Gate k) at refl h.files_held);
+        sessions_held = subst (λ (n : ℕ). AreHeld pass_session None (put pa p.session (Some n)) j.gate.sessions ((set views id (Gate k)) ++ Pass p ∷ [])) (length-set views id (Gate k)) (held-leave pass_session pa j.gate.sessions (set views id (Gate k)) (Pass p) p.session refl (h.pass_in p is) (subst (λ (o : Option PassView). AreHeld pass_session (session_taken o) pa j.gate.sessions (set views id (Gate k))) is (held-set pass_session (session_taken j.pass) pa j.gate.sessions views id (Gate j) (Gate k) at refl h.sessions_held)));
         files_out = h.files_out;
         sessions_out = out-again pa j.gate.sessions p.session (length views) was.1 h.sessions_out;
         slot_in = h.slot_in;
@@ -212,6 +221,8 @@ slot_enter id j other s free words views kept at apart there =
             (λ _. (refl, refl))
             seat v e far)
             tt;
+        files_held = held-enter slot_file sa j.gate.files (set views id (Gate k)) other (Slot s) s.file there refl (subst (λ (o : Option SlotView). AreHeld slot_file (file_taken o) sa j.gate.files (set views id (Gate k))) free (held-set slot_file (file_taken j.slot) sa j.gate.files views id (Gate j) (Gate k) at refl h.files_held));
+        sessions_held = held-set pass_session (session_taken j.pass) pa j.gate.sessions (set views id (Gate k)) other (Slot s) Spent there refl (held-set pass_session (session_taken j.pass) pa j.gate.sessions views id (Gate j) (Gate k) at refl h.sessions_held);
         files_out = out-less sa j.gate.files s.file h.files_out;
         sessions_out = h.sessions_out;
         slot_in = λ t e. let same : s ≡ t = cc (e) in put_here sa s.file None t.file (ap (λ (x : SlotView). x.file) (sym same));
@@ -252,6 +263,8 @@ pass_enter id j other p free words views kept at apart there =
             (λ _. (refl, refl))
             seat v e far)
             tt;
+        files_held = held-set slot_file (file_taken j.slot) sa j.gate.files (set views id (Gate k)) other (Pass p) Spent there refl (held-set slot_file (file_taken j.slot) sa j.gate.files views id (Gate j) (Gate k) at refl h.files_held);
+        sessions_held = held-enter pass_session pa j.gate.sessions (set views id (Gate k)) other (Pass p) p.session there refl (subst (λ (o : Option PassView). AreHeld pass_session (session_taken o) pa j.gate.sessions (set views id (Gate k))) free (held-set pass_session (session_taken j.pass) pa j.gate.sessions views id (Gate j) (Gate k) at refl h.sessions_held));
         files_out = h.files_out;
         sessions_out = out-less pa j.gate.sessions p.session h.sessions_out;
         slot_in = h.slot_in;

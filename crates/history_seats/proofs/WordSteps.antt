@@ -9,11 +9,12 @@ use Rattle.history_seats.specs.Settling.{settles, is_landing, IsSettledBelow, Is
 use Rattle.history_seats.specs.Mounts.{Mounted, Served}
 use Rattle.history_seats.specs.Views.{GateView, SlotView, PassView, Joined, SeatView}
 use Rattle.history_seats.specs.Views.SeatView.{Gate}
-use Rattle.history_seats.specs.Rule.{is_in, are_distinct, SlotFits, PassFits, IsSound, Agrees, SeatRule}
+use Rattle.history_seats.specs.Rule.{is_in, are_distinct, SlotFits, PassFits, IsSound, Agrees, slot_file, pass_session, file_taken, session_taken, AreHeld, SeatRule}
 use Rattle.history_seats.specs.Steps.{landing_of, IsNextOf, with_record, slot_renewed, pass_renewed, slots_renewed, passes_renewed, renewed, appended, landing_appended, doubts_dropped, files_left, sessions_left, retired, IsTagIn, IsEventIn, IsFitting}
 use Rattle.history_seats.proofs.Lists.{either_bool, no_some, none_or_some}
 use Rattle.history_seats.proofs.Numbers.{distinct-without}
 use Rattle.history_seats.proofs.Outs.{AllOut, out-without}
+use Rattle.history_seats.proofs.Held.{held-set, held-without}
 use Rattle.history_seats.proofs.Prefixes.{begins-more, begins-whole}
 use Rattle.history_seats.proofs.Numbering.{HasNextNumber, numbered-snoc, count-begins}
 use Rattle.history_seats.proofs.Doubts.{settled-snoc, settled-lands, settled-whole, marked-settles}
@@ -55,6 +56,15 @@ pass_taken h P (Some t) was p e =
     let w = was t refl in
     let same : pass_renewed h t ≡ p = cc (e) in
     subst (λ (x : PassView). PassFits h x × P x.session) same (record { begins = begins-whole (is_of_session t.session) h.all; mounted = w.0 }, w.1)
+
+-- who was taken in is still
+file_stays : (h : GateView) (o : Option SlotView) → file_taken (slots_renewed h o) ≡ file_taken o
+file_stays h None = refl
+file_stays h (Some t) = refl
+
+session_stays : (h : GateView) (o : Option PassView) → session_taken (passes_renewed h o) ≡ session_taken o
+session_stays h None = refl
+session_stays h (Some t) = refl
 
 -- What the next call of a session is: no landing, of no other session, and with the next number.
 record IsNextCall (p : PassView) (event : Event) : Type 0 where
@@ -125,6 +135,8 @@ append_keeps r id j room tag event fits words views kept at =
                 begins = begins-more (is_of_session q.session) q.seen g.all r f.begins (call.own q.session (λ y. none_or_some seat (pa q.session) (ap pa y ∙ h.pass_in p event.1) out));
                 mounted = f.mounted;
               });
+          files_held = subst (λ (o : Option ℕ). AreHeld slot_file o sa g.files (set views id (Gate k))) (sym (file_stays k.gate j.slot)) (held-set slot_file (file_taken j.slot) sa g.files views id (Gate j) (Gate k) at refl h.files_held);
+          sessions_held = subst (λ (o : Option ℕ). AreHeld pass_session o pa g.sessions (set views id (Gate k))) (sym (session_stays k.gate j.pass)) (held-set pass_session (session_taken j.pass) pa g.sessions views id (Gate j) (Gate k) at refl h.sessions_held);
           files_out = h.files_out;
           sessions_out = h.sessions_out;
           slot_in = λ s e. (slots s e).1.0;
@@ -175,6 +187,8 @@ landing_keeps commit id j room no_slot no_pass doubt words views kept at =
                 settled_below = below s.settled f.settled_before f.settled_below;
               })
               (λ q seat out f. record { begins = begins-more (is_of_session q.session) q.seen g.all r f.begins refl; mounted = f.mounted });
+          files_held = held-set slot_file (file_taken j.slot) o.0 g.files views id (Gate j) (Gate k) at refl h.files_held;
+          sessions_held = held-set pass_session (session_taken j.pass) o.1 g.sessions views id (Gate j) (Gate k) at refl h.sessions_held;
           files_out = h.files_out;
           sessions_out = h.sessions_out;
           slot_in = h.slot_in;
@@ -216,6 +230,8 @@ drop_keeps id j no_slot no_pass words views kept at =
                 settled_below = f.settled_below;
               })
               (λ q seat out f. keep_pass g k.gate q refl (λ e. e) f);
+          files_held = held-set slot_file (file_taken j.slot) o.0 g.files views id (Gate j) (Gate k) at refl h.files_held;
+          sessions_held = held-set pass_session (session_taken j.pass) o.1 g.sessions views id (Gate j) (Gate k) at refl h.sessions_held;
           files_out = h.files_out;
           sessions_out = h.sessions_out;
           slot_in = h.slot_in;
@@ -248,6 +264,14 @@ sessions_still_out : (pa : ℕ → Option ℕ) (sessions : List ℕ) (o : Option
 sessions_still_out pa sessions None free all = all
 sessions_still_out pa sessions (Some t) free all = out-without pa sessions t.session (free t refl) all
 
+files_still_held : (sa : ℕ → Option ℕ) (files : List ℕ) (views : List SeatView) (o : Option SlotView) → are_distinct files ≡ true → AreHeld slot_file (file_taken o) sa files views → AreHeld slot_file None sa (files_left files o) views
+files_still_held sa files views None distinct held = held
+files_still_held sa files views (Some t) distinct held = held-without slot_file sa files views t.file distinct held
+
+sessions_still_held : (pa : ℕ → Option ℕ) (sessions : List ℕ) (views : List SeatView) (o : Option PassView) → are_distinct sessions ≡ true → AreHeld pass_session (session_taken o) pa sessions views → AreHeld pass_session None pa (sessions_left sessions o) views
+sessions_still_held pa sessions views None distinct held = held
+sessions_still_held pa sessions views (Some t) distinct held = held-without pass_session pa sessions views t.session distinct held
+
 files_still_distinct : (files : List ℕ) (o : Option SlotView) → are_distinct files ≡ true → are_distinct (files_left files o) ≡ true
 files_still_distinct files None h = h
 files_still_distinct files (Some t) h = distinct-without t.file files h
@@ -274,6 +298,8 @@ retire_keeps id j words views kept at =
         record {
           word = same_word words (length g.all) h.word;
           fit = in_place j k id sa pa words views h (λ t seat out f. keep_slot g k.gate t refl (λ e. e) (λ e. e) refl f) (λ q seat out f. keep_pass g k.gate q refl (λ e. e) f);
+          files_held = files_still_held sa g.files (set views id (Gate k)) j.slot s.files_distinct (held-set slot_file (file_taken j.slot) sa g.files views id (Gate j) (Gate k) at refl h.files_held);
+          sessions_held = sessions_still_held pa g.sessions (set views id (Gate k)) j.pass s.sessions_distinct (held-set pass_session (session_taken j.pass) pa g.sessions views id (Gate j) (Gate k) at refl h.sessions_held);
           files_out = files_still_out sa g.files j.slot h.slot_in h.files_out;
           sessions_out = sessions_still_out pa g.sessions j.pass h.pass_in h.sessions_out;
           slot_in = λ t e. absurd (no_some t e);
@@ -320,6 +346,8 @@ look_keeps id j words views kept at =
         record {
           word = same_word words (length g.all) h.word;
           fit = in_place j k id sa pa words views h (λ t seat out f. f) (λ q seat out f. f);
+          files_held = subst (λ (o : Option ℕ). AreHeld slot_file o sa g.files (set views id (Gate k))) (sym (file_stays g j.slot)) (held-set slot_file (file_taken j.slot) sa g.files views id (Gate j) (Gate k) at refl h.files_held);
+          sessions_held = subst (λ (o : Option ℕ). AreHeld pass_session o pa g.sessions (set views id (Gate k))) (sym (session_stays g j.pass)) (held-set pass_session (session_taken j.pass) pa g.sessions views id (Gate j) (Gate k) at refl h.sessions_held);
           files_out = h.files_out;
           sessions_out = h.sessions_out;
           slot_in = λ t e. (slots t e).1.0;

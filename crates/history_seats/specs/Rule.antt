@@ -1,5 +1,5 @@
 -- The rule of the table: word 0 is the length of the history, and each seat's view fits the gate's.
-use Rattle.std.specs.Prelude.{◌≡◌, ◌==◌, ◌≤◌, ℕ, Bool, true, false, not, ◌&&◌, if◌then◌else◌, List, [], ◌∷◌, length, Option, Some, None}
+use Rattle.std.specs.Prelude.{◌≡◌, ◌⊎◌, ◌==◌, ◌≤◌, ℕ, Bool, true, false, not, ◌&&◌, if◌then◌else◌, List, [], ◌∷◌, length, Option, Some, None}
 use Rattle.std.specs.List.{list_any}
 use mathlib.Core.Option.{some}
 use lib.ListN.{get_elem?}
@@ -64,11 +64,42 @@ module _ (joined : Joined) (gate_at : ℕ) (slot_at pass_at : ℕ → Option ℕ
   Fits seat (Pass pass) = (pass_at pass.session ≡ Some seat) × PassFits joined.gate pass
   Fits seat Spent = Unit {0}
 
+-- the file of a slot's view, and the session of a pass's
+abbrev pub slot_file : SeatView → Option ℕ
+slot_file (Slot slot) = Some slot.file
+slot_file _ = None
+
+abbrev pub pass_session : SeatView → Option ℕ
+pass_session (Pass pass) = Some pass.session
+pass_session _ = None
+
+abbrev pub file_taken : Option SlotView → Option ℕ
+file_taken None = None
+file_taken (Some slot) = Some slot.file
+
+abbrev pub session_taken : Option PassView → Option ℕ
+session_taken None = None
+session_taken (Some pass) = Some pass.session
+
+-- the number has a seat, whose view is of it
+pub record HasSeat (number_of : SeatView → Option ℕ) (seat_at : ℕ → Option ℕ) (views : List SeatView) (n : ℕ) : Type 0 where
+  pub seat : ℕ
+  pub view : SeatView
+  pub at : seat_at n ≡ Some seat
+  pub stands : get_elem? views seat ≡ some view
+  pub own : number_of view ≡ Some n
+
+-- each number that is out was taken in, or has a seat
+abbrev pub AreHeld : (SeatView → Option ℕ) → Option ℕ → (ℕ → Option ℕ) → List ℕ → List SeatView → Type 0
+AreHeld number_of taken seat_at numbers views = (n : ℕ) → is_in n numbers ≡ true → (taken ≡ Some n) ⊎ HasSeat number_of seat_at views n
+
 -- The rule, for a gate's view, and for the seats that have each file and each session.
 pub record Holds (joined : Joined) (gate_at : ℕ) (slot_at pass_at : ℕ → Option ℕ) (words : List ℕ) (views : List SeatView) : Type 0 where
   pub word : words ≡ length joined.gate.all ∷ []
   pub fit : (seat : ℕ) (view : SeatView) → get_elem? views seat ≡ some view → Fits joined gate_at slot_at pass_at seat view
-  -- who has a seat is out, and what was taken in has none
+  -- what is out has a seat or was taken in; who has a seat is out, and what was taken in has none
+  pub files_held : AreHeld slot_file (file_taken joined.slot) slot_at joined.gate.files views
+  pub sessions_held : AreHeld pass_session (session_taken joined.pass) pass_at joined.gate.sessions views
   pub files_out : (file seat : ℕ) → slot_at file ≡ Some seat → is_in file joined.gate.files ≡ true
   pub sessions_out : (session seat : ℕ) → pass_at session ≡ Some seat → is_in session joined.gate.sessions ≡ true
   pub slot_in : (slot : SlotView) → joined.slot ≡ Some slot → slot_at slot.file ≡ None
