@@ -1,16 +1,15 @@
 -- Places below which each doubt is settled for good.
-use Rattle.std.proofs.Common.{◌≡◌, ◌⊎◌, ℕ, suc, ◌+◌, ◌<◌, ◌≤◌, List, [], ◌∷◌, ◌++◌, length, Bool, true, false, true≢false, cond, not, ◌&&◌, refl, sym, ap, ◌∙◌, inl, inr, ⊎_elim, arith}
+use Rattle.std.proofs.Common.{◌≡◌, ◌⊎◌, ℕ, suc, ◌+◌, ◌<◌, ◌≤◌, List, [], ◌∷◌, ◌++◌, length, Bool, true, false, true≢false, cond, not, ◌&&◌, refl, sym, ap, inl, inr, ⊎_elim, arith}
 use Rattle.std.proofs.lemmas.Bool.{lt-leb}
 use borrow.Author.Tests.{ltb-true}
-use Rattle.std.specs.Prelude.{nat_le, nat_lt}
+use Rattle.std.specs.Prelude.{nat_le}
 use Rattle.std.specs.List.{list_any}
 use Rattle.store_model.specs.declared.event.Event.{Event}
 use Rattle.store_model.specs.declared.event.Event.TheVariants.{Call as CallEvent, Landed}
-use Rattle.store_model.specs.declared.event.Mark.{Mark}
-use Rattle.store_model.specs.declared.event.Mark.TheVariants.{Unchanged, Made, Doubtful}
+use Rattle.store_model.specs.declared.event.Mark.TheVariants.{Doubtful}
 use Rattle.store_model.specs.LegalHistory.{events_of}
 use Rattle.history_seats.specs.Records.{HistoryRecord}
-use Rattle.history_seats.specs.Settling.{is_settling_mark, is_doubtful_mark, settles, is_landing, is_doubtful, is_mark_of, is_early, IsSettledBelow}
+use Rattle.history_seats.specs.Settling.{is_settling_mark, settles, is_landing, is_mark_of, is_early, IsSettledBelow}
 use Rattle.history_seats.proofs.Lists.{or_left, or_right, or_second}
 
 either_true : (b c d : Bool) → c ≡ true → d ≡ true → cond b c d ≡ true

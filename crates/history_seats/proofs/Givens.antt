@@ -1,8 +1,8 @@
 -- What a slot's view tells of its file after the whole history.
-use Rattle.std.proofs.Common.{◌≡◌, ◌⊎◌, ℕ, suc, ◌+◌, ◌<◌, ◌≤◌, ◌==◌, List, [], ◌∷◌, ◌++◌, length, map, Bool, true, false, true≢false, cond, not, ◌&&◌, ◌||◌, Option, Some, None, refl, sym, ap, ◌∙◌, subst, inl, inr, ⊎_elim, arith, length-append, append_assoc}
+use Rattle.std.proofs.Common.{◌≡◌, ℕ, suc, ◌+◌, ◌<◌, ◌≤◌, ◌==◌, List, [], ◌∷◌, ◌++◌, length, Bool, true, false, true≢false, cond, not, ◌&&◌, ◌||◌, Option, Some, None, refl, sym, ap, ◌∙◌, subst, inl, inr, ⊎_elim, arith, length-append, append_assoc}
 use Rattle.std.proofs.lemmas.Bool.{lt-ltb, le-leb}
 use Rattle.std.proofs.lemmas.List.Sums.{fold-append}
-use Rattle.std.specs.Prelude.{filter, nat_le, nat_lt, slice_index_or}
+use Rattle.std.specs.Prelude.{filter, nat_le, slice_index_or}
 use Rattle.std.specs.List.{list_any, fold}
 use Rattle.tee_types.specs.declared.call.Call.{Call}
 use Rattle.tee_types.specs.declared.call.Call.TheVariants.{Create, Rename, Delete}
@@ -15,10 +15,10 @@ use Rattle.store_model.specs.Name.{name_eq}
 use Rattle.store_model.specs.Record.{Tag}
 use Rattle.store_model.specs.LegalHistory.{events_of}
 use Rattle.history_seats.specs.Records.{Version, HistoryRecord, Begins, names_file, names_object, concerns_file}
-use Rattle.history_seats.specs.Settling.{Pending, landed, dropped, settled_by_mark, settled_by, settles, is_landing, is_doubtful, is_mark_of, is_doubtful_mark, settling, settled, is_early, IsSettledBelow, IsOpenDoubt}
+use Rattle.history_seats.specs.Settling.{Pending, landed, settled_by_mark, settled_by, settles, is_landing, is_doubtful, is_mark_of, is_doubtful_mark, settling, settled, is_early, IsSettledBelow, IsOpenDoubt}
 use Rattle.history_seats.specs.Mounts.{Entry, Mounted}
 use Rattle.history_seats.specs.Versions.{is_entry_of, mounted_version, version_after, version_next, version_of}
-use Rattle.history_seats.specs.Directory.{with_entry, renamed, with_name, without_entry, entries_tagged, entries_committed, entries_marked, entries_after, entries_next, mounted_entries, directory_of, has_entry, given_version}
+use Rattle.history_seats.specs.Directory.{with_name, entries_committed, entries_marked, entries_after, entries_next, mounted_entries, directory_of, has_entry, given_version}
 use Rattle.history_seats.specs.Laws.{IsGiven}
 use Rattle.history_seats.proofs.Lists.{either_bool, neither, or_kept, or_right}
 use Rattle.history_seats.proofs.Parts.{settled-all, part-kept}

@@ -1,11 +1,11 @@
 -- The seats of the numbers that are out.
-use Rattle.std.proofs.Common.{◌≡◌, ◌≢◌, ◌⊎◌, ℕ, zero, suc, ◌==◌, List, [], ◌∷◌, ◌++◌, length, set, Bool, true, false, true≢false, Option, Some, None, refl, sym, ap, ◌∙◌, subst, inl, inr, ⊎_elim}
+use Rattle.std.proofs.Common.{◌≡◌, ◌≢◌, ◌⊎◌, ℕ, zero, suc, ◌==◌, List, [], ◌∷◌, ◌++◌, length, set, true, false, true≢false, Option, Some, None, refl, sym, ap, ◌∙◌, inl, inr, ⊎_elim}
 use Rattle.std.proofs.lemmas.Bool.Decides.{eqb_tells}
 use mathlib.Core.Option.{some, some-injective, some-ne-none}
 use lib.ListN.{get_elem?}
 use Rattle.atomic_table.proofs.Lists.{set_else}
-use Rattle.history_seats.specs.Views.{SlotView, PassView, Joined, SeatView}
-use Rattle.history_seats.specs.Views.SeatView.{Gate, Spent}
+use Rattle.history_seats.specs.Views.{SeatView}
+use Rattle.history_seats.specs.Views.SeatView.{Spent}
 use Rattle.history_seats.specs.Rule.{is_in, are_distinct, without, HasSeat, AreHeld}
 use Rattle.history_seats.proofs.Lists.{no_some, none_or_some, or_second, put, put_here, put_else}
 use Rattle.history_seats.proofs.Numbers.{stays_in, gone}

@@ -1,5 +1,5 @@
 -- What each step keeps of the rule: the views that it leaves as they are.
-use Rattle.std.proofs.Common.{◌≡◌, ◌≢◌, ◌⊎◌, ℕ, zero, suc, ◌+◌, ◌%◌, ◌^◌, ◌<◌, ◌≤◌, List, [], ◌∷◌, ◌++◌, length, set, get_or, true, true≢false, Option, Some, None, refl, sym, ap, ◌∙◌, subst, ⊎_elim, arith, length-append, length-set}
+use Rattle.std.proofs.Common.{◌≡◌, ◌≢◌, ℕ, zero, suc, ◌+◌, ◌%◌, ◌^◌, ◌<◌, ◌≤◌, List, [], ◌∷◌, ◌++◌, length, set, get_or, true≢false, Option, Some, None, refl, sym, ap, subst, ⊎_elim, arith, length-append, length-set}
 use Rattle.std.specs.Prelude.{unwrap_or}
 use mathlib.Core.Option.{some, some-ne-none, some-injective}
 use lib.ListN.{get_elem?}
@@ -7,10 +7,9 @@ use Rattle.atomic_table.proofs.Lists.{at_set}
 use Rattle.std.proofs.lemmas.List.Elements.{All-nil}
 use Rattle.history_seats.specs.Records.{HistoryRecord, Begins, IsFaultTagged, concerns_file, is_of_session}
 use Rattle.history_seats.specs.Settling.{IsSettledBelow}
-use Rattle.history_seats.specs.Mounts.{Mounted}
 use Rattle.history_seats.specs.Views.{GateView, SlotView, PassView, Joined, SeatView, alone, new_gate}
 use Rattle.history_seats.specs.Views.SeatView.{Gate, Slot, Pass, Spent}
-use Rattle.history_seats.specs.Rule.{SlotFits, PassFits, IsSound, Agrees, Fits, Holds, SeatRule}
+use Rattle.history_seats.specs.Rule.{SlotFits, PassFits, Fits, Holds, SeatRule}
 use Rattle.history_seats.proofs.Lists.{at_snoc, no_some}
 
 -- the rule, read at the gate's own view

@@ -1,11 +1,11 @@
 -- The steps as the table asks for them, at a view that is known.
-use Rattle.std.proofs.Common.{◌≡◌, ℕ, List, [], ◌∷◌, length, get_or, Option, Some, None, false, refl, sym, ap, ◌∙◌, subst}
+use Rattle.std.proofs.Common.{◌≡◌, ℕ, List, [], ◌∷◌, length, Some, None, false, refl, sym, ap, ◌∙◌, subst}
 use Rattle.std.specs.Prelude.{slice_index}
 use mathlib.Core.Option.{some, some-injective}
 use lib.ListN.{get_elem?}
 use Rattle.atomic_table.specs.Table.{State, Splits, Joins, Allows, keeps, Final, Seen}
 use Rattle.history_seats.specs.Mounts.{Mounted}
-use Rattle.history_seats.specs.Views.{GateView, SlotView, PassView, Joined, SeatView}
+use Rattle.history_seats.specs.Views.{SlotView, PassView, Joined, SeatView}
 use Rattle.history_seats.specs.Views.SeatView.{Gate, Slot, Pass, Spent}
 use Rattle.history_seats.specs.Rule.{is_in, SeatRule}
 use Rattle.history_seats.specs.Steps.{Told, with_slot_out, new_slot, with_pass_out, new_pass, on_gate, slot_from, pass_from, slot_taken_in, pass_taken_in, slot_let_out, slot_inside, pass_let_out, pass_inside, Moved}

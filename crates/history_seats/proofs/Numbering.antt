@@ -1,13 +1,17 @@
 -- The numbers of each session's events.
-use Rattle.std.proofs.Common.{◌≡◌, ℕ, zero, suc, ◌+◌, ◌==◌, List, [], ◌∷◌, ◌++◌, length, map, Bool, true, false, cond, refl, sym, ap, ◌∙◌, subst, arith, length-append, append_assoc, add-one, ⊎_elim}
+use Rattle.std.proofs.Common.{◌≡◌, ℕ, zero, suc, ◌+◌, ◌==◌, List, [], ◌∷◌, ◌++◌, length, Bool, true, false, cond, refl, sym, ap, ◌∙◌, subst, arith, length-append, ⊎_elim, eq-eqb, Option}
 use Rattle.std.proofs.lemmas.List.{append-nil, map-append}
 use Rattle.std.proofs.lemmas.Bool.Decides.{eqb_tells}
 use Rattle.std.specs.List.{list_any, range_with_len}
+use Rattle.tee_types.specs.declared.call.Call.{Call}
+use Rattle.tee_types.specs.declared.reply.Reply.{Reply}
 use Rattle.store_model.specs.declared.event.Event.{Event}
+use Rattle.store_model.specs.declared.event.Mark.{Mark}
+use Rattle.store_model.specs.Record.{Tag}
 use Rattle.store_model.specs.declared.event.Event.TheVariants.{Call as CallEvent, Landed}
 use Rattle.store_model.specs.History.{numbers_of}
 use Rattle.store_model.specs.LegalHistory.{events_of}
-use Rattle.history_seats.specs.Records.{HistoryRecord, Begins, is_event_of, is_of_session, count_of, AreNumbered}
+use Rattle.history_seats.specs.Records.{Version, HistoryRecord, Begins, is_event_of, is_of_session, count_of, AreNumbered}
 use Rattle.history_seats.proofs.Lists.{neither}
 
 -- the numbers that one event adds
@@ -79,6 +83,16 @@ numbered-snoc records r all next = λ session.
     ap (numbers_of session) (map-append (λ (x : HistoryRecord). x.event) records (r ∷ [])) ∙ numbers-append session (events_of records) (r.event ∷ []) in
     subst IsNumbered (sym parts) (step session (numbers_of session (events_of records)) r.event (all session) (next_in records r.event next session))
 
+-- the events of both parts are the events of the whole
+pub count-append : (session : ℕ) (xs ys : List HistoryRecord) → count_of session (xs ++ ys) ≡ count_of session xs + count_of session ys
+count-append session xs ys =
+    ap length (ap (numbers_of session) (map-append (λ (x : HistoryRecord). x.event) xs ys) ∙ numbers-append session (events_of xs) (events_of ys))
+    ∙ length-append (numbers_of session (events_of xs)) (numbers_of session (events_of ys))
+
+-- a call of the session is one more of its events
+pub count-own : (session number : ℕ) (call : Call) (reply : Reply) (mark : Mark) (tag : Option (Tag Version)) → count_of session (record { event = CallEvent session number call reply mark; tag = tag } ∷ []) ≡ 1
+count-own session number call reply mark tag = rw (eq-eqb session session refl) refl
+
 -- where no event is of the session it has no numbers
 none_of : (session : ℕ) (records : List HistoryRecord) → list_any (is_of_session session) records ≡ false → numbers_of session (events_of records) ≡ []
 none_of session [] e = refl
@@ -93,8 +107,6 @@ none_of session (r ∷ records) e =
 -- a pass knows how many events its session has
 pub count-begins : (session : ℕ) (seen whole : List HistoryRecord) → Begins (is_of_session session) seen whole → count_of session whole ≡ count_of session seen
 count-begins session seen whole b =
-    let parts : numbers_of session (events_of whole) ≡ numbers_of session (events_of seen) ++ numbers_of session (events_of b.rest) =
-    ap (λ (l : List HistoryRecord). numbers_of session (events_of l)) (sym b.is)
-    ∙ ap (numbers_of session) (map-append (λ (x : HistoryRecord). x.event) seen b.rest)
-    ∙ numbers-append session (events_of seen) (events_of b.rest) in
-    ap length (parts ∙ ap (λ (l : List ℕ). numbers_of session (events_of seen) ++ l) (none_of session b.rest b.lacks) ∙ append-nil (numbers_of session (events_of seen)))
+    let counted : count_of session whole ≡ count_of session seen + count_of session b.rest = ap (count_of session) (sym b.is) ∙ count-append session seen b.rest in
+    let none : count_of session b.rest ≡ 0 = ap length (none_of session b.rest b.lacks) in
+    omega arith

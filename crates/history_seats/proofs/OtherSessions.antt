@@ -1,5 +1,5 @@
 -- A call changes no session but its own.
-use Rattle.std.proofs.Common.{◌≡◌, ◌≢◌, ◌==◌, ℕ, Bool, List, [], ◌∷◌, length, slice_set, slice_index_or, true, false, cond, not, ◌+◌, pos, ◌+ℤ◌, int_lt, Option, Some, None, refl, sym, ap, ◌∙◌}
+use Rattle.std.proofs.Common.{◌≡◌, ◌≢◌, ◌==◌, ℕ, Bool, List, [], ◌∷◌, length, slice_set, slice_index_or, true, false, cond, not, ◌+◌, pos, ◌+ℤ◌, int_lt, Option, Some, None, refl}
 use Rattle.std.specs.List.{list_any}
 use Rattle.std.proofs.lemmas.List.{get_or-set_other}
 use Rattle.tee_types.specs.declared.call.Call.{Call}

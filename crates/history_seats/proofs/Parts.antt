@@ -1,14 +1,12 @@
 -- A part of a state that others' records do not change, but for the event that settles its doubt.
-use Rattle.std.proofs.Common.{◌≡◌, ℕ, List, [], ◌∷◌, ◌++◌, Bool, true, false, cond, Option, Some, None, refl, sym, ap, ◌∙◌}
-use Rattle.std.specs.Prelude.{find}
+use Rattle.std.proofs.Common.{◌≡◌, List, [], ◌∷◌, Bool, false, cond, Option, Some, None, refl, ap, ◌∙◌}
 use Rattle.std.specs.List.{list_any, fold}
 use Rattle.store_model.specs.declared.event.Event.{Event}
 use Rattle.store_model.specs.declared.event.Event.TheVariants.{Call as CallEvent, Landed}
 use Rattle.store_model.specs.declared.event.Mark.{Mark}
 use Rattle.store_model.specs.declared.event.Mark.TheVariants.{Unchanged, Made, Doubtful}
-use Rattle.store_model.specs.LegalHistory.{events_of}
 use Rattle.history_seats.specs.Records.{HistoryRecord}
-use Rattle.history_seats.specs.Settling.{Pending, landed, dropped, settled_by_mark, settled_by, is_settling_mark, settles, settling, settled}
+use Rattle.history_seats.specs.Settling.{Pending, landed, settled_by_mark, settled_by, is_settling_mark, settles, settling, settled}
 use Rattle.history_seats.proofs.Lists.{neither}
 
 module _ {X : Type 0} where

@@ -1,5 +1,5 @@
 -- Splits and joins of seats keep the rule.
-use Rattle.std.proofs.Common.{◌≡◌, ◌≢◌, ◌⊎◌, ℕ, ◌==◌, List, [], ◌∷◌, ◌++◌, length, set, true, false, true≢false, Option, Some, None, refl, sym, ap, ◌∙◌, subst, arith, length-set}
+use Rattle.std.proofs.Common.{◌≡◌, ◌≢◌, ℕ, ◌==◌, List, [], ◌∷◌, ◌++◌, length, set, true, false, true≢false, Option, Some, None, refl, sym, ap, ◌∙◌, subst, arith, length-set}
 use Rattle.std.specs.Prelude.{unwrap_or}
 use mathlib.Core.Option.{some}
 use lib.ListN.{get_elem?}
@@ -7,11 +7,11 @@ use Rattle.atomic_table.proofs.Lists.{set_else}
 use Rattle.history_seats.specs.Records.{HistoryRecord, concerns_file, is_of_session}
 use Rattle.history_seats.specs.Mounts.{Mounted}
 use Rattle.history_seats.specs.Versions.{AreTagsRight}
-use Rattle.history_seats.specs.Views.{GateView, SlotView, PassView, Joined, SeatView}
+use Rattle.history_seats.specs.Views.{SlotView, PassView, Joined, SeatView}
 use Rattle.history_seats.specs.Views.SeatView.{Gate, Slot, Pass, Spent}
-use Rattle.history_seats.specs.Rule.{is_in, are_distinct, SlotFits, PassFits, IsSound, Agrees, Fits, slot_file, pass_session, file_taken, session_taken, AreHeld, SeatRule}
+use Rattle.history_seats.specs.Rule.{is_in, SlotFits, PassFits, Fits, slot_file, pass_session, file_taken, session_taken, AreHeld, SeatRule}
 use Rattle.history_seats.specs.Steps.{Told, with_slot_out, new_slot, with_pass_out, new_pass}
-use Rattle.history_seats.proofs.Lists.{no_some, none_or_some, or_right, put, put_here, put_else}
+use Rattle.history_seats.proofs.Lists.{no_some, or_right, put, put_here, put_else}
 use Rattle.history_seats.proofs.Numbers.{distinct-more}
 use Rattle.history_seats.proofs.Outs.{other_than, not_the_same, out-more, out-again, out-less}
 use Rattle.history_seats.proofs.Held.{held-set, held-snoc, held-more, held-leave, held-enter}

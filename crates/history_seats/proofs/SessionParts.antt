@@ -1,10 +1,10 @@
 -- What a pass's view tells of its session after the whole history.
-use Rattle.std.proofs.Common.{◌≡◌, ◌≢◌, ◌⊎◌, ◌<◌, ◌==◌, ℕ, List, [], ◌∷◌, ◌++◌, length, Bool, true, false, true≢false, cond, Option, Some, None, refl, sym, ap, ◌∙◌, subst, ⊎_elim, eq-eqb, ne_eqb, arith, length-set}
+use Rattle.std.proofs.Common.{◌≡◌, ◌≢◌, ◌<◌, ◌==◌, ℕ, List, [], ◌∷◌, ◌++◌, length, Bool, true, false, true≢false, cond, Option, Some, None, refl, sym, ap, ◌∙◌, subst, ⊎_elim, eq-eqb, arith, length-set}
 use Rattle.std.proofs.lemmas.Bool.Decides.{eqb_tells}
 use Rattle.std.proofs.lemmas.List.{get_or-set_same, get_or-set_other}
 use Rattle.std.proofs.lemmas.List.Sums.{fold-append}
 use Rattle.std.specs.Prelude.{unwrap_or, slice_index_or, slice_set}
-use Rattle.std.specs.List.{list_any, fold}
+use Rattle.std.specs.List.{fold}
 use Rattle.tee_types.specs.declared.call.Call.{Call}
 use Rattle.tee_types.specs.declared.call.Call.TheVariants.{Rename, Delete}
 use Rattle.tee_types.specs.declared.reply.Reply.{Reply}
@@ -20,8 +20,8 @@ use Rattle.store_model.specs.Record.{file_of}
 use Rattle.store_model.specs.Legal.{Standing, is_undone, standing_after_call, standing_landed, standing_after, IsLegalCall, IsLegalEvent, IsLegalFrom, replay}
 use Rattle.store_model.specs.LegalHistory.{events_of}
 use Rattle.store_model.proofs.Sessions.{length-sessions}
-use Rattle.history_seats.specs.Records.{Version, HistoryRecord, Begins, is_event_of, is_of_session}
-use Rattle.history_seats.specs.Settling.{Pending, landed, settled_by, settling, settled}
+use Rattle.history_seats.specs.Records.{HistoryRecord, Begins, is_event_of, is_of_session}
+use Rattle.history_seats.specs.Settling.{landed, settled_by, settling, settled}
 use Rattle.history_seats.specs.Sessions.{session_if_landed, session_of}
 use Rattle.history_seats.proofs.Parts.{part-kept}
 use Rattle.history_seats.proofs.OtherSessions.{session-state_after}

@@ -1,12 +1,11 @@
 -- Steps on the word keep the rule: append, landing, drop of a doubt, retirement, and a look.
-use Rattle.std.proofs.Common.{◌≡◌, ◌≢◌, ◌⊎◌, ℕ, zero, suc, ◌+◌, ◌%◌, ◌^◌, ◌<◌, ◌≤◌, ◌==◌, List, [], ◌∷◌, ◌++◌, length, set, get_or, Bool, true, false, true≢false, Option, Some, None, refl, sym, ap, ◌∙◌, subst, ⊎_elim, arith, length-append, ne_eqb}
+use Rattle.std.proofs.Common.{◌≡◌, ◌≢◌, ℕ, ◌+◌, ◌%◌, ◌^◌, ◌<◌, ◌≤◌, List, [], ◌∷◌, ◌++◌, length, set, get_or, true, false, Option, Some, None, refl, sym, ap, ◌∙◌, subst, ⊎_elim, arith, length-append, ne_eqb}
 use mathlib.Core.Option.{some}
 use lib.ListN.{get_elem?}
 use Rattle.store_model.specs.declared.event.Event.{Event}
 use Rattle.store_model.specs.declared.event.Event.TheVariants.{Call as CallEvent, Landed}
-use Rattle.history_seats.specs.Records.{HistoryRecord, Begins, names_file, concerns_file, is_event_of, is_of_session, count_of, faulty_file}
-use Rattle.history_seats.specs.Settling.{settles, is_landing, IsSettledBelow, IsOpenDoubt}
-use Rattle.history_seats.specs.Mounts.{Mounted, Served}
+use Rattle.history_seats.specs.Records.{HistoryRecord, concerns_file, is_event_of, is_of_session, count_of}
+use Rattle.history_seats.specs.Settling.{is_landing, IsSettledBelow, IsOpenDoubt}
 use Rattle.history_seats.specs.Views.{GateView, SlotView, PassView, Joined, SeatView}
 use Rattle.history_seats.specs.Views.SeatView.{Gate}
 use Rattle.history_seats.specs.Rule.{is_in, are_distinct, SlotFits, PassFits, IsSound, Agrees, slot_file, pass_session, file_taken, session_taken, AreHeld, SeatRule}

@@ -4,7 +4,7 @@ use Rattle.store_model.specs.declared.event.Event.{Event}
 use Rattle.store_model.specs.Legal.{Standing, IsLegalFrom, replay}
 use Rattle.store_model.specs.LegalHistory.{events_of}
 use Rattle.history_seats.specs.Records.{Version}
-use Rattle.history_seats.specs.Settling.{Pending, settling, settled, is_landing, IsOpenDoubt}
+use Rattle.history_seats.specs.Settling.{settling, settled, is_landing, IsOpenDoubt}
 use Rattle.history_seats.specs.Mounts.{Entry}
 use Rattle.history_seats.specs.Versions.{version_of}
 use Rattle.history_seats.specs.Directory.{directory_of, has_entry, given_version}

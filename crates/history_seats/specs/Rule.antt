@@ -1,9 +1,9 @@
 -- The rule of the table: word 0 is the length of the history, and each seat's view fits the gate's.
-use Rattle.std.specs.Prelude.{◌≡◌, ◌⊎◌, ◌==◌, ◌≤◌, ℕ, Bool, true, false, not, ◌&&◌, if◌then◌else◌, List, [], ◌∷◌, length, Option, Some, None}
+use Rattle.std.specs.Prelude.{◌≡◌, ◌⊎◌, ◌==◌, ◌≤◌, ℕ, Bool, true, not, ◌&&◌, if◌then◌else◌, List, [], ◌∷◌, length, Option, Some, None}
 use Rattle.std.specs.List.{list_any}
 use mathlib.Core.Option.{some}
 use lib.ListN.{get_elem?}
-use Rattle.history_seats.specs.Records.{HistoryRecord, Begins, concerns_file, is_of_session, AreNumbered, AreFaultsTagged}
+use Rattle.history_seats.specs.Records.{Begins, concerns_file, is_of_session, AreNumbered, AreFaultsTagged}
 use Rattle.history_seats.specs.Settling.{IsSettledBelow}
 use Rattle.history_seats.specs.Mounts.{Mounted}
 use Rattle.history_seats.specs.Versions.{AreTagsRight}

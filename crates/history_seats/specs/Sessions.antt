@@ -1,5 +1,5 @@
 -- One session of the machine, where the replay of a history stands.
-use Rattle.std.specs.Prelude.{◌==◌, ℕ, Bool, if◌then◌else◌, Option, Some, None}
+use Rattle.std.specs.Prelude.{◌==◌, ℕ, if◌then◌else◌, Option, Some, None}
 use Rattle.store_model.specs.Machine.{MachineState, Session, session_at}
 use Rattle.store_model.specs.Doubt.{Doubt, session_landed}
 use Rattle.store_model.specs.Legal.{Standing}

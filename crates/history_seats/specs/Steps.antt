@@ -1,8 +1,7 @@
 -- What the kinds of step do to the views.
-use Rattle.std.specs.Prelude.{◌≡◌, ◌==◌, ℕ, true, List, [], ◌∷◌, ◌++◌, length, Option, Some, None, unwrap_or}
+use Rattle.std.specs.Prelude.{◌≡◌, ℕ, true, List, [], ◌∷◌, ◌++◌, length, Option, Some, None, unwrap_or}
 use Rattle.store_model.specs.declared.event.Event.{Event}
 use Rattle.store_model.specs.declared.event.Event.TheVariants.{Call as CallEvent, Landed}
-use Rattle.store_model.specs.Record.{Tag}
 use Rattle.atomic_table.specs.Seated.{TableId}
 use Rattle.history_seats.specs.Records.{Version, HistoryRecord, count_of, concerns_file, IsFaultTagged}
 use Rattle.history_seats.specs.Mounts.{Mounted, Served}

@@ -1,5 +1,5 @@
 -- What each seat knows.
-use Rattle.std.specs.Prelude.{ℕ, false, List, [], Option, Some, None}
+use Rattle.std.specs.Prelude.{ℕ, false, List, [], Option, None}
 use Rattle.atomic_table.specs.Seated.{TableId}
 use Rattle.history_seats.specs.Records.{HistoryRecord}
 use Rattle.history_seats.specs.Mounts.{Mounted, Served}

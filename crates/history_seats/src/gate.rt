@@ -14,6 +14,7 @@ use std::marker::Brand;
 use store_model::{Event, History};
 
 /// What `append` gives: the event's place, and both seats, which see it.
+#[derive(Drop)]
 pub struct Appended {
     /// The place where the event stands.
     pub place: u64,
@@ -24,6 +25,7 @@ pub struct Appended {
 }
 
 /// What `refresh` gives: both seats, which see the whole history.
+#[derive(Drop)]
 pub struct Refreshed {
     /// The slot's seat, where one came.
     pub slot: Option<SlotSeat>,

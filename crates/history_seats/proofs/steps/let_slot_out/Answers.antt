@@ -1,4 +1,4 @@
-use Rattle.std.proofs.Common.{◌≡◌, ap, sym, ◌∙◌, arith}
+use Rattle.std.proofs.Common.{ap, sym, ◌∙◌, arith}
 use Rattle.history_seats.specs.Views.{gate_of}
 use Rattle.history_seats.proofs.Moves.{lets_slot_out}
 use Rattle.history_seats.proofs.steps.let_slot_out.Goals as goal

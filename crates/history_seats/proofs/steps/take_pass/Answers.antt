@@ -1,4 +1,4 @@
-use Rattle.std.proofs.Common.{◌≡◌, ap, sym, ◌∙◌, arith}
+use Rattle.std.proofs.Common.{ap, sym, ◌∙◌, arith}
 use Rattle.history_seats.specs.Views.{Sight, PassView, gate_of, pass_of}
 use Rattle.history_seats.proofs.Moves.{takes_pass}
 use Rattle.history_seats.proofs.steps.take_pass.Goals as goal

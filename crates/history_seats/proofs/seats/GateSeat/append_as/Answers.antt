@@ -1,4 +1,4 @@
-use Rattle.std.proofs.Common.{◌≡◌, ℕ, List, ap, sym, ◌∙◌, subst}
+use Rattle.std.proofs.Common.{ℕ, List, ap, sym, ◌∙◌, subst}
 use Rattle.store_model.specs.declared.event.Event.{Event}
 use Rattle.history_seats.specs.Views.{SeatView, gate_of}
 use Rattle.history_seats.specs.Steps.{IsNextOf, with_record, pass_renewed, passes_renewed}

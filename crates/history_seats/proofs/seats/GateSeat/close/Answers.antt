@@ -1,4 +1,4 @@
-use Rattle.std.proofs.Common.{◌≡◌, ap, ◌∙◌, length}
+use Rattle.std.proofs.Common.{ap, ◌∙◌, length}
 use Rattle.history_seats.specs.Views.{Sight, GateView, gate_of, alone}
 use Rattle.history_seats.proofs.Moves.{closes}
 use Rattle.history_seats.proofs.seats.GateSeat.close.Goals as goal

@@ -1,4 +1,4 @@
-use Rattle.std.proofs.Common.{◌≡◌, ℕ, List, ap, sym, ◌∙◌}
+use Rattle.std.proofs.Common.{ℕ, List, ap, sym, ◌∙◌}
 use Rattle.history_seats.specs.Views.{SeatView, gate_of}
 use Rattle.history_seats.specs.Steps.{pass_renewed, passes_renewed}
 use Rattle.history_seats.proofs.seats.GateSeat.refresh.Goals as goal
