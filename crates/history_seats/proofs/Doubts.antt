@@ -1,4 +1,4 @@
--- Places below which each doubt is settled for good.
+-- Places below which each doubt is decided.
 use Rattle.std.proofs.Common.{◌≡◌, ◌⊎◌, ℕ, suc, ◌+◌, ◌<◌, ◌≤◌, List, [], ◌∷◌, ◌++◌, length, Bool, true, false, true≢false, cond, not, ◌&&◌, refl, sym, ap, inl, inr, ⊎_elim, arith}
 use Rattle.std.proofs.lemmas.Bool.{lt-leb}
 use borrow.Author.Tests.{ltb-true}
@@ -9,7 +9,7 @@ use Rattle.store_model.specs.declared.event.Event.TheVariants.{Call as CallEvent
 use Rattle.store_model.specs.declared.event.Mark.TheVariants.{Doubtful}
 use Rattle.store_model.specs.LegalHistory.{events_of}
 use Rattle.history_seats.specs.Records.{HistoryRecord}
-use Rattle.history_seats.specs.Settling.{is_settling_mark, settles, is_landing, is_mark_of, is_early, IsSettledBelow}
+use Rattle.history_seats.specs.Settling.{is_settling_mark, settles, is_landing, HasMark, is_early, IsDecidedBelow}
 use Rattle.history_seats.proofs.Lists.{or_left, or_right, or_second}
 
 either_true : (b c d : Bool) → c ≡ true → d ≡ true → cond b c d ≡ true
@@ -40,9 +40,9 @@ any_within [] d back e = or_left (settles d.event) (list_any settles (events_of 
 any_within (x ∷ front) d back e = or_right (settles x.event) (list_any settles (events_of (front ++ d ∷ back))) (any_within front d back e)
 
 -- from the place on none is below it
-settled-above : (z k : ℕ) (rs : List HistoryRecord) → z ≤ k → IsSettledBelow z k rs
-settled-above z k [] le = tt
-settled-above z k (r ∷ rs) le = ((λ d l. let lt : k < z = ltb-true k z l in absurd (omega arith)), settled-above z (suc k) rs (omega arith))
+decided-above : (z k : ℕ) (rs : List HistoryRecord) → z ≤ k → IsDecidedBelow z k rs
+decided-above z k [] le = tt
+decided-above z k (r ∷ rs) le = ((λ d l. let lt : k < z = ltb-true k z l in absurd (omega arith)), decided-above z (suc k) rs (omega arith))
 
 -- where all stand below the place none is late
 early-whole : (z k : ℕ) (rs : List HistoryRecord) → k + length rs ≤ z → is_early z k rs ≡ true
@@ -52,25 +52,25 @@ early-whole z k (r ∷ rs) le =
     (off_second (is_landing r.event) (nat_le z k) (lt-leb z k (omega arith)))
     (early-whole z (suc k) rs (omega arith))
 
-pub settled-whole : (z k : ℕ) (rs : List HistoryRecord) → k + length rs ≤ z → IsSettledBelow z k rs
-settled-whole z k [] le = tt
-settled-whole z k (r ∷ rs) le = ((λ d l. early-whole z (suc k) rs (omega arith)), settled-whole z (suc k) rs (omega arith))
+pub decided-whole : (z k : ℕ) (rs : List HistoryRecord) → k + length rs ≤ z → IsDecidedBelow z k rs
+decided-whole z k [] le = tt
+decided-whole z k (r ∷ rs) le = ((λ d l. early-whole z (suc k) rs (omega arith)), decided-whole z (suc k) rs (omega arith))
 
 -- one more record that is no landing
-pub settled-snoc : (z k : ℕ) (rs : List HistoryRecord) (r : HistoryRecord) → IsSettledBelow z k rs → is_landing r.event ≡ false → IsSettledBelow z k (rs ++ r ∷ [])
-settled-snoc z k [] r s e = ((λ d l. refl), tt)
-settled-snoc z k (x ∷ rs) r s e = ((λ d l. early-snoc z (suc k) rs r (s.0 d l) (inr e)), settled-snoc z (suc k) rs r s.1 e)
+pub decided-snoc : (z k : ℕ) (rs : List HistoryRecord) (r : HistoryRecord) → IsDecidedBelow z k rs → is_landing r.event ≡ false → IsDecidedBelow z k (rs ++ r ∷ [])
+decided-snoc z k [] r s e = ((λ d l. refl), tt)
+decided-snoc z k (x ∷ rs) r s e = ((λ d l. early-snoc z (suc k) rs r (s.0 d l) (inr e)), decided-snoc z (suc k) rs r s.1 e)
 
 -- a landing that settles an event at the place or later
-pub settled-lands : (z k : ℕ) (front : List HistoryRecord) (d : HistoryRecord) (back : List HistoryRecord) (r : HistoryRecord) → z ≤ k + length front → settles d.event ≡ true
-    → IsSettledBelow z k (front ++ d ∷ back) → IsSettledBelow z k ((front ++ d ∷ back) ++ r ∷ [])
-settled-lands z k [] d back r le is s = settled-above z k (d ∷ (back ++ r ∷ [])) (omega arith)
-settled-lands z k (x ∷ front) d back r le is s = (
+pub decided-lands : (z k : ℕ) (front : List HistoryRecord) (d : HistoryRecord) (back : List HistoryRecord) (r : HistoryRecord) → z ≤ k + length front → settles d.event ≡ true
+    → IsDecidedBelow z k (front ++ d ∷ back) → IsDecidedBelow z k ((front ++ d ∷ back) ++ r ∷ [])
+decided-lands z k [] d back r le is s = decided-above z k (d ∷ (back ++ r ∷ [])) (omega arith)
+decided-lands z k (x ∷ front) d back r le is s = (
   (λ q l. early-snoc z (suc k) (front ++ d ∷ back) r (s.0 q l) (inl (any_within front d back is))),
-  settled-lands z (suc k) front d back r (omega arith) is s.1,
+  decided-lands z (suc k) front d back r (omega arith) is s.1,
 )
 
 -- a doubtful event settles the doubt before it
-pub marked-settles : (commit : ℕ) (event : Event) → is_mark_of (Doubtful commit) event → settles event ≡ true
+pub marked-settles : (commit : ℕ) (event : Event) → HasMark (Doubtful commit) event → settles event ≡ true
 marked-settles commit (CallEvent session number call reply mark) e = ap is_settling_mark e
 marked-settles commit (Landed n) e = absurd e

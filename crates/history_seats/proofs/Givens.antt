@@ -15,7 +15,7 @@ use Rattle.store_model.specs.Name.{name_eq}
 use Rattle.store_model.specs.Record.{Tag}
 use Rattle.store_model.specs.LegalHistory.{events_of}
 use Rattle.history_seats.specs.Records.{Version, HistoryRecord, Begins, names_file, names_object, concerns_file}
-use Rattle.history_seats.specs.Settling.{Pending, landed, settled_by_mark, settled_by, settles, is_landing, is_doubtful, is_mark_of, is_doubtful_mark, settling, settled, is_early, IsSettledBelow, IsOpenDoubt}
+use Rattle.history_seats.specs.Settling.{Pending, landed, settled_by_mark, settled_by, settles, is_landing, is_doubtful, HasMark, is_doubtful_mark, settling, settled, is_early, IsDecidedBelow, IsOpenDoubt}
 use Rattle.history_seats.specs.Mounts.{Entry, Mounted}
 use Rattle.history_seats.specs.Versions.{is_entry_of, mounted_version, version_after, version_next, version_of}
 use Rattle.history_seats.specs.Directory.{with_name, entries_committed, entries_marked, entries_after, entries_next, mounted_entries, directory_of, has_entry, given_version}
@@ -129,7 +129,7 @@ given-whole file generation applications mounted seen whole b = record {
 }
 
 -- what is early for a doubtful event stays so past the events that do not settle it
-below-at : (z k : ℕ) (front : List HistoryRecord) (d : HistoryRecord) (back : List HistoryRecord) → IsSettledBelow z k (front ++ d ∷ back) → is_doubtful d.event ≡ true → k + length front < z
+below-at : (z k : ℕ) (front : List HistoryRecord) (d : HistoryRecord) (back : List HistoryRecord) → IsDecidedBelow z k (front ++ d ∷ back) → is_doubtful d.event ≡ true → k + length front < z
     → is_early z (suc (k + length front)) back ≡ true
 below-at z k [] d back s is lt =
     let here : k < z = omega arith in
@@ -157,18 +157,18 @@ none-lands z k (r ∷ rest) le e event is = one (settles r.event) (none-lands z 
     one true hyp h q = let same : r.event ≡ event = cc in subst (λ (x : Event). is_landing x ≡ false) same (off (is_landing r.event) h)
     one false hyp h q = hyp h event q
 
-marked-doubtful : (commit : ℕ) (event : Event) → is_mark_of (Doubtful commit) event → is_doubtful event ≡ true
+marked-doubtful : (commit : ℕ) (event : Event) → HasMark (Doubtful commit) event → is_doubtful event ≡ true
 marked-doubtful commit (CallEvent session number call reply mark) e = ap is_doubtful_mark e
 marked-doubtful commit (Landed n) e = absurd e
 
 pub doubt-stays : (z commit : ℕ) (those : HistoryRecord → Bool) (seen whole : List HistoryRecord) (b : Begins those seen whole) (doubt : IsOpenDoubt commit 0 seen)
-    → IsSettledBelow z 0 whole → z ≤ length seen → length doubt.front < z → (event : Event) → settling b.rest ≡ Some event → is_landing event ≡ false
+    → IsDecidedBelow z 0 whole → z ≤ length seen → length doubt.front < z → (event : Event) → settling b.rest ≡ Some event → is_landing event ≡ false
 doubt-stays z commit those seen whole b doubt s within lt =
     let front = doubt.front in
     let back = doubt.back in
     let all : front ++ doubt.doubted ∷ (back ++ b.rest) ≡ whole =
     sym (append_assoc front (doubt.doubted ∷ back) b.rest) ∙ ap (λ (l : List HistoryRecord). l ++ b.rest) doubt.is ∙ b.is in
-    let here : IsSettledBelow z 0 (front ++ doubt.doubted ∷ (back ++ b.rest)) = subst (IsSettledBelow z 0) (sym all) s in
+    let here : IsDecidedBelow z 0 (front ++ doubt.doubted ∷ (back ++ b.rest)) = subst (IsDecidedBelow z 0) (sym all) s in
     let early = below-at z 0 front doubt.doubted (back ++ b.rest) here (marked-doubtful commit doubt.doubted.event doubt.marked) (omega arith) in
     let count : length front + length (doubt.doubted ∷ back) ≡ length seen = sym (length-append front (doubt.doubted ∷ back)) ∙ ap length doubt.is in
     none-lands z (suc (0 + length front) + length back) b.rest (omega arith) (early-past z (suc (0 + length front)) back b.rest early doubt.last)

@@ -6,7 +6,8 @@ use lib.ListN.{get_elem?}
 use Rattle.atomic_table.proofs.Lists.{set_else}
 use Rattle.history_seats.specs.Views.{SeatView}
 use Rattle.history_seats.specs.Views.SeatView.{Spent}
-use Rattle.history_seats.specs.Rule.{is_in, are_distinct, without, HasSeat, AreHeld}
+use Rattle.history_seats.specs.Numbers.{is_in, are_distinct, without}
+use Rattle.history_seats.specs.Rule.{HasSeat, AreHeld}
 use Rattle.history_seats.proofs.Lists.{no_some, none_or_some, or_second, put, put_here, put_else}
 use Rattle.history_seats.proofs.Numbers.{stays_in, gone}
 use Rattle.history_seats.proofs.Outs.{not_the_same}

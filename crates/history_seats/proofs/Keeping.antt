@@ -6,7 +6,7 @@ use lib.ListN.{get_elem?}
 use Rattle.atomic_table.proofs.Lists.{at_set}
 use Rattle.std.proofs.lemmas.List.Elements.{All-nil}
 use Rattle.history_seats.specs.Records.{HistoryRecord, Begins, IsFaultTagged, concerns_file, is_of_session}
-use Rattle.history_seats.specs.Settling.{IsSettledBelow}
+use Rattle.history_seats.specs.Settling.{IsDecidedBelow}
 use Rattle.history_seats.specs.Views.{GateView, SlotView, PassView, Joined, SeatView, alone, new_gate}
 use Rattle.history_seats.specs.Views.SeatView.{Gate, Slot, Pass, Spent}
 use Rattle.history_seats.specs.Rule.{SlotFits, PassFits, Fits, Holds, SeatRule}
@@ -73,14 +73,14 @@ and_new j k id w sa sb pa pb words views h slots passes mine =
     (subst (λ (n : ℕ). Fits k id sb pb n w) (sym (length-set views id (Gate k))) mine)
 
 -- a seat fits a gate with the same records, devices and place
-pub keep_slot : (g h : GateView) (s : SlotView) → h.all ≡ g.all → (g.mounted ≡ Some s.mounted → h.mounted ≡ Some s.mounted) → (g.served ≡ Some s.served → h.served ≡ Some s.served) → h.settled ≡ g.settled → SlotFits g s → SlotFits h s
-keep_slot g h s all mounted served settled f = record {
+pub keep_slot : (g h : GateView) (s : SlotView) → h.all ≡ g.all → (g.mounted ≡ Some s.mounted → h.mounted ≡ Some s.mounted) → (g.served ≡ Some s.served → h.served ≡ Some s.served) → h.decided ≡ g.decided → SlotFits g s → SlotFits h s
+keep_slot g h s all mounted served decided f = record {
   begins = subst (λ (l : List HistoryRecord). Begins (concerns_file s.file) s.seen l) (sym all) f.begins;
   mounted = mounted f.mounted;
   served = served f.served;
-  settled_before = subst (λ (z : ℕ). s.settled ≤ z) (sym settled) f.settled_before;
-  settled_seen = f.settled_seen;
-  settled_below = subst (λ (l : List HistoryRecord). IsSettledBelow s.settled 0 l) (sym all) f.settled_below;
+  decided_before = subst (λ (z : ℕ). s.decided ≤ z) (sym decided) f.decided_before;
+  decided_seen = f.decided_seen;
+  decided_below = subst (λ (l : List HistoryRecord). IsDecidedBelow s.decided 0 l) (sym all) f.decided_below;
 }
 
 pub keep_pass : (g h : GateView) (p : PassView) → h.all ≡ g.all → (g.mounted ≡ Some p.mounted → h.mounted ≡ Some p.mounted) → PassFits g p → PassFits h p
@@ -121,8 +121,8 @@ begins = (
     pass_in = λ pass e. refl;
     agrees = record {
       gate = record {
-        settled_within = omega arith;
-        settled_below = tt;
+        decided_within = omega arith;
+        decided_below = tt;
         tags_right = λ mounted e. tt;
         faults_tagged = All-nil IsFaultTagged;
         numbered = λ session. refl;

@@ -7,8 +7,10 @@ use Rattle.atomic_table.specs.Table.{State, Splits, Joins, Allows, keeps, Final,
 use Rattle.history_seats.specs.Mounts.{Mounted}
 use Rattle.history_seats.specs.Views.{SlotView, PassView, Joined, SeatView}
 use Rattle.history_seats.specs.Views.SeatView.{Gate, Slot, Pass, Spent}
-use Rattle.history_seats.specs.Rule.{is_in, SeatRule}
-use Rattle.history_seats.specs.Steps.{Told, with_slot_out, new_slot, with_pass_out, new_pass, on_gate, slot_from, pass_from, slot_taken_in, pass_taken_in, slot_let_out, slot_inside, pass_let_out, pass_inside, Moved}
+use Rattle.history_seats.specs.Numbers.{is_in}
+use Rattle.history_seats.specs.Rule.{SeatRule}
+use Rattle.history_seats.specs.Changes.{Told, with_slot_out, new_slot, with_pass_out, new_pass}
+use Rattle.history_seats.specs.Steps.{on_gate, slot_from, pass_from, slot_taken_in, pass_taken_in, slot_let_out, slot_inside, pass_let_out, pass_inside, Moved}
 use Rattle.history_seats.proofs.Keeping.{at_gate}
 use Rattle.history_seats.proofs.WordSteps.{Keeps}
 use Rattle.history_seats.proofs.SeatSteps.{slot_split, pass_split, slot_leave, pass_leave, slot_enter, pass_enter}

@@ -1,7 +1,7 @@
 -- Lists of the numbers that are out.
 use Rattle.std.proofs.Common.{◌≡◌, ◌≢◌, ℕ, ◌==◌, List, [], ◌∷◌, Bool, true, false, true≢false, cond, not, refl, sym, ap, ◌∙◌, subst, ⊎_elim, ne_eqb}
 use Rattle.std.proofs.lemmas.Bool.Decides.{eqb_tells}
-use Rattle.history_seats.specs.Rule.{is_in, are_distinct, without}
+use Rattle.history_seats.specs.Numbers.{is_in, are_distinct, without}
 use Rattle.history_seats.proofs.Lists.{either_bool, and_parts, both_true, or_right, or_second, or_kept, was_false}
 
 -- another number stays

@@ -1,7 +1,7 @@
 -- Who has the seat of each number that is out.
 use Rattle.std.proofs.Common.{◌≡◌, ◌≢◌, ℕ, ◌==◌, List, ◌∷◌, true, false, true≢false, Option, Some, None, sym, ap, ◌∙◌, subst, ⊎_elim}
 use Rattle.std.proofs.lemmas.Bool.Decides.{eqb_tells}
-use Rattle.history_seats.specs.Rule.{is_in, without}
+use Rattle.history_seats.specs.Numbers.{is_in, without}
 use Rattle.history_seats.proofs.Lists.{or_left, or_right, none_or_some, put, put_here, put_else}
 use Rattle.history_seats.proofs.Numbers.{is_in-without}
 

@@ -9,8 +9,9 @@ use Rattle.history_seats.specs.Mounts.{Mounted}
 use Rattle.history_seats.specs.Versions.{AreTagsRight}
 use Rattle.history_seats.specs.Views.{SlotView, PassView, Joined, SeatView}
 use Rattle.history_seats.specs.Views.SeatView.{Gate, Slot, Pass, Spent}
-use Rattle.history_seats.specs.Rule.{is_in, SlotFits, PassFits, Fits, slot_file, pass_session, file_taken, session_taken, AreHeld, SeatRule}
-use Rattle.history_seats.specs.Steps.{Told, with_slot_out, new_slot, with_pass_out, new_pass}
+use Rattle.history_seats.specs.Numbers.{is_in}
+use Rattle.history_seats.specs.Rule.{SlotFits, PassFits, Fits, slot_file, pass_session, file_taken, session_taken, AreHeld, SeatRule}
+use Rattle.history_seats.specs.Changes.{Told, with_slot_out, new_slot, with_pass_out, new_pass}
 use Rattle.history_seats.proofs.Lists.{no_some, or_right, put, put_here, put_else}
 use Rattle.history_seats.proofs.Numbers.{distinct-more}
 use Rattle.history_seats.proofs.Outs.{other_than, not_the_same, out-more, out-again, out-less}
@@ -51,7 +52,7 @@ slot_split told file generation id j new words views kept at =
             (λ t seat out f. (put_else sa file (Some (length views)) t.file (other_than sa g.files file t.file seat h.files_out new out) ∙ out, slot_stays t f))
             (λ p seat out f. (out, pass_stays p f)) (
               put_here sa file (Some (length views)) file refl,
-              record { begins = begins-whole (concerns_file file) g.all; mounted = refl; served = refl; settled_before = omega arith; settled_seen = s.settled_within; settled_below = s.settled_below },
+              record { begins = begins-whole (concerns_file file) g.all; mounted = refl; served = refl; decided_before = omega arith; decided_seen = s.decided_within; decided_below = s.decided_below },
             );
         files_held = subst (λ (n : ℕ). AreHeld slot_file (file_taken j.slot) (put sa file (Some n)) (file ∷ g.files) ((set views id (Gate k)) ++ Slot (new_slot told file generation g) ∷ [])) (length-set views id (Gate k)) (held-more slot_file (file_taken j.slot) sa g.files (set views id (Gate k)) (Slot (new_slot told file generation g)) file refl (held-set slot_file (file_taken j.slot) sa j.gate.files views id (Gate j) (Gate k) at refl h.files_held));
         sessions_held = held-snoc pass_session (session_taken j.pass) pa g.sessions (set views id (Gate k)) (Slot (new_slot told file generation g)) (held-set pass_session (session_taken j.pass) pa j.gate.sessions views id (Gate j) (Gate k) at refl h.sessions_held);
@@ -61,8 +62,8 @@ slot_split told file generation id j new words views kept at =
         pass_in = h.pass_in;
         agrees = record {
           gate = record {
-            settled_within = s.settled_within;
-            settled_below = s.settled_below;
+            decided_within = s.decided_within;
+            decided_below = s.decided_below;
             tags_right = told_tags g.mounted told.mounted g.all h.unmounted s.tags_right;
             faults_tagged = s.faults_tagged;
             numbered = s.numbered;
@@ -108,8 +109,8 @@ pass_split mounted session id j new words views kept at =
         pass_in = λ p e. put_else pa session (Some (length views)) p.session (λ q. true≢false (sym (h.agrees.pass p e).1 ∙ ap (λ (m : ℕ). is_in m g.sessions) q ∙ new)) ∙ h.pass_in p e;
         agrees = record {
           gate = record {
-            settled_within = s.settled_within;
-            settled_below = s.settled_below;
+            decided_within = s.decided_within;
+            decided_below = s.decided_below;
             tags_right = told_tags g.mounted mounted g.all h.unmounted s.tags_right;
             faults_tagged = s.faults_tagged;
             numbered = s.numbered;

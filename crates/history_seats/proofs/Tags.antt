@@ -7,7 +7,8 @@ use Rattle.history_seats.specs.Records.{HistoryRecord, IsFaultTagged, AreFaultsT
 use Rattle.history_seats.specs.Mounts.{Mounted}
 use Rattle.history_seats.specs.Versions.{IsTagRight, AreTagsRight}
 use Rattle.history_seats.specs.Views.{GateView, SlotView, PassView}
-use Rattle.history_seats.specs.Steps.{Left, record_of, IsTagIn, together}
+use Rattle.history_seats.specs.Changes.{TagVersions, record_of, together}
+use Rattle.history_seats.specs.Steps.{IsTagIn}
 use Rattle.store_model.specs.declared.event.Event.{Event}
 
 pub tags-snoc : (m : Mounted) (before records : List HistoryRecord) (r : HistoryRecord) → AreTagsRight m before records → IsTagRight m (before ++ records) r → AreTagsRight m before (records ++ r ∷ [])
@@ -21,10 +22,10 @@ pub faults-snoc : (records : List HistoryRecord) (r : HistoryRecord) → AreFaul
 faults-snoc records r all here = All-append IsFaultTagged records (r ∷ []) all (All-cons IsFaultTagged r [] here (All-nil IsFaultTagged))
 
 -- a record's tag names the file of the slot that came with it, and no other
-pub tag_in : (gate : GateView) (pass : Option PassView) (event : Event) (slot : Option SlotView) (left : Left) → IsTagIn (together gate slot pass) (record_of event slot left)
+pub tag_in : (gate : GateView) (pass : Option PassView) (event : Event) (slot : Option SlotView) (left : TagVersions) → IsTagIn (together gate slot pass) (record_of event slot left)
 tag_in gate pass event None left = λ file e. absurd (true≢false (sym e))
 tag_in gate pass event (Some s) left = λ file e. (s, refl, eqb-true s.file file e)
 
-pub event_in : (event : Event) (slot : Option SlotView) (left : Left) → (record_of event slot left).event ≡ event
+pub event_in : (event : Event) (slot : Option SlotView) (left : TagVersions) → (record_of event slot left).event ≡ event
 event_in event None left = refl
 event_in event (Some s) left = refl

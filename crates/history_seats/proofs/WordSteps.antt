@@ -5,18 +5,20 @@ use lib.ListN.{get_elem?}
 use Rattle.store_model.specs.declared.event.Event.{Event}
 use Rattle.store_model.specs.declared.event.Event.TheVariants.{Call as CallEvent, Landed}
 use Rattle.history_seats.specs.Records.{HistoryRecord, concerns_file, is_event_of, is_of_session, count_of}
-use Rattle.history_seats.specs.Settling.{is_landing, IsSettledBelow, IsOpenDoubt}
+use Rattle.history_seats.specs.Settling.{is_landing, IsDecidedBelow, IsOpenDoubt}
 use Rattle.history_seats.specs.Views.{GateView, SlotView, PassView, Joined, SeatView}
 use Rattle.history_seats.specs.Views.SeatView.{Gate}
-use Rattle.history_seats.specs.Rule.{is_in, are_distinct, SlotFits, PassFits, IsSound, Agrees, slot_file, pass_session, file_taken, session_taken, AreHeld, SeatRule}
-use Rattle.history_seats.specs.Steps.{landing_of, IsNextOf, with_record, slot_renewed, pass_renewed, slots_renewed, passes_renewed, renewed, appended, landing_appended, doubts_dropped, files_left, sessions_left, retired, IsTagIn, IsEventIn, IsFitting}
+use Rattle.history_seats.specs.Numbers.{is_in, are_distinct}
+use Rattle.history_seats.specs.Rule.{SlotFits, PassFits, IsSound, Agrees, slot_file, pass_session, file_taken, session_taken, AreHeld, SeatRule}
+use Rattle.history_seats.specs.Changes.{landing_of, IsNextOf, with_record, slot_renewed, pass_renewed, IsFitting}
+use Rattle.history_seats.specs.Steps.{slots_renewed, passes_renewed, renewed, appended, landing_appended, doubts_dropped, files_left, sessions_left, retired, IsTagIn, IsEventIn}
 use Rattle.history_seats.proofs.Lists.{either_bool, no_some, none_or_some}
 use Rattle.history_seats.proofs.Numbers.{distinct-without}
 use Rattle.history_seats.proofs.Outs.{AllOut, out-without}
 use Rattle.history_seats.proofs.Held.{held-set, held-without}
 use Rattle.history_seats.proofs.Prefixes.{begins-more, begins-whole}
 use Rattle.history_seats.proofs.Numbering.{HasNextNumber, numbered-snoc, count-begins}
-use Rattle.history_seats.proofs.Doubts.{settled-snoc, settled-lands, settled-whole, marked-settles}
+use Rattle.history_seats.proofs.Doubts.{decided-snoc, decided-lands, decided-whole, marked-settles}
 use Rattle.history_seats.proofs.Tags.{tags-snoc, faults-snoc}
 use Rattle.history_seats.proofs.Keeping.{at_gate, in_place, keep_slot, keep_pass, counted, same_word}
 
@@ -27,18 +29,18 @@ Keeps change n id j =
     → SeatRule (set words 0 (n (get_or words 0 0))) (set views id (Gate (change j))) × (get_or words 0 0 ≡ length j.gate.all) × Agrees j
 
 -- a slot that sees all fits
-slot_whole : (h : GateView) (t : SlotView) → h.settled ≤ length h.all → IsSettledBelow h.settled 0 h.all → h.mounted ≡ Some t.mounted → h.served ≡ Some t.served → SlotFits h (slot_renewed h t)
+slot_whole : (h : GateView) (t : SlotView) → h.decided ≤ length h.all → IsDecidedBelow h.decided 0 h.all → h.mounted ≡ Some t.mounted → h.served ≡ Some t.served → SlotFits h (slot_renewed h t)
 slot_whole h t within below mounted served = record {
   begins = begins-whole (concerns_file t.file) h.all;
   mounted = mounted;
   served = served;
-  settled_before = omega arith;
-  settled_seen = within;
-  settled_below = below;
+  decided_before = omega arith;
+  decided_seen = within;
+  decided_below = below;
 }
 
 -- what was taken in, once it sees all
-slot_taken : (h : GateView) (P : ℕ → Type 0) (o : Option SlotView) → h.settled ≤ length h.all → IsSettledBelow h.settled 0 h.all
+slot_taken : (h : GateView) (P : ℕ → Type 0) (o : Option SlotView) → h.decided ≤ length h.all → IsDecidedBelow h.decided 0 h.all
     → ((t : SlotView) → o ≡ Some t → (h.mounted ≡ Some t.mounted) × (h.served ≡ Some t.served) × P t.file)
     → (s : SlotView) → slots_renewed h o ≡ Some s → SlotFits h s × P s.file
 slot_taken h P None within below was s e = absurd (no_some s e)
@@ -80,10 +82,10 @@ next_call p (CallEvent s n call reply mark) is = record {
 next_call p (Landed commit) is = absurd is
 
 -- the history with one more record is sound
-sound-more : (r : HistoryRecord) (g : GateView) → IsSound g → IsSettledBelow g.settled 0 (g.all ++ r ∷ []) → HasNextNumber g.all r.event → IsFitting g r → IsSound (with_record r g)
+sound-more : (r : HistoryRecord) (g : GateView) → IsSound g → IsDecidedBelow g.decided 0 (g.all ++ r ∷ []) → HasNextNumber g.all r.event → IsFitting g r → IsSound (with_record r g)
 sound-more r g s below next fits = record {
-  settled_within = omega (arith, length-append g.all (r ∷ []), s.settled_within);
-  settled_below = below;
+  decided_within = omega (arith, length-append g.all (r ∷ []), s.decided_within);
+  decided_below = below;
   tags_right = λ m e. tags-snoc m [] g.all r (s.tags_right m e) (fits.right m e);
   faults_tagged = faults-snoc g.all r s.faults_tagged fits.fault_tagged;
   numbered = numbered-snoc g.all r s.numbered next;
@@ -108,9 +110,9 @@ append_keeps r id j room tag event fits words views kept at =
     let not_out : (file seat : ℕ) → concerns_file file r ≡ true → sa file ≡ Some seat → ⊥ = λ file seat c out.
     let t = tag file c in
     none_or_some seat (sa file) (ap sa (sym t.2) ∙ h.slot_in t.0 t.1) out in
-    let below : (z : ℕ) → IsSettledBelow z 0 g.all → IsSettledBelow z 0 k.gate.all = λ z s. settled-snoc z 0 g.all r s call.call in
-    let sound : IsSound k.gate = sound-more r g h.agrees.gate (below g.settled h.agrees.gate.settled_below) next fits in
-    let slots = slot_taken k.gate (λ f. (sa f ≡ None) × (is_in f g.files ≡ true)) j.slot sound.settled_within sound.settled_below
+    let below : (z : ℕ) → IsDecidedBelow z 0 g.all → IsDecidedBelow z 0 k.gate.all = λ z s. decided-snoc z 0 g.all r s call.call in
+    let sound : IsSound k.gate = sound-more r g h.agrees.gate (below g.decided h.agrees.gate.decided_below) next fits in
+    let slots = slot_taken k.gate (λ f. (sa f ≡ None) × (is_in f g.files ≡ true)) j.slot sound.decided_within sound.decided_below
     (λ t e. let w = h.agrees.slot t e in (w.0.mounted, w.0.served, (h.slot_in t e, w.1))) in
     let passes = pass_taken k.gate (λ s. (pa s ≡ None) × (is_in s g.sessions ≡ true)) j.pass
     (λ t e. let w = h.agrees.pass t e in (w.0.mounted, (h.pass_in t e, w.1))) in (
@@ -126,9 +128,9 @@ append_keeps r id j room tag event fits words views kept at =
                 begins = ⊎_elim (λ (y : concerns_file s.file r ≡ true). absurd (not_out s.file seat y out)) (λ (y : concerns_file s.file r ≡ false). begins-more (concerns_file s.file) s.seen g.all r f.begins y) (either_bool (concerns_file s.file r));
                 mounted = f.mounted;
                 served = f.served;
-                settled_before = f.settled_before;
-                settled_seen = f.settled_seen;
-                settled_below = below s.settled f.settled_below;
+                decided_before = f.decided_before;
+                decided_seen = f.decided_seen;
+                decided_below = below s.decided f.decided_below;
               })
               (λ q seat out f. record {
                 begins = begins-more (is_of_session q.session) q.seen g.all r f.begins (call.own q.session (λ y. none_or_some seat (pa q.session) (ap pa y ∙ h.pass_in p event.1) out));
@@ -157,7 +159,7 @@ landing_fits : (commit : ℕ) (g : GateView) → IsFitting g (landing_of commit)
 landing_fits commit g = record { right = λ m _ tag version e _ _. absurd (no_some tag e); fault_tagged = λ file e. absurd (no_some file e) }
 
 -- the doubt landed
-pub landing_keeps : (commit id : ℕ) (j : Joined) → length j.gate.all + 1 < 2 ^ 64 → j.slot ≡ None → j.pass ≡ None → IsOpenDoubt commit j.gate.settled j.gate.all
+pub landing_keeps : (commit id : ℕ) (j : Joined) → length j.gate.all + 1 < 2 ^ 64 → j.slot ≡ None → j.pass ≡ None → IsOpenDoubt commit j.gate.decided j.gate.all
     → Keeps (landing_appended (landing_of commit)) (λ n. (n + 1) % 2 ^ 64) id j
 landing_keeps commit id j room no_slot no_pass doubt words views kept at =
     let o = at_gate words views id j kept at in
@@ -165,10 +167,10 @@ landing_keeps commit id j room no_slot no_pass doubt words views kept at =
     let g = j.gate in
     let r = landing_of commit in
     let k = landing_appended r j in
-    let below : (z : ℕ) → z ≤ g.settled → IsSettledBelow z 0 g.all → IsSettledBelow z 0 k.gate.all = λ z le s.
-    let here : IsSettledBelow z 0 (doubt.front ++ doubt.doubted ∷ doubt.back) = subst (IsSettledBelow z 0) (sym doubt.is) s in
-    subst (λ (l : List HistoryRecord). IsSettledBelow z 0 (l ++ r ∷ [])) doubt.is
-    (settled-lands z 0 doubt.front doubt.doubted doubt.back r (omega (arith, doubt.late)) (marked-settles commit doubt.doubted.event doubt.marked) here) in (
+    let below : (z : ℕ) → z ≤ g.decided → IsDecidedBelow z 0 g.all → IsDecidedBelow z 0 k.gate.all = λ z le s.
+    let here : IsDecidedBelow z 0 (doubt.front ++ doubt.doubted ∷ doubt.back) = subst (IsDecidedBelow z 0) (sym doubt.is) s in
+    subst (λ (l : List HistoryRecord). IsDecidedBelow z 0 (l ++ r ∷ [])) doubt.is
+    (decided-lands z 0 doubt.front doubt.doubted doubt.back r (omega (arith, doubt.late)) (marked-settles commit doubt.doubted.event doubt.marked) here) in (
       (
         k,
         id,
@@ -181,9 +183,9 @@ landing_keeps commit id j room no_slot no_pass doubt words views kept at =
                 begins = begins-more (concerns_file s.file) s.seen g.all r f.begins refl;
                 mounted = f.mounted;
                 served = f.served;
-                settled_before = f.settled_before;
-                settled_seen = f.settled_seen;
-                settled_below = below s.settled f.settled_before f.settled_below;
+                decided_before = f.decided_before;
+                decided_seen = f.decided_seen;
+                decided_below = below s.decided f.decided_before f.decided_below;
               })
               (λ q seat out f. record { begins = begins-more (is_of_session q.session) q.seen g.all r f.begins refl; mounted = f.mounted });
           files_held = held-set slot_file (file_taken j.slot) o.0 g.files views id (Gate j) (Gate k) at refl h.files_held;
@@ -193,7 +195,7 @@ landing_keeps commit id j room no_slot no_pass doubt words views kept at =
           slot_in = h.slot_in;
           pass_in = h.pass_in;
           agrees = record {
-            gate = sound-more r g h.agrees.gate (below g.settled (omega arith) h.agrees.gate.settled_below) tt (landing_fits commit g);
+            gate = sound-more r g h.agrees.gate (below g.decided (omega arith) h.agrees.gate.decided_below) tt (landing_fits commit g);
             slot = λ s e. absurd (none_or_some s j.slot no_slot e);
             pass = λ q e. absurd (none_or_some q j.pass no_pass e);
           };
@@ -224,9 +226,9 @@ drop_keeps id j no_slot no_pass words views kept at =
                 begins = f.begins;
                 mounted = f.mounted;
                 served = f.served;
-                settled_before = omega (arith, f.settled_before, s.settled_within);
-                settled_seen = f.settled_seen;
-                settled_below = f.settled_below;
+                decided_before = omega (arith, f.decided_before, s.decided_within);
+                decided_seen = f.decided_seen;
+                decided_below = f.decided_below;
               })
               (λ q seat out f. keep_pass g k.gate q refl (λ e. e) f);
           files_held = held-set slot_file (file_taken j.slot) o.0 g.files views id (Gate j) (Gate k) at refl h.files_held;
@@ -237,8 +239,8 @@ drop_keeps id j no_slot no_pass words views kept at =
           pass_in = h.pass_in;
           agrees = record {
             gate = record {
-              settled_within = omega arith;
-              settled_below = settled-whole (length g.all) 0 g.all (omega arith);
+              decided_within = omega arith;
+              decided_below = decided-whole (length g.all) 0 g.all (omega arith);
               tags_right = s.tags_right;
               faults_tagged = s.faults_tagged;
               numbered = s.numbered;
@@ -305,8 +307,8 @@ retire_keeps id j words views kept at =
           pass_in = λ q e. absurd (no_some q e);
           agrees = record {
             gate = record {
-              settled_within = s.settled_within;
-              settled_below = s.settled_below;
+              decided_within = s.decided_within;
+              decided_below = s.decided_below;
               tags_right = s.tags_right;
               faults_tagged = s.faults_tagged;
               numbered = s.numbered;
@@ -333,7 +335,7 @@ look_keeps id j words views kept at =
     let g = j.gate in
     let k = renewed j in
     let s = h.agrees.gate in
-    let slots = slot_taken g (λ f. (sa f ≡ None) × (is_in f g.files ≡ true)) j.slot s.settled_within s.settled_below
+    let slots = slot_taken g (λ f. (sa f ≡ None) × (is_in f g.files ≡ true)) j.slot s.decided_within s.decided_below
     (λ t e. let w = h.agrees.slot t e in (w.0.mounted, w.0.served, (h.slot_in t e, w.1))) in
     let passes = pass_taken g (λ n. (pa n ≡ None) × (is_in n g.sessions ≡ true)) j.pass
     (λ t e. let w = h.agrees.pass t e in (w.0.mounted, (h.pass_in t e, w.1))) in (

@@ -41,7 +41,7 @@ SlotsTellGiven =
 abbrev pub DroppedDoubtsStay : Type 0
 DroppedDoubtsStay =
     (gate : GateView) (slot : SlotView) (fits : SlotFits gate slot) (commit : ℕ) (doubt : IsOpenDoubt commit 0 slot.seen)
-    → length doubt.front < slot.settled → (event : Event) → settling fits.begins.rest ≡ Some event → is_landing event ≡ false
+    → length doubt.front < slot.decided → (event : Event) → settling fits.begins.rest ≡ Some event → is_landing event ≡ false
 
 -- A pass's view tells the state of its session after the whole history, where that is legal: past what it has seen, only the event that
 -- settles the session's doubt counts.

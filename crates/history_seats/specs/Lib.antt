@@ -4,7 +4,9 @@ pub mod Mounts
 pub mod Versions
 pub mod Directory
 pub mod Views
+pub mod Numbers
 pub mod Rule
+pub mod Changes
 pub mod Steps
 pub mod Sessions
 pub mod Laws

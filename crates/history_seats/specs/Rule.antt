@@ -4,31 +4,18 @@ use Rattle.std.specs.List.{list_any}
 use mathlib.Core.Option.{some}
 use lib.ListN.{get_elem?}
 use Rattle.history_seats.specs.Records.{Begins, concerns_file, is_of_session, AreNumbered, AreFaultsTagged}
-use Rattle.history_seats.specs.Settling.{IsSettledBelow}
+use Rattle.history_seats.specs.Settling.{IsDecidedBelow}
 use Rattle.history_seats.specs.Mounts.{Mounted}
 use Rattle.history_seats.specs.Versions.{AreTagsRight}
 use Rattle.history_seats.specs.Views.{GateView, SlotView, PassView, Joined, SeatView}
+use Rattle.history_seats.specs.Numbers.{is_in, are_distinct}
 use Rattle.history_seats.specs.Views.SeatView.{Gate, Slot, Pass, Spent}
-
--- the number is in the list
-abbrev pub is_in : ℕ → List ℕ → Bool
-is_in n numbers = list_any (λ m. m == n) numbers
-
--- no number is in the list twice
-abbrev pub are_distinct : List ℕ → Bool
-are_distinct [] = true
-are_distinct (n ∷ numbers) = not (is_in n numbers) && are_distinct numbers
-
--- the list without the first such number
-abbrev pub without : ℕ → List ℕ → List ℕ
-without n [] = []
-without n (m ∷ numbers) = if m == n then numbers else m ∷ without n numbers
 
 -- What holds of the gate's view alone.
 pub record IsSound (gate : GateView) : Type 0 where
-  -- no doubtful event below its place is settled by a landing at it or later
-  pub settled_within : gate.settled ≤ length gate.all
-  pub settled_below : IsSettledBelow gate.settled 0 gate.all
+  -- each doubt below its place is decided
+  pub decided_within : gate.decided ≤ length gate.all
+  pub decided_below : IsDecidedBelow gate.decided 0 gate.all
   -- each tag names the version that stood before it, and each fault of an object file has its tag
   pub tags_right : (mounted : Mounted) → gate.mounted ≡ Some mounted → AreTagsRight mounted [] gate.all
   pub faults_tagged : AreFaultsTagged gate.all
@@ -36,14 +23,14 @@ pub record IsSound (gate : GateView) : Type 0 where
   pub files_distinct : are_distinct gate.files ≡ true
   pub sessions_distinct : are_distinct gate.sessions ≡ true
 
--- A slot's view fits the gate's: past what it has seen no record concerns its file, and each doubt below its place is settled there.
+-- A slot's view fits the gate's: past what it has seen no record concerns its file, and each doubt below its place is decided.
 pub record SlotFits (gate : GateView) (slot : SlotView) : Type 0 where
   pub begins : Begins (concerns_file slot.file) slot.seen gate.all
   pub mounted : gate.mounted ≡ Some slot.mounted
   pub served : gate.served ≡ Some slot.served
-  pub settled_before : slot.settled ≤ gate.settled
-  pub settled_seen : slot.settled ≤ length slot.seen
-  pub settled_below : IsSettledBelow slot.settled 0 gate.all
+  pub decided_before : slot.decided ≤ gate.decided
+  pub decided_seen : slot.decided ≤ length slot.seen
+  pub decided_below : IsDecidedBelow slot.decided 0 gate.all
 
 -- A pass's view fits the gate's: past what it has seen no event is of its session.
 pub record PassFits (gate : GateView) (pass : PassView) : Type 0 where

@@ -31,9 +31,9 @@ abbrev pub is_doubtful : Event → Bool
 is_doubtful (CallEvent session number call reply mark) = is_doubtful_mark mark
 is_doubtful (Landed commit) = false
 
-abbrev pub is_mark_of : Mark → Event → Type 0
-is_mark_of mark (CallEvent session number call reply m) = m ≡ mark
-is_mark_of mark (Landed commit) = ⊥
+abbrev pub HasMark : Mark → Event → Type 0
+HasMark mark (CallEvent session number call reply m) = m ≡ mark
+HasMark mark (Landed commit) = ⊥
 
 -- the first event of these records that settles a doubt from before them
 abbrev pub settling : List HistoryRecord → Option Event
@@ -71,11 +71,11 @@ is_early z place [] = true
 is_early z place (r ∷ records) =
     if settles r.event then not (is_landing r.event && nat_le z place) else is_early z (suc place) records
 
--- where the records begin at that place, no doubtful event below z is settled by a landing at z or later
-abbrev pub IsSettledBelow : (z place : ℕ) → List HistoryRecord → Type 0
-IsSettledBelow z place [] = Unit {0}
-IsSettledBelow z place (r ∷ records) =
-    (is_doubtful r.event ≡ true → nat_lt place z ≡ true → is_early z (suc place) records ≡ true) × IsSettledBelow z (suc place) records
+-- Each doubt below z is decided: where the records begin at that place, no doubtful event below z is settled by a landing at z or later.
+abbrev pub IsDecidedBelow : (z place : ℕ) → List HistoryRecord → Type 0
+IsDecidedBelow z place [] = Unit {0}
+IsDecidedBelow z place (r ∷ records) =
+    (is_doubtful r.event ≡ true → nat_lt place z ≡ true → is_early z (suc place) records ≡ true) × IsDecidedBelow z (suc place) records
 
 -- The last event that settles is the doubtful one of that commit, and stands at z or later.
 pub record IsOpenDoubt (commit z : ℕ) (records : List HistoryRecord) : Type 0 where
@@ -83,6 +83,6 @@ pub record IsOpenDoubt (commit z : ℕ) (records : List HistoryRecord) : Type 0 
   pub doubted : HistoryRecord
   pub back : List HistoryRecord
   pub is : front ++ doubted ∷ back ≡ records
-  pub marked : is_mark_of (Doubtful commit) doubted.event
+  pub marked : HasMark (Doubtful commit) doubted.event
   pub last : list_any settles (events_of back) ≡ false
   pub late : z ≤ length front

@@ -4,13 +4,13 @@ use Rattle.atomic_table.specs.Seated.{TableId}
 use Rattle.history_seats.specs.Records.{HistoryRecord}
 use Rattle.history_seats.specs.Mounts.{Mounted, Served}
 
--- The gate's: the whole history; a place below which each doubt is settled for good; and the files and sessions whose seats are
--- out. The mount is told with the first seat that is split, the devices with the first of a slot.
+-- The gate's: the whole history; a place below which each doubt is decided, since it landed before that place or never will; and the
+-- files and sessions whose seats are out. The mount is told with the first seat that is split, the devices with the first of a slot.
 pub record GateView : Type 0 where
   pub mounted : Option Mounted
   pub served : Option Served
   pub all : List HistoryRecord
-  pub settled : ℕ
+  pub decided : ℕ
   pub files : List ℕ
   pub sessions : List ℕ
 
@@ -19,7 +19,7 @@ pub record SlotView : Type 0 where
   pub mounted : Mounted
   pub served : Served
   pub seen : List HistoryRecord
-  pub settled : ℕ
+  pub decided : ℕ
   pub file : ℕ
   pub generation : ℕ
 
@@ -52,7 +52,7 @@ abbrev pub alone : GateView → Joined
 alone gate = record { gate = gate; slot = None; pass = None }
 
 abbrev pub new_gate : GateView
-new_gate = record { mounted = None; served = None; all = []; settled = 0; files = []; sessions = [] }
+new_gate = record { mounted = None; served = None; all = []; decided = 0; files = []; sessions = [] }
 
 abbrev pub no_mount : Mounted
 no_mount = record { entries = []; file_faults = []; card_faults = 0 }
@@ -67,7 +67,7 @@ gate_of _ = alone new_gate
 
 abbrev pub slot_of : SeatView → SlotView
 slot_of (Slot slot) = slot
-slot_of _ = record { mounted = no_mount; served = no_devices; seen = []; settled = 0; file = 0; generation = 0 }
+slot_of _ = record { mounted = no_mount; served = no_devices; seen = []; decided = 0; file = 0; generation = 0 }
 
 abbrev pub pass_of : SeatView → PassView
 pass_of (Pass pass) = pass

@@ -4,8 +4,10 @@ ghost use Rattle.std.specs.Prelude.{◌≡◌, ◌≤◌, ◌+◌, [], ◌∷◌
 ghost use Rattle.store_model.specs.LegalHistory.{events_of};
 ghost use Rattle.history_seats.specs.Settling.{IsOpenDoubt};
 ghost use Rattle.history_seats.specs.Mounts.{Mounted};
-ghost use Rattle.history_seats.specs.Rule.{is_in, Agrees};
-ghost use Rattle.history_seats.specs.Steps.{Told, Left, record_of, landing_of, IsNextOf, IsFitting, IsTagIn, with_record, with_slot_out, new_slot, with_pass_out, new_pass, pass_renewed, doubt_dropped, without_slot, without_pass, view_in, IsOf, seat_renewed, together};
+ghost use Rattle.history_seats.specs.Numbers.{is_in};
+ghost use Rattle.history_seats.specs.Rule.{Agrees};
+ghost use Rattle.history_seats.specs.Changes.{Told, TagVersions, record_of, landing_of, IsNextOf, IsFitting, with_record, with_slot_out, new_slot, with_pass_out, new_pass, pass_renewed, doubt_dropped, without_slot, without_pass, view_in, IsOf, seat_renewed, together};
+ghost use Rattle.history_seats.specs.Steps.{IsTagIn};
 
 use crate::rule::{NewPass, NewSlot, PassName, RecordName, SlotName};
 use crate::seats::{GateSeat, HistoryTable, PassSeat, SlotSeat};
@@ -96,14 +98,14 @@ impl GateSeat {
         history: &mut History,
         event: Event,
     ) -> Appended
-        ghost left: { Left }
+        ghost versions: { TagVersions }
         requires table { (self.old.table ≡ table.now) × IsOf table.now slot × (pass.table ≡ table.now) }
         requires history { history.old.events ≡ events_of self.old.knows.all }
         requires spare { 1 ≤ history.old.spare }
         requires next { IsNextOf pass.knows event }
-        requires fitting { IsFitting self.old.knows (record_of event (view_in slot) left) }
+        requires fitting { IsFitting self.old.knows (record_of event (view_in slot) versions) }
         ensures place { result.place ≡ length self.old.knows.all }
-        ensures gate { self.new ≡ record self.old { knows = with_record (record_of event (view_in slot) left) self.old.knows } }
+        ensures gate { self.new ≡ record self.old { knows = with_record (record_of event (view_in slot) versions) self.old.knows } }
         ensures history { history.new.events ≡ history.old.events ++ event ∷ [] }
         ensures spare { history.old.spare ≤ history.new.spare + 1 }
 
@@ -155,7 +157,7 @@ impl GateSeat {
         requires table { self.old.table ≡ table.now }
         requires history { history.old.events ≡ events_of self.old.knows.all }
         requires spare { 1 ≤ history.old.spare }
-        requires doubt { IsOpenDoubt commit self.old.knows.settled self.old.knows.all }
+        requires doubt { IsOpenDoubt commit self.old.knows.decided self.old.knows.all }
         ensures place { result ≡ length self.old.knows.all }
         ensures gate { self.new ≡ record self.old { knows = with_record (landing_of commit) self.old.knows } }
         ensures history { history.new.events ≡ history.old.events ++ Event.Landed commit ∷ [] }
@@ -165,7 +167,7 @@ impl GateSeat {
         steps::add_landing::<Brand>(&mut self.seat, table, commit, count)
     }
 
-    /// Drops the doubt that is open, if there is one: what is not settled now never lands.
+    /// Drops the doubt that is open, if there is one: a commit that is in doubt now never lands.
     pub fn drop_doubt(&mut self, table: &HistoryTable)
         requires { self.old.table ≡ table.now }
         ensures { self.new ≡ record self.old { knows = doubt_dropped self.old.knows } }
@@ -192,8 +194,10 @@ impl GateSeat {
         steps::take_pass(&mut self.seat, table, pass);
         steps::look(&mut self.seat, table);
         let pass = steps::let_pass_out(&mut self.seat, table, session);
-        let slot = steps::return_slot(&mut self.seat, table, ids);
-        Refreshed { slot, pass }
+        Refreshed {
+            slot: steps::return_slot(&mut self.seat, table, ids),
+            pass,
+        }
     }
 
     /// Takes a slot's seat in for good. Its file may have another one then.

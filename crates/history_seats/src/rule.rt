@@ -33,7 +33,7 @@ impl TableRule<(), View, ()> for Law {
 /// Names the file, the generation and what is told where a slot's seat is split.
 pub trait SlotName {
     ghost use Rattle.std.specs.Prelude.{ℕ};
-    ghost use Rattle.history_seats.specs.Steps.{Told};
+    ghost use Rattle.history_seats.specs.Changes.{Told};
 
     ghost told: { Told };
 
@@ -43,7 +43,7 @@ pub trait SlotName {
 }
 
 impl SlotName for Brand {
-    ghost use Rattle.history_seats.specs.Steps.{nothing_told};
+    ghost use Rattle.history_seats.specs.Changes.{nothing_told};
 
     ghost told = { nothing_told };
 
@@ -78,7 +78,7 @@ pub trait RecordName {
 }
 
 impl RecordName for Brand {
-    ghost use Rattle.history_seats.specs.Steps.{landing_of};
+    ghost use Rattle.history_seats.specs.Changes.{landing_of};
 
     ghost entry = { landing_of 0 };
 }
@@ -89,7 +89,8 @@ pub struct NewSlot<N> {
 }
 
 impl<N: SlotName> Split<View> for NewSlot<N> {
-    ghost use Rattle.history_seats.specs.Steps.{on_gate, slot_from, with_slot_out, new_slot};
+    ghost use Rattle.history_seats.specs.Changes.{with_slot_out, new_slot};
+    ghost use Rattle.history_seats.specs.Steps.{on_gate, slot_from};
 
     ghost left = { on_gate (with_slot_out N.told N.file) };
 
@@ -102,7 +103,8 @@ pub struct NewPass<N> {
 }
 
 impl<N: PassName> Split<View> for NewPass<N> {
-    ghost use Rattle.history_seats.specs.Steps.{on_gate, pass_from, with_pass_out, new_pass};
+    ghost use Rattle.history_seats.specs.Changes.{with_pass_out, new_pass};
+    ghost use Rattle.history_seats.specs.Steps.{on_gate, pass_from};
 
     ghost left = { on_gate (with_pass_out N.mounted N.session) };
 

@@ -5,7 +5,8 @@ ghost use Rattle.history_seats.specs.Settling.{IsOpenDoubt};
 ghost use Rattle.history_seats.specs.Views.{SlotView, PassView, gate_of};
 ghost use Rattle.history_seats.specs.Views.SeatView.{Gate};
 ghost use Rattle.history_seats.specs.Rule.{Agrees};
-ghost use Rattle.history_seats.specs.Steps.{landing_of, appended, landing_appended, doubts_dropped, retired, renewed, IsTagIn, IsEventIn, IsFitting, view_in, ids_in, IsOf};
+ghost use Rattle.history_seats.specs.Changes.{landing_of, IsFitting, view_in, IsOf};
+ghost use Rattle.history_seats.specs.Steps.{appended, landing_appended, doubts_dropped, retired, renewed, IsTagIn, IsEventIn, ids_in};
 
 use crate::rule::{
     Appends, Drops, Lands, Looks, PassInside, RecordName, Retires, SlotInside, View,
@@ -156,7 +157,7 @@ pub(crate) fn add_landing<N: RecordName>(
     requires gate { seat.old.me ≡ (Gate (gate_of seat.old.me.0), []) }
     requires alone { ((gate_of seat.old.me.0).slot ≡ None) × ((gate_of seat.old.me.0).pass ≡ None) }
     requires count { count ≡ length (gate_of seat.old.me.0).gate.all + 1 }
-    requires doubt { IsOpenDoubt commit (gate_of seat.old.me.0).gate.settled (gate_of seat.old.me.0).gate.all }
+    requires doubt { IsOpenDoubt commit (gate_of seat.old.me.0).gate.decided (gate_of seat.old.me.0).gate.all }
     ensures seat { (seat.new.table_id ≡ seat.old.table_id) × (seat.new.me ≡ (Gate (landing_appended (landing_of commit) (gate_of seat.old.me.0)), [])) }
     ensures place { result ≡ length (gate_of seat.old.me.0).gate.all }
     ensures agrees { Agrees (gate_of seat.old.me.0) }
@@ -165,7 +166,7 @@ pub(crate) fn add_landing<N: RecordName>(
     table.table.shared.fetch_add::<Lands<N>>(seat, 0, 1)
 }
 
-/// Raises the place below which each doubt is settled to the length of the history.
+/// Raises the place below which each doubt is decided to the length of the history.
 pub(crate) fn drop_doubts(seat: &mut Seat<(), View>, table: &HistoryTable)
     requires table { seat.old.table_id ≡ table.now }
     requires gate { seat.old.me ≡ (Gate (gate_of seat.old.me.0), []) }

@@ -4,4 +4,4 @@ use Rattle.history_seats.proofs.laws.dropped_doubts_stay.Goals as goal
 
 pub returns : goal.returns
 returns c = λ gate slot fits commit doubt below event is.
-    doubt-stays slot.settled commit (concerns_file slot.file) slot.seen gate.all fits.begins doubt fits.settled_below fits.settled_seen below event is
+    doubt-stays slot.decided commit (concerns_file slot.file) slot.seen gate.all fits.begins doubt fits.decided_below fits.decided_seen below event is

@@ -1,6 +1,6 @@
 use Rattle.std.proofs.Common.{◌≡◌, ap, sym, ◌∙◌, arith, subst}
 use Rattle.history_seats.specs.Views.{Sight, SlotView, gate_of, slot_of}
-use Rattle.history_seats.specs.Steps.{IsOf}
+use Rattle.history_seats.specs.Changes.{IsOf}
 use Rattle.history_seats.proofs.Moves.{takes_slot}
 use Rattle.history_seats.proofs.steps.take_slot.Goals as goal
 

@@ -1,7 +1,8 @@
 use Rattle.std.proofs.Common.{ℕ, List, ap, sym, ◌∙◌, subst}
 use Rattle.store_model.specs.declared.event.Event.{Event}
 use Rattle.history_seats.specs.Views.{SeatView, gate_of}
-use Rattle.history_seats.specs.Steps.{IsNextOf, with_record, pass_renewed, passes_renewed}
+use Rattle.history_seats.specs.Changes.{IsNextOf, with_record, pass_renewed}
+use Rattle.history_seats.specs.Steps.{passes_renewed}
 use Rattle.history_seats.proofs.seats.GateSeat.append_as.Goals as goal
 
 pub add_record-place-requires-clause-event : goal.add_record-place-requires-clause-event

@@ -1,4 +1,4 @@
-use Rattle.history_seats.specs.Steps.{landing_of}
+use Rattle.history_seats.specs.Changes.{landing_of}
 use Rattle.history_seats.proofs.seats.GateSeat.append_landed.Given as goal
 
 abbrev pub ghosts-add_landing : goal.ghosts-add_landing

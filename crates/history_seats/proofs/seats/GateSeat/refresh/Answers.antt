@@ -1,6 +1,7 @@
 use Rattle.std.proofs.Common.{ℕ, List, ap, sym, ◌∙◌}
 use Rattle.history_seats.specs.Views.{SeatView, gate_of}
-use Rattle.history_seats.specs.Steps.{pass_renewed, passes_renewed}
+use Rattle.history_seats.specs.Changes.{pass_renewed}
+use Rattle.history_seats.specs.Steps.{passes_renewed}
 use Rattle.history_seats.proofs.seats.GateSeat.refresh.Goals as goal
 
 pub let_pass_out-pass-requires-clause-pass : goal.let_pass_out-pass-requires-clause-pass

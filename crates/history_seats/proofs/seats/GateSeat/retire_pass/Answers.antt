@@ -1,6 +1,6 @@
 use Rattle.std.proofs.Common.{◌≡◌, ℕ, List, ap, ◌∙◌}
 use Rattle.history_seats.specs.Views.{SeatView, gate_of}
-use Rattle.history_seats.specs.Rule.{is_in, without}
+use Rattle.history_seats.specs.Numbers.{is_in, without}
 use Rattle.history_seats.specs.Steps.{sessions_left}
 use Rattle.history_seats.proofs.Numbers.{gone}
 use Rattle.history_seats.proofs.seats.GateSeat.retire_pass.Goals as goal

@@ -1,6 +1,6 @@
 use Rattle.std.proofs.Common.{◌≡◌, ℕ, ap, sym, ◌∙◌, false, arith}
 use Rattle.history_seats.specs.Views.{Sight, GateView, gate_of, alone}
-use Rattle.history_seats.specs.Rule.{is_in}
+use Rattle.history_seats.specs.Numbers.{is_in}
 use Rattle.history_seats.proofs.Moves.{splits_pass}
 use Rattle.history_seats.proofs.seats.GateSeat.split_pass_as.Goals as goal
 

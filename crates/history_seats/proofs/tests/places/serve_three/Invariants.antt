@@ -1,6 +1,6 @@
 use Rattle.std.proofs.Common.{None}
 use Rattle.history_seats.specs.Views.{no_mount}
-use Rattle.history_seats.specs.Steps.{nothing_told}
+use Rattle.history_seats.specs.Changes.{nothing_told}
 use Rattle.history_seats.proofs.tests.places.serve_three.Given as goal
 
 abbrev pub ghost-split_pass : goal.ghost-split_pass

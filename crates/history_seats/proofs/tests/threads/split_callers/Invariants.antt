@@ -1,6 +1,6 @@
 use Rattle.std.proofs.Common.{◌≡◌, ◌≤◌, ℕ, [], false}
 use Rattle.history_seats.specs.Views.{no_mount}
-use Rattle.history_seats.specs.Rule.{is_in}
+use Rattle.history_seats.specs.Numbers.{is_in}
 use Rattle.history_seats.proofs.tests.threads.split_callers.Given as goal
 
 abbrev pub ghost-split_pass : goal.ghost-split_pass
