@@ -172,3 +172,12 @@ doubt-stays z commit those seen whole b doubt s within lt =
     let early = below-at z 0 front doubt.doubted (back ++ b.rest) here (marked-doubtful commit doubt.doubted.event doubt.marked) (omega arith) in
     let count : length front + length (doubt.doubted ∷ back) ≡ length seen = sym (length-append front (doubt.doubted ∷ back)) ∙ ap length doubt.is in
     none-lands z (suc (0 + length front) + length back) b.rest (omega arith) (early-past z (suc (0 + length front)) back b.rest early doubt.last)
+
+-- one more record does to the version and to the directory what it does
+pub version-snoc : (file generation : ℕ) (mounted : Mounted) (records : List HistoryRecord) (r : HistoryRecord)
+    → version_of file generation mounted (records ++ r ∷ []) ≡ version_next file generation (version_of file generation mounted records) r
+version-snoc file generation mounted records r = fold-append (version_next file generation) (mounted_version file generation mounted) records (r ∷ [])
+
+pub directory-snoc : (applications : List (List ℕ)) (mounted : Mounted) (records : List HistoryRecord) (r : HistoryRecord)
+    → directory_of applications mounted (records ++ r ∷ []) ≡ entries_next applications (directory_of applications mounted records) r
+directory-snoc applications mounted records r = fold-append (entries_next applications) (mounted_entries mounted) records (r ∷ [])

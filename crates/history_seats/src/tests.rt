@@ -1,2 +1,3 @@
+mod doubts;
 mod places;
 mod threads;

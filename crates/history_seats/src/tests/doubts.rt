@@ -1,0 +1,54 @@
+ghost use Rattle.std.specs.Prelude.{◌≡◌, ◌≤◌, [], ◌∷◌, ◌++◌, length};
+ghost use Rattle.store_model.specs.LegalHistory.{events_of};
+ghost use Rattle.history_seats.specs.Views.{new_gate};
+
+use crate::{GateSeat, HistoryTable, PassSeat};
+use std::test::Fail;
+use store_model::{Event, History, Mark};
+use tee_types::{Call, Cause, Device, Reply};
+
+/// A call whose commit is in doubt, since the card gave no answer.
+fn doubted_call() -> Event
+    ensures { result ≡ Event.Call 0 0 Call.EnumNew (Reply.NotAvailable (Cause.Fault Device.Card 1)) (Mark.Doubtful 1) }
+{
+    Event::Call {
+        session: 0,
+        number: 0,
+        call: Call::EnumNew,
+        reply: Reply::NotAvailable(Cause::Fault {
+            device: Device::Card,
+            count: 1,
+        }),
+        mark: Mark::Doubtful(1),
+    }
+}
+
+/// A doubt lands, and a session sees it; behind it no doubt is open.
+fn land_doubt(table: &HistoryTable, gate: &mut GateSeat, history: &mut History) -> (u64, PassSeat)
+    requires gate { (gate.old.table ≡ table.now) × (gate.old.knows ≡ new_gate) }
+    requires history { (history.old.events ≡ []) × (2 ≤ history.old.spare) }
+    ensures place { result.0 ≡ 1 }
+    ensures events { events_of gate.new.knows.all ≡ history.new.events }
+    ensures seen { (result.1.table ≡ table.now) × (result.1.knows.seen ≡ gate.new.knows.all) }
+    ensures decided { (gate.new.table ≡ table.now) × (gate.new.knows.decided ≡ 2) }
+{
+    let pass = gate.split_pass(table, 0);
+    let doubted = gate.append(table, None, pass, history, doubted_call());
+    let place = gate.append_landed(table, history, 1);
+    let seats = gate.refresh(table, None, doubted.pass);
+    gate.drop_doubt(table);
+    (place, seats.pass)
+}
+
+#[test]
+fn a_doubt_lands(rt: HostRuntime) -> Result<(), Fail> {
+    let (table, mut gate) = HistoryTable::make(rt.alloc())?;
+    let mut history = History::new(rt.alloc());
+    history.reserve(2)?;
+    let (place, pass) = land_doubt(&table, &mut gate, &mut history);
+    assert_eq!(rt; place, 1);
+    assert_eq!(rt; pass.session(), 0);
+    gate.retire_pass(&table, pass);
+    assert_eq!(rt; gate.close(table), 2);
+    Ok(())
+}
