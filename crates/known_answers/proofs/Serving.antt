@@ -3,7 +3,8 @@ use Rattle.std.proofs.Common.{◌≡◌, ℕ, ◌+◌, ◌<◌, List, [], ◌∷
 use Rattle.std.proofs.lemmas.List.{append_assoc, append-nil, map-append, take_more}
 use Rattle.std.specs.Prelude.{codes}
 use Rattle.rpmb_card.specs.Card.{CardState, card_after, card_answer}
-use Rattle.known_answers.specs.Answers.{behind_spaces, card_answers, hex_word, spaced}
+use Rattle.known_answers.specs.Lines.{behind_spaces, hex_word, spaced}
+use Rattle.known_answers.specs.Answers.{card_answers}
 
 -- one more word
 pub behind_spaces-append : (words : List (List ℕ)) (word : List ℕ)

@@ -2,8 +2,9 @@
 use Rattle.std.proofs.Common.{◌≡◌, ℕ, ◌<◌, ◌≤◌, List, [], ◌∷◌, map, length, get_or, arith, ap, sym, subst, Bor}
 use Rattle.std.proofs.lemmas.List.{get_or-map}
 use Rattle.known_answers.specs.Words.{IsArray}
-use Rattle.known_answers.specs.Asks.{AreParts, HasFour, HasFive, word_at}
+use Rattle.known_answers.specs.Asks.{AreParts, IsTreeImage, HasFour, HasFive, word_at}
 use Rattle.known_answers.specs.declared.questions.Parts.{Parts}
+use Rattle.known_answers.specs.declared.questions.TreeImage.{TreeImage}
 
 abbrev pub words_of : List (Bor (List ℕ)) → List (List ℕ)
 words_of ws = map (λ (w : Bor (List ℕ)). w.now) ws
@@ -45,3 +46,13 @@ four_parts ws d1 d2 d3 d4 p low h =
 -- argument 5 is the array
 pub fifth_array : (ws : List (Bor (List ℕ))) (d : Bor (List ℕ)) (bytes : List ℕ) → 6 ≤ length ws → IsArray (get_or ws 5 d).now bytes → IsArray (word_at (words_of ws) 5) bytes
 fifth_array ws d bytes low h = subst (λ x. IsArray x bytes) (read ws d 5 (omega arith)) h
+
+-- arguments 1 to 4 are the image of a tree
+pub four_image : (ws : List (Bor (List ℕ))) (d1 d2 d3 d4 : Bor (List ℕ)) (t : TreeImage) → 5 ≤ length ws
+    → IsTreeImage (get_or ws 1 d1).now (get_or ws 2 d2).now (get_or ws 3 d3).now (get_or ws 4 d4).now t
+    → IsTreeImage (word_at (words_of ws) 1) (word_at (words_of ws) 2) (word_at (words_of ws) 3) (word_at (words_of ws) 4) t
+four_image ws d1 d2 d3 d4 t low h =
+    subst (λ x. IsTreeImage x (word_at (words_of ws) 2) (word_at (words_of ws) 3) (word_at (words_of ws) 4) t) (read ws d1 1 (omega arith))
+    (subst (λ x. IsTreeImage (get_or ws 1 d1).now x (word_at (words_of ws) 3) (word_at (words_of ws) 4) t) (read ws d2 2 (omega arith))
+    (subst (λ x. IsTreeImage (get_or ws 1 d1).now (get_or ws 2 d2).now x (word_at (words_of ws) 4) t) (read ws d3 3 (omega arith))
+    (subst (λ x. IsTreeImage (get_or ws 1 d1).now (get_or ws 2 d2).now (get_or ws 3 d3).now x t) (read ws d4 4 (omega arith)) h)))

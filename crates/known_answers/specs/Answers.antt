@@ -1,7 +1,6 @@
 -- The lines that answer the questions.
 use Rattle.std.specs.Prelude.{ℕ, ◌≡◌, ◌≢◌, List, [], ◌∷◌, ◌++◌, codes, map}
 use Rattle.std.specs.Int.{w16, w32, w128, from_be_bytes, to_be_bytes}
-use Rattle.hex.specs.Hex.{encode_lower}
 use Rattle.aes_block.specs.Cipher.{cipher}
 use Rattle.aes_block.specs.InverseCipher.{inv_cipher}
 use Rattle.aes_block.specs.WrappedKey.{wrapped_of, unwrapped_of}
@@ -13,27 +12,11 @@ use Rattle.rpmb_frame.specs.declared.frame.Frame.{Frame}
 use Rattle.rpmb_frame.specs.Layout.{frame_of}
 use Rattle.rpmb_frame.specs.Authentication.{mac_of}
 use Rattle.rpmb_card.specs.Card.{CardState, blank, card_after, card_answer}
+use Rattle.known_answers.specs.Lines.{hex_word, two_words, spaced}
+use Rattle.known_answers.specs.Trees.{tree_line, IsMadeLine}
 use Rattle.known_answers.specs.declared.questions.Parts.{Parts}
 use Rattle.known_answers.specs.declared.questions.Question.{Question}
-use Rattle.known_answers.specs.declared.questions.Question.TheVariants.{Aes, AesInverse, Ghash, GcmSeal, GcmOpen, Hmac, Ssk, Tsk, DirTsk, RpmbKey, Wrap, Unwrap, FrameMac, FrameFields, Card}
-
--- bytes in hex, or `-` for none
-abbrev pub hex_word : List ℕ → List ℕ
-hex_word [] = codes "-"
-hex_word (byte ∷ rest) = encode_lower (byte ∷ rest)
-
--- two of them, a space apart
-abbrev pub two_words : List ℕ → List ℕ → List ℕ
-two_words first second = hex_word first ++ codes " " ++ hex_word second
-
--- more of them, each behind a space, and all a space apart
-abbrev pub behind_spaces : List (List ℕ) → List ℕ
-behind_spaces [] = []
-behind_spaces (bytes ∷ rest) = codes " " ++ hex_word bytes ++ behind_spaces rest
-
-abbrev pub spaced : List (List ℕ) → List ℕ
-spaced [] = []
-spaced (bytes ∷ rest) = hex_word bytes ++ behind_spaces rest
+use Rattle.known_answers.specs.declared.questions.Question.TheVariants.{Aes, AesInverse, Ghash, GcmSeal, GcmOpen, Hmac, Ssk, Tsk, DirTsk, RpmbKey, Wrap, Unwrap, FrameMac, FrameFields, Card, Tree, TreeMake}
 
 -- the fields of a frame, in their order
 abbrev pub fields_line : Frame → List ℕ
@@ -80,3 +63,5 @@ IsAnswer (Unwrap tsk wrapped) line = line ≡ hex_word (unwrapped_of tsk wrapped
 IsAnswer (FrameMac key frame) line = line ≡ hex_word (mac_of key frame)
 IsAnswer (FrameFields frame) line = line ≡ fields_line (frame_of frame)
 IsAnswer (Card first rest) line = line ≡ spaced (card_answers blank (first ∷ rest.items))
+IsAnswer (Tree tree) line = line ≡ tree_line tree
+IsAnswer (TreeMake tree) line = IsMadeLine tree line

@@ -1,9 +1,11 @@
 -- Which question the words of a line ask.
 use Rattle.std.specs.Prelude.{ℕ, ◌≡◌, ◌<◌, List, [], ◌∷◌, codes, drop, length, slice_index_or}
-use Rattle.known_answers.specs.Words.{IsArray, IsArgument}
+use Rattle.known_answers.specs.Words.{IsArray, IsArgument, IsNumber}
 use Rattle.known_answers.specs.declared.questions.Parts.{Parts}
+use Rattle.known_answers.specs.declared.questions.TreeImage.{TreeImage}
+use Rattle.known_answers.specs.declared.questions.TreePages.{TreePages}
 use Rattle.known_answers.specs.declared.questions.Question.{Question}
-use Rattle.known_answers.specs.declared.questions.Question.TheVariants.{Aes, AesInverse, Ghash, GcmSeal, GcmOpen, Hmac, Ssk, Tsk, DirTsk, RpmbKey, Wrap, Unwrap, FrameMac, FrameFields, Card}
+use Rattle.known_answers.specs.declared.questions.Question.TheVariants.{Aes, AesInverse, Ghash, GcmSeal, GcmOpen, Hmac, Ssk, Tsk, DirTsk, RpmbKey, Wrap, Unwrap, FrameMac, FrameFields, Card, Tree, TreeMake}
 
 -- a word, by its place in the line
 abbrev pub word_at : List (List ℕ) → ℕ → List ℕ
@@ -18,6 +20,15 @@ AreArrays words arrays =
 unfoldable pub AreParts : List ℕ → List ℕ → List ℕ → List ℕ → Parts → Type 0
 AreParts key iv aad text p =
     IsArray key p.key × IsArgument iv p.iv.items × IsArgument aad p.aad.items × IsArgument text p.text.items
+
+-- the four words are the key, the reference and the image
+unfoldable pub IsTreeImage : List ℕ → List ℕ → List ℕ → List ℕ → TreeImage → Type 0
+IsTreeImage tsk hash version image t =
+    IsArray tsk t.tsk × IsArray hash t.root.hash × IsNumber version t.root.version × IsArgument image t.image.items
+
+-- the words are the key, the length and the pages
+unfoldable pub AreTreePages : List ℕ → List ℕ → List (List ℕ) → TreePages → Type 0
+AreTreePages tsk bytes pages t = IsArray tsk t.tsk × IsNumber bytes t.bytes × AreArrays pages t.pages.items
 
 -- the line has the name and one argument, two, and so on
 abbrev pub HasOne : List (List ℕ) → List ℕ → Type 0
@@ -66,3 +77,9 @@ Asks words (FrameFields frame) = HasOne words (codes "frame-fields") × IsArray 
 Asks words (Card first rest) =
     (words ≡ codes "card" ∷ word_at words 1 ∷ drop 2 words)
     × IsArray (word_at words 1) first × AreArrays (drop 2 words) rest.items
+Asks words (Tree tree) =
+    HasFour words (codes "tree")
+    × IsTreeImage (word_at words 1) (word_at words 2) (word_at words 3) (word_at words 4) tree
+Asks words (TreeMake tree) =
+    (words ≡ codes "tree-make" ∷ word_at words 1 ∷ word_at words 2 ∷ drop 3 words)
+    × AreTreePages (word_at words 1) (word_at words 2) (drop 3 words) tree

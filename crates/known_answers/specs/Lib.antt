@@ -1,3 +1,6 @@
+pub mod Files
+pub mod Lines
+pub mod Trees
 pub mod Answers
 pub mod Words
 pub mod Asks

@@ -1,11 +1,14 @@
 // The answers.
 
-ghost use Rattle.std.specs.Prelude.{◌≡◌, ◌∷◌, ◌++◌, IfOk, OnOk, codes, map, string_bytes};
+ghost use Rattle.std.specs.Prelude.{◌≡◌, ◌∷◌, IfOk, map, string_bytes};
 ghost use Rattle.aes_block.specs.Cipher.{cipher};
 ghost use Rattle.aes_block.specs.InverseCipher.{inv_cipher};
-ghost use Rattle.known_answers.specs.Answers.{IsAnswer, IsOpenedLine, card_answers, fields_line, ghash_of, hex_word, sealed_line, spaced, two_words};
+ghost use Rattle.known_answers.specs.Answers.{IsAnswer, IsOpenedLine, card_answers, fields_line, ghash_of, sealed_line};
+ghost use Rattle.known_answers.specs.Lines.{hex_word, spaced};
 
 use crate::questions::{Parts, Question};
+use crate::trees::{made_tree, opened_tree};
+use crate::words::{push_word, two_words, word_of};
 use aes_block::{Aes128, unwrap_key, wrap};
 use gcm_mode::{open_text, seal};
 use ghash_field::Ghash;
@@ -13,26 +16,6 @@ use hmac_keys::{Keys, dir_tsk, hmac, rpmb_key, ssk, tsk};
 use rpmb_card::SimCard;
 use rpmb_frame::{Frame, mac};
 use std::alloc::{AllocError, Global};
-
-// Bytes in hex, or `-` for none.
-fn word_of(alloc: Global, bytes: &[u8]) -> Result<String, AllocError>
-    ensures { IfOk result (λ word. string_bytes word ≡ hex_word bytes.now) }
-{
-    if bytes.is_empty() {
-        String::from_str(alloc, "-")
-    } else {
-        hex::encode(alloc, bytes)
-    }
-}
-
-fn two_words(alloc: Global, first: &[u8], second: &[u8]) -> Result<String, AllocError>
-    ensures { IfOk result (λ words. string_bytes words ≡ two_words first.now second.now) }
-{
-    let mut line = word_of(alloc, first)?;
-    line.push_str(" ")?;
-    line.push_str(&word_of(alloc, second)?)?;
-    Ok(line)
-}
 
 fn ghash(subkey: &[u8; 16], blocks: &[[u8; 16]]) -> [u8; 16]
     ensures { result ≡ ghash_of subkey.now blocks.now }
@@ -88,14 +71,6 @@ fn aes_inverse(key: &[u8; 16], mut block: [u8; 16]) -> [u8; 16]
 {
     Aes128::new(key).decrypt(&mut block);
     block
-}
-
-// One more word, behind a space.
-fn push_word(alloc: Global, line: &mut String, word: &[u8]) -> Result<(), AllocError>
-    ensures { OnOk result (string_bytes line.new ≡ string_bytes line.old ++ (codes " " ++ hex_word word.now)) }
-{
-    line.push_str(" ")?;
-    line.push_str(&word_of(alloc, word)?)
 }
 
 // Words, a space apart.
@@ -172,5 +147,7 @@ pub fn answer(alloc: Global, question: Question) -> Result<String, AllocError>
         Question::Card { first, rest } => {
             card_answers(alloc, &mut SimCard::blank(), &first, &rest)
         }
+        Question::Tree { tree } => opened_tree(alloc, tree),
+        Question::TreeMake { tree } => made_tree(alloc, tree),
     }
 }

@@ -1,16 +1,21 @@
 // The lines that ask the questions.
 
-ghost use Rattle.std.specs.Prelude.{◌≡◌, IfOk, map};
+ghost use Rattle.std.specs.Prelude.{◌≡◌, ◌<◌, IfOk, map};
 ghost use Rattle.hex.specs.Hex.{decode_of};
-ghost use Rattle.known_answers.specs.Asks.{AreArrays, AreParts, Asks};
-ghost use Rattle.known_answers.specs.Words.{IsArgument};
+ghost use Rattle.known_answers.specs.Asks.{AreArrays, AreParts, AreTreePages, Asks, IsTreeImage};
+ghost use Rattle.known_answers.specs.Words.{IsArgument, IsNumber, words_of};
 
-use crate::questions::{Argument, Parts, Question};
+use crate::questions::{Argument, Parts, Question, TreeImage, TreePages};
 use hex::{FromHex, FromHexError};
+use itoa::Buffer;
+use node_image::{RootRef, greatest_node};
 use std::alloc::{AllocError, Global};
 
 /// The most bytes of an argument of any length.
 const MOST: usize = 1 << 24;
+
+/// The most bytes that a tree holds.
+const MOST_IN_A_TREE: u64 = 1 << 20;
 
 /// Why a line was not read.
 #[derive(Debug, Drop, thiserror::Error)]
@@ -85,10 +90,77 @@ fn arrays_of<const N: usize>(alloc: Global, words: &[&str]) -> Result<Vec<[u8; N
     Ok(arrays)
 }
 
+// A number in decimal, without a sign or a leading zero.
+fn number_of(word: &str) -> Result<u64, Unreadable>
+    ensures { IfOk result (λ number. IsNumber word.now number) }
+{
+    let mut buffer = Buffer::new();
+    match word.parse::<u64>() {
+        Ok(number) if buffer.format(number) == word => Ok(number),
+        _ => Err(Unreadable::Form),
+    }
+}
+
+fn version_of(word: &str) -> Result<u8, Unreadable>
+    ensures number { IfOk result (λ version. IsNumber word.now version) }
+    ensures bound { IfOk result (λ version. version < 2) }
+{
+    let version = number_of(word)?;
+    if version > 1 {
+        return Err(Unreadable::Form);
+    }
+    Ok(version as u8)
+}
+
+#[tactic(auto, unfolding(crate::specs::Asks::IsTreeImage))]
+fn tree_image_of(
+    alloc: Global,
+    tsk: &str,
+    hash: &str,
+    version: &str,
+    image: &str,
+) -> Result<TreeImage, Unreadable>
+    ensures { IfOk result (λ tree. IsTreeImage tsk.now hash.now version.now image.now tree) }
+{
+    let tsk = array_of(tsk)?;
+    let hash = array_of(hash)?;
+    let version = version_of(version)?;
+    let image = argument_of(alloc, image)?.bytes;
+    let root = RootRef { hash, version };
+    Ok(TreeImage { tsk, root, image })
+}
+
+#[tactic(auto, unfolding(crate::specs::Asks::AreTreePages))]
+fn tree_pages_of(
+    alloc: Global,
+    tsk: &str,
+    bytes: &str,
+    pages: &[&str],
+) -> Result<TreePages, Unreadable>
+    ensures { IfOk result (λ tree. AreTreePages tsk.now bytes.now (map (λ w. w.now) pages.now) tree) }
+{
+    let tsk = array_of(tsk)?;
+    let bytes = number_of(bytes)?;
+    if bytes > MOST_IN_A_TREE || pages.len() != greatest_node(bytes) as usize {
+        return Err(Unreadable::Form);
+    }
+    let pages = arrays_of(alloc, pages)?;
+    Ok(TreePages { tsk, bytes, pages })
+}
+
 /// The question of a line.
-pub fn parse(alloc: Global, line: &str) -> Result<Question, Unreadable> {
-    let words: Vec<&str> = line.split(' ').collect(alloc)?;
-    question_of(alloc, words.as_slice())
+pub fn parse(alloc: Global, line: &str) -> Result<Question, Unreadable>
+    ensures { IfOk result (λ question. Asks (words_of line.now) question) }
+{
+    let words = words_of(alloc, line)?;
+    question_of(alloc, &words)
+}
+
+// The words of a line: what stands before, between and behind its spaces.
+fn words_of(alloc: Global, line: &str) -> Result<Vec<&str>, AllocError>
+    ensures { IfOk result (λ words. map (λ w. w.now) words.items ≡ words_of line.now) }
+{
+    line.split(' ').collect(alloc)
 }
 
 fn question_of(alloc: Global, words: &[&str]) -> Result<Question, Unreadable>
@@ -102,10 +174,6 @@ fn question_of(alloc: Global, words: &[&str]) -> Result<Question, Unreadable>
         ["aes-inverse", key, block] => Ok(Question::AesInverse {
             key: array_of(key)?,
             block: array_of(block)?,
-        }),
-        ["ghash", subkey, words @ ..] => Ok(Question::Ghash {
-            subkey: array_of(subkey)?,
-            blocks: arrays_of(alloc, words)?,
         }),
         ["gcm-seal", key, iv, aad, text] => Ok(Question::GcmSeal {
             parts: parts_of(alloc, key, iv, aad, text)?,
@@ -147,9 +215,28 @@ fn question_of(alloc: Global, words: &[&str]) -> Result<Question, Unreadable>
         ["frame-fields", frame] => Ok(Question::FrameFields {
             frame: array_of(frame)?,
         }),
+        ["tree", tsk, hash, version, image] => Ok(Question::Tree {
+            tree: tree_image_of(alloc, tsk, hash, version, image)?,
+        }),
+        _ => question_of_any_length(alloc, words),
+    }
+}
+
+// The question of words of any number.
+fn question_of_any_length(alloc: Global, words: &[&str]) -> Result<Question, Unreadable>
+    ensures { IfOk result (λ question. Asks (map (λ w. w.now) words.now) question) }
+{
+    match words {
+        ["ghash", subkey, words @ ..] => Ok(Question::Ghash {
+            subkey: array_of(subkey)?,
+            blocks: arrays_of(alloc, words)?,
+        }),
         ["card", first, words @ ..] => Ok(Question::Card {
             first: array_of(first)?,
             rest: arrays_of(alloc, words)?,
+        }),
+        ["tree-make", tsk, bytes, pages @ ..] => Ok(Question::TreeMake {
+            tree: tree_pages_of(alloc, tsk, bytes, pages)?,
         }),
         _ => Err(Unreadable::Form),
     }

@@ -1,8 +1,8 @@
-//! Answers questions about the ciphers, the keys and the card, for comparison with published answers: a line of
-//! standard input is one question, and a line of standard output its answer.
+//! Answers questions about the ciphers, the keys, the card and tree files, for comparison with answers from elsewhere: a
+//! line of standard input is one question, and a line of standard output its answer.
 //!
 //! A line is a word and its arguments, one space apart. Each argument is bytes in hex, in either case,
-//! or `-` for none. Empty lines and lines that begin with `#` are passed over. A line that cannot be
+//! or `-` for none; a version and a length are numbers in decimal. Empty lines and lines that begin with `#` are passed over. A line that cannot be
 //! read ends the program with status 1, and its number on standard error.
 #![tactic(auto)]
 
@@ -14,6 +14,8 @@ mod lines;
 mod questions;
 #[cfg(test)]
 mod tests;
+mod trees;
+mod words;
 
 fn main(rt: HostRuntime) -> anyhow::Result<()> {
     let mut number = 0u64;

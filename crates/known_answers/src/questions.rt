@@ -1,6 +1,10 @@
 // The questions.
 
-ghost use Rattle.std.specs.Prelude.{◌≤◌, ◌^◌, vec_len};
+ghost use Rattle.std.specs.Prelude.{◌≡◌, ◌<◌, ◌≤◌, ◌^◌, vec_len};
+ghost use Rattle.node_image.specs.Layout.{greatest_of};
+
+use htree_file::Page;
+use node_image::RootRef;
 
 /// Bytes, at most 2^24 of them.
 #[derive(Drop)]
@@ -20,6 +24,25 @@ pub struct Parts {
     ghost iv_high: { vec_len iv ≤ 2 ^ 24 },
     ghost aad_high: { vec_len aad ≤ 2 ^ 24 },
     ghost text_high: { vec_len text ≤ 2 ^ 24 },
+}
+
+/// The bytes of a file, and the key and the reference that a tree is looked for in it by.
+#[derive(Drop)]
+pub struct TreeImage {
+    pub tsk: [u8; 32],
+    pub root: RootRef,
+    pub image: Vec<u8>,
+    ghost version: { root.version < 2 },
+}
+
+/// How many bytes a tree is to hold, its pages, and the key that wraps its file's.
+#[derive(Drop)]
+pub struct TreePages {
+    pub tsk: [u8; 32],
+    pub bytes: u64,
+    pub pages: Vec<Page>,
+    ghost few: { bytes ≤ 1048576 },
+    ghost all: { vec_len pages ≡ greatest_of bytes },
 }
 
 /// A question.
@@ -80,5 +103,11 @@ pub enum Question {
     Card {
         first: [u8; 512],
         rest: Vec<[u8; 512]>,
+    },
+    Tree {
+        tree: TreeImage,
+    },
+    TreeMake {
+        tree: TreePages,
     },
 }

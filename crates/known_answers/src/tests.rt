@@ -22,10 +22,38 @@ fn lines_that_are_no_question(rt: HostRuntime) {
         "frame-fields -",
         "card",
         "card 00",
+        "tree",
+        "tree-make",
     ];
     for line in lines {
         assert!(rt; matches!(parse(rt.alloc(), line), Err(Unreadable::Form)));
     }
+}
+
+// Lines about trees: a name, a key of zero bytes, and more words.
+#[test]
+fn lines_about_trees_that_are_no_question(rt: HostRuntime) -> Result<(), Fail> {
+    let zeros = "0000000000000000000000000000000000000000000000000000000000000000";
+    let ends = [
+        "",
+        " 0",
+        " 0 -",
+        " 1048577 00",
+        " 01 00",
+        " +1 00",
+        " 1 00",
+        " 4097 00",
+        " 18446744073709551616 00",
+    ];
+    for end in ends {
+        let line = format!(in rt.alloc(); "tree-make {zeros}{end}")?;
+        assert!(rt; matches!(parse(rt.alloc(), &line), Err(Unreadable::Form)));
+    }
+    for end in ["", " 2 -", " 00 -", " - -", " 0  ", " 0 - -", " 0 0"] {
+        let line = format!(in rt.alloc(); "tree {zeros} {zeros}{end}")?;
+        assert!(rt; matches!(parse(rt.alloc(), &line), Err(Unreadable::Form)));
+    }
+    Ok(())
 }
 
 #[test]

@@ -1,7 +1,7 @@
 use Rattle.std.proofs.Common.{List, ℕ, ◌++◌, ap, ◌∙◌}
 use Rattle.std.specs.Prelude.{codes}
 use Rattle.std.specs.String.{string_bytes}
-use Rattle.known_answers.specs.Answers.{hex_word}
+use Rattle.known_answers.specs.Lines.{hex_word}
 use Rattle.known_answers.proofs.Serving.{answers-more, through-more}
 use Rattle.known_answers.proofs.answers.card_answers.Goals as goal
 

@@ -1,6 +1,7 @@
 use Rattle.std.proofs.Common.{◌≡◌, ◌∷◌, take}
 use Rattle.std.specs.String.{string_bytes}
-use Rattle.known_answers.specs.Answers.{card_answers, spaced}
+use Rattle.known_answers.specs.Lines.{spaced}
+use Rattle.known_answers.specs.Answers.{card_answers}
 use Rattle.known_answers.proofs.Serving.{card_through}
 use Rattle.known_answers.proofs.answers.card_answers.Given as goal
 

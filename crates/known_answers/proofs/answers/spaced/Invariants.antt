@@ -1,6 +1,6 @@
 use Rattle.std.proofs.Common.{◌≡◌, ◌∷◌, map, take}
 use Rattle.std.specs.String.{string_bytes}
-use Rattle.known_answers.specs.Answers.{spaced}
+use Rattle.known_answers.specs.Lines.{spaced}
 use Rattle.known_answers.proofs.answers.spaced.Given as goal
 
 abbrev pub invariant-loop-word : goal.invariant-loop-word
