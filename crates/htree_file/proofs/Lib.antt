@@ -12,3 +12,6 @@ pub mod PartWrites
 pub mod Hashing
 pub mod Building
 pub mod Made
+pub mod NextTable
+pub mod Loadings
+pub mod Firmness

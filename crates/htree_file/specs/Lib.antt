@@ -4,3 +4,6 @@ pub mod Standing
 pub mod Answers
 pub mod Value
 pub mod Making
+pub mod Changes
+pub mod WriteSets
+pub mod Selected

@@ -5,6 +5,7 @@
 //! a page that is read is the deciphering of a ciphertext with the tag that a verified node has for it.
 #![tactic(auto)]
 
+mod change;
 mod device;
 mod fault;
 mod making;
@@ -16,6 +17,8 @@ mod table;
 #[cfg(test)]
 mod tests;
 mod tree;
+mod write_set;
 
+pub use change::BlockChange;
 pub use fault::{Broken, Page, TreeFault};
 pub use tree::Tree;

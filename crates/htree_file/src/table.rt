@@ -12,8 +12,14 @@ use tree_paths::children;
 /// The most nodes that a tree has.
 pub(crate) const MOST_NODES: usize = 256;
 
-// What stands in a table where no node was put yet.
-const BLANK: NodeImage = NodeImage {
+// The least bit of a node's flags is the version of its block. The weights of the next two bits, the versions of its left and
+// of its right child.
+pub(crate) const LEFT_BIT: u16 = 2;
+
+pub(crate) const RIGHT_BIT: u16 = 4;
+
+/// What stands in a table where no node was put yet.
+pub(crate) const BLANK: NodeImage = NodeImage {
     hash: [0; 32],
     iv: [0; 16],
     tag: [0; 16],
@@ -38,9 +44,9 @@ pub(crate) fn node_version(nodes: &[NodeImage], root: u8, n: u32) -> u8
     }
     let flags = nodes[n as usize / 2 - 1].flags;
     if n % 2 == 0 {
-        (flags / 2 % 2) as u8
+        (flags / LEFT_BIT % 2) as u8
     } else {
-        (flags / 4 % 2) as u8
+        (flags / RIGHT_BIT % 2) as u8
     }
 }
 

@@ -1,0 +1,57 @@
+-- What loads, part by part, and back.
+use Rattle.std.proofs.Common.{◌≡◌, ℕ, ◌+◌, ◌-◌, ◌<◌, ◌≤◌, List, length, get_or, leb, None, Result, Ok, Err, refl, sym, ◌∙◌, ap, subst, arith}
+use Rattle.std.proofs.lemmas.Bool.{leb-true}
+use Rattle.std.specs.Str.{bytes_eq}
+use Rattle.node_image.specs.declared.node.NodeImage.{NodeImage}
+use Rattle.node_image.specs.declared.node.RootRef.{RootRef}
+use Rattle.node_image.specs.declared.head.Head.{Head}
+use Rattle.node_image.specs.Layout.{has_form}
+use Rattle.node_image.specs.Parts.Part.{head}
+use Rattle.node_image.specs.Tables.{at_node, no_node}
+use Rattle.node_image.specs.Selection.{Matches, head_in, nodes_in, part_in, row, selected_node}
+use Rattle.node_image.proofs.Matching.{length-row, node_is, row_is, table_matches}
+use Rattle.htree_file.specs.declared.fault.TreeFault.{TreeFault}
+use Rattle.htree_file.specs.declared.fault.TreeFault.TheVariants.{BadHead, Damaged, Short}
+use Rattle.htree_file.specs.Opening.{Loaded, checked, first_damaged, load_of, long_enough, need_of, or_damaged, table_of}
+use Rattle.htree_file.specs.Selected.{IsLoaded}
+use Rattle.htree_file.proofs.Damage.{each_ends, need_within, undamaged}
+use Rattle.htree_file.proofs.Verdicts.{checked_by, table_checked}
+use Rattle.htree_file.proofs.Verified.{cond_ok, long_is, table_verified, undamaged_ok}
+
+pub loaded_is : (image : List ℕ) (root : RootRef) (tree : Loaded) → IsLoaded image root tree → load_of image root ≡ Ok tree
+loaded_is image root tree l =
+    let h : Head = tree.head in
+    let nodes : List NodeImage = tree.nodes in
+    let nodes_are : nodes ≡ row (λ k. selected_node image root.version (k + 1)) h.greatest =
+    sym (row_is (λ k. selected_node image root.version (k + 1)) nodes h.greatest no_node l.verified.all
+    (λ k lt. node_is image root.version nodes (length nodes) l.matches (k + 1) (omega arith) (omega (arith, lt, l.verified.all)) ∙ ap (λ (j : ℕ). get_or nodes j no_node) (let e : (k + 1) - 1 ≡ k = omega arith in e))) in
+    let table : table_of image root ≡ Ok tree =
+    table_checked image root h (sym l.top) nodes l.form nodes_are
+    ∙ checked_by h nodes root None l.verified.root_hash (sym (undamaged h nodes 1 (length nodes) (λ n le lt. l.verified.hashes n le (omega arith)))) in
+    long_is (length image) (table_of image root) tree table (need_within nodes (length nodes) (length image) l.ends)
+
+ends_ok : (end : ℕ) (r : Result Loaded TreeFault) (tree : Loaded) → long_enough end r ≡ Ok tree → (r ≡ Ok tree) × (need_of tree.nodes (length tree.nodes) ≤ end)
+ends_ok end (Err fault) tree is = absurd (cc (is))
+ends_ok end (Ok t) tree is =
+    let tested = cond_ok (leb (need_of t.nodes (length t.nodes)) end) (Ok t) (Short end (need_of t.nodes (length t.nodes))) tree is in
+    let same : t ≡ tree = cc (tested.1) in
+    (tested.1, subst (λ (x : Loaded). need_of x.nodes (length x.nodes) ≤ end) same (leb-true (need_of t.nodes (length t.nodes)) end tested.0))
+
+pub loaded_from : (image : List ℕ) (root : RootRef) (tree : Loaded) → load_of image root ≡ Ok tree → IsLoaded image root tree
+loaded_from image root tree is =
+    let v = root.version in
+    let h : Head = head_in image v in
+    let nodes : List NodeImage = nodes_in image v in
+    let ended = ends_ok (length image) (table_of image root) tree is in
+    let formed = cond_ok (has_form (part_in image (head v))) (checked h nodes root) (BadHead h.length h.greatest) tree ended.0 in
+    let rooted = cond_ok (bytes_eq (at_node nodes 1).hash root.hash) (or_damaged h nodes (first_damaged h nodes 1 (length nodes))) (Damaged 1 root.hash (at_node nodes 1).hash) tree formed.1 in
+    let sound = undamaged_ok h nodes (first_damaged h nodes 1 (length nodes)) tree rooted.1 in
+    let long : h.greatest ≡ length nodes = sym (length-row (λ k. selected_node image v (k + 1)) h.greatest) in
+    let matches : Matches image v nodes (length nodes) = subst (λ (g : ℕ). Matches image v nodes g) long (table_matches image v nodes h.greatest refl) in
+    record {
+      form = formed.0;
+      top = ap (λ (t : Loaded). t.head) sound.1;
+      matches = subst (λ (t : Loaded). Matches image v t.nodes (length t.nodes)) sound.1 matches;
+      verified = table_verified image root tree ended.0;
+      ends = each_ends tree.nodes (length tree.nodes) (length image) ended.1;
+    }

@@ -1,0 +1,24 @@
+-- Which parts a stage writes. A part that is written gets its other version.
+use Rattle.std.specs.Prelude.{◌≡◌, ◌↔◌, ℕ, ◌+◌, ◌-◌, ◌*◌, ◌/◌, ◌%◌, ◌<◌, ◌≤◌, List, Bool, true, false, cond, IsSome}
+use Rattle.htree_file.specs.declared.change.BlockChange.{BlockChange}
+use Rattle.htree_file.specs.Changes.{page_for}
+
+-- A stage from so many nodes to so many may write these nodes, and the blocks of these. The root is among them, with each
+-- node the one above it, and with each block its node; so are new nodes with their blocks, each node that gets or loses a
+-- child, and the blocks that change.
+pub record IsWriteSet (before after : ℕ) (changes : List BlockChange) (nodes blocks : ℕ → Bool) : Type 0 where
+  pub root : nodes 1 ≡ true
+  pub up : (n : ℕ) → 2 ≤ n → n ≤ after → nodes n ≡ true → nodes (n / 2) ≡ true
+  pub own : (n : ℕ) → 1 ≤ n → n ≤ after → blocks n ≡ true → nodes n ≡ true
+  pub fresh : (n : ℕ) → before < n → n ≤ after → (nodes n ≡ true) × (blocks n ≡ true)
+  pub edge : (n m : ℕ) → 1 ≤ n → n ≤ after → nodes n ≡ false → 2 ≤ m → n ≡ m / 2 → (m ≤ before) ↔ (m ≤ after)
+  pub changed : (k : ℕ) → k < after → IsSome (page_for changes k) → blocks (k + 1) ≡ true
+
+-- the version after, where the part is written or is not
+abbrev pub turned : (written : Bool) → (version : ℕ) → ℕ
+turned written version = cond written (1 - version) version
+
+-- the flags of node n after: the versions of its block and of its children, each turned where it is written
+abbrev pub turned_flags : (nodes blocks : ℕ → Bool) → (n flags : ℕ) → ℕ
+turned_flags nodes blocks n flags =
+    turned (blocks n) (flags % 2) + (2 * turned (nodes (2 * n)) ((flags / 2) % 2) + 4 * turned (nodes (2 * n + 1)) ((flags / 4) % 2))
