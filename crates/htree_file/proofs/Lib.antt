@@ -12,6 +12,9 @@ pub mod PartWrites
 pub mod Hashing
 pub mod Building
 pub mod Made
+pub mod StageSteps
 pub mod NextTable
 pub mod Loadings
 pub mod Firmness
+pub mod StageKeeps
+pub mod StageWhole

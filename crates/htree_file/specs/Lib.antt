@@ -7,3 +7,4 @@ pub mod Making
 pub mod Changes
 pub mod WriteSets
 pub mod Selected
+pub mod Staging

@@ -1,5 +1,5 @@
 -- A tree while it is made: what stands in the file already.
-use Rattle.std.specs.Prelude.{◌≡◌, ℕ, ◌+◌, ◌<◌, ◌≤◌, List, [], length, get_or, Some, Result, Ok, Err, IsTrue}
+use Rattle.std.specs.Prelude.{◌≡◌, ℕ, ◌+◌, ◌<◌, ◌≤◌, List, [], length, get_or, Some, Result, Ok, Err, Bool, true, IsTrue}
 use Rattle.disk_model.specs.Faults.{Rose}
 use Rattle.disk_model.specs.State.{FileState, LeftNow}
 use Rattle.node_image.specs.declared.node.NodeImage.{NodeImage}
@@ -12,21 +12,16 @@ use Rattle.node_image.specs.Selection.{part_in}
 use Rattle.htree_file.specs.declared.fault.TreeFault.{TreeFault}
 use Rattle.htree_file.specs.declared.fault.TreeFault.TheVariants.{Failed, NoEntropy, NoMemory}
 use Rattle.htree_file.specs.Pages.{page_of}
-use Rattle.htree_file.specs.Standing.{Stands}
+use Rattle.htree_file.specs.Standing.{PageStands, Stands}
 
 -- no place
 abbrev pub Nowhere : ℕ → Type 0
 Nowhere place = ⊥
 
--- block k stands in version 0, and deciphers to the page by the node
-pub record PageStands (file key : List ℕ) (h : Head) (n : NodeImage) (k : ℕ) (page : List ℕ) : Type 0 where
-  pub fits : start (block k 0) + 4096 ≤ length file
-  pub opens : page_of key h n k (part_in file (block k 0)) ≡ Some page
-
--- so do the first of the pages, each by its node
+-- the first of the pages stand in version 0, each by its node
 abbrev pub PagesStand : (file key : List ℕ) → Head → List NodeImage → (pages : List (List ℕ)) → (count : ℕ) → Type 0
 PagesStand file key h nodes pages count =
-    (k : ℕ) → k < count → PageStands file key h (get_or nodes k no_node) k (get_or pages k [])
+    (k : ℕ) → k < count → PageStands file key h (get_or nodes k no_node) k 0 (Some (get_or pages k []))
 
 -- the first nodes name version 0 throughout
 abbrev pub NameVersionZero : List NodeImage → (count : ℕ) → Type 0
@@ -51,7 +46,11 @@ pub record SameSeal (old new : NodeImage) : Type 0 where
   pub tag : new.tag ≡ old.tag
   pub flags : new.flags ≡ old.flags
 
--- the nodes from one on have their own hashes
+-- those of these nodes that come after one have their own hashes
+abbrev pub HashedAmong : (chosen : ℕ → Bool) → List NodeImage → Head → (from : ℕ) → Type 0
+HashedAmong chosen nodes h from = (n : ℕ) → from < n → n ≤ length nodes → chosen n ≡ true → (at_node nodes n).hash ≡ hash_in nodes h n
+
+-- all nodes that come after one have their own hashes
 abbrev pub HashedFrom : List NodeImage → Head → (from : ℕ) → Type 0
 HashedFrom nodes h from = (n : ℕ) → from < n → n ≤ length nodes → (at_node nodes n).hash ≡ hash_in nodes h n
 

@@ -1,5 +1,7 @@
 -- Which parts a stage writes. A part that is written gets its other version.
-use Rattle.std.specs.Prelude.{◌≡◌, ◌↔◌, ℕ, ◌+◌, ◌-◌, ◌*◌, ◌/◌, ◌%◌, ◌<◌, ◌≤◌, List, Bool, true, false, cond, IsSome}
+use Rattle.std.specs.Prelude.{◌≡◌, ◌↔◌, ℕ, ◌+◌, ◌-◌, ◌*◌, ◌/◌, ◌%◌, ◌<◌, ◌≤◌, List, length, get_or, Bool, true, false, cond, IsSome}
+use Rattle.node_image.specs.declared.node.NodeImage.{NodeImage}
+use Rattle.node_image.specs.Tables.{at_node, no_node}
 use Rattle.htree_file.specs.declared.change.BlockChange.{BlockChange}
 use Rattle.htree_file.specs.Changes.{page_for}
 
@@ -22,3 +24,14 @@ turned written version = cond written (1 - version) version
 abbrev pub turned_flags : (nodes blocks : ℕ → Bool) → (n flags : ℕ) → ℕ
 turned_flags nodes blocks n flags =
     turned (blocks n) (flags % 2) + (2 * turned (nodes (2 * n)) ((flags / 2) % 2) + 4 * turned (nodes (2 * n + 1)) ((flags / 4) % 2))
+
+-- The node comes from node n of the committed table, all but its hash: its flags are turned where it is written, its
+-- block's seal is another only where the block is written, and where neither is, it is that node.
+pub record IsStaged (committed : List NodeImage) (nodes blocks : ℕ → Bool) (n : ℕ) (staged : NodeImage) : Type 0 where
+  pub flags : nodes n ≡ true → staged.flags ≡ turned_flags nodes blocks n (at_node committed n).flags
+  pub seal : blocks n ≡ false → n ≤ length committed → (staged.iv ≡ (at_node committed n).iv) × (staged.tag ≡ (at_node committed n).tag)
+  pub same : nodes n ≡ false → blocks n ≡ false → n ≤ length committed → staged ≡ at_node committed n
+
+-- so does each of the first nodes of a table
+abbrev pub AreStaged : (committed : List NodeImage) → (nodes blocks : ℕ → Bool) → (next : List NodeImage) → (count : ℕ) → Type 0
+AreStaged committed nodes blocks next count = (k : ℕ) → k < count → IsStaged committed nodes blocks (k + 1) (get_or next k no_node)

@@ -13,6 +13,8 @@ mod opening;
 mod pages;
 mod parts;
 mod reading;
+mod sealing;
+mod staging;
 mod table;
 #[cfg(test)]
 mod tests;

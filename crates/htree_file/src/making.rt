@@ -8,65 +8,18 @@ ghost use Rattle.node_image.specs.Parts.{Off};
 ghost use Rattle.node_image.specs.Parts.Part.{block};
 ghost use Rattle.node_image.specs.Tables.{at_node, no_node};
 ghost use Rattle.htree_file.specs.Answers.{HasCause, IsFailed};
-ghost use Rattle.htree_file.specs.Making.{DrawCause, HashedFrom, IsDeviceFault, IsDrawFault, IsMade, IsSynced, NameVersionZero, NodesReturn, NodesStand, NotEntropy, Nowhere, OffNodes, PageStands, PagesStand};
+ghost use Rattle.htree_file.specs.Making.{DrawCause, HashedFrom, IsDeviceFault, IsMade, IsSynced, NameVersionZero, NodesReturn, NodesStand, NotEntropy, Nowhere, OffNodes, PagesStand};
 ghost use Rattle.htree_file.specs.Opening.{load_of};
 ghost use Rattle.htree_file.specs.Pages.{page_in};
 ghost use Rattle.htree_file.specs.Standing.{Stands};
 
 use crate::fault::{Page, TreeFault};
-use crate::pages::seal_page;
-use crate::parts::{write_block, write_head, write_node};
-use crate::table::hash_nodes;
+use crate::parts::{write_head, write_node};
+use crate::sealing::write_page;
+use crate::table::{BLANK, hash_nodes};
 use aes_block::Aes128;
 use node_image::{Head, NodeImage, RootRef};
 use tee_ports::{Entropy, StoreFile};
-
-/// Draws 16 bytes.
-pub(crate) fn draw<E: Entropy>(entropy: &mut E) -> Result<[u8; 16], TreeFault>
-    ensures cause { DrawCause (E.faults entropy.old) (E.faults entropy.new) result }
-    ensures reliable { E.is_reliable entropy.old → E.is_reliable entropy.new × IsOk result }
-    ensures fault { IfErr result IsDrawFault }
-{
-    let mut bytes = [0; 16];
-    match entropy.draw(&mut bytes) {
-        Ok(()) => Ok(bytes),
-        Err(failed) => Err(TreeFault::NoEntropy {
-            count: failed.count,
-        }),
-    }
-}
-
-// Enciphers block k under a new initialization vector, and writes it. Gives its node, without its hash.
-fn make_block<F: StoreFile, E: Entropy>(
-    file: &mut F,
-    entropy: &mut E,
-    key: &Aes128,
-    head: &Head,
-    k: u32,
-    page: &Page,
-) -> Result<NodeImage, TreeFault>
-    requires { k < 256 }
-    ensures flags { IfOk result (λ node. node.flags ≡ 0) }
-    ensures stands { IfOk result (λ node. Known (F.state file.old) (F.state file.new) →
-        PageStands (F.state file.new).reads key.now head.now node k page.now) }
-    ensures kept { Keeps (Off (block k 0)) (F.state file.old) (F.state file.new) }
-    ensures cause { HasCause (F.state file.old) (F.state file.new) result }
-    ensures draws { DrawCause (E.faults entropy.old) (E.faults entropy.new) result }
-    ensures reliable { E.is_reliable entropy.old → E.is_reliable entropy.new }
-    ensures drawn { E.is_reliable entropy.old → IfErr result NotEntropy }
-    ensures fault { IfErr result IsDeviceFault }
-{
-    let iv = draw(entropy)?;
-    let mut block = *page;
-    let tag = seal_page(key, head, &iv, k, &mut block);
-    write_block(file, k, 0, &block)?;
-    Ok(NodeImage {
-        hash: [0; 32],
-        iv,
-        tag,
-        flags: 0,
-    })
-}
 
 fn make_blocks<F: StoreFile, E: Entropy>(
     file: &mut F,
@@ -88,7 +41,7 @@ fn make_blocks<F: StoreFile, E: Entropy>(
     ensures fault { IfErr result IsDeviceFault }
 {
     for k in 0..pages.len() {
-        let node = make_block(file, entropy, key, head, k as u32, &pages[k])?;
+        let node = write_page(file, entropy, key, head, &BLANK, k as u32, 0, &pages[k])?;
         nodes[k] = node;
     }
     Ok(())

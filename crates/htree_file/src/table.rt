@@ -1,13 +1,14 @@
 // Tables of nodes, node 1 first, and what they name.
-ghost use Rattle.std.specs.Prelude.{◌≡◌, ◌≢◌, ℕ, ◌+◌, ◌-◌, ◌*◌, ◌<◌, ◌≤◌, length, IfOk, IfSome, IfNone, option_copied, option_map, get_or};
-ghost use Rattle.node_image.specs.Tables.{at_node, block_version, hash_in, no_node, node_version};
-ghost use Rattle.htree_file.specs.Making.{HashedFrom, SameSeal};
+ghost use Rattle.std.specs.Prelude.{◌≡◌, ◌≢◌, ℕ, ◌+◌, ◌-◌, ◌*◌, ◌<◌, ◌≤◌, length, IfOk, IfSome, IfNone, option_copied, option_map, get_or, Bool, true, false};
+ghost use Rattle.node_image.specs.Tables.{at_node, block_bit, block_version, hash_in, no_node, node_version};
+ghost use Rattle.htree_file.specs.Making.{HashedAmong, HashedFrom, SameSeal};
 ghost use Rattle.htree_file.specs.Opening.{first_damaged, need_of};
+ghost use Rattle.tree_paths.specs.Paths.{holds};
 
 use node_image::{Head, NodeImage, block_offset, node_hash};
 use std::alloc::Global;
 use tee_ports::NoMemory;
-use tree_paths::children;
+use tree_paths::{NodeSet, children};
 
 /// The most nodes that a tree has.
 pub(crate) const MOST_NODES: usize = 256;
@@ -50,13 +51,21 @@ pub(crate) fn node_version(nodes: &[NodeImage], root: u8, n: u32) -> u8
     }
 }
 
+/// The version of a node's block.
+pub(crate) fn version_of_block(node: &NodeImage) -> u8
+    ensures value { result ≡ block_bit node.now.flags }
+    ensures bit { result < 2 }
+{
+    (node.flags % 2) as u8
+}
+
 /// The version of block `k`.
 pub(crate) fn block_version(nodes: &[NodeImage], k: u32) -> u8
     requires { k < length nodes.now }
     ensures value { result ≡ block_version nodes.now k }
     ensures bit { result < 2 }
 {
-    (nodes[k as usize].flags % 2) as u8
+    version_of_block(&nodes[k as usize])
 }
 
 // The stored hash of a child that exists.
@@ -121,6 +130,8 @@ fn hash_node(nodes: &mut [NodeImage], head: &Head, i: usize)
     ensures others { (j : ℕ) → j ≢ i → get_or nodes.new j no_node ≡ get_or nodes.old j no_node }
     ensures seal { SameSeal (get_or nodes.old i no_node) (get_or nodes.new i no_node) }
     ensures hashed { HashedFrom nodes.old head.now (i + 1) → HashedFrom nodes.new head.now i }
+    ensures among { (chosen : ℕ → Bool) →
+        HashedAmong chosen nodes.old head.now (i + 1) → HashedAmong chosen nodes.new head.now i }
 {
     let hash = hash_in(nodes, head, i as u32 + 1);
     let node = &mut nodes[i];
@@ -138,5 +149,36 @@ pub(crate) fn hash_nodes(nodes: &mut [NodeImage], head: &Head)
     while i > 0 {
         i -= 1;
         hash_node(nodes, head, i);
+    }
+}
+
+// The same where the set has the node.
+fn rehash_node(nodes: &mut [NodeImage], head: &Head, set: &NodeSet, i: usize)
+    requires all { length nodes.old ≡ head.now.greatest }
+    requires within { (i < length nodes.old) × (length nodes.old ≤ 256) }
+    ensures others { (j : ℕ) → j ≢ i → get_or nodes.new j no_node ≡ get_or nodes.old j no_node }
+    ensures kept { holds set.now (i + 1) ≡ false → nodes.new ≡ nodes.old }
+    ensures seal { SameSeal (get_or nodes.old i no_node) (get_or nodes.new i no_node) }
+    ensures hashed { HashedAmong (holds set.now) nodes.old head.now (i + 1) →
+        HashedAmong (holds set.now) nodes.new head.now i }
+{
+    if !set.has(i as u32 + 1) {
+        return;
+    }
+    hash_node(nodes, head, i);
+}
+
+/// Gives each node of the set the hash that it has, from the last one up to the root.
+pub(crate) fn rehash_nodes(nodes: &mut [NodeImage], head: &Head, set: &NodeSet)
+    requires all { length nodes.old ≡ head.now.greatest }
+    requires few { length nodes.old ≤ 256 }
+    ensures seals { (k : ℕ) → SameSeal (get_or nodes.old k no_node) (get_or nodes.new k no_node) }
+    ensures others { (n : ℕ) → 1 ≤ n → holds set.now n ≡ false → at_node nodes.new n ≡ at_node nodes.old n }
+    ensures hashed { HashedAmong (holds set.now) nodes.new head.now 0 }
+{
+    let mut i = nodes.len();
+    while i > 0 {
+        i -= 1;
+        rehash_node(nodes, head, set, i);
     }
 }

@@ -14,9 +14,10 @@ ghost use Rattle.htree_file.specs.Standing.{IsFirm, Told};
 
 use crate::device::read_padded;
 use crate::fault::{Broken, Page, TreeFault};
-use crate::making::{build_tree, draw};
+use crate::making::build_tree;
 use crate::pages::open_page;
 use crate::reading::read_tree;
+use crate::sealing::draw;
 use crate::table::{blank_nodes, block_version};
 use aes_block::{Aes128, unwrap_key};
 use node_image::{Head, NodeImage, RootRef, block_offset, greatest_node};

@@ -63,6 +63,7 @@ pub(crate) fn turn_node(set: &WriteSet, n: u32, node: &NodeImage) -> NodeImage
     ensures turned { holds set.now.nodes n ≡ true →
         result ≡ record node.now { flags = turned_flags (holds set.now.nodes) (holds set.now.blocks) n node.now.flags } }
     ensures same { holds set.now.nodes n ≡ false → result ≡ node.now }
+    ensures seal { (result.iv ≡ node.now.iv) × (result.tag ≡ node.now.tag) }
 {
     if !set.nodes.has(n) {
         return *node;

@@ -9,7 +9,7 @@ pub loop-k-preserved : goal.loop-k-preserved
 loop-k-preserved g c =
     let entry = g.F.StoreFile.state c.args.file.now in
     let now = g.F.StoreFile.state c.loop-k.file in
-    let new = g.F.StoreFile.state c.make_block.new.file in
+    let new = g.F.StoreFile.state c.write_page.new.file in
     let before = c.loop-k.invariant in
     let step = c.in_ok-node.ensures in
     record {

@@ -1,6 +1,6 @@
 use Rattle.std.proofs.lemmas.Result.{err_from_is_err_and}
 use Rattle.htree_file.proofs.Causes.{draw_cause, draw_device}
-use Rattle.htree_file.proofs.making.make_block.Goals as goal
+use Rattle.htree_file.proofs.sealing.write_page.Goals as goal
 
 pub returns-in_err-iv-clause-cause : goal.returns-in_err-iv-clause-cause
 returns-in_err-iv-clause-cause g c =
