@@ -40,7 +40,7 @@ unwritten before after changes dirty moved k closed lt idle = by (page_for chang
     by (Some page) hit = absurd (false≢true (sym idle ∙ hit refl))
 
 module _ (nodes mid next : List NodeImage) (changes : List BlockChange) (top : Head) (dirty moved : ℕ → Bool)
-    (closed : IsWriteSet (length nodes) (length next) changes dirty moved) (long : length mid ≡ length next) (staged : AreStaged nodes dirty moved mid (length mid))
+    (closed : IsWriteSet (length nodes) (length next) changes dirty moved) (staged : AreStaged nodes dirty moved mid (length next))
     (seals : (k : ℕ) → SameSeal (get_or mid k no_node) (get_or next k no_node)) where
   staged_at : (n : ℕ) → 1 ≤ n → n ≤ length next → IsStaged nodes dirty moved n (at_node mid n)
   staged_at n least most = let e : (n - 1) + 1 ≡ n = omega arith in subst (λ (m : ℕ). IsStaged nodes dirty moved m (at_node mid n)) e (staged (n - 1) (omega arith))
@@ -61,22 +61,22 @@ size_some (head v) = omega arith
 size_some (node n v) = omega arith
 size_some (block k v) = omega arith
 
--- The runs of a stage from one state of the file to the next: blocks, nodes, head. The table is hashed between the first two.
-pub record Runs (a b c d : FileState) (root : ℕ) (key : List ℕ) (top : Head) (nodes mid next : List NodeImage) (changes : List BlockChange) (dirty moved : ℕ → Bool) : Type 0 where
+-- The runs of a stage from one state of the file to the next: blocks, nodes, head. The table of so many
+-- nodes is hashed between the first two.
+pub record Runs (a b c d : FileState) (root : ℕ) (key : List ℕ) (top : Head) (nodes mid next : List NodeImage) (changes : List BlockChange) (dirty moved : ℕ → Bool) (count : ℕ) : Type 0 where
   pub few : length nodes ≤ 256
   pub most : length next ≤ 256
   pub bit : root < 2
   pub all : length next ≡ top.greatest
   pub sized : is_sized top ≡ true
-  pub closed : IsWriteSet (length nodes) (length next) changes dirty moved
-  pub long : length mid ≡ length next
-  pub staged : AreStaged nodes dirty moved mid (length mid)
+  pub closed : IsWriteSet (length nodes) count changes dirty moved
+  pub staged : AreStaged nodes dirty moved mid count
   pub seals : (k : ℕ) → SameSeal (get_or mid k no_node) (get_or next k no_node)
   pub is : IsNext nodes next top dirty moved
-  pub blocks : Keeps (OffBlocks nodes (length next)) a b
+  pub blocks : Keeps (OffBlocks nodes count) a b
   pub middle : Keeps (OffChosen (1 - root) next dirty) b c
   pub last : Keeps (Off (head (1 - root))) c d
-  pub block_stand : Told a b → BlocksEnd a.reads nodes → BlocksStaged a.reads b.reads key top nodes mid changes moved (length mid)
+  pub block_stand : Told a b → BlocksEnd a.reads nodes → BlocksStaged a.reads b.reads key top nodes mid changes moved count
   pub node_stand : Known b c → NodesStaged c.reads (1 - root) next dirty (length next)
   pub head_stand : Known c d → Stands d.reads (head (1 - root)) (head_bytes top)
   pub returns : HeadReturns top
@@ -93,7 +93,7 @@ next_verified root was top nodes next changes dirty moved all sized closed is ve
 }
 
 module _ (a b c d : FileState) (root : RootRef) (key : List ℕ) (was top : Head) (nodes mid next : List NodeImage) (changes : List BlockChange) (dirty moved : ℕ → Bool)
-    (r : Runs a b c d root.version key top nodes mid next changes dirty moved) (loads : IsLoaded a.reads root (record { head = was; nodes = nodes })) (told : Told a d) where
+    (r : Runs a b c d root.version key top nodes mid next changes dirty moved (length next)) (loads : IsLoaded a.reads root (record { head = was; nodes = nodes })) (told : Told a d) where
   to_b : Keeps (Lies nodes root.version) a b
   to_b = after_blocks nodes root.version r.few r.bit a b c d (length next) r.most r.blocks
 
@@ -130,7 +130,7 @@ module _ (a b c d : FileState) (root : RootRef) (key : List ℕ) (was top : Head
       let page = wanted_page a.reads key top nodes changes k in
       let low : k < 256 = omega (arith, lt, r.most) in
       let at_b : PageStands b.reads key top (get_or next k no_node) k w page =
-      page_by b.reads key top (get_or mid k no_node) (get_or next k no_node) k w page (r.seals k).iv (r.seals k).tag (r.block_stand told_b loads.ends k (omega (arith, lt, r.long)) hit) in
+      page_by b.reads key top (get_or mid k no_node) (get_or next k no_node) k w page (r.seals k).iv (r.seals k).tag (r.block_stand told_b loads.ends k lt hit) in
       let at_c : PageStands c.reads key top (get_or next k no_node) k w page =
       page_kept (OffChosen (1 - root.version) next dirty) b c key top (get_or next k no_node) k w page r.middle known_bc
       (λ p at n least most hit. off_other (block k w) (named_part next (1 - root.version) n) p (other_part nodes k low) (named_is_part next (1 - root.version) r.most (omega arith) n least most) (λ e. cc (e)) at) at_b in
@@ -153,7 +153,7 @@ module _ (a b c d : FileState) (root : RootRef) (key : List ℕ) (was top : Head
             let w : block_version nodes k ≡ block_version next k = sym (turns ∙ cond-false (moved (k + 1)) _ _ idle) in
             let none : page_for changes k ≡ None = unwritten (length nodes) (length next) changes dirty moved k r.closed lt idle in
             let here = kept (block k (block_version nodes k)) (let at : IsSelected nodes root.version (block k (block_version nodes k)) = (old, refl) in at) in
-            let seal = (staged_at nodes mid next changes top dirty moved r.closed r.long r.staged r.seals (k + 1) (omega arith) (omega arith)).seal idle (omega arith) in
+            let seal = (staged_at nodes mid next changes top dirty moved r.closed r.staged r.seals (k + 1) (omega arith) (omega arith)).seal idle (omega arith) in
             let by_old : PageStands d.reads key top (at_node nodes (k + 1)) k (block_version nodes k) (page_in a.reads key (record { head = top; nodes = nodes }) k) =
             record { fits = here.fits; opens = ap (page_of key top (at_node nodes (k + 1)) k) here.is } in
             let by_next : PageStands d.reads key top (at_node next (k + 1)) k (block_version nodes k) (page_in a.reads key (record { head = top; nodes = nodes }) k) =

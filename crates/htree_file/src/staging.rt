@@ -202,3 +202,48 @@ fn write_chosen_nodes<F: StoreFile>(
     }
     Ok(())
 }
+
+/// Writes the version that the committed tree does not select: the blocks and nodes of the set, and the head. The next table
+/// gets the nodes. Gives the reference.
+pub(crate) fn stage_tree<F: StoreFile, E: Entropy>(
+    file: &mut F,
+    entropy: &mut E,
+    key: &Aes128,
+    root: RootRef,
+    nodes: &[NodeImage],
+    head: &Head,
+    changes: &[BlockChange],
+    set: &WriteSet,
+    next: &mut [NodeImage],
+) -> Result<RootRef, TreeFault>
+    requires few { (length nodes.now ≤ 256) × (root.version < 2) }
+    requires next { (length next.old ≡ head.now.greatest) × (1 ≤ head.now.greatest) × (head.now.greatest ≤ 256) }
+    requires sized { IsTrue (is_sized head.now) }
+    requires changes { AreChanges (length nodes.now) (length next.old) changes.now }
+    requires closed { IsWriteSet (length nodes.now) (length next.old) changes.now (holds set.now.nodes) (holds set.now.blocks) }
+    ensures root { IfOk result (λ r. r ≡ record { hash = (at_node next.new 1).hash; version = 1 - root.version }) }
+    ensures verified { IfOk result (λ r. (was : Head) →
+        IsVerified root (record { head = was; nodes = nodes.now }) →
+        IsVerified r (record { head = head.now; nodes = next.new })) }
+    ensures loaded { IfOk result (λ r. (was : Head) → Told (F.state file.old) (F.state file.new) →
+        IsLoaded (F.state file.old).reads root (record { head = was; nodes = nodes.now }) →
+        IsLoaded (F.state file.new).reads r (record { head = head.now; nodes = next.new })) }
+    ensures pages { OnOk result ((was : Head) → Told (F.state file.old) (F.state file.new) →
+        IsLoaded (F.state file.old).reads root (record { head = was; nodes = nodes.now }) →
+        (k : ℕ) → k < length next.new → page_in (F.state file.new).reads key.now (record { head = head.now; nodes = next.new }) k
+        ≡ wanted_page (F.state file.old).reads key.now head.now nodes.now changes.now k) }
+    ensures keeps { Keeps (Lies nodes.now root.version) (F.state file.old) (F.state file.new) }
+    ensures cause { HasCause (F.state file.old) (F.state file.new) result }
+    ensures draws { DrawCause (E.faults entropy.old) (E.faults entropy.new) result }
+    ensures reliable { E.is_reliable entropy.old → E.is_reliable entropy.new }
+    ensures drawn { E.is_reliable entropy.old → IfErr result NotEntropy }
+    ensures fault { IfErr result IsDeviceFault }
+{
+    stage_blocks(file, entropy, key, head, nodes, changes, set, next)?;
+    rehash_nodes(next, head, &set.nodes);
+    let version = 1 - root.version;
+    write_chosen_nodes(file, version, next, &set.nodes)?;
+    write_head(file, version, head)?;
+    let hash = next[0].hash;
+    Ok(RootRef { hash, version })
+}
