@@ -1,23 +1,26 @@
 -- A run that keeps the selected places keeps a firm tree.
-use Rattle.std.proofs.Common.{◌≡◌, ℕ, ◌+◌, ◌-◌, ◌<◌, ◌≤◌, List, [], length, get_or, IsTrue, Ok, refl, sym, ◌∙◌, ap, subst, arith}
+use Rattle.std.proofs.Common.{◌≡◌, inl, ℕ, ◌+◌, ◌-◌, ◌<◌, ◌≤◌, List, [], length, get_or, IsTrue, IfSome, Option, None, Some, Ok, refl, sym, ◌∙◌, ap, subst, arith}
 use Rattle.disk_model.specs.Images.{Has, Every}
 use Rattle.disk_model.specs.State.{FileState, LeftNow, LeftSince, Sound, moment}
+use Rattle.disk_model.specs.Calls.{Syncs}
 use Rattle.disk_model.specs.Keeps.{Anywhere, Keeps}
 use Rattle.disk_model.proofs.ImageLaws.{left_since_now, now_since, reads_left}
-use Rattle.disk_model.proofs.Laws.{keeps_fewer}
+use Rattle.disk_model.proofs.Laws.{keeps_fewer, synced}
 use Rattle.node_image.specs.declared.node.NodeImage.{NodeImage}
 use Rattle.node_image.specs.declared.node.RootRef.{RootRef}
 use Rattle.node_image.specs.Layout.{has_form, head_of, node_of}
-use Rattle.node_image.specs.Parts.{In, Part, size, start}
+use Rattle.node_image.specs.Parts.{Part, size, start}
 use Rattle.node_image.specs.Parts.Part.{block, head, node}
-use Rattle.node_image.specs.Tables.{at_node, block_bit, block_version, node_version}
+use Rattle.node_image.specs.Tables.{block_bit, block_version, node_version}
 use Rattle.node_image.specs.Selection.{SelectedTree, head_in, part_in, row, selected_node, selected_tree, version_in}
 use Rattle.node_image.proofs.ImageBytes.{bytes_give, bytes_same}
 use Rattle.node_image.proofs.Matching.{node_is, row_at, row_same, version_is}
-use Rattle.htree_file.specs.Opening.{Loaded}
-use Rattle.htree_file.specs.Selected.{IsLoaded, IsSelected, KeepsFirm, Lies, StaysFirm}
+use Rattle.htree_file.specs.Opening.{Loaded, load_of}
+use Rattle.htree_file.specs.Selected.{IsLoaded, IsSelected, KeepsFirm, Lies}
 use Rattle.htree_file.specs.Standing.{IsFirm, OpensTo}
+use Rattle.htree_file.specs.Value.{Staged}
 use Rattle.htree_file.proofs.Loadings.{loaded_from, loaded_is}
+use Rattle.htree_file.proofs.Made.{synced_firm}
 use Rattle.htree_file.proofs.SameTable.{node_version_bit}
 use Rattle.htree_file.proofs.Sizes.{sized_few}
 
@@ -143,3 +146,9 @@ stays_firm old new root tree sound still bit keeps firm honest = record {
 -- what keeps all places keeps the selected ones
 pub keeps_selected : (nodes : List NodeImage) (root : ℕ) (old new : FileState) → Keeps Anywhere old new → Keeps (Lies nodes root) old new
 keeps_selected nodes root old new keeps = keeps_fewer Anywhere (Lies nodes root) old new (λ p at. tt) keeps
+
+-- once settled, a stage is firm
+pub settled_firm : (stage : Option Staged) (old new : FileState) → Syncs old new → IfSome stage (λ s. IsTrue new.honest → load_of old.reads s.root ≡ Ok s.tree → IsFirm new s.root s.tree)
+settled_firm None old new syncs = tt
+settled_firm (Some s) old new syncs = λ honest loads.
+    synced_firm new s.root s.tree (λ h image left. synced old new syncs h image left) honest (ap (λ (l : List ℕ). load_of l s.root) (syncs.reads (inl honest)) ∙ loads)

@@ -18,3 +18,4 @@ pub mod Loadings
 pub mod Firmness
 pub mod StageKeeps
 pub mod StageWhole
+pub mod StageOpens

@@ -18,3 +18,7 @@ sized_few h sized =
     let short : h.length ≤ 1048576 = leb-true h.length 1048576 both.0 in
     let many : h.greatest ≡ max 1 ((h.length + 4095) / 4096) = eqb-true h.greatest (greatest_of h.length) both.1 in
     (omega (arith, many), omega (arith, many, short))
+
+-- and as many as its bytes need
+pub sized_greatest : (h : Head) → is_sized h ≡ true → h.greatest ≡ greatest_of h.length
+sized_greatest h sized = eqb-true h.greatest (greatest_of h.length) (and_parts (leb h.length 1048576) (h.greatest == greatest_of h.length) sized).1

@@ -1,17 +1,17 @@
 -- One turn of the loops of a stage.
-use Rattle.std.proofs.Common.{◌≡◌, inl, inr, ℕ, ◌+◌, ◌-◌, ◌%◌, ◌<◌, ◌≤◌, List, length, get_or, set, Bool, true, false, Option, Some, None, IsTrue, refl, sym, ◌∙◌, ap, subst, arith, is_some}
-use Rattle.std.proofs.lemmas.Bool.{cases_lt, cases_Bool, false≢true}
-use Rattle.std.proofs.lemmas.List.{get_or-set_other, get_or-set_same, length-set}
+use Rattle.std.proofs.Common.{◌≡◌, inl, inr, ℕ, ◌+◌, ◌<◌, ◌≤◌, List, length, get_or, set, Bool, true, Option, Some, None, IsTrue, refl, sym, ◌∙◌, ap, subst, arith, is_some}
+use Rattle.std.proofs.lemmas.Bool.{cases_lt, false≢true}
+use Rattle.std.proofs.lemmas.List.{get_or-set_other, get_or-set_same}
 use Rattle.disk_model.specs.State.{FileState, Sound}
 use Rattle.disk_model.specs.Calls.{GoesOn, Known, Rests}
 use Rattle.disk_model.specs.Keeps.{Anywhere, Keeps}
 use Rattle.disk_model.proofs.Goings.{first_known, then_known}
-use Rattle.disk_model.proofs.Laws.{keeps_fewer, keeps_none, keeps_then, rest_keeps}
+use Rattle.disk_model.proofs.Laws.{keeps_fewer, keeps_then, rest_keeps}
 use Rattle.node_image.specs.declared.node.NodeImage.{NodeImage}
 use Rattle.node_image.specs.declared.head.Head.{Head}
-use Rattle.node_image.specs.Parts.{In, IsPart, Off, Part, start}
+use Rattle.node_image.specs.Parts.{In, IsPart, Off, Part}
 use Rattle.node_image.specs.Parts.Part.{block, head, node}
-use Rattle.node_image.specs.Tables.{at_node, block_bit, block_version, no_node, node_version}
+use Rattle.node_image.specs.Tables.{at_node, block_bit, block_version, no_node}
 use Rattle.node_image.specs.Selection.{part_in}
 use Rattle.node_image.proofs.PartPlaces.{off_other}
 use Rattle.htree_file.specs.declared.change.BlockChange.{BlockChange}
@@ -21,7 +21,7 @@ use Rattle.htree_file.specs.Selected.{BlocksEnd}
 use Rattle.htree_file.specs.Staging.{BlocksStaged, NodeStands, NodesStaged, OffBlocks, OffChosen, named_part, other_version, wanted_page}
 use Rattle.htree_file.specs.Standing.{PageStands, Stands, Told}
 use Rattle.htree_file.specs.WriteSets.{AreStaged, IsStaged}
-use Rattle.htree_file.proofs.Building.{number, page_by, page_kept}
+use Rattle.htree_file.proofs.Building.{number, page_kept}
 use Rattle.htree_file.proofs.Causes.{told_then}
 use Rattle.htree_file.proofs.PartWrites.{stands_kept}
 use Rattle.htree_file.proofs.SameTable.{node_version_bit}

@@ -1,5 +1,5 @@
 -- A whole stage: what the next reference opens to.
-use Rattle.std.proofs.Common.{◌≡◌, ◌⊎◌, inl, inr, ⊎_elim, ℕ, ◌+◌, ◌-◌, ◌<◌, ◌≤◌, List, length, get_or, Bool, true, false, Option, None, Some, IsTrue, IsSome, refl, sym, ◌∙◌, ap, subst, arith}
+use Rattle.std.proofs.Common.{◌≡◌, inl, inr, ℕ, ◌+◌, ◌-◌, ◌<◌, ◌≤◌, List, length, get_or, Bool, true, false, Option, None, Some, IsSome, refl, sym, ◌∙◌, ap, subst, arith}
 use Rattle.std.proofs.lemmas.Bool.{cases_Bool, cases_lt, cond-true, cond-false, false≢true, false_from_ne_true}
 use Rattle.disk_model.specs.State.{FileState}
 use Rattle.disk_model.specs.Calls.{Known}
@@ -9,22 +9,21 @@ use Rattle.node_image.specs.declared.node.NodeImage.{NodeImage}
 use Rattle.node_image.specs.declared.node.RootRef.{RootRef}
 use Rattle.node_image.specs.declared.head.Head.{Head}
 use Rattle.node_image.specs.Layout.{has_form, head_bytes, head_of, is_sized, node_of}
-use Rattle.node_image.specs.Parts.{In, IsPart, Off, Part, size, start}
+use Rattle.node_image.specs.Parts.{IsPart, Off, Part, size}
 use Rattle.node_image.specs.Parts.Part.{block, head, node}
-use Rattle.node_image.specs.Tables.{at_node, block_version, hash_in, no_node, node_version}
-use Rattle.node_image.specs.Selection.{head_in, node_in, part_in}
+use Rattle.node_image.specs.Tables.{at_node, block_version, no_node, node_version}
+use Rattle.node_image.specs.Selection.{node_in, part_in}
 use Rattle.node_image.proofs.PartPlaces.{off_other}
 use Rattle.htree_file.specs.declared.change.BlockChange.{BlockChange}
 use Rattle.htree_file.specs.Changes.{page_after, page_for}
 use Rattle.htree_file.specs.Making.{HashedAmong, HeadReturns, SameSeal}
-use Rattle.htree_file.specs.Opening.{IsVerified, Loaded}
+use Rattle.htree_file.specs.Opening.{IsVerified}
 use Rattle.htree_file.specs.Pages.{page_in, page_of}
 use Rattle.htree_file.specs.Selected.{BlocksEnd, IsLoaded, IsSelected, Lies}
 use Rattle.htree_file.specs.Staging.{BlocksStaged, NodesStaged, OffBlocks, OffChosen, named_part, other_version, wanted_page}
 use Rattle.htree_file.specs.Standing.{PageStands, Stands, Told}
 use Rattle.htree_file.specs.WriteSets.{AreStaged, IsStaged, IsWriteSet}
 use Rattle.htree_file.proofs.Building.{page_by, page_kept}
-use Rattle.htree_file.proofs.Causes.{told_then}
 use Rattle.htree_file.proofs.Firmness.{part_ends}
 use Rattle.htree_file.proofs.NextTable.{IsNext, block_version_turns, hashes_next, old_block, old_node, version_turns}
 use Rattle.htree_file.proofs.PartWrites.{stands_kept}

@@ -1,10 +1,12 @@
 -- Changes of the blocks of a tree.
-use Rattle.std.specs.Prelude.{◌≡◌, ℕ, ◌<◌, ◌≤◌, List, length, get_or, map, find, All, Option, Some, None, option_map, IsSome, ◌==◌}
+use Rattle.std.specs.Prelude.{◌≡◌, ℕ, ◌<◌, ◌≤◌, List, get_or, map, find, All, Option, Some, None, Ok, option_map, IsSome, ◌==◌}
+use Rattle.aes_block.specs.WrappedKey.{unwrapped_of}
+use Rattle.node_image.specs.declared.node.RootRef.{RootRef}
 use Rattle.std.specs.List.Sorted.{IsStrictlyIncreasing}
 use Rattle.node_image.specs.Layout.{greatest_of}
 use Rattle.node_image.specs.Selection.{row}
 use Rattle.htree_file.specs.declared.change.BlockChange.{BlockChange}
-use Rattle.htree_file.specs.Pages.{Opened}
+use Rattle.htree_file.specs.Pages.{Opened, opened_of}
 
 -- the page that the changes have for block k
 abbrev pub page_for : List BlockChange → (k : ℕ) → Option (List ℕ)
@@ -28,3 +30,9 @@ opened_after was bytes changes = record {
   bytes = bytes;
   pages = row (λ k. page_after (page_for changes k) (get_or was.pages k None)) (greatest_of bytes);
 }
+
+-- Under each key that wraps the file's, what the first reference opens to in the file before, the second opens to after, with
+-- the changes.
+abbrev pub OpensAfter : (key wrapped : List ℕ) → (before : List ℕ) → RootRef → (after : List ℕ) → RootRef → (bytes : ℕ) → List BlockChange → Type 0
+OpensAfter key wrapped before root after next bytes changes = (wrap : List ℕ) (was : Opened) → key ≡ unwrapped_of wrap wrapped
+    → opened_of wrap before root ≡ Ok was → opened_of wrap after next ≡ Ok (opened_after was bytes changes)

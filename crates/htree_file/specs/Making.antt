@@ -5,13 +5,11 @@ use Rattle.disk_model.specs.State.{FileState, LeftNow}
 use Rattle.node_image.specs.declared.node.NodeImage.{NodeImage}
 use Rattle.node_image.specs.declared.head.Head.{Head}
 use Rattle.node_image.specs.Layout.{has_form, head_bytes, head_of, is_sized, node_bytes, node_of}
-use Rattle.node_image.specs.Parts.{Off, start}
-use Rattle.node_image.specs.Parts.Part.{block, head, node}
+use Rattle.node_image.specs.Parts.{Off}
+use Rattle.node_image.specs.Parts.Part.{head, node}
 use Rattle.node_image.specs.Tables.{at_node, hash_in, no_node}
-use Rattle.node_image.specs.Selection.{part_in}
 use Rattle.htree_file.specs.declared.fault.TreeFault.{TreeFault}
 use Rattle.htree_file.specs.declared.fault.TreeFault.TheVariants.{Failed, NoEntropy, NoMemory}
-use Rattle.htree_file.specs.Pages.{page_of}
 use Rattle.htree_file.specs.Standing.{PageStands, Stands}
 
 -- no place

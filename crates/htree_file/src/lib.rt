@@ -19,6 +19,7 @@ mod table;
 #[cfg(test)]
 mod tests;
 mod tree;
+mod version;
 mod write_set;
 
 pub use change::BlockChange;

@@ -1,17 +1,20 @@
 // A tree over a file.
-ghost use Rattle.std.specs.Prelude.{◌≡◌, ◌⊎◌, ◌+◌, ◌<◌, ◌≤◌, length, map, IfErr, IfOk, IsTrue, OnErr, OnOk, Result, Some};
+ghost use Rattle.std.specs.Prelude.{◌≡◌, ◌⊎◌, ◌+◌, ◌-◌, ◌<◌, ◌≤◌, length, map, IfErr, IfOk, IfSome, IsSome, IsSomeAnd, IsTrue, OnErr, OnOk, Result, Some, None, true, false};
 ghost use Rattle.aes_block.specs.WrappedKey.{unwrapped_of};
 ghost use Rattle.disk_model.specs.Controls.{disarmed, failure_armed, stop_armed, taint_armed};
 ghost use Rattle.disk_model.specs.Calls.{Known, Rests};
-ghost use Rattle.disk_model.specs.Keeps.{Keeps};
+ghost use Rattle.disk_model.specs.Keeps.{Anywhere, Keeps};
 ghost use Rattle.node_image.specs.Layout.{greatest_of, is_sized};
 ghost use Rattle.node_image.specs.Tables.{at_node};
-ghost use Rattle.htree_file.specs.Answers.{BlockAnswer, Differs, FaultCause, FilePassed, HasCause, IsLoadFault, IsOutside};
-ghost use Rattle.htree_file.specs.Making.{DrawFault, IsMakeFault, NotEntropy, Nowhere};
+ghost use Rattle.htree_file.specs.Answers.{BlockAnswer, Differs, FaultCause, FilePassed, HasCause, IsFailed, IsLoadFault, IsOutside};
+ghost use Rattle.htree_file.specs.Changes.{AreChanges, OpensAfter};
+ghost use Rattle.htree_file.specs.Making.{DrawCause, DrawFault, IsDeviceFault, IsMakeFault, NotEntropy, Nowhere};
 ghost use Rattle.htree_file.specs.Opening.{IsVerified, load_of};
 ghost use Rattle.htree_file.specs.Pages.{block_in, opened_of};
+ghost use Rattle.htree_file.specs.Selected.{KeepsFirm, Lies};
 ghost use Rattle.htree_file.specs.Standing.{IsFirm, Told};
 
+use crate::change::BlockChange;
 use crate::device::read_padded;
 use crate::fault::{Broken, Page, TreeFault};
 use crate::making::build_tree;
@@ -19,6 +22,7 @@ use crate::pages::open_page;
 use crate::reading::read_tree;
 use crate::sealing::draw;
 use crate::table::{blank_nodes, block_version};
+use crate::version::stage_version;
 use aes_block::{Aes128, unwrap_key};
 use node_image::{Head, NodeImage, RootRef, block_offset, greatest_node};
 use std::alloc::Global;
@@ -37,10 +41,22 @@ pub struct Tree<F: StoreFile> {
     head: Head,
     // The nodes, with room for those of any tree.
     nodes: Vec<NodeImage>,
+    stage: Option<Stage>,
+    // The nodes of the stage, with the same room.
+    next: Vec<NodeImage>,
+}
+
+// A version that a stage wrote. Its nodes stand in the tree's second table.
+#[derive(Clone, Copy, Drop)]
+struct Stage {
+    root: RootRef,
+    head: Head,
+    settled: bool,
+    ghost few: { (1 ≤ head.greatest) × (head.greatest ≤ 256) × (root.version < 2) },
 }
 
 impl<F: StoreFile> Model for Tree<F> {
-    ghost use Rattle.std.specs.Prelude.{◌≡◌, ◌<◌, ◌≤◌, length, take};
+    ghost use Rattle.std.specs.Prelude.{◌≡◌, ◌<◌, ◌≤◌, length, take, option_map};
     ghost use Rattle.htree_file.specs.Value.{TreeValue};
 
     ghost Value = { TreeValue F };
@@ -50,9 +66,14 @@ impl<F: StoreFile> Model for Tree<F> {
       key = t.key;
       root = t.root;
       tree = record { head = t.head; nodes = take t.head.greatest t.nodes.items };
+      stage = option_map (λ s. record {
+        root = s.root;
+        tree = record { head = s.head; nodes = take s.head.greatest t.next.items };
+        settled = s.settled;
+      }) t.stage;
     } };
 
-    ghost invariant = { λ t. (length t.nodes.items ≡ 256) × (1 ≤ t.head.greatest) × (t.head.greatest ≤ 256) × (t.root.version < 2) };
+    ghost invariant = { λ t. (length t.nodes.items ≡ 256) × (length t.next.items ≡ 256) × (1 ≤ t.head.greatest) × (t.head.greatest ≤ 256) × (t.root.version < 2) };
 }
 
 // The head of a new tree.
@@ -92,6 +113,7 @@ impl<F: StoreFile> Tree<F> {
         requires bytes { bytes ≤ 1048576 }
         requires blocks { length blocks.now ≡ greatest_of bytes }
         ensures root { IfOk result (λ made. (made.1 ≡ made.0.root) × (made.1.version ≡ 0)) }
+        ensures idle { IfOk result (λ made. made.0.stage ≡ None) }
         ensures loaded { IfOk result (λ made. Known (F.state file) (F.state made.0.file) →
             load_of (F.state made.0.file).reads made.1 ≡ Result.Ok made.0.tree) }
         ensures opened { IfOk result (λ made. Known (F.state file) (F.state made.0.file) →
@@ -122,6 +144,15 @@ impl<F: StoreFile> Tree<F> {
                 });
             }
         };
+        let next = match blank_nodes(alloc) {
+            Ok(next) => next,
+            Err(_) => {
+                return Err(Broken {
+                    file,
+                    fault: TreeFault::NoMemory,
+                });
+            }
+        };
         let fek = match draw(entropy) {
             Ok(fek) => fek,
             Err(fault) => return Err(Broken { file, fault }),
@@ -136,6 +167,8 @@ impl<F: StoreFile> Tree<F> {
                     root,
                     head,
                     nodes,
+                    stage: None,
+                    next,
                 };
                 Ok((tree, root))
             }
@@ -161,6 +194,7 @@ impl<F: StoreFile> Tree<F> {
     ) -> Result<Tree<F>, Broken<F>>
         requires { root.version < 2 }
         ensures root { IfOk result (λ t. t.root ≡ root) }
+        ensures idle { IfOk result (λ t. t.stage ≡ None) }
         ensures key { IfOk result (λ t. t.key ≡ unwrapped_of wrap.now t.tree.head.wrapped) }
         ensures loaded { IfOk result (λ t. Told (F.state file) (F.state t.file) → load_of (F.state t.file).reads root ≡ Result.Ok t.tree) }
         ensures fault { IfErr result (λ b. IsOutside b.fault ⊎ (Told (F.state file) (F.state b.file) →
@@ -184,6 +218,15 @@ impl<F: StoreFile> Tree<F> {
                 });
             }
         };
+        let next = match blank_nodes(alloc) {
+            Ok(next) => next,
+            Err(_) => {
+                return Err(Broken {
+                    file,
+                    fault: TreeFault::NoMemory,
+                });
+            }
+        };
         match read_tree(alloc, &mut file, root, &mut nodes) {
             Ok(head) => Ok(Tree {
                 file,
@@ -191,6 +234,8 @@ impl<F: StoreFile> Tree<F> {
                 root,
                 head,
                 nodes,
+                stage: None,
+                next,
             }),
             Err(fault) => Err(Broken { file, fault }),
         }
@@ -218,6 +263,125 @@ impl<F: StoreFile> Tree<F> {
         open_page(&self.key, &self.head, &node, block, into)
     }
 
+    /// Writes a changed tree of so many bytes into the version that the committed tree does not select, and leaves it open as
+    /// a stage. Blocks that do not change are taken over as they stand, good or bad. The committed tree stays, and nothing is
+    /// settled. Takes no memory.
+    ///
+    /// `changes` are the blocks that change, in their order, with one for each new block.
+    ///
+    /// # Errors
+    ///
+    /// `Failed` where a call of the file failed, and `NoEntropy` where a draw failed. No stage is open then.
+    pub fn stage<E: Entropy>(
+        &mut self,
+        bytes: u64,
+        changes: &[BlockChange],
+        entropy: &mut E,
+    ) -> Result<(), TreeFault>
+        requires idle { self.old.stage ≡ None }
+        requires bytes { bytes ≤ 1048576 }
+        requires changes { AreChanges self.old.tree.head.greatest (greatest_of bytes) changes.now }
+        ensures open { OnOk result (IsSome self.new.stage) }
+        ensures none { OnErr result (self.new.stage ≡ None) }
+        ensures next { OnOk result (IfSome self.new.stage (λ s. (s.root.version ≡ 1 - self.old.root.version) × (s.settled ≡ false)
+            × (s.tree.head ≡ record self.old.tree.head { length = bytes; greatest = greatest_of bytes }))) }
+        ensures same { self.new ≡ record self.old { file = self.new.file; stage = self.new.stage } }
+        // In every image at every moment since, the committed reference names the committed tree.
+        ensures firm { KeepsFirm (F.state self.old.file) (F.state self.new.file) self.old.root self.old.tree }
+        ensures keeps { Keeps (Lies self.old.tree.nodes self.old.root.version) (F.state self.old.file) (F.state self.new.file) }
+        // The stage's reference opens to the old pages with the changes.
+        ensures loaded { OnOk result (Told (F.state self.old.file) (F.state self.new.file) →
+            load_of (F.state self.old.file).reads self.old.root ≡ Result.Ok self.old.tree →
+            IfSome self.new.stage (λ s. load_of (F.state self.new.file).reads s.root ≡ Result.Ok s.tree)) }
+        ensures opened { OnOk result (Told (F.state self.old.file) (F.state self.new.file) →
+            load_of (F.state self.old.file).reads self.old.root ≡ Result.Ok self.old.tree →
+            IfSome self.new.stage (λ s. OpensAfter self.old.key self.old.tree.head.wrapped
+            (F.state self.old.file).reads self.old.root (F.state self.new.file).reads s.root bytes changes.now)) }
+        ensures verified { OnOk result (IsVerified self.old.root self.old.tree →
+            IfSome self.new.stage (λ s. IsVerified s.root s.tree)) }
+        ensures fault { IfErr result IsDeviceFault }
+        ensures cause { HasCause (F.state self.old.file) (F.state self.new.file) result }
+        ensures draws { DrawCause (E.faults entropy.old) (E.faults entropy.new) result }
+        ensures reliable { E.is_reliable entropy.old → E.is_reliable entropy.new }
+        ensures drawn { E.is_reliable entropy.old → IfErr result NotEntropy }
+    {
+        self.stage = None;
+        let head = Head {
+            length: bytes,
+            greatest: greatest_node(bytes),
+            ..self.head
+        };
+        let root = stage_version(
+            &mut self.file,
+            entropy,
+            &self.key,
+            self.root,
+            &self.head,
+            &self.nodes,
+            &head,
+            changes,
+            &mut self.next,
+        )?;
+        self.stage = Some(Stage {
+            root,
+            head,
+            settled: false,
+        });
+        Ok(())
+    }
+
+    /// Settles the stage, and gives its reference.
+    ///
+    /// # Errors
+    ///
+    /// `Failed` where the call of the file failed. The stage stays open, and may be settled again or dropped.
+    pub fn settle(&mut self) -> Result<RootRef, TreeFault>
+        requires open { IsSome self.old.stage }
+        ensures settled { IfOk result (λ root. IfSome self.old.stage (λ s.
+            (root ≡ s.root) × (self.new.stage ≡ Some (record s { settled = true })))) }
+        ensures open { OnErr result (self.new.stage ≡ self.old.stage) }
+        ensures same { self.new ≡ record self.old { file = self.new.file; stage = self.new.stage } }
+        ensures reads { Known (F.state self.old.file) (F.state self.new.file) →
+            (F.state self.new.file).reads ≡ (F.state self.old.file).reads }
+        ensures firm { KeepsFirm (F.state self.old.file) (F.state self.new.file) self.old.root self.old.tree }
+        ensures keeps { Keeps Anywhere (F.state self.old.file) (F.state self.new.file) }
+        // Once settled, the stage's reference opens to its tree in every image.
+        ensures next_firm { OnOk result (IfSome self.old.stage (λ s. IsTrue (F.state self.new.file).honest →
+            load_of (F.state self.old.file).reads s.root ≡ Result.Ok s.tree → IsFirm (F.state self.new.file) s.root s.tree)) }
+        ensures fault { IfErr result IsFailed }
+        ensures cause { HasCause (F.state self.old.file) (F.state self.new.file) result }
+    {
+        self.file.sync()?;
+        let stage = self.stage.unwrap();
+        self.stage = Some(Stage {
+            root: stage.root,
+            head: stage.head,
+            settled: true,
+        });
+        Ok(stage.root)
+    }
+
+    /// Makes the settled stage the committed tree.
+    pub fn adopt(&mut self)
+        requires settled { IsSomeAnd self.old.stage (λ s. IsTrue s.settled) }
+        ensures committed { IfSome self.old.stage (λ s.
+            self.new ≡ record self.old { root = s.root; tree = s.tree; stage = None }) }
+    {
+        let stage = self.stage.unwrap();
+        self.root = stage.root;
+        self.head = stage.head;
+        std::mem::swap(&mut self.nodes, &mut self.next);
+        self.stage = None;
+    }
+
+    /// Gives up the stage, if one is open. The committed tree stays.
+    pub fn drop_stage(&mut self)
+        ensures same { self.new ≡ record self.old { stage = None } }
+        ensures firm { KeepsFirm (F.state self.old.file) (F.state self.new.file) self.old.root self.old.tree }
+    {
+        self.stage = None;
+    }
+
     /// How many bytes the tree holds.
     pub fn length(&self) -> u64
         ensures { result ≡ self.now.tree.head.length }
@@ -235,6 +399,8 @@ impl<F: StoreFile> Tree<F> {
             root: _,
             head: _,
             nodes: _,
+            stage: _,
+            next: _,
         } = self;
         file
     }

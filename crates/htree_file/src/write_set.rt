@@ -9,6 +9,7 @@ use node_image::NodeImage;
 use tree_paths::NodeSet;
 
 /// The nodes that a stage writes, and those nodes whose blocks it writes.
+#[derive(Drop)]
 pub(crate) struct WriteSet {
     pub(crate) nodes: NodeSet,
     pub(crate) blocks: NodeSet,

@@ -1,9 +1,5 @@
-use Rattle.std.proofs.Common.{◌≡◌, ℕ, ◌-◌, List, length, sym, ◌∙◌, ap, subst, arith}
-use Rattle.disk_model.specs.State.{FileState}
-use Rattle.disk_model.specs.Keeps.{Keeps}
+use Rattle.std.proofs.Common.{◌≡◌, ℕ, length, subst, arith}
 use Rattle.tree_paths.specs.Paths.{holds}
-use Rattle.node_image.specs.declared.node.NodeImage.{NodeImage}
-use Rattle.htree_file.specs.Staging.{OffBlocks}
 use Rattle.htree_file.specs.WriteSets.{AreStaged, IsWriteSet}
 use Rattle.htree_file.proofs.NextTable.{IsNext}
 use Rattle.htree_file.proofs.StageKeeps.{after_blocks, after_head, after_nodes}
