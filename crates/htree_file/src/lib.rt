@@ -3,6 +3,9 @@
 //!
 //! A tree is made whole, or loaded from a file that may hold anything. What is loaded is verified against the reference:
 //! a page that is read is the deciphering of a ciphertext with the tag that a verified node has for it.
+//!
+//! A tree is changed by a stage, which writes what changes into the version that the committed tree does not select. A stage
+//! is settled and then adopted, or dropped. On an honest file a crash meanwhile leaves a firm tree as it was committed.
 #![tactic(auto)]
 
 mod change;
@@ -14,6 +17,8 @@ mod pages;
 mod parts;
 mod reading;
 mod sealing;
+#[cfg(test)]
+mod stage_tests;
 mod staging;
 mod table;
 #[cfg(test)]

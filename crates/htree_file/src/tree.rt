@@ -361,7 +361,7 @@ impl<F: StoreFile> Tree<F> {
         Ok(stage.root)
     }
 
-    /// Makes the settled stage the committed tree.
+    /// Makes the settled stage the committed tree. No call of the file is made.
     pub fn adopt(&mut self)
         requires settled { IsSomeAnd self.old.stage (λ s. IsTrue s.settled) }
         ensures committed { IfSome self.old.stage (λ s.
@@ -374,7 +374,7 @@ impl<F: StoreFile> Tree<F> {
         self.stage = None;
     }
 
-    /// Gives up the stage, if one is open. The committed tree stays.
+    /// Gives up the stage, if one is open. The committed tree stays. No call of the file is made.
     pub fn drop_stage(&mut self)
         ensures same { self.new ≡ record self.old { stage = None } }
         ensures firm { KeepsFirm (F.state self.old.file) (F.state self.new.file) self.old.root self.old.tree }
