@@ -1,4 +1,4 @@
-use Rattle.std.proofs.Common.{◌≡◌, ℕ, ◌+◌, ◌∷◌, [], None, refl, sym, ap, ◌∙◌, subst, arith}
+use Rattle.std.proofs.Common.{◌≡◌, ℕ, ◌+◌, None, refl, sym, ap, ◌∙◌, subst, arith}
 use Rattle.tee_types.specs.declared.call.Call.TheVariants.{EnumNew}
 use Rattle.tee_types.specs.declared.reply.Reply.TheVariants.{Done}
 use Rattle.store_model.specs.declared.event.Mark.TheVariants.{Unchanged}
