@@ -1,17 +1,10 @@
 // A tree is made whole, all of it in version 0.
-ghost use Rattle.std.specs.Prelude.{◌≡◌, ℕ, List, [], ◌+◌, ◌<◌, ◌≤◌, length, get_or, take, IfErr, IfOk, OnOk, IsTrue, IsOk, Result};
-ghost use Rattle.disk_model.specs.Calls.{GoesOn, Known};
+ghost use Rattle.std.specs.Prelude.{◌≡◌, ◌+◌, ◌<◌, ◌≤◌, length, take, IfErr, IfOk, OnOk, Result};
+ghost use Rattle.disk_model.specs.Calls.{Known};
 ghost use Rattle.disk_model.specs.Keeps.{Keeps};
-ghost use Rattle.disk_model.specs.State.{LeftNow};
-ghost use Rattle.node_image.specs.Layout.{head_bytes, is_sized};
-ghost use Rattle.node_image.specs.Parts.{Off};
-ghost use Rattle.node_image.specs.Parts.Part.{block};
-ghost use Rattle.node_image.specs.Tables.{at_node, no_node};
+ghost use Rattle.node_image.specs.Tables.{at_node};
 ghost use Rattle.htree_file.specs.Answers.{HasCause, IsFailed};
 ghost use Rattle.htree_file.specs.Making.{DrawCause, HashedFrom, IsDeviceFault, IsMade, IsSynced, NameVersionZero, NodesReturn, NodesStand, NotEntropy, Nowhere, OffNodes, PagesStand};
-ghost use Rattle.htree_file.specs.Opening.{load_of};
-ghost use Rattle.htree_file.specs.Pages.{page_in};
-ghost use Rattle.htree_file.specs.Standing.{Stands};
 
 use crate::fault::{Page, TreeFault};
 use crate::parts::{write_head, write_node};

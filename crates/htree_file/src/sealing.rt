@@ -1,5 +1,5 @@
 // Pages are enciphered under initialization vectors that are drawn for them.
-ghost use Rattle.std.specs.Prelude.{◌≡◌, ◌<◌, Some, IfErr, IfOk, OnOk, IsOk};
+ghost use Rattle.std.specs.Prelude.{◌≡◌, ◌<◌, Some, IfErr, IfOk, IsOk};
 ghost use Rattle.disk_model.specs.Calls.{Known};
 ghost use Rattle.disk_model.specs.Keeps.{Keeps};
 ghost use Rattle.node_image.specs.Parts.{Off};

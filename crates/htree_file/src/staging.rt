@@ -1,5 +1,5 @@
 // A stage writes what changes, each part in the version that the committed tree does not select.
-ghost use Rattle.std.specs.Prelude.{◌≡◌, ℕ, List, ◌+◌, ◌-◌, ◌<◌, ◌≤◌, length, get_or, true, false, None, option_copied, IfErr, IfOk, OnOk, IsTrue};
+ghost use Rattle.std.specs.Prelude.{◌≡◌, ℕ, ◌+◌, ◌-◌, ◌<◌, ◌≤◌, length, true, None, option_copied, IfErr, IfOk, OnOk, IsTrue};
 ghost use Rattle.disk_model.specs.Calls.{Known};
 ghost use Rattle.disk_model.specs.Keeps.{Keeps};
 ghost use Rattle.node_image.specs.declared.head.Head.{Head};

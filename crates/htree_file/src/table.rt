@@ -1,5 +1,5 @@
 // Tables of nodes, node 1 first, and what they name.
-ghost use Rattle.std.specs.Prelude.{◌≡◌, ◌≢◌, ℕ, ◌+◌, ◌-◌, ◌*◌, ◌<◌, ◌≤◌, length, IfOk, IfSome, IfNone, option_copied, option_map, get_or, Bool, true, false};
+ghost use Rattle.std.specs.Prelude.{◌≡◌, ◌≢◌, ℕ, ◌+◌, ◌-◌, ◌*◌, ◌<◌, ◌≤◌, length, IfOk, IfSome, IfNone, option_copied, option_map, get_or, Bool, false};
 ghost use Rattle.node_image.specs.Tables.{at_node, block_bit, block_version, hash_in, no_node, node_version};
 ghost use Rattle.htree_file.specs.Making.{HashedAmong, HashedFrom, SameSeal};
 ghost use Rattle.htree_file.specs.Opening.{first_damaged, need_of};

@@ -1,5 +1,5 @@
 // Which parts a stage writes, and the versions that they get.
-ghost use Rattle.std.specs.Prelude.{◌≡◌, ℕ, List, ◌+◌, ◌*◌, ◌<◌, ◌≤◌, ◌^◌, true, false};
+ghost use Rattle.std.specs.Prelude.{◌≡◌, ℕ, List, ◌+◌, ◌*◌, ◌<◌, ◌≤◌, true, false};
 ghost use Rattle.tree_paths.specs.Paths.{holds};
 ghost use Rattle.htree_file.specs.declared.change.BlockChange.{BlockChange};
 ghost use Rattle.htree_file.specs.WriteSets.{IsWriteSet, turned, turned_flags};
