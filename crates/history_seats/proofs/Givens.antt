@@ -28,19 +28,30 @@ other_object : (file generation : ℕ) (tag : Option (Tag Version)) → names_fi
 other_object file generation None e = refl
 other_object file generation (Some tag) e = rw e refl
 
-version-rest : (file generation : ℕ) (p : Pending (Option Version)) (records : List HistoryRecord) → list_any (concerns_file file) records ≡ false
+-- records whose tags do not name the object
+version-past : (file generation : ℕ) (those : HistoryRecord → Bool) → ((r : HistoryRecord) → those r ≡ false → names_object file generation r.tag ≡ false)
+    → (p : Pending (Option Version)) (records : List HistoryRecord) → list_any those records ≡ false
     → fold (version_next file generation) p records ≡ settled (settling records) p
-version-rest file generation p records lacks =
-    part-kept (version_next file generation) (λ q. q) (concerns_file file) (λ q rs. Unit {0})
-    (λ q r rs fine off. ap (λ (b : Bool). cond b (version_after r.event r.tag q) (settled_by r.event q)) (other_object file generation r.tag off))
+version-past file generation those other p records lacks =
+    part-kept (version_next file generation) (λ q. q) those (λ q rs. Unit {0})
+    (λ q r rs fine off. ap (λ (b : Bool). cond b (version_after r.event r.tag q) (settled_by r.event q)) (other r off))
     (λ q r rs fine. tt) p records tt lacks
+
+pub version-last : (file generation : ℕ) (mounted : Mounted) (front back : List HistoryRecord) (r : HistoryRecord) → names_object file generation r.tag ≡ true
+    → list_any (λ x. names_object file generation x.tag) back ≡ false
+    → version_of file generation mounted (front ++ r ∷ back) ≡ settled (settling back) (version_after r.event r.tag (version_of file generation mounted front))
+version-last file generation mounted front back r own lacks =
+    let known = version_of file generation mounted front in
+    fold-append (version_next file generation) (mounted_version file generation mounted) front (r ∷ back)
+    ∙ version-past file generation (λ x. names_object file generation x.tag) (λ x e. e) (version_next file generation known r) back lacks
+    ∙ ap (λ (b : Bool). settled (settling back) (cond b (version_after r.event r.tag known) (settled_by r.event known))) own
 
 pub version-whole : (file generation : ℕ) (mounted : Mounted) (seen whole : List HistoryRecord) (b : Begins (concerns_file file) seen whole)
     → version_of file generation mounted whole ≡ settled (settling b.rest) (version_of file generation mounted seen)
 version-whole file generation mounted seen whole b =
     ap (fold (version_next file generation) (mounted_version file generation mounted)) (sym b.is)
     ∙ fold-append (version_next file generation) (mounted_version file generation mounted) seen b.rest
-    ∙ version-rest file generation (version_of file generation mounted seen) b.rest b.lacks
+    ∙ version-past file generation (concerns_file file) (λ r off. other_object file generation r.tag off) (version_of file generation mounted seen) b.rest b.lacks
 
 -- what a filter leaves was there
 any-filter : {A : Type 0} (p q : A → Bool) (xs : List A) → list_any p (filter q xs) ≡ true → list_any p xs ≡ true

@@ -1,25 +1,16 @@
 -- The seats of the numbers that are out.
-use Rattle.std.proofs.Common.{◌≡◌, ◌≢◌, ◌⊎◌, ℕ, zero, suc, ◌==◌, List, [], ◌∷◌, ◌++◌, length, set, true, false, true≢false, Option, Some, None, refl, sym, ap, ◌∙◌, inl, inr, ⊎_elim}
+use Rattle.std.proofs.Common.{◌≡◌, ◌≢◌, ◌⊎◌, ℕ, ◌==◌, List, [], ◌∷◌, ◌++◌, length, set, true, false, true≢false, Option, Some, None, sym, ap, ◌∙◌, inl, inr, ⊎_elim}
 use Rattle.std.proofs.lemmas.Bool.Decides.{eqb_tells}
-use mathlib.Core.Option.{some, some-injective, some-ne-none}
+use mathlib.Core.Option.{some, some-injective}
 use lib.ListN.{get_elem?}
 use Rattle.atomic_table.proofs.Lists.{set_else}
 use Rattle.history_seats.specs.Views.{SeatView}
 use Rattle.history_seats.specs.Views.SeatView.{Spent}
 use Rattle.history_seats.specs.Numbers.{is_in, are_distinct, without}
 use Rattle.history_seats.specs.Rule.{HasSeat, AreHeld}
-use Rattle.history_seats.proofs.Lists.{no_some, none_or_some, or_second, put, put_here, put_else}
+use Rattle.history_seats.proofs.Lists.{at_front, at_last, no_some, none_or_some, or_second, put, put_here, put_else}
 use Rattle.history_seats.proofs.Numbers.{stays_in, gone}
 use Rattle.history_seats.proofs.Outs.{not_the_same}
-
-at_front : {A : Type 0} (l : List A) (a b : A) (j : ℕ) → get_elem? l j ≡ some b → get_elem? (l ++ a ∷ []) j ≡ some b
-at_front [] a b j e = absurd (some-ne-none b (sym e))
-at_front (x ∷ xs) a b zero e = e
-at_front (x ∷ xs) a b (suc j) e = at_front xs a b j e
-
-at_last : {A : Type 0} (l : List A) (a : A) → get_elem? (l ++ a ∷ []) (length l) ≡ some a
-at_last [] a = refl
-at_last (x ∷ xs) a = at_last xs a
 
 module _ (number_of : SeatView → Option ℕ) where
   -- a view that is of no number is set

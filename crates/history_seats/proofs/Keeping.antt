@@ -112,6 +112,7 @@ begins = (
   (λ _. None),
   record {
     word = refl;
+    gate_stands = refl;
     fit = one;
     files_held = λ file e. absurd (true≢false (sym e));
     sessions_held = λ session e. absurd (true≢false (sym e));

@@ -1,5 +1,5 @@
 -- Tests, lists of seats, and maps of numbers.
-use Rattle.std.proofs.Common.{◌≡◌, ◌≢◌, ◌⊎◌, ℕ, zero, suc, ◌==◌, List, [], ◌∷◌, ◌++◌, length, Bool, true, false, true≢false, cond, not, ◌&&◌, ◌||◌, Option, Some, None, refl, sym, ap, ◌∙◌, inl, inr, ⊎_elim, eq-eqb, ne_eqb}
+use Rattle.std.proofs.Common.{◌≡◌, ◌≢◌, ◌⊎◌, ℕ, zero, suc, ◌==◌, List, [], ◌∷◌, ◌++◌, length, set, Bool, true, false, true≢false, cond, not, ◌&&◌, ◌||◌, Option, Some, None, refl, sym, ap, ◌∙◌, inl, inr, ⊎_elim, eq-eqb, ne_eqb}
 use mathlib.Core.Option.{some, some-ne-none, some-injective}
 use lib.ListN.{get_elem?}
 
@@ -51,6 +51,21 @@ at_snoc [] a b zero e = inr (refl, some-injective a b e)
 at_snoc [] a b (suc j) e = absurd (some-ne-none b (sym e))
 at_snoc (x ∷ xs) a b zero e = inl e
 at_snoc (x ∷ xs) a b (suc j) e = ⊎_elim inl (λ t. inr (ap suc t.0, t.1)) (at_snoc xs a b j e)
+
+pub at_front : {A : Type 0} (l : List A) (a b : A) (j : ℕ) → get_elem? l j ≡ some b → get_elem? (l ++ a ∷ []) j ≡ some b
+at_front [] a b j e = absurd (some-ne-none b (sym e))
+at_front (x ∷ xs) a b zero e = e
+at_front (x ∷ xs) a b (suc j) e = at_front xs a b j e
+
+pub at_last : {A : Type 0} (l : List A) (a : A) → get_elem? (l ++ a ∷ []) (length l) ≡ some a
+at_last [] a = refl
+at_last (x ∷ xs) a = at_last xs a
+
+-- what is at a place that was set
+pub at_set_here : {A : Type 0} (l : List A) (j : ℕ) (a b : A) → get_elem? l j ≡ some a → get_elem? (set l j b) j ≡ some b
+at_set_here [] j a b e = absurd (some-ne-none a (sym e))
+at_set_here (x ∷ xs) zero a b e = refl
+at_set_here (x ∷ xs) (suc j) a b e = at_set_here xs j a b e
 
 -- a map of numbers with one other entry
 abbrev pub put : (ℕ → Option ℕ) → ℕ → Option ℕ → ℕ → Option ℕ

@@ -12,7 +12,7 @@ use Rattle.history_seats.specs.Views.SeatView.{Gate, Slot, Pass, Spent}
 use Rattle.history_seats.specs.Numbers.{is_in}
 use Rattle.history_seats.specs.Rule.{SlotFits, PassFits, Fits, slot_file, pass_session, file_taken, session_taken, AreHeld, SeatRule}
 use Rattle.history_seats.specs.Changes.{Told, with_slot_out, new_slot, with_pass_out, new_pass}
-use Rattle.history_seats.proofs.Lists.{no_some, or_right, put, put_here, put_else}
+use Rattle.history_seats.proofs.Lists.{at_front, at_set_here, no_some, or_right, put, put_here, put_else}
 use Rattle.history_seats.proofs.Numbers.{distinct-more}
 use Rattle.history_seats.proofs.Outs.{other_than, not_the_same, out-more, out-again, out-less}
 use Rattle.history_seats.proofs.Held.{held-set, held-snoc, held-more, held-leave, held-enter}
@@ -48,6 +48,7 @@ slot_split told file generation id j new words views kept at =
       pa,
       record {
         word = h.word;
+        gate_stands = at_front (set views id (Gate k)) (Slot (new_slot told file generation g)) (Gate k) id (at_set_here views id (Gate j) (Gate k) at);
         fit = and_new j k id (Slot (new_slot told file generation g)) sa sb pa pa words views h
             (λ t seat out f. (put_else sa file (Some (length views)) t.file (other_than sa g.files file t.file seat h.files_out new out) ∙ out, slot_stays t f))
             (λ p seat out f. (out, pass_stays p f)) (
@@ -97,6 +98,7 @@ pass_split mounted session id j new words views kept at =
       pb,
       record {
         word = h.word;
+        gate_stands = at_front (set views id (Gate k)) (Pass (new_pass mounted session g)) (Gate k) id (at_set_here views id (Gate j) (Gate k) at);
         fit = and_new j k id (Pass (new_pass mounted session g)) sa sa pa pb words views h
             (λ t seat out f. (out, slot_stays t f))
             (λ p seat out f. (put_else pa session (Some (length views)) p.session (other_than pa g.sessions session p.session seat h.sessions_out new out) ∙ out, pass_stays p f))
@@ -141,6 +143,7 @@ slot_leave id j s is words views kept at =
       pa,
       record {
         word = h.word;
+        gate_stands = at_front (set views id (Gate k)) (Slot s) (Gate k) id (at_set_here views id (Gate j) (Gate k) at);
         fit = and_new j k id (Slot s) sa sb pa pa words views h
             (λ t seat out f. (put_else sa s.file (Some (length views)) t.file (not_the_same sa s.file t.file seat (h.slot_in s is) out) ∙ out, f))
             (λ p seat out f. (out, f))
@@ -173,6 +176,7 @@ pass_leave id j p is words views kept at =
       pb,
       record {
         word = h.word;
+        gate_stands = at_front (set views id (Gate k)) (Pass p) (Gate k) id (at_set_here views id (Gate j) (Gate k) at);
         fit = and_new j k id (Pass p) sa sa pa pb words views h
             (λ t seat out f. (out, f))
             (λ q seat out f. (put_else pa p.session (Some (length views)) q.session (not_the_same pa p.session q.session seat (h.pass_in p is) out) ∙ out, f))
@@ -213,6 +217,7 @@ slot_enter id j other s free words views kept at apart there =
       pa,
       record {
         word = h.word;
+        gate_stands = set_else (set views id (Gate k)) other id Spent (λ q. apart (sym q)) ∙ at_set_here views id (Gate j) (Gate k) at;
         fit = set_each (set views id (Gate k)) other Spent (Fits k id sb pa)
             (λ seat v far e. set_each views id (Gate k) (λ i u. (i ≢ other) → Fits k id sb pa i u)
             (λ i u near q. λ away. others j k id sa sb pa pa i u near
@@ -255,6 +260,7 @@ pass_enter id j other p free words views kept at apart there =
       pb,
       record {
         word = h.word;
+        gate_stands = set_else (set views id (Gate k)) other id Spent (λ q. apart (sym q)) ∙ at_set_here views id (Gate j) (Gate k) at;
         fit = set_each (set views id (Gate k)) other Spent (Fits k id sa pb)
             (λ seat v far e. set_each views id (Gate k) (λ i u. (i ≢ other) → Fits k id sa pb i u)
             (λ i u near q. λ away. others j k id sa sa pa pb i u near

@@ -12,7 +12,7 @@ use Rattle.history_seats.specs.Numbers.{is_in, are_distinct}
 use Rattle.history_seats.specs.Rule.{SlotFits, PassFits, IsSound, Agrees, slot_file, pass_session, file_taken, session_taken, AreHeld, SeatRule}
 use Rattle.history_seats.specs.Changes.{landing_of, IsNextOf, with_record, slot_renewed, pass_renewed, IsFitting}
 use Rattle.history_seats.specs.Steps.{slots_renewed, passes_renewed, renewed, appended, landing_appended, doubts_dropped, files_left, sessions_left, retired, IsTagIn, IsEventIn}
-use Rattle.history_seats.proofs.Lists.{either_bool, no_some, none_or_some}
+use Rattle.history_seats.proofs.Lists.{at_set_here, either_bool, no_some, none_or_some}
 use Rattle.history_seats.proofs.Numbers.{distinct-without}
 use Rattle.history_seats.proofs.Outs.{AllOut, out-without}
 use Rattle.history_seats.proofs.Held.{held-set, held-without}
@@ -123,6 +123,7 @@ append_keeps r id j room tag event fits words views kept at =
         pa,
         record {
           word = counted words g.all r h.word room;
+          gate_stands = at_set_here views id (Gate j) (Gate k) at;
           fit = in_place j k id sa pa words views h
               (λ s seat out f. record {
                 begins = ⊎_elim (λ (y : concerns_file s.file r ≡ true). absurd (not_out s.file seat y out)) (λ (y : concerns_file s.file r ≡ false). begins-more (concerns_file s.file) s.seen g.all r f.begins y) (either_bool (concerns_file s.file r));
@@ -178,6 +179,7 @@ landing_keeps commit id j room no_slot no_pass doubt words views kept at =
         o.1,
         record {
           word = counted words g.all r h.word room;
+          gate_stands = at_set_here views id (Gate j) (Gate k) at;
           fit = in_place j k id o.0 o.1 words views h
               (λ s seat out f. record {
                 begins = begins-more (concerns_file s.file) s.seen g.all r f.begins refl;
@@ -221,6 +223,7 @@ drop_keeps id j no_slot no_pass words views kept at =
         o.1,
         record {
           word = same_word words (length g.all) h.word;
+          gate_stands = at_set_here views id (Gate j) (Gate k) at;
           fit = in_place j k id o.0 o.1 words views h
               (λ t seat out f. record {
                 begins = f.begins;
@@ -298,6 +301,7 @@ retire_keeps id j words views kept at =
         pa,
         record {
           word = same_word words (length g.all) h.word;
+          gate_stands = at_set_here views id (Gate j) (Gate k) at;
           fit = in_place j k id sa pa words views h (λ t seat out f. keep_slot g k.gate t refl (λ e. e) (λ e. e) refl f) (λ q seat out f. keep_pass g k.gate q refl (λ e. e) f);
           files_held = files_still_held sa g.files (set views id (Gate k)) j.slot s.files_distinct (held-set slot_file (file_taken j.slot) sa g.files views id (Gate j) (Gate k) at refl h.files_held);
           sessions_held = sessions_still_held pa g.sessions (set views id (Gate k)) j.pass s.sessions_distinct (held-set pass_session (session_taken j.pass) pa g.sessions views id (Gate j) (Gate k) at refl h.sessions_held);
@@ -346,6 +350,7 @@ look_keeps id j words views kept at =
         pa,
         record {
           word = same_word words (length g.all) h.word;
+          gate_stands = at_set_here views id (Gate j) (Gate k) at;
           fit = in_place j k id sa pa words views h (λ t seat out f. f) (λ q seat out f. f);
           files_held = subst (λ (o : Option ℕ). AreHeld slot_file o sa g.files (set views id (Gate k))) (sym (file_stays g j.slot)) (held-set slot_file (file_taken j.slot) sa g.files views id (Gate j) (Gate k) at refl h.files_held);
           sessions_held = subst (λ (o : Option ℕ). AreHeld pass_session o pa g.sessions (set views id (Gate k))) (sym (session_stays g j.pass)) (held-set pass_session (session_taken j.pass) pa g.sessions views id (Gate j) (Gate k) at refl h.sessions_held);

@@ -1,6 +1,5 @@
 -- The rule of the table: word 0 is the length of the history, and each seat's view fits the gate's.
-use Rattle.std.specs.Prelude.{◌≡◌, ◌⊎◌, ◌==◌, ◌≤◌, ℕ, Bool, true, not, ◌&&◌, if◌then◌else◌, List, [], ◌∷◌, length, Option, Some, None}
-use Rattle.std.specs.List.{list_any}
+use Rattle.std.specs.Prelude.{◌≡◌, ◌⊎◌, ◌≤◌, ℕ, true, List, [], ◌∷◌, length, Option, Some, None}
 use mathlib.Core.Option.{some}
 use lib.ListN.{get_elem?}
 use Rattle.history_seats.specs.Records.{Begins, concerns_file, is_of_session, AreNumbered, AreFaultsTagged}
@@ -83,6 +82,8 @@ AreHeld number_of taken seat_at numbers views = (n : ℕ) → is_in n numbers �
 -- The rule, for a gate's view, and for the seats that have each file and each session.
 pub record Holds (joined : Joined) (gate_at : ℕ) (slot_at pass_at : ℕ → Option ℕ) (words : List ℕ) (views : List SeatView) : Type 0 where
   pub word : words ≡ length joined.gate.all ∷ []
+  -- there is one gate, and each view fits it
+  pub gate_stands : get_elem? views gate_at ≡ some (Gate joined)
   pub fit : (seat : ℕ) (view : SeatView) → get_elem? views seat ≡ some view → Fits joined gate_at slot_at pass_at seat view
   -- what is out has a seat or was taken in; who has a seat is out, and what was taken in has none
   pub files_held : AreHeld slot_file (file_taken joined.slot) slot_at joined.gate.files views

@@ -1,6 +1,11 @@
 //! Laws of the views. Each function does nothing: its contract is the law.
 
-ghost use Rattle.history_seats.specs.Laws.{SlotsTellVersions, SlotsTellGiven, DroppedDoubtsStay, PassesTellSessions};
+ghost use Rattle.history_seats.specs.Laws.{LastTagsDecide, SlotsTellVersions, SlotsTellGiven, DroppedDoubtsStay, PassesTellCounts, PassesTellSessions};
+
+/// The last record whose tag names a file's generation decides their version, up to the event that settles its doubt.
+pub fn last_tags_decide()
+    ensures { LastTagsDecide }
+{}
 
 /// A slot's view tells which version of its file stands after the whole history: past what it has seen, only the event that settles its
 /// doubt counts.
@@ -16,6 +21,11 @@ pub fn slots_tell_given()
 /// A doubt that was dropped never lands.
 pub fn dropped_doubts_stay()
     ensures { DroppedDoubtsStay }
+{}
+
+/// A pass's view tells how many events its session has in the whole history.
+pub fn passes_tell_counts()
+    ensures { PassesTellCounts }
 {}
 
 /// A pass's view tells the state of its session after the whole history: past what it has seen, only the event that settles the session's
