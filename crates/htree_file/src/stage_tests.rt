@@ -1,4 +1,4 @@
-ghost use Rattle.std.specs.Prelude.{◌≡◌, ◌<◌, ◌≤◌, length, IfOk, IsSome, IsSomeAnd, IsTrue, OnOk, None};
+ghost use Rattle.std.specs.Prelude.{◌≡◌, ◌<◌, ◌≤◌, length, IfOk, IfSome, IsSome, IsSomeAnd, IsTrue, OnOk, None};
 ghost use Rattle.node_image.specs.Layout.{is_sized};
 
 use crate::{BlockChange, Tree, TreeFault};
@@ -208,6 +208,88 @@ fn stage_is_settled_the_second_time(rt: HostRuntime) -> Result<(), Fail> {
             "seed {seed}"
         );
     }
+    Ok(())
+}
+
+// A tree of the pages 1 to 3 throughout, of which the last has one byte.
+fn three_pages(alloc: Global) -> Result<(Tree<MemFile>, RootRef), TreeFault>
+    ensures idle { IfOk result (λ made. made.0.stage ≡ None) }
+    ensures three { IfOk result (λ made. made.0.tree.head.greatest ≡ 3) }
+{
+    let mut draws = ListEntropy::new([0; 16]);
+    let pages = [[1; 4096], [2; 4096], [3; 4096]];
+    match Tree::make(alloc, MemFile::new(alloc), &WRAP, 8193, &pages, &mut draws) {
+        Ok((tree, root)) => Ok((tree, root)),
+        Err(broken) => Err(broken.fault),
+    }
+}
+
+// Stages a growth of three blocks to five: block 1 changes, and blocks 3 and 4 are new.
+fn stage_growth(tree: &mut Tree<MemFile>) -> Result<(), TreeFault>
+    requires { (tree.old.stage ≡ None) × (tree.old.tree.head.greatest ≡ 3) }
+    ensures open { OnOk result (IsSomeAnd tree.new.stage (λ s. s.tree.head.greatest ≡ 5)) }
+{
+    let mut draws = ListEntropy::new([0; 16]);
+    let changes = [change(1, 9), change(3, 4), change(4, 5)];
+    tree.stage(20_480, &changes, &mut draws)
+}
+
+// Stages that the first 100 bytes are left.
+fn stage_cut(tree: &mut Tree<MemFile>) -> Result<(), TreeFault>
+    requires { (tree.old.stage ≡ None) × (tree.old.tree.head.greatest ≡ 5) }
+    ensures open { OnOk result (IsSome tree.new.stage) }
+{
+    let mut draws = ListEntropy::new([0; 16]);
+    tree.stage(100, &[], &mut draws)
+}
+
+// Settles the stage, and makes it the committed tree.
+fn commit(tree: &mut Tree<MemFile>) -> Result<RootRef, TreeFault>
+    requires { IsSome tree.old.stage }
+    ensures idle { OnOk result (tree.new.stage ≡ None) }
+    ensures tree { OnOk result (IfSome tree.old.stage (λ s. tree.new.tree ≡ s.tree)) }
+{
+    let root = tree.settle()?;
+    tree.adopt();
+    Ok(root)
+}
+
+// The file of a tree that grew, and one that was cut after that, each with its reference.
+fn grown(alloc: Global, cut: bool) -> Result<(MemFile, RootRef), TreeFault> {
+    let (mut tree, _) = three_pages(alloc)?;
+    stage_growth(&mut tree)?;
+    let mut root = commit(&mut tree)?;
+    if cut {
+        stage_cut(&mut tree)?;
+        root = commit(&mut tree)?;
+    }
+    Ok((tree.into_file(), root))
+}
+
+// The expected hashes are from a program in Python over the libraries `hashlib` and `cryptography`.
+#[test]
+fn tree_grows_and_is_cut(rt: HostRuntime) -> Result<(), Fail> {
+    let alloc = rt.alloc();
+    let (file, root) = grown(alloc, false)?;
+    assert_eq!(rt;
+        root.hash,
+        hash_of(
+            0xa816205131f65932c406cc5671056d72,
+            0x723a8843abcd5fa1c437265035cdf054
+        )
+    );
+    assert!(rt; root.version < 2);
+    assert!(rt; survives(alloc, file, 0, root, &[1, 9, 3, 4, 5])?);
+    let (file, root) = grown(alloc, true)?;
+    assert_eq!(rt;
+        root.hash,
+        hash_of(
+            0x4968ec18110403b52f1f0034965bf4c7,
+            0x406712fdf40c061e16316941a992cc0f
+        )
+    );
+    assert!(rt; root.version < 2);
+    assert!(rt; survives(alloc, file, 0, root, &[1])?);
     Ok(())
 }
 
