@@ -1,3 +1,4 @@
 pub mod Shapes
 pub mod Serving
 pub mod Pages
+pub mod Forms

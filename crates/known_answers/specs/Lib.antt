@@ -4,3 +4,5 @@ pub mod Trees
 pub mod Answers
 pub mod Words
 pub mod Asks
+pub mod Refusals
+pub mod Forms

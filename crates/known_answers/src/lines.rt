@@ -1,7 +1,9 @@
 // The lines that ask the questions.
 
-ghost use Rattle.std.specs.Prelude.{◌≡◌, ◌<◌, IfOk, map};
+ghost use Rattle.std.specs.Prelude.{◌≡◌, ◌<◌, IfOk, IsFalse, IsTrue, MatchResult, map};
 ghost use Rattle.hex.specs.Hex.{decode_of};
+ghost use Rattle.known_answers.specs.Forms.{are_arrays, is_argument, is_array, is_number, is_version};
+ghost use Rattle.known_answers.specs.declared.lines.Unreadable.TheVariants.{Form};
 ghost use Rattle.known_answers.specs.Asks.{AreArrays, AreParts, AreTreePages, Asks, IsTreeImage};
 ghost use Rattle.known_answers.specs.Words.{IsArgument, IsNumber, words_of};
 
@@ -27,12 +29,22 @@ pub enum Unreadable {
 }
 
 impl From<AllocError> for Unreadable {
+    ghost use Rattle.std.specs.Prelude.{◌≡◌};
+    ghost use Rattle.known_answers.specs.declared.lines.Unreadable.TheVariants.{Memory};
+
+    ghost from_gives = { λ _ e. e ≡ Memory };
+
     fn from(_: AllocError) -> Self {
         Unreadable::Memory
     }
 }
 
 impl From<FromHexError> for Unreadable {
+    ghost use Rattle.std.specs.Prelude.{◌≡◌};
+    ghost use Rattle.known_answers.specs.Refusals.{unreadable_by};
+
+    ghost from_gives = { λ error e. e ≡ unreadable_by error };
+
     fn from(error: FromHexError) -> Self {
         match error {
             FromHexError::OutOfMemory => Unreadable::Memory,
@@ -42,15 +54,19 @@ impl From<FromHexError> for Unreadable {
 }
 
 // A word of exactly N bytes in hex.
+#[tactic(auto, unfolding(crate::specs::Forms::is_array))]
 fn array_of<const N: usize>(word: &str) -> Result<[u8; N], Unreadable>
-    ensures { IfOk result (λ bytes. decode_of word.now ≡ Ok bytes) }
+    ensures value { IfOk result (λ bytes. decode_of word.now ≡ Ok bytes) }
+    ensures form { MatchResult result (λ _. IsTrue (is_array N word.now)) (λ e. e ≡ Form → IsFalse (is_array N word.now)) }
 {
     Ok(<[u8; N] as FromHex>::from_hex(word)?)
 }
 
 // A word of any number of bytes in hex, or `-` for none.
+#[tactic(auto, using(crate::proofs::Forms::argument_of_none, crate::proofs::Forms::argument_of_hex, crate::proofs::Forms::argument_of_nothing, crate::proofs::Forms::argument_not_hex, crate::proofs::Forms::argument_too_long))]
 fn argument_of(alloc: Global, word: &str) -> Result<Argument, Unreadable>
-    ensures { IfOk result (λ argument. IsArgument word.now argument.bytes.items) }
+    ensures value { IfOk result (λ argument. IsArgument word.now argument.bytes.items) }
+    ensures form { MatchResult result (λ _. IsTrue (is_argument word.now)) (λ e. e ≡ Form → IsFalse (is_argument word.now)) }
 {
     if word.is_empty() {
         return Err(Unreadable::Form);
@@ -81,7 +97,9 @@ fn parts_of(alloc: Global, key: &str, iv: &str, aad: &str, text: &str) -> Result
 }
 
 fn arrays_of<const N: usize>(alloc: Global, words: &[&str]) -> Result<Vec<[u8; N]>, Unreadable>
-    ensures { IfOk result (λ arrays. AreArrays (map (λ w. w.now) words.now) arrays.items) }
+    ensures value { IfOk result (λ arrays. AreArrays (map (λ w. w.now) words.now) arrays.items) }
+    ensures form { MatchResult result (λ _. IsTrue (are_arrays N (map (λ w. w.now) words.now)))
+        (λ e. e ≡ Form → IsFalse (are_arrays N (map (λ w. w.now) words.now))) }
 {
     let mut arrays = Vec::new(alloc);
     for word in words {
@@ -92,7 +110,8 @@ fn arrays_of<const N: usize>(alloc: Global, words: &[&str]) -> Result<Vec<[u8; N
 
 // A number in decimal, without a sign or a leading zero.
 fn number_of(word: &str) -> Result<u64, Unreadable>
-    ensures { IfOk result (λ number. IsNumber word.now number) }
+    ensures value { IfOk result (λ number. IsNumber word.now number) }
+    ensures form { MatchResult result (λ _. IsTrue (is_number word.now)) (λ e. e ≡ Form → IsFalse (is_number word.now)) }
 {
     let mut buffer = Buffer::new();
     match word.parse::<u64>() {
@@ -101,9 +120,11 @@ fn number_of(word: &str) -> Result<u64, Unreadable>
     }
 }
 
+#[tactic(auto, using(crate::proofs::Forms::number_in_decimal), unfolding(crate::specs::Forms::is_version))]
 fn version_of(word: &str) -> Result<u8, Unreadable>
     ensures number { IfOk result (λ version. IsNumber word.now version) }
     ensures bound { IfOk result (λ version. version < 2) }
+    ensures form { MatchResult result (λ _. IsTrue (is_version word.now)) (λ e. e ≡ Form → IsFalse (is_version word.now)) }
 {
     let version = number_of(word)?;
     if version > 1 {

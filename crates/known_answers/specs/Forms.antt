@@ -1,0 +1,30 @@
+-- The forms of the words that a question is asked by.
+use Rattle.std.specs.Prelude.{ℕ, ◌^◌, ◌&&◌, ◌||◌, nat_le, nat_lt, Bool, true, List, [], ◌∷◌, codes, decimal, length, bytes_eq, is_ok}
+use Rattle.std.specs.Str.Parse.{digits_value}
+use Rattle.hex.specs.Hex.{decode_of, decode_sized}
+
+-- so many bytes in hex
+unfoldable pub is_array : ℕ → List ℕ → Bool
+is_array count word = is_ok (decode_sized word count)
+
+-- so many bytes in hex, each of the words
+abbrev pub are_arrays : ℕ → List (List ℕ) → Bool
+are_arrays count [] = true
+are_arrays count (word ∷ words) = is_array count word && are_arrays count words
+
+-- `-`, or in hex one byte or more, at most 2^24
+unfoldable pub is_argument : List ℕ → Bool
+is_argument word =
+    bytes_eq word (codes "-") || (nat_le 1 (length word) && nat_le (length word) (2 ^ 25) && is_ok (decode_of word))
+
+-- the number that a word writes in decimal
+abbrev pub number_in : List ℕ → ℕ
+number_in word = digits_value 10 word
+
+-- a number below 2^64 in decimal, without a sign or a leading zero
+unfoldable pub is_number : List ℕ → Bool
+is_number word = nat_lt (number_in word) (2 ^ 64) && bytes_eq word (decimal (number_in word))
+
+-- one of the two versions
+unfoldable pub is_version : List ℕ → Bool
+is_version word = is_number word && nat_lt (number_in word) 2
