@@ -1,6 +1,6 @@
 -- Words that have a form, and words that have none.
-use Rattle.std.proofs.Common.{zero, suc, ◌≡◌, ◌≢◌, ℕ, ◌^◌, ◌<◌, ◌≤◌, Bool, true, false, ◌||◌, List, [], ◌∷◌, length, refl, sym, ap, ◌∙◌, subst, arith, Bor, add-one, get_or, take, map, ◌+◌}
-use Rattle.std.specs.Prelude.{codes, decimal, is_ok, IsTrue, IsFalse}
+use Rattle.std.proofs.Common.{not, true≢false, zero, suc, ◌≡◌, ◌≢◌, ℕ, ◌^◌, ◌<◌, ◌≤◌, Bool, true, false, ◌||◌, List, [], ◌∷◌, length, refl, sym, ap, ◌∙◌, subst, arith, Bor, add-one, get_or, take, map, ◌+◌}
+use Rattle.std.specs.Prelude.{bytes_eq, codes, decimal, is_ok, IsTrue, IsFalse}
 use Rattle.std.specs.Prelude.{Result, Ok, Err}
 use Rattle.std.specs.Str.Parse.{ParsesUnsigned}
 use Rattle.std.proofs.lemmas.Fmt.{decimal_is_IsNumeral, parse-decimal}
@@ -11,7 +11,10 @@ use borrow.Author.Tests.{leb-true, le-leb, ltb-true, lt-ltb}
 use Rattle.hex.specs.declared.error.FromHexError.{FromHexError}
 use Rattle.hex.specs.Hex.{decode_of}
 use Rattle.hex.proofs.HexLemmas.{decode_of-ok}
-use Rattle.known_answers.specs.Forms.{is_array, are_arrays, is_argument, number_in, is_number}
+use Rattle.node_image.specs.Layout.{greatest_of}
+use Rattle.std.proofs.lemmas.Bool.Decides.{Decides-eqb}
+use Rattle.known_answers.specs.Words.{IsArgument}
+use Rattle.known_answers.specs.Forms.{has_its_pages, is_iv, is_array, are_arrays, is_argument, number_in, is_number}
 
 falls : (b : Bool) → (b ≡ true → ⊥) → IsFalse b
 falls true h = absurd (h refl)
@@ -119,3 +122,49 @@ pub arrays_without : (count : ℕ) (words : List (Bor (List ℕ))) (i : ℕ) (d 
 arrays_without count [] i d lt bad = absurd (omega arith)
 arrays_without count (w ∷ words) zero d lt bad = and_left _ _ bad
 arrays_without count (w ∷ words) (suc i) d lt bad = and_right _ _ (arrays_without count words i d (omega arith) bad)
+
+-- initialization vectors
+
+pub iv_empty : (word bytes : List ℕ) → IsArgument word bytes → length bytes ≡ 0 → IsFalse (is_iv word)
+unfolding is_iv
+iv_empty word bytes is none =
+    falls _ (λ h.
+        let parts = and_parts _ _ h in
+        let other : word ≢ codes "-" = λ e. true≢false (sym parts.1 ∙ ap not ((bytes_eq-Decides word (codes "-")).1 e)) in
+        let size = (decode_of-ok word bytes (is.2 other)).2 in
+        nothing word is.0 (omega arith))
+  where
+    nothing : (word : List ℕ) → word ≢ [] → length word ≡ 0 → ⊥
+    nothing [] some e = some refl
+    nothing (c ∷ cs) some e = absurd (omega arith)
+
+pub iv_filled : (word bytes : List ℕ) → IsArgument word bytes → 1 ≤ length bytes → IsTrue (is_argument word) → IsTrue (is_iv word)
+unfolding is_iv
+iv_filled word bytes is some read =
+    and_from _ _ read (ap not (falls (bytes_eq word (codes "-")) (λ h.
+        let none : length bytes ≡ 0 = ap length (is.1 ((bytes_eq-Decides word (codes "-")).0 h)) in absurd (omega arith))))
+
+pub iv_not : (word : List ℕ) → IsFalse (is_argument word) → IsFalse (is_iv word)
+unfolding is_iv
+iv_not word bad = and_left _ _ bad
+
+-- the pages of a tree
+
+pages_read : (word : List ℕ) (n : ℕ) (pages : List (List ℕ)) → n < 2 ^ 64 → word ≡ decimal n → IsTrue (has_its_pages word pages)
+    → (n ≤ 2 ^ 20) × (length pages ≡ greatest_of n)
+unfolding has_its_pages
+pages_read word n pages low e h =
+    let same : number_in word ≡ n = number_in_decimal word n low e in
+    let front = and_parts _ _ (and_parts _ _ h).0 in
+    let few : number_in word ≤ 2 ^ 20 = leb-true (number_in word) (2 ^ 20) (and_parts _ _ front.0).1 in
+    let all : length pages ≡ greatest_of (number_in word) = (Decides-eqb (length pages) (greatest_of (number_in word))).0 front.1 in
+    (subst (λ k. k ≤ 2 ^ 20) same few, all ∙ ap greatest_of same)
+
+pub too_many_bytes : (word : List ℕ) (n : ℕ) (pages : List (List ℕ)) → n < 2 ^ 64 → word ≡ decimal n → 2 ^ 20 < n
+    → IsFalse (has_its_pages word pages)
+too_many_bytes word n pages low e many =
+    falls _ (λ h. let few = (pages_read word n pages low e h).0 in absurd (omega arith))
+
+pub other_pages : (word : List ℕ) (n : ℕ) (pages : List (List ℕ)) → n < 2 ^ 64 → word ≡ decimal n → length pages ≢ greatest_of n
+    → IsFalse (has_its_pages word pages)
+other_pages word n pages low e other = falls _ (λ h. other (pages_read word n pages low e h).1)

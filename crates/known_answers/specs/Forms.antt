@@ -1,6 +1,7 @@
 -- The forms of the words that a question is asked by.
-use Rattle.std.specs.Prelude.{ℕ, ◌^◌, ◌&&◌, ◌||◌, nat_le, nat_lt, Bool, true, List, [], ◌∷◌, codes, decimal, length, bytes_eq, is_ok}
+use Rattle.std.specs.Prelude.{ℕ, ◌^◌, ◌&&◌, not, false, if◌then◌else◌, ◌==◌, ◌||◌, nat_le, nat_lt, Bool, true, List, [], ◌∷◌, codes, decimal, length, bytes_eq, is_ok}
 use Rattle.std.specs.Str.Parse.{digits_value}
+use Rattle.node_image.specs.Layout.{greatest_of}
 use Rattle.hex.specs.Hex.{decode_of, decode_sized}
 
 -- so many bytes in hex
@@ -28,3 +29,20 @@ is_number word = nat_lt (number_in word) (2 ^ 64) && bytes_eq word (decimal (num
 -- one of the two versions
 unfoldable pub is_version : List ℕ → Bool
 is_version word = is_number word && nat_lt (number_in word) 2
+
+-- an initialization vector, which is not empty
+unfoldable pub is_iv : List ℕ → Bool
+is_iv word = is_argument word && not (bytes_eq word (codes "-"))
+
+-- the four words of parts
+unfoldable pub are_parts : (key iv aad text : List ℕ) → Bool
+are_parts key iv aad text = is_array 16 key && is_iv iv && is_argument aad && is_argument text
+
+-- the four words of a tree's image
+unfoldable pub is_tree_image : (tsk hash version image : List ℕ) → Bool
+is_tree_image tsk hash version image = is_array 32 tsk && is_array 32 hash && is_version version && is_argument image
+
+-- a length of at most 2^20, and the pages that a tree of so many bytes needs
+unfoldable pub has_its_pages : List ℕ → List (List ℕ) → Bool
+has_its_pages bytes pages =
+    is_number bytes && nat_le (number_in bytes) (2 ^ 20) && length pages == greatest_of (number_in bytes) && are_arrays 4096 pages

@@ -1,8 +1,8 @@
 // The lines that ask the questions.
 
-ghost use Rattle.std.specs.Prelude.{◌≡◌, ◌<◌, IfOk, IsFalse, IsTrue, MatchResult, map};
+ghost use Rattle.std.specs.Prelude.{◌≡◌, ◌<◌, ◌&&◌, IfOk, IsFalse, IsTrue, MatchResult, map};
 ghost use Rattle.hex.specs.Hex.{decode_of};
-ghost use Rattle.known_answers.specs.Forms.{are_arrays, is_argument, is_array, is_number, is_version};
+ghost use Rattle.known_answers.specs.Forms.{are_arrays, are_parts, has_its_pages, is_argument, is_array, is_number, is_tree_image, is_version};
 ghost use Rattle.known_answers.specs.declared.lines.Unreadable.TheVariants.{Form};
 ghost use Rattle.known_answers.specs.Asks.{AreArrays, AreParts, AreTreePages, Asks, IsTreeImage};
 ghost use Rattle.known_answers.specs.Words.{IsArgument, IsNumber, words_of};
@@ -82,9 +82,10 @@ fn argument_of(alloc: Global, word: &str) -> Result<Argument, Unreadable>
     Ok(Argument { bytes })
 }
 
-#[tactic(auto, unfolding(crate::specs::Asks::AreParts))]
+#[tactic(auto, using(crate::proofs::Forms::iv_filled, crate::proofs::Forms::iv_not), unfolding(crate::specs::Asks::AreParts, crate::specs::Forms::are_parts))]
 fn parts_of(alloc: Global, key: &str, iv: &str, aad: &str, text: &str) -> Result<Parts, Unreadable>
-    ensures { IfOk result (λ parts. AreParts key.now iv.now aad.now text.now parts) }
+    ensures value { IfOk result (λ parts. AreParts key.now iv.now aad.now text.now parts) }
+    ensures form { MatchResult result (λ _. IsTrue (are_parts key.now iv.now aad.now text.now)) (λ e. e ≡ Form → IsFalse (are_parts key.now iv.now aad.now text.now)) }
 {
     let key = array_of(key)?;
     let iv = argument_of(alloc, iv)?.bytes;
@@ -133,7 +134,7 @@ fn version_of(word: &str) -> Result<u8, Unreadable>
     Ok(version as u8)
 }
 
-#[tactic(auto, unfolding(crate::specs::Asks::IsTreeImage))]
+#[tactic(auto, unfolding(crate::specs::Asks::IsTreeImage, crate::specs::Forms::is_tree_image))]
 fn tree_image_of(
     alloc: Global,
     tsk: &str,
@@ -141,7 +142,8 @@ fn tree_image_of(
     version: &str,
     image: &str,
 ) -> Result<TreeImage, Unreadable>
-    ensures { IfOk result (λ tree. IsTreeImage tsk.now hash.now version.now image.now tree) }
+    ensures value { IfOk result (λ tree. IsTreeImage tsk.now hash.now version.now image.now tree) }
+    ensures form { MatchResult result (λ _. IsTrue (is_tree_image tsk.now hash.now version.now image.now)) (λ e. e ≡ Form → IsFalse (is_tree_image tsk.now hash.now version.now image.now)) }
 {
     let tsk = array_of(tsk)?;
     let hash = array_of(hash)?;
@@ -151,14 +153,15 @@ fn tree_image_of(
     Ok(TreeImage { tsk, root, image })
 }
 
-#[tactic(auto, unfolding(crate::specs::Asks::AreTreePages))]
+#[tactic(auto, using(crate::proofs::Forms::number_in_decimal), unfolding(crate::specs::Asks::AreTreePages, crate::specs::Forms::has_its_pages))]
 fn tree_pages_of(
     alloc: Global,
     tsk: &str,
     bytes: &str,
     pages: &[&str],
 ) -> Result<TreePages, Unreadable>
-    ensures { IfOk result (λ tree. AreTreePages tsk.now bytes.now (map (λ w. w.now) pages.now) tree) }
+    ensures value { IfOk result (λ tree. AreTreePages tsk.now bytes.now (map (λ w. w.now) pages.now) tree) }
+    ensures form { MatchResult result (λ _. IsTrue (is_array 32 tsk.now && has_its_pages bytes.now (map (λ w. w.now) pages.now))) (λ e. e ≡ Form → IsFalse (is_array 32 tsk.now && has_its_pages bytes.now (map (λ w. w.now) pages.now))) }
 {
     let tsk = array_of(tsk)?;
     let bytes = number_of(bytes)?;
