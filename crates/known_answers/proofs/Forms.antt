@@ -76,7 +76,7 @@ unfolding is_number
 number_of_decimal word n low e =
     let same : number_in word ≡ n = number_in_decimal word n low e in
     and_from _ _ (lt-ltb (number_in word) (2 ^ 64) (subst (λ k. k < 2 ^ 64) (sym same) low))
-        ((bytes_eq-Decides word (decimal (number_in word))).1 (e ∙ ap decimal (sym same)))
+    ((bytes_eq-Decides word (decimal (number_in word))).1 (e ∙ ap decimal (sym same)))
 
 number_read : (word : List ℕ) → IsTrue (is_number word) → (number_in word < 2 ^ 64) × (word ≡ decimal (number_in word))
 unfolding is_number
@@ -129,10 +129,10 @@ pub iv_empty : (word bytes : List ℕ) → IsArgument word bytes → length byte
 unfolding is_iv
 iv_empty word bytes is none =
     falls _ (λ h.
-        let parts = and_parts _ _ h in
-        let other : word ≢ codes "-" = λ e. true≢false (sym parts.1 ∙ ap not ((bytes_eq-Decides word (codes "-")).1 e)) in
-        let size = (decode_of-ok word bytes (is.2 other)).2 in
-        nothing word is.0 (omega arith))
+    let parts = and_parts _ _ h in
+    let other : word ≢ codes "-" = λ e. true≢false (sym parts.1 ∙ ap not ((bytes_eq-Decides word (codes "-")).1 e)) in
+    let size = (decode_of-ok word bytes (is.2 other)).2 in
+    nothing word is.0 (omega arith))
   where
     nothing : (word : List ℕ) → word ≢ [] → length word ≡ 0 → ⊥
     nothing [] some e = some refl
@@ -142,7 +142,7 @@ pub iv_filled : (word bytes : List ℕ) → IsArgument word bytes → 1 ≤ leng
 unfolding is_iv
 iv_filled word bytes is some read =
     and_from _ _ read (ap not (falls (bytes_eq word (codes "-")) (λ h.
-        let none : length bytes ≡ 0 = ap length (is.1 ((bytes_eq-Decides word (codes "-")).0 h)) in absurd (omega arith))))
+    let none : length bytes ≡ 0 = ap length (is.1 ((bytes_eq-Decides word (codes "-")).0 h)) in absurd (omega arith))))
 
 pub iv_not : (word : List ℕ) → IsFalse (is_argument word) → IsFalse (is_iv word)
 unfolding is_iv

@@ -1,5 +1,5 @@
 -- The forms of the words that a question is asked by.
-use Rattle.std.specs.Prelude.{ℕ, ◌^◌, ◌&&◌, not, false, if◌then◌else◌, ◌==◌, ◌||◌, nat_le, nat_lt, Bool, true, List, [], ◌∷◌, codes, decimal, length, bytes_eq, is_ok}
+use Rattle.std.specs.Prelude.{ℕ, ◌^◌, ◌&&◌, not, ◌==◌, ◌||◌, nat_le, nat_lt, Bool, true, List, [], ◌∷◌, codes, decimal, length, bytes_eq, is_ok}
 use Rattle.std.specs.Str.Parse.{digits_value}
 use Rattle.node_image.specs.Layout.{greatest_of}
 use Rattle.hex.specs.Hex.{decode_of, decode_sized}

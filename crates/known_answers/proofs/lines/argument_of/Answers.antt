@@ -15,7 +15,7 @@ returns-clause-form c =
       | then-eq w ↦ argument_of_none c.args.word.now ((bytes_decides c.args.word.now (codes "-")).0 (sym c.eq.ensures ∙ w.if-eq.true))
       | else-eq+in_ok-bytes w ↦
           argument_of_hex c.args.word.now _ w.in_ok-bytes.ensures.ok
-              (λ e. true≢false (sym (ap (λ (w : List ℕ). length w == 0) e) ∙ sym c.is_empty.ensures ∙ c.if-is_empty.false))
-              (let few : vec_len w.in_ok-bytes.bytes ≤ 2 ^ 24 = subst (λ (b : Vec ℕ Global). vec_len b ≤ 2 ^ 24) w.bytes-is (subst (λ n. n ≤ 2 ^ 24) c.len.ensures c.if-len-gt-MOST.false) in
-              omega (arith, w.in_ok-bytes.bytes.ok))
+          (λ e. true≢false (sym (ap (λ (w : List ℕ). length w == 0) e) ∙ sym c.is_empty.ensures ∙ c.if-is_empty.false))
+          (let few : vec_len w.in_ok-bytes.bytes ≤ 2 ^ 24 = subst (λ (b : Vec ℕ Global). vec_len b ≤ 2 ^ 24) w.bytes-is (subst (λ n. n ≤ 2 ^ 24) c.len.ensures c.if-len-gt-MOST.false) in
+          omega (arith, w.in_ok-bytes.bytes.ok))
     ]

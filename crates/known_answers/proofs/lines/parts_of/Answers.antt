@@ -13,4 +13,4 @@ returns-then-is_empty-clause-form c =
     let k = c.if-is_empty.true in
     let none : vec_len c.in_ok-iv.field-0.bytes ≡ 0 = grind (arith, common_steps) in
     λ _. and_left _ _ (and_left _ _ (and_right _ _
-        (iv_empty c.args.iv.now c.in_ok-iv.field-0.bytes.items c.in_ok-iv.ensures.value (omega (arith, c.in_ok-iv.field-0.bytes.ok)))))
+    (iv_empty c.args.iv.now c.in_ok-iv.field-0.bytes.items c.in_ok-iv.ensures.value (omega (arith, c.in_ok-iv.field-0.bytes.ok)))))

@@ -1,6 +1,5 @@
-use Rattle.std.proofs.Common.{◌≡◌, ◌<◌, ◌^◌, List, ℕ, map, length, ap, sym, ◌∙◌, arith, Bor}
+use Rattle.std.proofs.Common.{◌<◌, ◌^◌, List, ℕ, map, arith, Bor}
 use Rattle.std.proofs.lemmas.List.{length-map}
-use Rattle.std.proofs.lemmas.Grind.{common_steps}
 use Rattle.std.proofs.lemmas.Bool.{and_right}
 use Rattle.known_answers.proofs.Forms.{too_many_bytes, other_pages}
 use Rattle.known_answers.proofs.lines.tree_pages_of.Goals.{then-bytes-gt-MOST_IN_A_TREE-via-then-bytes-gt-MOST_IN_A_TREE, then-bytes-gt-MOST_IN_A_TREE-via-else-bytes-gt-MOST_IN_A_TREE+then-pages-greatest_node}
@@ -15,5 +14,5 @@ returns-then-bytes-gt-MOST_IN_A_TREE-clause-form c =
           too_many_bytes c.args.bytes.now c.in_ok-bytes.bytes pages low c.in_ok-bytes.ensures.value w.if-bytes-gt-MOST_IN_A_TREE.true
       | then-bytes-gt-MOST_IN_A_TREE-via-else-bytes-gt-MOST_IN_A_TREE+then-pages-greatest_node w ↦
           other_pages c.args.bytes.now c.in_ok-bytes.bytes pages low c.in_ok-bytes.ensures.value
-              (λ e. let s = length-map c.args.pages.now (λ (w : Bor (List ℕ)). w.now) in let h = w.greatest_node.ensures.value in let k = w.if-pages-greatest_node.true in omega (arith, h, k, s, e))
+          (λ e. let s = length-map c.args.pages.now (λ (w : Bor (List ℕ)). w.now) in let h = w.greatest_node.ensures.value in let k = w.if-pages-greatest_node.true in omega (arith, h, k, s, e))
     ])
