@@ -1,13 +1,9 @@
-use Rattle.std.proofs.Common.{ℕ, List, Vec, Global, true≢false, ◌≤◌, ◌^◌, length, sym, ap, ◌∙◌, subst, arith}
-use Rattle.std.proofs.lemmas.Grind.{common_steps}
+use Rattle.std.proofs.Common.{rules, ℕ, Vec, Global, ◌≤◌, ◌^◌, sym, ◌∙◌, subst, arith}
 use Rattle.std.specs.Cmp.Lexicographic.{bytes_decides}
-use Rattle.std.specs.Prelude.{◌==◌, codes, vec_len}
-use Rattle.known_answers.proofs.Forms.{argument_of_none, argument_of_hex, argument_of_nothing}
+use Rattle.std.specs.Prelude.{codes, vec_len}
+use Rattle.known_answers.proofs.Forms.{argument_of_none, argument_of_hex}
 use Rattle.known_answers.proofs.lines.argument_of.Goals.{then-eq, else-eq+in_ok-bytes}
 use Rattle.known_answers.proofs.lines.argument_of.Goals as goal
-
-pub returns-then-is_empty-clause-form : goal.returns-then-is_empty-clause-form
-returns-then-is_empty-clause-form c = λ _. argument_of_nothing c.args.word.now (let h = c.is_empty.ensures in let k = c.if-is_empty.true in grind (arith, common_steps))
 
 pub returns-clause-form : goal.returns-clause-form
 returns-clause-form c =
@@ -15,7 +11,7 @@ returns-clause-form c =
       | then-eq w ↦ argument_of_none c.args.word.now ((bytes_decides c.args.word.now (codes "-")).0 (sym c.eq.ensures ∙ w.if-eq.true))
       | else-eq+in_ok-bytes w ↦
           argument_of_hex c.args.word.now _ w.in_ok-bytes.ensures.ok
-          (λ e. true≢false (sym (ap (λ (w : List ℕ). length w == 0) e) ∙ sym c.is_empty.ensures ∙ c.if-is_empty.false))
+          (search rules)
           (let few : vec_len w.in_ok-bytes.bytes ≤ 2 ^ 24 = subst (λ (b : Vec ℕ Global). vec_len b ≤ 2 ^ 24) w.bytes-is (subst (λ n. n ≤ 2 ^ 24) c.len.ensures c.if-len-gt-MOST.false) in
           omega (arith, w.in_ok-bytes.bytes.ok))
     ]
