@@ -1,5 +1,5 @@
 -- A run, act after act.
-use Rattle.std.proofs.Common.{◌≡◌, ◌≤◌, ◌<◌, ◌+◌, ◌-◌, ℕ, List, [], ◌∷◌, ◌++◌, length, take, drop, All, refl, sym, ap, ◌∙◌, subst, arith, suc, append_assoc, append-nil, length-append, length-drop, Option, None, inl, get_or, Result, Ok, Err, OnOk, OnErr}
+use Rattle.std.proofs.Common.{◌≡◌, ◌≤◌, ◌<◌, ◌+◌, ℕ, List, [], ◌∷◌, ◌++◌, length, take, drop, All, refl, sym, ap, ◌∙◌, subst, arith, append_assoc, append-nil, length-append, Option, None, inl, get_or, Result, Ok, Err, OnOk, OnErr}
 use Rattle.std.specs.List.{prefix_len, range_with_len}
 use Rattle.std.proofs.lemmas.List.{take-append-drop, length-take-le}
 use Rattle.std.proofs.lemmas.List.FromFn.{length-range_with_len}
@@ -13,7 +13,7 @@ use Rattle.store_model.specs.declared.name.ObjectName.{ObjectName}
 use Rattle.store_model.specs.History.{numbers_of}
 use Rattle.store_model.specs.Record.{Record, untagged}
 use Rattle.std.specs.Option.{option_map}
-use Rattle.store_model.specs.Legal.{Standing, opening, replay}
+use Rattle.store_model.specs.Legal.{opening, replay}
 use Rattle.store_model.specs.LegalHistory.{IsLegal, events_of}
 use Rattle.store_model.specs.Damage.{IsAlteredBack}
 use Rattle.script_text.specs.declared.script.Step.{Step}
@@ -26,9 +26,9 @@ use Rattle.tee_run.specs.Phases.{phases_of, script_phases, ServesPhases, ServesS
 use Rattle.tee_run.specs.Serving.{HasServed, IsCallFirst}
 use Rattle.tee_run.specs.Sending.{Sends, Stops}
 use Rattle.tee_run.specs.Running.{HasRun, HasStopped}
-use Rattle.tee_run.specs.Trace.{Begins, IsTextOf, IsWholeTextOf, applications_of}
+use Rattle.tee_run.specs.Trace.{IsTextOf, IsWholeTextOf, applications_of}
 use Rattle.tee_run.proofs.Pushing.{calls_of-steps_served, applications-new}
-use Rattle.tee_run.proofs.Sent.{Sends-append, Stops-append, Stops-longer}
+use Rattle.tee_run.proofs.Sent.{Sends-append, Stops-append}
 use Rattle.tee_run.proofs.Acts.{acts_of-calls, prefix_len-some, acts_text-append, phases_of-append, ServesPhases-longer, ServesPhases-push}
 
 events_of-untagged : (events : List Event) → events_of (untagged events) ≡ events

@@ -1,5 +1,5 @@
 -- A history with one more event at its end.
-use Rattle.std.proofs.Common.{◌≡◌, ◌==◌, ◌≤◌, ◌<◌, ◌+◌, ◌^◌, ℕ, Bool, true, false, cond, List, [], ◌∷◌, ◌++◌, length, refl, sym, ap, ◌∙◌, subst, arith, slice_index, slice_set, zero, suc, length-append, take, get_or, All, eq-eqb, ⊎_elim, ◌≢◌, get_or-set_same, get_or-set_other, inl, Option, None, Some, map, replicate, true≢false}
+use Rattle.std.proofs.Common.{◌≡◌, ◌==◌, ◌≤◌, ◌<◌, ◌+◌, ◌^◌, ℕ, Bool, true, false, cond, List, [], ◌∷◌, ◌++◌, length, refl, sym, ap, ◌∙◌, subst, arith, slice_index, slice_set, zero, suc, length-append, take, get_or, eq-eqb, ⊎_elim, ◌≢◌, get_or-set_same, get_or-set_other, inl, None, map, replicate, true≢false}
 use Rattle.std.proofs.lemmas.Bool.{ne_eqb, cases_eq}
 use Rattle.std.specs.List.{range_with_len}
 use Rattle.std.proofs.lemmas.List.{length-set, take_more, length-take-le, length-replicate}
@@ -11,9 +11,9 @@ use Rattle.store_model.specs.declared.event.Event.{Event}
 use Rattle.store_model.specs.declared.event.Event.TheVariants.{Call as CallEvent, Landed}
 use Rattle.store_model.specs.declared.event.Mark.{Mark}
 use Rattle.store_model.specs.Object.{ObjectMap}
-use Rattle.store_model.specs.Machine.{MachineState, Session, applications, new_session, opened_store}
+use Rattle.store_model.specs.Machine.{MachineState, applications, new_session, opened_store}
 use Rattle.store_model.specs.Calls.{reply_of, state_after, is_commit}
-use Rattle.store_model.specs.Record.{Record, untagged}
+use Rattle.store_model.specs.Record.{untagged}
 use Rattle.store_model.specs.History.{numbers_of, calls_of}
 use Rattle.store_model.specs.Legal.{Standing, IsLegalEvent, IsLegalFrom, standing_after, standing_after_call, opening, replay, mark_of, counter_after, is_undone}
 use Rattle.store_model.proofs.Sessions.{applications-sessions}
@@ -23,7 +23,7 @@ use Rattle.script_text.specs.declared.script.Step.{Step}
 use Rattle.script_text.specs.declared.script.Step.TheVariants.{Call as CallStep, Control as ControlStep}
 use Rattle.script_text.specs.Script.{IsPlaced, is_call}
 use Rattle.tee_run.specs.Phases.{steps_served, calls_in}
-use Rattle.tee_run.specs.Serving.{event_of, AreNumbers, StandsAt, IsServed, IsServedCall, AreCalls, HasServed}
+use Rattle.tee_run.specs.Serving.{event_of, AreNumbers, IsServed, AreCalls, HasServed}
 
 pub replay-push : (s : Standing) (events : List Event) (e : Event) → replay s (events ++ e ∷ []) ≡ standing_after (replay s events) e
 replay-push s [] e = refl

@@ -1,8 +1,6 @@
 -- From the parts of a run to the whole.
-use Rattle.std.proofs.Common.{◌≡◌, ◌≤◌, ◌<◌, ◌⊎◌, inl, inr, ℕ, Bool, true, List, [], ◌∷◌, ◌++◌, length, refl, sym, ap, ◌∙◌, arith, Option, Some, None, Result, Ok, Err, OnOk, OnErr, append-nil, length-append, ⊎_elim}
-use Rattle.std.specs.List.{range_with_len}
+use Rattle.std.proofs.Common.{◌≡◌, ◌≤◌, ◌⊎◌, inl, inr, ℕ, Bool, true, List, [], ◌++◌, length, refl, sym, ap, ◌∙◌, arith, Option, Some, None, Result, Ok, Err, append-nil, length-append, ⊎_elim}
 use Rattle.std.proofs.lemmas.Bool.{false≢true}
-use Rattle.std.proofs.lemmas.List.FromFn.{length-range_with_len}
 use Rattle.script_text.specs.declared.reading.ScriptFault.{ScriptFault}
 use Rattle.script_text.specs.declared.reading.ScriptFault.TheVariants.{BadLine as BadLineFault, TooManyApps, NoMemory as NoMemoryFault}
 use Rattle.script_text.specs.Parsed.{IsParsed}
@@ -15,7 +13,7 @@ use Rattle.tee_run.specs.Trace.{Trace, IsTraceOf}
 use Rattle.tee_run.specs.Reading.{IsReadError, IsScriptError, status_of}
 use Rattle.tee_run.specs.Sending.{IsWriteError}
 use Rattle.tee_run.specs.Causes.{World, WasRead, HasCause, IsExact, IsRun}
-use Rattle.tee_ports.specs.Streams.{TakesFirst, Appends}
+use Rattle.tee_ports.specs.Streams.{TakesFirst}
 use Rattle.tee_ports.proofs.Streams.{Appends-none}
 
 pub HasCause-read : (w : World) (t : Trace) (status : Status) → IsReadError w.source_failed (length t.taken) status → t.put ≡ [] → HasCause w true t status

@@ -36,6 +36,7 @@ fn main(rt: HostRuntime) -> ExitCode {
             let mut sink = StdSink::new(rt.stdout());
             run(rt.alloc(), words.as_slice(), &mut source, &mut sink)
         }
+        Err(error) if error.kind() == io::ErrorKind::OutOfMemory => Status::NoMemory,
         Err(_) => Status::Usage,
     };
     let number = status_number(&status);

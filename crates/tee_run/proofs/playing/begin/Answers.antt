@@ -1,4 +1,4 @@
-use Rattle.std.proofs.Common.{◌≡◌, length, All, sym, subst}
+use Rattle.std.proofs.Common.{length, All, sym, subst}
 use Rattle.std.proofs.lemmas.List.{length-map}
 use Rattle.script_text.specs.Script.{IsPlaced}
 use Rattle.tee_run.proofs.Progress.{HasRun-begin}

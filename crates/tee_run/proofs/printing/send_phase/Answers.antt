@@ -1,7 +1,6 @@
-use Rattle.std.proofs.Common.{◌++◌, ap, sym, subst, ◌∙◌, arith, append-nil, refl}
-use Rattle.script_text.specs.Text.{phase_line}
-use Rattle.tee_run.specs.Sending.{Sends, Stops}
-use Rattle.tee_run.proofs.Sent.{Sends-none, Sends-append, Stops-append, Stops-at_event, OnErr-always, text_upto, text_upto-none, text_upto-more, text_upto-all}
+use Rattle.std.proofs.Common.{◌++◌, ap, sym, subst, ◌∙◌, arith}
+use Rattle.tee_run.specs.Sending.{Sends}
+use Rattle.tee_run.proofs.Sent.{Sends-none, Sends-append, Stops-at_event, OnErr-always, text_upto, text_upto-none, text_upto-more, text_upto-all}
 use Rattle.tee_run.proofs.printing.send_phase.Goals as goal
 
 pub loop-place-init : goal.loop-place-init
