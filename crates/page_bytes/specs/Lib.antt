@@ -1,0 +1,4 @@
+pub mod Pages
+pub mod Ranges
+pub mod Rewriting
+pub mod Changed
