@@ -1,0 +1,80 @@
+use Rattle.std.proofs.Common.{◌≡◌, ◌∙◌, min, ℕ, List, length, IfSome, OnOk, Err, Ok, ap, subst, sym}
+use Rattle.std.proofs.lemmas.Result.{err_from_is_err_and}
+use Rattle.node_image.specs.Layout.{greatest_of}
+use Rattle.htree_file.specs.Changes.{AreChanges, OpensAfter}
+use Rattle.htree_file.specs.declared.change.BlockChange.{BlockChange}
+use Rattle.block_file.specs.Stages.{LeavesRewritten, StageAnswer}
+use Rattle.block_file.proofs.StageRewrites.{AreChanges-made, blocks_forward, blocks_read, leaves_rewritten, rewritten_then}
+use Rattle.htree_file.proofs.Sizes.{sized_greatest}
+use Rattle.htree_file.specs.Opening.{load_of}
+use Rattle.htree_file.specs.Standing.{Told}
+use Rattle.page_bytes.specs.declared.range.ByteRange.{ByteRange}
+use Rattle.page_bytes.specs.Ranges.{end_block}
+use Rattle.block_file.proofs.StageAfterReads.{no_stage, stage_then}
+use Rattle.block_file.proofs.file.BlockFile.stage_range.Goals as goal
+
+pub returns-in_err-changes-clause-staged : goal.returns-in_err-changes-clause-staged
+returns-in_err-changes-clause-staged g c =
+    let t = c.args.self.now in
+    let fault = c.in_err-changes.field-0.0 in
+    let p = err_from_is_err_and c.from_residual.result c.from_residual.ensures.1 in
+    rw (p.1, p.2) (subst (λ new. StageAnswer g.F.StoreFile.state t new c.args.size {A = Unit {0}} (Err fault)) (sym c.in_err-changes.ensures.same)
+    (no_stage _ g.F.StoreFile.state t c.new_pages.new.self.file c.args.size (Unit {0}) fault (g.met.F.StoreFile.sound t.file) c.requires.idle c.in_err-changes.ensures.rests c.in_err-changes.ensures.cause))
+
+pub returns-clause-staged : goal.returns-clause-staged
+returns-clause-staged g c =
+    let t = c.args.self.now in
+    let step = c.in_ok-changes.ensures in
+    stage_then _ g.F.StoreFile.state t c.stage_changes.new.self c.new_pages.new.self.file c.args.size (Unit {0}) c.stage_changes.result (g.met.F.StoreFile.sound t.file) step.rests step.cause
+    (subst (λ old. StageAnswer g.F.StoreFile.state old c.stage_changes.new.self c.args.size {A = Unit {0}} c.stage_changes.result) step.same c.stage_changes.ensures.staged)
+
+upto_is : (upto end greatest : ℕ) (r : ByteRange) (size : ℕ) → upto ≡ min end greatest → end ≡ end_block r → greatest ≡ greatest_of size → upto ≡ min (end_block r) (greatest_of size)
+upto_is upto end greatest r size is ends all = is ∙ (λ i. min (ends i) (all i))
+
+pub stage_changes-requires-clause-changes : goal.stage_changes-requires-clause-changes
+stage_changes-requires-clause-changes g c =
+    let t = c.args.self.now in
+    let a = g.F.StoreFile.state t.file in
+    let b = g.F.StoreFile.state c.new_pages.new.self.file in
+    let before : t.tree.head.greatest ≡ greatest_of c.args.range.size = sized_greatest t.tree.head c.requires.verified.sized ∙ ap greatest_of (sym c.requires.old_size) in
+    let r = c.args.range in
+    let ends : c.min-upto.result ≡ min (end_block r) (greatest_of c.args.size) = upto_is c.min-upto.result c.end_block-end.result c.greatest_node.result r c.args.size c.min-upto.ensures c.end_block-end.ensures c.greatest_node.ensures.value in
+    subst (λ (l : List BlockChange). AreChanges c.new_pages.new.self.tree.head.greatest (greatest_of c.args.size) l) (sym c.deref.ensures.value)
+    (AreChanges-made t.key t.tree r c.args.at c.args.bytes.now c.args.size c.first_block-first.result c.min-upto.result a b c.in_ok-changes.changes.items
+    c.requires.reaches c.requires.fits.within c.first_block-first.ensures ends c.in_ok-changes.ensures.answer c.new_pages.new.self.tree.head.greatest
+    (ap (λ t. t.tree.head.greatest) c.in_ok-changes.ensures.same ∙ before)
+    (rw (c.first_block-first.ensures, ends) (blocks_forward r c.args.size c.requires.reaches)))
+
+pub returns-clause-rewritten : goal.returns-clause-rewritten
+returns-clause-rewritten g c =
+    let t = c.args.self.now in
+    let a = g.F.StoreFile.state t.file in
+    let b = g.F.StoreFile.state c.new_pages.new.self.file in
+    let new = g.F.StoreFile.state c.stage_changes.new.self.file in
+    let r = c.args.range in
+    let ends : c.min-upto.result ≡ min (end_block r) (greatest_of c.args.size) = upto_is c.min-upto.result c.end_block-end.result c.greatest_node.result r c.args.size c.min-upto.ensures c.end_block-end.ensures c.greatest_node.ensures.value in
+    let many : length t.tree.nodes ≡ greatest_of r.size = c.requires.verified.all ∙ sized_greatest t.tree.head c.requires.verified.sized ∙ ap greatest_of (sym c.requires.old_size) in
+    let opened = subst (λ old. OnOk c.stage_changes.result (Told (g.F.StoreFile.state old.file) new → load_of (g.F.StoreFile.state old.file).reads old.root ≡ Ok old.tree
+    → IfSome c.stage_changes.new.self.stage (λ s. OpensAfter old.key old.tree.head.wrapped (g.F.StoreFile.state old.file).reads old.root new.reads s.root c.args.size c.deref.result.now)))
+    c.in_ok-changes.ensures.same c.stage_changes.ensures.opened in
+    rewritten_then a b new (Unit {0}) c.stage_changes.result c.stage_changes.new.self.stage t.tree t.root
+    (λ s. OpensAfter t.key t.tree.head.wrapped b.reads t.root new.reads s.root c.args.size c.deref.result.now)
+    (λ s. LeavesRewritten t.key t.tree.head.wrapped a.reads t.root new.reads s.root r c.args.at c.args.bytes.now c.args.size)
+    c.in_ok-changes.ensures.rests c.stage_changes.ensures.staged.keeps.goes_on opened
+    (λ told loads s opens.
+    leaves_rewritten t.key t.tree r c.args.at c.args.bytes.now c.args.size c.first_block-first.result c.min-upto.result a b c.in_ok-changes.changes.items
+    c.requires.reaches c.requires.fits.within c.first_block-first.ensures ends c.in_ok-changes.ensures.answer told t.root s.root new.reads c.requires.verified c.requires.old_size many loads
+    (subst (λ (l : List BlockChange). OpensAfter t.key t.tree.head.wrapped a.reads t.root new.reads s.root c.args.size l) c.deref.ensures.value
+    (subst (λ (l : List ℕ). OpensAfter t.key t.tree.head.wrapped l t.root new.reads s.root c.args.size c.deref.result.now) (c.in_ok-changes.ensures.rests.reads told.1) opens)))
+
+pub returns-clause-blocks : goal.returns-clause-blocks
+returns-clause-blocks g c =
+    let t = c.args.self.now in
+    let a = g.F.StoreFile.state t.file in
+    let b = g.F.StoreFile.state c.new_pages.new.self.file in
+    let new = g.F.StoreFile.state c.stage_changes.new.self.file in
+    let r = c.args.range in
+    let ends : c.min-upto.result ≡ min (end_block r) (greatest_of c.args.size) = upto_is c.min-upto.result c.end_block-end.result c.greatest_node.result r c.args.size c.min-upto.ensures c.end_block-end.ensures c.greatest_node.ensures.value in
+    blocks_read t.key t.tree r c.args.at c.args.bytes.now c.args.size c.first_block-first.result c.min-upto.result a b c.in_ok-changes.changes.items
+    c.requires.reaches c.requires.fits.within c.first_block-first.ensures ends c.in_ok-changes.ensures.answer new (Unit {0}) c.stage_changes.result c.stage_changes.ensures.staged.keeps.goes_on
+    c.stage_changes.ensures.fault

@@ -1,0 +1,4 @@
+pub mod Reads
+pub mod Parts
+pub mod NewPages
+pub mod Stages

@@ -1,0 +1,66 @@
+-- What reading blocks of a tree says, whatever the file is.
+use Rattle.std.specs.Prelude.{◌≡◌, ℕ, ◌+◌, ◌/◌, ◌%◌, ◌<◌, List, get_or, Some, None, Bool, true, Result, Ok, Err, IsTrue}
+use Rattle.disk_model.specs.State.{FileState}
+use Rattle.node_image.specs.Tables.{at_node}
+use Rattle.htree_file.specs.declared.fault.TreeFault.{TreeFault}
+use Rattle.htree_file.specs.declared.fault.TreeFault.TheVariants.{BadTag, Failed, NoEntropy, NoMemory}
+use Rattle.htree_file.specs.Opening.{Loaded}
+use Rattle.htree_file.specs.Pages.{block_in, page_of, tag_of}
+use Rattle.htree_file.specs.Standing.{Told}
+
+-- Block k was read as that page: a ciphertext with the tag of its node deciphers to it. Where the file is followed, it is the
+-- one that stands there.
+pub record IsPage (key : List ℕ) (tree : Loaded) (old new : FileState) (k : ℕ) (page : List ℕ) : Type 0 where
+  pub ciphertext : List ℕ
+  pub stands : Told old new → ciphertext ≡ block_in old.reads tree k
+  pub opens : page_of key tree.head (at_node tree.nodes (k + 1)) k ciphertext ≡ Some page
+
+abbrev pub WasRead : (key : List ℕ) → Loaded → (old new : FileState) → (k : ℕ) → Type 0
+WasRead key tree old new k = (page : List ℕ) × IsPage key tree old new k page
+
+-- Block k was found bad: what stands there, as the file reads now, has another tag than its node, and these are the two.
+pub record IsBad (key : List ℕ) (tree : Loaded) (new : FileState) (k : ℕ) (want found : List ℕ) : Type 0 where
+  pub ciphertext : List ℕ
+  pub stands : IsTrue new.tells → ciphertext ≡ block_in new.reads tree k
+  pub fails : page_of key tree.head (at_node tree.nodes (k + 1)) k ciphertext ≡ None
+  pub wants : want ≡ (at_node tree.nodes (k + 1)).tag
+  pub finds : found ≡ tag_of key tree.head (at_node tree.nodes (k + 1)) k ciphertext
+
+-- of the blocks that are asked, block k is the first bad one
+pub record IsFirstBad (key : List ℕ) (tree : Loaded) (old new : FileState) (asked : ℕ → Bool) (k : ℕ) (want found : List ℕ) : Type 0 where
+  pub is_asked : asked k ≡ true
+  pub earlier : (j : ℕ) → j < k → asked j ≡ true → WasRead key tree old new j
+  pub bad : IsBad key tree new k want found
+
+-- A call that reads the blocks that are asked, in their order, succeeds where each was read, and names the first that is bad.
+abbrev pub BlocksAnswer : (key : List ℕ) → Loaded → (old new : FileState) → (asked : ℕ → Bool) → {A : Type 0} → Result A TreeFault → Type 0
+BlocksAnswer key tree old new asked (Ok answer) = (k : ℕ) → asked k ≡ true → WasRead key tree old new k
+BlocksAnswer key tree old new asked (Err (BadTag k want found)) = IsFirstBad key tree old new asked k want found
+BlocksAnswer key tree old new asked (Err fault) = Unit {0}
+
+-- byte p was read as this: it is the one of its block's page
+pub record IsByte (key : List ℕ) (tree : Loaded) (old new : FileState) (p byte : ℕ) : Type 0 where
+  pub page : List ℕ
+  pub read : IsPage key tree old new (p / 4096) page
+  pub is : get_or page (p % 4096) 0 ≡ byte
+
+-- so was each of these bytes, from a place on
+abbrev pub AreBytes : (key : List ℕ) → Loaded → (old new : FileState) → (at : ℕ) → (bytes : List ℕ) → (count : ℕ) → Type 0
+AreBytes key tree old new at bytes count = (i : ℕ) → i < count → IsByte key tree old new (at + i) (get_or bytes i 0)
+
+-- what reading can answer: that a block is bad, or that a call of the file failed
+abbrev pub IsReadFault : TreeFault → Type 0
+IsReadFault (BadTag k want found) = Unit {0}
+IsReadFault (Failed count) = Unit {0}
+IsReadFault fault = ⊥
+
+-- what a change can answer besides
+abbrev pub IsChangeFault : TreeFault → Type 0
+IsChangeFault (NoEntropy count) = Unit {0}
+IsChangeFault NoMemory = Unit {0}
+IsChangeFault fault = IsReadFault fault
+
+-- a block is bad
+abbrev pub IsBadTag : TreeFault → Type 0
+IsBadTag (BadTag k want found) = Unit {0}
+IsBadTag fault = ⊥

@@ -1,0 +1,54 @@
+-- What a change of a tree's bytes leaves.
+use Rattle.std.specs.Prelude.{◌≡◌, ℕ, ◌-◌, List, length, false, None, Result, Ok, IfSome, IsSome, OnErr, OnOk}
+use Rattle.disk_model.specs.State.{FileState}
+use Rattle.disk_model.specs.Keeps.{Keeps}
+use Rattle.aes_block.specs.WrappedKey.{unwrapped_of}
+use Rattle.node_image.specs.declared.node.RootRef.{RootRef}
+use Rattle.node_image.specs.Layout.{greatest_of}
+use Rattle.htree_file.specs.declared.fault.TreeFault.{TreeFault}
+use Rattle.htree_file.specs.Answers.{HasCause}
+use Rattle.htree_file.specs.Opening.{load_of}
+use Rattle.htree_file.specs.Pages.{Opened, opened_of}
+use Rattle.htree_file.specs.Selected.{KeepsFirm, Lies}
+use Rattle.htree_file.specs.Standing.{Told}
+use Rattle.htree_file.specs.Value.{TreeValue}
+use Rattle.page_bytes.specs.declared.range.ByteRange.{ByteRange}
+use Rattle.page_bytes.specs.Changed.{IsChanged}
+use Rattle.page_bytes.specs.Pages.{bytes_from, page_at}
+use Rattle.block_file.specs.NewPages.{IsRewriting}
+
+-- the bytes that an opened tree holds; those of bad blocks stand as zero
+abbrev pub bytes_in : Opened → List ℕ
+bytes_in opened = bytes_from (page_at opened.pages) 0 opened.bytes
+
+-- The tree holds these bytes after a change of that range, and no other block than those that the range meets has another page.
+pub record IsAfter (r : ByteRange) (left : List ℕ) (was now : Opened) : Type 0 where
+  pub size : now.bytes ≡ length left
+  pub blocks : length now.pages ≡ greatest_of now.bytes
+  pub changed : IsChanged r (length now.pages) (page_at was.pages) (page_at now.pages)
+  pub bytes : bytes_in now ≡ left
+
+-- Under each key that wraps the file's: what the first reference opens to in the file before, the second opens to after,
+-- changed.
+abbrev pub LeavesBytes : (key wrapped : List ℕ) → (before : List ℕ) → RootRef → (after : List ℕ) → RootRef → ByteRange → (change : List ℕ → List ℕ) → Type 0
+LeavesBytes key wrapped before root after next r change = (wrap : List ℕ) (was : Opened) → key ≡ unwrapped_of wrap wrapped
+    → opened_of wrap before root ≡ Ok was → (now : Opened) × (opened_of wrap after next ≡ Ok now) × IsAfter r (change (bytes_in was)) was now
+
+-- The same, as a change of any bytes.
+abbrev pub LeavesRewritten : (key wrapped : List ℕ) → (before : List ℕ) → RootRef → (after : List ℕ) → RootRef → ByteRange → (at : ℕ) → (bytes : List ℕ) → (count : ℕ) → Type 0
+LeavesRewritten key wrapped before root after next r at bytes count = (wrap : List ℕ) (was : Opened) → key ≡ unwrapped_of wrap wrapped
+    → opened_of wrap before root ≡ Ok was → (now : Opened) × (opened_of wrap after next ≡ Ok now) × IsRewriting r at bytes count was now
+
+-- What a stage of so many bytes answers: it is open, or the committed tree stands alone; the committed tree stays in every
+-- image.
+pub record StageAnswer {F : Type 0} (state : F → FileState) (old new : TreeValue F) (bytes : ℕ) {A : Type 0} (result : Result A TreeFault) : Type 0 where
+  pub opens : OnOk result (IsSome new.stage)
+  pub none : OnErr result (new.stage ≡ None)
+  pub next : OnOk result (IfSome new.stage (λ s. (s.root.version ≡ 1 - old.root.version) × (s.settled ≡ false)
+      × (s.tree.head ≡ record old.tree.head { length = bytes; greatest = greatest_of bytes })))
+  pub same : new ≡ record old { file = new.file; stage = new.stage }
+  pub firm : KeepsFirm (state old.file) (state new.file) old.root old.tree
+  pub keeps : Keeps (Lies old.tree.nodes old.root.version) (state old.file) (state new.file)
+  pub loaded : OnOk result (Told (state old.file) (state new.file) → load_of (state old.file).reads old.root ≡ Ok old.tree →
+      IfSome new.stage (λ s. load_of (state new.file).reads s.root ≡ Ok s.tree))
+  pub cause : HasCause (state old.file) (state new.file) result
