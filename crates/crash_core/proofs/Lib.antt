@@ -1,0 +1,3 @@
+pub mod ObjectChanges
+pub mod BadBlocks
+pub mod ObjectBytes
