@@ -1,0 +1,63 @@
+-- The page of block 0, which has the attributes.
+use Rattle.std.proofs.Common.{◌≡◌, ◌∙◌, ◌+◌, ◌/◌, ◌%◌, ◌<◌, ◌++◌, ℕ, List, length, get_or, drop, Option, Some, None, sym, ap, inl, inr, arith}
+use Rattle.std.proofs.lemmas.Bool.{cases_Bool, cond-true, cond-false}
+use Rattle.std.proofs.lemmas.Grind.{same_number_lists}
+use Rattle.std.proofs.lemmas.List.{get_or_append_left}
+use Rattle.std.specs.Str.{bytes_eq}
+use Rattle.disk_model.specs.State.{FileState}
+use Rattle.aes_block.specs.Cipher.{cipher}
+use Rattle.gcm_mode.specs.Gcm.{gcm_text}
+use Rattle.gcm_mode.proofs.Stream.{length-gctr}
+use Rattle.node_image.specs.declared.node.NodeImage.{NodeImage}
+use Rattle.node_image.specs.declared.head.Head.{Head}
+use Rattle.node_image.specs.Parts.{start}
+use Rattle.node_image.specs.Parts.Part.{block}
+use Rattle.node_image.specs.Tables.{at_node, block_version}
+use Rattle.node_image.proofs.ImageBytes.{length-bytes_at}
+use Rattle.htree_file.specs.Opening.{Loaded}
+use Rattle.htree_file.specs.Pages.{block_in, page_in, page_of, tag_of}
+use Rattle.htree_file.specs.Standing.{Told}
+use Rattle.page_bytes.specs.Pages.{byte_in, bytes_from}
+use Rattle.page_bytes.proofs.Content.{get_or-bytes_from-zero, length-bytes_from}
+use Rattle.block_file.specs.Reads.{WasRead}
+use Rattle.block_file.proofs.Reading.{page_stands}
+
+-- a text keeps its length
+length-gcm_text : (e : List ℕ → List ℕ) (iv text : List ℕ) → length (gcm_text e iv text) ≡ length text
+unfolding gcm_text
+length-gcm_text e iv text = length-gctr e _ text
+
+-- a page is as long as its ciphertext
+pub page_length : (key : List ℕ) (h : Head) (node : NodeImage) (k : ℕ) (ciphertext page : List ℕ) → page_of key h node k ciphertext ≡ Some page → length page ≡ length ciphertext
+page_length key h node k ciphertext page opens = elim (cases_Bool (bytes_eq node.tag (tag_of key h node k ciphertext))) [
+  | inl same ↦
+      let is : Some (gcm_text (cipher key) node.iv ciphertext) ≡ Some page =
+      sym (cond-true (bytes_eq node.tag (tag_of key h node k ciphertext)) (Some (gcm_text (cipher key) node.iv ciphertext)) None same) ∙ opens in
+      let text : gcm_text (cipher key) node.iv ciphertext ≡ page = cc (is) in
+      ap length (sym text) ∙ length-gcm_text (cipher key) node.iv ciphertext
+  | inr other ↦
+      let none : None ≡ Some page = sym (cond-false (bytes_eq node.tag (tag_of key h node k ciphertext)) (Some (gcm_text (cipher key) node.iv ciphertext)) None other) ∙ opens in
+      absurd (cc (none))
+]
+
+-- a block has 4,096 bytes
+block_length : (image : List ℕ) (tree : Loaded) (k : ℕ) → length (block_in image tree k) ≡ 4096
+block_length image tree k = length-bytes_at image (start (block k (block_version tree.nodes k))) 4096
+
+-- the bytes that were read of block 0 are its page
+pub first_stands : (key : List ℕ) (tree : Loaded) (old new : FileState) (n : ℕ) (into before : List ℕ) → n ≡ 4096 → length into ≡ n → Told old new → WasRead key tree old new 0
+    → into ≡ bytes_from (page_in old.reads key tree) 0 n ++ drop n before → page_in old.reads key tree 0 ≡ Some into
+first_stands key tree old new n into before whole long told was is =
+    let page : List ℕ = was.0 in
+    let stands : page_in old.reads key tree 0 ≡ Some page = page_stands key tree old new 0 page told was.1 in
+    let size : length page ≡ n = page_length key tree.head (at_node tree.nodes (0 + 1)) 0 (was.1).ciphertext page (was.1).opens ∙ ap length ((was.1).stands told) ∙ block_length old.reads tree 0 ∙ sym whole in
+    let same : page ≡ into = same_number_lists page into (size ∙ sym long) (λ i lt.
+    let below : i < n = omega (arith, size) in
+    let here : get_or into i 0 ≡ byte_in (page_in old.reads key tree (i / 4096)) (i % 4096) =
+    ap (λ (l : List ℕ). get_or l i 0) is
+    ∙ get_or_append_left (bytes_from (page_in old.reads key tree) 0 n) (drop n before) 0 i (omega (arith, below, length-bytes_from (page_in old.reads key tree) 0 n))
+    ∙ get_or-bytes_from-zero (page_in old.reads key tree) n i below in
+    let first : i / 4096 ≡ 0 = omega arith in
+    let place : i % 4096 ≡ i = omega arith in
+    sym (here ∙ ap (λ (k : ℕ). byte_in (page_in old.reads key tree k) (i % 4096)) first ∙ ap (λ (o : Option (List ℕ)). byte_in o (i % 4096)) stands ∙ ap (λ (j : ℕ). get_or page j 0) place)) in
+    stands ∙ ap (λ (l : List ℕ). Some l) same

@@ -1,0 +1,5 @@
+pub mod ObjectStages
+pub mod ObjectReads
+pub mod FirstBlock
+pub mod MadeObjects
+pub mod Mounting

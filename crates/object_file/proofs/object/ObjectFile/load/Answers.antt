@@ -1,0 +1,56 @@
+use Rattle.std.proofs.Common.{◌≡◌, ◌+◌, Ok, subst, sym}
+use Rattle.disk_model.specs.Calls.{Rests}
+use Rattle.aes_block.specs.WrappedKey.{unwrapped_of}
+use Rattle.htree_file.specs.Opening.{IsVerified, load_of}
+use Rattle.htree_file.specs.Standing.{Told}
+use Rattle.htree_file.specs.Value.{TreeValue}
+use Rattle.crash_core.specs.MountedObject.{root_of}
+use Rattle.object_file.specs.Loading.{IsFront, PartFault}
+use Rattle.object_file.proofs.Mounting.{mounted_held, part_damaged, sound_faultless}
+use Rattle.object_file.specs.Held.{held_in}
+use Rattle.object_file.specs.Value.{ObjectValue}
+use Rattle.object_file.proofs.object.ObjectFile.load.Goals as goal
+
+pub returns-in-Ok-read_attributes-clause-object : goal.returns-in-Ok-read_attributes-clause-object
+returns-in-Ok-read_attributes-clause-object g c =
+    let a = g.F.StoreFile.state c.args.file in
+    let b = g.F.StoreFile.state c.in-Ok.tree.file in
+    let d = g.F.StoreFile.state c.read_attributes.new.file.file in
+    let e = c.args.entry.now in
+    let attributes = c.in-Ok-read_attributes.attributes.items in
+    let was = c.in-Ok.ensures in
+    let rests : Rests b d = subst (λ (t : TreeValue g.row.F.Denot). Rests (g.F.StoreFile.state t.file) d) c.new-file.ensures c.read_attributes.ensures.rests in
+    let front : Told b d → IsFront b.reads c.in-Ok.tree.key c.in-Ok.tree.tree attributes e.attributes =
+    subst (λ (t : TreeValue g.row.F.Denot). Told (g.F.StoreFile.state t.file) d → IsFront (g.F.StoreFile.state t.file).reads t.key t.tree attributes e.attributes) c.new-file.ensures
+    c.in-Ok-read_attributes.ensures.front in
+    let long : c.in-Ok.tree.tree.head.length ≡ 4096 + e.size =
+    subst (λ (t : TreeValue g.row.F.Denot). t.tree.head.length ≡ 4096 + e.size) c.new-file.ensures c.in-Ok-read_attributes.ensures.size in
+    let same : record c.in-Ok.tree { file = c.read_attributes.new.file.file } ≡ c.read_attributes.new.file =
+    sym (subst (λ (t : TreeValue g.row.F.Denot). c.read_attributes.new.file ≡ record t { file = c.read_attributes.new.file.file }) c.new-file.ensures c.read_attributes.ensures.same) in
+    mounted_held (record { tree = c.read_attributes.new.file; attributes = attributes }) c.args.tsk.now e a b d was.rests rests
+    (subst (λ (t : TreeValue g.row.F.Denot). Told a b → load_of b.reads (root_of e) ≡ Ok t.tree) same was.loaded)
+    (subst (λ (t : TreeValue g.row.F.Denot). IsVerified (root_of e) t.tree) same was.verified)
+    (subst (λ (t : TreeValue g.row.F.Denot). t.root ≡ root_of e) same was.root)
+    (subst (λ (t : TreeValue g.row.F.Denot). t.key ≡ unwrapped_of c.args.tsk.now t.tree.head.wrapped) same was.key)
+    (subst (λ (t : TreeValue g.row.F.Denot). t.tree.head.length ≡ 4096 + e.size) same long)
+    (subst (λ (t : TreeValue g.row.F.Denot). Told b d → IsFront b.reads t.key t.tree attributes e.attributes) same front)
+
+pub returns-in-Ok-read_attributes-clause-faultless : goal.returns-in-Ok-read_attributes-clause-faultless
+returns-in-Ok-read_attributes-clause-faultless g c told =
+    let d = g.F.StoreFile.state c.read_attributes.new.file.file in
+    let o : ObjectValue g.row.F.Denot = record { tree = c.read_attributes.new.file; attributes = c.in-Ok-read_attributes.attributes.items } in
+    sound_faultless c.args.tsk.now d.reads c.args.entry.now (held_in o d.reads) (returns-in-Ok-read_attributes-clause-object g c told)
+
+pub returns-in-Err-read_attributes-clause-damaged : goal.returns-in-Err-read_attributes-clause-damaged
+returns-in-Err-read_attributes-clause-damaged g c =
+    let a = g.F.StoreFile.state c.args.file in
+    let b = g.F.StoreFile.state c.in-Ok.tree.file in
+    let d = g.F.StoreFile.state c.read_attributes.new.file.file in
+    let e = c.args.entry.now in
+    let tree = c.in-Ok.tree in
+    let fault = c.in-Err-read_attributes.fault in
+    let rests : Rests b d = subst (λ (t : TreeValue g.row.F.Denot). Rests (g.F.StoreFile.state t.file) d) c.new-file.ensures c.read_attributes.ensures.rests in
+    let stands : PartFault tree.key tree.tree d e.size fault =
+    subst (λ (t : TreeValue g.row.F.Denot). PartFault t.key t.tree d e.size fault) c.new-file.ensures c.in-Err-read_attributes.ensures.fault in
+    rw (c.into_file-file.ensures)
+    (part_damaged c.args.tsk.now tree.key tree.tree e a b d c.in-Ok.ensures.rests rests c.in-Ok.ensures.loaded c.in-Ok.ensures.key fault stands)
