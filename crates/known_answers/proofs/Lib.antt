@@ -1,4 +1,6 @@
 pub mod Shapes
 pub mod Serving
 pub mod Pages
+pub mod Commas
 pub mod Forms
+pub mod DataBlocks

@@ -14,9 +14,11 @@ use Rattle.rpmb_frame.specs.Authentication.{mac_of}
 use Rattle.rpmb_card.specs.Card.{CardState, blank, card_after, card_answer}
 use Rattle.known_answers.specs.Lines.{hex_word, two_words, spaced}
 use Rattle.known_answers.specs.Trees.{tree_line, IsMadeLine}
+use Rattle.known_answers.specs.Entries.{entry_line}
+use Rattle.known_answers.specs.Objects.{object_line}
 use Rattle.known_answers.specs.declared.questions.Parts.{Parts}
 use Rattle.known_answers.specs.declared.questions.Question.{Question}
-use Rattle.known_answers.specs.declared.questions.Question.TheVariants.{Aes, AesInverse, Ghash, GcmSeal, GcmOpen, Hmac, Ssk, Tsk, DirTsk, RpmbKey, Wrap, Unwrap, FrameMac, FrameFields, Card, Tree, TreeMake}
+use Rattle.known_answers.specs.declared.questions.Question.TheVariants.{Aes, AesInverse, Ghash, GcmSeal, GcmOpen, Hmac, Ssk, Tsk, DirTsk, RpmbKey, Wrap, Unwrap, FrameMac, FrameFields, Card, Tree, TreeMake, Entry, Object}
 
 -- the fields of a frame, in their order
 abbrev pub fields_line : Frame → List ℕ
@@ -65,3 +67,5 @@ IsAnswer (FrameFields frame) line = line ≡ fields_line (frame_of frame)
 IsAnswer (Card first rest) line = line ≡ spaced (card_answers blank (first ∷ rest.items))
 IsAnswer (Tree tree) line = line ≡ tree_line tree
 IsAnswer (TreeMake tree) line = IsMadeLine tree line
+IsAnswer (Entry bytes) line = line ≡ entry_line bytes
+IsAnswer (Object object) line = line ≡ object_line object

@@ -2,10 +2,11 @@
 use Rattle.std.specs.Prelude.{ℕ, ◌≡◌, ◌<◌, List, [], ◌∷◌, codes, drop, length, slice_index_or}
 use Rattle.known_answers.specs.Words.{IsArray, IsArgument, IsNumber}
 use Rattle.known_answers.specs.declared.questions.Parts.{Parts}
+use Rattle.known_answers.specs.declared.questions.ObjectImage.{ObjectImage}
 use Rattle.known_answers.specs.declared.questions.TreeImage.{TreeImage}
 use Rattle.known_answers.specs.declared.questions.TreePages.{TreePages}
 use Rattle.known_answers.specs.declared.questions.Question.{Question}
-use Rattle.known_answers.specs.declared.questions.Question.TheVariants.{Aes, AesInverse, Ghash, GcmSeal, GcmOpen, Hmac, Ssk, Tsk, DirTsk, RpmbKey, Wrap, Unwrap, FrameMac, FrameFields, Card, Tree, TreeMake}
+use Rattle.known_answers.specs.declared.questions.Question.TheVariants.{Aes, AesInverse, Ghash, GcmSeal, GcmOpen, Hmac, Ssk, Tsk, DirTsk, RpmbKey, Wrap, Unwrap, FrameMac, FrameFields, Card, Tree, TreeMake, Entry, Object}
 
 -- a word, by its place in the line
 abbrev pub word_at : List (List ℕ) → ℕ → List ℕ
@@ -26,6 +27,10 @@ unfoldable pub IsTreeImage : List ℕ → List ℕ → List ℕ → List ℕ →
 IsTreeImage tsk hash version image t =
     IsArray tsk t.tsk × IsArray hash t.root.hash × IsNumber version t.root.version × IsArgument image t.image.items
 
+-- the three words are the key, the entry and the image
+unfoldable pub IsObjectImage : List ℕ → List ℕ → List ℕ → ObjectImage → Type 0
+IsObjectImage tsk entry image o = IsArray tsk o.tsk × IsArray entry o.entry × IsArgument image o.image.items
+
 -- the words are the key, the length and the pages
 unfoldable pub AreTreePages : List ℕ → List ℕ → List (List ℕ) → TreePages → Type 0
 AreTreePages tsk bytes pages t = IsArray tsk t.tsk × IsNumber bytes t.bytes × AreArrays pages t.pages.items
@@ -36,6 +41,9 @@ HasOne words name = words ≡ name ∷ word_at words 1 ∷ []
 
 abbrev pub HasTwo : List (List ℕ) → List ℕ → Type 0
 HasTwo words name = words ≡ name ∷ word_at words 1 ∷ word_at words 2 ∷ []
+
+abbrev pub HasThree : List (List ℕ) → List ℕ → Type 0
+HasThree words name = words ≡ name ∷ word_at words 1 ∷ word_at words 2 ∷ word_at words 3 ∷ []
 
 abbrev pub HasFour : List (List ℕ) → List ℕ → Type 0
 HasFour words name = words ≡ name ∷ word_at words 1 ∷ word_at words 2 ∷ word_at words 3 ∷ word_at words 4 ∷ []
@@ -83,3 +91,6 @@ Asks words (Tree tree) =
 Asks words (TreeMake tree) =
     (words ≡ codes "tree-make" ∷ word_at words 1 ∷ word_at words 2 ∷ drop 3 words)
     × AreTreePages (word_at words 1) (word_at words 2) (drop 3 words) tree
+Asks words (Entry bytes) = HasOne words (codes "entry") × IsArray (word_at words 1) bytes
+Asks words (Object object) =
+    HasThree words (codes "object") × IsObjectImage (word_at words 1) (word_at words 2) (word_at words 3) object

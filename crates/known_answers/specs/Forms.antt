@@ -42,6 +42,10 @@ are_parts key iv aad text = is_array 16 key && is_iv iv && is_argument aad && is
 unfoldable pub is_tree_image : (tsk hash version image : List ℕ) → Bool
 is_tree_image tsk hash version image = is_array 32 tsk && is_array 32 hash && is_version version && is_argument image
 
+-- the three words of an object's image
+unfoldable pub is_object_image : (tsk entry image : List ℕ) → Bool
+is_object_image tsk entry image = is_array 32 tsk && is_array 128 entry && is_argument image
+
 -- a length of at most 2^20, and the pages that a tree of so many bytes needs
 unfoldable pub has_its_pages : List ℕ → List (List ℕ) → Bool
 has_its_pages bytes pages =

@@ -1,6 +1,8 @@
 pub mod Files
 pub mod Lines
 pub mod Trees
+pub mod Entries
+pub mod Objects
 pub mod Answers
 pub mod Words
 pub mod Asks

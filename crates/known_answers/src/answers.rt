@@ -6,6 +6,8 @@ ghost use Rattle.aes_block.specs.InverseCipher.{inv_cipher};
 ghost use Rattle.known_answers.specs.Answers.{IsAnswer, IsOpenedLine, card_answers, fields_line, ghash_of, sealed_line};
 ghost use Rattle.known_answers.specs.Lines.{hex_word, spaced};
 
+use crate::entries::entry_line;
+use crate::objects::mounted_line;
 use crate::questions::{Parts, Question};
 use crate::trees::{made_tree, opened_tree};
 use crate::words::{push_word, two_words, word_of};
@@ -149,5 +151,7 @@ pub fn answer(alloc: Global, question: Question) -> Result<String, AllocError>
         }
         Question::Tree { tree } => opened_tree(alloc, tree),
         Question::TreeMake { tree } => made_tree(alloc, tree),
+        Question::Entry { bytes } => entry_line(alloc, &bytes),
+        Question::Object { object } => mounted_line(alloc, object),
     }
 }

@@ -2,12 +2,12 @@
 
 ghost use Rattle.std.specs.Prelude.{◌≡◌, ◌<◌, ◌&&◌, IfOk, IsFalse, IsTrue, MatchResult, map};
 ghost use Rattle.hex.specs.Hex.{decode_of};
-ghost use Rattle.known_answers.specs.Forms.{are_arrays, are_parts, has_its_pages, is_argument, is_array, is_number, is_tree_image, is_version};
+ghost use Rattle.known_answers.specs.Forms.{are_arrays, are_parts, has_its_pages, is_argument, is_array, is_number, is_object_image, is_tree_image, is_version};
 ghost use Rattle.known_answers.specs.declared.lines.Unreadable.TheVariants.{Form};
-ghost use Rattle.known_answers.specs.Asks.{AreArrays, AreParts, AreTreePages, Asks, IsTreeImage};
+ghost use Rattle.known_answers.specs.Asks.{AreArrays, AreParts, AreTreePages, Asks, IsObjectImage, IsTreeImage};
 ghost use Rattle.known_answers.specs.Words.{IsArgument, IsNumber, words_of};
 
-use crate::questions::{Argument, Parts, Question, TreeImage, TreePages};
+use crate::questions::{Argument, ObjectImage, Parts, Question, TreeImage, TreePages};
 use hex::{FromHex, FromHexError};
 use itoa::Buffer;
 use node_image::{RootRef, greatest_node};
@@ -153,6 +153,22 @@ fn tree_image_of(
     Ok(TreeImage { tsk, root, image })
 }
 
+#[tactic(auto, unfolding(crate::specs::Asks::IsObjectImage, crate::specs::Forms::is_object_image))]
+fn object_image_of(
+    alloc: Global,
+    tsk: &str,
+    entry: &str,
+    image: &str,
+) -> Result<ObjectImage, Unreadable>
+    ensures value { IfOk result (λ object. IsObjectImage tsk.now entry.now image.now object) }
+    ensures form { MatchResult result (λ _. IsTrue (is_object_image tsk.now entry.now image.now)) (λ e. e ≡ Form → IsFalse (is_object_image tsk.now entry.now image.now)) }
+{
+    let tsk = array_of(tsk)?;
+    let entry = array_of(entry)?;
+    let image = argument_of(alloc, image)?.bytes;
+    Ok(ObjectImage { tsk, entry, image })
+}
+
 #[tactic(auto, using(crate::proofs::Forms::number_in_decimal), unfolding(crate::specs::Asks::AreTreePages, crate::specs::Forms::has_its_pages))]
 fn tree_pages_of(
     alloc: Global,
@@ -241,6 +257,12 @@ fn question_of(alloc: Global, words: &[&str]) -> Result<Question, Unreadable>
         }),
         ["tree", tsk, hash, version, image] => Ok(Question::Tree {
             tree: tree_image_of(alloc, tsk, hash, version, image)?,
+        }),
+        ["entry", bytes] => Ok(Question::Entry {
+            bytes: array_of(bytes)?,
+        }),
+        ["object", tsk, entry, image] => Ok(Question::Object {
+            object: object_image_of(alloc, tsk, entry, image)?,
         }),
         _ => question_of_any_length(alloc, words),
     }

@@ -1,5 +1,5 @@
-//! Answers questions about the ciphers, the keys, the card and tree files, for comparison with answers from elsewhere: a
-//! line of standard input is one question, and a line of standard output its answer.
+//! Answers questions about the ciphers, the keys, the card, tree files, entries of the directory and their objects, for
+//! comparison with answers from elsewhere: a line of standard input is one question, and a line of standard output its answer.
 //!
 //! A line is a word and its arguments, one space apart. Each argument is bytes in hex, in either case,
 //! or `-` for none; a version and a length are numbers in decimal. Empty lines and lines that begin with `#` are passed over. A line that cannot be
@@ -10,7 +10,9 @@ use anyhow::Context;
 use lines::parse;
 
 mod answers;
+mod entries;
 mod lines;
+mod objects;
 mod questions;
 #[cfg(test)]
 mod tests;

@@ -45,6 +45,14 @@ pub struct TreePages {
     ghost all: { vec_len pages ≡ greatest_of bytes },
 }
 
+/// The bytes of an object's file, an entry of the directory, and the key of its application.
+#[derive(Drop)]
+pub struct ObjectImage {
+    pub tsk: [u8; 32],
+    pub entry: [u8; 128],
+    pub image: Vec<u8>,
+}
+
 /// A question.
 #[derive(Drop)]
 pub enum Question {
@@ -109,5 +117,11 @@ pub enum Question {
     },
     TreeMake {
         tree: TreePages,
+    },
+    Entry {
+        bytes: [u8; 128],
+    },
+    Object {
+        object: ObjectImage,
     },
 }

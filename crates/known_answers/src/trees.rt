@@ -18,8 +18,8 @@ use sha2::{Digest, Sha256};
 use std::alloc::{AllocError, Global};
 use tee_ports::{FileRig, Image, ListEntropy, StoreFile};
 
-// A file of these bytes.
-fn file_of(alloc: Global, bytes: Vec<u8>) -> Result<MemFile, AllocError>
+/// A file of these bytes.
+pub fn file_of(alloc: Global, bytes: Vec<u8>) -> Result<MemFile, AllocError>
     ensures { IfOk result (λ file. IsKept (file_state file) bytes.items) }
 {
     let mut file = MemFile::new(alloc);
