@@ -77,6 +77,7 @@ stage_then F state old new mid size A result sound rests passed staged =
       firm = then_firm a b c old.root old.tree rests goes staged.firm;
       keeps = keeps_then (Lies old.tree.nodes old.root.version) a b c (keeps_selected old.tree.nodes old.root.version a b (rest_keeps a b sound rests)) staged.keeps;
       loaded = loaded_then a b c old.root old.tree A result _ rests goes staged.loaded;
+      verified = staged.verified;
       cause = cause_then a b c A result rests.goes_on passed staged.cause;
     }
 
@@ -95,5 +96,11 @@ no_stage F state old mid size A fault sound idle rests cause =
       firm = rests_firm a b old.root old.tree rests;
       keeps = keeps_selected old.tree.nodes old.root.version a b (rest_keeps a b sound rests);
       loaded = tt;
+      verified = tt;
       cause = cause;
     }
+
+-- what follows where a fact holds, of an answer that succeeds
+pub ok_given : (A : Type 0) (result : Result A TreeFault) (P Q : Type 0) → P → OnOk result (P → Q) → OnOk result Q
+ok_given A (Ok done) P Q fact follows = follows fact
+ok_given A (Err fault) P Q fact follows = tt

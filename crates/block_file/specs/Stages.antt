@@ -7,7 +7,7 @@ use Rattle.node_image.specs.declared.node.RootRef.{RootRef}
 use Rattle.node_image.specs.Layout.{greatest_of}
 use Rattle.htree_file.specs.declared.fault.TreeFault.{TreeFault}
 use Rattle.htree_file.specs.Answers.{HasCause}
-use Rattle.htree_file.specs.Opening.{load_of}
+use Rattle.htree_file.specs.Opening.{IsVerified, load_of}
 use Rattle.htree_file.specs.Pages.{Opened, opened_of}
 use Rattle.htree_file.specs.Selected.{KeepsFirm, Lies}
 use Rattle.htree_file.specs.Standing.{Told}
@@ -28,16 +28,19 @@ pub record IsAfter (r : ByteRange) (left : List ℕ) (was now : Opened) : Type 0
   pub changed : IsChanged r (length now.pages) (page_at was.pages) (page_at now.pages)
   pub bytes : bytes_in now ≡ left
 
--- Under each key that wraps the file's: what the first reference opens to in the file before, the second opens to after,
--- changed.
-abbrev pub LeavesBytes : (key wrapped : List ℕ) → (before : List ℕ) → RootRef → (after : List ℕ) → RootRef → ByteRange → (change : List ℕ → List ℕ) → Type 0
-LeavesBytes key wrapped before root after next r change = (wrap : List ℕ) (was : Opened) → key ≡ unwrapped_of wrap wrapped
-    → opened_of wrap before root ≡ Ok was → (now : Opened) × (opened_of wrap after next ≡ Ok now) × IsAfter r (change (bytes_in was)) was now
+-- Under each key that wraps the file's: what the first reference opens to in the file before is changed so to what the second
+-- opens to in the file after.
+abbrev pub OpensChanged : (key wrapped : List ℕ) → (before : List ℕ) → RootRef → (after : List ℕ) → RootRef → (Changed : Opened → Opened → Type 0) → Type 0
+OpensChanged key wrapped before root after next Changed = (wrap : List ℕ) (was : Opened) → key ≡ unwrapped_of wrap wrapped
+    → opened_of wrap before root ≡ Ok was → (now : Opened) × (opened_of wrap after next ≡ Ok now) × Changed was now
 
--- The same, as a change of any bytes.
+-- it opens to the bytes after a change of that range
+abbrev pub LeavesBytes : (key wrapped : List ℕ) → (before : List ℕ) → RootRef → (after : List ℕ) → RootRef → ByteRange → (change : List ℕ → List ℕ) → Type 0
+LeavesBytes key wrapped before root after next r change = OpensChanged key wrapped before root after next (λ was now. IsAfter r (change (bytes_in was)) was now)
+
+-- it opens to pages that the change of that range rewrote
 abbrev pub LeavesRewritten : (key wrapped : List ℕ) → (before : List ℕ) → RootRef → (after : List ℕ) → RootRef → ByteRange → (at : ℕ) → (bytes : List ℕ) → (count : ℕ) → Type 0
-LeavesRewritten key wrapped before root after next r at bytes count = (wrap : List ℕ) (was : Opened) → key ≡ unwrapped_of wrap wrapped
-    → opened_of wrap before root ≡ Ok was → (now : Opened) × (opened_of wrap after next ≡ Ok now) × IsRewriting r at bytes count was now
+LeavesRewritten key wrapped before root after next r at bytes count = OpensChanged key wrapped before root after next (IsRewriting r at bytes count)
 
 -- What a stage of so many bytes answers: it is open, or the committed tree stands alone; the committed tree stays in every
 -- image.
@@ -51,4 +54,5 @@ pub record StageAnswer {F : Type 0} (state : F → FileState) (old new : TreeVal
   pub keeps : Keeps (Lies old.tree.nodes old.root.version) (state old.file) (state new.file)
   pub loaded : OnOk result (Told (state old.file) (state new.file) → load_of (state old.file).reads old.root ≡ Ok old.tree →
       IfSome new.stage (λ s. load_of (state new.file).reads s.root ≡ Ok s.tree))
+  pub verified : OnOk result (IfSome new.stage (λ s. IsVerified s.root s.tree))
   pub cause : HasCause (state old.file) (state new.file) result

@@ -1,15 +1,15 @@
 //! Changes of bytes.
 
-ghost use Rattle.std.specs.Prelude.{◌≡◌, ◌+◌, ◌<◌, ◌≤◌, ◌^◌, ℕ, [], length, max, min, true, None, IfErr, IfOk, IfSome, IsTrue, OnErr, OnOk, Result};
+ghost use Rattle.std.specs.Prelude.{◌≡◌, ◌+◌, ◌<◌, ◌≤◌, ◌^◌, ℕ, [], length, max, true, None, IfErr, IfSome, OnOk, Result};
 ghost use Rattle.disk_model.specs.Bytes.{after_resize, after_write};
 ghost use Rattle.disk_model.specs.Calls.{Rests};
-ghost use Rattle.node_image.specs.Layout.{greatest_of, is_sized};
+ghost use Rattle.node_image.specs.Layout.{greatest_of};
 ghost use Rattle.htree_file.specs.Answers.{HasCause};
 ghost use Rattle.htree_file.specs.Changes.{AreChanges, OpensAfter};
 ghost use Rattle.htree_file.specs.Making.{DrawCause, IsDeviceFault, NotEntropy};
 ghost use Rattle.htree_file.specs.Opening.{IsVerified, load_of};
 ghost use Rattle.htree_file.specs.Standing.{Told};
-ghost use Rattle.page_bytes.specs.Ranges.{end_block, first_block, needs, resize_range, write_range};
+ghost use Rattle.page_bytes.specs.Ranges.{needs, resize_range, write_range};
 ghost use Rattle.page_bytes.specs.Rewriting.{Fits};
 ghost use Rattle.block_file.specs.NewPages.{NeededAnswer, NewPageAnswer, NewPagesAnswer, Reaches};
 ghost use Rattle.block_file.specs.Reads.{BlocksAnswer, IsBadTag, IsChangeFault};

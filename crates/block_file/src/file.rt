@@ -1,18 +1,15 @@
 //! Bytes over a tree.
 
-ghost use Rattle.std.specs.Prelude.{◌≡◌, ◌+◌, ◌-◌, ◌*◌, ◌<◌, ◌≤◌, ◌++◌, ℕ, [], length, drop, get_or, max, min, true, None, IfErr, IfOk, IfSome, IsSome, IsSomeAnd, IsTrue, OnErr, OnOk, Result};
-ghost use Rattle.disk_model.specs.Bytes.{after_resize, after_write};
+ghost use Rattle.std.specs.Prelude.{◌≡◌, ◌+◌, ◌-◌, ◌<◌, ◌≤◌, ◌++◌, length, drop, min, true, None, IfErr, IfOk, IfSome, IsSome, IsSomeAnd, IsTrue, OnErr, OnOk, Result};
 ghost use Rattle.disk_model.specs.Calls.{Known, Rests};
 ghost use Rattle.disk_model.specs.Keeps.{Anywhere, Keeps};
-ghost use Rattle.node_image.specs.Layout.{greatest_of};
 ghost use Rattle.htree_file.specs.Answers.{HasCause, IsFailed};
-ghost use Rattle.htree_file.specs.Making.{DrawCause, NotEntropy};
 ghost use Rattle.htree_file.specs.Opening.{IsVerified, load_of};
 ghost use Rattle.htree_file.specs.Pages.{page_in};
 ghost use Rattle.htree_file.specs.Selected.{KeepsFirm};
 ghost use Rattle.htree_file.specs.Standing.{IsFirm, Told};
 ghost use Rattle.page_bytes.specs.Pages.{bytes_from};
-ghost use Rattle.page_bytes.specs.Ranges.{meets, needs, read_range, resize_range, write_range};
+ghost use Rattle.page_bytes.specs.Ranges.{meets};
 ghost use Rattle.block_file.specs.Parts.{PageAnswer, PartAnswer};
 ghost use Rattle.block_file.specs.Reads.{AreBytes, BlocksAnswer, IsReadFault};
 

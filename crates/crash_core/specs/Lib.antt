@@ -1,1 +1,2 @@
 pub mod MountedObject
+pub mod Laws

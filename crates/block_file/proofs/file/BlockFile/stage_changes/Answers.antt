@@ -1,3 +1,4 @@
+use Rattle.block_file.proofs.StageAfterReads.{ok_given}
 use Rattle.block_file.proofs.file.BlockFile.stage_changes.Goals as goal
 
 pub returns-clause-staged : goal.returns-clause-staged
@@ -9,5 +10,6 @@ returns-clause-staged g c = rw (← c.self.view_is) (record {
   firm = c.stage.ensures.firm;
   keeps = c.stage.ensures.keeps;
   loaded = c.stage.ensures.loaded;
+  verified = ok_given (Unit {0}) c.stage.result _ _ c.self.invariant.0 c.stage.ensures.verified;
   cause = c.stage.ensures.cause;
 })
