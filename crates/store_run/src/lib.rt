@@ -9,8 +9,6 @@ mod playing;
 mod printing;
 mod reading;
 mod status;
-#[cfg(test)]
-mod tests;
 mod whole;
 mod writing;
 
