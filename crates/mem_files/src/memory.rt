@@ -47,6 +47,20 @@ impl MemFile {
         }
     }
 
+    /// How many calls were made since the last arming.
+    pub fn calls(&self) -> u64
+        ensures { result ≡ (file_state self.now).arms.calls }
+    {
+        self.calls
+    }
+
+    /// How many bytes were written.
+    pub fn written(&self) -> u64
+        ensures { result ≡ (file_state self.now).written }
+    {
+        self.written
+    }
+
     // Counts a call, before which masks strike.
     fn count(&mut self)
         ensures { file_state self.new ≡ begun (file_state self.old) }
