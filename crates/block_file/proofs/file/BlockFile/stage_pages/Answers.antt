@@ -1,5 +1,4 @@
-use Rattle.block_file.proofs.StageAfterReads.{ok_given}
-use Rattle.block_file.proofs.file.BlockFile.stage_changes.Goals as goal
+use Rattle.block_file.proofs.file.BlockFile.stage_pages.Goals as goal
 
 pub returns-clause-staged : goal.returns-clause-staged
 returns-clause-staged g c = rw (← c.self.view_is) (record {
@@ -9,7 +8,8 @@ returns-clause-staged g c = rw (← c.self.view_is) (record {
   same = c.stage.ensures.same;
   firm = c.stage.ensures.firm;
   keeps = c.stage.ensures.keeps;
+  unsettled = c.stage.ensures.unsettled;
   loaded = c.stage.ensures.loaded;
-  verified = ok_given (Unit {0}) c.stage.result _ _ c.self.invariant.0 c.stage.ensures.verified;
-  cause = c.stage.ensures.cause;
+  verified = c.stage.ensures.verified;
+  spares = c.stage.ensures.spares;
 })
