@@ -1,7 +1,6 @@
 // Bytes over a tree, step by step.
 
 ghost use Rattle.std.specs.Prelude.{◌≡◌, ◌≤◌, length, None, IfOk, IsSome, OnErr, OnOk};
-ghost use Rattle.htree_file.specs.Opening.{IsVerified};
 
 use crate::arms::Arm;
 use crate::change::{Change, new_bytes};
@@ -21,7 +20,7 @@ pub fn load_tree(
     named: &Named,
 ) -> Result<Tree<MemFile>, Broken<MemFile>>
     ensures idle { IfOk result (λ tree. tree.stage ≡ None) }
-    ensures verified { IfOk result (λ tree. IsVerified tree.root tree.tree) }
+    ensures few { IfOk result (λ tree. 1 ≤ tree.tree.head.greatest) }
 {
     let named = *named;
     Tree::load(alloc, file, &TSK, named.root)

@@ -7,7 +7,7 @@ use crate::outcome::Tally;
 use crate::trees::Step;
 use crate::trials::Trial;
 use crate::work::Work;
-use crate::{bad_blocks, files, masks, ranges};
+use crate::{bad_blocks, files, masks, passed_on, ranges, roots};
 use std::alloc::Global;
 
 /// What a scenario tries.
@@ -37,6 +37,10 @@ enum Tries {
     Writes,
     /// Lengths at the edges of blocks.
     Sizes,
+    /// References, beside another program's.
+    Roots,
+    /// Arms that a tree passes on.
+    PassedOn,
 }
 
 /// A scenario.
@@ -47,7 +51,7 @@ pub struct Scenario {
 }
 
 /// All scenarios, in the order of the table.
-pub const ALL: [Scenario; 26] = [
+pub const ALL: [Scenario; 28] = [
     Scenario {
         name: "a file: written, cut, written past its end",
         tries: Tries::File,
@@ -141,6 +145,14 @@ pub const ALL: [Scenario; 26] = [
         tries: Tries::Sizes,
     },
     Scenario {
+        name: "references that another program gives",
+        tries: Tries::Roots,
+    },
+    Scenario {
+        name: "arms that trees and their bytes pass on",
+        tries: Tries::PassedOn,
+    },
+    Scenario {
         name: "changes of an object with a bad block",
         tries: Tries::BadBlocks,
     },
@@ -200,6 +212,8 @@ impl Scenario {
             Tries::BadBlocks => bad_blocks::tally(alloc),
             Tries::Writes => ranges::tally_writes(alloc),
             Tries::Sizes => ranges::tally_sizes(alloc),
+            Tries::Roots => roots::tally(alloc),
+            Tries::PassedOn => passed_on::tally(alloc),
         }
     }
 }

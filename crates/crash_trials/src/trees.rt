@@ -1,13 +1,13 @@
-// Trees, step by step.
+// Whole blocks of a tree, step by step.
 
 ghost use Rattle.std.specs.Prelude.{◌≡◌, ◌≤◌, length, None, IfOk, IsSome, OnErr, OnOk};
-ghost use Rattle.htree_file.specs.Opening.{IsVerified};
 
 use crate::arms::Arm;
-use crate::blocks::load_tree;
+use crate::blocks::load;
 use crate::change::{Change, new_byte};
 use crate::named::Named;
-use htree_file::{BlockChange, Page, Tree, TreeFault};
+use block_file::BlockFile;
+use htree_file::{BlockChange, Page, TreeFault};
 use mem_files::MemFile;
 use node_image::{RootRef, greatest_node};
 use std::alloc::Global;
@@ -61,41 +61,43 @@ impl Step {
     }
 }
 
-fn stage_page(tree: &mut Tree<MemFile>, entropy: &mut ListEntropy) -> Result<(), TreeFault>
+fn stage_page(tree: &mut BlockFile<MemFile>, entropy: &mut ListEntropy) -> Result<(), TreeFault>
     requires { (tree.old.stage ≡ None) × (tree.old.tree.head.greatest ≡ 5) }
     ensures open { OnOk result (IsSome tree.new.stage) }
 {
     let changes = [change(1)];
-    tree.stage(20_480, &changes, entropy)
+    tree.stage_pages(20_480, &changes, entropy)
 }
 
-fn stage_growth(tree: &mut Tree<MemFile>, entropy: &mut ListEntropy) -> Result<(), TreeFault>
+fn stage_growth(tree: &mut BlockFile<MemFile>, entropy: &mut ListEntropy) -> Result<(), TreeFault>
     requires { (tree.old.stage ≡ None) × (tree.old.tree.head.greatest ≡ 3) }
     ensures open { OnOk result (IsSome tree.new.stage) }
 {
     let changes = [change(1), change(2), change(3), change(4)];
-    tree.stage(20_480, &changes, entropy)
+    tree.stage_pages(20_480, &changes, entropy)
 }
 
-fn stage_cut(tree: &mut Tree<MemFile>, entropy: &mut ListEntropy) -> Result<(), TreeFault>
+fn stage_cut(tree: &mut BlockFile<MemFile>, entropy: &mut ListEntropy) -> Result<(), TreeFault>
     requires { (tree.old.stage ≡ None) × (tree.old.tree.head.greatest ≡ 5) }
     ensures open { OnOk result (IsSome tree.new.stage) }
 {
-    tree.stage(100, &[], entropy)
+    tree.stage_pages(100, &[], entropy)
 }
 
 // How many blocks the tree has.
-fn block_count(tree: &Tree<MemFile>) -> u32
-    requires { IsVerified tree.now.root tree.now.tree }
+fn block_count(tree: &BlockFile<MemFile>) -> u32
     ensures { result ≡ tree.now.tree.head.greatest }
 {
     greatest_node(tree.length())
 }
 
 // Stages a step. A tree with another number of blocks is refused as if memory ran out.
-fn stage(tree: &mut Tree<MemFile>, step: Step, entropy: &mut ListEntropy) -> Result<(), TreeFault>
-    requires idle { tree.old.stage ≡ None }
-    requires verified { IsVerified tree.old.root tree.old.tree }
+fn stage(
+    tree: &mut BlockFile<MemFile>,
+    step: Step,
+    entropy: &mut ListEntropy,
+) -> Result<(), TreeFault>
+    requires { tree.old.stage ≡ None }
     ensures open { OnOk result (IsSome tree.new.stage) }
 {
     let blocks = block_count(tree);
@@ -108,9 +110,8 @@ fn stage(tree: &mut Tree<MemFile>, step: Step, entropy: &mut ListEntropy) -> Res
 }
 
 // Stages a step, settles it, and makes it what is committed.
-fn commit(tree: &mut Tree<MemFile>, step: Step, arm: Arm) -> Result<RootRef, TreeFault>
-    requires idle { tree.old.stage ≡ None }
-    requires verified { IsVerified tree.old.root tree.old.tree }
+fn commit(tree: &mut BlockFile<MemFile>, step: Step, arm: Arm) -> Result<RootRef, TreeFault>
+    requires { tree.old.stage ≡ None }
 {
     let mut entropy = arm.entropy();
     stage(tree, step, &mut entropy)?;
@@ -127,7 +128,7 @@ pub fn changed(
     step: Step,
     arm: Arm,
 ) -> (MemFile, Option<Named>) {
-    let mut tree = match load_tree(alloc, file, named) {
+    let mut tree = match load(alloc, file, named) {
         Ok(tree) => tree,
         Err(broken) => return (broken.file, None),
     };
