@@ -1,5 +1,5 @@
 -- What an object holds, by the object that its reference names.
-use Rattle.std.proofs.Common.{◌≡◌, ◌+◌, ◌-◌, ◌==◌, ℕ, Bool, true, false, cond, List, length, Option, Some, None, Result, Ok, Err, IfSome, OnOk, refl, sym, ap, ◌∙◌, arith}
+use Rattle.std.proofs.Common.{◌≡◌, ◌+◌, ◌-◌, ◌==◌, ℕ, Bool, true, false, cond, List, length, Option, Some, None, Result, Ok, Err, IfSome, OnOk, sym, ap, ◌∙◌, arith}
 use Rattle.aes_block.specs.WrappedKey.{unwrapped_of}
 use Rattle.disk_model.specs.State.{FileState}
 use Rattle.node_image.specs.Layout.{greatest_of}

@@ -8,11 +8,10 @@ use Rattle.block_file.specs.Stages.{LeavesRewritten, StageAnswer}
 use Rattle.block_file.proofs.StageRewrites.{AreChanges-made, blocks_forward, blocks_read, leaves_rewritten, rewritten_then, seals_range, writes_range}
 use Rattle.htree_file.proofs.Sizes.{sized_greatest}
 use Rattle.htree_file.specs.Opening.{load_of}
-use Rattle.disk_model.specs.Calls.{Known, Rests}
-use Rattle.htree_file.specs.Making.{HasCauses, IsDeviceFault}
+use Rattle.disk_model.specs.Calls.{Known}
 use Rattle.page_bytes.specs.declared.range.ByteRange.{ByteRange}
 use Rattle.page_bytes.specs.Ranges.{end_block}
-use Rattle.block_file.proofs.StageAfterReads.{causes_then, early_causes, err_then, no_stage, not_early, stage_then}
+use Rattle.block_file.proofs.StageAfterReads.{causes_then, no_stage, stage_then}
 use Rattle.block_file.proofs.file.BlockFile.stage_range.Goals as goal
 
 pub returns-in_err-changes-clause-staged : goal.returns-in_err-changes-clause-staged
