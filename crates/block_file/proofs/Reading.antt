@@ -1,5 +1,5 @@
 -- Pages that were read, in the course of further calls.
-use Rattle.std.proofs.Common.{◌≡◌, ◌∙◌, ℕ, ◌+◌, ◌-◌, ◌*◌, ◌/◌, ◌%◌, ◌<◌, ◌≤◌, ◌==◌, suc, cond, List, [], ◌++◌, length, get_or, drop, min, Option, None, Some, Bool, true, inl, inr, Err, IsTrue, ap, sym, subst, arith, length-append, length-drop}
+use Rattle.std.proofs.Common.{◌≡◌, ◌∙◌, ℕ, ◌+◌, ◌-◌, ◌*◌, ◌/◌, ◌%◌, ◌<◌, ◌≤◌, ◌==◌, suc, cond, List, [], ◌++◌, length, get_or, drop, min, ◌&&◌, nat_le, nat_lt, if◌then◌else◌, Option, None, Some, Bool, true, inl, inr, Result, Ok, Err, IsTrue, ap, sym, subst, arith, length-append, length-drop}
 use Rattle.std.proofs.lemmas.Bool.{cases_lt, cond-false, cond-true, eq-eqb, false≢true, ne_eqb}
 use Rattle.std.proofs.lemmas.Grind.{same_number_lists}
 use Rattle.std.proofs.lemmas.List.{get_or_append_left, get_or-append_right, get_or-drop}
@@ -16,11 +16,13 @@ use Rattle.page_bytes.specs.declared.range.ByteRange.{ByteRange}
 use Rattle.page_bytes.specs.Pages.{byte_at, byte_in, bytes_from}
 use Rattle.page_bytes.specs.Ranges.{end_block, first_block, meets, read_range}
 use Rattle.page_bytes.specs.Rewriting.{given_byte}
+use borrow.Rule.Slice.PartMut.{put_mid}
+use Rattle.page_bytes.proofs.Laying.{byte-put}
 use Rattle.page_bytes.proofs.Content.{get_or-bytes_from, length-bytes_from, not-meets-before, not-meets-behind}
 use Rattle.htree_file.specs.declared.fault.TreeFault.{TreeFault}
 use Rattle.htree_file.specs.declared.fault.TreeFault.TheVariants.{BadHead, BadTag, Damaged, Failed, NoEntropy, NoMemory, Short}
 use Rattle.block_file.specs.Reads.{AreBytes, BlocksAnswer, IsBad, IsPage, WasRead, after_calls, blocks_of}
-use Rattle.block_file.specs.Parts.{AreRead, IsGiven, PartAnswer}
+use Rattle.block_file.specs.Parts.{AreRead, IsGiven, KeepsBehind, PageAnswer, PartAnswer}
 
 -- what is told and followed to the end is so up to a point between
 pub told_first : (a b c : FileState) → GoesOn b c → Told a c → Told a b
@@ -101,9 +103,9 @@ part_blocks key tree a b c asked r k before after A B (Damaged n want found) goe
 part_blocks key tree a b c asked r k before after A B (NoEntropy count) goes is earlier answer = tt
 part_blocks key tree a b c asked r k before after A B NoMemory goes is earlier answer = tt
 
--- and what it was to be read into stays
+-- and what lies behind the range stays
 pub part_kept : (key : List ℕ) (tree : Loaded) (b c : FileState) (r : ByteRange) (k : ℕ) (before after : List ℕ) (A : Type 0) (e : TreeFault)
-    → PartAnswer key tree b c r k before after {A = A} (Err e) → after ≡ before
+    → PartAnswer key tree b c r k before after {A = A} (Err e) → KeepsBehind r before after
 part_kept key tree b c r k before after A (BadTag bad want found) answer = answer.2
 part_kept key tree b c r k before after A (Failed count) answer = answer
 part_kept key tree b c r k before after A (BadHead long greatest) answer = absurd answer
@@ -217,3 +219,38 @@ pub all_calls : (old new : Arms) (r s : ByteRange) (k : ℕ) → r ≡ s → end
 all_calls old new r s k is past within calls =
     let all : k - first_block r ≡ blocks_of r = omega (arith, past, within (blocks_in_order r)) in
     calls ∙ ap (λ (n : ℕ). after_calls n old) all ∙ ap (λ (x : ByteRange). after_calls (blocks_of x) old) is
+
+-- a page in the midst of other bytes
+module _ (r : ByteRange) (k : ℕ) (before page : List ℕ) (low : r.first ≤ 4096 * k) (high : 4096 * (k + 1) ≤ r.last) (room : r.last ≤ r.first + length before) (long : length page ≡ 4096) where
+  abbrev begin : ℕ
+  begin = 4096 * k - r.first
+
+  put : (i : ℕ) → get_or (put_mid begin 4096 before page) i 0 ≡ if nat_le begin i && nat_lt i (begin + 4096) then get_or page (i - begin) 0 else get_or before i 0
+  put i = byte-put before page begin 4096 i (omega (arith, low, high, room)) long
+
+  page_given : (i : ℕ) → get_or (put_mid begin 4096 before page) i 0 ≡ given_byte r k page i (get_or before i 0)
+  page_given i = elim (cases_lt i begin) [
+    | inl early ↦ grind (arith, put i, early, low, high)
+    | inr from ↦ elim (cases_lt i (begin + 4096)) [
+      | inl within ↦
+          let place : i - begin ≡ r.first + i - 4096 * k = omega (arith, low, from) in
+          let here : get_or page (i - begin) 0 ≡ get_or page (r.first + i - 4096 * k) 0 = ap (λ (n : ℕ). get_or page n 0) place in
+          grind (arith, put i, from, within, low, high, here)
+      | inr late ↦ grind (arith, put i, late, low, high)
+    ]
+  ]
+
+  page_behind : KeepsBehind r before (put_mid begin 4096 before page)
+  page_behind i behind = grind (arith, put i, behind, low, high)
+
+  -- a block that was read where its bytes belong
+  pub part_inside : (key : List ℕ) (tree : Loaded) (b c : FileState) (A : Type 0) (result : Result A TreeFault) → PageAnswer key tree b c k result page
+      → PartAnswer key tree b c r k before (put_mid begin 4096 before page) result
+  part_inside key tree b c A (Ok done) answer = record { page = page; read = answer; given = page_given }
+  part_inside key tree b c A (Err (BadTag bad want found)) answer = (answer.0, answer.1, page_behind)
+  part_inside key tree b c A (Err (Failed count)) answer = page_behind
+  part_inside key tree b c A (Err (BadHead h g)) answer = absurd answer
+  part_inside key tree b c A (Err (Short end need)) answer = absurd answer
+  part_inside key tree b c A (Err (Damaged n want found)) answer = absurd answer
+  part_inside key tree b c A (Err (NoEntropy count)) answer = absurd answer
+  part_inside key tree b c A (Err NoMemory) answer = absurd answer

@@ -1,5 +1,5 @@
 -- What reading one block answers.
-use Rattle.std.specs.Prelude.{◌≡◌, ℕ, ◌+◌, ◌-◌, ◌*◌, ◌/◌, ◌%◌, ◌<◌, List, get_or, true, Result, Ok, Err}
+use Rattle.std.specs.Prelude.{◌≡◌, ℕ, ◌+◌, ◌-◌, ◌*◌, ◌/◌, ◌%◌, ◌<◌, ◌≤◌, List, get_or, true, Result, Ok, Err}
 use Rattle.disk_model.specs.State.{FileState}
 use Rattle.htree_file.specs.declared.fault.TreeFault.{TreeFault}
 use Rattle.htree_file.specs.declared.fault.TreeFault.TheVariants.{BadTag, Failed}
@@ -22,10 +22,14 @@ pub record IsGiven (key : List ℕ) (tree : Loaded) (old new : FileState) (r : B
   pub read : IsPage key tree old new k page
   pub given : (i : ℕ) → get_or after i 0 ≡ given_byte r k page i (get_or before i 0)
 
+-- what lies behind the bytes of a range stays
+abbrev pub KeepsBehind : ByteRange → (before after : List ℕ) → Type 0
+KeepsBehind r before after = (i : ℕ) → r.last - r.first ≤ i → get_or after i 0 ≡ get_or before i 0
+
 abbrev pub PartAnswer : (key : List ℕ) → Loaded → (old new : FileState) → ByteRange → (k : ℕ) → (before after : List ℕ) → {A : Type 0} → Result A TreeFault → Type 0
 PartAnswer key tree old new r k before after (Ok answer) = IsGiven key tree old new r k before after
-PartAnswer key tree old new r k before after (Err (BadTag bad want found)) = (bad ≡ k) × IsBad key tree new k want found × (after ≡ before)
-PartAnswer key tree old new r k before after (Err (Failed count)) = after ≡ before
+PartAnswer key tree old new r k before after (Err (BadTag bad want found)) = (bad ≡ k) × IsBad key tree new k want found × KeepsBehind r before after
+PartAnswer key tree old new r k before after (Err (Failed count)) = KeepsBehind r before after
 PartAnswer key tree old new r k before after (Err fault) = ⊥
 
 -- The bytes of a range that the blocks before one have were read: each of these blocks as one page.

@@ -1,6 +1,6 @@
 //! Bytes over a tree.
 
-ghost use Rattle.std.specs.Prelude.{◌≡◌, ◌+◌, ◌-◌, ◌<◌, ◌≤◌, ◌++◌, length, drop, min, true, None, IfErr, IfOk, IfSome, IsSome, IsSomeAnd, IsTrue, OnErr, OnOk, Result};
+ghost use Rattle.std.specs.Prelude.{◌≡◌, ◌+◌, ◌-◌, ◌*◌, ◌<◌, ◌≤◌, ◌++◌, length, drop, min, true, None, IfErr, IfOk, IfSome, IsSome, IsSomeAnd, IsTrue, OnErr, OnOk, Result};
 ghost use Rattle.disk_model.specs.Arms.{count_call};
 ghost use Rattle.disk_model.specs.Calls.{Known, Rests, Syncs};
 ghost use Rattle.disk_model.specs.Keeps.{Anywhere, Keeps};
@@ -64,8 +64,37 @@ impl<F: StoreFile> BlockFile<F> {
         self.tree.read_block(k, page)
     }
 
-    // Reads block k, and puts those of its bytes that are in the range where they belong.
-    fn read_part(&mut self, range: ByteRange, k: u32, into: &mut [u8]) -> Result<(), TreeFault>
+    // Reads block k into as many bytes as a block has.
+    fn read_whole(&mut self, k: u32, into: &mut [u8]) -> Result<(), TreeFault>
+        requires block { k < self.old.tree.head.greatest }
+        requires long { length into.old ≡ 4096 }
+        ensures answer { PageAnswer self.old.key self.old.tree (F.state self.old.file) (F.state self.new.file) k result into.new }
+        ensures once { IsTrue (F.state self.old.file).tells_arms → (F.state self.new.file).arms ≡ count_call (F.state self.old.file).arms }
+        ensures same { self.new ≡ record self.old { file = self.new.file } }
+        ensures rests { Rests (F.state self.old.file) (F.state self.new.file) }
+        ensures cause { HasCause (F.state self.old.file) (F.state self.new.file) result }
+    {
+        let page = into.first_chunk_mut::<4096>().unwrap();
+        self.read_page(k, page)
+    }
+
+    // Reads block k, of which all bytes are in the range, where they belong.
+    fn read_inside(&mut self, range: ByteRange, k: u32, into: &mut [u8]) -> Result<(), TreeFault>
+        requires block { k < self.old.tree.head.greatest }
+        requires room { range.last ≤ range.first + length into.old }
+        requires whole { (range.first ≤ 4096 * k) × (4096 * (k + 1) ≤ range.last) }
+        ensures answer { PartAnswer self.old.key self.old.tree (F.state self.old.file) (F.state self.new.file) range k into.old into.new result }
+        ensures once { IsTrue (F.state self.old.file).tells_arms → (F.state self.new.file).arms ≡ count_call (F.state self.old.file).arms }
+        ensures same { self.new ≡ record self.old { file = self.new.file } }
+        ensures rests { Rests (F.state self.old.file) (F.state self.new.file) }
+        ensures cause { HasCause (F.state self.old.file) (F.state self.new.file) result }
+    {
+        let begin = (4096 * u64::from(k) - range.first) as usize;
+        self.read_whole(k, &mut into[begin..begin + 4096])
+    }
+
+    // Reads block k, and copies those of its bytes that are in the range where they belong.
+    fn read_split(&mut self, range: ByteRange, k: u32, into: &mut [u8]) -> Result<(), TreeFault>
         requires block { k < self.old.tree.head.greatest }
         requires room { range.last ≤ range.first + length into.old }
         ensures answer { PartAnswer self.old.key self.old.tree (F.state self.old.file) (F.state self.new.file) range k into.old into.new result }
@@ -80,8 +109,25 @@ impl<F: StoreFile> BlockFile<F> {
         Ok(())
     }
 
+    // Reads block k, and puts those of its bytes that are in the range where they belong.
+    fn read_part(&mut self, range: ByteRange, k: u32, into: &mut [u8]) -> Result<(), TreeFault>
+        requires block { k < self.old.tree.head.greatest }
+        requires room { range.last ≤ range.first + length into.old }
+        ensures answer { PartAnswer self.old.key self.old.tree (F.state self.old.file) (F.state self.new.file) range k into.old into.new result }
+        ensures once { IsTrue (F.state self.old.file).tells_arms → (F.state self.new.file).arms ≡ count_call (F.state self.old.file).arms }
+        ensures same { self.new ≡ record self.old { file = self.new.file } }
+        ensures rests { Rests (F.state self.old.file) (F.state self.new.file) }
+        ensures cause { HasCause (F.state self.old.file) (F.state self.new.file) result }
+    {
+        if range.has_whole(k) {
+            self.read_inside(range, k, into)
+        } else {
+            self.read_split(range, k, into)
+        }
+    }
+
     /// Reads bytes from the place `at` on into the front of `into`, fewer where the end is nearer, and says how many.
-    /// It reads each block that has one of these bytes, once. Takes no memory.
+    /// It reads each block that has one of these bytes, once, and deciphers a whole one where its bytes belong. Takes no memory.
     ///
     /// # Errors
     ///

@@ -1,4 +1,4 @@
-use Rattle.std.proofs.Common.{rules, ◌≡◌, ◌∙◌, ◌+◌, ◌-◌, ℕ, Bool, IsTrue, Err, true, length, drop, get_or, min, ap, sym, subst, refl, arith}
+use Rattle.std.proofs.Common.{rules, ◌≡◌, ◌∙◌, ◌+◌, ◌-◌, ℕ, Bool, IsTrue, Err, true, length, get_or, min, ap, sym, subst, refl, arith}
 use Rattle.std.proofs.lemmas.Result.{err_from_is_err_and}
 use Rattle.page_bytes.specs.Ranges.{first_block, meets, read_range}
 use Rattle.htree_file.specs.Pages.{page_in}
@@ -20,7 +20,7 @@ returns-in_err-read_part-clause-blocks g c =
     let count : ℕ = min (length c.args.into.now) (tree.tree.head.length - at) in
     let is = c.of_read-range.ensures ∙ ap (λ (n : ℕ). read_range n at (length c.args.into.now)) c.length.ensures.length in
     let same : (j : ℕ) → meets at (at + count) j ≡ meets r.first r.last j = λ j. range_meets r tree.tree.head.length at (length c.args.into.now) j is in
-    let met : meets r.first r.last k ≡ true = meets-blocks r k (omega (arith, c.first_block-k.ensures, c.loop-k.auto.k)) (omega (arith, c.end_block-k-end.ensures, c.loop-k-test.true)) in
+    let met : meets r.first r.last k ≡ true = meets-blocks r k (omega (arith, c.first_block-k.ensures, c.loop-k.auto.k)) (omega (arith, c.end_block-k-end.ensures.value, c.loop-k-test.true)) in
     let before = c.loop-k.invariant in
     let answer : PartAnswer tree.key tree.tree b new r k c.loop-k.into c.read_part.new.into {A = Unit {0}} (Err c.in_err-read_part.field-0.0) =
     subst (λ t. PartAnswer t.key t.tree b new r k c.loop-k.into c.read_part.new.into {A = Unit {0}} (Err c.in_err-read_part.field-0.0)) before.same c.in_err-read_part.ensures.answer in
@@ -34,10 +34,10 @@ returns-in_err-read_part-clause-rest g c =
     let new = g.F.StoreFile.state c.read_part.new.self.file in
     let at : ℕ = c.args.at in
     let r = c.of_read-range.result in
-    let kept : c.read_part.new.into ≡ c.loop-k.into = part_kept c.loop-k.self.key c.loop-k.self.tree b new r c.loop-k.k c.loop-k.into c.read_part.new.into (Unit {0}) c.in_err-read_part.field-0.0 c.in_err-read_part.ensures.answer in
-    let is = c.of_read-range.ensures ∙ ap (λ (n : ℕ). read_range n at (length c.args.into.now)) c.length.ensures.length in
-    let counted = range_count r c.args.self.now.tree.head.length at (length c.args.into.now) is in
-    ap (drop (min (length c.args.into.now) (c.args.self.now.tree.head.length - at))) kept ∙ rw (← counted) (read_rest (r.last - r.first) c.loop-k.into c.args.into.now c.loop-k.auto.into c.loop-k.invariant.rest)
+    let kept = part_kept c.loop-k.self.key c.loop-k.self.tree b new r c.loop-k.k c.loop-k.into c.read_part.new.into (Unit {0}) c.in_err-read_part.field-0.0 c.in_err-read_part.ensures.answer in
+    let is = c.of_read-range.ensures ∙ ap (λ (n : ℕ). read_range n c.args.at (length c.args.into.now)) c.length.ensures.length in
+    let counted = range_count r c.args.self.now.tree.head.length c.args.at (length c.args.into.now) is in
+    rw (← counted) (read_rest (r.last - r.first) c.read_part.new.into c.args.into.now (c.read_part.auto.into ∙ c.loop-k.auto.into) (λ i behind. kept i behind ∙ c.loop-k.invariant.rest i behind))
 
 pub loop-k-preserved : goal.loop-k-preserved
 loop-k-preserved g c =
@@ -78,15 +78,15 @@ returns-clause-bytes g c =
     let tree = c.args.self.now in
     let is = c.of_read-range.ensures ∙ ap (λ (n : ℕ). read_range n c.args.at (length c.args.into.now)) c.length.ensures.length in
     all_read tree.key tree.tree (g.F.StoreFile.state tree.file) (g.F.StoreFile.state c.loop-k.self.file) c.of_read-range.result tree.tree.head.length c.args.at (length c.args.into.now)
-    c.loop-k.k c.loop-k.into is (omega (arith, c.end_block-k-end.ensures, c.loop-k-test.false)) c.loop-k.invariant.read
+    c.loop-k.k c.loop-k.into is (omega (arith, c.end_block-k-end.ensures.value, c.loop-k-test.false)) c.loop-k.invariant.read
 
 pub returns-clause-once : goal.returns-clause-once
 returns-clause-once g c tells =
     let tree = c.args.self.now in
     let is = c.of_read-range.ensures ∙ ap (λ (n : ℕ). read_range n c.args.at (length c.args.into.now)) c.length.ensures.length in
     all_calls (g.F.StoreFile.state tree.file).arms (g.F.StoreFile.state c.loop-k.self.file).arms c.of_read-range.result (read_range tree.tree.head.length c.args.at (length c.args.into.now))
-    c.loop-k.k is (omega (arith, c.end_block-k-end.ensures, c.loop-k-test.false))
-    (λ forward. omega (arith, forward, c.first_block-k.ensures, c.end_block-k-end.ensures, c.loop-k.auto.k-end)) (c.loop-k.invariant.counted tells)
+    c.loop-k.k is (omega (arith, c.end_block-k-end.ensures.value, c.loop-k-test.false))
+    (λ forward. omega (arith, forward, c.first_block-k.ensures, c.end_block-k-end.ensures.value, c.loop-k.auto.k-end)) (c.loop-k.invariant.counted tells)
 
 pub returns-clause-content : goal.returns-clause-content
 returns-clause-content g c told =

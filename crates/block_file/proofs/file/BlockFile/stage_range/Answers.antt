@@ -39,7 +39,7 @@ stage_pages-requires-clause-changes g c =
     let b = g.F.StoreFile.state c.new_pages.new.self.file in
     let before : t.tree.head.greatest ≡ greatest_of c.args.range.size = sized_greatest t.tree.head c.requires.verified.sized ∙ ap greatest_of (sym c.requires.old_size) in
     let r = c.args.range in
-    let ends : c.min-upto.result ≡ min (end_block r) (greatest_of c.args.size) = upto_is c.min-upto.result c.end_block-end.result c.greatest_node.result r c.args.size c.min-upto.ensures c.end_block-end.ensures c.greatest_node.ensures.value in
+    let ends : c.min-upto.result ≡ min (end_block r) (greatest_of c.args.size) = upto_is c.min-upto.result c.end_block-end.result c.greatest_node.result r c.args.size c.min-upto.ensures c.end_block-end.ensures.value c.greatest_node.ensures.value in
     subst (λ (l : List BlockChange). AreChanges c.new_pages.new.self.tree.head.greatest (greatest_of c.args.size) l) (sym c.deref.ensures.value)
     (AreChanges-made t.key t.tree r c.args.at c.args.bytes.now c.args.size c.first_block-first.result c.min-upto.result a b c.in_ok-changes.changes.items
     c.requires.reaches c.requires.fits.within c.first_block-first.ensures ends c.in_ok-changes.ensures.answer c.new_pages.new.self.tree.head.greatest
@@ -53,7 +53,7 @@ returns-clause-rewritten g c =
     let b = g.F.StoreFile.state c.new_pages.new.self.file in
     let new = g.F.StoreFile.state c.stage_pages.new.self.file in
     let r = c.args.range in
-    let ends : c.min-upto.result ≡ min (end_block r) (greatest_of c.args.size) = upto_is c.min-upto.result c.end_block-end.result c.greatest_node.result r c.args.size c.min-upto.ensures c.end_block-end.ensures c.greatest_node.ensures.value in
+    let ends : c.min-upto.result ≡ min (end_block r) (greatest_of c.args.size) = upto_is c.min-upto.result c.end_block-end.result c.greatest_node.result r c.args.size c.min-upto.ensures c.end_block-end.ensures.value c.greatest_node.ensures.value in
     let many : length t.tree.nodes ≡ greatest_of r.size = c.requires.verified.all ∙ sized_greatest t.tree.head c.requires.verified.sized ∙ ap greatest_of (sym c.requires.old_size) in
     let opened = subst (λ old. OnOk c.stage_pages.result (Known (g.F.StoreFile.state old.file) new → load_of (g.F.StoreFile.state old.file).reads old.root ≡ Ok old.tree
     → IfSome c.stage_pages.new.self.stage (λ s. OpensAfter old.key old.tree.head.wrapped (g.F.StoreFile.state old.file).reads old.root new.reads s.root c.args.size c.deref.result.now)))
@@ -75,7 +75,7 @@ returns-clause-blocks g c =
     let b = g.F.StoreFile.state c.new_pages.new.self.file in
     let new = g.F.StoreFile.state c.stage_pages.new.self.file in
     let r = c.args.range in
-    let ends : c.min-upto.result ≡ min (end_block r) (greatest_of c.args.size) = upto_is c.min-upto.result c.end_block-end.result c.greatest_node.result r c.args.size c.min-upto.ensures c.end_block-end.ensures c.greatest_node.ensures.value in
+    let ends : c.min-upto.result ≡ min (end_block r) (greatest_of c.args.size) = upto_is c.min-upto.result c.end_block-end.result c.greatest_node.result r c.args.size c.min-upto.ensures c.end_block-end.ensures.value c.greatest_node.ensures.value in
     blocks_read t.key t.tree r c.args.at c.args.bytes.now c.args.size c.first_block-first.result c.min-upto.result a b c.in_ok-changes.changes.items
     c.requires.reaches c.requires.fits.within c.first_block-first.ensures ends c.in_ok-changes.ensures.answer new (Unit {0}) c.stage_pages.result c.stage_pages.ensures.staged.keeps.goes_on
     c.stage_pages.ensures.causes.kind
@@ -85,7 +85,7 @@ returns-clause-budget g c =
     let t = c.args.self.now in
     let b = g.F.StoreFile.state c.new_pages.new.self.file in
     let new = g.F.StoreFile.state c.stage_pages.new.self.file in
-    let ends : c.min-upto.result ≡ min (end_block c.args.range) (greatest_of c.args.size) = upto_is c.min-upto.result c.end_block-end.result c.greatest_node.result c.args.range c.args.size c.min-upto.ensures c.end_block-end.ensures c.greatest_node.ensures.value in
+    let ends : c.min-upto.result ≡ min (end_block c.args.range) (greatest_of c.args.size) = upto_is c.min-upto.result c.end_block-end.result c.greatest_node.result c.args.range c.args.size c.min-upto.ensures c.end_block-end.ensures.value c.greatest_node.ensures.value in
     let within = subst (λ old. IsWithinBudget (changed_blocks c.deref.result.now) old.tree.head.greatest (greatest_of c.args.size) b.written new.written) c.in_ok-changes.ensures.same c.stage_pages.ensures.budget in
     writes_range c.args.range c.args.size t.tree.head.greatest c.first_block-first.result c.min-upto.result c.in_ok-changes.changes.items (g.F.StoreFile.state t.file) b new c.first_block-first.ensures ends
     c.in_ok-changes.ensures.answer.blocks c.in_ok-changes.ensures.rests.written
@@ -98,7 +98,7 @@ returns-clause-seals g c =
     let b = g.F.StoreFile.state c.new_pages.new.self.file in
     let new = g.F.StoreFile.state c.stage_pages.new.self.file in
     let r = c.args.range in
-    let ends : c.min-upto.result ≡ min (end_block r) (greatest_of c.args.size) = upto_is c.min-upto.result c.end_block-end.result c.greatest_node.result r c.args.size c.min-upto.ensures c.end_block-end.ensures c.greatest_node.ensures.value in
+    let ends : c.min-upto.result ≡ min (end_block r) (greatest_of c.args.size) = upto_is c.min-upto.result c.end_block-end.result c.greatest_node.result r c.args.size c.min-upto.ensures c.end_block-end.ensures.value c.greatest_node.ensures.value in
     let given = subst (λ old. OnOk c.stage_pages.result (IfSome c.stage_pages.new.self.stage (λ s. SealsChanges old.key old.tree s.tree c.deref.result.now))) c.in_ok-changes.ensures.same c.stage_pages.ensures.seals in
     let seals = subst (λ (l : List BlockChange). OnOk c.stage_pages.result (IfSome c.stage_pages.new.self.stage (λ s. SealsChanges t.key t.tree s.tree l))) c.deref.ensures.value given in
     seals_range t.key t.tree r c.args.at c.args.bytes.now c.args.size c.first_block-first.result c.min-upto.result a b new c.in_ok-changes.changes.items c.first_block-first.ensures ends
