@@ -8,8 +8,6 @@ mod printing;
 mod reading;
 mod run;
 mod status;
-#[cfg(test)]
-mod tests;
 mod writing;
 
 use run::run;
