@@ -1,3 +1,4 @@
+pub mod Answered
 pub mod Pushing
 pub mod Sent
 pub mod Acts

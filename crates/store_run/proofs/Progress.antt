@@ -1,20 +1,21 @@
 -- A run, act after act.
-use Rattle.std.proofs.Common.{◌≡◌, ◌≤◌, ◌<◌, ◌+◌, ℕ, List, [], ◌∷◌, ◌++◌, length, take, drop, All, refl, sym, ap, ◌∙◌, subst, arith, append_assoc, append-nil, length-append, Option, None, inl, get_or, Result, Ok, Err, OnOk, OnErr}
-use Rattle.std.specs.List.{prefix_len, range_with_len}
+use Rattle.std.proofs.Common.{◌≡◌, ◌≤◌, ◌<◌, ◌+◌, ℕ, List, [], ◌∷◌, ◌++◌, length, take, drop, All, refl, sym, ap, ◌∙◌, subst, arith, append_assoc, append-nil, length-append, Option, None, inl, inr, lit≤, get_or, Result, Ok, Err, OnOk, OnErr}
+use Rattle.std.specs.List.{prefix_len}
 use Rattle.std.proofs.lemmas.List.{take-append-drop, length-take-le}
-use Rattle.std.proofs.lemmas.List.FromFn.{length-range_with_len}
-use Rattle.std.proofs.lemmas.List.Elements.{All-drop}
+use Rattle.std.proofs.lemmas.List.Elements.{All-nil, All-drop, All-take}
 use Rattle.tee_ports.specs.Streams.{Appends}
 use Rattle.tee_ports.proofs.Streams.{Appends-none}
 use Rattle.store_model.specs.declared.event.Event.{Event}
 use Rattle.store_model.specs.Object.{ObjectMap}
 use Rattle.store_model.specs.Machine.{MachineState, applications, opened_store}
 use Rattle.store_model.specs.declared.name.ObjectName.{ObjectName}
-use Rattle.store_model.specs.History.{numbers_of}
-use Rattle.store_model.specs.Record.{Record, untagged}
-use Rattle.std.specs.Option.{option_map}
-use Rattle.store_model.specs.Legal.{opening, replay}
-use Rattle.store_model.specs.LegalHistory.{IsLegal, events_of}
+use Rattle.std.specs.List.Sorted.{IsStrictlySortedBy}
+use Rattle.tee_types.specs.Identifier.{IsIdentifier}
+use Rattle.store_model.specs.History.{AreNumbered}
+use Rattle.store_model.specs.Sound.{IsObject, IsObjectMap}
+use Rattle.store_model.specs.Record.{Record, events_of, untagged}
+use Rattle.store_model.specs.LegalHistory.{IsLegal}
+use Rattle.script_text.specs.Laws.{IsFormed}
 use Rattle.store_model.specs.Damage.{IsAlteredBack}
 use Rattle.script_text.specs.declared.script.Step.{Step}
 use Rattle.script_text.specs.declared.script.Step.TheVariants.{Control as ControlStep}
@@ -22,7 +23,7 @@ use Rattle.script_text.specs.declared.script.Control.{Control}
 use Rattle.script_text.specs.Script.{ScriptValue, IsPlaced, is_call}
 use Rattle.script_text.specs.Text.{PhaseRecord, Act, Serve, Do, acts_of, acts_text, control_line, phase_text, phase_line, events_text, script_output}
 use Rattle.store_run.specs.declared.status.Status.{Status}
-use Rattle.store_run.specs.Phases.{phases_of, script_phases, ServesPhases, ServesSteps, AreLegalPhases, left_by, opened_with, steps_served, calls_in}
+use Rattle.store_run.specs.Phases.{phases_of, script_phases, ServesPhases, ServesSteps, IsLegalPhase, IsPhaseChain, AreLegalPhases, opened_with, steps_served, calls_in}
 use Rattle.store_run.specs.Serving.{HasServed, IsCallFirst}
 use Rattle.store_run.specs.Sending.{Sends, Stops}
 use Rattle.store_run.specs.Running.{HasRun, HasStopped}
@@ -37,38 +38,41 @@ events_of-untagged (e ∷ events) = ap (λ l. e ∷ l) (events_of-untagged event
 
 IsAlteredBack-same : (files : ObjectName → Option ℕ) (records : List (Record (Unit {0}))) (objects : ObjectMap) → IsAlteredBack files [] records objects objects
 IsAlteredBack-same files records [] = tt
-IsAlteredBack-same files records (e ∷ objects) = ((refl, inl refl), IsAlteredBack-same files records objects)
+IsAlteredBack-same files records (e ∷ objects) = (record { name = refl; object = inl refl }, IsAlteredBack-same files records objects)
 
-IsLegal-served : (apps : List (List ℕ)) (objects : ObjectMap) (start : ℕ) (steps : List Step) (state : MachineState) (counter : ℕ) (numbers : List ℕ) (events : List Event) → HasServed apps objects start steps state counter numbers events → IsLegal (opened_with objects apps start) [] (untagged events) None
-IsLegal-served apps objects start steps state counter numbers events h = record {
+IsLegal-served : (apps : List (List ℕ)) (objects : ObjectMap) (start : ℕ) (steps : List Step) (state : MachineState) (counter : ℕ) (numbers : List ℕ) (events : List Event) → IsObjectMap objects → HasServed apps objects start steps state counter numbers events → IsLegal (opened_with objects apps start) [] (untagged events) None
+IsLegal-served apps objects start steps state counter numbers events opens h = record {
+  opens = opens;
   begins = objects;
+  begins_sound = opens;
   altered = IsAlteredBack-same _ (untagged events) objects;
   events_legal = h.legal;
-  doubt_left =
-      ap (λ es. option_map (λ d. d.commit) (replay (opening objects apps start) es).doubt) (events_of-untagged events)
-      ∙ ap (λ s. option_map (λ d. d.commit) s.doubt) h.stands;
-  numbered = λ session.
-      subst (λ es. numbers_of session es ≡ range_with_len 0 (length (numbers_of session es))) (sym (events_of-untagged events))
-      (h.numbered session ∙ ap (range_with_len 0) (sym (ap length (h.numbered session) ∙ length-range_with_len 0 _)));
+  doubt_left = inr refl;
+  numbered = subst AreNumbered (sym (events_of-untagged events)) h.numbered;
+}
+
+-- the phase that was served
+phase-served : (apps : List (List ℕ)) (objects : ObjectMap) (start : ℕ) (steps : List Step) (state : MachineState) (counter : ℕ) (numbers : List ℕ) (events : List Event) → IsObjectMap objects → HasServed apps objects start steps state counter numbers events
+    → IsLegalPhase apps objects start (record { opening = objects; events = events }) state.objects counter
+unfolding IsLegal-served
+phase-served apps objects start steps state counter numbers events opens h = record {
+  opens = refl;
+  records = untagged events;
+  events = events_of-untagged events;
+  legal = IsLegal-served apps objects start steps state counter numbers events opens h;
+  map_left = ap (λ (m : MachineState). m.objects) h.stands.state_is;
+  counter_left = h.stands.counter_is;
 }
 
 ServesSteps-served : (steps : List Step) (events : List Event) → steps_served events ≡ steps → ServesSteps steps events
 ServesSteps-served steps events e = record { in_script_order = e; of_each_application = λ app. calls_of-steps_served app events ∙ ap (λ s. calls_in app s) e }
 
-AreLegalPhases-push : (apps : List (List ℕ)) (objects : ObjectMap) (counter : ℕ) (records : List PhaseRecord) (r : PhaseRecord) (opened : ObjectMap) (start : ℕ) → AreLegalPhases apps objects counter records → left_by apps objects counter records ≡ (opened, start) → r.opening ≡ opened → IsLegal (opened_with opened apps start) [] (untagged r.events) None → AreLegalPhases apps objects counter (records ++ r ∷ [])
-AreLegalPhases-push apps objects counter [] r opened start h left same legal =
-    (same ∙ sym (ap (λ p. p.0) left), subst (λ p. IsLegal (opened_with p.0 apps p.1) [] (untagged r.events) None) (sym left) legal, tt)
-AreLegalPhases-push apps objects counter (q ∷ records) r opened start h left same legal =
-    let end = replay (opening objects apps counter) q.events in
-    (h.0, h.1, AreLegalPhases-push apps (end.state).objects end.counter records r opened start h.2 left same legal)
-
-left_by-push : (apps : List (List ℕ)) (objects : ObjectMap) (counter : ℕ) (records : List PhaseRecord) (r : PhaseRecord) (opened : ObjectMap) (start : ℕ) (state : MachineState) (after : ℕ) → left_by apps objects counter records ≡ (opened, start) → replay (opening opened apps start) r.events ≡ record { state = state; counter = after; doubt = None } → left_by apps objects counter (records ++ r ∷ []) ≡ (state.objects, after)
-left_by-push apps objects counter [] r opened start state after left stands =
-    ap (λ p. (((replay (opening p.0 apps p.1) r.events).state).objects, (replay (opening p.0 apps p.1) r.events).counter)) left
-    ∙ ap (λ s. ((s.state).objects, s.counter)) stands
-left_by-push apps objects counter (q ∷ records) r opened start state after left stands =
-    let end = replay (opening objects apps counter) q.events in
-    left_by-push apps (end.state).objects end.counter records r opened start state after left stands
+-- one more phase behind a chain
+IsPhaseChain-push : (apps : List (List ℕ)) (objects : ObjectMap) (counter : ℕ) (records : List PhaseRecord) (r : PhaseRecord) (opened : ObjectMap) (start : ℕ) (left : ObjectMap) (after : ℕ) → IsPhaseChain apps objects counter records opened start → IsLegalPhase apps opened start r left after → IsPhaseChain apps objects counter (records ++ r ∷ []) left after
+IsPhaseChain-push apps objects counter [] r opened start left after chain phase =
+    (left, after, subst (λ (m : ObjectMap). IsLegalPhase apps m counter r left after) chain.0 (subst (λ (n : ℕ). IsLegalPhase apps opened n r left after) chain.1 phase), (refl, refl))
+IsPhaseChain-push apps objects counter (q ∷ records) r opened start left after chain phase =
+    (chain.0, chain.1, chain.2, IsPhaseChain-push apps chain.0 chain.1 records r opened start left after chain.3 phase)
 
 -- the text of all acts of a script, from a point in the run on
 script_output-from : (script : ScriptValue) (done acts : List Act) (records more : List PhaseRecord) → acts_of script.steps ≡ done ++ acts → length (phases_of done) ≡ length records → script_output script (records ++ more) ≡ acts_text script 0 done records ++ acts_text script (0 + length records) acts more
@@ -105,7 +109,7 @@ ServesPhases-script script done acts records is h =
 pub HasStopped-act : (script : ScriptValue) (held between new : Option (List ℕ)) (steps : List Step) (state : MachineState) (counter : ℕ) (numbers : List ℕ) (number : ℕ) (kept text rest : List ℕ) (h : HasRun script held between steps state counter numbers number kept) → Stops between new kept text → acts_text script (0 + length h.records) (acts_of steps) [] ≡ text ++ rest → HasStopped script held new
 HasStopped-act script held between new steps state counter numbers number kept text rest h stops is =
     HasStopped-text script held between new steps state counter numbers number kept text rest [] h stops is
-    (subst (AreLegalPhases (applications_of script) [] 0) (sym (append-nil h.records)) h.legal)
+    (state.objects, counter, subst (λ (l : List PhaseRecord). IsPhaseChain (applications_of script) [] 0 l state.objects counter) (sym (append-nil h.records)) h.legal)
     (subst (ServesPhases (script_phases script.steps)) (sym (append-nil h.records)) (ServesPhases-script script h.done (acts_of steps) h.records h.acts h.calls))
 
 pub HasStopped-nothing : (script : ScriptValue) (held between : Option (List ℕ)) (steps : List Step) (state : MachineState) (counter : ℕ) (numbers : List ℕ) (number : ℕ) (kept : List ℕ) → HasRun script held between steps state counter numbers number kept → HasStopped script held between
@@ -132,10 +136,11 @@ HasRun-control script held between new control steps state counter numbers numbe
       sent = subst (Sends held new [] kept_new) (sym same) (Sends-append held between new [] kept kept_new text (control_line control) h.sent sends);
       legal = h.legal;
       calls = subst (λ p. ServesPhases p h.records) (sym phases) h.calls;
-      left = h.left;
+      map = h.map;
       sessions = h.sessions;
       each_session = h.each_session;
       placed = All-drop (IsPlaced (length (applications_of script))) 1 (ControlStep control ∷ steps) h.placed;
+      formed = All-drop IsFormed 1 (ControlStep control ∷ steps) h.formed;
       few = omega (arith, h.few);
       few_phases = omega (arith, h.few_phases);
     }
@@ -146,18 +151,16 @@ served_record objects events = record { opening = objects; events = events }
 
 -- the facts on the records with the phase that was served
 record HasNext (script : ScriptValue) (done : List Act) (records : List PhaseRecord) (calls : List Step) (r : PhaseRecord) (state : MachineState) (counter : ℕ) : Type 0 where
-  legal : AreLegalPhases (applications_of script) [] 0 (records ++ r ∷ [])
+  legal : IsPhaseChain (applications_of script) [] 0 (records ++ r ∷ []) state.objects counter
   served : ServesPhases (phases_of done ++ calls ∷ []) (records ++ r ∷ [])
-  left : left_by (applications_of script) [] 0 (records ++ r ∷ []) ≡ (state.objects, counter)
 
 HasNext-served : (script : ScriptValue) (held between : Option (List ℕ)) (steps front : List Step) (state new_state : MachineState) (counter new_counter : ℕ) (numbers new_numbers : List ℕ) (number : ℕ) (kept : List ℕ) (events : List Event) (h : HasRun script held between steps state counter numbers number kept) → HasServed (applications state.sessions) state.objects counter front new_state new_counter new_numbers events → HasNext script h.done h.records front (served_record state.objects events) new_state new_counter
 HasNext-served script held between steps front state new_state counter new_counter numbers new_numbers number kept events h served =
     let r = served_record state.objects events in
     let mine = subst (λ apps. HasServed apps state.objects counter front new_state new_counter new_numbers events) h.sessions served in record {
-      legal = AreLegalPhases-push (applications_of script) [] 0 h.records r state.objects counter h.legal h.left refl
-          (IsLegal-served (applications_of script) state.objects counter front new_state new_counter new_numbers events mine);
+      legal = IsPhaseChain-push (applications_of script) [] 0 h.records r state.objects counter new_state.objects new_counter h.legal
+          (phase-served (applications_of script) state.objects counter front new_state new_counter new_numbers events h.map mine);
       served = ServesPhases-push (phases_of h.done) h.records front r h.phases h.calls (ServesSteps-served front events mine.served);
-      left = left_by-push (applications_of script) [] 0 h.records r state.objects counter new_state new_counter h.left mine.stands;
     }
 
 pub HasStopped-phase : (script : ScriptValue) (held between new : Option (List ℕ)) (steps : List Step) (state new_state : MachineState) (counter new_counter : ℕ) (numbers new_numbers : List ℕ) (number : ℕ) (kept : List ℕ) (events : List Event) → IsCallFirst steps → HasRun script held between steps state counter numbers number kept → HasServed (applications state.sessions) state.objects counter (take (prefix_len is_call steps) steps) new_state new_counter new_numbers events → Stops between new kept (phase_line number (length state.objects) ++ events_text script 0 events) → HasStopped script held new
@@ -171,7 +174,7 @@ HasStopped-phase script held between new steps state new_state counter new_count
     HasStopped-text script held between new steps state counter numbers number kept (phase_line number (length state.objects) ++ events_text script 0 events) _ (r ∷ []) h stops
     (ap (λ a. acts_text script (0 + length h.records) a (r ∷ [])) (acts_of-calls steps first)
     ∙ ap (λ n. phase_text script n r ++ acts_text script (n + 1) behind []) number-is)
-    next.legal
+    (new_state.objects, new_counter, next.legal)
     (ServesPhases-script script (h.done ++ Serve front ∷ []) behind (h.records ++ r ∷ []) acts (subst (λ p. ServesPhases p (h.records ++ r ∷ [])) (sym (phases_of-append h.done (Serve front ∷ []))) next.served))
 
 pub HasRun-phase : (script : ScriptValue) (held between new : Option (List ℕ)) (steps : List Step) (state new_state : MachineState) (counter new_counter : ℕ) (numbers new_numbers : List ℕ) (number : ℕ) (kept kept_new : List ℕ) (events : List Event) → IsCallFirst steps → prefix_len is_call steps ≤ length steps → HasRun script held between steps state counter numbers number kept → HasServed (applications state.sessions) state.objects counter (take (prefix_len is_call steps) steps) new_state new_counter new_numbers events → Sends between new kept kept_new (phase_line number (length state.objects) ++ events_text script 0 events) → HasRun script held new (drop (prefix_len is_call steps) steps) new_state new_counter new_numbers (number + 1) kept_new
@@ -200,28 +203,31 @@ HasRun-phase script held between new steps state new_state counter new_counter n
       sent = subst (Sends held new [] kept_new) (sym same) (Sends-append held between new [] kept kept_new text _ h.sent sends);
       legal = next.legal;
       calls = subst (λ p. ServesPhases p (h.records ++ r ∷ [])) (sym phases) next.served;
-      left = next.left;
+      map = mine.map h.map (All-take IsFormed count steps h.formed);
       sessions = mine.sessions;
       each_session = mine.each_session;
       placed = All-drop (IsPlaced (length (applications_of script))) count steps h.placed;
+      formed = All-drop IsFormed count steps h.formed;
       few = omega (arith, lengths, h.few, mine.few_commits);
       few_phases = omega (arith, lengths, short, some, h.few_phases);
     }
 
-pub HasRun-begin : (script : ScriptValue) (held : Option (List ℕ)) (numbers : List ℕ) → length script.steps ≤ 16777216 → length numbers ≡ length (applications_of script) → All (IsPlaced (length (applications_of script))) script.steps → HasRun script held held script.steps (opened_store [] (applications_of script)) 0 numbers 0 []
-HasRun-begin script held numbers few same placed = record {
+pub HasRun-begin : (script : ScriptValue) (held : Option (List ℕ)) (numbers : List ℕ) → length script.steps ≤ 16777216 → length numbers ≡ length (applications_of script) → All (IsPlaced (length (applications_of script))) script.steps → All IsFormed script.steps → HasRun script held held script.steps (opened_store [] (applications_of script)) 0 numbers 0 []
+unfolding IsStrictlySortedBy
+HasRun-begin script held numbers few same placed formed = record {
   done = [];
   records = [];
   acts = refl;
   phases = refl;
   counted = refl;
   sent = ([], Appends-none held, refl);
-  legal = tt;
+  legal = (refl, refl);
   calls = tt;
-  left = refl;
+  map = record { few = lit≤ tt; rising = tt; named = All-nil (λ e. IsIdentifier (e.0).id); sound = All-nil (λ e. IsObject e.1) };
   sessions = applications-new (applications_of script);
   each_session = same;
   placed = placed;
+  formed = formed;
   few = omega (arith, few);
   few_phases = omega (arith, few);
 }
@@ -238,7 +244,7 @@ text_of_run script held between new state counter numbers number kept h sends =
       all.0,
       h.records,
       all.1,
-      record { begins = ([], sym whole ∙ sym (append-nil all.0)); legal = h.legal; calls = subst (λ p. ServesPhases p h.records) (sym phases) h.calls },
+      record { begins = ([], sym whole ∙ sym (append-nil all.0)); legal = (state.objects, counter, h.legal); calls = subst (λ p. ServesPhases p h.records) (sym phases) h.calls },
       record { whole = whole; each_phase = sym h.phases ∙ ap length (sym phases) },
     )
 

@@ -1,12 +1,13 @@
 -- A history with one more event at its end.
-use Rattle.std.proofs.Common.{◌≡◌, ◌==◌, ◌≤◌, ◌<◌, ◌+◌, ◌^◌, ℕ, Bool, true, false, cond, List, [], ◌∷◌, ◌++◌, length, refl, sym, ap, ◌∙◌, subst, arith, slice_index, slice_set, zero, suc, length-append, take, get_or, eq-eqb, ⊎_elim, ◌≢◌, get_or-set_same, get_or-set_other, inl, None, map, replicate, true≢false}
+use Rattle.std.proofs.Common.{◌≡◌, ◌==◌, ◌≤◌, ◌<◌, ◌+◌, ◌^◌, ℕ, Bool, true, false, cond, List, [], ◌∷◌, ◌++◌, length, refl, sym, ap, ◌∙◌, subst, arith, slice_index, slice_set, zero, suc, length-append, take, get_or, eq-eqb, ⊎_elim, ◌≢◌, get_or-set_same, get_or-set_other, None, map, replicate, true≢false}
 use Rattle.std.proofs.lemmas.Bool.{ne_eqb, cases_eq}
-use Rattle.std.specs.List.{range_with_len}
-use Rattle.std.proofs.lemmas.List.{length-set, take_more, length-take-le, length-replicate}
+use Rattle.std.specs.List.{All, range_with_len}
+use Rattle.std.proofs.lemmas.List.Elements.{All-contains, All-take, Contains-push}
+use Rattle.std.proofs.lemmas.List.FromFn.{length-range_with_len}
+use Rattle.std.proofs.Math.Seq.{take-append_seam}
+use Rattle.std.proofs.lemmas.List.{length-map, length-set, take_more, length-take-le, length-replicate}
 use Rattle.tee_types.specs.declared.call.Call.{Call}
-use Rattle.tee_types.specs.declared.call.Call.TheVariants.{Create, Open, Close, Read, Write, Truncate, Seek, Rename, Delete, Info, EnumNew, EnumStart, EnumNext, EnumReset, EnumFree}
 use Rattle.tee_types.specs.declared.reply.Reply.{Reply}
-use Rattle.tee_types.specs.declared.reply.Reply.TheVariants.{Done, Handle as HandleReply, Content, Info as InfoReply, Found, Refused, Misuse, Corrupt, NotAvailable, InDoubt, CounterSpent, NoMemory}
 use Rattle.store_model.specs.declared.event.Event.{Event}
 use Rattle.store_model.specs.declared.event.Event.TheVariants.{Call as CallEvent, Landed}
 use Rattle.store_model.specs.declared.event.Mark.{Mark}
@@ -14,24 +15,27 @@ use Rattle.store_model.specs.Object.{ObjectMap}
 use Rattle.store_model.specs.Machine.{MachineState, applications, new_session, opened_store}
 use Rattle.store_model.specs.Calls.{reply_of, state_after, is_commit}
 use Rattle.store_model.specs.Record.{untagged}
-use Rattle.store_model.specs.History.{numbers_of, calls_of}
-use Rattle.store_model.specs.Legal.{Standing, IsLegalEvent, IsLegalFrom, standing_after, standing_after_call, opening, replay, mark_of, counter_after, is_undone}
+use Rattle.store_model.specs.History.{numbers_of, calls_of, AreNumbered}
+use Rattle.store_model.specs.Sound.{IsObjectMap, IsCall}
+use Rattle.store_model.specs.Standing.{Standing, standing_after, opening, replay}
+use Rattle.store_model.specs.Legal.{IsLegalEvent, IsLegalFrom, mark_of, counter_after}
 use Rattle.store_model.proofs.Sessions.{applications-sessions}
-use Rattle.store_model.proofs.Refusals.{refusals_change_nothing}
-use Rattle.store_model.specs.Refusal.{is_refusal, left_by_refusal}
+use Rattle.store_model.proofs.KeptMaps.{calls_keep_maps}
+use Rattle.script_text.specs.Laws.{IsFormed}
 use Rattle.script_text.specs.declared.script.Step.{Step}
 use Rattle.script_text.specs.declared.script.Step.TheVariants.{Call as CallStep, Control as ControlStep}
 use Rattle.script_text.specs.Script.{IsPlaced, is_call}
-use Rattle.store_run.specs.Phases.{steps_served, calls_in}
-use Rattle.store_run.specs.Serving.{event_of, AreNumbers, IsServed, AreCalls, HasServed}
+use Rattle.store_run.specs.Phases.{steps_served, calls_in, opened_with}
+use Rattle.store_run.proofs.Answered.{state-after, counter-after, undoubted-after, fileless-after, legal-answered}
+use Rattle.store_run.specs.Serving.{event_of, AreCounts, IsServed, AreCalls, HasServed}
 
-pub replay-push : (s : Standing) (events : List Event) (e : Event) → replay s (events ++ e ∷ []) ≡ standing_after (replay s events) e
+pub replay-push : (s : Standing) (events : List Event) (e : Event) → replay s (untagged (events ++ e ∷ [])) ≡ standing_after (replay s (untagged events)) e None
 replay-push s [] e = refl
-replay-push s (f ∷ events) e = replay-push (standing_after s f) events e
+replay-push s (f ∷ events) e = replay-push (standing_after s f None) events e
 
-pub IsLegalFrom-push : (s : Standing) (events : List Event) (e : Event) → IsLegalFrom [] s (untagged events) → IsLegalEvent [] (replay s events) e None → IsLegalFrom [] s (untagged (events ++ e ∷ []))
+pub IsLegalFrom-push : (s : Standing) (events : List Event) (e : Event) → IsLegalFrom [] s (untagged events) → IsLegalEvent [] (replay s (untagged events)) e None → IsLegalFrom [] s (untagged (events ++ e ∷ []))
 IsLegalFrom-push s [] e h g = (g, tt)
-IsLegalFrom-push s (f ∷ events) e h g = (h.0, IsLegalFrom-push (standing_after s f) events e h.1 g)
+IsLegalFrom-push s (f ∷ events) e h g = (h.0, IsLegalFrom-push (standing_after s f None) events e h.1 g)
 
 steps_served-push : (events : List Event) (session number : ℕ) (call : Call) (reply : Reply) (mark : Mark) → steps_served (events ++ CallEvent session number call reply mark ∷ []) ≡ steps_served events ++ CallStep session call ∷ []
 steps_served-push [] session number call reply mark = refl
@@ -70,6 +74,19 @@ calls_of-steps_served app (Landed commit ∷ events) = calls_of-steps_served app
 
 abbrev next_numbers : List ℕ → ℕ → List ℕ
 next_numbers numbers session = slice_set numbers session (slice_index numbers session + 1)
+
+-- each session has the numbers from 0 on, as many as its number says
+abbrev AreNumbers : List ℕ → List Event → Type 0
+AreNumbers numbers events = (session : ℕ) → numbers_of session events ≡ range_with_len 0 (slice_index numbers session)
+
+counted : (numbers : List ℕ) (events : List Event) → AreNumbers numbers events → AreCounts numbers events
+counted numbers events are session = ap length (are session) ∙ length-range_with_len 0 (slice_index numbers session)
+
+numbered : (numbers : List ℕ) (events : List Event) → AreNumbers numbers events → AreNumbered events
+numbered numbers events are session = are session ∙ ap (range_with_len 0) (sym (counted numbers events are session))
+
+are-numbers : (numbers : List ℕ) (events : List Event) → AreNumbered events → AreCounts numbers events → AreNumbers numbers events
+are-numbers numbers events are counts session = are session ∙ ap (range_with_len 0) (counts session)
 
 AreNumbers-push : (numbers : List ℕ) (events : List Event) (session : ℕ) (call : Call) (reply : Reply) (mark : Mark) → session < length numbers → AreNumbers numbers events → AreNumbers (next_numbers numbers session) (events ++ CallEvent session (slice_index numbers session) call reply mark ∷ [])
 AreNumbers-push numbers events session call reply mark lt h who =
@@ -110,80 +127,54 @@ counter_after-le : (b : Bool) (counter n : ℕ) → counter ≤ n → counter_af
 counter_after-le true counter n h = omega arith
 counter_after-le false counter n h = omega arith
 
-undone_refused : (reply : Reply) → is_undone reply ≡ true → is_refusal reply ≡ true
-undone_refused Done h = absurd (true≢false (sym h))
-undone_refused (HandleReply a) h = absurd (true≢false (sym h))
-undone_refused (Content a) h = absurd (true≢false (sym h))
-undone_refused (InfoReply a b c d) h = absurd (true≢false (sym h))
-undone_refused (Found a b) h = absurd (true≢false (sym h))
-undone_refused (Refused a) h = refl
-undone_refused (Misuse a) h = refl
-undone_refused Corrupt h = refl
-undone_refused (NotAvailable a) h = refl
-undone_refused (InDoubt a) h = refl
-undone_refused (CounterSpent a) h = refl
-undone_refused NoMemory h = refl
-
--- where the reply is no refusal of an enumeration, a refused call leaves the state
-undone_left : (s : MachineState) (i : ℕ) (call : Call) (reply : Reply) → is_undone reply ≡ true → left_by_refusal s i call reply ≡ s
-undone_left s i (Create a b c d) reply h = refl
-undone_left s i (Open a b) reply h = refl
-undone_left s i (Close a) reply h = refl
-undone_left s i (Read a b) reply h = refl
-undone_left s i (Write a b) reply h = refl
-undone_left s i (Truncate a b) reply h = refl
-undone_left s i (Seek a b c) reply h = refl
-undone_left s i (Rename a b) reply h = refl
-undone_left s i (Delete a) reply h = refl
-undone_left s i (Info a) reply h = refl
-undone_left s i EnumNew reply h = refl
-undone_left s i (EnumNext a) reply h = refl
-undone_left s i (EnumReset a) reply h = refl
-undone_left s i (EnumFree a) reply h = refl
-undone_left s i (EnumStart n) Done h = refl
-undone_left s i (EnumStart n) (HandleReply a) h = refl
-undone_left s i (EnumStart n) (Content a) h = refl
-undone_left s i (EnumStart n) (InfoReply a b c d) h = refl
-undone_left s i (EnumStart n) (Found a b) h = refl
-undone_left s i (EnumStart n) (Refused a) h = absurd (true≢false (sym h))
-undone_left s i (EnumStart n) (Misuse a) h = refl
-undone_left s i (EnumStart n) Corrupt h = refl
-undone_left s i (EnumStart n) (NotAvailable a) h = refl
-undone_left s i (EnumStart n) (InDoubt a) h = refl
-undone_left s i (EnumStart n) (CounterSpent a) h = refl
-undone_left s i (EnumStart n) NoMemory h = refl
-
--- a reply by which a call counts as undone leaves the state
-undone-kept : (s : MachineState) (i : ℕ) (call : Call) → is_undone (reply_of s i call) ≡ true → state_after s i call ≡ s
-undone-kept s i call h = refusals_change_nothing s i call (undone_refused (reply_of s i call) h) ∙ undone_left s i call (reply_of s i call) h
-
--- where the replay stands after a call that is answered as the machine does
-standing-answered : (b : Bool) (state : MachineState) (counter session : ℕ) (call : Call) →
-    standing_after_call (record { state = state; counter = counter; doubt = None }) session call (reply_of state session call) (mark_of counter b)
-    ≡ record { state = state_after state session call; counter = counter_after counter b; doubt = None }
-standing-answered true state counter session call = refl
-standing-answered false state counter session call = (elim (is_undone (reply_of state session call)) as (λ u. is_undone (reply_of state session call) ≡ u → ◌≡◌ {A = Standing} (record { state = elim u [ true ↦ state | false ↦ state_after state session call ]; counter = counter; doubt = None }) (record { state = state_after state session call; counter = counter; doubt = None })) [
-  | true ↦ λ h. ap (λ t. record { state = t; counter = counter; doubt = None }) (sym (undone-kept state session call h))
-  | false ↦ λ h. refl
-]) refl
+-- the call of a step that is formed
+map-push : (objects : ObjectMap) (steps : List Step) (state : MachineState) (session : ℕ) (call : Call) → (IsObjectMap objects → All IsFormed steps → IsObjectMap state.objects)
+    → IsObjectMap objects → All IsFormed (steps ++ CallStep session call ∷ []) → IsObjectMap (state_after state session call).objects
+map-push objects steps state session call map opens formed =
+    let front : All IsFormed steps = All-same-front steps formed in
+    let last : IsCall call = All-contains IsFormed (steps ++ CallStep session call ∷ []) (CallStep session call) formed (Contains-push steps (CallStep session call)) in
+    calls_keep_maps state session call last (map opens front)
+  where
+    All-same-front : (xs : List Step) → All IsFormed (xs ++ CallStep session call ∷ []) → All IsFormed xs
+    All-same-front xs all = subst (All IsFormed) (take-append_seam xs (CallStep session call ∷ [])) (All-take IsFormed (length xs) (xs ++ CallStep session call ∷ []) all)
 
 pub HasServed-push : (apps : List (List ℕ)) (objects : ObjectMap) (start : ℕ) (steps : List Step) (state : MachineState) (counter : ℕ) (numbers : List ℕ) (events : List Event) (session : ℕ) (call : Call) → HasServed apps objects start steps state counter numbers events → session < length apps → start + length steps + 1 < 2 ^ 32 → HasServed apps objects start (steps ++ CallStep session call ∷ []) (state_after state session call) (counter_after counter (is_commit state session call (reply_of state session call))) (next_numbers numbers session) (events ++ event_of state counter session (slice_index numbers session) call ∷ [])
 HasServed-push apps objects start steps state counter numbers events session call h lt few =
-    let now : Standing = record { state = state; counter = counter; doubt = None } in
-    let event = event_of state counter session (slice_index numbers session) call in
+    let first : Standing = opening (opened_with objects apps start) in
+    let now : Standing = replay first (untagged events) in
+    let number = slice_index numbers session in
+    let event = event_of state counter session number call in
     let reply = reply_of state session call in
     let committed = is_commit state session call reply in
     let inside : session < length numbers = omega (arith, h.each_session) in
     let longer : length (steps ++ CallStep session call ∷ []) ≡ length steps + 1 = length-append steps (CallStep session call ∷ []) in
     let commits : counter_after counter committed ≤ start + length steps + 1 = counter_after-le committed counter (start + length steps) h.few_commits in
-    let answered : IsLegalEvent [] now event None = inl (record { replied = refl; marked = refl; counted = omega arith }) in record {
-      stands = replay-push (opening objects apps start) events event ∙ ap (λ s. standing_after s event) h.stands ∙ standing-answered committed state counter session call;
-      legal = IsLegalFrom-push (opening objects apps start) events event h.legal (subst (λ s. IsLegalEvent [] s event None) (sym h.stands) answered);
-      served = steps_served-push events session (slice_index numbers session) call reply _ ∙ ap (λ served. served ++ CallStep session call ∷ []) h.served;
-      numbered = AreNumbers-push numbers events session call reply _ inside h.numbered;
+    let small : counter_after counter committed < 2 ^ 32 = omega (arith, commits, few) in
+    let many : length state.sessions ≡ length apps = sym (length-map state.sessions (λ x. x.application)) ∙ ap length h.sessions in
+    let there : length now.state.sessions ≡ length state.sessions = ap (λ (m : MachineState). length m.sessions) h.stands.state_is in
+    let same : event_of now.state now.counter session number call ≡ event = (λ k. event_of (h.stands.state_is k) (h.stands.counter_is k) session number call) in
+    let legal : IsLegalEvent [] now (event_of now.state now.counter session number call) None =
+    legal-answered now session number call h.stands.undoubted h.stands.fileless (omega (arith, lt, many, there))
+    (subst (λ (n : ℕ). n < 2 ^ 32) (λ k. counter_after (sym h.stands.counter_is k) (is_commit (sym h.stands.state_is k) session call (reply_of (sym h.stands.state_is k) session call))) small) in
+    let pushed : replay first (untagged (events ++ event ∷ [])) ≡ standing_after now (event_of now.state now.counter session number call) None =
+    replay-push first events event ∙ ap (λ (e : Event). standing_after now e None) (sym same) in
+    let numbers_are = AreNumbers-push numbers events session call reply (mark_of counter committed) inside (are-numbers numbers events h.numbered h.counts) in
+    record {
+      stands = record {
+        state_is = ap (λ (x : Standing). x.state) pushed ∙ state-after now session number call h.stands.undoubted h.stands.fileless ∙ ap (λ (m : MachineState). state_after m session call) h.stands.state_is;
+        counter_is = ap (λ (x : Standing). x.counter) pushed ∙ counter-after now session number call h.stands.undoubted h.stands.fileless
+            ∙ (λ k. counter_after (h.stands.counter_is k) (is_commit (h.stands.state_is k) session call (reply_of (h.stands.state_is k) session call)));
+        undoubted = ap (λ (x : Standing). x.doubt) pushed ∙ undoubted-after now session number call h.stands.undoubted h.stands.fileless;
+        fileless = λ name. ap (λ (x : Standing). x.files name) pushed ∙ fileless-after now session number call h.stands.undoubted h.stands.fileless name;
+      };
+      legal = IsLegalFrom-push first events event h.legal (subst (λ (e : Event). IsLegalEvent [] now e None) same legal);
+      map = map-push objects steps state session call h.map;
+      served = steps_served-push events session number call reply _ ∙ ap (λ served. served ++ CallStep session call ∷ []) h.served;
+      numbered = numbered (next_numbers numbers session) (events ++ event ∷ []) numbers_are;
+      counts = counted (next_numbers numbers session) (events ++ event ∷ []) numbers_are;
       sessions = applications-sessions state session call ∙ h.sessions;
       each_session = length-set numbers session _ ∙ h.each_session;
-      few_commits = omega arith;
+      few_commits = omega (arith, commits, longer);
       few_entries = λ who. omega (arith, longer, few_entries-push numbers session (length steps) inside h.few_entries who);
     }
 
@@ -213,10 +204,12 @@ slice_index-replicate (suc n) (suc i) = slice_index-replicate n i
 -- nothing was served of a phase that has just been opened
 pub HasServed-none : (objects : ObjectMap) (apps : List (List ℕ)) (counter count : ℕ) → count ≡ length apps → HasServed apps objects counter [] (opened_store objects apps) counter (replicate count 0) []
 HasServed-none objects apps counter count e = record {
-  stands = refl;
+  stands = record { state_is = refl; counter_is = refl; undoubted = refl; fileless = λ name. refl };
   legal = tt;
+  map = λ opens formed. opens;
   served = refl;
-  numbered = λ session. sym (ap (range_with_len 0) (slice_index-replicate count session));
+  numbered = λ session. refl;
+  counts = λ session. sym (slice_index-replicate count session);
   sessions = applications-new apps;
   each_session = length-replicate count 0 ∙ e;
   few_commits = omega arith;

@@ -5,9 +5,10 @@ use Rattle.store_model.specs.declared.event.Event.{Event}
 use Rattle.store_model.specs.declared.event.Event.TheVariants.{Call as CallEvent, Landed}
 use Rattle.store_model.specs.Object.{ObjectMap}
 use Rattle.store_model.specs.History.{calls_of}
-use Rattle.store_model.specs.Record.{untagged}
-use Rattle.store_model.specs.Legal.{opening, replay}
-use Rattle.store_model.specs.LegalHistory.{PhaseOpening, IsLegal}
+use Rattle.store_model.specs.Record.{Record, events_of}
+use Rattle.store_model.specs.Standing.{PhaseOpening}
+use Rattle.store_model.specs.LegalHistory.{IsLegal, end_of}
+use Rattle.store_model.specs.Commits.{map_after}
 use Rattle.script_text.specs.declared.script.Step.{Step}
 use Rattle.script_text.specs.declared.script.Step.TheVariants.{Call as CallStep, Control as ControlStep}
 use Rattle.script_text.specs.Text.{PhaseRecord, Act, Serve, Do, acts_of}
@@ -49,20 +50,25 @@ ServesPhases (steps ∷ phases) (phase ∷ rest) = ServesSteps steps phase.event
 
 -- what a phase opens with before there are devices: no object has a file
 abbrev pub opened_with : ObjectMap → List (List ℕ) → ℕ → PhaseOpening
-opened_with objects applications counter = record { objects = objects; files = λ _. None; applications = applications; counter = counter }
+opened_with objects applications counter = record { objects = objects; files = λ name. None; applications = applications; counter = counter }
 
--- Each phase opens with the objects and the counter that the one before left, and its history is legal: no file is dishonest, and
--- no commit is left in doubt.
+-- A phase opens with these objects and that counter, and its history is legal: no file is dishonest, and no commit is left in doubt. It
+-- leaves the objects and the counter at the end of its replay.
+pub record IsLegalPhase (applications : List (List ℕ)) (objects : ObjectMap) (counter : ℕ) (phase : PhaseRecord) (left : ObjectMap) (after : ℕ) : Type 0 where
+  pub opens : phase.opening ≡ objects
+  -- the phase's events, with what each tells of a file
+  pub records : List (Record (Unit {0}))
+  pub events : events_of records ≡ phase.events
+  pub legal : IsLegal (opened_with objects applications counter) [] records None
+  pub map_left : map_after legal ≡ left
+  pub counter_left : (end_of legal).counter ≡ after
+
+-- Each phase opens with the objects and the counter that the one before left.
+abbrev pub IsPhaseChain : List (List ℕ) → ObjectMap → ℕ → List PhaseRecord → ObjectMap → ℕ → Type 0
+IsPhaseChain applications objects counter [] left after = (left ≡ objects) × (after ≡ counter)
+IsPhaseChain applications objects counter (phase ∷ rest) left after =
+    (between : ObjectMap) × (number : ℕ) × IsLegalPhase applications objects counter phase between number × IsPhaseChain applications between number rest left after
+
+-- the same, whatever the last one leaves
 abbrev pub AreLegalPhases : List (List ℕ) → ObjectMap → ℕ → List PhaseRecord → Type 0
-AreLegalPhases applications objects counter [] = Unit {0}
-AreLegalPhases applications objects counter (phase ∷ rest) =
-    let end = replay (opening objects applications counter) phase.events in
-    (phase.opening ≡ objects) × IsLegal (opened_with objects applications counter) [] (untagged phase.events) None
-    × AreLegalPhases applications (end.state).objects end.counter rest
-
--- the objects and the counter that these phases leave
-abbrev pub left_by : List (List ℕ) → ObjectMap → ℕ → List PhaseRecord → ObjectMap × ℕ
-left_by applications objects counter [] = (objects, counter)
-left_by applications objects counter (phase ∷ rest) =
-    let end = replay (opening objects applications counter) phase.events in
-    left_by applications (end.state).objects end.counter rest
+AreLegalPhases applications objects counter phases = (left : ObjectMap) × (after : ℕ) × IsPhaseChain applications objects counter phases left after

@@ -1,11 +1,13 @@
 -- A run between two acts: what was done, what was put, and where the store stands.
 use Rattle.std.specs.Prelude.{ℕ, ◌≡◌, ◌≤◌, ◌+◌, List, [], ◌++◌, length, Option, All}
 use Rattle.store_model.specs.Machine.{MachineState, applications}
+use Rattle.store_model.specs.Sound.{IsObjectMap}
 use Rattle.script_text.specs.declared.script.Step.{Step}
 use Rattle.script_text.specs.Script.{ScriptValue, IsPlaced}
+use Rattle.script_text.specs.Laws.{IsFormed}
 use Rattle.script_text.specs.Text.{PhaseRecord, Act, acts_of, acts_text}
 use Rattle.tee_ports.specs.Streams.{Appends}
-use Rattle.store_run.specs.Phases.{phases_of, ServesPhases, AreLegalPhases, left_by}
+use Rattle.store_run.specs.Phases.{phases_of, ServesPhases, IsPhaseChain}
 use Rattle.store_run.specs.Sending.{Sends}
 use Rattle.store_run.specs.Trace.{applications_of, IsTextOf}
 
@@ -17,12 +19,13 @@ pub record HasRun (script : ScriptValue) (held_old held_new : Option (List ℕ))
   pub phases : length (phases_of done) ≡ length records
   pub counted : length records ≡ number
   pub sent : Sends held_old held_new [] kept (acts_text script 0 done records)
-  pub legal : AreLegalPhases (applications_of script) [] 0 records
+  pub legal : IsPhaseChain (applications_of script) [] 0 records state.objects counter
   pub calls : ServesPhases (phases_of done) records
-  pub left : left_by (applications_of script) [] 0 records ≡ (state.objects, counter)
+  pub map : IsObjectMap state.objects
   pub sessions : applications state.sessions ≡ applications_of script
   pub each_session : length numbers ≡ length (applications_of script)
   pub placed : All (IsPlaced (length (applications_of script))) steps
+  pub formed : All IsFormed steps
   pub few : counter + length steps ≤ 16777216
   pub few_phases : number + length steps ≤ 16777216
 

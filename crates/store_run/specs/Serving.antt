@@ -1,21 +1,22 @@
 -- A phase while it is served, one call after another.
-use Rattle.std.specs.Prelude.{ℕ, ◌≡◌, ◌≤◌, ◌+◌, ◌==◌, Bool, true, false, not, ◌&&◌, nat_lt, List, [], ◌∷◌, ◌++◌, length, slice_index, slice_set, None, All}
-use Rattle.std.specs.List.{range_with_len}
-use Rattle.tee_types.specs.declared.reply.Reply.{Reply}
-use Rattle.tee_types.specs.declared.call.Call.TheVariants.{Create, Write, Truncate, Rename, Delete}
+use Rattle.std.specs.Prelude.{ℕ, ◌≡◌, ◌≤◌, ◌+◌, true, List, [], ◌∷◌, ◌++◌, length, slice_index, slice_set, None, All}
 use Rattle.tee_types.specs.declared.call.Call.{Call}
 use Rattle.store_model.specs.declared.event.Event.{Event}
 use Rattle.store_model.specs.declared.event.Event.TheVariants.{Call as CallEvent}
 use Rattle.store_model.specs.Object.{ObjectMap}
 use Rattle.store_model.specs.Machine.{MachineState, applications}
-use Rattle.store_model.specs.Calls.{reply_of, state_after, is_commit, is_handle, is_done}
-use Rattle.store_model.specs.History.{numbers_of}
+use Rattle.store_model.specs.declared.name.ObjectName.{ObjectName}
+use Rattle.store_model.specs.Sound.{IsObjectMap}
+use Rattle.store_model.specs.Calls.{reply_of, state_after, is_commit}
+use Rattle.store_model.specs.History.{count_of, AreNumbered}
 use Rattle.store_model.specs.Record.{untagged}
-use Rattle.store_model.specs.Legal.{Standing, IsLegalFrom, opening, replay, mark_of, counter_after}
+use Rattle.store_model.specs.Standing.{Standing, opening, replay}
+use Rattle.store_model.specs.Legal.{IsLegalFrom, mark_of, counter_after}
 use Rattle.script_text.specs.declared.script.Step.{Step}
 use Rattle.script_text.specs.declared.script.Step.TheVariants.{Call as CallStep, Control as ControlStep}
 use Rattle.script_text.specs.Script.{IsPlaced, is_call}
-use Rattle.store_run.specs.Phases.{steps_served}
+use Rattle.script_text.specs.Laws.{IsFormed}
+use Rattle.store_run.specs.Phases.{steps_served, opened_with}
 
 -- the entry of a call that is answered as the machine does
 abbrev pub event_of : MachineState → ℕ → ℕ → ℕ → Call → Event
@@ -23,22 +24,16 @@ event_of state counter session number call =
     let reply = reply_of state session call in
     CallEvent session number call reply (mark_of counter (is_commit state session call reply))
 
--- each session has as many entries as its number says, numbered from 0 on
-abbrev pub AreNumbers : List ℕ → List Event → Type 0
-AreNumbers numbers events = (session : ℕ) → numbers_of session events ≡ range_with_len 0 (slice_index numbers session)
+-- each session has as many entries as its number says
+abbrev pub AreCounts : List ℕ → List Event → Type 0
+AreCounts numbers events = (session : ℕ) → count_of session events ≡ slice_index numbers session
 
--- where the replay of these events stands, with no doubt
-abbrev pub StandsAt : Standing → List Event → MachineState → ℕ → Type 0
-StandsAt start events state counter = replay start events ≡ record { state = state; counter = counter; doubt = None }
-
--- the call, answered so, changes the map of objects, where its object had that size before
-abbrev pub is_commit_of : Call → ℕ → Reply → Bool
-is_commit_of (Create id flags attributes bytes) size reply = is_handle reply
-is_commit_of (Write handle bytes) size reply = is_done reply && nat_lt 0 (length bytes)
-is_commit_of (Truncate handle new) size reply = is_done reply && not (new == size)
-is_commit_of (Rename handle id) size reply = is_done reply
-is_commit_of (Delete handle) size reply = is_done reply
-is_commit_of _ size reply = false
+-- where the replay of these events stands: with no doubt, and no object has a file
+pub record StandsAt (start : Standing) (events : List Event) (state : MachineState) (counter : ℕ) : Type 0 where
+  pub state_is : (replay start (untagged events)).state ≡ state
+  pub counter_is : (replay start (untagged events)).counter ≡ counter
+  pub undoubted : (replay start (untagged events)).doubt ≡ None
+  pub fileless : (name : ObjectName) → (replay start (untagged events)).files name ≡ None
 
 -- these steps are calls of the first n applications
 abbrev pub AreCalls : ℕ → List Step → Type 0
@@ -63,10 +58,13 @@ IsServed (ControlStep control) state counter numbers events new_state new_counte
 
 -- These steps have been served since the phase opened with these objects and that counter: where it stands, and its history so far.
 pub record HasServed (apps : List (List ℕ)) (objects : ObjectMap) (start : ℕ) (steps : List Step) (state : MachineState) (counter : ℕ) (numbers : List ℕ) (events : List Event) : Type 0 where
-  pub stands : StandsAt (opening objects apps start) events state counter
-  pub legal : IsLegalFrom [] (opening objects apps start) (untagged events)
+  pub stands : StandsAt (opening (opened_with objects apps start)) events state counter
+  pub legal : IsLegalFrom [] (opening (opened_with objects apps start)) (untagged events)
+  -- the objects are a map, where the phase opened with one
+  pub map : IsObjectMap objects → All IsFormed steps → IsObjectMap state.objects
   pub served : steps_served events ≡ steps
-  pub numbered : AreNumbers numbers events
+  pub numbered : AreNumbered events
+  pub counts : AreCounts numbers events
   pub sessions : applications state.sessions ≡ apps
   pub each_session : length numbers ≡ length apps
   pub few_commits : counter ≤ start + length steps

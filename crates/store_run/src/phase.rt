@@ -2,10 +2,10 @@
 
 ghost use Rattle.std.specs.Prelude.{◌≡◌, ◌+◌, ◌<◌, ◌^◌, ℕ, [], ◌∷◌, ◌++◌, length, true, slice_index, slice_set, replicate, IfOk, OnOk};
 ghost use Rattle.store_model.specs.Machine.{applications, next_phase, opened_store};
-ghost use Rattle.store_model.specs.Calls.{reply_of, state_after, is_commit};
+ghost use Rattle.store_model.specs.Calls.{reply_of, state_after, size_before, is_commit_of, is_commit};
 ghost use Rattle.store_model.specs.Legal.{mark_of, counter_after};
 ghost use Rattle.script_text.specs.Script.{IsPlaced, is_call};
-ghost use Rattle.store_run.specs.Serving.{event_of, is_commit_of, IsServed, AreCalls, HasServed};
+ghost use Rattle.store_run.specs.Serving.{event_of, IsServed, AreCalls, HasServed};
 ghost use Rattle.store_run.specs.Trace.{applications_of};
 
 use script_text::{Script, Step};
@@ -78,7 +78,7 @@ fn commits(call: &Call, size: u32, reply: &Reply) -> bool
 /// The size of the object that a truncate is about to change; 0 for every other call.
 fn size_before(state: &State, session: u32, call: &Call) -> u32
     requires { session < length state.now.sessions }
-    ensures { (reply : _) → is_commit_of call.now result reply ≡ is_commit state.now session call.now reply }
+    ensures { result ≡ size_before state.now session call.now }
 {
     match call {
         Call::Truncate { handle, .. } => state.size_under(session, *handle),

@@ -1,10 +1,11 @@
 //! Running the steps of a script, one act after another.
 
-ghost use Rattle.std.specs.Prelude.{◌≡◌, ◌≤◌, ◌⊎◌, ◌<◌, ℕ, List, Option, length, OnOk, OnErr, IfOk, IfErr};
+ghost use Rattle.std.specs.Prelude.{◌≡◌, ◌≤◌, ◌⊎◌, ◌<◌, ℕ, List, Option, length, All, OnOk, OnErr, IfOk, IfErr};
 ghost use Rattle.std.specs.List.{prefix_len};
 ghost use Rattle.tee_ports.specs.Faults.{Rose};
 ghost use Rattle.tee_ports.specs.Streams.{Appends};
 ghost use Rattle.script_text.specs.Script.{is_call};
+ghost use Rattle.script_text.specs.Laws.{IsFormed};
 ghost use Rattle.script_text.specs.Text.{PhaseRecord};
 ghost use Rattle.store_run.specs.Trace.{IsTextOf, IsWholeTextOf};
 ghost use Rattle.store_run.specs.Serving.{IsCallFirst};
@@ -106,7 +107,8 @@ fn run_act<'a, K: Sink>(
 
 /// A run that has done nothing yet.
 fn begin(alloc: Global, script: &Script) -> Result<Run, NoMemory>
-    requires { length script.now.steps ≤ 16777216 }
+    requires few { length script.now.steps ≤ 16777216 }
+    requires formed { All IsFormed script.now.steps }
     ensures { IfOk result (λ run. (held : Option (List ℕ)) → HasRun script.now held held script.now.steps run.phase.state run.phase.counter run.phase.numbers.items run.number run.kept.items) }
 {
     let _steps = script.all_steps();
@@ -119,7 +121,8 @@ fn begin(alloc: Global, script: &Script) -> Result<Run, NoMemory>
 
 /// Runs the steps of a script, and writes their text.
 pub fn run_script<K: Sink>(alloc: Global, script: &Script, sink: &mut K) -> Result<(), Status>
-    requires { length script.now.steps ≤ 16777216 }
+    requires few { length script.now.steps ≤ 16777216 }
+    requires formed { All IsFormed script.now.steps }
     ensures text { (put : List ℕ) × (phases : List PhaseRecord)
         × Appends (K.held sink.old) (K.held sink.new) put
         × IsTextOf script.now put phases

@@ -10,4 +10,4 @@ returns c = λ held.
     let e = c.in_ok-first_phase.ensures in
     let placed = subst (λ n. All (IsPlaced n) script.steps) (sym (length-map script.applications (λ d. d.app)))
     (subst (All (IsPlaced (length script.applications))) c.all_steps-steps.ensures.steps c.all_steps-steps.ensures.placed) in
-    rw (e.store, e.counter, c.new.ensures.items) (HasRun-begin script held c.in_ok-first_phase.field-0.numbers.items c.requires e.numbers placed)
+    rw (e.store, e.counter, c.new.ensures.items) (HasRun-begin script held c.in_ok-first_phase.field-0.numbers.items c.requires.few e.numbers placed c.requires.formed)

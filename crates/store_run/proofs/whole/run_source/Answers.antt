@@ -1,6 +1,7 @@
 use Rattle.std.proofs.Common.{◌≡◌, [], refl, sym, ap, ◌∙◌, inr, Ok, subst}
 use Rattle.store_run.specs.Reading.{IsScriptError}
 use Rattle.script_text.specs.Grammar.{script_of}
+use Rattle.script_text.proofs.FormedSteps.{scripts_call_well}
 use Rattle.store_run.specs.Trace.{Trace}
 use Rattle.store_run.proofs.Running.{IsTraceOf-nothing_put, HasCause-read, HasCause-script, HasCause-write}
 use Rattle.store_run.proofs.whole.run_source.Goals as goal
@@ -40,3 +41,6 @@ returns g c =
       record { taken = r.1; bounded = r.2; put = x.2; text = inr (c.in-Ok-read_script.script, is, x.3) },
       HasCause-write _ t c.in-Ok-read_script.script c.in-Err-run_script.status c.in-Err-run_script.ensures.error (r.3.1, r.3.2) is,
     )
+
+pub run_script-requires-clause-formed : goal.run_script-requires-clause-formed
+run_script-requires-clause-formed g c = scripts_call_well c.as_slice.result.now c.in-Ok-read_script.script c.in-Ok-read_script.ensures.0
