@@ -1,5 +1,5 @@
 -- A tree that was made is the one that its reference names.
-use Rattle.std.proofs.Common.{◌≡◌, ℕ, ◌+◌, ◌-◌, ◌<◌, ◌≤◌, List, [], length, get_or, map, Bool, true, false, Option, None, Some, Ok, refl, sym, ◌∙◌, ap, subst, arith}
+use Rattle.std.proofs.Common.{◌≡◌, ℕ, ◌<◌, ◌≤◌, List, [], length, get_or, map, Bool, true, Option, None, Some, Ok, refl, sym, ◌∙◌, ap, subst, arith}
 use Rattle.std.proofs.lemmas.Bool.{false≢true}
 use Rattle.std.proofs.lemmas.List.{get_or-map, length-map}
 use Rattle.aes_block.specs.WrappedKey.{unwrapped_of}
@@ -11,7 +11,7 @@ use Rattle.node_image.specs.Tables.{at_node}
 use Rattle.node_image.specs.Selection.{row}
 use Rattle.node_image.proofs.Matching.{row_is}
 use Rattle.htree_file.specs.declared.change.BlockChange.{BlockChange}
-use Rattle.htree_file.specs.Changes.{IsChanged, Seals, block_at, numbered, page_at}
+use Rattle.htree_file.specs.Changes.{IsChanged, Seals, block_at, numbered}
 use Rattle.htree_file.specs.Opening.{IsVerified, Loaded, load_of}
 use Rattle.htree_file.specs.Pages.{opened_in, opened_of, page_in}
 use Rattle.htree_file.specs.Staging.{IsWritten}

@@ -1,5 +1,5 @@
 -- One turn of the loops that draw vectors, seal pages and write nodes.
-use Rattle.std.proofs.Common.{◌≡◌, ◌≢◌, inl, inr, ℕ, ◌+◌, ◌-◌, ◌*◌, ◌<◌, ◌≤◌, List, length, get_or, set, Bool, true, false, cond, refl, sym, ◌∙◌, ap, subst, arith}
+use Rattle.std.proofs.Common.{◌≡◌, ◌≢◌, inl, inr, ℕ, ◌+◌, ◌-◌, ◌*◌, ◌<◌, ◌≤◌, List, length, get_or, set, Bool, true, cond, refl, sym, ◌∙◌, ap, subst, arith}
 use Rattle.std.proofs.lemmas.Bool.{cases_lt, cases_eq}
 use Rattle.std.proofs.lemmas.List.{get_or-set_other, get_or-set_same}
 use Rattle.disk_model.specs.State.{FileState}
@@ -13,7 +13,7 @@ use Rattle.node_image.specs.Parts.Part.{block, head, node}
 use Rattle.node_image.specs.Tables.{at_node, block_bit, block_version, no_node, node_version}
 use Rattle.node_image.proofs.PartPlaces.{off_other}
 use Rattle.htree_file.specs.declared.change.BlockChange.{BlockChange}
-use Rattle.htree_file.specs.Changes.{AreApart, IsChanged, block_at, page_at}
+use Rattle.htree_file.specs.Changes.{AreApart, block_at, page_at}
 use Rattle.htree_file.specs.Staging.{AreSealed, IsSealed, NodeStands, NodesStand, OffBlocks, OffNodes, SealsAnew, WritesAtMost, named_block, named_node}
 use Rattle.htree_file.specs.WriteSets.{AreTurned, IsTurned}
 use Rattle.htree_file.proofs.PartWrites.{stands_kept}

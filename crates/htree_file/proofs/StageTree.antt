@@ -1,11 +1,11 @@
 -- A stage, as the tree that it belongs to sees it.
-use Rattle.std.proofs.Common.{◌≡◌, ◌↔◌, ℕ, ◌+◌, ◌≤◌, List, ◌++◌, length, take, drop, Option, Some, None, IfSome, option_map, IsTrue, refl, sym, ◌∙◌, ap, subst, arith}
+use Rattle.std.proofs.Common.{◌≡◌, ℕ, ◌+◌, ◌≤◌, List, ◌++◌, length, take, drop, Option, Some, None, IfSome, option_map, subst, arith}
 use Rattle.std.proofs.lemmas.List.{take_at}
 use Rattle.node_image.specs.declared.node.NodeImage.{NodeImage}
 use Rattle.node_image.specs.declared.node.RootRef.{RootRef}
 use Rattle.node_image.specs.declared.head.Head.{Head}
 use Rattle.tree_paths.specs.Paths.{holds}
-use Rattle.tree_paths.specs.Staged.{IsStaged, IsWithinBudget, count_to, write_budget}
+use Rattle.tree_paths.specs.Staged.{IsWithinBudget, count_to, write_budget}
 use Rattle.htree_file.specs.declared.change.BlockChange.{BlockChange}
 use Rattle.htree_file.specs.declared.staging.NewVersion.{NewVersion}
 use Rattle.htree_file.specs.Changes.{changed_blocks, changes_of}

@@ -1,11 +1,10 @@
-use Rattle.std.proofs.Common.{◌≡◌, inl, ℕ, List, ◌++◌, length, map, take, drop, Some, Ok, sym, ◌∙◌, ap, subst, arith}
+use Rattle.std.proofs.Common.{◌≡◌, inl, List, ◌++◌, length, map, take, drop, Some, Ok, sym, ◌∙◌, ap, subst, arith}
 use Rattle.disk_model.specs.Calls.{Known}
 use Rattle.aes_block.specs.WrappedKey.{unwrapped_of}
 use Rattle.node_image.specs.declared.node.NodeImage.{NodeImage}
 use Rattle.node_image.specs.declared.head.Head.{Head}
 use Rattle.htree_file.specs.Changes.{numbered}
 use Rattle.htree_file.specs.Making.{NamesVersionZero}
-use Rattle.htree_file.specs.Opening.{Loaded}
 use Rattle.htree_file.specs.Stages.{IsMade}
 use Rattle.htree_file.proofs.ChangeLists.{whole_changes}
 use Rattle.htree_file.proofs.Firmness.{synced_firm}
