@@ -42,9 +42,6 @@ turned_step nodes table dirty moved k made lt one before j under = elim (cases_l
 ]
 
 -- one node more gets a vector or a tag
-pub anew_none : (changes : List BlockChange) (table : List NodeImage) → SealsAnew changes table table
-anew_none changes table = record { flags = λ k. refl; others = λ k out. refl }
-
 pub anew_step : (changes : List BlockChange) (old now : List NodeImage) (j k : ℕ) (made : NodeImage) → block_at changes j ≡ k → j < length changes → k < length now
     → made.flags ≡ (get_or now k no_node).flags → SealsAnew changes old now → SealsAnew changes old (set now k made)
 anew_step changes old now j k made at lt low same before = record {
@@ -55,9 +52,6 @@ anew_step changes old now j k made at lt low same before = record {
   ];
   others = λ m out. get_or-set_other now k m made no_node (λ here. out (record { place = j; below = lt; is = at ∙ sym here })) ∙ before.others m out;
 }
-
-pub anew_then : (changes : List BlockChange) (a b c : List NodeImage) → SealsAnew changes a b → SealsAnew changes b c → SealsAnew changes a c
-anew_then changes a b c first second = record { flags = λ k. second.flags k ∙ first.flags k; others = λ k out. second.others k out ∙ first.others k out }
 
 -- a sealed page stays where other places are written
 pub sealed_kept : (K : ℕ → Type 0) (a b c : FileState) (key : List ℕ) (h : Head) (n : NodeImage) (k : ℕ) (page : List ℕ) → GoesOn a b → Keeps K b c
