@@ -12,7 +12,7 @@ ghost use Rattle.ghash_field.specs.Ghash.{ghash};
 ghost use Rattle.ghash_field.specs.Hasher.{Holds};
 ghost use Rattle.ghash_field.specs.Table.{block_step};
 
-use table::{Table, mul_by_table, table_of};
+use table::{Table, fill_table, mul_by_table};
 
 mod table;
 #[cfg(test)]
@@ -77,10 +77,19 @@ impl Ghash {
     pub fn new(h: u128) -> Ghash
         ensures { Holds result h [] }
     {
-        Ghash {
-            table: table_of(h),
+        let mut hash = Ghash {
+            table: [[0; 16]; 32],
             sum: 0,
-        }
+        };
+        fill_table(&mut hash.table, h);
+        hash
+    }
+
+    /// Begins again with no block, under the same hash subkey, and makes no new table.
+    pub fn restart(&mut self)
+        ensures { (h : ℕ) (xs : List ℕ) → Holds self.old h xs → Holds self.new h [] }
+    {
+        self.sum = 0;
     }
 
     /// Takes in one block.

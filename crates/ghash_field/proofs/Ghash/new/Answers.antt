@@ -5,4 +5,4 @@ use Rattle.ghash_field.proofs.Ghash.new.Goals as goal
 
 pub returns : goal.returns
 unfolding Holds ghash
-returns c = (c.ranges.h.fits, c.table_of.ensures, refl)
+returns c = (c.ranges.h.fits, c.fill_table.ensures, refl)
