@@ -37,7 +37,8 @@ pub fn seal(key: &Aes128, iv: &[u8], aad: &[u8], text: &mut [u8]) -> [u8; 16]
     ensures text { text.new ≡ gcm_text (cipher key.now) iv.now text.old }
     ensures tag { result ≡ gcm_tag (cipher key.now) iv.now aad.now text.new }
 {
-    let mut hash = Ghash::new(hash_subkey(key));
+    let mut hash = Ghash::of_zero();
+    hash.begin(hash_subkey(key));
     let first = pre_counter_block(&mut hash, iv);
     let mut counter = first;
     inc32(&mut counter);
@@ -65,7 +66,8 @@ pub fn open_text(
     ensures undoes_seal { (plain : List ℕ) → text.old ≡ gcm_text (cipher key.now) iv.now plain
         → tag.now ≡ gcm_tag (cipher key.now) iv.now aad.now text.old → (result ≡ Ok tt) × (text.new ≡ plain) }
 {
-    let mut hash = Ghash::new(hash_subkey(key));
+    let mut hash = Ghash::of_zero();
+    hash.begin(hash_subkey(key));
     let first = pre_counter_block(&mut hash, iv);
     let found = tag_of(key, &mut hash, &first, aad, text);
     if found != *tag {

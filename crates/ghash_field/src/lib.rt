@@ -77,12 +77,27 @@ impl Ghash {
     pub fn new(h: u128) -> Ghash
         ensures { Holds result h [] }
     {
-        let mut hash = Ghash {
+        let mut hash = Ghash::of_zero();
+        hash.begin(h);
+        hash
+    }
+
+    /// A hasher of no block, under the hash subkey 0. Its table is all zeros, and takes no work.
+    pub fn of_zero() -> Ghash
+        ensures { Holds result 0 [] }
+    {
+        Ghash {
             table: [[0; 16]; 32],
             sum: 0,
-        };
-        fill_table(&mut hash.table, h);
-        hash
+        }
+    }
+
+    /// Begins with no block, under the hash subkey `h`: its table is made where the one before stands.
+    pub fn begin(&mut self, h: u128)
+        ensures { Holds self.new h [] }
+    {
+        fill_table(&mut self.table, h);
+        self.sum = 0;
     }
 
     /// Begins again with no block, under the same hash subkey, and makes no new table.

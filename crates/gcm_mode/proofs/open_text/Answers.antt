@@ -10,7 +10,7 @@ pub returns-clause-tags : goal.returns-clause-tags
 unfolding gcm_text
 returns-clause-tags c =
     let same : c.args.tag.now ≡ c.tag_of-found.result = search rules in
-    let begun = subst (λ h. Holds c.new-hash.result h []) c.hash_subkey.ensures c.new-hash.ensures in
+    let begun = subst (λ h. Holds c.begin.new.self h []) c.hash_subkey.ensures c.begin.ensures in
     let first = c.pre_counter_block-first.ensures.block (cipher c.args.key.now) begun in (
       same ∙ c.tag_of-found.ensures c.args.iv.now (c.pre_counter_block-first.ensures.hash _ begun) first,
       c.apply_stream.ensures ∙ ap (λ b. gctr (cipher c.args.key.now) b c.args.text.now) (c.inc32.ensures ∙ ap inc32 first),
