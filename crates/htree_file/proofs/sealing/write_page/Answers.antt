@@ -1,13 +1,12 @@
-use Rattle.std.proofs.lemmas.Result.{err_from_is_err_and}
-use Rattle.htree_file.proofs.Causes.{draw_cause, draw_device}
+use Rattle.std.proofs.Common.{◌≡◌, List, sym, ◌∙◌, subst, ℕ}
+use Rattle.node_image.specs.Parts.Part.{block}
+use Rattle.htree_file.specs.Standing.{Stands}
+use Rattle.htree_file.proofs.PageLaws.{page_good}
 use Rattle.htree_file.proofs.sealing.write_page.Goals as goal
 
-pub returns-in_err-iv-clause-cause : goal.returns-in_err-iv-clause-cause
-returns-in_err-iv-clause-cause g c =
-    let p = err_from_is_err_and c.from_residual.result c.from_residual.ensures.1 in
-    rw (p.1, p.2) (draw_cause (g.F.StoreFile.state c.args.file.now) c.in_err-iv.field-0.0 c.in_err-iv.ensures.fault)
-
-pub returns-in_err-iv-clause-fault : goal.returns-in_err-iv-clause-fault
-returns-in_err-iv-clause-fault g c =
-    let p = err_from_is_err_and c.from_residual.result c.from_residual.ensures.1 in
-    rw (p.1, p.2) (draw_device c.in_err-iv.field-0.0 c.in_err-iv.ensures.fault)
+pub returns-clause-sealed : goal.returns-clause-sealed
+returns-clause-sealed g c = record {
+  ciphertext = c.seal_page-tag.new.page;
+  opens = page_good c.args.key.now c.args.head.now (record c.args.node.now { tag = c.seal_page-tag.result }) c.args.k c.seal_page-tag.new.page c.args.page.now c.seal_page-tag.ensures.tag (sym c.seal_page-tag.ensures.text);
+  stands = λ known. subst (λ (v : ℕ). Stands (g.F.StoreFile.state c.write_block.new.file).reads (block c.args.k v) c.seal_page-tag.new.page) c.version_of_block.ensures.value (c.in_ok-write_block.ensures.stands known);
+}
