@@ -1,6 +1,6 @@
 -- Arms: which of the coming calls a device is set to fail, and before which a mask strikes it. Calls are counted from 1
 -- since the last arming.
-use Rattle.std.specs.Prelude.{◌≡◌, ◌⊎◌, ℕ, ◌<◌, List, [], ◌∷◌, ◌++◌, Option, Some, None, IsSomeAnd, Contains, ◌==◌, filter}
+use Rattle.std.specs.Prelude.{◌≡◌, ◌⊎◌, ℕ, ◌+◌, ◌<◌, List, [], ◌∷◌, ◌++◌, Option, Some, None, IsSomeAnd, Contains, ◌==◌, filter}
 use Rattle.disk_model.specs.Faults.{next_count}
 
 -- before this call the mask is laid over the bytes from a place on
@@ -11,9 +11,9 @@ pub record Taint : Type 0 where
 
 pub record Arms : Type 0 where
   pub calls : ℕ
-  -- all calls past this number fail
+  -- all calls past this number fail; the device stops at the first of them
   pub stop_after : Option ℕ
-  -- these calls fail
+  -- these calls fail without reaching the device
   pub failing : List ℕ
   pub taints : List Taint
 
@@ -38,6 +38,12 @@ abbrev pub NamesNext : Arms → Type 0
 NamesNext arms =
     IsSomeAnd arms.stop_after (λ calls. calls < next_count arms.calls)
     ⊎ Contains arms.failing (next_count arms.calls)
+
+-- the device stops at the next call, which is not one of those that are to fail without reaching it
+abbrev pub StopsNext : Arms → Type 0
+StopsNext arms =
+    IsSomeAnd arms.stop_after (λ calls. calls + 1 ≡ next_count arms.calls)
+    × (Contains arms.failing (next_count arms.calls) → ⊥)
 
 -- no call is to fail
 abbrev pub NamesNone : Arms → Type 0

@@ -46,7 +46,8 @@ pub record Rests (old new : FileState) : Type 0 where
   pub written : new.written ≡ old.written
   pub goes_on : GoesOn old new
 
--- a sync that succeeds: what the file reads as is settled, and nothing is pending
+-- A sync that succeeds: what an honest file reads as is settled, and nothing is pending. Of one that is not honest it says
+-- only that the sync is in the trail, and nothing of its bytes.
 pub record Syncs (old new : FileState) : Type 0 where
   pub trail : AddsChange (λ place. ⊥) old new
   pub settled : IsTrue new.honest → new.settled ≡ new.reads

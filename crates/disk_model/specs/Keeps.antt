@@ -1,9 +1,9 @@
 -- What a run of calls keeps, place by place.
-use Rattle.std.specs.Prelude.{◌≡◌, ◌⊎◌, ℕ, ◌<◌, ◌≤◌, List, ◌++◌, false, IsTrue}
+use Rattle.std.specs.Prelude.{◌≡◌, ◌⊎◌, ℕ, ◌<◌, ◌≤◌, List, [], ◌∷◌, ◌++◌, false, IsTrue}
 use Rattle.disk_model.specs.declared.span.Change.{Change}
 use Rattle.disk_model.specs.Images.{Has, in_spans, Every}
-use Rattle.disk_model.specs.State.{FileState, spans_of, moment, LeftSince}
-use Rattle.disk_model.specs.Calls.{Known, GoesOn}
+use Rattle.disk_model.specs.State.{FileState, Sound, spans_of, moment, LeftSince}
+use Rattle.disk_model.specs.Calls.{Changes, Known, GoesOn, Rests, Syncs}
 
 -- every place
 abbrev pub Anywhere : ℕ → Type 0
@@ -19,6 +19,38 @@ pub record Grows (Kept : ℕ → Type 0) (old new : FileState) : Type 0 where
   pub trail : new.trail ≡ old.trail ++ more
   pub misses : IsTrue new.honest → (place byte : ℕ) → Kept place → Has old.reads place byte → in_spans (spans_of more) place ≡ false
 
+-- A write or a change of the length of the places from one up to another, whether it succeeds or fails: what lies outside is read as
+-- before.
+pub record Writes (from upto : ℕ) (old new : FileState) : Type 0 where
+  pub changes : Changes from upto old new
+  pub others : Known old new → (place byte : ℕ) → Outside from upto place → Has old.reads place byte → Has new.reads place byte
+
+-- a call of a file: a write or a change of the length, a sync that succeeds, or a call that changes nothing
+pub data FileCall : Type 0 where
+  write : ℕ → ℕ → FileCall
+  sync : FileCall
+  rest : FileCall
+
+abbrev pub IsCall : FileCall → FileState → FileState → Type 0
+IsCall (write from upto) old new = Writes from upto old new
+IsCall sync old new = Syncs old new
+IsCall rest old new = Rests old new
+
+-- the call writes at no kept place
+abbrev pub CallOff : (Kept : ℕ → Type 0) → FileCall → Type 0
+CallOff Kept (write from upto) = (place : ℕ) → Kept place → Outside from upto place
+CallOff Kept sync = Unit {0}
+CallOff Kept rest = Unit {0}
+
+-- a list of calls, none of which writes at a kept place
+abbrev pub IsFileRun : (Kept : ℕ → Type 0) → FileState → List FileCall → FileState → Type 0
+IsFileRun Kept old [] new = new ≡ old
+IsFileRun Kept old (call ∷ calls) new = (mid : FileState) × Sound old × IsCall call old mid × CallOff Kept call × IsFileRun Kept mid calls new
+
+pub record Runs (Kept : ℕ → Type 0) (old new : FileState) : Type 0 where
+  pub calls : List FileCall
+  pub run : IsFileRun Kept old calls new
+
 -- A run of calls keeps these places: no image of an earlier moment is forgotten, and the byte that every image had at such
 -- a place, every image has there still.
 pub record Keeps (Kept : ℕ → Type 0) (old new : FileState) : Type 0 where
@@ -29,3 +61,5 @@ pub record Keeps (Kept : ℕ → Type 0) (old new : FileState) : Type 0 where
       → Every (LeftSince old t) place byte → Every (LeftSince new t) place byte
   pub reads : Known old new → (place byte : ℕ) → Kept place → Has old.reads place byte → Has new.reads place byte
   pub grows : Grows Kept old new
+  -- it is a list of calls
+  pub run : Runs Kept old new

@@ -1,5 +1,7 @@
 pub mod Mixtures
 pub mod Overlays
+pub mod Masks
+pub mod Settling
 pub mod Agreement
 pub mod Strikes
 pub mod Steps

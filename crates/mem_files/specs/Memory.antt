@@ -1,7 +1,8 @@
 -- A file in memory, as what is known of a file.
 use Rattle.std.specs.Prelude.{◌≡◌, ℕ, List, [], ◌∷◌, map, Bool, true, false, Option, Some, None, is_none, ◌&&◌, IsTrue, refl}
 use Rattle.disk_model.specs.Arms.{Taint, NamesNone}
-use Rattle.disk_model.specs.State.{FileState, Sound}
+use Rattle.disk_model.specs.declared.span.Change.{Change}
+use Rattle.disk_model.specs.State.{BytesAgree, FileState, Sound}
 use Rattle.mem_files.specs.declared.memory.MemFile.{MemFile}
 use Rattle.mem_files.specs.Held.{settled_bytes}
 use Rattle.mem_files.specs.Taints.{taint_of}
@@ -54,10 +55,13 @@ file_armed file = record { calm = calm_only file.stop_after file.failing.items; 
     steady_only [] steady = refl
     steady_only (taint ∷ taints) steady = cc
 
+agree_any : (settled reads : List ℕ) (trail : List Change) (from : ℕ) (honest : Bool) → BytesAgree settled reads trail from true → BytesAgree settled reads trail from honest
+agree_any settled reads trail from honest agree = record { agrees = λ h. agree.agrees refl; within = agree.within; bases = agree.bases }
+
 -- what holds of every file holds of a file in memory
 pub file_sound : (file : MemFile) → Sound (file_state file)
 file_sound file = record {
-  bytes = file.content.agree;
+  bytes = agree_any _ _ _ _ file.content.honest file.content.agree;
   told = λ honest. refl;
   calm = λ tells none. calm_unarmed file.stop_after file.failing.items none;
   steady = λ tells none. steady_unarmed (map taint_of file.taints.items) none;

@@ -1,10 +1,13 @@
 // Changes of bytes in place.
-ghost use Rattle.std.specs.Prelude.{◌≡◌, ℕ, List, ◌+◌, ◌-◌, ◌<◌, ◌^◌, length, take, OnOk, OnErr, not, ◌==◌};
+ghost use Rattle.std.specs.Prelude.{◌≡◌, ◌⊎◌, ℕ, List, ◌+◌, ◌-◌, ◌<◌, ◌≤◌, ◌^◌, length, take, slice_index, false, true, OnOk, OnErr, not, ◌==◌};
 ghost use Rattle.std.specs.List.{list_any};
 ghost use Rattle.disk_model.specs.Bytes.{overlaid, after_mask, after_write, after_resize};
 ghost use Rattle.tee_ports.specs.Files.{ReadsAt};
-ghost use Rattle.mem_files.specs.Held.{settled_bytes};
+ghost use Rattle.disk_model.specs.Images.{in_span, in_spans};
+ghost use Rattle.disk_model.specs.State.{spans_of};
+ghost use Rattle.mem_files.specs.Held.{DifferIn, settled_bytes};
 
+use disk_model::{Change, Span};
 use tee_ports::NoMemory;
 
 /// Copies the bytes from the place `at` on into the front of `into`, and says how many there were.
@@ -42,6 +45,67 @@ pub fn resize(bytes: &mut Vec<u8>, size: usize) -> Result<(), NoMemory>
     ensures err { OnErr result (bytes.new.items ≡ bytes.old.items) }
 {
     bytes.resize(size, 0)
+}
+
+/// Brings the settled bytes, where they are kept apart, up to those that a read gives. They may differ in these changes alone.
+pub fn settle_changes(
+    settled: &mut Option<Vec<u8>>,
+    bytes: &[u8],
+    changes: &[Change],
+) -> Result<(), NoMemory>
+    requires { DifferIn (spans_of changes.now) (settled_bytes settled.now bytes.now) bytes.now }
+    ensures ok { OnOk result (settled_bytes settled.new bytes.now ≡ bytes.now) }
+    ensures err { OnErr result (settled_bytes settled.new bytes.now ≡ settled_bytes settled.old bytes.now) }
+{
+    if let Some(settled) = settled {
+        bring_up(settled, bytes, changes)?;
+    }
+    Ok(())
+}
+
+fn bring_up(settled: &mut Vec<u8>, bytes: &[u8], changes: &[Change]) -> Result<(), NoMemory>
+    requires { DifferIn (spans_of changes.now) settled.now.items bytes.now }
+    ensures ok { OnOk result (settled.new.items ≡ bytes.now) }
+    ensures err { OnErr result (settled.new.items ≡ settled.old.items) }
+{
+    resize(settled, bytes.len())?;
+    copy_changes(settled, bytes, changes);
+    Ok(())
+}
+
+// Copies the bytes in the spans of the changes.
+fn copy_changes(settled: &mut [u8], bytes: &[u8], changes: &[Change])
+    requires { length settled.now ≡ length bytes.now }
+    ensures inside { (p : ℕ) → p < length bytes.now → in_spans (spans_of changes.now) p ≡ true →
+        slice_index settled.new p ≡ slice_index bytes.now p }
+    ensures outside { (p : ℕ) → in_spans (spans_of changes.now) p ≡ false →
+        slice_index settled.new p ≡ slice_index settled.old p }
+{
+    for change in changes {
+        copy_span(settled, bytes, change.span);
+    }
+}
+
+// Copies the bytes in the span.
+fn copy_span(settled: &mut [u8], bytes: &[u8], span: Span)
+    requires { length settled.now ≡ length bytes.now }
+    ensures inside { (p : ℕ) → p < length bytes.now → in_span span p ≡ true →
+        slice_index settled.new p ≡ slice_index bytes.now p }
+    ensures outside { (p : ℕ) → in_span span p ≡ false → slice_index settled.new p ≡ slice_index settled.old p }
+{
+    let end = bytes.len() as u64;
+    let from = span.at.min(end);
+    let upto = span.at.saturating_add(span.length).min(end);
+    copy_range(settled, bytes, from as usize, upto as usize);
+}
+
+// Copies the bytes from one place up to another.
+fn copy_range(settled: &mut [u8], bytes: &[u8], from: usize, upto: usize)
+    requires { (from ≤ upto) × (upto ≤ length bytes.now) × (length settled.now ≡ length bytes.now) }
+    ensures inside { (p : ℕ) → from ≤ p → p < upto → slice_index settled.new p ≡ slice_index bytes.now p }
+    ensures outside { (p : ℕ) → (p < from) ⊎ (upto ≤ p) → slice_index settled.new p ≡ slice_index settled.old p }
+{
+    settled[from..upto].copy_from_slice(&bytes[from..upto]);
 }
 
 /// Whether one of the first `room` bytes of the mask is not zero.

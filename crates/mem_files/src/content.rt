@@ -7,7 +7,9 @@ ghost use Rattle.tee_ports.specs.Files.{ReadsAt};
 ghost use Rattle.mem_files.specs.Crash.{crash_of};
 ghost use Rattle.mem_files.specs.Held.{settled_bytes, change_of, held_as, held_anew};
 
-use crate::bytes::{copy_from, has_bits, lay_over, lay_over_settled, resize, write_over};
+use crate::bytes::{
+    copy_from, has_bits, lay_over, lay_over_settled, resize, settle_changes, write_over,
+};
 use crate::crash::image_of;
 use crate::taint::Taint;
 use disk_model::{Change, Span};
@@ -18,12 +20,12 @@ use tee_ports::NoMemory;
 #[derive(Drop)]
 pub struct Content {
     bytes: Vec<u8>,
-    // The settled bytes, where they may differ from `bytes`.
+    // The settled bytes, where they may differ from `bytes`. A sync brings them up to date in place.
     settled: Option<Vec<u8>>,
     trail: Vec<Change>,
     pending_from: u64,
     honest: bool,
-    ghost agree: { BytesAgree (settled_bytes settled bytes.items) bytes.items trail.items pending_from honest } by { Prim.hlevel props },
+    ghost agree: { BytesAgree (settled_bytes settled bytes.items) bytes.items trail.items pending_from true } by { Prim.hlevel props },
 }
 
 impl Content {
@@ -123,9 +125,14 @@ impl Content {
         }) }
         ensures err { OnErr result (held self.new ≡ held self.old) }
     {
-        self.trail.push(change(self.pending_from, 0, 0))?;
+        self.trail.reserve(1)?;
+        settle_changes(
+            &mut self.settled,
+            &self.bytes,
+            &self.trail[self.pending_from as usize..],
+        )?;
+        self.trail.push_reserved(change(self.pending_from, 0, 0));
         self.pending_from = self.trail.len() as u64;
-        self.settled = None;
         Ok(())
     }
 

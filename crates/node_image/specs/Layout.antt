@@ -21,6 +21,10 @@ node_bytes n = n.hash ++ (n.iv ++ (n.tag ++ to_be_bytes w16 n.flags))
 abbrev pub HasWidths : NodeImage → Type 0
 HasWidths n = (length n.hash ≡ 32) × (length n.iv ≡ 16) × (length n.tag ≡ 16) × (n.flags < 2 ^ 16)
 
+-- the bits of a node's flags that name no version are zero
+abbrev pub HasNoSpareBits : NodeImage → Type 0
+HasNoSpareBits n = n.flags < 8
+
 -- the head that 32 bytes hold
 unfoldable pub head_of : List ℕ → Head
 head_of bytes = record {

@@ -2,7 +2,7 @@
 use Rattle.std.specs.Prelude.{◌≡◌, ◌⊎◌, ℕ, ◌-◌, ◌^◌, ◌<◌, ◌++◌, List, length, take, drop, min, Result, Ok, Err, Bool, IsTrue}
 use Rattle.tee_ports.specs.declared.failed.Failed.{Failed}
 use Rattle.disk_model.specs.Faults.{Rose}
-use Rattle.disk_model.specs.Arms.{count_call, NamesNext}
+use Rattle.disk_model.specs.Arms.{count_call, NamesNext, StopsNext}
 use Rattle.disk_model.specs.State.{FileState}
 use Rattle.disk_model.specs.Controls.{Stored, struck}
 
@@ -31,12 +31,13 @@ pub record HasBytes (s : FileState) (bytes : Stored) : Type 0 where
   pub reads : s.reads ≡ bytes.reads
 
 -- A call of a file that tells its arms: the masks for this call struck first, and nothing else changes honesty; a call that
--- is set to fail does fail, without reaching the device.
+-- is set to fail does fail. It does not reach the device, unless the device stops at it: then it may leave what any failed
+-- call may leave.
 pub record ActsByArms (old new : FileState) (failed : Bool) : Type 0 where
   pub counted : new.arms ≡ count_call old.arms
   pub honest : new.honest ≡ (struck old).honest
   pub fails : NamesNext old.arms → IsTrue failed
-  pub unreached : NamesNext old.arms → (new.trail ≡ old.trail) × HasBytes new (struck old) × (new.written ≡ old.written)
+  pub unreached : NamesNext old.arms → (StopsNext old.arms → ⊥) → (new.trail ≡ old.trail) × HasBytes new (struck old) × (new.written ≡ old.written)
 
 -- A file that tells its arms, and changed none of its bytes but where masks struck.
 pub record StaysByArms (old new : FileState) (failed : Bool) : Type 0 where

@@ -17,6 +17,9 @@ pub trait FileRig: StoreFile {
     ghost crash_image: { FileState → ℕ → ℕ → List ℕ };
 
     /// Arms the file to pass this many calls, and to fail all later ones.
+    ///
+    /// The first of these is the call at which the device stops. Where that is a write, it may be torn: each place of its
+    /// range may hold anything. No later one reaches the device.
     fn stop_after(&mut self, calls: u64)
         ensures { Self.state self.new ≡ stop_armed (Self.state self.old) calls };
 

@@ -11,4 +11,4 @@ mod paths;
 mod tests;
 
 pub use node_set::NodeSet;
-pub use paths::{children, parent, touched_nodes};
+pub use paths::{children, parent, staged_nodes, touched_nodes};

@@ -1,6 +1,7 @@
 // Sets of nodes.
 
 ghost use Rattle.std.specs.Prelude.{◌≡◌, ◌==◌, ◌||◌, ℕ, ◌≤◌, ◌<◌, false, length};
+ghost use Rattle.tree_paths.specs.Staged.{count_to};
 
 // One more than the greatest node of any tree.
 const NUMBERS: usize = 257;
@@ -40,5 +41,16 @@ impl NodeSet {
             Some(member) => *member,
             None => false,
         }
+    }
+
+    /// How many nodes the set has.
+    pub fn count(&self) -> u32
+        ensures { result ≡ count_to (holds self.now) 256 }
+    {
+        let mut count = 0;
+        for n in 0..256 {
+            count += if self.has(n + 1) { 1 } else { 0 };
+        }
+        count
     }
 }

@@ -2,6 +2,7 @@
 
 ghost use Rattle.std.specs.Prelude.{◌≡◌, ◌⊎◌, ◌↔◌, ℕ, ◌+◌, ◌*◌, ◌/◌, ◌<◌, ◌≤◌, length, slice_index, EachIndex, IsTrue, Some, None, if◌then◌else◌, nat_le};
 ghost use Rattle.tree_paths.specs.Paths.{IsClosed, IsOnPath, IsTouched, holds, node_up_to};
+ghost use Rattle.tree_paths.specs.Staged.{IsAboveRemoved, IsStaged};
 
 use crate::node_set::NodeSet;
 
@@ -54,5 +55,31 @@ pub fn touched_nodes(blocks: &[u32], greatest: u32) -> NodeSet
     for block in blocks {
         add_path(&mut set, *block + 1);
     }
+    set
+}
+
+// Puts the remaining parent of each node that goes away, and all nodes above it, into the set.
+fn add_remaining(set: &mut NodeSet, before: u32, after: u32)
+    requires { (1 ≤ after) × (after ≤ 256) × (before ≤ 256) }
+    ensures kept { (m : ℕ) → IsTrue (holds set.old m) → IsTrue (holds set.new m) }
+    ensures above { (m : ℕ) → IsAboveRemoved before after m → IsTrue (holds set.new m) }
+    ensures only { (m : ℕ) → IsTrue (holds set.new m) → IsTrue (holds set.old m) ⊎ IsAboveRemoved before after m }
+{
+    let last = before.min(2 * after + 1);
+    for gone in after..last {
+        add_path(set, (gone + 1) / 2);
+    }
+}
+
+/// The nodes that a stage writes which changes these blocks, where a tree of `before` nodes becomes one of `after`: the root,
+/// the nodes of the changed blocks, the remaining parents of nodes that go away, and all nodes above these.
+pub fn staged_nodes(changed: &[u32], before: u32, after: u32) -> NodeSet
+    requires nodes { (1 ≤ after) × (after ≤ 256) × (before ≤ 256) }
+    requires changed { EachIndex changed.now (λ i. slice_index changed.now i < after) }
+    ensures exactly { (m : ℕ) → IsTrue (holds result m) ↔ IsStaged changed.now before after m }
+{
+    let mut set = touched_nodes(changed, after);
+    set.add(1);
+    add_remaining(&mut set, before, after);
     set
 }

@@ -1,4 +1,4 @@
-use Rattle.std.proofs.Common.{◌≡◌, ◌+◌, ◌++◌, ◌∷◌, [], length, min, rules}
+use Rattle.std.proofs.Common.{◌≡◌, ◌+◌, ◌++◌, ◌∷◌, [], length, true, min, rules}
 use Rattle.disk_model.specs.Bytes.{after_write}
 use Rattle.mem_files.specs.Held.{change_of}
 use Rattle.mem_files.proofs.Agreement.{agree_written}
@@ -9,4 +9,4 @@ invariant_of-self-2 c =
     let s = c.keep_settled.new.self in
     let is : c.write_over.new.bytes.items ≡ after_write s.bytes.items c.args.at c.args.from.now = search rules in
     let push : c.push_reserved.new.self.items ≡ s.trail.items ++ change_of s.pending_from (min c.args.at (length s.bytes.items)) (c.args.at + length c.args.from.now) ∷ [] = search rules in
-    record { agree = agree_written s.settled s.bytes.items c.write_over.new.bytes.items s.trail.items c.push_reserved.new.self.items s.pending_from s.honest c.args.at c.args.from.now c.in_ok-keep_settled.ensures.apart s.agree is push }
+    record { agree = agree_written s.settled s.bytes.items c.write_over.new.bytes.items s.trail.items c.push_reserved.new.self.items s.pending_from true c.args.at c.args.from.now c.in_ok-keep_settled.ensures.apart s.agree is push }
