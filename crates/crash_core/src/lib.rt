@@ -1,9 +1,12 @@
 //! What a crash may leave of the store, and what that mounts as.
 //!
 //! It has definitions and laws: the object that an entry of the directory mounts as, over any image of its file, and what changes
-//! of the bytes of that file are for the object.
+//! of the bytes of that file are for the object; the directory that a reference names in an image, and the block of the card that
+//! names the directory.
 #![tactic(auto)]
 
+mod fault;
 mod laws;
 
+pub use fault::DirFault;
 pub use laws::{lengths_are_sizes, writes_are_of_objects};
