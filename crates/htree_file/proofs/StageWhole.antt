@@ -17,7 +17,7 @@ use Rattle.node_image.proofs.PartPlaces.{off_other}
 use Rattle.htree_file.specs.declared.change.BlockChange.{BlockChange}
 use Rattle.htree_file.specs.Changes.{page_after, page_for}
 use Rattle.htree_file.specs.Making.{HashedAmong, HeadReturns, SameSeal}
-use Rattle.htree_file.specs.Opening.{IsVerified}
+use Rattle.htree_file.specs.Opening.{HasFields, IsVerified}
 use Rattle.htree_file.specs.Pages.{page_in, page_of}
 use Rattle.htree_file.specs.Selected.{BlocksEnd, IsLoaded, IsSelected, Lies}
 use Rattle.htree_file.specs.Staging.{BlocksStaged, NodesStaged, OffBlocks, OffChosen, named_part, other_version, wanted_page}
@@ -26,6 +26,7 @@ use Rattle.htree_file.specs.WriteSets.{AreStaged, IsStaged, IsWriteSet}
 use Rattle.htree_file.proofs.Building.{page_by, page_kept}
 use Rattle.htree_file.proofs.Firmness.{part_ends}
 use Rattle.htree_file.proofs.NextTable.{IsNext, block_version_turns, hashes_next, old_block, old_node, version_turns}
+use Rattle.htree_file.proofs.Sizes.{head_in_width, node_in_width}
 use Rattle.htree_file.proofs.PartWrites.{stands_kept}
 use Rattle.htree_file.proofs.StageKeeps.{after_blocks, after_head, after_nodes}
 use Rattle.htree_file.proofs.StageSteps.{named_is_part, other_part, told_first}
@@ -80,15 +81,26 @@ pub record Runs (a b c d : FileState) (root : ℕ) (key : List ℕ) (top : Head)
   pub head_stand : Known c d → Stands d.reads (head (1 - root)) (head_bytes top)
   pub returns : HeadReturns top
 
+-- its nodes have the widths of their fields
+pub next_fields : (nodes mid next : List NodeImage) (dirty moved : ℕ → Bool) → AreStaged nodes dirty moved mid (length next) → ((k : ℕ) → SameSeal (get_or mid k no_node) (get_or next k no_node))
+    → (n : ℕ) → 1 ≤ n → n ≤ length next → HasFields (at_node next n)
+next_fields nodes mid next dirty moved staged seals n least most =
+    let old = (staged (n - 1) (omega arith)).fields in
+    let seal = seals (n - 1) in
+    record { iv = ap length seal.iv ∙ old.iv; tag = ap length seal.tag ∙ old.tag }
+
 -- the next table is verified where the committed one is
 pub next_verified : (root : RootRef) (was top : Head) (nodes next : List NodeImage) (changes : List BlockChange) (dirty moved : ℕ → Bool) → length next ≡ top.greatest → is_sized top ≡ true
     → IsWriteSet (length nodes) (length next) changes dirty moved → IsNext nodes next top dirty moved → IsVerified root (record { head = was; nodes = nodes })
+    → length top.wrapped ≡ 16 → ((n : ℕ) → 1 ≤ n → n ≤ length next → HasFields (at_node next n))
     → IsVerified (record { hash = (at_node next 1).hash; version = 1 - root.version }) (record { head = top; nodes = next })
-next_verified root was top nodes next changes dirty moved all sized closed is verified = record {
+next_verified root was top nodes next changes dirty moved all sized closed is verified wrapped fields = record {
   sized = sized;
   all = all;
   root_hash = refl;
   hashes = hashes_next nodes next changes top dirty moved root.version closed is was (sym verified.all) (sym all) verified.hashes;
+  wrapped = wrapped;
+  fields = fields;
 }
 
 module _ (a b c d : FileState) (root : RootRef) (key : List ℕ) (was top : Head) (nodes mid next : List NodeImage) (changes : List BlockChange) (dirty moved : ℕ → Bool)
@@ -184,7 +196,9 @@ module _ (a b c d : FileState) (root : RootRef) (key : List ℕ) (was top : Head
     form = ap has_form (r.head_stand known_cd).is ∙ r.returns.form ∙ r.sized;
     top = ap head_of (r.head_stand known_cd).is ∙ r.returns.read;
     matches = next_node;
-    verified = next_verified root was top nodes next changes dirty moved r.all r.sized r.closed r.is loads.verified;
+    verified = next_verified root was top nodes next changes dirty moved r.all r.sized r.closed r.is loads.verified
+        (subst (λ (h : Head). length h.wrapped ≡ 16) (ap head_of (r.head_stand known_cd).is ∙ r.returns.read) (head_in_width d.reads (1 - root.version)))
+        (λ n least most. subst HasFields (next_node n least most) (node_in_width d.reads n (node_version next (1 - root.version) n)));
     ends = λ k lt. (next_block k lt).fits;
   }
 

@@ -16,7 +16,7 @@ use Rattle.htree_file.specs.Opening.{IsVerified, Loaded, checked, first_damaged,
 use Rattle.htree_file.specs.Answers.{Differs, IsLoadFault}
 use Rattle.htree_file.proofs.Damage.{none_damaged}
 use Rattle.htree_file.proofs.SameBytes.{same_is}
-use Rattle.htree_file.proofs.Sizes.{form_sized}
+use Rattle.htree_file.proofs.Sizes.{form_sized, head_in_width, nodes_in_width}
 
 -- a test whose failure is a fault held where the answer is no fault
 pub cond_ok : (b : Bool) (r : Result Loaded TreeFault) (e : TreeFault) (tree : Loaded) → cond b r (Err e) ≡ Ok tree → (b ≡ true) × (r ≡ Ok tree)
@@ -40,6 +40,8 @@ table_verified image root tree is =
       all = length-row (λ k. selected_node image root.version (k + 1)) h.greatest;
       root_hash = same_is (at_node nodes 1).hash root.hash two.0;
       hashes = λ n least most. none_damaged h nodes 1 (length nodes) three.0 n least (omega (arith, most));
+      wrapped = head_in_width image root.version;
+      fields = λ n least most. nodes_in_width image root.version n least (omega (arith, most, length-row (λ k. selected_node image root.version (k + 1)) h.greatest));
     } in
     subst (λ (t : Loaded). IsVerified root t) three.1 mine
 

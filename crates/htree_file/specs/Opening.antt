@@ -57,9 +57,19 @@ long_enough end (Err fault) = Err fault
 abbrev pub load_of : List ℕ → RootRef → Result Loaded TreeFault
 load_of image root = long_enough (length image) (table_of image root)
 
+-- what is hashed of a node has its width, so that the hash's input tells one field from the next
+pub record HasFields (n : NodeImage) : Type 0 where
+  pub iv : length n.iv ≡ 16
+  pub tag : length n.tag ≡ 16
+
+abbrev pub HaveFields : List NodeImage → Type 0
+HaveFields nodes = (n : ℕ) → 1 ≤ n → n ≤ length nodes → HasFields (at_node nodes n)
+
 -- a tree whose hashes hold under a reference
 pub record IsVerified (root : RootRef) (tree : Loaded) : Type 0 where
   pub sized : is_sized tree.head ≡ true
   pub all : length tree.nodes ≡ tree.head.greatest
   pub root_hash : (at_node tree.nodes 1).hash ≡ root.hash
   pub hashes : (n : ℕ) → 1 ≤ n → n ≤ length tree.nodes → (at_node tree.nodes n).hash ≡ hash_in tree.nodes tree.head n
+  pub wrapped : length tree.head.wrapped ≡ 16
+  pub fields : HaveFields tree.nodes

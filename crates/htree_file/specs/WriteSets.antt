@@ -4,6 +4,7 @@ use Rattle.node_image.specs.declared.node.NodeImage.{NodeImage}
 use Rattle.node_image.specs.Tables.{at_node, no_node}
 use Rattle.htree_file.specs.declared.change.BlockChange.{BlockChange}
 use Rattle.htree_file.specs.Changes.{page_for}
+use Rattle.htree_file.specs.Opening.{HasFields}
 
 -- A stage from so many nodes to so many may write these nodes, and the blocks of these. The root is among them, with each
 -- node the one above it, and with each block its node; so are new nodes with their blocks, each node that gets or loses a
@@ -31,6 +32,7 @@ pub record IsStaged (committed : List NodeImage) (nodes blocks : ℕ → Bool) (
   pub flags : nodes n ≡ true → staged.flags ≡ turned_flags nodes blocks n (at_node committed n).flags
   pub seal : blocks n ≡ false → n ≤ length committed → (staged.iv ≡ (at_node committed n).iv) × (staged.tag ≡ (at_node committed n).tag)
   pub same : nodes n ≡ false → blocks n ≡ false → n ≤ length committed → staged ≡ at_node committed n
+  pub fields : HasFields staged
 
 -- so does each of the first nodes of a table
 abbrev pub AreStaged : (committed : List NodeImage) → (nodes blocks : ℕ → Bool) → (next : List NodeImage) → (count : ℕ) → Type 0

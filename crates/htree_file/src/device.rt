@@ -5,6 +5,7 @@ ghost use Rattle.disk_model.specs.Keeps.{Keeps, Outside};
 ghost use Rattle.node_image.specs.Selection.{bytes_at};
 ghost use Rattle.htree_file.specs.Answers.{HasCause, IsFailed};
 
+ghost use Rattle.disk_model.specs.Arms.{count_call};
 use crate::fault::TreeFault;
 use tee_ports::StoreFile;
 
@@ -26,6 +27,7 @@ pub(crate) fn read_padded<F: StoreFile>(
     ensures rests { Rests (F.state file.old) (F.state file.new) }
     ensures bytes { OnOk result (IsTrue (F.state file.new).tells →
         into.new ≡ bytes_at (F.state file.new).reads at (length into.old)) }
+    ensures once { IsTrue (F.state file.old).tells_arms → (F.state file.new).arms ≡ count_call (F.state file.old).arms }
     ensures cause { HasCause (F.state file.old) (F.state file.new) result }
     ensures failed { IfErr result IsFailed }
 {

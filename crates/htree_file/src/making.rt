@@ -5,6 +5,7 @@ ghost use Rattle.disk_model.specs.Keeps.{Keeps};
 ghost use Rattle.node_image.specs.Tables.{at_node};
 ghost use Rattle.htree_file.specs.Answers.{HasCause, IsFailed};
 ghost use Rattle.htree_file.specs.Making.{DrawCause, HashedFrom, IsDeviceFault, IsMade, IsSynced, NameVersionZero, NodesReturn, NodesStand, NotEntropy, Nowhere, OffNodes, PagesStand};
+ghost use Rattle.htree_file.specs.Opening.{HaveFields};
 
 use crate::fault::{Page, TreeFault};
 use crate::parts::{write_head, write_node};
@@ -69,6 +70,7 @@ fn build<F: StoreFile, E: Entropy>(
     ensures made { OnOk result (Known (F.state file.old) (F.state file.new) →
         IsMade (F.state file.new).reads key.now head.now nodes.new pages.now) }
     ensures hashed { OnOk result (HashedFrom nodes.new head.now 0) }
+    ensures widths { OnOk result ((length head.now.wrapped ≡ 16) × HaveFields nodes.new) }
     ensures synced { OnOk result (IsSynced (F.state file.new)) }
     ensures keeps { Keeps Nowhere (F.state file.old) (F.state file.new) }
     ensures cause { HasCause (F.state file.old) (F.state file.new) result }
@@ -100,6 +102,7 @@ pub(crate) fn build_tree<F: StoreFile, E: Entropy>(
     ensures made { OnOk result (Known (F.state file.old) (F.state file.new) →
         IsMade (F.state file.new).reads key.now head.now (take head.now.greatest table.new) pages.now) }
     ensures hashed { OnOk result (HashedFrom (take head.now.greatest table.new) head.now 0) }
+    ensures widths { OnOk result ((length head.now.wrapped ≡ 16) × HaveFields (take head.now.greatest table.new)) }
     ensures root { IfOk result (λ root. root ≡ record { hash = (at_node (take head.now.greatest table.new) 1).hash; version = 0 }) }
     ensures all { length (take head.now.greatest table.new) ≡ head.now.greatest }
     ensures synced { OnOk result (IsSynced (F.state file.new)) }

@@ -8,6 +8,7 @@ ghost use Rattle.htree_file.specs.Opening.{IsVerified, load_of};
 ghost use Rattle.htree_file.specs.Standing.{Told};
 
 use crate::device::read_padded;
+ghost use Rattle.disk_model.specs.Arms.{count_call};
 use crate::fault::TreeFault;
 use crate::opening::{NODES_END, read_table};
 use crate::table::need_of;
@@ -41,6 +42,7 @@ pub(crate) fn read_tree<F: StoreFile>(
     ensures differs { IfErr result (λ e. IsTrue (F.state file.new).tells → Differs (F.state file.new).reads root e) }
     ensures rests { Rests (F.state file.old) (F.state file.new) }
     ensures cause { HasCause (F.state file.old) (F.state file.new) result }
+    ensures two { IfOk result (λ h. IsTrue (F.state file.old).tells_arms → (F.state file.new).arms ≡ count_call (count_call (F.state file.old).arms)) }
 {
     let mut image = room_for_nodes(alloc)?;
     read_padded(file, 0, &mut image)?;

@@ -14,6 +14,7 @@ ghost use Rattle.htree_file.specs.Pages.{block_in, opened_of};
 ghost use Rattle.htree_file.specs.Selected.{KeepsFirm, Lies};
 ghost use Rattle.htree_file.specs.Standing.{IsFirm, Told};
 
+ghost use Rattle.disk_model.specs.Arms.{count_call};
 use crate::change::BlockChange;
 use crate::device::read_padded;
 use crate::fault::{Broken, Page, TreeFault};
@@ -207,6 +208,7 @@ impl<F: StoreFile> Tree<F> {
         ensures rests { IfOk result (λ t. Rests (F.state file) (F.state t.file)) }
         ensures rests_err { IfErr result (λ b. Rests (F.state file) (F.state b.file)) }
         ensures passed { IfOk result (λ t. FilePassed (F.state file) (F.state t.file)) }
+        ensures two { IfOk result (λ t. IsTrue (F.state file).tells_arms → (F.state t.file).arms ≡ count_call (count_call (F.state file).arms)) }
         ensures cause { IfErr result (λ b. FaultCause (F.state file) (F.state b.file) b.fault) }
     {
         let mut nodes = match blank_nodes(alloc) {
@@ -253,6 +255,7 @@ impl<F: StoreFile> Tree<F> {
             BlockAnswer self.old.key tree.head (at_node tree.nodes (block + 1)) block
             (λ ciphertext. IsTrue (F.state self.new.file).tells → ciphertext ≡ block_in (F.state self.new.file).reads tree block)
             result into.new }
+        ensures once { IsTrue (F.state self.old.file).tells_arms → (F.state self.new.file).arms ≡ count_call (F.state self.old.file).arms }
         ensures same { self.new ≡ record self.old { file = self.new.file } }
         ensures rests { Rests (F.state self.old.file) (F.state self.new.file) }
         ensures cause { HasCause (F.state self.old.file) (F.state self.new.file) result }

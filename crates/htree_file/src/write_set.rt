@@ -1,6 +1,7 @@
 // Which parts a stage writes, and the versions that they get.
 ghost use Rattle.std.specs.Prelude.{◌≡◌, ℕ, List, ◌+◌, ◌*◌, ◌<◌, ◌≤◌, true, false};
 ghost use Rattle.tree_paths.specs.Paths.{holds};
+ghost use Rattle.htree_file.specs.Opening.{HasFields};
 ghost use Rattle.htree_file.specs.declared.change.BlockChange.{BlockChange};
 ghost use Rattle.htree_file.specs.WriteSets.{IsWriteSet, turned, turned_flags};
 
@@ -65,6 +66,7 @@ pub(crate) fn turn_node(set: &WriteSet, n: u32, node: &NodeImage) -> NodeImage
         result ≡ record node.now { flags = turned_flags (holds set.now.nodes) (holds set.now.blocks) n node.now.flags } }
     ensures same { holds set.now.nodes n ≡ false → result ≡ node.now }
     ensures seal { (result.iv ≡ node.now.iv) × (result.tag ≡ node.now.tag) }
+    ensures fields { HasFields result }
 {
     if !set.nodes.has(n) {
         return *node;

@@ -1,4 +1,4 @@
-use Rattle.std.proofs.Common.{◌≡◌, ℕ, ◌≤◌, List, length, sym, ◌∙◌, subst, arith}
+use Rattle.std.proofs.Common.{◌≡◌, ℕ, ◌-◌, ◌≤◌, List, length, sym, ◌∙◌, subst, arith}
 use Rattle.disk_model.specs.State.{FileState}
 use Rattle.disk_model.specs.Keeps.{Anywhere, Keeps}
 use Rattle.disk_model.proofs.Laws.{keeps_fewer, keeps_then, rest_keeps, sync_keeps, synced}
@@ -9,6 +9,8 @@ use Rattle.node_image.specs.Parts.{Off}
 use Rattle.node_image.specs.Parts.Part.{head}
 use Rattle.htree_file.specs.Making.{IsMade, Nowhere, NodesStand, OffNodes, PagesStand}
 use Rattle.htree_file.proofs.Building.{block_off_head, block_off_nodes, node_off_head, nodes_kept, pages_by, pages_kept}
+use Rattle.node_image.specs.Tables.{at_node}
+use Rattle.htree_file.proofs.Sizes.{returned_fields, returned_width}
 use Rattle.htree_file.proofs.making.build.Goals as goal
 
 -- keeping no place is kept by every call
@@ -89,3 +91,9 @@ returns-clause-made g c = λ known.
       nodes_return = written.returns;
       pages_stand = at_three;
     })
+
+pub returns-clause-widths : goal.returns-clause-widths
+returns-clause-widths g c = (
+  returned_width c.args.head.now c.in_ok-write_head.ensures.returns,
+  λ n least most. returned_fields (at_node c.hash_nodes.new.nodes n) (c.in_ok-write_nodes.ensures.returns (n - 1) (omega arith)),
+)

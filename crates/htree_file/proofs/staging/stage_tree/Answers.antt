@@ -2,8 +2,9 @@ use Rattle.std.proofs.Common.{◌≡◌, ℕ, length, subst, arith}
 use Rattle.tree_paths.specs.Paths.{holds}
 use Rattle.htree_file.specs.WriteSets.{AreStaged, IsWriteSet}
 use Rattle.htree_file.proofs.NextTable.{IsNext}
+use Rattle.htree_file.proofs.Sizes.{returned_width}
 use Rattle.htree_file.proofs.StageKeeps.{after_blocks, after_head, after_nodes}
-use Rattle.htree_file.proofs.StageWhole.{Runs, next_loads, next_page, next_verified, table_next}
+use Rattle.htree_file.proofs.StageWhole.{Runs, next_fields, next_loads, next_page, next_verified, table_next}
 use Rattle.htree_file.proofs.staging.stage_tree.Goals as goal
 
 pub returns-in_err-stage_blocks-clause-keeps : goal.returns-in_err-stage_blocks-clause-keeps
@@ -89,7 +90,7 @@ returns-clause-verified g c = λ was verified.
     let closed : IsWriteSet (length nodes) (length next) changes dirty moved = subst (λ (n : ℕ). IsWriteSet (length nodes) n changes dirty moved) long c.requires.closed in
     let staged : AreStaged nodes dirty moved mid (length next) = subst (λ (n : ℕ). AreStaged nodes dirty moved mid n) long c.in_ok-stage_blocks.ensures.staged in
     let is : IsNext nodes next top dirty moved = table_next nodes mid next changes top dirty moved closed staged c.rehash_nodes.ensures.seals c.rehash_nodes.ensures.others c.rehash_nodes.ensures.hashed in
-    next_verified c.args.root was top nodes next changes dirty moved (omega arith) c.requires.sized closed is verified
+    next_verified c.args.root was top nodes next changes dirty moved (omega arith) c.requires.sized closed is verified (returned_width top c.in_ok-write_head.ensures.returns) (next_fields nodes mid next dirty moved staged c.rehash_nodes.ensures.seals)
 
 pub returns-clause-loaded : goal.returns-clause-loaded
 returns-clause-loaded g c = λ was told loads.
