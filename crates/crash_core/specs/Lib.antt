@@ -4,3 +4,16 @@ pub mod Entries
 pub mod Directory
 pub mod Refusal
 pub mod CardBlock
+pub mod DeviceKeys
+pub mod EntryLists
+pub mod EntryChanges
+pub mod Pictures
+pub mod Mounting
+pub mod Sights
+pub mod CoreState
+pub mod FileSteps
+pub mod Seals
+pub mod Appends
+pub mod CoreSteps
+pub mod Holding
+pub mod Theorem
