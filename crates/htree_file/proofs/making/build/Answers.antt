@@ -97,3 +97,9 @@ returns-clause-widths g c = (
   returned_width c.args.head.now c.in_ok-write_head.ensures.returns,
   λ n least most. returned_fields (at_node c.hash_nodes.new.nodes n) (c.in_ok-write_nodes.ensures.returns (n - 1) (omega arith)),
 )
+
+pub returns-in_err-write_nodes-clause-keeps : goal.returns-in_err-write_nodes-clause-keeps
+returns-in_err-write_nodes-clause-keeps g c =
+    let one = g.F.StoreFile.state c.make_blocks.new.file in
+    let two = g.F.StoreFile.state c.write_nodes.new.file in
+    keeps_then Nowhere (g.F.StoreFile.state c.args.file.now) one two c.make_blocks.ensures.keeps (less _ one two c.write_nodes.ensures.keeps)

@@ -23,3 +23,9 @@ loop-k-preserved g c =
 
 pub returns-clause-stand : goal.returns-clause-stand
 returns-clause-stand g c = λ known k lt. c.loop-k.invariant.stand known k (omega arith)
+
+pub returns-in_err-node-clause-keeps : goal.returns-in_err-node-clause-keeps
+returns-in_err-node-clause-keeps g c =
+    let now = g.F.StoreFile.state c.loop-k.file in
+    let new = g.F.StoreFile.state c.write_page.new.file in
+    keeps_then Nowhere (g.F.StoreFile.state c.args.file.now) now new c.loop-k.invariant.keeps (keeps_fewer _ Nowhere now new (λ p none. absurd none) c.in_err-node.ensures.kept)
