@@ -6,3 +6,12 @@ pub mod SameDirectory
 pub mod EntryMaps
 pub mod Doubles
 pub mod Names
+pub mod Lists
+pub mod Sightings
+pub mod Moves
+pub mod Legality
+pub mod ChangedMaps
+pub mod KeptByFiles
+pub mod KeptByCommits
+pub mod Runs
+pub mod MountedPictures
