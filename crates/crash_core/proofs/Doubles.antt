@@ -1,5 +1,5 @@
 -- Entries that a directory was read as have distinct names, distinct files, and forms.
-use Rattle.std.proofs.Common.{◌≡◌, ◌≢◌, ◌⊎◌, ◌∙◌, ◌+◌, ◌*◌, ◌/◌, ◌%◌, ◌<◌, ◌≤◌, ◌||◌, ◌==◌, ℕ, zero, suc, Bool, true, false, cond, List, [], ◌∷◌, ◌++◌, length, get_or, unwrap_or, Option, Some, None, Result, Ok, Err, inl, inr, refl, sym, ap, subst, is_eq, true≢false, arith}
+use Rattle.std.proofs.Common.{◌≡◌, ◌≢◌, ◌⊎◌, ◌∙◌, ◌+◌, ◌*◌, ◌/◌, ◌%◌, ◌<◌, ◌≤◌, ◌||◌, ◌==◌, ℕ, zero, suc, Bool, true, false, cond, List, [], ◌∷◌, ◌++◌, length, length-append, get_or, unwrap_or, Option, Some, None, Result, Ok, Err, inl, inr, refl, sym, ap, subst, is_eq, true≢false, arith}
 use Rattle.std.proofs.lemmas.Bool.{cases_Bool, cases_eq, cases_lt, eq-eqb, cond-true, cond-false}
 use Rattle.byte_fields.specs.Field.{field}
 use Rattle.store_model.specs.Name.{name_cmp}
@@ -15,6 +15,7 @@ use Rattle.crash_core.specs.declared.fault.DirFault.TheVariants.{WrongLength}
 use Rattle.crash_core.specs.Entries.{distinct, double_or, entries_of, first_double, first_like, is_double, name_of, or_double, record_at, with_record}
 use Rattle.crash_core.specs.EntryLists.{AreDistinct, AreSingle, entry_at}
 use Rattle.crash_core.specs.Directory.{bad_block, directory_from, directory_in, directory_pages}
+use Rattle.crash_core.specs.DirectoryLaws.{AreEntries}
 use Rattle.crash_core.proofs.EntryMaps.{apart_back}
 
 -- NO DOUBLES
@@ -129,6 +130,19 @@ entries_form pages (suc i) entries is index e at =
           | inr new ↦ record_forms (field (128 * (i % 32)) 128 (unwrap_or (get_or pages (i / 32) None) [])) e (read ∙ ap (λ (o : Option DirEntry). Ok o) new)
         ]
 
+entries_length : (pages : List (Option (List ℕ))) (count : ℕ) (entries : List (Option DirEntry)) → entries_of pages count ≡ Ok entries → length entries ≡ count
+unfolding entries_of
+entries_length pages zero entries is = let none : [] ≡ entries = cc (is) in ap length (sym none)
+entries_length pages (suc i) entries is = by_last (record_at pages i) (entries_of pages i) (λ earlier reads. entries_length pages i earlier reads) is
+  where
+    by_last : (r : Result (Option DirEntry) BadRecord) → (rest : Result (List (Option DirEntry)) DirFault) → ((earlier : List (Option DirEntry)) → rest ≡ Ok earlier → length earlier ≡ i)
+        → with_record i r rest ≡ Ok entries → length entries ≡ suc i
+    by_last r (Err fault) earlier_long found = absurd (cc (found))
+    by_last (Err bad) (Ok earlier) earlier_long found = absurd (cc (found))
+    by_last (Ok entry) (Ok earlier) earlier_long found =
+        let same : earlier ++ entry ∷ [] ≡ entries = cc (found) in
+        omega (arith, ap length same, length-append earlier (entry ∷ []), earlier_long earlier refl)
+
 -- A DIRECTORY THAT IS READ
 distinct_ok : (r : Result (List (Option DirEntry)) DirFault) (entries : List (Option DirEntry)) → distinct r ≡ Ok entries → (r ≡ Ok entries) × (first_double entries 0 (length entries) ≡ None)
 distinct_ok (Err fault) entries is = absurd (cc (is))
@@ -163,3 +177,15 @@ module _ (entries : List (Option DirEntry)) where
   pub directory_forms : (opened : Result Opened TreeFault) → directory_from opened ≡ Ok entries → (index : ℕ) (e : DirEntry) → entry_at entries index ≡ Some e → HasForm e
   directory_forms (Err fault) is = absurd (cc (is))
   directory_forms (Ok opened) is = entries_form opened.pages 256 entries (from_pages opened (bad_block opened.bytes opened.pages) is).0
+
+  -- They are 256, in their forms, and no two have one name or one file.
+  pub directory_entries : (opened : Result Opened TreeFault) → directory_from opened ≡ Ok entries → AreEntries entries
+  directory_entries (Err fault) is = absurd (cc (is))
+  directory_entries (Ok opened) is =
+      let read = from_pages opened (bad_block opened.bytes opened.pages) is in
+      record {
+        whole = entries_length opened.pages 256 entries read.0;
+        forms = entries_form opened.pages 256 entries read.0;
+        distinct = names_distinct entries read.1;
+        single = files_single entries read.1;
+      }

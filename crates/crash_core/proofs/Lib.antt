@@ -15,3 +15,4 @@ pub mod KeptByFiles
 pub mod KeptByCommits
 pub mod Runs
 pub mod MountedPictures
+pub mod DirectoryLaws

@@ -32,7 +32,7 @@ use Rattle.crash_core.specs.Sights.{Shows, Sight}
 use Rattle.crash_core.specs.CoreState.{Core, IsTrusted, PendingCommit, Phase, standing}
 use Rattle.crash_core.specs.CoreSteps.{CoreStep, IsRun}
 use Rattle.crash_core.specs.Holding.{CardNames, DirectoryStands, Holds, PendingStands, SealedStands, entries_held, held_at}
-use Rattle.crash_core.specs.Theorem.{EveryPictureMounts, IsStart, IsTrustedName, MountsPending, MountsSealed, MountsTo, SameBut}
+use Rattle.crash_core.specs.Theorem.{EveryPictureMounts, HonestPicturesMount, IsStart, IsTrustedName, MountsTo, SameBut, map_on_card, map_sealed}
 use Rattle.crash_core.proofs.EntryMaps.{ins, is_at, self, tied}
 use Rattle.crash_core.proofs.Lists.{entry_held}
 use Rattle.crash_core.proofs.SameDirectory.{seen_directory}
@@ -110,20 +110,39 @@ module _ (phase : Phase) (files : ℕ → FileState) (card : CardState) (picture
       }
 
   module _ (trusted : IsTrusted phase 0) (root : RootRef) (entries : List (Option DirEntry)) (s : Standing) (committed : DirectoryStands phase files root entries (s.state).objects) where
-    sealed_mounts : (p : PendingCommit) (sealed : Option RootRef) → SealedStands phase files card root entries s p sealed → MountsSealed phase picture s.state p sealed
+    sealed_mounts : (p : PendingCommit) (sealed : Option RootRef) → SealedStands phase files card root entries s p sealed → MountsTo phase picture (map_sealed s.state p sealed)
     sealed_mounts p None stands = directory_mounts root entries (s.state).objects s.counter stands committed
     sealed_mounts p (Some dir) stands = directory_mounts dir (changed entries p.change) _ _ stands.0 (stands.1 trusted)
 
-    pending_mounts : (pending : Option PendingCommit) → PendingStands phase files card root entries s pending → MountsPending phase picture s.state pending
+    pending_mounts : (pending : Option PendingCommit) → PendingStands phase files card root entries s pending → MountsTo phase picture (map_on_card s.state pending)
     pending_mounts None stands = directory_mounts root entries (s.state).objects s.counter stands committed
     pending_mounts (Some p) stands = sealed_mounts p p.sealed stands
 
 -- Every picture of a state that holds mounts.
 pub holds_mounts : {Root : Type 0} (phase : Phase) (c : Core Root) (picture : Picture) → Holds phase c → IsPictureOf c.files c.card picture → IsTrusted phase 0
-    → MountsPending phase picture (standing phase c).state c.pending
+    → MountsTo phase picture (map_on_card (standing phase c).state c.pending)
 holds_mounts phase c picture h is trusted =
     pending_mounts phase c.files c.card picture is trusted c.root c.entries (standing phase c) (h.committed trusted) c.pending h.pending
 
 pub every-picture-mounts : {Root : Type 0} → UnchangedMapsStay → CommitsMakeChanges → EveryPictureMounts Root
 every-picture-mounts quiet commits phase start now steps picture good run is trusted =
     holds_mounts phase now picture (run_holds quiet commits phase start steps now (start_holds phase start good) run) is trusted
+
+-- WHERE EVERY FILE IS HONEST
+same_all : (IsSame : ObjectName → Type 0) (m n : ObjectMap) → ((name : ObjectName) → IsSame name) → SameBut IsSame m n → n ≡ m
+same_all IsSame [] [] each same = refl
+same_all IsSame [] (f ∷ n) each same = absurd same
+same_all IsSame (e ∷ m) [] each same = absurd same
+same_all IsSame (e ∷ m) (f ∷ n) each same =
+    let entry : f ≡ e = (λ j. (same.0 j, same.1 (each e.0) j)) in
+    let rest : n ≡ m = same_all IsSame m n each same.2 in
+    (λ j. entry j ∷ rest j)
+
+-- The picture mounts to the map itself.
+pub mounts_whole : (phase : Phase) (picture : Picture) (objects : ObjectMap) → ((file : ℕ) → IsTrusted phase file) → MountsTo phase picture objects → mounted phase.keys picture ≡ Ok objects
+mounts_whole phase picture objects trusted m =
+    m.mounts ∙ ap (λ (x : ObjectMap). Ok x) (same_all (IsTrustedName phase m.entries) objects m.there (λ name index e at alike. trusted e.file) m.same)
+
+pub honest-pictures-mount : {Root : Type 0} → UnchangedMapsStay → CommitsMakeChanges → HonestPicturesMount Root
+honest-pictures-mount quiet commits phase start now steps picture good run is trusted =
+    mounts_whole phase picture _ trusted (every-picture-mounts quiet commits phase start now steps picture good run is (trusted 0))

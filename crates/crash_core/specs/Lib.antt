@@ -16,4 +16,5 @@ pub mod Seals
 pub mod Appends
 pub mod CoreSteps
 pub mod Holding
+pub mod DirectoryLaws
 pub mod Theorem

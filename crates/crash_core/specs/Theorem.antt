@@ -12,7 +12,6 @@ use Rattle.store_model.specs.Machine.{MachineState}
 use Rattle.dir_records.specs.declared.entry.DirEntry.{DirEntry}
 use Rattle.crash_core.specs.Entries.{name_of}
 use Rattle.crash_core.specs.EntryLists.{entry_at}
-use Rattle.crash_core.specs.CardBlock.{IsReference, root_block, root_in}
 use Rattle.crash_core.specs.Pictures.{IsPictureOf, Picture}
 use Rattle.crash_core.specs.Mounting.{mounted, mounted_directory}
 use Rattle.crash_core.specs.CoreState.{Core, IsTrusted, PendingCommit, Phase, standing}
@@ -50,21 +49,24 @@ pub record MountsTo (phase : Phase) (picture : Picture) (objects : ObjectMap) : 
   pub mounts : mounted phase.keys picture ≡ Ok there
   pub same : SameBut (IsTrustedName phase entries) objects there
 
--- to the machine's map with the pending commit, once that is sealed; else to the machine's
-abbrev pub MountsSealed : Phase → Picture → MachineState → PendingCommit → Option RootRef → Type 0
-MountsSealed phase picture state p None = MountsTo phase picture state.objects
-MountsSealed phase picture state p (Some dir) = MountsTo phase picture (state_after state p.session p.call).objects
+abbrev pub map_sealed : MachineState → PendingCommit → Option RootRef → ObjectMap
+map_sealed state p None = state.objects
+map_sealed state p (Some dir) = (state_after state p.session p.call).objects
 
-abbrev pub MountsPending : Phase → Picture → MachineState → Option PendingCommit → Type 0
-MountsPending phase picture state None = MountsTo phase picture state.objects
-MountsPending phase picture state (Some p) = MountsSealed phase picture state p p.sealed
+-- the map that the card names: the machine's, or, once the pending commit is sealed, the one that it leaves
+abbrev pub map_on_card : MachineState → Option PendingCommit → ObjectMap
+map_on_card state None = state.objects
+map_on_card state (Some p) = map_sealed state p p.sealed
 
 -- For every list of steps from a start, where the directory's file is honest to the end.
 abbrev pub EveryPictureMounts : Type 0 → Type 0
 EveryPictureMounts Root =
     (phase : Phase) (start now : Core Root) (steps : List (CoreStep Root)) (picture : Picture) → IsStart phase start → IsRun phase start steps now
-    → IsPictureOf now.files now.card picture → IsTrusted phase 0 → MountsPending phase picture (standing phase now).state now.pending
+    → IsPictureOf now.files now.card picture → IsTrusted phase 0 → MountsTo phase picture (map_on_card (standing phase now).state now.pending)
 
--- The block that names a directory is read back.
-abbrev pub BlocksAreReadBack : Type 0
-BlocksAreReadBack = (root : RootRef) → IsReference root → root_in (root_block root) ≡ Ok root
+-- Where every file is, it is that map.
+abbrev pub HonestPicturesMount : Type 0 → Type 0
+HonestPicturesMount Root =
+    (phase : Phase) (start now : Core Root) (steps : List (CoreStep Root)) (picture : Picture) → IsStart phase start → IsRun phase start steps now
+    → IsPictureOf now.files now.card picture → ((file : ℕ) → IsTrusted phase file)
+    → mounted phase.keys picture ≡ Ok (map_on_card (standing phase now).state now.pending)

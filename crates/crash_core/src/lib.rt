@@ -5,8 +5,10 @@
 //! names the directory.
 #![tactic(auto)]
 
+mod directory_laws;
 mod fault;
 mod laws;
 
+pub use directory_laws::{blocks_are_read_back, directories_are_opened, directories_have_entries};
 pub use fault::DirFault;
 pub use laws::{lengths_are_sizes, writes_are_of_objects};
