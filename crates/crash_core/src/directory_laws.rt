@@ -3,19 +3,16 @@
 ghost use Rattle.crash_core.specs.DirectoryLaws.{BlocksAreReadBack, DirectoriesAreOpened, DirectoriesHaveEntries};
 
 /// The card's block that names a directory is read back.
-#[tactic(auto, using(crate::proofs::DirectoryLaws::blocks_are_read_back))]
 pub fn blocks_are_read_back()
     ensures { BlocksAreReadBack }
 {}
 
 /// Which entries a directory has is told by what its reference opens to.
-#[tactic(auto, using(crate::proofs::DirectoryLaws::directories_are_opened))]
 pub fn directories_are_opened()
     ensures { DirectoriesAreOpened }
 {}
 
 /// A directory that is read has 256 entries in their forms, no two of one name or one file.
-#[tactic(auto, using(crate::proofs::DirectoryLaws::directories_have_entries))]
 pub fn directories_have_entries()
     ensures { DirectoriesHaveEntries }
 {}
