@@ -1,10 +1,8 @@
 -- The block that names a directory is read back.
-use Rattle.std.proofs.Common.{◌≡◌, ◌⊎◌, ◌∙◌, ◌+◌, ◌-◌, ◌<◌, ◌≤◌, ◌==◌, ◌||◌, ℕ, zero, suc, List, [], ◌∷◌, ◌++◌, length, get_or, take, drop, replicate, Option, Some, None, Result, Ok, Err, cond, Bool, true, false, nat_lt, if◌then◌else◌, refl, sym, ap, subst, inl, inr, arith}
-use Rattle.std.specs.List.{list_all}
+use Rattle.std.proofs.Common.{◌≡◌, ◌⊎◌, ◌∙◌, ◌+◌, ◌-◌, ◌<◌, ◌≤◌, ◌==◌, ◌||◌, ℕ, zero, suc, List, [], ◌∷◌, ◌++◌, get_or, take, replicate, Some, None, Result, Ok, Bool, true, false, nat_lt, refl, ap, subst, inl, inr, arith}
 use Rattle.std.proofs.lemmas.Bool.{cond-true, eq-eqb, ne_eqb, lt-ltb, le-ltb, cases_lt}
 use Rattle.std.proofs.lemmas.List.{get_or-append_right, get_or-replicate}
 use Rattle.std.proofs.Math.Seq.{take-append_seam}
-use Rattle.byte_fields.specs.Field.{field}
 use Rattle.node_image.specs.declared.node.RootRef.{RootRef}
 use Rattle.crash_core.specs.CardBlock.{IsReference, first_outside, has_form_at, root_block, root_in, root_or}
 use Rattle.crash_core.specs.Refusal.{Refusal}

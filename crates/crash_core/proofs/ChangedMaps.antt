@@ -1,24 +1,25 @@
 -- The change of the directory's entries is the change of the map.
-use Rattle.std.proofs.Common.{◌≡◌, ◌≢◌, ◌<◌, ◌+◌, ℕ, true, false, List, [], length, map, Option, Some, None, refl, sym, ap, subst, ◌∙◌, arith, is_eq}
+use Rattle.std.proofs.Common.{◌≡◌, ◌<◌, ℕ, true, List, length, Option, Some, None, refl, sym, ap, subst, ◌∙◌, arith}
 use Rattle.std.specs.Prelude.{slice_set}
 use Rattle.std.specs.Option.{option_map}
 use Rattle.std.proofs.lemmas.List.{length-map}
 use Rattle.tee_types.specs.declared.call.Call.{Call}
-use Rattle.tee_types.specs.declared.call.Call.TheVariants.{Create, Open, Close, Read, Write, Truncate, Seek, Rename, Delete, Info, EnumNew, EnumStart, EnumNext, EnumReset, EnumFree}
+use Rattle.tee_types.specs.declared.call.Call.TheVariants.{Create, Write, Truncate, Rename, Delete}
 use Rattle.store_model.specs.declared.session.Handle.{Handle}
 use Rattle.store_model.specs.declared.name.ObjectName.{ObjectName}
-use Rattle.store_model.specs.Object.{Contents, Object, ObjectMap, Sound, changed_object, moved_object, object_at, with_object, without_object}
+use Rattle.store_model.specs.Object.{Contents, Object, ObjectMap, Sound, changed_object, object_at, with_object, without_object}
 use Rattle.store_model.specs.Machine.{MachineState, handle_at, session_at}
 use Rattle.store_model.specs.Calls.{is_commit, reply_of, state_after}
-use Rattle.store_model.specs.Makes.{Change, CommitsMakeChanges, HasContents, IsMadeChange, IsNamedBy, MakesChange, MapChange, Move, Remove, changed_map}
+use Rattle.store_model.specs.Makes.{Change, CommitsMakeChanges, HasContents, IsNamedBy, MakesChange, MapChange, Move, Remove, changed_map}
 use Rattle.store_model.specs.Makes.{Put as PutObject}
+use Rattle.store_model.proofs.Maps.{moved_object-held, set_value-insert_entry}
 use Rattle.dir_records.specs.declared.entry.DirEntry.{DirEntry}
 use Rattle.crash_core.specs.Entries.{name_of}
 use Rattle.crash_core.specs.EntryLists.{AreDistinct, IsAlone, entry_at}
 use Rattle.crash_core.specs.EntryChanges.{Clear, EntryChange, Enters, IsChange, IsEntryOf, IsPlaceOf, Put, changed, index_of}
 use Rattle.crash_core.specs.Mounting.{Held, map_of}
 use Rattle.crash_core.specs.Holding.{entries_held, held_at}
-use Rattle.crash_core.proofs.EntryMaps.{IsApart, Lacks, find_inserted, insert_twice, pulled, put_over, remove_inserted, rest_all, rest_lacks, set_inserted}
+use Rattle.crash_core.proofs.EntryMaps.{IsApart, Lacks, insert_twice, pulled, put_over, remove_inserted, rest_all, rest_lacks}
 use Rattle.crash_core.proofs.Lists.{changed_held, entry_held, map_at, set_else, set_here}
 
 some_held : (o : Option Held) (f : DirEntry) → option_map (λ (h : Held). h.entry) o ≡ Some f → (x : Held) × (o ≡ Some x) × (x.entry ≡ f)
@@ -87,17 +88,13 @@ module _ (objects : ObjectMap) (entries : List (Option DirEntry)) (held : List (
   replaced : (index : ℕ) (name : ObjectName) (object : Object) → IsEntryOf entries index name → with_object (rest_of index) name object ≡ changed_object objects name object
   replaced index name object at =
       let was = named_map index name at in
-      sym (set_inserted (rest_of index) name was.0 object) ∙ ap (λ (m : ObjectMap). changed_object m name object) (sym was.1)
+      sym (set_value-insert_entry name was.0 object (rest_of index)) ∙ ap (λ (m : ObjectMap). changed_object m name object) (sym was.1)
 
   -- without the object of an entry, the rest is left
   gone : (index : ℕ) (name : ObjectName) → IsEntryOf entries index name → without_object objects name ≡ rest_of index
   gone index name at =
       let was = named_map index name at in
       ap (λ (m : ObjectMap). without_object m name) was.1 ∙ remove_inserted (rest_of index) name was.0 was.2
-
-  moved_by : (old new : ObjectName) (x : Object) → object_at objects old ≡ Some x → moved_object objects old new ≡ with_object (without_object objects old) new x
-  moved_by old new x found =
-      ap (λ (o : Option Object). elim o as (λ _. ObjectMap) [ Some object ↦ with_object (without_object objects old) new object | None ↦ objects ]) found
 
   entered : (made : MapChange) (counter : ℕ) (change : EntryChange) (object : Object) → Enters made objects entries counter change object → index_of change < length entries
       → AreDistinct (changed entries change) → map_of (changed_held held change object) ≡ changed_map made objects
@@ -112,7 +109,7 @@ module _ (objects : ObjectMap) (entries : List (Option DirEntry)) (held : List (
   entered (Move old new) counter (Put index e) object enters lt after =
       new_map index e object new enters.0.named lt (alone_put index e lt after)
       ∙ ap (λ (m : ObjectMap). with_object m new object) (sym (gone index old enters.0.was))
-      ∙ sym (moved_by old new object enters.1)
+      ∙ sym (moved_object-held objects old new object enters.1)
   entered (Remove name) counter (Clear index) object enters lt after = sym (gone index name enters)
   entered (PutObject name x) counter (Clear index) object enters lt after = absurd enters
   entered (Change name x) counter (Clear index) object enters lt after = absurd enters

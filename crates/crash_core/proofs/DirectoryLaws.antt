@@ -1,5 +1,4 @@
 -- The laws of directories that are read, and of the block that names one.
-use Rattle.std.proofs.Common.{Result, Ok}
 use Rattle.htree_file.specs.Pages.{opened_of}
 use Rattle.crash_core.specs.DirectoryLaws.{BlocksAreReadBack, DirectoriesAreOpened, DirectoriesHaveEntries}
 use Rattle.crash_core.proofs.CardBlocks.{root_in-block}

@@ -1,6 +1,6 @@
 -- Entries that a directory was read as have distinct names, distinct files, and forms.
 use Rattle.std.proofs.Common.{◌≡◌, ◌≢◌, ◌⊎◌, ◌∙◌, ◌+◌, ◌*◌, ◌/◌, ◌%◌, ◌<◌, ◌≤◌, ◌||◌, ◌==◌, ℕ, zero, suc, Bool, true, false, cond, List, [], ◌∷◌, ◌++◌, length, length-append, get_or, unwrap_or, Option, Some, None, Result, Ok, Err, inl, inr, refl, sym, ap, subst, is_eq, true≢false, arith}
-use Rattle.std.proofs.lemmas.Bool.{cases_Bool, cases_eq, cases_lt, eq-eqb, cond-true, cond-false}
+use Rattle.std.proofs.lemmas.Bool.{cases_eq, cases_lt, eq-eqb}
 use Rattle.byte_fields.specs.Field.{field}
 use Rattle.store_model.specs.Name.{name_cmp}
 use Rattle.htree_file.specs.declared.fault.TreeFault.{TreeFault}
@@ -16,7 +16,7 @@ use Rattle.crash_core.specs.Entries.{distinct, double_or, entries_of, first_doub
 use Rattle.crash_core.specs.EntryLists.{AreDistinct, AreSingle, entry_at}
 use Rattle.crash_core.specs.Directory.{bad_block, directory_from, directory_in, directory_pages}
 use Rattle.crash_core.specs.DirectoryLaws.{AreEntries}
-use Rattle.crash_core.proofs.EntryMaps.{apart_back}
+use Rattle.store_model.proofs.Maps.{apart-sym}
 
 -- NO DOUBLES
 -- where none is found, none of these is a double
@@ -77,7 +77,7 @@ module _ (entries : List (Option DirEntry)) (none : first_double entries 0 (leng
   pub names_distinct : AreDistinct entries
   names_distinct index e at other f ne there = elim (cases_lt index other) [
     | inl low ↦ names_apart index other e f at there low
-    | inr high ↦ apart_back (name_of f) (name_of e) (names_apart other index f e there at (omega (arith, ne)))
+    | inr high ↦ apart-sym (name_of f) (name_of e) (names_apart other index f e there at (omega (arith, ne)))
   ]
 
   -- and distinct files.

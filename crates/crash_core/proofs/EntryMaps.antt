@@ -1,22 +1,19 @@
--- Maps of objects: insertions commute, and what was inserted is set, found and removed.
-use Rattle.std.proofs.Common.{◌≡◌, ◌≢◌, ◌⊎◌, ◌<◌, ℕ, zero, suc, Bool, true, false, cond, not, List, [], ◌∷◌, length, get_or, ap, sym, subst, ◌∙◌, refl, Option, Some, None, true≢false, is_eq, arith}
+-- Maps of objects: insertions commute, what was inserted is removed, and what is held at one place can be told from the rest.
+use Rattle.std.proofs.Common.{◌≡◌, ◌≢◌, ◌<◌, ℕ, zero, suc, Bool, true, false, cond, List, [], ◌∷◌, length, ap, sym, subst, ◌∙◌, refl, Option, Some, None, true≢false, is_eq, arith}
 use Rattle.std.specs.Prelude.{slice_set}
 use Rattle.std.specs.declared.cmp.Ordering.{Ordering}
 use Rattle.std.specs.declared.cmp.Ordering.TheVariants.{Less, Equal, Greater}
 use Rattle.std.specs.Ordering.{match_ordering, ordering_reverse}
-use Rattle.std.specs.Map.{lookup, set_value, remove_entry}
+use Rattle.std.specs.Map.{remove_entry}
 use Rattle.std.specs.BTreeMap.{insert_entry}
-use Rattle.std.specs.Cmp.{IsTotalOrder}
-use Rattle.std.proofs.lemmas.Cmp.{nat_list_cmp_total, on_total, then_total, tied_itself}
+use Rattle.std.proofs.lemmas.Cmp.{tied_itself}
 use Rattle.store_model.specs.declared.name.ObjectName.{ObjectName}
 use Rattle.store_model.specs.Name.{name_cmp}
 use Rattle.store_model.specs.Object.{Object, ObjectMap, with_object}
+use Rattle.store_model.proofs.Maps.{name_cmp_total}
 use Rattle.crash_core.specs.Entries.{name_of}
 use Rattle.crash_core.specs.Mounting.{Held, map_of}
 use Rattle.crash_core.specs.Holding.{held_at}
-
-total : IsTotalOrder name_cmp
-total = then_total (on_total (λ n. n.app) nat_list_cmp_total) (on_total (λ n. n.id) nat_list_cmp_total)
 
 -- the two names are alike
 abbrev pub is_at : ObjectName → ObjectName → Bool
@@ -28,20 +25,20 @@ pub ins : (k : ObjectName) (v : Object) (e : ObjectName × Object) (es : ObjectM
 ins k v e es o is = ap (λ c. match_ordering c ((k, v) ∷ e ∷ es) ((e.0, v) ∷ es) (e ∷ insert_entry name_cmp es k v)) is
 
 pub self : (a : ObjectName) → name_cmp a a ≡ Equal
-self a = tied_itself total a
+self a = tied_itself name_cmp_total a
 
 turned : (a b : ObjectName) → name_cmp a b ≡ Less → name_cmp b a ≡ Greater
-turned a b is = total.antisymm b a ∙ ap ordering_reverse is
+turned a b is = name_cmp_total.antisymm b a ∙ ap ordering_reverse is
 
 turned_back : (a b : ObjectName) → name_cmp a b ≡ Greater → name_cmp b a ≡ Less
-turned_back a b is = total.antisymm b a ∙ ap ordering_reverse is
+turned_back a b is = name_cmp_total.antisymm b a ∙ ap ordering_reverse is
 
 pub tied : (a b : ObjectName) → name_cmp a b ≡ Equal → name_cmp b a ≡ Equal
-tied a b is = total.antisymm b a ∙ ap ordering_reverse is
+tied a b is = name_cmp_total.antisymm b a ∙ ap ordering_reverse is
 
 -- b is above what a is tied to
 above_tied : (a b k : ObjectName) → name_cmp a b ≡ Less → name_cmp a k ≡ Equal → name_cmp b k ≡ Greater
-above_tied a b k less same = turned k b (sym (total.congr a k b same) ∙ less)
+above_tied a b k less same = turned k b (sym (name_cmp_total.congr a k b same) ∙ less)
 
 insert_comm_less : (m : ObjectMap) (a b : ObjectName) (x y : Object) → name_cmp a b ≡ Less
     → insert_entry name_cmp (insert_entry name_cmp m a x) b y ≡ insert_entry name_cmp (insert_entry name_cmp m b y) a x
@@ -60,7 +57,7 @@ insert_comm_less (e ∷ es) a b x y less = (elim (name_cmp a e.0) as (λ o. name
           ap (λ l. insert_entry name_cmp l b y) (ins a x e es Equal h) ∙ ins b y (e.0, x) es Greater g
           ∙ sym (ap (λ l. insert_entry name_cmp l a x) (ins b y e es Greater g) ∙ ins a x e (insert_entry name_cmp es b y) Equal h)
       | Greater ↦ λ h.
-          let g : name_cmp b e.0 ≡ Greater = turned e.0 b (total.trans e.0 a b (turned_back a e.0 h) less) in
+          let g : name_cmp b e.0 ≡ Greater = turned e.0 b (name_cmp_total.trans e.0 a b (turned_back a e.0 h) less) in
           ap (λ l. insert_entry name_cmp l b y) (ins a x e es Greater h) ∙ ins b y e (insert_entry name_cmp es a x) Greater g
           ∙ ap (λ l. e ∷ l) (insert_comm_less es a b x y less)
           ∙ sym (ap (λ l. insert_entry name_cmp l a x) (ins b y e es Greater g) ∙ ins a x e (insert_entry name_cmp es b y) Greater h)
@@ -84,33 +81,8 @@ insert_twice (e ∷ es) a x y = (elim (name_cmp a e.0) as (λ o. name_cmp a e.0 
   | Greater ↦ λ h. ap (λ l. insert_entry name_cmp l a y) (ins a x e es Greater h) ∙ ins a y e (insert_entry name_cmp es a x) Greater h ∙ ap (λ l. e ∷ l) (insert_twice es a x y) ∙ sym (ins a y e es Greater h)
 ]) refl
 
--- what a change of one value does at the first
-set_first : (test : ObjectName → Bool) (e : ObjectName × Object) (es : ObjectMap) (w : Object) (b : Bool) → test e.0 ≡ b → set_value test (e ∷ es) w ≡ cond b ((e.0, w) ∷ es) (e ∷ set_value test es w)
-set_first test e es w b is = ap (λ c. cond c ((e.0, w) ∷ es) (e ∷ set_value test es w)) is
-
 remove_first : (test : ObjectName → Bool) (e : ObjectName × Object) (es : ObjectMap) (b : Bool) → test e.0 ≡ b → remove_entry test (e ∷ es) ≡ cond b es (e ∷ remove_entry test es)
 remove_first test e es b is = ap (λ c. cond c es (e ∷ remove_entry test es)) is
-
-find_first : (test : ObjectName → Bool) (e : ObjectName × Object) (es : ObjectMap) (b : Bool) → test e.0 ≡ b → lookup test (e ∷ es) ≡ cond b (Some e.1) (lookup test es)
-find_first test e es b is = ap (λ c. cond c (Some e.1) (lookup test es)) is
-
--- it is set
-pub set_inserted : (m : ObjectMap) (a : ObjectName) (x y : Object) → set_value (is_at a) (with_object m a x) y ≡ with_object m a y
-set_inserted [] a x y = set_first (is_at a) (a, x) [] y true (ap is_eq (self a))
-set_inserted (e ∷ es) a x y = (elim (name_cmp a e.0) as (λ o. name_cmp a e.0 ≡ o → set_value (is_at a) (with_object (e ∷ es) a x) y ≡ with_object (e ∷ es) a y) [
-  | Less ↦ λ h. ap (λ l. set_value (is_at a) l y) (ins a x e es Less h) ∙ set_first (is_at a) (a, x) (e ∷ es) y true (ap is_eq (self a)) ∙ sym (ins a y e es Less h)
-  | Equal ↦ λ h. ap (λ l. set_value (is_at a) l y) (ins a x e es Equal h) ∙ set_first (is_at a) (e.0, x) es y true (ap is_eq h) ∙ sym (ins a y e es Equal h)
-  | Greater ↦ λ h. ap (λ l. set_value (is_at a) l y) (ins a x e es Greater h) ∙ set_first (is_at a) e (insert_entry name_cmp es a x) y false (ap is_eq h) ∙ ap (λ l. e ∷ l) (set_inserted es a x y) ∙ sym (ins a y e es Greater h)
-]) refl
-
--- and found
-pub find_inserted : (m : ObjectMap) (a : ObjectName) (x : Object) → lookup (is_at a) (with_object m a x) ≡ Some x
-find_inserted [] a x = find_first (is_at a) (a, x) [] true (ap is_eq (self a))
-find_inserted (e ∷ es) a x = (elim (name_cmp a e.0) as (λ o. name_cmp a e.0 ≡ o → lookup (is_at a) (with_object (e ∷ es) a x) ≡ Some x) [
-  | Less ↦ λ h. ap (lookup (is_at a)) (ins a x e es Less h) ∙ find_first (is_at a) (a, x) (e ∷ es) true (ap is_eq (self a))
-  | Equal ↦ λ h. ap (lookup (is_at a)) (ins a x e es Equal h) ∙ find_first (is_at a) (e.0, x) es true (ap is_eq h)
-  | Greater ↦ λ h. ap (lookup (is_at a)) (ins a x e es Greater h) ∙ find_first (is_at a) e (insert_entry name_cmp es a x) false (ap is_eq h) ∙ find_inserted es a x
-]) refl
 
 -- the map has nothing of that name
 abbrev pub Lacks : ObjectName → ObjectMap → Type 0
@@ -125,7 +97,7 @@ lacks_inserted (e ∷ es) a b y apart lacks = (elim (name_cmp b e.0) as (λ o. n
   | Greater ↦ λ h. subst (Lacks a) (sym (ins b y e es Greater h)) (lacks.0, lacks_inserted es a b y apart lacks.1)
 ]) refl
 
--- and removed
+-- what was inserted is removed
 pub remove_inserted : (m : ObjectMap) (a : ObjectName) (x : Object) → Lacks a m → remove_entry (is_at a) (with_object m a x) ≡ m
 remove_inserted [] a x lacks = remove_first (is_at a) (a, x) [] true (ap is_eq (self a))
 remove_inserted (e ∷ es) a x lacks = (elim (name_cmp a e.0) as (λ o. name_cmp a e.0 ≡ o → remove_entry (is_at a) (with_object (e ∷ es) a x) ≡ e ∷ es) [
@@ -186,11 +158,3 @@ put_over (None ∷ held) (suc index) x lt apart = put_over held index x (omega (
 put_over (Some y ∷ held) (suc index) x lt apart =
     ap (λ m. with_object m (name_of y.entry) y.object) (put_over held index x (omega (arith, lt)) (λ n z other there. apart (suc n) z (later n index other) there))
     ∙ insert_comm (map_of (slice_set held index None)) (name_of x.entry) (name_of y.entry) x.object y.object (apart 0 y (first_later index) refl)
-
--- names that are not alike are not alike the other way
-pub apart_back : (a b : ObjectName) → is_at a b ≡ false → is_at b a ≡ false
-apart_back a b apart = (elim (name_cmp a b) as (λ o. name_cmp a b ≡ o → is_at b a ≡ false) [
-  | Less ↦ λ h. ap is_eq (turned a b h)
-  | Equal ↦ λ h. absurd (true≢false (sym (ap is_eq h) ∙ apart))
-  | Greater ↦ λ h. ap is_eq (turned_back a b h)
-]) refl

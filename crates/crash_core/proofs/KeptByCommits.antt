@@ -1,16 +1,13 @@
 -- The seal, the events and the drops keep what every step keeps.
-use Rattle.std.proofs.Common.{◌≡◌, ◌≢◌, ◌⊎◌, ℕ, ◌+◌, ◌<◌, List, [], ◌∷◌, ◌++◌, IsTrue, get_or, true, Option, Some, None, Result, Ok, inl, inr, refl, sym, ◌∙◌, ap, subst}
+use Rattle.std.proofs.Common.{◌≡◌, ◌≢◌, ◌⊎◌, ℕ, ◌+◌, List, [], ◌∷◌, ◌++◌, get_or, Option, Some, None, Ok, inl, inr, refl, sym, ◌∙◌, ap, subst}
 use Rattle.std.specs.Prelude.{slice_set}
-use Rattle.std.specs.List.{list_all}
 use Rattle.std.proofs.lemmas.Bool.{cases_eq}
 use Rattle.disk_model.specs.State.{FileState}
 use Rattle.node_image.specs.declared.node.RootRef.{RootRef}
 use Rattle.rpmb_card.specs.Card.{CardState}
 use Rattle.tee_types.specs.declared.call.Call.{Call}
-use Rattle.tee_types.specs.declared.reply.Reply.{Reply}
 use Rattle.store_model.specs.declared.event.Event.{Event}
 use Rattle.store_model.specs.declared.event.Event.TheVariants.{Call as CallEvent, Landed}
-use Rattle.store_model.specs.declared.event.Mark.{Mark}
 use Rattle.store_model.specs.declared.event.Mark.TheVariants.{Unchanged, Made, Doubtful}
 use Rattle.store_model.specs.Record.{Record, Tag, file_of}
 use Rattle.store_model.specs.Object.{Object, ObjectMap}
@@ -22,23 +19,20 @@ use Rattle.store_model.specs.Legal.{IsLegalEvent, IsLegalFrom}
 use Rattle.store_model.specs.Laws.{UnchangedMapsStay}
 use Rattle.store_model.specs.Makes.{CommitsMakeChanges}
 use Rattle.dir_records.specs.declared.entry.DirEntry.{DirEntry}
-use Rattle.crash_core.specs.Refusal.{Refusal}
 use Rattle.crash_core.specs.CardBlock.{root_block, root_in}
-use Rattle.crash_core.specs.Pictures.{block_zero}
 use Rattle.crash_core.specs.DeviceKeys.{directory_key}
 use Rattle.crash_core.specs.EntryLists.{AreDistinct, IsUnnamed}
 use Rattle.crash_core.specs.EntryChanges.{Clear, EntryChange, Put, changed, file_put}
-use Rattle.crash_core.specs.Mounting.{Held, map_of}
-use Rattle.crash_core.specs.Sights.{Shows, Sight, Stands, sight_of}
+use Rattle.crash_core.specs.Mounting.{Held}
+use Rattle.crash_core.specs.Sights.{Shows, Sight, sight_of}
 use Rattle.crash_core.specs.CoreState.{Core, IsTrusted, PendingCommit, Phase, put, standing}
 use Rattle.crash_core.specs.Seals.{IsSeal, PutShows, sealed_card}
-use Rattle.crash_core.specs.Appends.{IsAppend, IsCommitted, IsDone, IsMarked, IsPending, LeavesState, committed, freed, with_record}
-use Rattle.crash_core.specs.CoreSteps.{IsPutByNone}
+use Rattle.crash_core.specs.Appends.{IsAppend, IsCommitted, IsDone, LeavesState, committed, freed, with_record}
 use Rattle.crash_core.specs.Holding.{CardNames, DirectoryStands, Holds, PendingStands, SealedStands, held_at}
 use Rattle.crash_core.proofs.CardBlocks.{root_in-block}
 use Rattle.crash_core.proofs.ChangedMaps.{change_enters, made_leaves}
 use Rattle.crash_core.proofs.Doubles.{directory_distinct}
-use Rattle.crash_core.proofs.KeptByFiles.{not_sealed, unsealed}
+use Rattle.crash_core.proofs.KeptByFiles.{unsealed}
 use Rattle.crash_core.proofs.Legality.{doubt_next, legal_push, made_next, none_next, replay_push}
 use Rattle.crash_core.proofs.Lists.{changed_held, entries_changed, put_each, put_else, put_here, set_at}
 use Rattle.crash_core.proofs.SameDirectory.{directory_seen}

@@ -1,5 +1,5 @@
 -- The calls of files keep what every step keeps.
-use Rattle.std.proofs.Common.{◌≡◌, ◌≢◌, ◌⊎◌, ℕ, ◌+◌, ◌≤◌, List, IsTrue, Option, Some, None, inl, inr, refl, sym, ◌∙◌, ap, subst, arith}
+use Rattle.std.proofs.Common.{◌≡◌, ◌⊎◌, ℕ, ◌≤◌, List, IsTrue, Option, Some, None, inl, inr, refl, sym, ◌∙◌, ap, subst, arith}
 use Rattle.disk_model.specs.State.{FileState, Sound}
 use Rattle.disk_model.specs.Keeps.{FileCall, write, sync, rest}
 use Rattle.node_image.specs.declared.node.RootRef.{RootRef}
@@ -7,7 +7,7 @@ use Rattle.rpmb_card.specs.Card.{CardState}
 use Rattle.store_model.specs.Standing.{Standing}
 use Rattle.dir_records.specs.declared.entry.DirEntry.{DirEntry}
 use Rattle.crash_core.specs.MountedObject.{root_of}
-use Rattle.crash_core.specs.EntryLists.{IsNamed, IsUnnamed, entry_at}
+use Rattle.crash_core.specs.EntryLists.{IsNamed}
 use Rattle.crash_core.specs.EntryChanges.{Clear, EntryChange, Put, changed}
 use Rattle.crash_core.specs.Sights.{Misses}
 use Rattle.crash_core.specs.CoreState.{Core, IsTrusted, PendingCommit, Phase, put, standing}
@@ -16,7 +16,6 @@ use Rattle.crash_core.specs.CoreSteps.{IsOpenCommit}
 use Rattle.crash_core.specs.Holding.{CardNames, DirectoryStands, Holds, PendingStands, SealedStands}
 use Rattle.crash_core.proofs.Lists.{put_each, set_at}
 use Rattle.crash_core.proofs.Moves.{IsRoot, MissesNext, MissesOnceSealed, MissesUnder, directory_moved, names_files, pending_moved}
-use Rattle.crash_core.proofs.Sightings.{CallMisses}
 
 -- of a commit that is not sealed the card names the committed directory
 pub unsealed : (phase : Phase) (files : ℕ → FileState) (card : CardState) (root : RootRef) (entries : List (Option DirEntry)) (s : Standing) (pending : Option PendingCommit)

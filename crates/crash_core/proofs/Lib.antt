@@ -16,3 +16,4 @@ pub mod KeptByCommits
 pub mod Runs
 pub mod MountedPictures
 pub mod DirectoryLaws
+pub mod Openings

@@ -1,38 +1,30 @@
 -- Every picture of a core state that holds mounts, to a map of the same names, and the same objects in files that are honest to the end.
-use Rattle.std.proofs.Common.{◌≡◌, ℕ, suc, Bool, true, false, List, [], ◌∷◌, map, Option, Some, None, Result, Ok, refl, sym, ◌∙◌, ap, subst, is_eq}
-use Rattle.std.specs.declared.cmp.Ordering.{Ordering}
+use Rattle.std.proofs.Common.{◌≡◌, ℕ, suc, true, List, [], ◌∷◌, Option, Some, None, Ok, refl, sym, ◌∙◌, ap, subst, is_eq}
 use Rattle.std.specs.declared.cmp.Ordering.TheVariants.{Less, Equal, Greater}
 use Rattle.std.specs.BTreeMap.{insert_entry}
-use Rattle.std.specs.Option.{option_map}
 use Rattle.std.proofs.lemmas.Bool.{false≢true}
 use Rattle.disk_model.specs.State.{FileState}
 use Rattle.node_image.specs.declared.node.RootRef.{RootRef}
-use Rattle.hmac_keys.specs.declared.Keys.{Keys}
 use Rattle.rpmb_card.specs.Card.{CardState}
 use Rattle.store_model.specs.declared.name.ObjectName.{ObjectName}
 use Rattle.store_model.specs.Name.{name_cmp}
 use Rattle.store_model.specs.Object.{Object, ObjectMap}
-use Rattle.store_model.specs.Machine.{MachineState}
 use Rattle.store_model.specs.Standing.{Standing}
-use Rattle.store_model.specs.Calls.{state_after}
 use Rattle.store_model.specs.Laws.{UnchangedMapsStay}
 use Rattle.store_model.specs.Makes.{CommitsMakeChanges}
 use Rattle.dir_records.specs.declared.entry.DirEntry.{DirEntry}
-use Rattle.crash_core.specs.MountedObject.{mounted_object, object_or_damaged, root_of}
+use Rattle.crash_core.specs.MountedObject.{mounted_object, object_or_damaged}
 use Rattle.crash_core.specs.Entries.{name_of}
-use Rattle.crash_core.specs.EntryLists.{entry_at}
 use Rattle.crash_core.specs.EntryChanges.{changed}
 use Rattle.crash_core.specs.Directory.{directory_from, directory_of}
 use Rattle.crash_core.specs.CardBlock.{root_in}
-use Rattle.crash_core.specs.Refusal.{Refusal}
 use Rattle.crash_core.specs.DeviceKeys.{directory_key, object_key}
 use Rattle.crash_core.specs.Pictures.{IsPictureOf, Picture, block_zero}
-use Rattle.crash_core.specs.Mounting.{Held, all_held_in, directory_by, held_in, map_of, mounted, mounted_directory, mounted_entries, unless_fault}
-use Rattle.crash_core.specs.Sights.{Shows, Sight}
+use Rattle.crash_core.specs.Mounting.{Held, all_held_in, directory_by, map_of, mounted, mounted_directory, mounted_entries, unless_fault}
+use Rattle.crash_core.specs.Sights.{Sight}
 use Rattle.crash_core.specs.CoreState.{Core, IsTrusted, PendingCommit, Phase, standing}
-use Rattle.crash_core.specs.CoreSteps.{CoreStep, IsRun}
 use Rattle.crash_core.specs.Holding.{CardNames, DirectoryStands, Holds, PendingStands, SealedStands, entries_held, held_at}
-use Rattle.crash_core.specs.Theorem.{EveryPictureMounts, HonestPicturesMount, IsStart, IsTrustedName, MountsTo, SameBut, map_on_card, map_sealed}
+use Rattle.crash_core.specs.Theorem.{EveryPictureMounts, HonestPicturesMount, IsTrustedName, MountsTo, SameBut, map_on_card, map_sealed}
 use Rattle.crash_core.proofs.EntryMaps.{ins, is_at, self, tied}
 use Rattle.crash_core.proofs.Lists.{entry_held}
 use Rattle.crash_core.proofs.SameDirectory.{seen_directory}

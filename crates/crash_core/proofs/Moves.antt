@@ -1,24 +1,21 @@
 -- A directory that stands stays so after a call of one file that misses what it and its entries select.
-use Rattle.std.proofs.Common.{◌≡◌, ◌≢◌, ◌⊎◌, ℕ, ◌+◌, ◌≤◌, List, IsTrue, Option, Some, None, inl, inr, refl, sym, subst, ap, ◌∙◌, arith}
+use Rattle.std.proofs.Common.{◌≡◌, ◌⊎◌, ℕ, ◌≤◌, List, IsTrue, Option, Some, None, inl, inr, refl, sym, subst, arith}
 use Rattle.std.proofs.lemmas.Bool.{cases_eq}
 use Rattle.disk_model.specs.State.{FileState, Sound}
 use Rattle.disk_model.specs.Keeps.{FileCall}
 use Rattle.node_image.specs.declared.node.RootRef.{RootRef}
 use Rattle.rpmb_card.specs.Card.{CardState}
 use Rattle.store_model.specs.Object.{ObjectMap}
-use Rattle.store_model.specs.Calls.{state_after}
-use Rattle.store_model.specs.Machine.{MachineState}
 use Rattle.store_model.specs.Standing.{Standing}
 use Rattle.dir_records.specs.declared.entry.DirEntry.{DirEntry}
 use Rattle.crash_core.specs.MountedObject.{root_of}
 use Rattle.crash_core.specs.DeviceKeys.{directory_key}
 use Rattle.crash_core.specs.EntryLists.{IsNamed}
 use Rattle.crash_core.specs.EntryChanges.{EntryChange, changed}
-use Rattle.crash_core.specs.Mounting.{Held}
 use Rattle.crash_core.specs.Sights.{Shows, Stands}
 use Rattle.crash_core.specs.CoreState.{IsTrusted, PendingCommit, Phase, put}
 use Rattle.crash_core.specs.FileSteps.{IsFileStep}
-use Rattle.crash_core.specs.Holding.{CardNames, DirectoryStands, PendingStands, SealedStands}
+use Rattle.crash_core.specs.Holding.{DirectoryStands, PendingStands, SealedStands}
 use Rattle.crash_core.proofs.Doubles.{directory_forms}
 use Rattle.crash_core.proofs.Lists.{entry_held, put_else, put_here}
 use Rattle.crash_core.proofs.Sightings.{CallMisses, call_shows, call_stands}

@@ -1,12 +1,11 @@
 -- Every step of the core machine keeps what holds of it, and so does every run from a start.
-use Rattle.std.proofs.Common.{◌≡◌, ℕ, ◌+◌, List, [], ◌∷◌, Option, Some, None, inl, inr, refl, sym, ◌∙◌, ap, subst}
-use Rattle.disk_model.specs.Keeps.{write}
+use Rattle.std.proofs.Common.{◌≡◌, List, [], ◌∷◌, sym, ap, subst}
 use Rattle.store_model.specs.Standing.{Standing, opening, replay}
 use Rattle.store_model.specs.Record.{Record}
 use Rattle.store_model.specs.Legal.{IsLegalFrom}
 use Rattle.store_model.specs.Laws.{UnchangedMapsStay}
 use Rattle.store_model.specs.Makes.{CommitsMakeChanges}
-use Rattle.crash_core.specs.CoreState.{Core, IsTrusted, Phase, put, standing}
+use Rattle.crash_core.specs.CoreState.{Core, Phase, standing}
 use Rattle.crash_core.specs.CoreSteps.{Append, CoreStep, DropCommit, DropStage, DropTaking, IsRun, IsStep, RestFile, Seal, SyncDirectory, SyncFile, TakeFile, WriteDirectory, WriteFile}
 use Rattle.crash_core.specs.Holding.{CardNames, DirectoryStands, Holds, PendingStands}
 use Rattle.crash_core.specs.Theorem.{IsStart}

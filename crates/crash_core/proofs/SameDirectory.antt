@@ -1,18 +1,17 @@
 -- A directory that is read is one by what its reference opens to; and images in which the reference names one tree and selects the same
 -- bytes have the same directory.
-use Rattle.std.proofs.Common.{◌≡◌, ◌∙◌, ◌+◌, ◌/◌, ◌<◌, ◌≤◌, ℕ, zero, suc, max, List, [], length, get_or, Option, Some, None, Result, Ok, Err, cond, is_none, Bool, true, false, refl, sym, ap, subst, arith}
+use Rattle.std.proofs.Common.{◌≡◌, ◌∙◌, ◌+◌, ◌/◌, ◌<◌, ◌≤◌, ℕ, zero, suc, max, List, [], length, get_or, Option, Some, None, Result, Ok, Err, cond, is_none, Bool, true, false, refl, sym, ap, arith}
 use Rattle.aes_block.specs.WrappedKey.{unwrapped_of}
 use Rattle.node_image.specs.declared.node.NodeImage.{NodeImage}
 use Rattle.node_image.specs.declared.node.RootRef.{RootRef}
-use Rattle.node_image.specs.Layout.{greatest_of}
 use Rattle.node_image.specs.Parts.Part.{block}
 use Rattle.node_image.specs.Tables.{at_node, block_bit}
-use Rattle.node_image.specs.Selection.{SelectedTree, head_in, part_in, row, selected_node, selected_tree}
+use Rattle.node_image.specs.Selection.{SelectedTree, head_in, part_in, selected_node, selected_tree}
 use Rattle.node_image.proofs.Matching.{node_is, row_at, row_same}
 use Rattle.htree_file.specs.declared.fault.TreeFault.{TreeFault}
 use Rattle.htree_file.specs.declared.fault.TreeFault.TheVariants.{BadTag}
 use Rattle.htree_file.specs.Opening.{Loaded, load_of}
-use Rattle.htree_file.specs.Pages.{Opened, block_in, opened_in, opened_of, page_in, page_of, tag_of}
+use Rattle.htree_file.specs.Pages.{block_in, opened_in, opened_of, page_in, page_of, tag_of}
 use Rattle.htree_file.specs.Selected.{IsLoaded}
 use Rattle.htree_file.specs.Standing.{OpensTo}
 use Rattle.htree_file.proofs.Loadings.{loaded_from}
@@ -20,7 +19,7 @@ use Rattle.htree_file.proofs.Sizes.{sized_greatest}
 use Rattle.dir_records.specs.declared.entry.DirEntry.{DirEntry}
 use Rattle.crash_core.specs.declared.fault.DirFault.{DirFault}
 use Rattle.crash_core.specs.declared.fault.DirFault.TheVariants.{Tree}
-use Rattle.crash_core.specs.Directory.{bad_block, blocks_of, directory_from, directory_in, directory_of, directory_or, directory_pages, first_bad, or_bad, pages_of, tree_directory}
+use Rattle.crash_core.specs.Directory.{bad_block, blocks_of, directory_from, directory_of, directory_or, directory_pages, first_bad, or_bad, pages_of}
 
 -- THE SAME AS AN OPENED TREE
 module _ (image key : List ℕ) (tree : Loaded) (entries : List (Option DirEntry)) where

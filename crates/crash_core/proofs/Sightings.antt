@@ -1,5 +1,5 @@
 -- What stands alike in every image of a file stands so after each call of the file that misses what it selects.
-use Rattle.std.proofs.Common.{◌≡◌, ℕ, ◌<◌, ◌≤◌, List, [], length, drop, IsTrue, Ok, inl, inr, refl, sym, ◌∙◌, ap, subst, arith}
+use Rattle.std.proofs.Common.{◌≡◌, ℕ, ◌<◌, List, [], drop, IsTrue, inl, inr, sym, ◌∙◌, ap, subst, arith}
 use Rattle.std.proofs.lemmas.Bool.{cases_lt}
 use Rattle.disk_model.specs.declared.span.Span.{Span}
 use Rattle.disk_model.specs.declared.span.Change.{Change}
@@ -12,7 +12,7 @@ use Rattle.disk_model.proofs.Laws.{change_keeps, keeps_fewer, synced}
 use Rattle.node_image.specs.declared.node.RootRef.{RootRef}
 use Rattle.node_image.specs.Selection.{selected_tree}
 use Rattle.hmac_keys.specs.declared.Keys.{Keys}
-use Rattle.htree_file.specs.Opening.{Loaded, load_of}
+use Rattle.htree_file.specs.Opening.{load_of}
 use Rattle.htree_file.specs.Pages.{opened_of}
 use Rattle.htree_file.specs.Selected.{Lies, StaysFirm}
 use Rattle.htree_file.specs.Standing.{IsFirm}

@@ -1,5 +1,5 @@
 -- Which events the core machine appends to the history, and which of them commit what was sealed.
-use Rattle.std.specs.Prelude.{◌≡◌, ◌⊎◌, ℕ, List, [], ◌∷◌, ◌++◌, Option, Some, None}
+use Rattle.std.specs.Prelude.{◌≡◌, ◌⊎◌, ℕ, [], ◌∷◌, ◌++◌, Option, Some, None}
 use Rattle.node_image.specs.declared.node.RootRef.{RootRef}
 use Rattle.tee_types.specs.declared.call.Call.{Call}
 use Rattle.store_model.specs.declared.event.Event.{Event}
@@ -8,7 +8,7 @@ use Rattle.store_model.specs.declared.event.Mark.{Mark}
 use Rattle.store_model.specs.declared.event.Mark.TheVariants.{Unchanged, Made, Doubtful}
 use Rattle.store_model.specs.Record.{Record, file_of}
 use Rattle.store_model.specs.Doubt.{Doubt}
-use Rattle.store_model.specs.Standing.{Standing, standing_after}
+use Rattle.store_model.specs.Standing.{standing_after}
 use Rattle.store_model.specs.Legal.{IsLegalEvent}
 use Rattle.crash_core.specs.EntryChanges.{EntryChange, Put, Clear, changed}
 use Rattle.crash_core.specs.CoreState.{Core, PendingCommit, Phase, put, standing}

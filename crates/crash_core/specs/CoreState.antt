@@ -1,5 +1,5 @@
 -- The state of the core machine: the files, the card, the directory, who writes what, the commit that is pending, and the history.
-use Rattle.std.specs.Prelude.{◌≡◌, ◌==◌, ℕ, List, Option, if◌then◌else◌, Contains}
+use Rattle.std.specs.Prelude.{◌==◌, ℕ, List, Option, if◌then◌else◌, Contains}
 use Rattle.disk_model.specs.State.{FileState}
 use Rattle.node_image.specs.declared.node.RootRef.{RootRef}
 use Rattle.hmac_keys.specs.declared.Keys.{Keys}

@@ -1,7 +1,7 @@
 -- The steps of the core machine. Those that are judged by who makes them name the actor.
 use Rattle.std.specs.Prelude.{◌≡◌, ◌≢◌, ◌⊎◌, ◌≤◌, ℕ, List, [], ◌∷◌, Option, Some, None}
 use Rattle.disk_model.specs.State.{FileState}
-use Rattle.disk_model.specs.Keeps.{FileCall, write, sync, rest}
+use Rattle.disk_model.specs.Keeps.{write, sync, rest}
 use Rattle.node_image.specs.declared.node.RootRef.{RootRef}
 use Rattle.store_model.specs.Record.{Record}
 use Rattle.crash_core.specs.EntryLists.{IsUnnamed}

@@ -1,5 +1,5 @@
 -- What holds of every directory that is read, and of the block that names one.
-use Rattle.std.specs.Prelude.{◌≡◌, ◌↔◌, ℕ, List, length, Option, Some, Result, Ok}
+use Rattle.std.specs.Prelude.{◌≡◌, ◌↔◌, ℕ, List, length, Option, Some, Ok}
 use Rattle.node_image.specs.declared.node.RootRef.{RootRef}
 use Rattle.htree_file.specs.Pages.{opened_of}
 use Rattle.dir_records.specs.declared.entry.DirEntry.{DirEntry}

@@ -1,5 +1,5 @@
 -- Which writes the core machine allows: they miss what the committed references select, and those of a sealed commit.
-use Rattle.std.specs.Prelude.{◌≡◌, ◌⊎◌, ℕ, List, Option, Some, None, Result, Ok, IsTrue}
+use Rattle.std.specs.Prelude.{◌≡◌, ◌⊎◌, ℕ, List, Option, Some, None, Ok, IsTrue}
 use Rattle.disk_model.specs.State.{FileState, Sound}
 use Rattle.disk_model.specs.Keeps.{FileCall, IsCall}
 use Rattle.node_image.specs.declared.node.RootRef.{RootRef}

@@ -1,5 +1,5 @@
 -- What every step of the core machine keeps.
-use Rattle.std.specs.Prelude.{◌≡◌, ◌+◌, ℕ, List, map, Option, Some, None, get_or, Result, Ok, IsTrue}
+use Rattle.std.specs.Prelude.{◌≡◌, ◌+◌, ℕ, List, map, Option, Some, None, get_or, Ok, IsTrue}
 use Rattle.std.specs.Option.{option_map}
 use Rattle.disk_model.specs.State.{FileState, Sound}
 use Rattle.node_image.specs.declared.node.RootRef.{RootRef}

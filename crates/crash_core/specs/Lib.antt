@@ -18,3 +18,4 @@ pub mod CoreSteps
 pub mod Holding
 pub mod DirectoryLaws
 pub mod Theorem
+pub mod Opening

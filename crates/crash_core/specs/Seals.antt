@@ -1,8 +1,7 @@
 -- When a commit is sealed: the card's one write names the directory with the changed entry.
-use Rattle.std.specs.Prelude.{◌≡◌, ℕ, ◌+◌, true, List, [], slice_set, Result, Ok}
+use Rattle.std.specs.Prelude.{◌≡◌, ℕ, ◌+◌, true, [], slice_set, Ok}
 use Rattle.disk_model.specs.State.{FileState, pending}
 use Rattle.node_image.specs.declared.node.RootRef.{RootRef}
-use Rattle.hmac_keys.specs.declared.Keys.{Keys}
 use Rattle.rpmb_card.specs.Card.{CardState}
 use Rattle.store_model.specs.Object.{Object}
 use Rattle.store_model.specs.Makes.{MapChange, MakesChange}

@@ -1,6 +1,6 @@
 -- The crash prefix of the core machine: whatever its steps, every picture mounts to the map of its history, or to that map with the one
 -- commit that is sealed and pending.
-use Rattle.std.specs.Prelude.{◌≡◌, ℕ, true, List, [], ◌∷◌, Option, Some, None, Result, Ok, IsTrue}
+use Rattle.std.specs.Prelude.{◌≡◌, ℕ, true, List, [], ◌∷◌, Option, Some, None, Ok, IsTrue}
 use Rattle.std.specs.Ordering.{is_eq}
 use Rattle.disk_model.specs.State.{Sound}
 use Rattle.node_image.specs.declared.node.RootRef.{RootRef}

@@ -1,5 +1,6 @@
 //! Laws of the core machine. Each function does nothing: its contract is the law.
 
+ghost use Rattle.crash_core.specs.Opening.{OpeningsAreStarts};
 ghost use Rattle.crash_core.specs.Theorem.{EveryPictureMounts, HonestPicturesMount};
 
 /// Whatever the steps of the core machine, in whatever order they come: every picture that a crash may then leave mounts to the map
@@ -14,4 +15,9 @@ pub fn every_picture_mounts<Root>()
 /// Where every file is honest, the picture mounts to that map itself.
 pub fn honest_pictures_mount<Root>()
     ensures { HonestPicturesMount Root }
+{}
+
+/// The core machine may begin with every store that is mounted, and whose named files were synced.
+pub fn openings_are_starts<Root>()
+    ensures { OpeningsAreStarts Root }
 {}
