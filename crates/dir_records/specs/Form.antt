@@ -4,6 +4,7 @@ use Rattle.std.specs.List.{list_all}
 use Rattle.std.specs.Int.{w16, w32, from_be_bytes}
 use Rattle.std.specs.Option.{option_map}
 use Rattle.byte_fields.specs.Field.{field}
+use Rattle.tee_types.specs.Limits.{last_file, most_attribute_bytes, most_data_bytes, most_identifier_bytes}
 use Rattle.dir_records.specs.declared.entry.DirEntry.{DirEntry}
 use Rattle.dir_records.specs.declared.entry.BadRecord.{BadRecord}
 use Rattle.dir_records.specs.Layout.{byte, id_length, entry_of}
@@ -19,12 +20,12 @@ is_upto most n = nat_le 1 n && nat_le n most
 -- each field that has a form, in the order of the tests: whether it is outside it, and its offset
 abbrev pub tests : List ℕ → List (Bool × ℕ)
 tests bytes =
-    (not (is_upto 64 (id_length bytes)), 80)
+    (not (is_upto most_identifier_bytes (id_length bytes)), 80)
     ∷ (not (is_free (drop (id_length bytes) (field 16 64 bytes))), 16)
     ∷ (nat_lt 1 (byte 81 bytes), 81)
-    ∷ (not (is_upto 272 (from_be_bytes w16 (field 82 2 bytes))), 82)
-    ∷ (nat_lt 1044480 (from_be_bytes w32 (field 116 4 bytes)), 116)
-    ∷ (nat_lt 2048 (from_be_bytes w16 (field 120 2 bytes)), 120)
+    ∷ (not (is_upto last_file (from_be_bytes w16 (field 82 2 bytes))), 82)
+    ∷ (nat_lt most_data_bytes (from_be_bytes w32 (field 116 4 bytes)), 116)
+    ∷ (nat_lt most_attribute_bytes (from_be_bytes w16 (field 120 2 bytes)), 120)
     ∷ (not (byte 122 bytes == 1), 122)
     ∷ (not (byte 127 bytes == 0), 127)
     ∷ []
@@ -45,7 +46,7 @@ record_of bytes = if is_free bytes then Ok None else entry_or (first_fault bytes
 -- each number of an entry has its form
 pub record HasForm (e : DirEntry) : Type 0 where
   pub version : e.version < 2
-  pub file : (1 ≤ e.file) × (e.file ≤ 272)
-  pub size : e.size ≤ 1044480
-  pub attributes : e.attributes ≤ 2048
+  pub file : (1 ≤ e.file) × (e.file ≤ last_file)
+  pub size : e.size ≤ most_data_bytes
+  pub attributes : e.attributes ≤ most_attribute_bytes
   pub format : e.format ≡ 1

@@ -6,18 +6,7 @@ ghost use Rattle.dir_records.specs.Layout.{id_length};
 ghost use Rattle.dir_records.specs.Form.{first_fault, is_free, is_upto, tests};
 
 use byte_fields::field;
-
-/// The greatest length of an identifier.
-const MAX_ID: u16 = 64;
-
-/// The number of the last file.
-const MAX_FILE: u16 = 272;
-
-/// The greatest size of an object's data.
-const MAX_SIZE: u32 = 1_044_480;
-
-/// The greatest size of an object's attributes.
-const MAX_ATTRIBUTES: u16 = 2_048;
+use tee_types::{MAX_ATTRIBUTES, MAX_DATA, MAX_FILE, MAX_IDENTIFIER};
 
 /// The one format of entries.
 const FORMAT: u8 = 1;
@@ -52,12 +41,12 @@ fn tests(bytes: &[u8; 128]) -> [(bool, u8); 8]
     let size = u32::from_be_bytes(field(bytes, 116));
     let attributes = u16::from_be_bytes(field(bytes, 120));
     [
-        (!is_upto(MAX_ID, u16::from(bytes[80])), 80),
+        (!is_upto(MAX_IDENTIFIER as u16, u16::from(bytes[80])), 80),
         (!is_padded(bytes), 16),
         (1 < bytes[81], 81),
         (!is_upto(MAX_FILE, file), 82),
-        (MAX_SIZE < size, 116),
-        (MAX_ATTRIBUTES < attributes, 120),
+        (MAX_DATA < size as usize, 116),
+        (MAX_ATTRIBUTES < usize::from(attributes), 120),
         (bytes[122] != FORMAT, 122),
         (bytes[127] != 0, 127),
     ]

@@ -5,7 +5,7 @@ use Rattle.disk_model.specs.declared.span.Change.{Change}
 use Rattle.disk_model.specs.Faults.{next_count}
 use Rattle.disk_model.specs.Images.{Has}
 use Rattle.disk_model.specs.Bytes.{after_mask, after_write, after_resize}
-use Rattle.disk_model.specs.Arms.{Taint, NamesNext, next_taints}
+use Rattle.disk_model.specs.Arms.{Arms, Taint, NamesNext, StopsNext, next_taints}
 use Rattle.disk_model.specs.State.{FileState}
 use Rattle.disk_model.specs.Calls.{Known, GoesOn, Changes, Rests, Syncs}
 use Rattle.disk_model.specs.Keeps.{Outside}
@@ -14,7 +14,7 @@ use Rattle.disk_model.proofs.Spans.{within_span}
 use Rattle.disk_model.proofs.Writes.{written_keeps, resized_keeps}
 use Rattle.mem_files.specs.Held.{change_of}
 use Rattle.mem_files.specs.Memory.{IsArmed}
-use Rattle.mem_files.specs.Machine.{begun, wrote, resized, synced, FailsBegun}
+use Rattle.mem_files.specs.Machine.{begun, wrote, resized, synced, FailsBegun, StopsWithin}
 use Rattle.mem_files.proofs.Overlays.{length-overlaid}
 
 -- what masks leave of a file that is honest still
@@ -226,3 +226,56 @@ starved_fails a b c d begins same counted rises =
       starved = omega (arith, rises.1, is_starved);
       cause = inr (begins.1, more ∙ ap next_count is_starved);
     }
+
+-- a device that stops at the next call is set to fail it
+pub stops_named : (arms : Arms) → StopsNext arms → NamesNext arms
+stops_named arms stops = inl (past arms.stop_after stops.0)
+  where
+    past : (stop : Option ℕ) → IsSomeAnd stop (λ calls. calls + 1 ≡ next_count arms.calls) → IsSomeAnd stop (λ calls. calls < next_count arms.calls)
+    past None is = is
+    past (Some calls) is = omega (arith, is)
+
+-- A write within which the device stopped.
+module _ (a : FileState) (armed : IsArmed a) (d : FileState) (at : ℕ) (bytes : List ℕ) (count : ℕ) (stops : StopsWithin a d at bytes count) where
+  abbrev left : FileState
+  left = stops.left
+
+  left_changes : Changes at (at + length bytes) a left
+  left_changes = elim stops.either [
+    | inl wrote_it ↦ wrote_changes a armed (begun a) left at bytes refl wrote_it stops.written
+    | inr nothing ↦ let rests = begun_rests a armed left nothing in record { trail = inl rests.trail; settled = rests.settled; pending_from = rests.pending_from; goes_on = rests.goes_on }
+  ]
+
+  stopped_calm : IsTrue a.calm → ⊥
+  stopped_calm calm = not_named a armed calm (stops_named a.arms stops.stops)
+
+  pub stopped_changes : Changes at (at + length bytes) a d
+  stopped_changes = subst (λ (s : FileState). Changes at (at + length bytes) a s) (sym stops.same) (record {
+    trail = elim left_changes.trail [ inl same ↦ inl same | inr adds ↦ inr (record { change = adds.change; trail = adds.trail; base = adds.base; within = adds.within }) ];
+    settled = left_changes.settled;
+    pending_from = left_changes.pending_from;
+    goes_on = record {
+      honest = left_changes.goes_on.honest;
+      steady = left_changes.goes_on.steady;
+      calm = left_changes.goes_on.calm;
+      tells = left_changes.goes_on.tells;
+      tells_arms = left_changes.goes_on.tells_arms;
+      faults = omega (arith, left_changes.goes_on.faults, stops.faults, ap (λ (s : FileState). s.faults) stops.same);
+      starved = left_changes.goes_on.starved;
+      quiet = λ calm. absurd (stopped_calm calm);
+      written = left_changes.goes_on.written;
+    };
+  })
+
+  pub stopped_others : Known a d → (place byte : ℕ) → Outside at (at + length bytes) place → Has a.reads place byte → Has d.reads place byte
+  stopped_others known place byte out has = subst (λ (l : List ℕ). Has l place byte) (sym (ap (λ (s : FileState). s.reads) stops.same)) (elim stops.either [
+    | inl wrote_it ↦ wrote_others a armed (begun a) left at bytes refl wrote_it known_left place byte out has
+    | inr nothing ↦ subst (λ (l : List ℕ). Has l place byte) (sym ((begun_rests a armed left nothing).reads known_left)) has
+  ])
+    where
+      known_left : Known a left
+      known_left = known_by known
+        where
+          known_by : Known a d → Known a left
+          known_by (inl honest) = inl (subst (λ (x : Bool). IsTrue x) (ap (λ (s : FileState). s.honest) stops.same) honest)
+          known_by (inr steady) = inr steady

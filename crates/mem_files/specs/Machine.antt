@@ -2,7 +2,7 @@
 use Rattle.std.specs.Prelude.{◌≡◌, ◌⊎◌, ℕ, ◌+◌, ◌-◌, ◌^◌, List, [], ◌∷◌, ◌++◌, length, min, max, true, Contains, IsSomeAnd, ◌<◌, ◌≤◌}
 use Rattle.disk_model.specs.Faults.{next_count}
 use Rattle.disk_model.specs.Bytes.{after_write, after_resize}
-use Rattle.disk_model.specs.Arms.{Arms, no_arms, count_call, NamesNext}
+use Rattle.disk_model.specs.Arms.{Arms, no_arms, count_call, NamesNext, StopsNext}
 use Rattle.disk_model.specs.State.{FileState}
 use Rattle.disk_model.specs.Controls.{struck}
 use Rattle.mem_files.specs.Held.{change_of}
@@ -68,3 +68,13 @@ pub record FailsBegun (old new : FileState) (count : ℕ) : Type 0 where
   pub faults : old.faults ≤ new.faults
   pub starved : old.starved ≤ new.starved
   pub cause : (NamesNext old.arms × (new.starved ≡ old.starved)) ⊎ ((NamesNext old.arms → ⊥) × (new.starved ≡ next_count old.starved))
+
+-- The device stopped within a write: it may be there, or nothing of it.
+pub record StopsWithin (old new : FileState) (at : ℕ) (bytes : List ℕ) (count : ℕ) : Type 0 where
+  pub left : FileState
+  pub either : (left ≡ wrote (begun old) at bytes) ⊎ (left ≡ begun old)
+  pub same : new ≡ record left { faults = next_count left.faults }
+  pub carried : count ≡ new.faults
+  pub faults : left.faults ≤ new.faults
+  pub written : old.written ≤ left.written
+  pub stops : StopsNext old.arms

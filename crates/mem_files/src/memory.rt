@@ -1,7 +1,7 @@
 // A file in memory, whose device can be set to fail and to crash.
 ghost use Rattle.std.specs.Prelude.{◌≡◌, ◌+◌, ◌-◌, ◌<◌, ◌≤◌, ◌^◌, ◌↔◌, length, None, IsTrue, IfErr, OnOk, OnErr, IsSomeAnd, Contains, refl};
 ghost use Rattle.disk_model.specs.Faults.{next_count};
-ghost use Rattle.disk_model.specs.Arms.{NamesNext};
+ghost use Rattle.disk_model.specs.Arms.{NamesNext, StopsNext};
 ghost use Rattle.mem_files.specs.Machine.{begun, wrote, resized, synced};
 
 use crate::content::Content;
@@ -28,7 +28,7 @@ pub struct MemFile {
 
 impl MemFile {
     ghost use Rattle.mem_files.specs.Memory.{file_state};
-    ghost use Rattle.mem_files.specs.Machine.{FailsBegun, fresh, IsNamed};
+    ghost use Rattle.mem_files.specs.Machine.{FailsBegun, StopsWithin, fresh, IsNamed};
 
     /// An empty file, honest and settled, with no arms.
     pub fn new(alloc: Global) -> MemFile
@@ -47,17 +47,58 @@ impl MemFile {
         }
     }
 
+    /// How many calls were made since the last arming.
+    pub fn calls(&self) -> u64
+        ensures { result ≡ (file_state self.now).arms.calls }
+    {
+        self.calls
+    }
+
+    /// How many bytes were written.
+    pub fn written(&self) -> u64
+        ensures { result ≡ (file_state self.now).written }
+    {
+        self.written
+    }
+
+    // Counts a call, before which masks strike.
+    fn count(&mut self)
+        ensures { file_state self.new ≡ begun (file_state self.old) }
+    {
+        self.calls = self.calls.saturating_add(1);
+        self.content.strike_all(&self.taints, self.calls);
+    }
+
     // Begins a call: masks strike, and the call may be set to fail.
     fn begin(&mut self) -> Result<(), Failed>
         ensures passed { OnOk result ((file_state self.new ≡ begun (file_state self.old)) × (NamesNext (file_state self.old).arms → ⊥)) }
         ensures failed { IfErr result (λ e. FailsBegun (file_state self.old) (file_state self.new) e.count) }
     {
-        self.calls = self.calls.saturating_add(1);
-        self.content.strike_all(&self.taints, self.calls);
+        self.count();
         if self.is_named() {
             return Err(self.fail());
         }
         Ok(())
+    }
+
+    // The device stops at the next call.
+    fn stops_next(&self) -> bool
+        ensures { IsTrue result ↔ StopsNext (file_state self.now).arms }
+    {
+        let next = self.calls.saturating_add(1);
+        is_last(self.stop_after, next) && !contains(&self.failing, next)
+    }
+
+    // The device stops within a write: what was written may be there, so that a crash tears it. Where memory ran out for
+    // it, nothing is.
+    fn stop_within(&mut self, at: u64, from: &[u8]) -> Failed
+        requires room { at + length from.now < 2 ^ 32 }
+        requires stops { StopsNext (file_state self.now).arms }
+        ensures { StopsWithin (file_state self.old) (file_state self.new) at from.now result.count }
+    {
+        self.count();
+        let _ = self.try_write(at, from);
+        self.fail()
     }
 
     // The present call is set to fail.
@@ -135,6 +176,9 @@ impl StoreFile for MemFile {
     }
 
     fn write_at(&mut self, at: u64, from: &[u8]) -> Result<(), Failed> {
+        if self.stops_next() {
+            return Err(self.stop_within(at, from));
+        }
         self.begin()?;
         match self.try_write(at, from) {
             Ok(()) => Ok(()),
@@ -223,6 +267,16 @@ fn is_stopped(stop_after: Option<u64>, call: u64) -> bool
 {
     match stop_after {
         Some(calls) => calls < call,
+        None => false,
+    }
+}
+
+// The device stops at this call: it is the first past those that pass.
+fn is_last(stop_after: Option<u64>, call: u64) -> bool
+    ensures { IsTrue result ↔ IsSomeAnd stop_after (λ calls. calls + 1 ≡ call) }
+{
+    match stop_after {
+        Some(calls) => calls < call && call - calls == 1,
         None => false,
     }
 }
