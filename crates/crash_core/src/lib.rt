@@ -1,9 +1,19 @@
 //! What a crash may leave of the store, and what that mounts as.
 //!
 //! It has definitions and laws: the object that an entry of the directory mounts as, over any image of its file, and what changes
-//! of the bytes of that file are for the object.
+//! of the bytes of that file are for the object; the directory that a reference names in an image, and the block of the card that
+//! names the directory; the map that a picture of the device set mounts to; and the core machine, whose steps are single writes,
+//! syncs and events, with the law that every picture mounts to the map of its history.
 #![tactic(auto)]
 
+mod core_laws;
+mod directory_laws;
+mod fault;
 mod laws;
+#[cfg(test)]
+mod tests;
 
+pub use core_laws::{every_picture_mounts, honest_pictures_mount, openings_are_starts};
+pub use directory_laws::{blocks_are_read_back, directories_are_opened, directories_have_entries};
+pub use fault::DirFault;
 pub use laws::{lengths_are_sizes, writes_are_of_objects};
