@@ -12,5 +12,9 @@ pub mod SeatSteps
 pub mod Moves
 pub mod Parts
 pub mod Givens
+pub mod Places
+pub mod DoubtedEntries
+pub mod KnownEntries
+pub mod GivenVersions
 pub mod OtherSessions
 pub mod SessionParts

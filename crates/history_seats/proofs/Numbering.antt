@@ -11,7 +11,7 @@ use Rattle.store_model.specs.Record.{Tag}
 use Rattle.store_model.specs.declared.event.Event.TheVariants.{Call as CallEvent, Landed}
 use Rattle.store_model.specs.History.{numbers_of}
 use Rattle.store_model.specs.LegalHistory.{events_of}
-use Rattle.history_seats.specs.Records.{Version, HistoryRecord, Begins, is_event_of, is_of_session, count_of, AreNumbered}
+use Rattle.history_seats.specs.Records.{Version, HistoryRecord, IsUpToDate, is_event_of, is_of_session, count_of, AreNumbered}
 use Rattle.history_seats.proofs.Lists.{neither}
 
 -- the numbers that one event adds
@@ -105,7 +105,7 @@ none_of session (r ∷ records) e =
     one (Landed commit) off rest = rest
 
 -- a pass knows how many events its session has
-pub count-begins : (session : ℕ) (seen whole : List HistoryRecord) → Begins (is_of_session session) seen whole → count_of session whole ≡ count_of session seen
+pub count-begins : (session : ℕ) (seen whole : List HistoryRecord) → IsUpToDate (is_of_session session) seen whole → count_of session whole ≡ count_of session seen
 count-begins session seen whole b =
     let counted : count_of session whole ≡ count_of session seen + count_of session b.rest = ap (count_of session) (sym b.is) ∙ count-append session seen b.rest in
     let none : count_of session b.rest ≡ 0 = ap length (none_of session b.rest b.lacks) in

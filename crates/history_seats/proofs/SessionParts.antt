@@ -20,8 +20,8 @@ use Rattle.store_model.specs.Record.{file_of}
 use Rattle.store_model.specs.Legal.{Standing, is_undone, standing_after_call, standing_landed, standing_after, IsLegalCall, IsLegalEvent, IsLegalFrom, replay}
 use Rattle.store_model.specs.LegalHistory.{events_of}
 use Rattle.store_model.proofs.Sessions.{length-sessions}
-use Rattle.history_seats.specs.Records.{HistoryRecord, Begins, is_event_of, is_of_session}
-use Rattle.history_seats.specs.Settling.{landed, settled_by, settling, settled}
+use Rattle.history_seats.specs.Records.{HistoryRecord, IsUpToDate, is_event_of, is_of_session}
+use Rattle.history_seats.specs.Settling.{as_landed, settled_by, settling, settled}
 use Rattle.history_seats.specs.Sessions.{session_if_landed, session_of}
 use Rattle.history_seats.proofs.Parts.{part-kept}
 use Rattle.history_seats.proofs.OtherSessions.{session-state_after}
@@ -76,14 +76,14 @@ call-part i dishonest s j call reply (Made commit) number file legal off apart =
     λ k. record { now = same k; if_landed = (ap (λ (o : Option Doubt). session_if_landed i (state_after s.state j call) o) alone) k }
 call-part i dishonest s j call reply (Doubtful commit) number file legal off apart = λ k. record { now = session_at s.state i; if_landed = (ap (λ (b : Bool). cond b (Some (session_landed s.state i call)) None) off) k }
 
-landing-part : (i : ℕ) (s : Standing) (doubt : Option Doubt) → s.doubt ≡ doubt → i < length s.state.sessions → session_of i (standing_landed s doubt) ≡ landed (session_of i s)
+landing-part : (i : ℕ) (s : Standing) (doubt : Option Doubt) → s.doubt ≡ doubt → i < length s.state.sessions → session_of i (standing_landed s doubt) ≡ as_landed (session_of i s)
 landing-part i s None is range =
     let none : session_if_landed i s.state s.doubt ≡ None = ap (session_if_landed i s.state) is in
     λ k. record { now = (ap (λ (o : Option Session). unwrap_or o (session_at s.state i)) (sym none)) k; if_landed = none k }
 landing-part i s (Some doubt) is range =
     let p = session_of i s in
     let if_landed : p.if_landed ≡ cond (doubt.session == i) (Some (session_landed s.state i doubt.call)) None = ap (session_if_landed i s.state) is in
-    let now : session_at (state_landed s.state doubt) i ≡ (landed p).now =
+    let now : session_at (state_landed s.state doubt) i ≡ (as_landed p).now =
     ⊎_elim
     (λ (y : ((doubt.session == i) ≡ true) × (doubt.session ≡ i)).
     set_here doubt.session y.1 ∙ ap (λ (o : Option Session). unwrap_or o (session_at s.state i)) (sym (if_landed ∙ ap (λ (b : Bool). cond b (Some (session_landed s.state i doubt.call)) None) y.0)))
@@ -138,7 +138,7 @@ length-fold : (s : Standing) (records : List HistoryRecord) → length (fold nex
 length-fold s [] = refl
 length-fold s (r ∷ records) = length-fold (next s r) records ∙ length-after s r.event
 
-pub session-whole : (i : ℕ) (dishonest : List ℕ) (start : Standing) (seen whole : List HistoryRecord) (b : Begins (is_of_session i) seen whole) → i < length start.state.sessions → IsLegalFrom dishonest start whole
+pub session-whole : (i : ℕ) (dishonest : List ℕ) (start : Standing) (seen whole : List HistoryRecord) (b : IsUpToDate (is_of_session i) seen whole) → i < length start.state.sessions → IsLegalFrom dishonest start whole
     → session_of i (replay start (events_of whole)) ≡ settled (settling b.rest) (session_of i (replay start (events_of seen)))
 session-whole i dishonest start seen whole b range legal =
     let here = fold next start seen in

@@ -1,32 +1,37 @@
 -- What a view tells of the whole history.
-use Rattle.std.specs.Prelude.{◌≡◌, ◌⊎◌, ◌<◌, ℕ, true, false, List, ◌∷◌, ◌++◌, length, Option, Some, None}
+use Rattle.std.specs.Prelude.{◌≡◌, ◌⊎◌, ◌<◌, ℕ, Bool, true, false, List, [], ◌∷◌, ◌++◌, length, Option, Some, None, is_some}
 use Rattle.std.specs.List.{list_any}
 use Rattle.store_model.specs.declared.event.Event.{Event}
+use Rattle.store_model.specs.declared.event.Mark.TheVariants.{Unchanged}
 use Rattle.store_model.specs.Legal.{Standing, IsLegalFrom, replay}
 use Rattle.store_model.specs.LegalHistory.{events_of}
-use Rattle.history_seats.specs.Records.{Version, HistoryRecord, names_object, count_of}
-use Rattle.history_seats.specs.Settling.{settling, settled, is_landing, IsOpenDoubt}
+use Rattle.history_seats.specs.Records.{Version, HistoryRecord, concerns_object, count_of}
+use Rattle.history_seats.specs.Settling.{as_landed, calm, open_from, settling, settled, is_landing, HasMark, IsOpenDoubt}
 use Rattle.history_seats.specs.Mounts.{Entry, Mounted}
 use Rattle.history_seats.specs.Versions.{version_after, version_of}
 use Rattle.history_seats.specs.Directory.{directory_of, has_entry, given_version}
+use Rattle.history_seats.specs.Tags.{HasRightTag}
 use Rattle.history_seats.specs.Sessions.{session_of}
+use Rattle.history_seats.specs.Known.{version_from, directory_from, IsKnown}
 use Rattle.history_seats.specs.Views.{GateView, SlotView, PassView}
-use Rattle.history_seats.specs.Rule.{SlotFits, PassFits}
+use Rattle.history_seats.specs.Rule.{HasSeen, SlotFits, PassFits, IsSound}
 
 -- The last record whose tag names a file's generation decides their version, up to the event that settles its doubt.
 abbrev pub LastTagsDecide : Type 0
 LastTagsDecide =
     (file generation : ℕ) (mounted : Mounted) (front back : List HistoryRecord) (r : HistoryRecord)
-    → names_object file generation r.tag ≡ true → list_any (λ x. names_object file generation x.tag) back ≡ false
+    → concerns_object file generation r ≡ true → list_any (concerns_object file generation) back ≡ false
     → version_of file generation mounted (front ++ r ∷ back)
     ≡ settled (settling back) (version_after r.event r.tag (version_of file generation mounted front))
 
--- A slot's view tells the version of its file after the whole history: past what it has seen, only the event that settles its doubt counts.
+-- A slot's view tells the version of its file after the whole history: past what it has seen, only the event that settles its doubt
+-- counts, and the gate's place.
 abbrev pub SlotsTellVersions : Type 0
 SlotsTellVersions =
     (gate : GateView) (slot : SlotView) (fits : SlotFits gate slot)
-    → version_of slot.file slot.generation slot.mounted gate.all
-    ≡ settled (settling fits.begins.rest) (version_of slot.file slot.generation slot.mounted slot.seen)
+    → version_from gate.decided slot.file slot.generation slot.mounted gate.all
+    ≡ open_from gate.decided gate.all
+    (settled (settling fits.sees.begins.rest) (version_from slot.decided slot.file slot.generation slot.mounted slot.seen))
 
 -- what the whole history gives for a slot's file and generation, where its view tells this version and these entries
 pub record IsGiven (told : Option Version) (entries : List Entry) (file generation : ℕ) (given : Option Version) : Type 0 where
@@ -38,19 +43,63 @@ pub record IsGiven (told : Option Version) (entries : List Entry) (file generati
 -- So the whole history gives for its file and generation what the view tells, or nothing; and nothing where the view tells of no entry.
 abbrev pub SlotsTellGiven : Type 0
 SlotsTellGiven =
-    (applications : List (List ℕ)) (gate : GateView) (slot : SlotView) (fits : SlotFits gate slot)
-    → let settle = settling fits.begins.rest in
+    (gate : GateView) (slot : SlotView) (fits : SlotFits gate slot)
+    → let settle = settling fits.sees.begins.rest in
     IsGiven
-    (settled settle (version_of slot.file slot.generation slot.mounted slot.seen)).now
-    (settled settle (directory_of applications slot.mounted slot.seen)).now
+    (settled settle (version_from slot.decided slot.file slot.generation slot.mounted slot.seen)).now
+    (settled settle (directory_from slot.decided slot.mounted slot.seen)).now
     slot.file slot.generation
-    (given_version applications slot.mounted gate.all slot.file slot.generation)
+    (given_version slot.mounted gate.all slot.file slot.generation)
 
--- A doubt that a slot's view has open, below the view's place, does not land past the view.
+-- What the whole history gives for a slot's file, or leaves there by a doubt, the view knows.
+abbrev pub SlotsKnowEntries : Type 0
+SlotsKnowEntries =
+    (gate : GateView) (slot : SlotView) (v : Version) → SlotFits gate slot
+    → IsKnown gate.decided slot.mounted gate.all slot.file v → IsKnown slot.decided slot.mounted slot.seen slot.file v
+
+-- A version that no doubt touches in a slot's view stands after the whole history, untouched by a doubt.
+abbrev pub CalmVersionsStay : Type 0
+CalmVersionsStay =
+    (gate : GateView) (slot : SlotView) (version : Option Version) → SlotFits gate slot
+    → version_from slot.decided slot.file slot.generation slot.mounted slot.seen ≡ calm version
+    → version_from gate.decided slot.file slot.generation slot.mounted gate.all ≡ calm version
+
+-- A doubt that a view has open, below the view's place, does not land past the view.
 abbrev pub DroppedDoubtsStay : Type 0
 DroppedDoubtsStay =
-    (gate : GateView) (slot : SlotView) (fits : SlotFits gate slot) (commit : ℕ) (doubt : IsOpenDoubt commit 0 slot.seen)
-    → length doubt.front < slot.decided → (event : Event) → settling fits.begins.rest ≡ Some event → is_landing event ≡ false
+    (those : HistoryRecord → Bool) (z : ℕ) (seen : List HistoryRecord) (gate : GateView) (sees : HasSeen those z seen gate)
+    (commit : ℕ) (doubt : IsOpenDoubt commit 0 seen)
+    → length doubt.front < z → (event : Event) → settling sees.begins.rest ≡ Some event → is_landing event ≡ false
+
+-- A landing brings no entry of a file's generation that its doubt does not name.
+abbrev pub LandingsBringNamed : Type 0
+LandingsBringNamed =
+    (file generation : ℕ) (mounted : Mounted) (records : List HistoryRecord) (commit : ℕ) (doubt : IsOpenDoubt commit 0 records)
+    → concerns_object file generation doubt.doubted ≡ false
+    → has_entry file generation (as_landed (directory_of mounted records)).now ≡ true
+    → has_entry file generation (directory_of mounted records).now ≡ true
+
+-- Each entry of the directory has a version, as it stands and as the doubt leaves it.
+pub record HaveVersions (mounted : Mounted) (records : List HistoryRecord) (file generation : ℕ) : Type 0 where
+  pub now : has_entry file generation (directory_of mounted records).now ≡ true → is_some (given_version mounted records file generation) ≡ true
+  pub landed : has_entry file generation (as_landed (directory_of mounted records)).now ≡ true
+      → is_some (as_landed (version_of file generation mounted records)).now ≡ true
+
+abbrev pub EntriesHaveVersions : Type 0
+EntriesHaveVersions =
+    (gate : GateView) (mounted : Mounted) (file generation : ℕ) → IsSound gate → gate.mounted ≡ Some mounted
+    → HaveVersions mounted gate.all file generation
+
+-- An event with mark Unchanged leaves the directory, what is given and what is left in doubt.
+pub record IsLeft (mounted : Mounted) (before after : List HistoryRecord) : Type 0 where
+  pub directory : directory_of mounted after ≡ directory_of mounted before
+  pub given : (file generation : ℕ) → given_version mounted after file generation ≡ given_version mounted before file generation
+  pub in_doubt : (file generation : ℕ) → (version_of file generation mounted after).if_landed ≡ (version_of file generation mounted before).if_landed
+
+abbrev pub UnchangedEventsLeave : Type 0
+UnchangedEventsLeave =
+    (mounted : Mounted) (records : List HistoryRecord) (r : HistoryRecord) → HasMark Unchanged r.event → HasRightTag mounted records r
+    → IsLeft mounted records (records ++ r ∷ [])
 
 -- A pass's view tells how many events its session has in the whole history, so it tells the number of the next one.
 abbrev pub PassesTellCounts : Type 0
@@ -63,4 +112,4 @@ PassesTellSessions =
     (dishonest : List ℕ) (start : Standing) (gate : GateView) (pass : PassView) (fits : PassFits gate pass)
     → pass.session < length start.state.sessions → IsLegalFrom dishonest start gate.all
     → session_of pass.session (replay start (events_of gate.all))
-    ≡ settled (settling fits.begins.rest) (session_of pass.session (replay start (events_of pass.seen)))
+    ≡ settled (settling fits.sees.begins.rest) (session_of pass.session (replay start (events_of pass.seen)))

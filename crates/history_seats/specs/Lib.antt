@@ -3,10 +3,12 @@ pub mod Settling
 pub mod Mounts
 pub mod Versions
 pub mod Directory
+pub mod Tags
 pub mod Views
 pub mod Numbers
 pub mod Rule
 pub mod Changes
 pub mod Steps
 pub mod Sessions
+pub mod Known
 pub mod Laws

@@ -1,6 +1,6 @@
 //! Laws of the views. Each function does nothing: its contract is the law.
 
-ghost use Rattle.history_seats.specs.Laws.{LastTagsDecide, SlotsTellVersions, SlotsTellGiven, DroppedDoubtsStay, PassesTellCounts, PassesTellSessions};
+ghost use Rattle.history_seats.specs.Laws.{LastTagsDecide, SlotsTellVersions, SlotsTellGiven, SlotsKnowEntries, CalmVersionsStay, DroppedDoubtsStay, LandingsBringNamed, EntriesHaveVersions, UnchangedEventsLeave, PassesTellCounts, PassesTellSessions};
 
 /// The last record whose tag names a file's generation decides their version, up to the event that settles its doubt.
 pub fn last_tags_decide()
@@ -8,7 +8,7 @@ pub fn last_tags_decide()
 {}
 
 /// A slot's view tells which version of its file stands after the whole history: past what it has seen, only the event that settles its
-/// doubt counts.
+/// doubt counts, and the gate's place.
 pub fn slots_tell_versions()
     ensures { SlotsTellVersions }
 {}
@@ -18,9 +18,34 @@ pub fn slots_tell_given()
     ensures { SlotsTellGiven }
 {}
 
+/// What the whole history gives for a slot's file, or leaves there by a doubt, its view knows.
+pub fn slots_know_entries()
+    ensures { SlotsKnowEntries }
+{}
+
+/// A version that no doubt touches in a slot's view stands after the whole history.
+pub fn calm_versions_stay()
+    ensures { CalmVersionsStay }
+{}
+
 /// A doubt that was dropped never lands.
 pub fn dropped_doubts_stay()
     ensures { DroppedDoubtsStay }
+{}
+
+/// A landing brings no entry of a file's generation that its doubt does not name.
+pub fn landings_bring_named()
+    ensures { LandingsBringNamed }
+{}
+
+/// Each entry of the directory has a version.
+pub fn entries_have_versions()
+    ensures { EntriesHaveVersions }
+{}
+
+/// An event with mark Unchanged leaves the directory, what is given and what is left in doubt.
+pub fn unchanged_events_leave()
+    ensures { UnchangedEventsLeave }
 {}
 
 /// A pass's view tells how many events its session has in the whole history.
