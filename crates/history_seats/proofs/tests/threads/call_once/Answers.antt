@@ -22,7 +22,7 @@ invariant_of-caller g c =
     let mine : pass.knows.session ≡ session = ap (λ (s : Sight PassView). s.knows.session) (sym same) ∙ was.3 in
     let before : count_of session c.desk.inside.gate.knows.all ≡ count_of session pass.knows.seen =
     subst (λ (n : ℕ). count_of n c.desk.inside.gate.knows.all ≡ count_of n pass.knows.seen) mine
-    (count-begins pass.knows.session pass.knows.seen c.desk.inside.gate.knows.all (c.append-pass.ensures.agreed.pass pass.knows refl).0.begins) in
+    (count-begins pass.knows.session pass.knows.seen c.desk.inside.gate.knows.all (c.append-pass.ensures.agreed.pass pass.knows refl).0.sees.begins) in
     let count : count_of session pass.knows.seen ≡ c.caller.inside.made = ap (λ (s : Sight PassView). count_of session s.knows.seen) (sym same) ∙ was.4 in (
       given,
       refl,
