@@ -4,12 +4,13 @@ use Rattle.std.specs.Prelude.{◌≡◌, ℕ, ◌-◌, ◌≤◌, List, ◌++◌
 use Rattle.std.specs.declared.cmp.Ordering.{Ordering}
 use Rattle.std.specs.Ordering.{nat_cmp}
 use Rattle.std.specs.Cmp.Lexicographic.{slice_cmp}
+use Rattle.tee_types.specs.Limits.{most_identifier_bytes}
 use Rattle.std.proofs.Common.{sym, ap, ◌∙◌, arith, length-append, length-drop}
 use Rattle.std.proofs.Math.Seq.{drop-append_seam}
 use Rattle.std.proofs.lemmas.List.{take-append-drop, length-take-le, length-replicate, drop-replicate}
 
 abbrev pub IsIdentifier : List ℕ → Type 0
-IsIdentifier id = (1 ≤ length id) × (length id ≤ 64)
+IsIdentifier id = (1 ≤ length id) × (length id ≤ most_identifier_bytes)
 
 -- by bytes, a prefix first
 abbrev pub bytes_cmp : List ℕ → List ℕ → Ordering

@@ -6,6 +6,8 @@ mod app_id;
 mod bytes;
 mod call;
 mod flags;
+mod laws;
+mod limits;
 mod object_id;
 mod reply;
 #[cfg(test)]
@@ -15,6 +17,8 @@ pub use app_id::AppId;
 pub use bytes::Bytes;
 pub use call::{Call, Whence};
 pub use flags::{Flags, OVERWRITE, READ, SHARE_READ, SHARE_WRITE, WRITE, WRITE_META};
+pub use laws::{flags_have_their_bits, limits_have_their_values};
+pub use limits::{MAX_ATTRIBUTES, MAX_DATA, MAX_FILE, MAX_IDENTIFIER};
 pub use object_id::{BadId, ObjectId};
 pub use reply::{Cause, Code, Device, FrameFault, Reason, Reply};
 

@@ -1,10 +1,8 @@
 //! The identifier of an object.
 
+use crate::limits::MAX_IDENTIFIER;
 use std::cmp::Ordering;
 use std::marker::Model;
-
-/// The greatest number of bytes of an identifier (TEE_OBJECT_ID_MAX_LEN).
-pub const MAX_LENGTH: usize = 64;
 
 /// These bytes are no identifier: there are none, or more than 64.
 #[derive(Clone, Copy, Debug, PartialEq, Eq)]
@@ -18,7 +16,7 @@ pub struct BadId {
 #[derive(Clone, Copy, Debug)]
 pub struct ObjectId {
     // the bytes of the identifier, then zero bytes
-    bytes: [u8; MAX_LENGTH],
+    bytes: [u8; MAX_IDENTIFIER],
     used: usize,
 }
 
@@ -48,10 +46,10 @@ impl ObjectId {
         ensures err { IfErr result (λ bad. bad.length ≡ length bytes.now) }
     {
         let length = bytes.len();
-        if length == 0 || MAX_LENGTH < length {
+        if length == 0 || MAX_IDENTIFIER < length {
             return Err(BadId { length });
         }
-        let mut padded = [0; MAX_LENGTH];
+        let mut padded = [0; MAX_IDENTIFIER];
         padded[..length].copy_from_slice(bytes);
         Ok(ObjectId {
             bytes: padded,

@@ -137,8 +137,6 @@ pub enum Reply {
     Corrupt,
     /// TEE_ERROR_STORAGE_NOT_AVAILABLE, 0xF0100003.
     NotAvailable(Cause),
-    /// The commit of this number is in doubt.
-    InDoubt(u32),
     /// The card's write counter is spent, at this last value.
     CounterSpent(u32),
     /// TEE_ERROR_OUT_OF_MEMORY, 0xFFFF000C; nothing changed.
@@ -175,7 +173,6 @@ impl Reply {
             Reply::Misuse(reason) => Ok(Reply::Misuse(*reason)),
             Reply::Corrupt => Ok(Reply::Corrupt),
             Reply::NotAvailable(cause) => Ok(Reply::NotAvailable(*cause)),
-            Reply::InDoubt(commit) => Ok(Reply::InDoubt(*commit)),
             Reply::CounterSpent(counter) => Ok(Reply::CounterSpent(*counter)),
             Reply::NoMemory => Ok(Reply::NoMemory),
         }

@@ -165,7 +165,6 @@ fn copies_of_calls_and_replies_print_alike(rt: HostRuntime) -> Result<(), Fail> 
             device: Device::File(3),
             count: 4,
         }),
-        Reply::InDoubt(5),
         Reply::CounterSpent(6),
         Reply::NoMemory,
     ];

@@ -1,0 +1,26 @@
+//! The constants are the numbers of the definitions. No code.
+
+ghost use Rattle.std.specs.Prelude.{◌≡◌};
+ghost use Rattle.tee_types.specs.Limits.{most_identifier_bytes, most_attribute_bytes, most_data_bytes, last_file};
+ghost use Rattle.tee_types.specs.Rights.{read_bit, write_bit, write_meta_bit, share_read_bit, share_write_bit, overwrite_bit};
+
+use crate::flags::{OVERWRITE, READ, SHARE_READ, SHARE_WRITE, WRITE, WRITE_META};
+use crate::limits::{MAX_ATTRIBUTES, MAX_DATA, MAX_FILE, MAX_IDENTIFIER};
+
+/// The flags' bits are the standard's.
+pub fn flags_have_their_bits()
+    ensures read { READ ≡ read_bit }
+    ensures write { WRITE ≡ write_bit }
+    ensures write_meta { WRITE_META ≡ write_meta_bit }
+    ensures share_read { SHARE_READ ≡ share_read_bit }
+    ensures share_write { SHARE_WRITE ≡ share_write_bit }
+    ensures overwrite { OVERWRITE ≡ overwrite_bit }
+{}
+
+/// The limits are those of the definitions.
+pub fn limits_have_their_values()
+    ensures identifier { MAX_IDENTIFIER ≡ most_identifier_bytes }
+    ensures attributes { MAX_ATTRIBUTES ≡ most_attribute_bytes }
+    ensures bytes { MAX_DATA ≡ most_data_bytes }
+    ensures file { MAX_FILE ≡ last_file }
+{}
