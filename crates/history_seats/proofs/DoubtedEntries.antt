@@ -1,5 +1,5 @@
 -- A doubt that does not concern a file's generation brings no entry of it.
-use Rattle.std.proofs.Common.{◌≡◌, ◌⊎◌, ℕ, List, [], ◌∷◌, ◌++◌, Bool, true, false, not, cond, ◌&&◌, ◌||◌, map, filter, Option, Some, None, inl, inr, refl, sym, ◌∙◌, ap, subst, arith, true≢false}
+use Rattle.std.proofs.Common.{◌≡◌, ℕ, List, [], ◌∷◌, ◌++◌, Bool, true, false, not, cond, ◌&&◌, ◌||◌, filter, Option, Some, None, inl, inr, refl, sym, ◌∙◌, ap, subst, arith, true≢false, eq-eqb}
 use Rattle.std.specs.Prelude.{◌==◌, slice_index_or, unwrap_or}
 use Rattle.std.specs.List.{list_any, fold}
 use Rattle.std.proofs.lemmas.Bool.{cases_Bool, cond-true, cond-false}
@@ -8,18 +8,28 @@ use Rattle.tee_types.specs.declared.call.Call.{Call}
 use Rattle.tee_types.specs.declared.call.Call.TheVariants.{Create, Rename, Delete}
 use Rattle.store_model.specs.declared.event.Event.{Event}
 use Rattle.store_model.specs.declared.event.Event.TheVariants.{Call as CallEvent, Landed}
-use Rattle.store_model.specs.declared.event.Mark.{Mark}
 use Rattle.store_model.specs.declared.event.Mark.TheVariants.{Unchanged, Made, Doubtful}
 use Rattle.store_model.specs.declared.name.ObjectName.{ObjectName}
 use Rattle.store_model.specs.Name.{name_eq}
 use Rattle.store_model.specs.Record.{Tag}
-use Rattle.store_model.specs.LegalHistory.{events_of}
-use Rattle.history_seats.specs.Records.{HistoryRecord, Version, concerns_object, has_tag}
+use Rattle.store_model.specs.Record.{events_of}
+use Rattle.history_seats.specs.Records.{HistoryRecord, Version, concerns_object, is_object}
 use Rattle.history_seats.specs.Mounts.{Entry, Mounted}
 use Rattle.history_seats.specs.Settling.{Pending, HasMark, IsOpenDoubt, as_landed, settled_by, settles}
 use Rattle.history_seats.specs.Versions.{is_entry_of, version_after, version_next, version_of, mounted_version}
-use Rattle.history_seats.specs.Directory.{directory_of, entries_after, entries_committed, entries_next, entries_tagged, has_entry, mounted_entries, renamed, with_entry, with_name, without_entry}
-use Rattle.history_seats.proofs.Lists.{neither}
+use Rattle.history_seats.specs.Directory.{directory_of, entries_after, entries_committed, entries_next, entries_tagged, has_entry, mounted_entries, renamed, with_name}
+use Rattle.history_seats.specs.Laws.{is_there_after}
+use Rattle.history_seats.proofs.Lists.{both_true, neither, or_false, or_left}
+
+-- what is filtered out is not there
+none_kept : (file generation : ℕ) (entries : List Entry) → has_entry file generation (filter (λ e. not (is_entry_of file generation e)) entries) ≡ false
+none_kept file generation [] = refl
+none_kept file generation (e ∷ entries) = one (is_entry_of file generation e) refl (none_kept file generation entries)
+  where
+    one : (b : Bool) → is_entry_of file generation e ≡ b → has_entry file generation (filter (λ x. not (is_entry_of file generation x)) entries) ≡ false
+        → has_entry file generation (cond (not b) (e ∷ filter (λ x. not (is_entry_of file generation x)) entries) (filter (λ x. not (is_entry_of file generation x)) entries)) ≡ false
+    one true is rest = rest
+    one false is rest = or_false (is_entry_of file generation e) (has_entry file generation (filter (λ x. not (is_entry_of file generation x)) entries)) is rest
 
 module _ (file generation : ℕ) where
   has_filter : (keep : Entry → Bool) (entries : List Entry) → has_entry file generation (filter keep entries) ≡ true → has_entry file generation entries ≡ true
@@ -41,10 +51,7 @@ module _ (file generation : ℕ) where
       ap (λ (b : Bool). b || has_entry file generation (with_name tag name entries)) (is_renamed tag name e)
       ∙ ap (λ (b : Bool). is_entry_of file generation e || b) (has_renamed tag name entries)
 
-  abbrev is_it : Tag Version → Bool
-  is_it tag = (tag.file == file) && (tag.generation == generation)
-
-  has_tagged : (application : List ℕ) (call : Call) (tag : Tag Version) (entries : List Entry) → is_it tag ≡ false
+  has_tagged : (application : List ℕ) (call : Call) (tag : Tag Version) (entries : List Entry) → ((tag.file == file) && (tag.generation == generation)) ≡ false
       → has_entry file generation (entries_tagged application call tag entries) ≡ true → has_entry file generation entries ≡ true
   has_tagged application (Create id flags attributes bytes) tag entries other h =
       let keep : Entry → Bool = λ e. not (name_eq (record { app = application; id = id }) e.name) in
@@ -54,7 +61,7 @@ module _ (file generation : ℕ) where
   has_tagged application call tag entries other h = h
 
   -- a commit whose tag does not name the file's generation brings no entry of it
-  pub has_committed : (application : List ℕ) (call : Call) (tag : Option (Tag Version)) (entries : List Entry) → has_tag is_it tag ≡ false
+  pub has_committed : (application : List ℕ) (call : Call) (tag : Option (Tag Version)) (entries : List Entry) → is_object file generation tag ≡ false
       → has_entry file generation (entries_committed application call tag entries) ≡ true → has_entry file generation entries ≡ true
   has_committed application call None entries other h = h
   has_committed application call (Some tag) entries other h = has_tagged application call tag entries other h
@@ -70,7 +77,7 @@ module _ (file generation : ℕ) where
     quiet_named (CallEvent session number call reply (Doubtful commit)) none entries is h = absurd (cc (none))
     quiet_named (Landed commit) none entries is h = absurd (cc (is))
 
-    quiet_other : (event : Event) → has_tag is_it tag ≡ false → IsQuiet (entries_after apps event tag p) (settled_by event q)
+    quiet_other : (event : Event) → is_object file generation tag ≡ false → IsQuiet (entries_after apps event tag p) (settled_by event q)
     quiet_other (CallEvent session number call reply Unchanged) other none entries is h = quiet none entries is h
     quiet_other (CallEvent session number call reply (Made commit)) other none entries is h = absurd (cc (is))
     quiet_other (CallEvent session number call reply (Doubtful commit)) other none entries is h =
@@ -78,10 +85,10 @@ module _ (file generation : ℕ) where
         has_committed (slice_index_or apps session []) call tag p.now other (ap (has_entry file generation) same ∙ h)
     quiet_other (Landed commit) other none entries is h = absurd (cc (is))
 
-    quiet_event : (event : Event) → IsQuiet (entries_after apps event tag p) (cond (has_tag is_it tag) (version_after event tag q) (settled_by event q))
-    quiet_event event = elim (cases_Bool (has_tag is_it tag)) [
-      | inl named ↦ subst (IsQuiet (entries_after apps event tag p)) (sym (cond-true (has_tag is_it tag) (version_after event tag q) (settled_by event q) named)) (quiet_named event)
-      | inr other ↦ subst (IsQuiet (entries_after apps event tag p)) (sym (cond-false (has_tag is_it tag) (version_after event tag q) (settled_by event q) other)) (quiet_other event other)
+    quiet_event : (event : Event) → IsQuiet (entries_after apps event tag p) (cond (is_object file generation tag) (version_after event tag q) (settled_by event q))
+    quiet_event event = elim (cases_Bool (is_object file generation tag)) [
+      | inl named ↦ subst (IsQuiet (entries_after apps event tag p)) (sym (cond-true (is_object file generation tag) (version_after event tag q) (settled_by event q) named)) (quiet_named event)
+      | inr other ↦ subst (IsQuiet (entries_after apps event tag p)) (sym (cond-false (is_object file generation tag) (version_after event tag q) (settled_by event q) other)) (quiet_other event other)
     ]
 
   pub quiet_next : (apps : List (List ℕ)) (r : HistoryRecord) (p : Pending (List Entry)) (q : Pending (Option Version)) → IsQuiet p q → IsQuiet (entries_next apps p r) (version_next file generation q r)
@@ -149,3 +156,13 @@ module _ (file generation : ℕ) where
       fold-append (version_next file generation) (mounted_version file generation mounted) doubt.front (d ∷ doubt.back) in
       subst (λ (l : List HistoryRecord). (version_of file generation mounted l).if_landed ≡ None) doubt.is
       (ap (λ (p : Pending (Option Version)). p.if_landed) whole ∙ none_later (version_next file generation before d) doubt.back at doubt.last)
+
+-- a commit's tag has an entry after a create, none after a delete, and else where it had one
+pub moved-entry : (application : List ℕ) (call : Call) (tag : Tag Version) (entries : List Entry)
+    → has_entry tag.file tag.generation (entries_committed application call (Some tag) entries) ≡ is_there_after call (has_entry tag.file tag.generation entries)
+moved-entry application (Create id flags attributes bytes) tag entries =
+    or_left ((tag.file == tag.file) && (tag.generation == tag.generation)) _
+    (both_true (tag.file == tag.file) (tag.generation == tag.generation) (eq-eqb tag.file tag.file refl) (eq-eqb tag.generation tag.generation refl))
+moved-entry application (Rename handle id) tag entries = has_renamed tag.file tag.generation tag (record { app = application; id = id }) entries
+moved-entry application (Delete handle) tag entries = none_kept tag.file tag.generation entries
+moved-entry application _ tag entries = refl

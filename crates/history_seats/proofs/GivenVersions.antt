@@ -1,24 +1,28 @@
 -- Each entry of the directory has a version; and what an event with mark Unchanged leaves.
-use Rattle.std.proofs.Common.{◌≡◌, ℕ, List, [], ◌∷◌, ◌++◌, Bool, true, false, true≢false, cond, ◌&&◌, ◌||◌, ◌==◌, inl, inr, map, Option, Some, None, refl, sym, ap, ◌∙◌, subst, append_assoc}
+use Rattle.std.proofs.Common.{◌≡◌, ◌≤◌, ℕ, length, drop, List, [], ◌∷◌, ◌++◌, Bool, true, false, true≢false, cond, ◌&&◌, ◌||◌, ◌==◌, inl, inr, map, Option, Some, None, refl, sym, ap, ◌∙◌, subst, append_assoc}
 use Rattle.std.proofs.lemmas.Bool.{cases_Bool, cond-true, cond-false, eqb-true}
 use Rattle.std.proofs.lemmas.List.{append-nil}
 use Rattle.std.specs.Prelude.{is_some, slice_index_or, unwrap_or}
-use Rattle.std.specs.List.{list_any}
+use Rattle.tee_types.specs.declared.call.Call.TheVariants.{Create}
+use Rattle.tee_types.specs.declared.flags.Flags.{Flags}
+use Rattle.tee_types.specs.declared.reply.Reply.{Reply}
 use Rattle.store_model.specs.declared.event.Event.{Event}
 use Rattle.store_model.specs.declared.event.Event.TheVariants.{Call as CallEvent, Landed}
 use Rattle.store_model.specs.declared.event.Mark.{Mark}
 use Rattle.store_model.specs.declared.event.Mark.TheVariants.{Unchanged, Made, Doubtful}
 use Rattle.store_model.specs.Record.{Tag}
-use Rattle.history_seats.specs.Records.{HistoryRecord, Version, concerns_object, has_tag}
+use Rattle.history_seats.specs.Records.{HistoryRecord, Version, concerns_object, is_object}
 use Rattle.history_seats.specs.Mounts.{Entry, Mounted, MountedEntry}
-use Rattle.history_seats.specs.Settling.{HasMark, Pending, as_landed, is_doubtful, is_landing, is_made, settled_by}
+use Rattle.history_seats.specs.Settling.{HasMark, Pending, as_landed, dropped, is_doubtful, is_landing, is_made, settled_by, settles}
 use Rattle.history_seats.specs.Versions.{is_entry_of, mounted_version, version_after, version_among, version_next, version_of}
 use Rattle.history_seats.specs.Directory.{directory_of, entries_after, entries_committed, entries_next, given_version, has_entry, mounted_entries}
 use Rattle.history_seats.specs.Tags.{AreTagsRight, HasRightTag, IsTagRight}
+use Rattle.history_seats.specs.Known.{version_from}
 use Rattle.history_seats.specs.Laws.{HaveVersions, IsLeft}
 use Rattle.history_seats.proofs.Lists.{and_parts}
 use Rattle.history_seats.proofs.Givens.{directory-snoc, version-snoc}
-use Rattle.history_seats.proofs.DoubtedEntries.{IsQuiet, has_committed, quiet_landed, quiet_mounted, quiet_next}
+use Rattle.history_seats.proofs.Places.{any_settles, open-snoc}
+use Rattle.history_seats.proofs.DoubtedEntries.{IsQuiet, has_committed, moved-entry, quiet_landed, quiet_mounted, quiet_next}
 
 -- each event leaves what it commits nothing of
 directory-unchanged : (mounted : Mounted) (records : List HistoryRecord) (r : HistoryRecord) → HasMark Unchanged r.event → directory_of mounted (records ++ r ∷ []) ≡ directory_of mounted records
@@ -33,7 +37,7 @@ directory-unchanged mounted records r unchanged = directory-snoc mounted records
 named_tag : (file generation : ℕ) (r : HistoryRecord) → concerns_object file generation r ≡ true → (tag : Tag Version) × (r.tag ≡ Some tag) × (tag.file ≡ file) × (tag.generation ≡ generation)
 named_tag file generation r own = one r.tag refl own
   where
-    one : (tag : Option (Tag Version)) → r.tag ≡ tag → has_tag (λ tag. (tag.file == file) && (tag.generation == generation)) tag ≡ true → (tag : Tag Version) × (r.tag ≡ Some tag) × (tag.file ≡ file) × (tag.generation ≡ generation)
+    one : (tag : Option (Tag Version)) → r.tag ≡ tag → is_object file generation tag ≡ true → (tag : Tag Version) × (r.tag ≡ Some tag) × (tag.file ≡ file) × (tag.generation ≡ generation)
     one None is e = absurd (true≢false (sym e))
     one (Some tag) is e =
         let both = and_parts (tag.file == file) (tag.generation == generation) e in
@@ -64,6 +68,12 @@ not-made (CallEvent session number call reply Unchanged) is = refl
 not-made (CallEvent session number call reply (Made commit)) is = absurd (cc (is))
 not-made (CallEvent session number call reply (Doubtful commit)) is = refl
 not-made (Landed commit) is = refl
+
+unsettled : (event : Event) → HasMark Unchanged event → settles event ≡ false
+unsettled (CallEvent session number call reply Unchanged) is = refl
+unsettled (CallEvent session number call reply (Made commit)) is = absurd (cc (is))
+unsettled (CallEvent session number call reply (Doubtful commit)) is = absurd (cc (is))
+unsettled (Landed commit) is = absurd is
 
 module _ (mounted : Mounted) (records : List HistoryRecord) (r : HistoryRecord) (unchanged : HasMark Unchanged r.event) (right : HasRightTag mounted records r) where
   abbrev after : List HistoryRecord
@@ -108,8 +118,17 @@ module _ (mounted : Mounted) (records : List HistoryRecord) (r : HistoryRecord) 
             ∙ sym (cond-false (has_entry file generation (directory_of mounted records).now) (version_of file generation mounted records).now None none)
       ]
 
+  doubt-from : (z file generation : ℕ) → z ≤ length records → (version_from z file generation mounted after).if_landed ≡ (version_from z file generation mounted records).if_landed
+  doubt-from z file generation le =
+      ap (λ (p : Pending (Option Version)). p.if_landed) (open-snoc z records r (version_of file generation mounted after) (unsettled r.event unchanged) le)
+      ∙ one (any_settles (drop z records)) (version_of file generation mounted after) (version_of file generation mounted records) (doubt-left file generation)
+    where
+      one : (b : Bool) (p q : Pending (Option Version)) → p.if_landed ≡ q.if_landed → (cond b p (dropped p)).if_landed ≡ (cond b q (dropped q)).if_landed
+      one true p q e = e
+      one false p q e = refl
+
   pub unchanged-leaves : IsLeft mounted records after
-  unchanged-leaves = record { directory = directory-unchanged mounted records r unchanged; given = given-left; in_doubt = doubt-left }
+  unchanged-leaves = record { directory = directory-unchanged mounted records r unchanged; given = given-left; in_doubt = doubt-from }
 
 module _ (file generation : ℕ) where
   -- an entry of the file's generation has a version, as it stands and as the doubt leaves it
@@ -145,7 +164,7 @@ module _ (file generation : ℕ) where
     named (CallEvent session number call reply (Doubtful commit)) tag on given made doubted = record { now = committed-now p q have tag.committed (given refl); landed = λ h. doubted ∙ h }
     named (Landed commit) tag on given made doubted = absurd (true≢false on)
 
-    other : (event : Event) (tag : Option (Tag Version)) → has_tag (λ tag. (tag.file == file) && (tag.generation == generation)) tag ≡ false
+    other : (event : Event) (tag : Option (Tag Version)) → is_object file generation tag ≡ false
         → Both (entries_after apps event tag p) (settled_by event q)
     other (CallEvent session number call reply Unchanged) tag off = record { now = have.now; landed = have.landed }
     other (CallEvent session number call reply (Made commit)) tag off =
@@ -209,3 +228,20 @@ module _ (file generation : ℕ) where
   have-versions mounted records right =
       let have = have-all mounted [] records right (have-mounted mounted) in
       record { now = λ h. ap is_some (given-there mounted records file generation h) ∙ have.now h; landed = have.landed }
+
+-- a create that is made leaves an entry
+pub created-right : (mounted : Mounted) (before : List HistoryRecord) (session number : ℕ) (id : List ℕ) (flags : Flags) (attributes bytes : List ℕ) (reply : Reply) (commit file generation : ℕ) (version : Version)
+    → HasRightTag mounted before (record {
+      event = CallEvent session number (Create id flags attributes bytes) reply (Made commit);
+      tag = Some (record { file = file; generation = generation; committed = Some version; doubted = None });
+    })
+created-right mounted before session number id flags attributes bytes reply commit file generation version tag is =
+    let own : Tag Version = record { file = file; generation = generation; committed = Some version; doubted = None } in
+    let r : HistoryRecord = record { event = CallEvent session number (Create id flags attributes bytes) reply (Made commit); tag = Some own } in
+    let there : true ≡ has_entry file generation (directory_of mounted (before ++ r ∷ [])).now =
+    sym (ap (λ (p : Pending (List Entry)). has_entry file generation p.now) (directory-snoc mounted before r)
+    ∙ moved-entry (slice_index_or mounted.applications session []) (Create id flags attributes bytes) own (directory_of mounted before).now) in
+    subst (λ (t : Tag Version). IsTagRight mounted before r t) (inside own tag is) (record { on_a_call = refl; stays = λ made. absurd (true≢false made); made = λ made. there; doubted = refl })
+  where
+    inside : (one same : Tag Version) → Some one ≡ Some same → one ≡ same
+    inside one same e = cc

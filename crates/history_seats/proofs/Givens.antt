@@ -1,35 +1,32 @@
 -- What a slot's view tells of its file after the whole history.
-use Rattle.std.proofs.Common.{◌≡◌, ℕ, suc, ◌+◌, ◌<◌, ◌≤◌, ◌==◌, List, [], ◌∷◌, ◌++◌, length, Bool, true, false, true≢false, cond, not, ◌&&◌, ◌||◌, Option, Some, None, refl, sym, ap, ◌∙◌, subst, inl, inr, ⊎_elim, arith, length-append, append_assoc}
+use Rattle.std.proofs.Common.{◌≡◌, ℕ, suc, ◌+◌, ◌<◌, ◌≤◌, List, [], ◌∷◌, ◌++◌, length, Bool, true, false, true≢false, cond, not, ◌&&◌, Option, Some, None, refl, sym, ap, ◌∙◌, subst, inl, inr, ⊎_elim, arith, length-append, append_assoc}
 use Rattle.std.proofs.lemmas.Bool.{lt-ltb, le-leb}
 use Rattle.std.proofs.lemmas.List.Sums.{fold-append}
-use Rattle.std.specs.Prelude.{filter, nat_le, slice_index_or}
+use Rattle.std.specs.Prelude.{nat_le, slice_index_or}
 use Rattle.std.specs.List.{list_any, fold}
-use Rattle.tee_types.specs.declared.call.Call.{Call}
-use Rattle.tee_types.specs.declared.call.Call.TheVariants.{Create, Rename, Delete}
+use Rattle.std.specs.Option.{option_map}
 use Rattle.store_model.specs.declared.event.Event.{Event}
 use Rattle.store_model.specs.declared.event.Event.TheVariants.{Call as CallEvent, Landed}
 use Rattle.store_model.specs.declared.event.Mark.{Mark}
 use Rattle.store_model.specs.declared.event.Mark.TheVariants.{Unchanged, Made, Doubtful}
-use Rattle.store_model.specs.declared.name.ObjectName.{ObjectName}
-use Rattle.store_model.specs.Name.{name_eq}
-use Rattle.store_model.specs.Record.{Tag}
-use Rattle.store_model.specs.LegalHistory.{events_of}
-use Rattle.history_seats.specs.Records.{Version, HistoryRecord, IsUpToDate, concerns_file, concerns_object, has_tag}
+use Rattle.store_model.specs.Record.{Tag, concerns_file, events_of, is_file}
+use Rattle.history_seats.specs.Records.{Version, HistoryRecord, IsUpToDate, concerns_object, is_object}
 use Rattle.history_seats.specs.Settling.{Pending, as_landed, settled_by_mark, settled_by, settles, is_landing, is_doubtful, HasMark, is_doubtful_mark, settling, settled, is_early, IsDecidedBelow, IsOpenDoubt}
 use Rattle.history_seats.specs.Mounts.{Entry, Mounted}
-use Rattle.history_seats.specs.Versions.{is_entry_of, mounted_version, version_after, version_next, version_of}
-use Rattle.history_seats.specs.Directory.{with_name, entries_committed, entries_marked, entries_after, entries_next, mounted_entries, directory_of, has_entry, given_version}
+use Rattle.history_seats.specs.Versions.{mounted_version, version_after, version_next, version_of}
+use Rattle.history_seats.specs.Directory.{entries_committed, entries_marked, entries_after, entries_next, mounted_entries, directory_of, has_entry, given_version}
 use Rattle.history_seats.specs.Laws.{IsGiven}
-use Rattle.history_seats.proofs.Lists.{either_bool, neither, or_kept, or_right}
+use Rattle.history_seats.proofs.Lists.{either_bool, neither}
 use Rattle.history_seats.proofs.Parts.{settled-all, part-kept}
+use Rattle.history_seats.proofs.DoubtedEntries.{has_committed}
 
 -- a tag that names another file names another object
+other-tag : (file generation : ℕ) (tag : Option (Tag Version)) → is_file file (option_map (λ t. t.file) tag) ≡ false → is_object file generation tag ≡ false
+other-tag file generation None e = refl
+other-tag file generation (Some tag) e = rw e refl
+
 pub other-object : (file generation : ℕ) (r : HistoryRecord) → concerns_file file r ≡ false → concerns_object file generation r ≡ false
-other-object file generation r e = one r.tag e
-  where
-    one : (tag : Option (Tag Version)) → has_tag (λ tag. tag.file == file) tag ≡ false → has_tag (λ tag. (tag.file == file) && (tag.generation == generation)) tag ≡ false
-    one None e = refl
-    one (Some tag) e = rw e refl
+other-object file generation r e = other-tag file generation r.tag e
 
 -- records whose tags do not name the object
 version-past : (file generation : ℕ) (those : HistoryRecord → Bool) → ((r : HistoryRecord) → those r ≡ false → concerns_object file generation r ≡ false)
@@ -56,41 +53,6 @@ version-whole file generation mounted seen whole b =
     ∙ fold-append (version_next file generation) (mounted_version file generation mounted) seen b.rest
     ∙ version-past file generation (concerns_file file) (λ r off. other-object file generation r off) (version_of file generation mounted seen) b.rest b.lacks
 
--- what a filter leaves was there
-any-filter : {A : Type 0} (p q : A → Bool) (xs : List A) → list_any p (filter q xs) ≡ true → list_any p xs ≡ true
-any-filter p q [] h = h
-any-filter p q (x ∷ xs) h = one (q x) (any-filter p q xs) h
-  where
-    one : (b : Bool) → (list_any p (filter q xs) ≡ true → list_any p xs ≡ true) → list_any p (cond b (x ∷ filter q xs) (filter q xs)) ≡ true → (p x || list_any p xs) ≡ true
-    one true hyp e = or_kept (p x) (list_any p (filter q xs)) (list_any p xs) e hyp
-    one false hyp e = or_right (p x) (list_any p xs) (hyp e)
-
--- a name changes no file
-any-renamed : (file generation : ℕ) (tag : Tag Version) (name : ObjectName) (entries : List Entry) → has_entry file generation (with_name tag name entries) ≡ has_entry file generation entries
-any-renamed file generation tag name [] = refl
-any-renamed file generation tag name (e ∷ entries) =
-    ap (λ (b : Bool). b || has_entry file generation (with_name tag name entries)) (one (is_entry_of tag.file tag.generation e))
-    ∙ ap (λ (b : Bool). is_entry_of file generation e || b) (any-renamed file generation tag name entries)
-  where
-    one : (b : Bool) → is_entry_of file generation (cond b (record e { name = name }) e) ≡ is_entry_of file generation e
-    one true = refl
-    one false = refl
-
--- a commit of another file brings no entry of this one
-none-comes : (file generation : ℕ) (application : List ℕ) (call : Call) (tag : Option (Tag Version)) (entries : List Entry) → has_tag (λ tag. tag.file == file) tag ≡ false
-    → has_entry file generation (entries_committed application call tag entries) ≡ true → has_entry file generation entries ≡ true
-none-comes file generation application call None entries off h = h
-none-comes file generation application (Create id flags attributes bytes) (Some tag) entries off h =
-    let name : ObjectName = record { app = application; id = id } in
-    any-filter (is_entry_of file generation) (λ e. not (name_eq name e.name)) entries (past (tag.file == file) (tag.generation == generation) _ off h)
-  where
-    past : (b same rest : Bool) → b ≡ false → ((b && same) || rest) ≡ true → rest ≡ true
-    past true same rest e q = absurd (true≢false e)
-    past false same rest e q = q
-none-comes file generation application (Rename handle id) (Some tag) entries off h = sym (any-renamed file generation tag (record { app = application; id = id }) entries) ∙ h
-none-comes file generation application (Delete handle) (Some tag) entries off h = any-filter (is_entry_of file generation) (λ e. not (is_entry_of tag.file tag.generation e)) entries h
-none-comes file generation application _ (Some tag) entries off h = h
-
 -- no entry of the file is in the first that is not in the second, now or once the doubt landed
 record IsWithin (file generation : ℕ) (p q : Pending (List Entry)) : Type 0 where
   pub now : has_entry file generation p.now ≡ true → has_entry file generation q.now ≡ true
@@ -107,7 +69,7 @@ within-next file generation applications p q r off w = one r.event
 
     one : (event : Event) → IsWithin file generation (entries_after applications event r.tag p) (settled_by event q)
     one (CallEvent session number call reply mark) =
-        marked mark (entries_committed (slice_index_or applications session []) call r.tag p.now) (none-comes file generation (slice_index_or applications session []) call r.tag p.now off)
+        marked mark (entries_committed (slice_index_or applications session []) call r.tag p.now) (has_committed file generation (slice_index_or applications session []) call r.tag p.now (other-object file generation r off))
     one (Landed commit) = record { now = w.then; then = w.then }
 
 within-rest : (file generation : ℕ) (applications : List (List ℕ)) (p q : Pending (List Entry)) (records : List HistoryRecord) → list_any (concerns_file file) records ≡ false → IsWithin file generation p q

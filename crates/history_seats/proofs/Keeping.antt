@@ -5,9 +5,10 @@ use mathlib.Core.Option.{some, some-ne-none, some-injective}
 use lib.ListN.{get_elem?}
 use Rattle.atomic_table.proofs.Lists.{at_set}
 use Rattle.std.proofs.lemmas.List.Elements.{All-nil}
-use Rattle.history_seats.specs.Records.{HistoryRecord, IsUpToDate, concerns_file, is_of_session}
+use Rattle.store_model.specs.Record.{concerns_file}
+use Rattle.history_seats.specs.Records.{HistoryRecord, IsUpToDate, is_of_session}
 use Rattle.history_seats.specs.Settling.{IsDecidedBelow}
-use Rattle.history_seats.specs.Tags.{IsTagged}
+use Rattle.history_seats.specs.Tags.{HasDueTag}
 use Rattle.history_seats.specs.Views.{GateView, SlotView, PassView, Joined, SeatView, alone, new_gate}
 use Rattle.history_seats.specs.Views.SeatView.{Gate, Slot, Pass, Spent}
 use Rattle.history_seats.specs.Rule.{HasSeen, SlotFits, PassFits, Fits, Holds, SeatRule}
@@ -136,7 +137,7 @@ begins = (
         decided_within = omega arith;
         decided_below = tt;
         tags_right = λ mounted e. tt;
-        tagged = All-nil IsTagged;
+        tagged = All-nil HasDueTag;
         numbered = λ session. refl;
         files_distinct = refl;
         sessions_distinct = refl;

@@ -1,26 +1,24 @@
 -- What a slot's view tells of its file from its place on.
-use Rattle.std.proofs.Common.{◌≡◌, ◌⊎◌, ℕ, List, Bool, true, false, true≢false, cond, drop, Option, Some, None, inl, inr, refl, sym, ◌∙◌, ap, subst, arith}
-use Rattle.std.proofs.lemmas.Bool.{cases_Bool, cond-true, cond-false}
+use Rattle.std.proofs.Common.{◌≡◌, ◌⊎◌, ℕ, List, Bool, true, false, cond, drop, Option, Some, None, inl, inr, refl, sym, ◌∙◌, ap, subst}
+use Rattle.std.proofs.lemmas.Bool.{cases_Bool, cond-true}
 use Rattle.std.specs.Prelude.{unwrap_or}
-use Rattle.std.specs.List.{fold}
 use Rattle.store_model.specs.declared.event.Event.{Event}
 use Rattle.store_model.specs.declared.event.Event.TheVariants.{Call as CallEvent, Landed}
-use Rattle.store_model.specs.declared.event.Mark.{Mark}
 use Rattle.store_model.specs.declared.event.Mark.TheVariants.{Unchanged, Made, Doubtful}
-use Rattle.store_model.specs.Record.{Tag}
-use Rattle.history_seats.specs.Records.{HistoryRecord, Version, concerns_file, concerns_object}
+use Rattle.store_model.specs.Record.{concerns_file}
+use Rattle.history_seats.specs.Records.{HistoryRecord, Version, concerns_object}
 use Rattle.history_seats.specs.Mounts.{Entry, Mounted}
 use Rattle.history_seats.specs.Settling.{Pending, as_landed, calm, dropped, is_doubtful, open_from, settled, settled_by, settles, settling}
 use Rattle.history_seats.specs.Versions.{mounted_version, version_after, version_next, version_of}
 use Rattle.history_seats.specs.Directory.{directory_of, entries_after, entries_next, given_version, has_entry, mounted_entries}
-use Rattle.history_seats.specs.Known.{IsGivenNow, IsKnown, IsLeftInDoubt, directory_from, version_from}
+use Rattle.history_seats.specs.Known.{IsKnown, directory_from, version_from}
 use Rattle.history_seats.specs.Laws.{IsGiven}
 use Rattle.history_seats.specs.Views.{GateView, SlotView}
 use Rattle.history_seats.specs.Rule.{SlotFits}
 use Rattle.history_seats.proofs.Parts.{calm-settled}
 use Rattle.history_seats.proofs.Givens.{given-whole, version-whole}
 use Rattle.history_seats.proofs.DoubtedEntries.{landed_entry}
-use Rattle.history_seats.proofs.Places.{HasDoubt, IsDoubtOf, any_settles, doubt-within, open-calm, open-less, open-now, view-now, view-place}
+use Rattle.history_seats.proofs.Places.{IsDoubtOf, any_settles, doubt-within, open-calm, open-less, open-now, view-now, view-place}
 
 no-some : {X : Type 0} (x : X) → None ≡ Some x → ⊥
 no-some x e = cc

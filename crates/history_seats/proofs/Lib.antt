@@ -11,9 +11,9 @@ pub mod WordSteps
 pub mod SeatSteps
 pub mod Moves
 pub mod Parts
+pub mod DoubtedEntries
 pub mod Givens
 pub mod Places
-pub mod DoubtedEntries
 pub mod KnownEntries
 pub mod GivenVersions
 pub mod OtherSessions

@@ -1,15 +1,14 @@
 -- What a place decides: a doubt that stands below it leaves nothing.
-use Rattle.std.proofs.Common.{◌≡◌, ◌⊎◌, ℕ, zero, suc, ◌+◌, ◌<◌, ◌≤◌, List, [], ◌∷◌, ◌++◌, length, drop, Bool, true, false, true≢false, cond, ◌||◌, Option, Some, None, refl, sym, ap, ◌∙◌, subst, inl, inr, arith}
+use Rattle.std.proofs.Common.{◌≡◌, ◌⊎◌, ℕ, zero, suc, ◌≤◌, List, [], ◌∷◌, ◌++◌, length, drop, Bool, true, false, true≢false, cond, ◌||◌, Option, Some, None, refl, sym, ap, ◌∙◌, subst, inl, inr, arith}
 use Rattle.std.proofs.lemmas.Bool.{cases_Bool, cond-true, cond-false, cases_lt}
 use Rattle.std.specs.Prelude.{unwrap_or}
 use Rattle.std.specs.List.{list_any, fold}
 use Rattle.store_model.specs.declared.event.Event.{Event}
 use Rattle.store_model.specs.declared.event.Event.TheVariants.{Call as CallEvent, Landed}
-use Rattle.store_model.specs.declared.event.Mark.{Mark}
 use Rattle.store_model.specs.declared.event.Mark.TheVariants.{Unchanged, Made, Doubtful}
-use Rattle.store_model.specs.LegalHistory.{events_of}
+use Rattle.store_model.specs.Record.{events_of}
 use Rattle.history_seats.specs.Records.{HistoryRecord}
-use Rattle.history_seats.specs.Settling.{Pending, HasMark, IsOpenDoubt, as_landed, calm, dropped, is_doubtful, is_landing, is_settling_mark, open_from, settled, settles, settling}
+use Rattle.history_seats.specs.Settling.{Pending, HasMark, IsOpenDoubt, as_landed, calm, dropped, is_doubtful, is_settling_mark, open_from, settled, settles, settling}
 use Rattle.history_seats.specs.Views.{GateView}
 use Rattle.history_seats.specs.Rule.{HasSeen}
 use Rattle.history_seats.proofs.Lists.{or_left, or_right, or_second}
@@ -92,6 +91,42 @@ module _ {X : Type 0} where
     where
       nothing : None ≡ Some x → ⊥
       nothing e = cc
+
+-- a place that rises leaves less
+any-later : (z y : ℕ) (records : List HistoryRecord) → z ≤ y → any_settles (drop y records) ≡ true → any_settles (drop z records) ≡ true
+any-later zero y records le h = any-tail y records h
+any-later (suc z) zero records le h = absurd (omega (arith, le))
+any-later (suc z) (suc y) [] le h = h
+any-later (suc z) (suc y) (r ∷ records) le h = any-later z y records (omega (arith, le)) h
+
+pub open-lower : {X : Type 0} (z y : ℕ) (records : List HistoryRecord) (p : Pending X) (x : X) → z ≤ y → (open_from y records p).if_landed ≡ Some x → (open_from z records p).if_landed ≡ Some x
+open-lower {X = X} z y records p x le is = elim (cases_Bool (any_settles (drop y records))) [
+  | inl open_ ↦
+      ap (λ (q : Pending X). q.if_landed) (cond-true (any_settles (drop z records)) p (dropped p) (any-later z y records le open_))
+      ∙ open-less y records p x is
+  | inr none ↦ absurd (nothing (sym (ap (λ (q : Pending X). q.if_landed) (cond-false (any_settles (drop y records)) p (dropped p) none)) ∙ is))
+]
+  where
+    nothing : None ≡ Some x → ⊥
+    nothing e = cc
+
+pub open-dropped : {X : Type 0} (z : ℕ) (records : List HistoryRecord) (p : Pending X) → open_from z records (dropped p) ≡ dropped (open_from z records p)
+open-dropped z records p = one (any_settles (drop z records))
+  where
+    one : (b : Bool) → cond b (dropped p) (dropped (dropped p)) ≡ dropped (cond b p (dropped p))
+    one true = refl
+    one false = refl
+
+-- an event that does not settle, behind the others, leaves what is open from a place of theirs
+any-snoc : (z : ℕ) (records : List HistoryRecord) (r : HistoryRecord) → settles r.event ≡ false → z ≤ length records → any_settles (drop z (records ++ r ∷ [])) ≡ any_settles (drop z records)
+any-snoc zero [] r off le = rw off refl
+any-snoc zero (x ∷ records) r off le = ap (λ (b : Bool). settles x.event || b) (any-snoc zero records r off (omega arith))
+any-snoc (suc z) [] r off le = absurd (omega (arith, le))
+any-snoc (suc z) (x ∷ records) r off le = any-snoc z records r off (omega (arith, le))
+
+pub open-snoc : {X : Type 0} (z : ℕ) (records : List HistoryRecord) (r : HistoryRecord) (p : Pending X) → settles r.event ≡ false → z ≤ length records
+    → open_from z (records ++ r ∷ []) p ≡ open_from z records p
+open-snoc z records r p off le = ap (λ (b : Bool). cond b p (dropped p)) (any-snoc z records r off le)
 
 -- the records have a doubt open
 abbrev pub HasDoubt : List HistoryRecord → Type 0

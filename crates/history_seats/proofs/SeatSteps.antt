@@ -1,10 +1,11 @@
 -- Splits and joins of seats keep the rule.
-use Rattle.std.proofs.Common.{◌≡◌, ◌≢◌, ℕ, ◌==◌, List, [], ◌∷◌, ◌++◌, length, set, true, false, true≢false, Option, Some, None, refl, sym, ap, ◌∙◌, subst, arith, length-set}
+use Rattle.std.proofs.Common.{◌≡◌, ◌≢◌, ℕ, ◌==◌, List, [], ◌∷◌, ◌++◌, length, set, true, false, true≢false, Option, Some, None, refl, sym, ap, ◌∙◌, subst, length-set}
 use Rattle.std.specs.Prelude.{unwrap_or}
 use mathlib.Core.Option.{some}
 use lib.ListN.{get_elem?}
 use Rattle.atomic_table.proofs.Lists.{set_else}
-use Rattle.history_seats.specs.Records.{HistoryRecord, concerns_file, is_of_session}
+use Rattle.store_model.specs.Record.{concerns_file}
+use Rattle.history_seats.specs.Records.{HistoryRecord, is_of_session}
 use Rattle.history_seats.specs.Mounts.{Mounted}
 use Rattle.history_seats.specs.Tags.{AreTagsRight}
 use Rattle.history_seats.specs.Views.{SlotView, PassView, Joined, SeatView}

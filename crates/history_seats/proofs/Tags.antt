@@ -5,7 +5,7 @@ use Rattle.std.proofs.lemmas.List.{append-nil}
 use Rattle.std.proofs.lemmas.List.Elements.{All-append, All-cons, All-nil}
 use Rattle.history_seats.specs.Records.{HistoryRecord}
 use Rattle.history_seats.specs.Mounts.{Mounted}
-use Rattle.history_seats.specs.Tags.{HasRightTag, AreTagsRight, IsTagged, AreTagged}
+use Rattle.history_seats.specs.Tags.{HasRightTag, AreTagsRight, HasDueTag, AreTagged}
 use Rattle.history_seats.specs.Views.{GateView, SlotView, PassView}
 use Rattle.history_seats.specs.Changes.{TagVersions, record_of, together}
 use Rattle.history_seats.specs.Steps.{IsTagIn}
@@ -18,8 +18,8 @@ tags-snoc m before (x ∷ records) r n e = (
   tags-snoc m (before ++ x ∷ []) records r n.1 (subst (λ (l : List HistoryRecord). HasRightTag m l r) (sym (append_assoc before (x ∷ []) records)) e),
 )
 
-pub tagged-snoc : (records : List HistoryRecord) (r : HistoryRecord) → AreTagged records → IsTagged r → AreTagged (records ++ r ∷ [])
-tagged-snoc records r all here = All-append IsTagged records (r ∷ []) all (All-cons IsTagged r [] here (All-nil IsTagged))
+pub tagged-snoc : (records : List HistoryRecord) (r : HistoryRecord) → AreTagged records → HasDueTag r → AreTagged (records ++ r ∷ [])
+tagged-snoc records r all here = All-append HasDueTag records (r ∷ []) all (All-cons HasDueTag r [] here (All-nil HasDueTag))
 
 -- a record's tag names the file of the slot that came with it, and no other
 pub tag_in : (gate : GateView) (pass : Option PassView) (event : Event) (slot : Option SlotView) (left : TagVersions) → IsTagIn (together gate slot pass) (record_of event slot left)

@@ -4,7 +4,9 @@ use mathlib.Core.Option.{some}
 use lib.ListN.{get_elem?}
 use Rattle.store_model.specs.declared.event.Event.{Event}
 use Rattle.store_model.specs.declared.event.Event.TheVariants.{Call as CallEvent, Landed}
-use Rattle.history_seats.specs.Records.{HistoryRecord, concerns_file, is_event_of, is_of_session, count_of}
+use Rattle.store_model.specs.Record.{concerns_file, events_of}
+use Rattle.store_model.specs.History.{count_of}
+use Rattle.history_seats.specs.Records.{HistoryRecord, is_event_of, is_of_session}
 use Rattle.history_seats.specs.Settling.{is_landing, IsDecidedBelow, IsOpenDoubt}
 use Rattle.history_seats.specs.Views.{GateView, SlotView, PassView, Joined, SeatView}
 use Rattle.history_seats.specs.Views.SeatView.{Gate}
@@ -60,13 +62,13 @@ session_stays h (Some t) = refl
 record IsNextCall (p : PassView) (event : Event) : Type 0 where
   pub call : is_landing event ≡ false
   pub own : (session : ℕ) → session ≢ p.session → is_event_of session event ≡ false
-  pub next : (records : List HistoryRecord) → count_of p.session records ≡ count_of p.session p.seen → HasNextNumber records event
+  pub next : (records : List HistoryRecord) → count_of p.session (events_of records) ≡ count_of p.session (events_of p.seen) → HasNextNumber records event
 
 next_call : (p : PassView) (event : Event) → IsNextOf p event → IsNextCall p event
 next_call p (CallEvent s n call reply mark) is = record {
   call = refl;
   own = λ session apart. ne_eqb s session (λ q. apart (sym q ∙ is.0));
-  next = λ records same. is.1 ∙ sym same ∙ ap (λ (i : ℕ). count_of i records) (sym is.0);
+  next = λ records same. is.1 ∙ sym same ∙ ap (λ (i : ℕ). count_of i (events_of records)) (sym is.0);
 }
 next_call p (Landed commit) is = absurd is
 

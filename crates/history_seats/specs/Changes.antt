@@ -3,9 +3,11 @@ use Rattle.std.specs.Prelude.{◌≡◌, ℕ, [], ◌∷◌, ◌++◌, length, O
 use Rattle.store_model.specs.declared.event.Event.{Event}
 use Rattle.store_model.specs.declared.event.Event.TheVariants.{Call as CallEvent, Landed}
 use Rattle.atomic_table.specs.Seated.{TableId}
-use Rattle.history_seats.specs.Records.{Version, HistoryRecord, count_of}
+use Rattle.store_model.specs.Record.{events_of}
+use Rattle.store_model.specs.History.{count_of}
+use Rattle.history_seats.specs.Records.{Version, HistoryRecord}
 use Rattle.history_seats.specs.Mounts.{Mounted, Served}
-use Rattle.history_seats.specs.Tags.{HasRightTag, IsTagged}
+use Rattle.history_seats.specs.Tags.{HasRightTag, HasDueTag}
 use Rattle.history_seats.specs.Views.{GateView, SlotView, PassView, Joined, Sight, no_mount, no_devices}
 use Rattle.history_seats.specs.Numbers.{without}
 
@@ -32,7 +34,7 @@ landing_of commit = record { event = Landed commit; tag = None }
 
 -- the event is the session's next call
 abbrev pub IsNextOf : PassView → Event → Type 0
-IsNextOf pass (CallEvent session number call reply mark) = (session ≡ pass.session) × (number ≡ count_of pass.session pass.seen)
+IsNextOf pass (CallEvent session number call reply mark) = (session ≡ pass.session) × (number ≡ count_of pass.session (events_of pass.seen))
 IsNextOf pass (Landed commit) = ⊥
 
 -- one more record
@@ -84,7 +86,7 @@ without_pass pass gate = record gate { sessions = without pass.session gate.sess
 -- What a new record has to meet: its tag is right, and is there where it is needed.
 pub record IsFitting (gate : GateView) (r : HistoryRecord) : Type 0 where
   pub right : (mounted : Mounted) → gate.mounted ≡ Some mounted → HasRightTag mounted gate.all r
-  pub tagged : IsTagged r
+  pub tagged : HasDueTag r
 
 -- the view of a seat that may be there
 abbrev pub view_in : Option (Sight SlotView) → Option SlotView

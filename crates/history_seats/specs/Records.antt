@@ -1,6 +1,6 @@
 -- The records of one history: which file and which session each concerns.
-use Rattle.std.specs.Prelude.{◌≡◌, ◌==◌, ℕ, Bool, true, false, ◌&&◌, List, ◌++◌, length, Option, Some, None, Result}
-use Rattle.std.specs.List.{list_any, range_with_len}
+use Rattle.std.specs.Prelude.{◌≡◌, ◌==◌, ℕ, Bool, false, ◌&&◌, List, ◌++◌, Option, Some, None, Result}
+use Rattle.std.specs.List.{list_any}
 use Rattle.node_image.specs.declared.node.RootRef.{RootRef}
 use Rattle.node_image.specs.Selection.{SelectedTree}
 use Rattle.htree_file.specs.declared.fault.TreeFault.{TreeFault}
@@ -9,8 +9,6 @@ use Rattle.store_model.specs.declared.event.Event.{Event}
 use Rattle.store_model.specs.declared.event.Event.TheVariants.{Call as CallEvent, Landed}
 use Rattle.store_model.specs.Object.{Object}
 use Rattle.store_model.specs.Record.{Record, Tag}
-use Rattle.store_model.specs.History.{numbers_of}
-use Rattle.store_model.specs.LegalHistory.{events_of}
 
 -- A committed version of a file, and all that is asked of it: nobody who has one needs a key.
 pub record Version : Type 0 where
@@ -30,18 +28,14 @@ pub record Version : Type 0 where
 abbrev pub HistoryRecord : Type 0
 HistoryRecord = Record Version
 
--- there is a tag, and it is one of those
-abbrev pub has_tag : (Tag Version → Bool) → Option (Tag Version) → Bool
-has_tag those None = false
-has_tag those (Some tag) = those tag
+-- the tag names that file and generation
+abbrev pub is_object : (file generation : ℕ) → Option (Tag Version) → Bool
+is_object file generation None = false
+is_object file generation (Some tag) = (tag.file == file) && (tag.generation == generation)
 
--- the record's tag names that file
-abbrev pub concerns_file : ℕ → HistoryRecord → Bool
-concerns_file file r = has_tag (λ tag. tag.file == file) r.tag
-
--- the record's tag names that file and generation
+-- the record's tag does
 abbrev pub concerns_object : (file generation : ℕ) → HistoryRecord → Bool
-concerns_object file generation r = has_tag (λ tag. (tag.file == file) && (tag.generation == generation)) r.tag
+concerns_object file generation r = is_object file generation r.tag
 
 abbrev pub is_event_of : ℕ → Event → Bool
 is_event_of session (CallEvent s number call reply mark) = s == session
@@ -50,14 +44,6 @@ is_event_of session (Landed commit) = false
 -- the record's event is a call of that session
 abbrev pub is_of_session : ℕ → HistoryRecord → Bool
 is_of_session session r = is_event_of session r.event
-
--- how many events the session has
-abbrev pub count_of : ℕ → List HistoryRecord → ℕ
-count_of session records = length (numbers_of session (events_of records))
-
--- the events of each session have the numbers 0, 1, 2 and so on, in order
-abbrev pub AreNumbered : List HistoryRecord → Type 0
-AreNumbered records = (session : ℕ) → numbers_of session (events_of records) ≡ range_with_len 0 (count_of session records)
 
 -- What was seen is a beginning of the whole, and no record past it is one of those.
 pub record IsUpToDate (those : HistoryRecord → Bool) (seen whole : List HistoryRecord) : Type 0 where

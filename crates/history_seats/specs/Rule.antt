@@ -2,7 +2,9 @@
 use Rattle.std.specs.Prelude.{◌≡◌, ◌⊎◌, ◌≤◌, ℕ, Bool, true, List, [], ◌∷◌, length, Option, Some, None}
 use mathlib.Core.Option.{some}
 use lib.ListN.{get_elem?}
-use Rattle.history_seats.specs.Records.{HistoryRecord, IsUpToDate, concerns_file, is_of_session, AreNumbered}
+use Rattle.store_model.specs.Record.{concerns_file, events_of}
+use Rattle.store_model.specs.History.{AreNumbered}
+use Rattle.history_seats.specs.Records.{HistoryRecord, IsUpToDate, is_of_session}
 use Rattle.history_seats.specs.Settling.{IsDecidedBelow}
 use Rattle.history_seats.specs.Mounts.{Mounted}
 use Rattle.history_seats.specs.Tags.{AreTagged, AreTagsRight}
@@ -18,7 +20,7 @@ pub record IsSound (gate : GateView) : Type 0 where
   -- each tag is right, and each fault of an object file and each commit has its tag
   pub tags_right : (mounted : Mounted) → gate.mounted ≡ Some mounted → AreTagsRight mounted [] gate.all
   pub tagged : AreTagged gate.all
-  pub numbered : AreNumbered gate.all
+  pub numbered : AreNumbered (events_of gate.all)
   pub files_distinct : are_distinct gate.files ≡ true
   pub sessions_distinct : are_distinct gate.sessions ≡ true
 

@@ -1,25 +1,12 @@
 -- Which records have a tag, and what it says.
-use Rattle.std.specs.Prelude.{◌≡◌, ℕ, Bool, true, false, ◌&&◌, List, [], ◌∷◌, ◌++◌, Option, Some, None, All, is_some}
-use Rattle.tee_types.specs.declared.reply.Reply.{Reply}
-use Rattle.tee_types.specs.declared.reply.Reply.TheVariants.{NotAvailable}
-use Rattle.tee_types.specs.declared.reply.Cause.{Cause}
-use Rattle.tee_types.specs.declared.reply.Cause.TheVariants.{Fault}
-use Rattle.tee_types.specs.declared.reply.Device.TheVariants.{File}
+use Rattle.std.specs.Prelude.{◌≡◌, ℕ, true, false, ◌&&◌, List, [], ◌∷◌, ◌++◌, Option, Some, None, All, is_some}
 use Rattle.store_model.specs.declared.event.Event.{Event}
 use Rattle.store_model.specs.declared.event.Event.TheVariants.{Call as CallEvent, Landed}
-use Rattle.store_model.specs.Record.{Tag}
-use Rattle.history_seats.specs.Records.{Version, HistoryRecord, concerns_file}
+use Rattle.store_model.specs.Record.{Tag, concerns_file, fault_in_reply}
+use Rattle.history_seats.specs.Records.{Version, HistoryRecord}
 use Rattle.history_seats.specs.Settling.{as_landed, commits, is_doubtful, is_landing, is_made}
 use Rattle.history_seats.specs.Mounts.{Mounted}
 use Rattle.history_seats.specs.Directory.{directory_of, given_version, has_entry}
-
-abbrev pub file_at_fault : Cause → Option ℕ
-file_at_fault (Fault (File file) count) = Some file
-file_at_fault _ = None
-
-abbrev pub fault_in_reply : Reply → Option ℕ
-fault_in_reply (NotAvailable cause) = file_at_fault cause
-fault_in_reply _ = None
 
 -- the object file whose fault the event's reply carries
 abbrev pub faulty_file : Event → Option ℕ
@@ -35,12 +22,12 @@ abbrev pub IsCommitTagged : HistoryRecord → Type 0
 IsCommitTagged r = commits r.event ≡ true → is_some r.tag ≡ true
 
 -- the record has a tag where it needs one
-pub record IsTagged (r : HistoryRecord) : Type 0 where
+pub record HasDueTag (r : HistoryRecord) : Type 0 where
   pub fault : IsFaultTagged r
   pub commit : IsCommitTagged r
 
 abbrev pub AreTagged : List HistoryRecord → Type 0
-AreTagged records = All IsTagged records
+AreTagged records = All HasDueTag records
 
 -- What a tag says of its file and generation, behind these records: it names a version exactly where their object is there after the
 -- event. That is the one that was given before, unless the event made a commit.

@@ -1,7 +1,7 @@
 //! The calls of the gate's seat.
 
 ghost use Rattle.std.specs.Prelude.{◌≡◌, ◌≤◌, ◌+◌, [], ◌∷◌, ◌++◌, length, true, false, Some, None};
-ghost use Rattle.store_model.specs.LegalHistory.{events_of};
+ghost use Rattle.store_model.specs.Record.{events_of};
 ghost use Rattle.history_seats.specs.Settling.{IsOpenDoubt};
 ghost use Rattle.history_seats.specs.Mounts.{Mounted};
 ghost use Rattle.history_seats.specs.Numbers.{is_in};

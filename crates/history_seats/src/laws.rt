@@ -1,6 +1,6 @@
 //! Laws of the views. Each function does nothing: its contract is the law.
 
-ghost use Rattle.history_seats.specs.Laws.{LastTagsDecide, SlotsTellVersions, SlotsTellGiven, SlotsKnowEntries, CalmVersionsStay, DroppedDoubtsStay, LandingsBringNamed, EntriesHaveVersions, UnchangedEventsLeave, PassesTellCounts, PassesTellSessions};
+ghost use Rattle.history_seats.specs.Laws.{LastTagsDecide, SlotsTellVersions, SlotsTellGiven, SlotsKnowEntries, CalmVersionsStay, DroppedDoubtsStay, LandingsBringNamed, EntriesHaveVersions, UnchangedEventsLeave, CommitsMoveEntries, CreatesNameVersions, PassesTellCounts, PassesTellSessions, CalmSessionsStay, LegalLandingsAreDue};
 
 /// The last record whose tag names a file's generation decides their version, up to the event that settles its doubt.
 pub fn last_tags_decide()
@@ -48,13 +48,33 @@ pub fn unchanged_events_leave()
     ensures { UnchangedEventsLeave }
 {}
 
+/// A commit's tag has an entry after a create, none after a delete, and else where it had one.
+pub fn commits_move_entries()
+    ensures { CommitsMoveEntries }
+{}
+
+/// A create that is made may name its new version.
+pub fn creates_name_versions()
+    ensures { CreatesNameVersions }
+{}
+
 /// A pass's view tells how many events its session has in the whole history.
 pub fn passes_tell_counts()
     ensures { PassesTellCounts }
 {}
 
 /// A pass's view tells the state of its session after the whole history: past what it has seen, only the event that settles the session's
-/// doubt counts.
+/// doubt counts, or drops it, and the gate's place.
 pub fn passes_tell_sessions()
     ensures { PassesTellSessions }
+{}
+
+/// A session that no doubt touches in a pass's view stands after the whole history.
+pub fn calm_sessions_stay()
+    ensures { CalmSessionsStay }
+{}
+
+/// In a legal history each landing stands where a doubt is open.
+pub fn legal_landings_are_due()
+    ensures { LegalLandingsAreDue }
 {}

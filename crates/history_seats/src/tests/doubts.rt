@@ -1,5 +1,5 @@
 ghost use Rattle.std.specs.Prelude.{◌≡◌, ◌≤◌, [], ◌∷◌, ◌++◌, length};
-ghost use Rattle.store_model.specs.LegalHistory.{events_of};
+ghost use Rattle.store_model.specs.Record.{events_of};
 ghost use Rattle.history_seats.specs.Views.{new_gate};
 
 use crate::{GateSeat, HistoryTable, PassSeat};

@@ -1,4 +1,4 @@
-use Rattle.std.proofs.Common.{◌+◌, ◌%◌, ◌^◌, ◌<◌, length, ap, sym, ◌∙◌, arith}
+use Rattle.std.proofs.Common.{◌+◌, ◌%◌, ◌^◌, ap, sym, ◌∙◌, arith}
 use Rattle.history_seats.specs.Views.{gate_of}
 use Rattle.history_seats.specs.Steps.{appended}
 use Rattle.history_seats.proofs.WordSteps.{append_keeps}
