@@ -18,7 +18,7 @@ use Rattle.history_seats.specs.Versions.{is_entry_of, mounted_version, version_a
 use Rattle.history_seats.specs.Directory.{directory_of, entries_after, entries_committed, entries_next, given_version, has_entry, mounted_entries}
 use Rattle.history_seats.specs.Tags.{AreTagsRight, HasRightTag, IsTagRight}
 use Rattle.history_seats.specs.Known.{version_from}
-use Rattle.history_seats.specs.Laws.{HaveVersions, IsLeft}
+use Rattle.history_seats.specs.EntryLaws.{HaveVersions, IsLeft}
 use Rattle.history_seats.proofs.Lists.{and_parts}
 use Rattle.history_seats.proofs.Givens.{directory-snoc, version-snoc}
 use Rattle.history_seats.proofs.Places.{any_settles, open-snoc}

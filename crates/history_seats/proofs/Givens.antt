@@ -15,7 +15,7 @@ use Rattle.history_seats.specs.Settling.{Pending, as_landed, settled_by_mark, se
 use Rattle.history_seats.specs.Mounts.{Entry, Mounted}
 use Rattle.history_seats.specs.Versions.{mounted_version, version_after, version_next, version_of}
 use Rattle.history_seats.specs.Directory.{entries_committed, entries_marked, entries_after, entries_next, mounted_entries, directory_of, has_entry, given_version}
-use Rattle.history_seats.specs.Laws.{IsGiven}
+use Rattle.history_seats.specs.VersionLaws.{IsGiven}
 use Rattle.history_seats.proofs.Lists.{either_bool, neither}
 use Rattle.history_seats.proofs.Parts.{settled-all, part-kept}
 use Rattle.history_seats.proofs.DoubtedEntries.{has_committed}

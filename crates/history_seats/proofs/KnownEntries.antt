@@ -12,7 +12,7 @@ use Rattle.history_seats.specs.Settling.{Pending, as_landed, calm, dropped, is_d
 use Rattle.history_seats.specs.Versions.{mounted_version, version_after, version_next, version_of}
 use Rattle.history_seats.specs.Directory.{directory_of, entries_after, entries_next, given_version, has_entry, mounted_entries}
 use Rattle.history_seats.specs.Known.{IsKnown, directory_from, version_from}
-use Rattle.history_seats.specs.Laws.{IsGiven}
+use Rattle.history_seats.specs.VersionLaws.{IsGiven}
 use Rattle.history_seats.specs.Views.{GateView, SlotView}
 use Rattle.history_seats.specs.Rule.{SlotFits}
 use Rattle.history_seats.proofs.Parts.{calm-settled}

@@ -14,6 +14,7 @@ pub mod Parts
 pub mod DoubtedEntries
 pub mod Givens
 pub mod Places
+pub mod LearnedDoubts
 pub mod KnownEntries
 pub mod GivenVersions
 pub mod OtherSessions

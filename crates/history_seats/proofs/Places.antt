@@ -1,5 +1,5 @@
 -- What a place decides: a doubt that stands below it leaves nothing.
-use Rattle.std.proofs.Common.{◌≡◌, ◌⊎◌, ℕ, zero, suc, ◌≤◌, List, [], ◌∷◌, ◌++◌, length, drop, Bool, true, false, true≢false, cond, ◌||◌, Option, Some, None, refl, sym, ap, ◌∙◌, subst, inl, inr, arith}
+use Rattle.std.proofs.Common.{◌≡◌, ◌⊎◌, ℕ, zero, suc, ◌<◌, ◌≤◌, List, [], ◌∷◌, ◌++◌, length, drop, Bool, true, false, true≢false, cond, ◌||◌, Option, Some, None, refl, sym, ap, ◌∙◌, subst, inl, inr, arith}
 use Rattle.std.proofs.lemmas.Bool.{cases_Bool, cond-true, cond-false, cases_lt}
 use Rattle.std.specs.Prelude.{unwrap_or}
 use Rattle.std.specs.List.{list_any, fold}
@@ -40,13 +40,19 @@ any-beyond (suc z) zero seen rest le h = absurd (omega (arith, le))
 any-beyond (suc z) (suc y) [] rest le h = inr (any-tail (suc y) rest h)
 any-beyond (suc z) (suc y) (r ∷ seen) rest le h = any-beyond z y seen rest (omega (arith, le)) h
 
-any-at : (z : ℕ) (front : List HistoryRecord) (d : HistoryRecord) (back : List HistoryRecord) → z ≤ length front → settles d.event ≡ true → any_settles (drop z (front ++ d ∷ back)) ≡ true
+pub any-at : (z : ℕ) (front : List HistoryRecord) (d : HistoryRecord) (back : List HistoryRecord) → z ≤ length front → settles d.event ≡ true → any_settles (drop z (front ++ d ∷ back)) ≡ true
 any-at zero [] d back le own = or_left (settles d.event) (any_settles back) own
 any-at (suc z) [] d back le own = absurd (omega (arith, le))
 any-at zero (x ∷ front) d back le own = or_right (settles x.event) (any_settles (front ++ d ∷ back)) (any-at zero front d back (omega arith) own)
 any-at (suc z) (x ∷ front) d back le own = any-at z front d back (omega (arith, le)) own
 
-settling-none : (records : List HistoryRecord) → settling records ≡ None → any_settles records ≡ false
+-- what settles from a place behind an event on stands behind it
+pub any-past : (z : ℕ) (front : List HistoryRecord) (d : HistoryRecord) (back : List HistoryRecord) → length front < z → any_settles (drop z (front ++ d ∷ back)) ≡ true → any_settles back ≡ true
+any-past zero front d back lt h = absurd (omega (arith, lt))
+any-past (suc z) [] d back lt h = any-tail z back h
+any-past (suc z) (x ∷ front) d back lt h = any-past z front d back (omega (arith, lt)) h
+
+pub settling-none : (records : List HistoryRecord) → settling records ≡ None → any_settles records ≡ false
 settling-none [] none = refl
 settling-none (r ∷ records) none = elim (cases_Bool (settles r.event)) [
   | inl own ↦ absurd (some-none r.event (sym (cond-true (settles r.event) (Some r.event) (settling records) own) ∙ none))
@@ -58,7 +64,7 @@ settling-none (r ∷ records) none = elim (cases_Bool (settles r.event)) [
     some-none : (event : Event) → Some event ≡ None → ⊥
     some-none event e = cc
 
-settling-settles : (records : List HistoryRecord) (event : Event) → settling records ≡ Some event → settles event ≡ true
+pub settling-settles : (records : List HistoryRecord) (event : Event) → settling records ≡ Some event → settles event ≡ true
 settling-settles [] event e = cc
 settling-settles (r ∷ records) event e = elim (cases_Bool (settles r.event)) [
   | inl own ↦

@@ -24,7 +24,7 @@ use Rattle.history_seats.specs.Records.{HistoryRecord, IsUpToDate, is_event_of, 
 use Rattle.history_seats.specs.Settling.{Pending, as_landed, calm, dropped, is_doubtful, is_landing, open_from, settled_by, settles, settling, settled}
 use Rattle.history_seats.specs.Sessions.{session_if_landed, session_of}
 use Rattle.history_seats.specs.Known.{session_from}
-use Rattle.history_seats.specs.Laws.{AreLandingsDue, MayBeDropped}
+use Rattle.history_seats.specs.SessionLaws.{AreLandingsDue, MayBeDropped}
 use Rattle.history_seats.specs.Views.{GateView, PassView}
 use Rattle.history_seats.specs.Rule.{PassFits}
 use Rattle.history_seats.proofs.Lists.{neither, no_some}

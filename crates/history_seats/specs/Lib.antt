@@ -11,4 +11,6 @@ pub mod Changes
 pub mod Steps
 pub mod Sessions
 pub mod Known
-pub mod Laws
+pub mod VersionLaws
+pub mod EntryLaws
+pub mod SessionLaws

@@ -1,6 +1,8 @@
 //! Laws of the views. Each function does nothing: its contract is the law.
 
-ghost use Rattle.history_seats.specs.Laws.{LastTagsDecide, SlotsTellVersions, SlotsTellGiven, SlotsKnowEntries, CalmVersionsStay, DroppedDoubtsStay, LandingsBringNamed, EntriesHaveVersions, UnchangedEventsLeave, CommitsMoveEntries, CreatesNameVersions, PassesTellCounts, PassesTellSessions, CalmSessionsStay, LegalLandingsAreDue};
+ghost use Rattle.history_seats.specs.VersionLaws.{LastTagsDecide, SlotsTellVersions, SlotsTellGiven, SlotsKnowEntries, CalmVersionsStay, DroppedDoubtsStay, DoubtsAreLearned};
+ghost use Rattle.history_seats.specs.EntryLaws.{LandingsBringNamed, EntriesHaveVersions, UnchangedEventsLeave, CommitsMoveEntries, CreatesNameVersions};
+ghost use Rattle.history_seats.specs.SessionLaws.{PassesTellCounts, PassesTellSessions, CalmSessionsStay, LegalLandingsAreDue};
 
 /// The last record whose tag names a file's generation decides their version, up to the event that settles its doubt.
 pub fn last_tags_decide()
@@ -31,6 +33,12 @@ pub fn calm_versions_stay()
 /// A doubt that was dropped never lands.
 pub fn dropped_doubts_stay()
     ensures { DroppedDoubtsStay }
+{}
+
+/// What became of a doubt: it landed where a landing settles it, and did not where another event does, or where nothing does and it stands
+/// below the view's place.
+pub fn doubts_are_learned()
+    ensures { DoubtsAreLearned }
 {}
 
 /// A landing brings no entry of a file's generation that its doubt does not name.

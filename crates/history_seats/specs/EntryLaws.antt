@@ -1,0 +1,73 @@
+-- What commits, landings and other events do to the directory.
+use Rattle.std.specs.Prelude.{◌≡◌, ◌≤◌, ℕ, Bool, true, false, List, [], ◌∷◌, ◌++◌, length, Some, None, is_some}
+use Rattle.tee_types.specs.declared.call.Call.{Call}
+use Rattle.tee_types.specs.declared.call.Call.TheVariants.{Create, Delete}
+use Rattle.tee_types.specs.declared.flags.Flags.{Flags}
+use Rattle.tee_types.specs.declared.reply.Reply.{Reply}
+use Rattle.store_model.specs.declared.event.Event.TheVariants.{Call as CallEvent}
+use Rattle.store_model.specs.declared.event.Mark.TheVariants.{Unchanged, Made}
+use Rattle.store_model.specs.Record.{Tag}
+use Rattle.history_seats.specs.Records.{Version, HistoryRecord, concerns_object}
+use Rattle.history_seats.specs.Settling.{as_landed, HasMark, IsOpenDoubt}
+use Rattle.history_seats.specs.Mounts.{Entry, Mounted}
+use Rattle.history_seats.specs.Versions.{version_of}
+use Rattle.history_seats.specs.Directory.{directory_of, entries_committed, has_entry, given_version}
+use Rattle.history_seats.specs.Tags.{HasRightTag}
+use Rattle.history_seats.specs.Known.{version_from}
+use Rattle.history_seats.specs.Views.{GateView}
+use Rattle.history_seats.specs.Rule.{IsSound}
+
+-- A landing brings no entry of a file's generation that its doubt does not name.
+abbrev pub LandingsBringNamed : Type 0
+LandingsBringNamed =
+    (file generation : ℕ) (mounted : Mounted) (records : List HistoryRecord) (commit : ℕ) (doubt : IsOpenDoubt commit 0 records)
+    → concerns_object file generation doubt.doubted ≡ false
+    → has_entry file generation (as_landed (directory_of mounted records)).now ≡ true
+    → has_entry file generation (directory_of mounted records).now ≡ true
+
+-- Each entry of the directory has a version, as it stands and as the doubt leaves it.
+pub record HaveVersions (mounted : Mounted) (records : List HistoryRecord) (file generation : ℕ) : Type 0 where
+  pub now : has_entry file generation (directory_of mounted records).now ≡ true → is_some (given_version mounted records file generation) ≡ true
+  pub landed : has_entry file generation (as_landed (directory_of mounted records)).now ≡ true
+      → is_some (as_landed (version_of file generation mounted records)).now ≡ true
+
+abbrev pub EntriesHaveVersions : Type 0
+EntriesHaveVersions =
+    (gate : GateView) (mounted : Mounted) (file generation : ℕ) → IsSound gate → gate.mounted ≡ Some mounted
+    → HaveVersions mounted gate.all file generation
+
+-- An event with mark Unchanged leaves the directory, what is given and what is left in doubt.
+pub record IsLeft (mounted : Mounted) (before after : List HistoryRecord) : Type 0 where
+  pub directory : directory_of mounted after ≡ directory_of mounted before
+  pub given : (file generation : ℕ) → given_version mounted after file generation ≡ given_version mounted before file generation
+  -- from each place of before
+  pub in_doubt : (z file generation : ℕ) → z ≤ length before
+      → (version_from z file generation mounted after).if_landed ≡ (version_from z file generation mounted before).if_landed
+
+abbrev pub UnchangedEventsLeave : Type 0
+UnchangedEventsLeave =
+    (mounted : Mounted) (records : List HistoryRecord) (r : HistoryRecord) → HasMark Unchanged r.event → HasRightTag mounted records r
+    → IsLeft mounted records (records ++ r ∷ [])
+
+-- whether the object of a call is there once the call is committed, where it was there or not
+abbrev pub is_there_after : Call → Bool → Bool
+is_there_after (Create id flags attributes bytes) was = true
+is_there_after (Delete handle) was = false
+is_there_after _ was = was
+
+-- So the directory has an entry of the tag's file and generation.
+abbrev pub CommitsMoveEntries : Type 0
+CommitsMoveEntries =
+    (application : List ℕ) (call : Call) (tag : Tag Version) (entries : List Entry)
+    → has_entry tag.file tag.generation (entries_committed application call (Some tag) entries)
+    ≡ is_there_after call (has_entry tag.file tag.generation entries)
+
+-- A create that is made may name its new version.
+abbrev pub CreatesNameVersions : Type 0
+CreatesNameVersions =
+    (mounted : Mounted) (before : List HistoryRecord) (session number : ℕ) (id : List ℕ) (flags : Flags) (attributes bytes : List ℕ) (reply : Reply) (commit : ℕ)
+    (file generation : ℕ) (version : Version)
+    → HasRightTag mounted before (record {
+      event = CallEvent session number (Create id flags attributes bytes) reply (Made commit);
+      tag = Some (record { file = file; generation = generation; committed = Some version; doubted = None });
+    })
