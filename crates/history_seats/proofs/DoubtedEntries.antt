@@ -15,10 +15,11 @@ use Rattle.store_model.specs.Record.{Tag}
 use Rattle.store_model.specs.Record.{events_of}
 use Rattle.history_seats.specs.Records.{HistoryRecord, Version, concerns_object, is_object}
 use Rattle.history_seats.specs.Mounts.{Entry, Mounted}
-use Rattle.history_seats.specs.Settling.{Pending, HasMark, IsOpenDoubt, as_landed, settled_by, settles}
+use Rattle.history_seats.specs.Settling.{Pending, IsOpenDoubt, as_landed, settled_by, settles}
 use Rattle.history_seats.specs.Versions.{is_entry_of, version_after, version_next, version_of, mounted_version}
 use Rattle.history_seats.specs.Directory.{directory_of, entries_after, entries_committed, entries_next, entries_tagged, has_entry, mounted_entries, renamed, with_name}
 use Rattle.history_seats.specs.EntryLaws.{is_there_after}
+use Rattle.history_seats.proofs.Doubts.{marked-settles}
 use Rattle.history_seats.proofs.Lists.{both_true, neither, or_false, or_left}
 
 -- what is filtered out is not there
@@ -124,12 +125,6 @@ module _ (file generation : ℕ) where
   none_after (CallEvent session number call reply (Doubtful commit)) q is = refl
   none_after (Landed commit) q is = refl
 
-  marked : (commit : ℕ) (event : Event) → HasMark (Doubtful commit) event → settles event ≡ true
-  marked commit (CallEvent session number call reply Unchanged) is = absurd (cc (is))
-  marked commit (CallEvent session number call reply (Made n)) is = refl
-  marked commit (CallEvent session number call reply (Doubtful n)) is = refl
-  marked commit (Landed n) is = absurd is
-
   none_unsettled : (event : Event) (tag : Option (Tag Version)) (q : Pending (Option Version)) → settles event ≡ false → q.if_landed ≡ None
       → (b : Bool) → (cond b (version_after event tag q) (settled_by event q)).if_landed ≡ None
   none_unsettled (CallEvent session number call reply Unchanged) tag q off none true = none
@@ -151,7 +146,7 @@ module _ (file generation : ℕ) where
       let d = doubt.doubted in
       let at : (version_next file generation before d).if_landed ≡ None =
       ap (λ (p : Pending (Option Version)). p.if_landed) (cond-false (concerns_object file generation d) (version_after d.event d.tag before) (settled_by d.event before) other)
-      ∙ none_after d.event before (marked commit d.event doubt.marked) in
+      ∙ none_after d.event before (marked-settles commit d.event doubt.marked) in
       let whole : version_of file generation mounted (doubt.front ++ d ∷ doubt.back) ≡ fold (version_next file generation) (version_next file generation before d) doubt.back =
       fold-append (version_next file generation) (mounted_version file generation mounted) doubt.front (d ∷ doubt.back) in
       subst (λ (l : List HistoryRecord). (version_of file generation mounted l).if_landed ≡ None) doubt.is

@@ -13,7 +13,7 @@ use Rattle.store_model.specs.declared.event.Mark.TheVariants.{Unchanged, Made, D
 use Rattle.store_model.specs.Record.{Tag}
 use Rattle.history_seats.specs.Records.{HistoryRecord, Version, concerns_object, is_object}
 use Rattle.history_seats.specs.Mounts.{Entry, Mounted, MountedEntry}
-use Rattle.history_seats.specs.Settling.{HasMark, Pending, as_landed, dropped, is_doubtful, is_landing, is_made, settled_by, settles}
+use Rattle.history_seats.specs.Settling.{HasMark, Pending, as_landed, dropped, is_doubtful, is_landing, is_made, settled_by}
 use Rattle.history_seats.specs.Versions.{is_entry_of, mounted_version, version_after, version_among, version_next, version_of}
 use Rattle.history_seats.specs.Directory.{directory_of, entries_after, entries_committed, entries_next, given_version, has_entry, mounted_entries}
 use Rattle.history_seats.specs.Tags.{AreTagsRight, HasRightTag, IsTagRight}
@@ -21,6 +21,7 @@ use Rattle.history_seats.specs.Known.{version_from}
 use Rattle.history_seats.specs.EntryLaws.{HaveVersions, IsLeft}
 use Rattle.history_seats.proofs.Lists.{and_parts}
 use Rattle.history_seats.proofs.Givens.{directory-snoc, version-snoc}
+use Rattle.history_seats.proofs.OpenDoubts.{unchanged-settles}
 use Rattle.history_seats.proofs.Places.{any_settles, open-snoc}
 use Rattle.history_seats.proofs.DoubtedEntries.{IsQuiet, has_committed, moved-entry, quiet_landed, quiet_mounted, quiet_next}
 
@@ -69,12 +70,6 @@ not-made (CallEvent session number call reply (Made commit)) is = absurd (cc (is
 not-made (CallEvent session number call reply (Doubtful commit)) is = refl
 not-made (Landed commit) is = refl
 
-unsettled : (event : Event) → HasMark Unchanged event → settles event ≡ false
-unsettled (CallEvent session number call reply Unchanged) is = refl
-unsettled (CallEvent session number call reply (Made commit)) is = absurd (cc (is))
-unsettled (CallEvent session number call reply (Doubtful commit)) is = absurd (cc (is))
-unsettled (Landed commit) is = absurd is
-
 module _ (mounted : Mounted) (records : List HistoryRecord) (r : HistoryRecord) (unchanged : HasMark Unchanged r.event) (right : HasRightTag mounted records r) where
   abbrev after : List HistoryRecord
   after = records ++ r ∷ []
@@ -120,7 +115,7 @@ module _ (mounted : Mounted) (records : List HistoryRecord) (r : HistoryRecord) 
 
   doubt-from : (z file generation : ℕ) → z ≤ length records → (version_from z file generation mounted after).if_landed ≡ (version_from z file generation mounted records).if_landed
   doubt-from z file generation le =
-      ap (λ (p : Pending (Option Version)). p.if_landed) (open-snoc z records r (version_of file generation mounted after) (unsettled r.event unchanged) le)
+      ap (λ (p : Pending (Option Version)). p.if_landed) (open-snoc z records r (version_of file generation mounted after) (unchanged-settles r.event unchanged) le)
       ∙ one (any_settles (drop z records)) (version_of file generation mounted after) (version_of file generation mounted records) (doubt-left file generation)
     where
       one : (b : Bool) (p q : Pending (Option Version)) → p.if_landed ≡ q.if_landed → (cond b p (dropped p)).if_landed ≡ (cond b q (dropped q)).if_landed

@@ -1,6 +1,6 @@
 -- What a view learns of a doubt.
-use Rattle.std.proofs.Common.{◌≡◌, ◌<◌, ◌≤◌, ℕ, zero, suc, List, [], ◌∷◌, ◌++◌, length, drop, Bool, true, false, true≢false, cond, Option, Some, None, inl, inr, refl, sym, ap, ◌∙◌, arith}
-use Rattle.std.proofs.lemmas.Bool.{cases_Bool, cases_lt, cond-true, cond-false, lt-ltb, le-leb}
+use Rattle.std.proofs.Common.{◌≡◌, ◌≤◌, ℕ, List, ◌∷◌, ◌++◌, length, drop, true, false, true≢false, Option, Some, None, inl, inr, refl, sym, ap, ◌∙◌, arith}
+use Rattle.std.proofs.lemmas.Bool.{cases_Bool, cases_lt, cond-true, cond-false, lt-ltb}
 use Rattle.std.specs.Prelude.{nat_lt}
 use Rattle.std.specs.List.{list_any}
 use Rattle.store_model.specs.declared.event.Event.{Event}
@@ -9,11 +9,11 @@ use Rattle.store_model.specs.declared.event.Mark.{Mark}
 use Rattle.store_model.specs.declared.event.Mark.TheVariants.{Unchanged, Made, Doubtful}
 use Rattle.store_model.specs.Record.{Tag}
 use Rattle.history_seats.specs.Records.{HistoryRecord, Version, concerns_object}
-use Rattle.history_seats.specs.Settling.{HasMark, Pending, calm, dropped, is_landing, open_from, settled, settles, settling}
+use Rattle.history_seats.specs.Settling.{HasMark, Pending, calm, dropped, open_from, settled, settles, settling}
 use Rattle.history_seats.specs.Mounts.{Mounted}
 use Rattle.history_seats.specs.Versions.{committed_in, doubted_in, version_after, version_of}
 use Rattle.history_seats.specs.Known.{version_from}
-use Rattle.history_seats.specs.VersionLaws.{learned}
+use Rattle.history_seats.specs.DoubtLaws.{learned}
 use Rattle.history_seats.proofs.Doubts.{marked-settles}
 use Rattle.history_seats.proofs.Givens.{version-last}
 use Rattle.history_seats.proofs.Places.{any-at, any-past, any_settles, open-calm, settling-none, settling-settles}

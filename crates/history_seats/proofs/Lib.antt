@@ -15,6 +15,7 @@ pub mod DoubtedEntries
 pub mod Givens
 pub mod Places
 pub mod LearnedDoubts
+pub mod OpenDoubts
 pub mod KnownEntries
 pub mod GivenVersions
 pub mod OtherSessions

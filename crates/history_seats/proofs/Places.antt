@@ -8,10 +8,11 @@ use Rattle.store_model.specs.declared.event.Event.TheVariants.{Call as CallEvent
 use Rattle.store_model.specs.declared.event.Mark.TheVariants.{Unchanged, Made, Doubtful}
 use Rattle.store_model.specs.Record.{events_of}
 use Rattle.history_seats.specs.Records.{HistoryRecord}
-use Rattle.history_seats.specs.Settling.{Pending, HasMark, IsOpenDoubt, as_landed, calm, dropped, is_doubtful, is_settling_mark, open_from, settled, settles, settling}
+use Rattle.history_seats.specs.Settling.{Pending, HasMark, IsOpenDoubt, as_landed, calm, dropped, is_doubtful, open_from, settled, settles, settling}
 use Rattle.history_seats.specs.Views.{GateView}
 use Rattle.history_seats.specs.Rule.{HasSeen}
 use Rattle.history_seats.proofs.Lists.{or_left, or_right, or_second}
+use Rattle.history_seats.proofs.Doubts.{marked-settles}
 use Rattle.history_seats.proofs.Givens.{doubt-stays}
 
 -- some event of these records settles
@@ -153,13 +154,9 @@ module _ {X : Type 0} (those : HistoryRecord → Bool) (z : ℕ) (seen : List Hi
         | inl below ↦ absurd (true≢false (doubt-stays z d.0 those seen gate.all sees.begins doubt sees.decided_below sees.decided_within below (Landed commit) lands))
         | inr late ↦
             let here : any_settles (drop z seen) ≡ true =
-            subst (λ (l : List HistoryRecord). any_settles (drop z l) ≡ true) doubt.is (any-at z doubt.front doubt.doubted doubt.back (omega (arith, late)) (marked d.0 doubt.doubted.event doubt.marked)) in
+            subst (λ (l : List HistoryRecord). any_settles (drop z l) ≡ true) doubt.is (any-at z doubt.front doubt.doubted doubt.back (omega (arith, late)) (marked-settles d.0 doubt.doubted.event doubt.marked)) in
             absurd (true≢false (sym here ∙ none))
       ]
-    where
-      marked : (n : ℕ) (event : Event) → HasMark (Doubtful n) event → settles event ≡ true
-      marked n (CallEvent session number call reply mark) e = ap is_settling_mark e
-      marked n (Landed m) e = absurd e
 
   quiet : any_settles (drop z seen) ≡ false → settling sees.begins.rest ≡ None → any_settles (drop gate.decided gate.all) ≡ false
   quiet none rest = elim (cases_Bool (any_settles (drop gate.decided gate.all))) [

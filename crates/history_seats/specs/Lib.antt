@@ -11,6 +11,7 @@ pub mod Changes
 pub mod Steps
 pub mod Sessions
 pub mod Known
+pub mod DoubtLaws
 pub mod VersionLaws
 pub mod EntryLaws
 pub mod SessionLaws

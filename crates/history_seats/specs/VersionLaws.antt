@@ -1,16 +1,14 @@
 -- What a slot's view tells of its file after the whole history.
-use Rattle.std.specs.Prelude.{◌≡◌, ◌⊎◌, ◌<◌, ℕ, Bool, true, false, nat_lt, if◌then◌else◌, List, ◌∷◌, ◌++◌, length, Option, Some, None}
+use Rattle.std.specs.Prelude.{◌≡◌, ◌⊎◌, ℕ, true, false, List, ◌∷◌, ◌++◌, Option, None}
 use Rattle.std.specs.List.{list_any}
-use Rattle.store_model.specs.declared.event.Event.{Event}
-use Rattle.store_model.specs.declared.event.Mark.TheVariants.{Doubtful}
 use Rattle.history_seats.specs.Records.{Version, HistoryRecord, concerns_object}
-use Rattle.history_seats.specs.Settling.{Pending, calm, open_from, settling, settled, is_landing, HasMark, IsOpenDoubt}
+use Rattle.history_seats.specs.Settling.{calm, open_from, settling, settled}
 use Rattle.history_seats.specs.Mounts.{Entry, Mounted}
-use Rattle.history_seats.specs.Versions.{committed_in, doubted_in, version_after, version_of}
+use Rattle.history_seats.specs.Versions.{version_after, version_of}
 use Rattle.history_seats.specs.Directory.{has_entry, given_version}
 use Rattle.history_seats.specs.Known.{version_from, directory_from, IsKnown}
 use Rattle.history_seats.specs.Views.{GateView, SlotView}
-use Rattle.history_seats.specs.Rule.{HasSeen, SlotFits}
+use Rattle.history_seats.specs.Rule.{SlotFits}
 
 -- The last record whose tag names a file's generation decides their version, up to the event that settles its doubt.
 abbrev pub LastTagsDecide : Type 0
@@ -59,25 +57,3 @@ CalmVersionsStay =
     (gate : GateView) (slot : SlotView) (version : Option Version) → SlotFits gate slot
     → version_from slot.decided slot.file slot.generation slot.mounted slot.seen ≡ calm version
     → version_from gate.decided slot.file slot.generation slot.mounted gate.all ≡ calm version
-
--- A doubt that a view has open, below the view's place, does not land past the view.
-abbrev pub DroppedDoubtsStay : Type 0
-DroppedDoubtsStay =
-    (those : HistoryRecord → Bool) (z : ℕ) (seen : List HistoryRecord) (gate : GateView) (sees : HasSeen those z seen gate)
-    (commit : ℕ) (doubt : IsOpenDoubt commit 0 seen)
-    → length doubt.front < z → (event : Event) → settling sees.begins.rest ≡ Some event → is_landing event ≡ false
-
--- the committed version of these two, with the doubted one where the doubt is open: by the event that settles it, if there is one, and
--- else by whether it stands below the place
-abbrev pub learned : {X : Type 0} → Option Event → (below : Bool) → (committed doubted : X) → Pending X
-learned (Some event) below committed doubted = if is_landing event then calm doubted else calm committed
-learned None below committed doubted = if below then calm committed else record { now = committed; if_landed = Some doubted }
-
--- What became of a doubt, where no later tag names its file and generation: it landed where a landing settles it; it did not where another
--- event does, or where nothing does and it stands below the view's place.
-abbrev pub DoubtsAreLearned : Type 0
-DoubtsAreLearned =
-    (z file generation commit : ℕ) (mounted : Mounted) (front back : List HistoryRecord) (r : HistoryRecord)
-    → HasMark (Doubtful commit) r.event → concerns_object file generation r ≡ true → list_any (concerns_object file generation) back ≡ false
-    → version_from z file generation mounted (front ++ r ∷ back)
-    ≡ learned (settling back) (nat_lt (length front) z) (committed_in r.tag) (doubted_in r.tag)

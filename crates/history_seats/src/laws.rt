@@ -1,6 +1,7 @@
 //! Laws of the views. Each function does nothing: its contract is the law.
 
-ghost use Rattle.history_seats.specs.VersionLaws.{LastTagsDecide, SlotsTellVersions, SlotsTellGiven, SlotsKnowEntries, CalmVersionsStay, DroppedDoubtsStay, DoubtsAreLearned};
+ghost use Rattle.history_seats.specs.VersionLaws.{LastTagsDecide, SlotsTellVersions, SlotsTellGiven, SlotsKnowEntries, CalmVersionsStay};
+ghost use Rattle.history_seats.specs.DoubtLaws.{DoubtsOpen, DoubtsStayOpen, ReplayedDoubtsAreOpen, DroppedDoubtsStay, DoubtsAreLearned};
 ghost use Rattle.history_seats.specs.EntryLaws.{LandingsBringNamed, EntriesHaveVersions, UnchangedEventsLeave, CommitsMoveEntries, CreatesNameVersions};
 ghost use Rattle.history_seats.specs.SessionLaws.{PassesTellCounts, PassesTellSessions, CalmSessionsStay, LegalLandingsAreDue};
 
@@ -28,6 +29,21 @@ pub fn slots_know_entries()
 /// A version that no doubt touches in a slot's view stands after the whole history.
 pub fn calm_versions_stay()
     ensures { CalmVersionsStay }
+{}
+
+/// A doubtful event opens its doubt.
+pub fn doubts_open()
+    ensures { DoubtsOpen }
+{}
+
+/// An event with mark Unchanged leaves a doubt open.
+pub fn doubts_stay_open()
+    ensures { DoubtsStayOpen }
+{}
+
+/// The doubt that a replay has open at its end is open in the records.
+pub fn replayed_doubts_are_open()
+    ensures { ReplayedDoubtsAreOpen }
 {}
 
 /// A doubt that was dropped never lands.
