@@ -1,10 +1,10 @@
 -- What a commit does to the map of objects.
-use Rattle.std.specs.Prelude.{◌≡◌, ℕ, true, [], Some}
+use Rattle.std.specs.Prelude.{◌≡◌, ℕ, true, false, [], Some}
 use Rattle.tee_types.specs.declared.call.Call.{Call}
 use Rattle.tee_types.specs.declared.call.Call.TheVariants.{Create, Write, Truncate, Rename, Delete}
 use Rattle.store_model.specs.declared.session.Handle.{Handle}
 use Rattle.store_model.specs.declared.name.ObjectName.{ObjectName}
-use Rattle.store_model.specs.Object.{Object, Contents, Sound, ObjectMap, object_at, with_object, changed_object, without_object, moved_object}
+use Rattle.store_model.specs.Object.{Object, Contents, Sound, ObjectMap, object_at, holds, with_object, changed_object, without_object, moved_object}
 use Rattle.store_model.specs.Machine.{MachineState, session_at, handle_at, name_in}
 use Rattle.store_model.specs.Data.{written_contents, resized_contents}
 use Rattle.store_model.specs.Calls.{reply_of, state_after, is_commit}
@@ -47,7 +47,7 @@ MakesChange s i (Create id flags attributes bytes) (Put name object) =
 MakesChange s i (Write handle bytes) (Change name object) =
     HasContents s i handle name object (λ live old. written_contents old live.position bytes)
 MakesChange s i (Truncate handle size) (Change name object) = HasContents s i handle name object (λ live old. resized_contents old size)
-MakesChange s i (Rename handle id) (Move old new) = IsNamedBy s i handle old × (new ≡ name_in s i id)
+MakesChange s i (Rename handle id) (Move old new) = IsNamedBy s i handle old × (new ≡ name_in s i id) × (holds s.objects new ≡ false)
 MakesChange s i (Delete handle) (Remove name) = IsNamedBy s i handle name
 MakesChange s i _ _ = ⊥
 
