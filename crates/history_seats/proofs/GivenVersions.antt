@@ -1,6 +1,6 @@
--- Each entry of the directory has a version; and what an event with mark Unchanged leaves.
-use Rattle.std.proofs.Common.{◌≡◌, ◌≤◌, ℕ, length, drop, List, [], ◌∷◌, ◌++◌, Bool, true, false, true≢false, cond, ◌&&◌, ◌||◌, ◌==◌, inl, inr, map, Option, Some, None, refl, sym, ap, ◌∙◌, subst, append_assoc}
-use Rattle.std.proofs.lemmas.Bool.{cases_Bool, cond-true, cond-false, eqb-true}
+-- Each entry of the directory has a version.
+use Rattle.std.proofs.Common.{◌≡◌, ℕ, List, [], ◌∷◌, ◌++◌, Bool, true, false, true≢false, cond, ◌&&◌, ◌||◌, inl, inr, map, Option, Some, None, refl, sym, ap, ◌∙◌, subst, append_assoc}
+use Rattle.std.proofs.lemmas.Bool.{cases_Bool, cond-true, cond-false}
 use Rattle.std.proofs.lemmas.List.{append-nil}
 use Rattle.std.specs.Prelude.{is_some, slice_index_or, unwrap_or}
 use Rattle.tee_types.specs.declared.call.Call.TheVariants.{Create}
@@ -8,122 +8,18 @@ use Rattle.tee_types.specs.declared.flags.Flags.{Flags}
 use Rattle.tee_types.specs.declared.reply.Reply.{Reply}
 use Rattle.store_model.specs.declared.event.Event.{Event}
 use Rattle.store_model.specs.declared.event.Event.TheVariants.{Call as CallEvent, Landed}
-use Rattle.store_model.specs.declared.event.Mark.{Mark}
 use Rattle.store_model.specs.declared.event.Mark.TheVariants.{Unchanged, Made, Doubtful}
 use Rattle.store_model.specs.Record.{Tag}
 use Rattle.history_seats.specs.Records.{HistoryRecord, Version, concerns_object, is_object}
 use Rattle.history_seats.specs.Mounts.{Entry, Mounted, MountedEntry}
-use Rattle.history_seats.specs.Settling.{HasMark, Pending, as_landed, dropped, is_doubtful, is_landing, is_made, settled_by}
+use Rattle.history_seats.specs.Settling.{Pending, as_landed, is_doubtful, is_landing, is_made, settled_by}
 use Rattle.history_seats.specs.Versions.{is_entry_of, mounted_version, version_after, version_among, version_next, version_of}
 use Rattle.history_seats.specs.Directory.{directory_of, entries_after, entries_committed, entries_next, given_version, has_entry, mounted_entries}
 use Rattle.history_seats.specs.Tags.{AreTagsRight, HasRightTag, IsTagRight}
-use Rattle.history_seats.specs.Known.{version_from}
-use Rattle.history_seats.specs.EntryLaws.{HaveVersions, IsLeft}
-use Rattle.history_seats.proofs.Lists.{and_parts}
+use Rattle.history_seats.specs.EntryLaws.{HaveVersions}
 use Rattle.history_seats.proofs.Givens.{directory-snoc, version-snoc}
-use Rattle.history_seats.proofs.OpenDoubts.{unchanged-settles}
-use Rattle.history_seats.proofs.Places.{any_settles, open-snoc}
 use Rattle.history_seats.proofs.DoubtedEntries.{IsQuiet, has_committed, moved-entry, quiet_landed, quiet_mounted, quiet_next}
-
--- each event leaves what it commits nothing of
-directory-unchanged : (mounted : Mounted) (records : List HistoryRecord) (r : HistoryRecord) → HasMark Unchanged r.event → directory_of mounted (records ++ r ∷ []) ≡ directory_of mounted records
-directory-unchanged mounted records r unchanged = directory-snoc mounted records r ∙ one r.event unchanged
-  where
-    one : (event : Event) → HasMark Unchanged event → entries_after mounted.applications event r.tag (directory_of mounted records) ≡ directory_of mounted records
-    one (CallEvent session number call reply mark) is =
-        ap (λ (m : Mark). entries_after mounted.applications (CallEvent session number call reply m) r.tag (directory_of mounted records)) is
-    one (Landed commit) is = absurd is
-
--- the tag of a record that concerns the object, and what it names
-named_tag : (file generation : ℕ) (r : HistoryRecord) → concerns_object file generation r ≡ true → (tag : Tag Version) × (r.tag ≡ Some tag) × (tag.file ≡ file) × (tag.generation ≡ generation)
-named_tag file generation r own = one r.tag refl own
-  where
-    one : (tag : Option (Tag Version)) → r.tag ≡ tag → is_object file generation tag ≡ true → (tag : Tag Version) × (r.tag ≡ Some tag) × (tag.file ≡ file) × (tag.generation ≡ generation)
-    one None is e = absurd (true≢false (sym e))
-    one (Some tag) is e =
-        let both = and_parts (tag.file == file) (tag.generation == generation) e in
-        (tag, is, eqb-true tag.file file both.0, eqb-true tag.generation generation both.1)
-
--- what is given where an entry is
-given-there : (mounted : Mounted) (records : List HistoryRecord) (file generation : ℕ) → has_entry file generation (directory_of mounted records).now ≡ true
-    → given_version mounted records file generation ≡ (version_of file generation mounted records).now
-given-there mounted records file generation has = cond-true (has_entry file generation (directory_of mounted records).now) (version_of file generation mounted records).now None has
-
-version-unchanged : (tag : Option (Tag Version)) (event : Event) (q : Pending (Option Version)) → HasMark Unchanged event → (version_after event tag q).if_landed ≡ q.if_landed
-version-unchanged tag (CallEvent session number call reply mark) q is = ap (λ (m : Mark). (version_after (CallEvent session number call reply m) tag q).if_landed) is
-version-unchanged tag (Landed commit) q is = absurd is
-
-settled-unchanged : (event : Event) (q : Pending (Option Version)) → HasMark Unchanged event → settled_by event q ≡ q
-settled-unchanged (CallEvent session number call reply mark) q is = ap (λ (m : Mark). settled_by (CallEvent session number call reply m) q) is
-settled-unchanged (Landed commit) q is = absurd is
-
--- a tag on a call says what is committed after it
-version-tagged : (event : Event) (tag : Tag Version) (q : Pending (Option Version)) → is_landing event ≡ false → (version_after event (Some tag) q).now ≡ tag.committed
-version-tagged (CallEvent session number call reply Unchanged) tag q is = refl
-version-tagged (CallEvent session number call reply (Made commit)) tag q is = refl
-version-tagged (CallEvent session number call reply (Doubtful commit)) tag q is = refl
-version-tagged (Landed commit) tag q is = absurd (true≢false is)
-
-not-made : (event : Event) → HasMark Unchanged event → is_made event ≡ false
-not-made (CallEvent session number call reply Unchanged) is = refl
-not-made (CallEvent session number call reply (Made commit)) is = absurd (cc (is))
-not-made (CallEvent session number call reply (Doubtful commit)) is = refl
-not-made (Landed commit) is = refl
-
-module _ (mounted : Mounted) (records : List HistoryRecord) (r : HistoryRecord) (unchanged : HasMark Unchanged r.event) (right : HasRightTag mounted records r) where
-  abbrev after : List HistoryRecord
-  after = records ++ r ∷ []
-
-  doubt-left : (file generation : ℕ) → (version_of file generation mounted after).if_landed ≡ (version_of file generation mounted records).if_landed
-  doubt-left file generation =
-      let q = version_of file generation mounted records in
-      let b : Bool = concerns_object file generation r in
-      ap (λ (p : Pending (Option Version)). p.if_landed) (version-snoc file generation mounted records r)
-      ∙ elim (cases_Bool b) [
-        | inl own ↦ ap (λ (p : Pending (Option Version)). p.if_landed) (cond-true b (version_after r.event r.tag q) (settled_by r.event q) own) ∙ version-unchanged r.tag r.event q unchanged
-        | inr off ↦ ap (λ (p : Pending (Option Version)). p.if_landed) (cond-false b (version_after r.event r.tag q) (settled_by r.event q) off ∙ settled-unchanged r.event q unchanged)
-      ]
-
-  version-left : (file generation : ℕ) → has_entry file generation (directory_of mounted records).now ≡ true → (version_of file generation mounted after).now ≡ (version_of file generation mounted records).now
-  version-left file generation has =
-      let q = version_of file generation mounted records in
-      let b : Bool = concerns_object file generation r in
-      ap (λ (p : Pending (Option Version)). p.now) (version-snoc file generation mounted records r)
-      ∙ elim (cases_Bool b) [
-        | inl own ↦
-            let t = named_tag file generation r own in
-            let told = right t.0 t.1 in
-            let stays : t.0.committed ≡ given_version mounted records file generation =
-            told.stays (not-made r.event unchanged) ∙ (λ i. given_version mounted records (t.2 i) (t.3 i)) in
-            ap (λ (p : Pending (Option Version)). p.now) (cond-true b (version_after r.event r.tag q) (settled_by r.event q) own)
-            ∙ ap (λ (o : Option (Tag Version)). (version_after r.event o q).now) t.1
-            ∙ version-tagged r.event t.0 q told.on_a_call
-            ∙ stays ∙ given-there mounted records file generation has
-        | inr off ↦ ap (λ (p : Pending (Option Version)). p.now) (cond-false b (version_after r.event r.tag q) (settled_by r.event q) off ∙ settled-unchanged r.event q unchanged)
-      ]
-
-  given-left : (file generation : ℕ) → given_version mounted after file generation ≡ given_version mounted records file generation
-  given-left file generation =
-      let same : (has_entry file generation (directory_of mounted after).now) ≡ (has_entry file generation (directory_of mounted records).now) =
-      ap (λ (p : Pending (List Entry)). has_entry file generation p.now) (directory-unchanged mounted records r unchanged) in
-      elim (cases_Bool (has_entry file generation (directory_of mounted records).now)) [
-        | inl has ↦ given-there mounted after file generation (same ∙ has) ∙ version-left file generation has ∙ sym (given-there mounted records file generation has)
-        | inr none ↦
-            cond-false (has_entry file generation (directory_of mounted after).now) (version_of file generation mounted after).now None (same ∙ none)
-            ∙ sym (cond-false (has_entry file generation (directory_of mounted records).now) (version_of file generation mounted records).now None none)
-      ]
-
-  doubt-from : (z file generation : ℕ) → z ≤ length records → (version_from z file generation mounted after).if_landed ≡ (version_from z file generation mounted records).if_landed
-  doubt-from z file generation le =
-      ap (λ (p : Pending (Option Version)). p.if_landed) (open-snoc z records r (version_of file generation mounted after) (unchanged-settles r.event unchanged) le)
-      ∙ one (any_settles (drop z records)) (version_of file generation mounted after) (version_of file generation mounted records) (doubt-left file generation)
-    where
-      one : (b : Bool) (p q : Pending (Option Version)) → p.if_landed ≡ q.if_landed → (cond b p (dropped p)).if_landed ≡ (cond b q (dropped q)).if_landed
-      one true p q e = e
-      one false p q e = refl
-
-  pub unchanged-leaves : IsLeft mounted records after
-  unchanged-leaves = record { directory = directory-unchanged mounted records r unchanged; given = given-left; in_doubt = doubt-from }
+use Rattle.history_seats.proofs.GivenStays.{given-there, named_tag}
 
 module _ (file generation : ℕ) where
   -- an entry of the file's generation has a version, as it stands and as the doubt leaves it

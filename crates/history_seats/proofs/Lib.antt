@@ -17,6 +17,7 @@ pub mod Places
 pub mod LearnedDoubts
 pub mod OpenDoubts
 pub mod KnownEntries
+pub mod GivenStays
 pub mod GivenVersions
 pub mod OtherSessions
 pub mod SessionParts

@@ -1,5 +1,5 @@
 -- What commits, landings and other events do to the directory.
-use Rattle.std.specs.Prelude.{◌≡◌, ◌≤◌, ℕ, Bool, true, false, List, [], ◌∷◌, ◌++◌, length, Some, None, is_some}
+use Rattle.std.specs.Prelude.{◌≡◌, ◌≤◌, ℕ, Bool, true, false, List, [], ◌∷◌, ◌++◌, length, Some, None, is_some, if◌then◌else◌}
 use Rattle.tee_types.specs.declared.call.Call.{Call}
 use Rattle.tee_types.specs.declared.call.Call.TheVariants.{Create, Delete}
 use Rattle.tee_types.specs.declared.flags.Flags.{Flags}
@@ -7,14 +7,15 @@ use Rattle.tee_types.specs.declared.reply.Reply.{Reply}
 use Rattle.store_model.specs.declared.event.Event.TheVariants.{Call as CallEvent}
 use Rattle.store_model.specs.declared.event.Mark.TheVariants.{Unchanged, Made}
 use Rattle.store_model.specs.Record.{Tag}
-use Rattle.history_seats.specs.Records.{Version, HistoryRecord, concerns_object}
-use Rattle.history_seats.specs.Settling.{as_landed, HasMark, IsOpenDoubt}
+use Rattle.history_seats.specs.Records.{Version, HistoryRecord, concerns_object, is_object}
+use Rattle.history_seats.specs.Settling.{as_landed, is_doubtful, is_made, HasMark, IsOpenDoubt}
 use Rattle.history_seats.specs.Mounts.{Entry, Mounted}
 use Rattle.history_seats.specs.Versions.{version_of}
 use Rattle.history_seats.specs.Directory.{directory_of, entries_committed, has_entry, given_version}
 use Rattle.history_seats.specs.Tags.{HasRightTag}
 use Rattle.history_seats.specs.Known.{version_from}
 use Rattle.history_seats.specs.Views.{GateView}
+use Rattle.history_seats.specs.Changes.{landing_of}
 use Rattle.history_seats.specs.Rule.{IsSound}
 
 -- A landing brings no entry of a file's generation that its doubt does not name.
@@ -71,3 +72,35 @@ CreatesNameVersions =
       event = CallEvent session number (Create id flags attributes bytes) reply (Made commit);
       tag = Some (record { file = file; generation = generation; committed = Some version; doubted = None });
     })
+
+-- What is given after a commit was made under that tag: for its own file and generation the version that it names, for others what was
+-- given, where their entry stays. Nothing is in doubt then.
+pub record GivesMade (mounted : Mounted) (before after : List HistoryRecord) (tag : Tag Version) : Type 0 where
+  pub own : given_version mounted after tag.file tag.generation ≡ tag.committed
+  pub others : (file generation : ℕ) → is_object file generation (Some tag) ≡ false
+      → given_version mounted after file generation
+      ≡ (if has_entry file generation (directory_of mounted after).now then given_version mounted before file generation else None)
+  pub in_doubt : (file generation : ℕ) → (version_of file generation mounted after).if_landed ≡ None
+
+abbrev pub MadeCommitsGive : Type 0
+MadeCommitsGive =
+    (mounted : Mounted) (before : List HistoryRecord) (r : HistoryRecord) (tag : Tag Version) → r.tag ≡ Some tag → HasRightTag mounted before r
+    → is_made r.event ≡ true → GivesMade mounted before (before ++ r ∷ []) tag
+
+-- What is given after a commit in doubt under that tag: what was given. Only for its own file and generation a version is in doubt.
+pub record GivesInDoubt (mounted : Mounted) (before after : List HistoryRecord) (tag : Tag Version) : Type 0 where
+  pub given : (file generation : ℕ) → given_version mounted after file generation ≡ given_version mounted before file generation
+  pub own : (version_of tag.file tag.generation mounted after).if_landed ≡ Some tag.doubted
+  pub others : (file generation : ℕ) → is_object file generation (Some tag) ≡ false → (version_of file generation mounted after).if_landed ≡ None
+
+abbrev pub DoubtfulCommitsGive : Type 0
+DoubtfulCommitsGive =
+    (mounted : Mounted) (before : List HistoryRecord) (r : HistoryRecord) (tag : Tag Version) → r.tag ≡ Some tag → HasRightTag mounted before r
+    → is_doubtful r.event ≡ true → GivesInDoubt mounted before (before ++ r ∷ []) tag
+
+-- What is given once the doubt landed: where the landed directory has an entry, the version that the doubt leaves, or that stood.
+abbrev pub LandingsGive : Type 0
+LandingsGive =
+    (mounted : Mounted) (before : List HistoryRecord) (commit file generation : ℕ)
+    → given_version mounted (before ++ landing_of commit ∷ []) file generation
+    ≡ (if has_entry file generation (as_landed (directory_of mounted before)).now then (as_landed (version_of file generation mounted before)).now else None)

@@ -2,7 +2,7 @@
 
 ghost use Rattle.history_seats.specs.VersionLaws.{LastTagsDecide, SlotsTellVersions, SlotsTellGiven, SlotsKnowEntries, CalmVersionsStay};
 ghost use Rattle.history_seats.specs.DoubtLaws.{DoubtsOpen, DoubtsStayOpen, ReplayedDoubtsAreOpen, DroppedDoubtsStay, DoubtsAreLearned};
-ghost use Rattle.history_seats.specs.EntryLaws.{LandingsBringNamed, EntriesHaveVersions, UnchangedEventsLeave, CommitsMoveEntries, CreatesNameVersions};
+ghost use Rattle.history_seats.specs.EntryLaws.{LandingsBringNamed, EntriesHaveVersions, UnchangedEventsLeave, MadeCommitsGive, DoubtfulCommitsGive, LandingsGive, CommitsMoveEntries, CreatesNameVersions};
 ghost use Rattle.history_seats.specs.SessionLaws.{PassesTellCounts, PassesTellSessions, CalmSessionsStay, LegalLandingsAreDue};
 
 /// The last record whose tag names a file's generation decides their version, up to the event that settles its doubt.
@@ -70,6 +70,21 @@ pub fn entries_have_versions()
 /// An event with mark Unchanged leaves the directory, what is given and what is left in doubt.
 pub fn unchanged_events_leave()
     ensures { UnchangedEventsLeave }
+{}
+
+/// A commit that is made gives the version that its tag names, and leaves the others' where their entry stays.
+pub fn made_commits_give()
+    ensures { MadeCommitsGive }
+{}
+
+/// A commit in doubt leaves what is given, and leaves the version of its tag in doubt.
+pub fn doubtful_commits_give()
+    ensures { DoubtfulCommitsGive }
+{}
+
+/// A landing gives what the doubt left, where the directory then has an entry.
+pub fn landings_give()
+    ensures { LandingsGive }
 {}
 
 /// A commit's tag has an entry after a create, none after a delete, and else where it had one.

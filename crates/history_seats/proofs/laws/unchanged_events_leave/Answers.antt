@@ -1,4 +1,4 @@
-use Rattle.history_seats.proofs.GivenVersions.{unchanged-leaves}
+use Rattle.history_seats.proofs.GivenStays.{unchanged-leaves}
 use Rattle.history_seats.proofs.laws.unchanged_events_leave.Goals as goal
 
 pub returns : goal.returns
