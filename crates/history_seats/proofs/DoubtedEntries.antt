@@ -18,7 +18,7 @@ use Rattle.history_seats.specs.Mounts.{Entry, Mounted}
 use Rattle.history_seats.specs.Settling.{Pending, IsOpenDoubt, as_landed, settled_by, settles}
 use Rattle.history_seats.specs.Versions.{is_entry_of, version_after, version_next, version_of, mounted_version}
 use Rattle.history_seats.specs.Directory.{directory_of, entries_after, entries_committed, entries_next, entries_tagged, has_entry, mounted_entries, renamed, with_name}
-use Rattle.history_seats.specs.EntryLaws.{is_there_after}
+use Rattle.history_seats.specs.CommitLaws.{is_there_after}
 use Rattle.history_seats.proofs.Doubts.{marked-settles}
 use Rattle.history_seats.proofs.Lists.{both_true, neither, or_false, or_left}
 

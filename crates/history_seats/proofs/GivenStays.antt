@@ -15,7 +15,8 @@ use Rattle.history_seats.specs.Directory.{directory_of, entries_after, given_ver
 use Rattle.history_seats.specs.Tags.{HasRightTag}
 use Rattle.history_seats.specs.Changes.{landing_of}
 use Rattle.history_seats.specs.Known.{version_from}
-use Rattle.history_seats.specs.EntryLaws.{GivesInDoubt, GivesMade, IsLeft}
+use Rattle.history_seats.specs.EntryLaws.{IsLeft}
+use Rattle.history_seats.specs.CommitLaws.{GivesInDoubt, GivesMade}
 use Rattle.history_seats.proofs.Lists.{and_parts, both_true}
 use Rattle.history_seats.proofs.Givens.{directory-snoc, version-snoc}
 use Rattle.history_seats.proofs.OpenDoubts.{unchanged-settles}

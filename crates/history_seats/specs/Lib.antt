@@ -14,4 +14,5 @@ pub mod Known
 pub mod DoubtLaws
 pub mod VersionLaws
 pub mod EntryLaws
+pub mod CommitLaws
 pub mod SessionLaws

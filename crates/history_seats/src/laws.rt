@@ -2,7 +2,8 @@
 
 ghost use Rattle.history_seats.specs.VersionLaws.{LastTagsDecide, SlotsTellVersions, SlotsTellGiven, SlotsKnowEntries, CalmVersionsStay};
 ghost use Rattle.history_seats.specs.DoubtLaws.{DoubtsOpen, DoubtsStayOpen, ReplayedDoubtsAreOpen, DroppedDoubtsStay, DoubtsAreLearned};
-ghost use Rattle.history_seats.specs.EntryLaws.{LandingsBringNamed, EntriesHaveVersions, UnchangedEventsLeave, MadeCommitsGive, DoubtfulCommitsGive, LandingsGive, CommitsMoveEntries, CreatesNameVersions};
+ghost use Rattle.history_seats.specs.EntryLaws.{LandingsBringNamed, EntriesHaveVersions, UnchangedEventsLeave};
+ghost use Rattle.history_seats.specs.CommitLaws.{MadeCommitsGive, DoubtfulCommitsGive, LandingsGive, CommitsMoveEntries, CreatesNameVersions};
 ghost use Rattle.history_seats.specs.SessionLaws.{PassesTellCounts, PassesTellSessions, CalmSessionsStay, LegalLandingsAreDue};
 
 /// The last record whose tag names a file's generation decides their version, up to the event that settles its doubt.
