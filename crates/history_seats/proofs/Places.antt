@@ -124,6 +124,16 @@ open-dropped z records p = one (any_settles (drop z records))
     one true = refl
     one false = refl
 
+-- from the end on nothing is open
+none-behind : (z : ℕ) (records : List HistoryRecord) → length records ≤ z → any_settles (drop z records) ≡ false
+none-behind zero [] le = refl
+none-behind zero (x ∷ records) le = absurd (omega (arith, le))
+none-behind (suc z) [] le = refl
+none-behind (suc z) (x ∷ records) le = none-behind z records (omega (arith, le))
+
+pub open-end : {X : Type 0} (z : ℕ) (records : List HistoryRecord) (p : Pending X) → length records ≤ z → open_from z records p ≡ calm p.now
+open-end z records p le = cond-false (any_settles (drop z records)) p (dropped p) (none-behind z records le)
+
 -- an event that does not settle, behind the others, leaves what is open from a place of theirs
 any-snoc : (z : ℕ) (records : List HistoryRecord) (r : HistoryRecord) → settles r.event ≡ false → z ≤ length records → any_settles (drop z (records ++ r ∷ [])) ≡ any_settles (drop z records)
 any-snoc zero [] r off le = rw off refl
