@@ -136,7 +136,7 @@ module _ (s : MachineState) (i : ℕ) where
   abbrev IsDue : Call → Type 0
   IsDue call = is_commit s i call (reply_of s i call) ≡ true
 
-  put-left : (id : List ℕ) (flags : Flags) (attributes bytes : List ℕ) → IsDue (Create id flags attributes bytes)
+  pub put-left : (id : List ℕ) (flags : Flags) (attributes bytes : List ℕ) → IsDue (Create id flags attributes bytes)
       → (state_after s i (Create id flags attributes bytes)).objects ≡ with_object s.objects (name_in s i id) (Sound (record { attributes = attributes; bytes = bytes; bad = [] }))
   put-left id flags attributes bytes due =
       let made = commits_make_changes s i (Create id flags attributes bytes) due in
@@ -156,7 +156,7 @@ module _ (s : MachineState) (i : ℕ) where
     pub has : HasContents s i number name object change
     pub leaves : left ≡ changed_object s.objects name object
 
-  write-left : (number : ℕ) (bytes : List ℕ) → IsDue (Write number bytes)
+  pub write-left : (number : ℕ) (bytes : List ℕ) → IsDue (Write number bytes)
       → ChangedBy number (λ live old. written_contents old live.position bytes) (state_after s i (Write number bytes)).objects
   write-left number bytes due = let made = commits_make_changes s i (Write number bytes) due in one made.0 (made.1).makes (made.1).leaves
     where
@@ -167,7 +167,7 @@ module _ (s : MachineState) (i : ℕ) where
       one (Move old new) makes leaves = absurd makes
       one (Remove name) makes leaves = absurd makes
 
-  truncate-left : (number size : ℕ) → IsDue (Truncate number size)
+  pub truncate-left : (number size : ℕ) → IsDue (Truncate number size)
       → ChangedBy number (λ live old. resized_contents old size) (state_after s i (Truncate number size)).objects
   truncate-left number size due = let made = commits_make_changes s i (Truncate number size) due in one made.0 (made.1).makes (made.1).leaves
     where
@@ -185,7 +185,7 @@ module _ (s : MachineState) (i : ℕ) where
     pub free : holds s.objects new ≡ false
     pub leaves : left ≡ moved_object s.objects handle.name new
 
-  rename-left : (number : ℕ) (id : List ℕ) → IsDue (Rename number id) → MovedBy number (name_in s i id) (state_after s i (Rename number id)).objects
+  pub rename-left : (number : ℕ) (id : List ℕ) → IsDue (Rename number id) → MovedBy number (name_in s i id) (state_after s i (Rename number id)).objects
   rename-left number id due = let made = commits_make_changes s i (Rename number id) due in one made.0 (made.1).makes (made.1).leaves
     where
       one : (change : MapChange) → MakesChange s i (Rename number id) change → (state_after s i (Rename number id)).objects ≡ changed_map change s.objects
@@ -205,7 +205,7 @@ module _ (s : MachineState) (i : ℕ) where
     pub live : handle_at (session_at s i) number ≡ Some handle
     pub leaves : left ≡ without_object s.objects handle.name
 
-  delete-left : (number : ℕ) → IsDue (Delete number) → RemovedBy number (state_after s i (Delete number)).objects
+  pub delete-left : (number : ℕ) → IsDue (Delete number) → RemovedBy number (state_after s i (Delete number)).objects
   delete-left number due = let made = commits_make_changes s i (Delete number) due in one made.0 (made.1).makes (made.1).leaves
     where
       one : (change : MapChange) → MakesChange s i (Delete number) change → (state_after s i (Delete number)).objects ≡ changed_map change s.objects → RemovedBy number (state_after s i (Delete number)).objects
@@ -242,7 +242,7 @@ done-unread meant c due unread = elim meant as (λ (m : Reply). (is_done m && c)
   | _ ↦ λ d u. true≢false u
 ] due unread
 
-and-right : (a c : Bool) → (a && c) ≡ true → c ≡ true
+pub and-right : (a c : Bool) → (a && c) ≡ true → c ≡ true
 and-right true c is = is
 and-right false c is = absurd (true≢false (sym is))
 

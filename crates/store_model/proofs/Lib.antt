@@ -17,3 +17,5 @@ pub mod CloseCommits
 pub mod EventSteps
 pub mod LegalSteps
 pub mod Prefixes
+pub mod KeptMaps
+pub mod LeastNames

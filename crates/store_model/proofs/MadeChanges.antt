@@ -1,5 +1,5 @@
 -- The commit of a call makes the change of the map that the call names.
-use Rattle.std.proofs.Common.{◌≡◌, ℕ, Bool, true, false, List, [], ◌∷◌, length, Option, Some, None, cond, refl, sym, subst, ◌∙◌, true≢false, arith, ne_eqb}
+use Rattle.std.proofs.Common.{◌≡◌, ℕ, Bool, true, false, List, [], ◌∷◌, length, Option, Some, None, cond, refl, sym, ap, subst, ◌∙◌, true≢false, arith, ne_eqb}
 use Rattle.std.specs.Prelude.{◌==◌}
 use Rattle.std.proofs.lemmas.Bool.{cond-false}
 use Rattle.tee_types.specs.Rights.{has, write_bit, write_meta_bit}
@@ -12,11 +12,11 @@ use Rattle.tee_types.specs.declared.reply.Code.TheVariants.{AccessConflict}
 use Rattle.tee_types.specs.declared.reply.Reason.TheVariants.{BadHandle, NoRight}
 use Rattle.store_model.specs.declared.session.Handle.{Handle}
 use Rattle.store_model.specs.Object.{Object, ObjectMap, Contents, Sound, Damaged, holds, object_at}
-use Rattle.store_model.specs.Machine.{MachineState, Outcome, by_right, handle_at, name_in, of_sound, refuse, session_at, unless_refused}
+use Rattle.store_model.specs.Machine.{MachineState, Outcome, by_right, first_refusal, handle_at, name_in, of_sound, refuse, session_at, unless_refused}
 use Rattle.store_model.specs.Handles.{create_of, create_refusals}
 use Rattle.store_model.specs.Data.{resized_contents, truncate_from, truncate_of, truncate_refusals, write_from, write_of, write_refusals, written_contents}
 use Rattle.store_model.specs.Naming.{delete_of, rename_of}
-use Rattle.store_model.specs.Calls.{is_commit, outcome_of}
+use Rattle.store_model.specs.Calls.{is_commit, outcome_of, reply_of}
 use Rattle.store_model.specs.Makes.{MapChange, changed_map, MakesChange, CommitsMakeChanges}
 use Rattle.store_model.specs.Makes.MapChange.{Put, Change, Move, Remove}
 
@@ -33,8 +33,8 @@ module _ (s : MachineState) (commit : Reply → Bool) (P : ObjectMap → Type 0)
   left-refused : (reply : Reply) → commit reply ≡ false → LeavesMap s commit P (refuse s reply)
   left-refused reply none = record { left = λ made. absurd (true≢false (sym made ∙ none)) }
 
-  left-unless : (rows : List (Bool × Reply)) (done : Outcome) → NoCommits commit rows → LeavesMap s commit P done → LeavesMap s commit P (unless_refused rows s done)
-  left-unless [] done none q = q
+  left-unless : (rows : List (Bool × Reply)) (done : Outcome) → NoCommits commit rows → (first_refusal rows ≡ None → LeavesMap s commit P done) → LeavesMap s commit P (unless_refused rows s done)
+  left-unless [] done none q = q refl
   left-unless ((true, reply) ∷ rows) done none q = left-refused reply none.0
   left-unless ((false, reply) ∷ rows) done none q = left-unless rows done none.1 q
 
@@ -58,9 +58,25 @@ module _ (s : MachineState) (commit : Reply → Bool) (P : ObjectMap → Type 0)
   left-sound (Some (Damaged n)) done bad corrupt q = left-refused Corrupt corrupt
   left-sound (Some (Sound c)) done bad corrupt q = q c refl
 
+-- no row of the call's refused it
+abbrev pub Unrefused : MachineState → ℕ → Call → Type 0
+Unrefused s i (Create id flags attributes bytes) = first_refusal (create_refusals s i (name_in s i id) flags attributes bytes) ≡ None
+Unrefused s i (Write number bytes) =
+    (h : Handle) (c : Contents) → handle_at (session_at s i) number ≡ Some h → object_at s.objects h.name ≡ Some (Sound c) → first_refusal (write_refusals c h.position (length bytes)) ≡ None
+Unrefused s i (Truncate number size) =
+    (h : Handle) (c : Contents) → handle_at (session_at s i) number ≡ Some h → object_at s.objects h.name ≡ Some (Sound c) → first_refusal (truncate_refusals c size) ≡ None
+Unrefused s i _ = Unit {0}
+
 -- the map is what a change of the call leaves
 abbrev IsLeft : MachineState → ℕ → Call → ObjectMap → Type 0
-IsLeft s i call objects = (change : MapChange) × MakesChange s i call change × (objects ≡ changed_map change s.objects)
+IsLeft s i call objects = (change : MapChange) × MakesChange s i call change × (objects ≡ changed_map change s.objects) × Unrefused s i call
+
+-- a handle and its object are one
+one_handle : (o : Option Handle) (h k : Handle) → o ≡ Some h → o ≡ Some k → h ≡ k
+one_handle o h k a c = let both : Some h ≡ Some k = sym a ∙ c in cc (both)
+
+one_object : (o : Option Object) (c d : Contents) → o ≡ Some (Sound c) → o ≡ Some (Sound d) → c ≡ d
+one_object o c d a e = let both : Some (Sound c) ≡ Some (Sound d) = sym a ∙ e in cc (both)
 
 abbrev Leaves : MachineState → ℕ → Call → Type 0
 Leaves s i call = LeavesMap s (is_commit s i call) (IsLeft s i call) (outcome_of s i call)
@@ -70,7 +86,7 @@ unfolding create_of
 create_leaves s i id flags attributes bytes =
     let call : Call = Create id flags attributes bytes in
     left-unless s (is_commit s i call) (IsLeft s i call) (create_refusals s i (name_in s i id) flags attributes bytes) _ (refl, (refl, (refl, (refl, (refl, (refl, tt))))))
-    (record { left = λ _. (Put (name_in s i id) (Sound (record { attributes = attributes; bytes = bytes; bad = [] })), (refl, refl), refl) })
+    (λ unrefused. record { left = λ _. (Put (name_in s i id) (Sound (record { attributes = attributes; bytes = bytes; bad = [] })), (refl, refl), refl, unrefused) })
 
 -- a write of some bytes, by the handle
 written : (s : MachineState) (i handle : ℕ) (bytes : List ℕ) (h : Handle) → handle_at (session_at s i) handle ≡ Some h
@@ -84,11 +100,15 @@ written s i handle (x ∷ more) h is =
     (sym (cond-false (length (x ∷ more) == 0) (record { reply = Done; next = s }) (of_sound s (object_at s.objects h.name) (write_from s i handle (x ∷ more) h)) some_))
     (left-sound s (is_commit s i call) (IsLeft s i call) (object_at s.objects h.name) (write_from s i handle (x ∷ more) h) refl refl
     (λ c found. left-unless s (is_commit s i call) (IsLeft s i call) (write_refusals c h.position (length (x ∷ more))) _ (refl, (refl, (refl, tt)))
-    (record {
+    (λ unrefused. record {
       left = λ _. (
         Change h.name (Sound (written_contents c h.position (x ∷ more))),
         record { handle = h; live = is; named = refl; old = c; was = found; is = refl },
         refl,
+        (λ k d is_k found_k.
+            let same : h ≡ k = one_handle (handle_at (session_at s i) handle) h k is is_k in
+            let old : c ≡ d = one_object (object_at s.objects h.name) c d found (ap (λ (n : Handle). object_at s.objects n.name) same ∙ found_k) in
+            (λ j. first_refusal (write_refusals (sym old j) ((sym same j).position) (length (x ∷ more)))) ∙ unrefused),
       );
     })))
 
@@ -106,11 +126,15 @@ truncate_leaves s i handle size =
     left-right s (is_commit s i call) (IsLeft s i call) write_bit (handle_at (session_at s i) handle) (λ h. of_sound s (object_at s.objects h.name) (truncate_from s size h)) refl refl
     (λ h is. left-sound s (is_commit s i call) (IsLeft s i call) (object_at s.objects h.name) (truncate_from s size h) refl refl
     (λ c found. left-unless s (is_commit s i call) (IsLeft s i call) (truncate_refusals c size) _ (refl, (refl, tt))
-    (record {
+    (λ unrefused. record {
       left = λ _. (
         Change h.name (Sound (resized_contents c size)),
         record { handle = h; live = is; named = refl; old = c; was = found; is = refl },
         refl,
+        (λ k d is_k found_k.
+            let same : h ≡ k = one_handle (handle_at (session_at s i) handle) h k is is_k in
+            let old : c ≡ d = one_object (object_at s.objects h.name) c d found (ap (λ (n : Handle). object_at s.objects n.name) same ∙ found_k) in
+            ap (λ (x : Contents). first_refusal (truncate_refusals x size)) (sym old) ∙ unrefused),
       );
     })))
 
@@ -120,13 +144,13 @@ rename_leaves s i handle id =
     let call : Call = Rename handle id in
     left-right s (is_commit s i call) (IsLeft s i call) write_meta_bit (handle_at (session_at s i) handle) _ refl refl
     (λ h is. left-free s (is_commit s i call) (IsLeft s i call) (holds s.objects (name_in s i id)) _ refl
-    (λ free. record { left = λ _. (Move h.name (name_in s i id), (record { handle = h; live = is; named = refl }, refl, free), refl) }))
+    (λ free. record { left = λ _. (Move h.name (name_in s i id), (record { handle = h; live = is; named = refl }, refl, free), refl, tt) }))
 
 delete_leaves : (s : MachineState) (i handle : ℕ) → Leaves s i (Delete handle)
 unfolding delete_of
 delete_leaves s i handle =
     left-right s (is_commit s i (Delete handle)) (IsLeft s i (Delete handle)) write_meta_bit (handle_at (session_at s i) handle) _ refl refl
-    (λ h is. record { left = λ _. (Remove h.name, record { handle = h; live = is; named = refl }, refl) })
+    (λ h is. record { left = λ _. (Remove h.name, record { handle = h; live = is; named = refl }, refl, tt) })
 
 -- no other call is a commit
 leaves : (s : MachineState) (i : ℕ) (call : Call) → Leaves s i call
@@ -136,6 +160,9 @@ leaves s i (Truncate handle size) = truncate_leaves s i handle size
 leaves s i (Rename handle id) = rename_leaves s i handle id
 leaves s i (Delete handle) = delete_leaves s i handle
 leaves s i _ = record { left = λ made. absurd (true≢false (sym made)) }
+
+pub unrefused : (s : MachineState) (i : ℕ) (call : Call) → is_commit s i call (reply_of s i call) ≡ true → Unrefused s i call
+unrefused s i call commit = ((leaves s i call).left commit).3
 
 pub commits_make_changes : CommitsMakeChanges
 commits_make_changes s i call commit =

@@ -1,5 +1,5 @@
 -- No call makes a session or ends one, or changes whose it is.
-use Rattle.std.proofs.Common.{◌≡◌, ◌==◌, ℕ, Bool, List, [], ◌∷◌, length, slice_set, slice_index_or, suc, zero, ap, sym, true, false, cond, not, ◌+◌, pos, ◌+ℤ◌, int_lt, Option, Some, None, refl, ◌∙◌}
+use Rattle.std.proofs.Common.{◌≡◌, ◌==◌, ℕ, Bool, List, [], ◌∷◌, length, slice_set, slice_index_or, suc, zero, ap, sym, true, false, cond, not, ◌+◌, pos, ◌+ℤ◌, int_lt, Option, Some, None, refl, ◌∙◌, ◌++◌, length-set}
 use Rattle.std.specs.List.{list_any}
 use Rattle.std.proofs.lemmas.List.{length-map}
 use Rattle.tee_types.specs.declared.call.Call.{Call}
@@ -14,6 +14,15 @@ use Rattle.enumerators.specs.declared.cursor.Cursor.{Cursor}
 use Rattle.enumerators.specs.Enumeration.{cursor_at, has_all, reset}
 use Rattle.store_model.specs.declared.session.Handle.{Handle}
 use Rattle.store_model.specs.Object.{Object, Contents, Sound, Damaged, object_at, size_at, holds}
+use Rattle.store_model.specs.declared.event.Event.{Event}
+use Rattle.store_model.specs.declared.event.Event.TheVariants.{Call as CallEvent, Landed}
+use Rattle.store_model.specs.declared.event.Mark.{Mark}
+use Rattle.store_model.specs.declared.event.Mark.TheVariants.{Unchanged, Made, Doubtful}
+use Rattle.store_model.specs.Record.{Record, file_of}
+use Rattle.store_model.specs.Doubt.{Doubt, session_landed}
+use Rattle.store_model.specs.Standing.{Standing, is_undone, standing_after_call, standing_landed, standing_after, replay}
+use Rattle.store_model.specs.Legal.{IsLegalFrom}
+use Rattle.store_model.specs.Laws.{SessionsStay}
 use Rattle.store_model.specs.Machine.{MachineState, Outcome, Session, applications, new_session, session_at, name_in, handle_at, unless_refused, first_refusal, refuse, by_handle, by_right, of_sound}
 use Rattle.store_model.specs.Handles.{create_of, open_of, close_of, create_refusals, open_refusals}
 use Rattle.store_model.specs.Data.{read_of, meets_block, bytes_at, write_of, write_refusals, truncate_of, truncate_refusals, seek_of, seek_base, info_of}
@@ -96,3 +105,37 @@ pub length-sessions : (s : MachineState) (i : ℕ) (call : Call) → length (sta
 length-sessions s i call =
     sym (length-map (state_after s i call).sessions (λ session. session.application)) ∙ ap length (applications-sessions s i call)
     ∙ length-map s.sessions (λ session. session.application)
+
+-- no event makes a session or ends one
+undone-length : (s : MachineState) (j : ℕ) (call : Call) (b : Bool) → length (elim b as (λ _. MachineState) [ true ↦ s | false ↦ state_after s j call ]).sessions ≡ length s.sessions
+undone-length s j call true = refl
+undone-length s j call false = length-sessions s j call
+
+pub length-after : (s : Standing) (event : Event) (file : Option ℕ) → length ((standing_after s event file).state).sessions ≡ length (s.state).sessions
+length-after s (CallEvent j number call reply mark) file = marked mark
+  where
+    marked : (m : Mark) → length ((standing_after_call s j call reply m file).state).sessions ≡ length (s.state).sessions
+    marked Unchanged = undone-length s.state j call (is_undone reply)
+    marked (Made commit) = length-sessions s.state j call
+    marked (Doubtful commit) = refl
+length-after s (Landed commit) file = one s.doubt
+  where
+    one : (o : Option Doubt) → length ((standing_landed s o).state).sessions ≡ length (s.state).sessions
+    one None = refl
+    one (Some doubt) = length-set (s.state).sessions doubt.session (session_landed s.state doubt.session doubt.call)
+
+pub length-replay : {Root : Type 0} (s : Standing) (records : List (Record Root)) → length ((replay s records).state).sessions ≡ length (s.state).sessions
+length-replay s [] = refl
+length-replay s (r ∷ records) = length-replay (standing_after s r.event (file_of r)) records ∙ length-after s r.event (file_of r)
+
+-- the replay and the legality of one record more
+pub replay-append : {Root : Type 0} (s : Standing) (xs ys : List (Record Root)) → replay s (xs ++ ys) ≡ replay (replay s xs) ys
+replay-append s [] ys = refl
+replay-append s (x ∷ xs) ys = replay-append (standing_after s x.event (file_of x)) xs ys
+
+pub legal-append : {Root : Type 0} (dishonest : List ℕ) (s : Standing) (xs ys : List (Record Root)) → IsLegalFrom dishonest s xs → IsLegalFrom dishonest (replay s xs) ys → IsLegalFrom dishonest s (xs ++ ys)
+legal-append dishonest s [] ys front back = back
+legal-append dishonest s (x ∷ xs) ys front back = (front.0, legal-append dishonest (standing_after s x.event (file_of x)) xs ys front.1 back)
+
+pub sessions_stay : (Root : Type 0) → SessionsStay Root
+sessions_stay Root s records = length-replay s records

@@ -1,6 +1,6 @@
 -- What an object and a map of objects are, and which calls are well formed: bytes are below 256, and all is within the limits
 -- (TEE Internal Core API, Trusted Storage: an identifier has up to TEE_OBJECT_ID_MAX_LEN bytes).
-use Rattle.std.specs.Prelude.{◌≡◌, ℕ, ◌≤◌, ◌<◌, List, length, All, Contains, slice_index}
+use Rattle.std.specs.Prelude.{◌≡◌, ℕ, ◌≤◌, ◌<◌, List, length, All, slice_index}
 use Rattle.std.specs.List.Sorted.{IsStrictlySortedBy}
 use Rattle.std.specs.Map.{keys_of}
 use Rattle.std.specs.Ordering.{nat_cmp}
@@ -14,18 +14,20 @@ use Rattle.store_model.specs.Object.{Object, Contents, Sound, Damaged, ObjectMap
 abbrev pub AreBytes : List ℕ → Type 0
 AreBytes bytes = All (λ byte. byte < 256) bytes
 
+-- A bad block of an object with these bytes: it is one of its blocks, and its bytes stand as zero.
+pub record IsBadBlock (bytes : List ℕ) (k : ℕ) : Type 0 where
+  pub numbered : 1 ≤ k
+  pub within : block_start k < length bytes
+  pub zero : (place : ℕ) → block_start k ≤ place → place < block_end k → slice_index bytes place ≡ 0
+
 -- The contents of a sound object.
 pub record AreContents (c : Contents) : Type 0 where
   pub attributes : AreBytes c.attributes
   pub attributes_fit : length c.attributes ≤ most_attribute_bytes
   pub bytes : AreBytes c.bytes
   pub bytes_fit : length c.bytes ≤ most_data_bytes
-  -- the bad blocks are blocks of the object, in rising order
   pub bad_rising : IsStrictlySortedBy nat_cmp c.bad
-  pub bad_first : All (λ k. 1 ≤ k) c.bad
-  pub bad_within : All (λ k. block_start k < length c.bytes) c.bad
-  -- the bytes of a bad block stand as zero
-  pub bad_zero : (k place : ℕ) → Contains c.bad k → block_start k ≤ place → place < block_end k → slice_index c.bytes place ≡ 0
+  pub bad : All (IsBadBlock c.bytes) c.bad
 
 abbrev pub IsObject : Object → Type 0
 IsObject (Sound c) = AreContents c

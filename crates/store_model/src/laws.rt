@@ -2,7 +2,7 @@
 
 ghost use Rattle.store_model.specs.Refusal.{RefusalsChangeNothing, RepliesNameNoDevice};
 ghost use Rattle.store_model.specs.Makes.{CommitsMakeChanges};
-ghost use Rattle.store_model.specs.Laws.{PrefixesAreLegal, OthersKeepMaps, UnchangedMapsStay};
+ghost use Rattle.store_model.specs.Laws.{PrefixesAreLegal, CallsKeepMaps, OthersKeepMaps, UnchangedMapsStay, SessionsStay, EnumeratorsGiveTheLeast};
 
 /// A refused call changes nothing: no object, handle, position or enumerator, and no number of a next one. A start that finds no object
 /// leaves its enumerator not started.
@@ -38,4 +38,20 @@ pub fn commits_make_changes()
 #[tactic(auto, using(crate::proofs::Prefixes::prefixes_are_legal))]
 pub fn prefixes_are_legal<Root>()
     ensures { PrefixesAreLegal Root }
+{}
+
+/// A well formed call leaves a map of objects.
+pub fn calls_keep_maps()
+    ensures { CallsKeepMaps }
+{}
+
+/// A replay keeps the number of sessions.
+#[tactic(auto, using(crate::proofs::Sessions::sessions_stay))]
+pub fn sessions_stay<Root>()
+    ensures { SessionsStay Root }
+{}
+
+/// An enumerator gives the least name above the last one given.
+pub fn enumerators_give_the_least()
+    ensures { EnumeratorsGiveTheLeast }
 {}
