@@ -1,5 +1,5 @@
 -- What a pass's view tells of its session after the whole history.
-use Rattle.std.proofs.Common.{◌≡◌, ◌≢◌, ◌⊎◌, ◌<◌, ◌==◌, ℕ, List, [], ◌∷◌, ◌++◌, length, Bool, true, false, true≢false, cond, Option, Some, None, refl, sym, ap, ◌∙◌, subst, inl, inr, ⊎_elim, eq-eqb, arith, length-set}
+use Rattle.std.proofs.Common.{◌≡◌, ◌≢◌, ◌⊎◌, ◌<◌, ◌==◌, ℕ, List, [], ◌∷◌, ◌++◌, length, Bool, true, false, true≢false, cond, Option, Some, None, refl, sym, ap, ◌∙◌, subst, inl, inr, ⊎_elim, eq-eqb, arith}
 use Rattle.std.proofs.lemmas.Bool.{cond-true, cond-false}
 use Rattle.std.proofs.lemmas.Bool.Decides.{eqb_tells}
 use Rattle.std.proofs.lemmas.List.{get_or-set_same, get_or-set_other}
@@ -19,7 +19,7 @@ use Rattle.store_model.specs.Calls.{state_after}
 use Rattle.store_model.specs.Record.{file_of}
 use Rattle.store_model.specs.Standing.{Standing, is_undone, keeps_doubt, doubt_after, state_unless_undone, standing_after_call, standing_landed, standing_after, replay}
 use Rattle.store_model.specs.Legal.{IsLegalEvent, IsLegalFrom}
-use Rattle.store_model.proofs.Sessions.{length-sessions}
+use Rattle.store_model.proofs.Sessions.{length-after, length-replay}
 use Rattle.history_seats.specs.Records.{HistoryRecord, IsUpToDate, is_event_of, is_of_session}
 use Rattle.history_seats.specs.Settling.{Pending, as_landed, calm, dropped, is_doubtful, is_landing, open_from, settled_by, settles, settling, settled}
 use Rattle.history_seats.specs.Sessions.{session_if_landed, session_of}
@@ -117,24 +117,6 @@ other-step : (i : ℕ) (s : Standing) (event : Event) (file : Option ℕ) → i 
 other-step i s (CallEvent j number call reply mark) file range off = call-step i j number s call reply mark file off (λ q. true≢false (sym (eq-eqb j i (sym q)) ∙ off))
 other-step i s (Landed commit) file range off = Settled (landing-part i s s.doubt refl range)
 
--- no event makes a session or ends one
-undone-length : (s : MachineState) (j : ℕ) (call : Call) (b : Bool) → length (elim b as (λ _. MachineState) [ true ↦ s | false ↦ state_after s j call ]).sessions ≡ length s.sessions
-undone-length s j call true = refl
-undone-length s j call false = length-sessions s j call
-
-length-after : (s : Standing) (event : Event) (file : Option ℕ) → length (standing_after s event file).state.sessions ≡ length s.state.sessions
-length-after s (CallEvent j number call reply mark) file = marked mark
-  where
-    marked : (m : Mark) → length (standing_after_call s j call reply m file).state.sessions ≡ length s.state.sessions
-    marked Unchanged = undone-length s.state j call (is_undone reply)
-    marked (Made commit) = length-sessions s.state j call
-    marked (Doubtful commit) = refl
-length-after s (Landed commit) file = one s.doubt
-  where
-    one : (o : Option Doubt) → length (standing_landed s o).state.sessions ≡ length s.state.sessions
-    one None = refl
-    one (Some doubt) = length-set s.state.sessions doubt.session (session_landed s.state doubt.session doubt.call)
-
 abbrev next : Standing → HistoryRecord → Standing
 next s r = standing_after s r.event (file_of r)
 
@@ -145,10 +127,6 @@ replay-fold s (r ∷ records) = replay-fold (next s r) records
 replay-append : (s : Standing) (xs ys : List HistoryRecord) → replay s (xs ++ ys) ≡ replay (replay s xs) ys
 replay-append s [] ys = refl
 replay-append s (x ∷ xs) ys = replay-append (next s x) xs ys
-
-replay-length : (s : Standing) (records : List HistoryRecord) → length (replay s records).state.sessions ≡ length s.state.sessions
-replay-length s [] = refl
-replay-length s (r ∷ records) = replay-length (next s r) records ∙ length-after s r.event (file_of r)
 
 due-rest : (s : Standing) (xs ys : List HistoryRecord) → AreLandingsDue s (xs ++ ys) → AreLandingsDue (replay s xs) ys
 due-rest s [] ys due = due
@@ -211,7 +189,7 @@ session-whole i start seen whole b range due =
     let here = replay start seen in
     let parts : replay start whole ≡ replay here b.rest = ap (replay start) (sym b.is) ∙ replay-append start seen b.rest in
     subst (λ (t : Standing). MayBeDropped (session_of i t) (settled (settling b.rest) (session_of i here))) (sym parts)
-    (session-rest i here b.rest (omega (arith, replay-length start seen, range)) (due-rest start seen b.rest (subst (AreLandingsDue start) (sym b.is) due)) b.lacks)
+    (session-rest i here b.rest (omega (arith, length-replay start seen, range)) (due-rest start seen b.rest (subst (AreLandingsDue start) (sym b.is) due)) b.lacks)
 
 own-doubt : (b : Bool) (a : Session) (x : Session) → cond b (Some a) None ≡ Some x → b ≡ true
 own-doubt true a x is = refl
