@@ -244,7 +244,6 @@ fn refusals_are_printed(rt: HostRuntime) -> Result<(), Fail> {
         check_reply(&rt, alloc, &names, Reply::Misuse(reason), wanted)?;
     }
     check_reply(&rt, alloc, &names, Reply::Corrupt, "CORRUPT_OBJECT")?;
-    check_reply(&rt, alloc, &names, Reply::InDoubt(3), "in-doubt 3")?;
     check_reply(
         &rt,
         alloc,
