@@ -8,7 +8,7 @@ use Rattle.store_model.specs.Record.{file_of}
 use Rattle.store_model.specs.Standing.{Standing, keeps_doubt, replay, standing_after, standing_landed}
 use Rattle.history_seats.specs.Records.{HistoryRecord}
 use Rattle.history_seats.specs.Settling.{HasMark, IsOpenDoubt, is_settling_mark, settles}
-use Rattle.history_seats.proofs.Lists.{no_some, or_false}
+use Rattle.history_seats.proofs.Lists.{neither, no_some, or_false}
 use Rattle.history_seats.proofs.Places.{any_settles}
 
 pub doubt-opens : (commit z : ℕ) (records : List HistoryRecord) (r : HistoryRecord) → HasMark (Doubtful commit) r.event → z ≤ length records → IsOpenDoubt commit z (records ++ r ∷ [])
@@ -36,6 +36,65 @@ doubt-stays-open commit z records r unchanged doubt = record {
   last = settles-snoc doubt.back r doubt.last (unchanged-settles r.event unchanged);
   late = doubt.late;
 }
+
+none-more : {A : Type 0} (xs : List A) (a : A) → [] ≡ xs ++ a ∷ [] → ⊥
+none-more [] a e = cc
+none-more (x ∷ xs) a e = cc
+
+head_is : {A : Type 0} (a b : A) (xs ys : List A) → a ∷ xs ≡ b ∷ ys → a ≡ b
+head_is a b xs ys e = cc
+
+tail_is : {A : Type 0} (a b : A) (xs ys : List A) → a ∷ xs ≡ b ∷ ys → xs ≡ ys
+tail_is a b xs ys e = cc
+
+snoc-same : {A : Type 0} (xs ys : List A) (a b : A) → xs ++ a ∷ [] ≡ ys ++ b ∷ [] → (xs ≡ ys) × (a ≡ b)
+snoc-same [] [] a b e = (refl, cc (e))
+snoc-same [] (y ∷ ys) a b e = absurd (none-more ys b (tail_is a y [] (ys ++ b ∷ []) e))
+snoc-same (x ∷ xs) [] a b e = absurd (none-more xs a (tail_is b x [] (xs ++ a ∷ []) (sym e)))
+snoc-same (x ∷ xs) (y ∷ ys) a b e =
+    let both = snoc-same xs ys a b (tail_is x y (xs ++ a ∷ []) (ys ++ b ∷ []) e) in
+    let head : x ≡ y = head_is x y (xs ++ a ∷ []) (ys ++ b ∷ []) e in
+    ((λ i. head i ∷ both.0 i), both.1)
+
+last_of : {A : Type 0} (xs : List A) → (xs ≡ []) ⊎ ((front : List A) × (a : A) × (xs ≡ front ++ a ∷ []))
+last_of [] = inl refl
+last_of (x ∷ xs) = elim (last_of xs) [
+  | inl none ↦ inr ([], x, ap (λ l. x ∷ l) none)
+  | inr some_ ↦ inr (x ∷ some_.0, some_.1, ap (λ l. x ∷ l) some_.2)
+]
+
+none-front : (xs ys : List HistoryRecord) → any_settles (xs ++ ys) ≡ false → any_settles xs ≡ false
+none-front [] ys none = refl
+none-front (x ∷ xs) ys none =
+    let both = neither (settles x.event) (any_settles (xs ++ ys)) none in
+    or_false (settles x.event) (any_settles xs) both.0 (none-front xs ys both.1)
+
+no-doubtful : (commit : ℕ) (event : Event) → HasMark Unchanged event → HasMark (Doubtful commit) event → ⊥
+no-doubtful commit (CallEvent session number call reply mark) unchanged doubtful = apart (sym unchanged ∙ doubtful)
+  where
+    apart : Unchanged ≡ Doubtful commit → ⊥
+    apart e = cc
+no-doubtful commit (Landed n) unchanged doubtful = absurd unchanged
+
+pub doubt-was-open : (commit z : ℕ) (records : List HistoryRecord) (r : HistoryRecord) → HasMark Unchanged r.event → IsOpenDoubt commit z (records ++ r ∷ []) → IsOpenDoubt commit z records
+doubt-was-open commit z records r unchanged doubt = elim (last_of doubt.back) [
+  | inl none ↦
+      let same = snoc-same doubt.front records doubt.doubted r (ap (λ (l : List HistoryRecord). doubt.front ++ doubt.doubted ∷ l) (sym none) ∙ doubt.is) in
+      absurd (no-doubtful commit r.event unchanged (subst (λ (x : HistoryRecord). HasMark (Doubtful commit) x.event) same.1 doubt.marked))
+  | inr more ↦
+      let parts : (doubt.front ++ doubt.doubted ∷ more.0) ++ more.1 ∷ [] ≡ records ++ r ∷ [] =
+      append_assoc doubt.front (doubt.doubted ∷ more.0) (more.1 ∷ [])
+      ∙ ap (λ (l : List HistoryRecord). doubt.front ++ doubt.doubted ∷ l) (sym more.2) ∙ doubt.is in
+      record {
+        front = doubt.front;
+        doubted = doubt.doubted;
+        back = more.0;
+        is = (snoc-same (doubt.front ++ doubt.doubted ∷ more.0) records more.1 r parts).0;
+        marked = doubt.marked;
+        last = none-front more.0 (more.1 ∷ []) (ap any_settles (sym more.2) ∙ doubt.last);
+        late = doubt.late;
+      }
+]
 
 kept : (keeps : Bool) (before : Option Doubt) (doubt : Doubt) → elim keeps as (λ _. Option Doubt) [ true ↦ before | false ↦ None ] ≡ Some doubt → before ≡ Some doubt
 kept true before doubt is = is

@@ -1,5 +1,5 @@
 -- When a doubt is open, and what a view learns of it.
-use Rattle.std.specs.Prelude.{◌≡◌, ◌<◌, ◌≤◌, ℕ, Bool, true, false, nat_lt, if◌then◌else◌, List, [], ◌∷◌, ◌++◌, length, Option, Some, None}
+use Rattle.std.specs.Prelude.{◌≡◌, ◌↔◌, ◌<◌, ◌≤◌, ℕ, Bool, true, false, nat_lt, if◌then◌else◌, List, [], ◌∷◌, ◌++◌, length, Option, Some, None}
 use Rattle.std.specs.List.{list_any}
 use Rattle.store_model.specs.declared.event.Event.{Event}
 use Rattle.store_model.specs.declared.event.Mark.TheVariants.{Unchanged, Doubtful}
@@ -19,11 +19,11 @@ DoubtsOpen =
     (commit z : ℕ) (records : List HistoryRecord) (r : HistoryRecord) → HasMark (Doubtful commit) r.event → z ≤ length records
     → IsOpenDoubt commit z (records ++ r ∷ [])
 
--- An event with mark Unchanged leaves it open.
+-- An event with mark Unchanged leaves the open doubt as it is.
 abbrev pub DoubtsStayOpen : Type 0
 DoubtsStayOpen =
-    (commit z : ℕ) (records : List HistoryRecord) (r : HistoryRecord) → HasMark Unchanged r.event → IsOpenDoubt commit z records
-    → IsOpenDoubt commit z (records ++ r ∷ [])
+    (commit z : ℕ) (records : List HistoryRecord) (r : HistoryRecord) → HasMark Unchanged r.event
+    → IsOpenDoubt commit z records ↔ IsOpenDoubt commit z (records ++ r ∷ [])
 
 -- The doubt that a replay has open at its end is open in the records.
 abbrev pub ReplayedDoubtsAreOpen : Type 0

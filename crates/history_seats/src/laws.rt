@@ -37,7 +37,7 @@ pub fn doubts_open()
     ensures { DoubtsOpen }
 {}
 
-/// An event with mark Unchanged leaves a doubt open.
+/// An event with mark Unchanged leaves the open doubt as it is.
 pub fn doubts_stay_open()
     ensures { DoubtsStayOpen }
 {}
