@@ -8,3 +8,12 @@ pub mod Phases
 pub mod Refusals
 pub mod Sessions
 pub mod Rows
+pub mod QuietCalls
+pub mod MadeChanges
+pub mod MapLaws
+pub mod Closeness
+pub mod InStep
+pub mod CloseCommits
+pub mod EventSteps
+pub mod LegalSteps
+pub mod Prefixes

@@ -44,42 +44,42 @@ name_cmp_total = then_total (on_total (λ n. n.app) nat_list_cmp_total) (on_tota
 abbrev pub at : ObjectName → ObjectName → Bool
 at name n = is_eq (name_cmp name n)
 
-insert_entry-less : (name : ObjectName) (object : Object) (e : ObjectName × Object) (objects : ObjectMap) → name_cmp name e.0 ≡ Less → insert_entry name_cmp (e ∷ objects) name object ≡ (name, object) ∷ e ∷ objects
+pub insert_entry-less : (name : ObjectName) (object : Object) (e : ObjectName × Object) (objects : ObjectMap) → name_cmp name e.0 ≡ Less → insert_entry name_cmp (e ∷ objects) name object ≡ (name, object) ∷ e ∷ objects
 insert_entry-less name object e objects h = ap (λ o. match_ordering o ((name, object) ∷ e ∷ objects) ((e.0, object) ∷ objects) (e ∷ insert_entry name_cmp objects name object)) h
 
-insert_entry-equal : (name : ObjectName) (object : Object) (e : ObjectName × Object) (objects : ObjectMap) → name_cmp name e.0 ≡ Equal → insert_entry name_cmp (e ∷ objects) name object ≡ (e.0, object) ∷ objects
+pub insert_entry-equal : (name : ObjectName) (object : Object) (e : ObjectName × Object) (objects : ObjectMap) → name_cmp name e.0 ≡ Equal → insert_entry name_cmp (e ∷ objects) name object ≡ (e.0, object) ∷ objects
 insert_entry-equal name object e objects h = ap (λ o. match_ordering o ((name, object) ∷ e ∷ objects) ((e.0, object) ∷ objects) (e ∷ insert_entry name_cmp objects name object)) h
 
-insert_entry-greater : (name : ObjectName) (object : Object) (e : ObjectName × Object) (objects : ObjectMap) → name_cmp name e.0 ≡ Greater → insert_entry name_cmp (e ∷ objects) name object ≡ e ∷ insert_entry name_cmp objects name object
+pub insert_entry-greater : (name : ObjectName) (object : Object) (e : ObjectName × Object) (objects : ObjectMap) → name_cmp name e.0 ≡ Greater → insert_entry name_cmp (e ∷ objects) name object ≡ e ∷ insert_entry name_cmp objects name object
 insert_entry-greater name object e objects h = ap (λ o. match_ordering o ((name, object) ∷ e ∷ objects) ((e.0, object) ∷ objects) (e ∷ insert_entry name_cmp objects name object)) h
 
-remove_entry-at : (b : Bool) (test : ObjectName → Bool) (e : ObjectName × Object) (objects : ObjectMap) → test e.0 ≡ b → remove_entry test (e ∷ objects) ≡ cond b objects (e ∷ remove_entry test objects)
+pub remove_entry-at : (b : Bool) (test : ObjectName → Bool) (e : ObjectName × Object) (objects : ObjectMap) → test e.0 ≡ b → remove_entry test (e ∷ objects) ≡ cond b objects (e ∷ remove_entry test objects)
 remove_entry-at b test e objects h = ap (λ b. cond b objects (e ∷ remove_entry test objects)) h
 
-set_value-at : (b : Bool) (test : ObjectName → Bool) (e : ObjectName × Object) (objects : ObjectMap) (object : Object) → test e.0 ≡ b → set_value test (e ∷ objects) object ≡ cond b ((e.0, object) ∷ objects) (e ∷ set_value test objects object)
+pub set_value-at : (b : Bool) (test : ObjectName → Bool) (e : ObjectName × Object) (objects : ObjectMap) (object : Object) → test e.0 ≡ b → set_value test (e ∷ objects) object ≡ cond b ((e.0, object) ∷ objects) (e ∷ set_value test objects object)
 set_value-at b test e objects object h = ap (λ b. cond b ((e.0, object) ∷ objects) (e ∷ set_value test objects object)) h
 
 -- the name is below each of these
-abbrev IsBelow : ObjectName → ObjectMap → Type 0
+abbrev pub IsBelow : ObjectName → ObjectMap → Type 0
 IsBelow name objects = AllByRecursion (λ n. name_cmp name n ≡ Less) (keys_of objects)
 
-IsBelow-trans : (low high : ObjectName) (objects : ObjectMap) → name_cmp low high ≡ Less → IsBelow high objects → IsBelow low objects
+pub IsBelow-trans : (low high : ObjectName) (objects : ObjectMap) → name_cmp low high ≡ Less → IsBelow high objects → IsBelow low objects
 IsBelow-trans low high [] h below = tt
 IsBelow-trans low high (e ∷ objects) h below = (name_cmp_total.trans low high e.0 h below.0, IsBelow-trans low high objects h below.1)
 
-IsBelow-remove_entry : (name : ObjectName) (test : ObjectName → Bool) (objects : ObjectMap) → IsBelow name objects → IsBelow name (remove_entry test objects)
+pub IsBelow-remove_entry : (name : ObjectName) (test : ObjectName → Bool) (objects : ObjectMap) → IsBelow name objects → IsBelow name (remove_entry test objects)
 IsBelow-remove_entry name test [] below = tt
 IsBelow-remove_entry name test (e ∷ objects) below = elim (test e.0) as (λ b. IsBelow name (cond b objects (e ∷ remove_entry test objects))) [
   | true ↦ below.1
   | false ↦ (below.0, IsBelow-remove_entry name test objects below.1)
 ]
 
-insert_entry-below : (name : ObjectName) (object : Object) (objects : ObjectMap) → IsBelow name objects → insert_entry name_cmp objects name object ≡ (name, object) ∷ objects
+pub insert_entry-below : (name : ObjectName) (object : Object) (objects : ObjectMap) → IsBelow name objects → insert_entry name_cmp objects name object ≡ (name, object) ∷ objects
 insert_entry-below name object [] below = refl
 insert_entry-below name object (e ∷ objects) below = insert_entry-less name object e objects below.0
 
 -- a value that was inserted and then set is as if it was inserted so
-set_value-insert_entry : (name : ObjectName) (first object : Object) (objects : ObjectMap) → set_value (at name) (insert_entry name_cmp objects name first) object ≡ insert_entry name_cmp objects name object
+pub set_value-insert_entry : (name : ObjectName) (first object : Object) (objects : ObjectMap) → set_value (at name) (insert_entry name_cmp objects name first) object ≡ insert_entry name_cmp objects name object
 set_value-insert_entry name first object [] = set_value-at true (at name) (name, first) [] object (ap is_eq (tied_itself name_cmp_total name))
 set_value-insert_entry name first object (e ∷ objects) = (elim (name_cmp name e.0) as (λ o. name_cmp name e.0 ≡ o → set_value (at name) (insert_entry name_cmp (e ∷ objects) name first) object ≡ insert_entry name_cmp (e ∷ objects) name object) [
   | Less ↦ λ h.

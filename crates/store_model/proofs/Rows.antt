@@ -1,5 +1,8 @@
 -- Short runs of one application, computed from the machine's definition.
-use Rattle.std.proofs.Common.{◌≡◌, ℕ, List, [], ◌∷◌, replicate, refl, lit<, inl, pos, negsuc}
+use Rattle.std.proofs.Common.{◌≡◌, ℕ, List, [], ◌∷◌, None, replicate, refl, ap, lit<, lit≤, pos, negsuc}
+use Rattle.std.proofs.lemmas.List.Elements.{All-nil}
+use Rattle.tee_types.specs.Identifier.{IsIdentifier}
+use Rattle.std.specs.List.Sorted.{IsStrictlySortedBy}
 use Rattle.tee_types.specs.declared.flags.Flags.{Flags}
 use Rattle.tee_types.specs.declared.call.Call.{Call}
 use Rattle.tee_types.specs.declared.call.Call.TheVariants.{Create, Open, Close, Read, Write, Truncate, Seek, Rename, Delete, Info, EnumNew, EnumStart, EnumNext, EnumReset, EnumFree}
@@ -13,8 +16,14 @@ use Rattle.store_model.specs.declared.session.Handle.{Handle}
 use Rattle.store_model.specs.declared.event.Event.{Event}
 use Rattle.store_model.specs.declared.event.Event.TheVariants.{Call as CallEvent}
 use Rattle.store_model.specs.declared.event.Mark.TheVariants.{Unchanged, Made}
-use Rattle.store_model.specs.Record.{untagged}
-use Rattle.store_model.specs.Legal.{IsLegalFrom, opening}
+use Rattle.store_model.specs.declared.event.Mark.{Mark}
+use Rattle.store_model.specs.Record.{untagged, fault_in_reply}
+use Rattle.store_model.specs.Sound.{IsObject, IsObjectMap}
+use Rattle.store_model.specs.Files.{file_named}
+use Rattle.store_model.specs.Standing.{Standing, PhaseOpening, opening, replay}
+use Rattle.store_model.specs.Legal.{IsTagged, IsLegalFrom}
+use Rattle.store_model.specs.Legal.IsLegalAnswer.{Answered}
+use Rattle.store_model.specs.LegalHistory.{IsLegal, opening_with}
 use Rattle.store_model.specs.Commits.{commits_of, map_after}
 use Rattle.store_model.specs.Object.{Sound, Damaged}
 use Rattle.store_model.specs.Machine.{MachineState, opened_store}
@@ -64,15 +73,31 @@ first_events =
     ∷ CallEvent 0 3 (Open key r) (HandleReply 1) Unchanged
     ∷ []
 
-first_object_is_legal : IsLegalFrom [] (opening [] (app ∷ []) 0) (untagged first_events)
+-- the phase that opens with the empty store
+abbrev first_phase : PhaseOpening
+first_phase = record { objects = []; files = λ name. None; applications = app ∷ []; counter = 0 }
+
+no_objects : IsObjectMap []
+unfolding IsStrictlySortedBy
+no_objects = record { few = lit≤ tt; rising = tt; named = All-nil (λ e. IsIdentifier (e.0).id); sound = All-nil (λ e. IsObject e.1) }
+
+no_tag : (s : Standing) (call : Call) (reply : Reply) (mark : Mark) → file_named s.files s.state 0 call ≡ None → fault_in_reply reply ≡ None
+    → IsTagged s 0 call reply mark None
+no_tag s call reply mark none fault = record {
+  own = λ number named. absurd (cc (named));
+  needed = λ needed is. none;
+  fault = λ number accused. absurd (cc (fault, accused));
+}
+
+first_events_legal : IsLegalFrom [] (opening first_phase) (untagged first_events)
 unfolding create_of open_of close_of read_of
-first_object_is_legal = (
-  inl (record { replied = refl; marked = refl; counted = lit< tt }),
+first_events_legal = (
+  record { declared = lit< tt; tagged = no_tag _ _ _ _ refl refl; answer = Answered (record { replied = refl; marked = refl; counted = lit< tt }) },
   (
-    inl (record { replied = refl; marked = refl; counted = lit< tt }),
+    record { declared = lit< tt; tagged = no_tag _ _ _ _ refl refl; answer = Answered (record { replied = refl; marked = refl; counted = lit< tt }) },
     (
-      inl (record { replied = refl; marked = refl; counted = lit< tt }),
-      (inl (record { replied = refl; marked = refl; counted = lit< tt }), tt),
+      record { declared = lit< tt; tagged = no_tag _ _ _ _ refl refl; answer = Answered (record { replied = refl; marked = refl; counted = lit< tt }) },
+      (record { declared = lit< tt; tagged = no_tag _ _ _ _ refl refl; answer = Answered (record { replied = refl; marked = refl; counted = lit< tt }) }, tt),
     ),
   ),
 )
@@ -80,9 +105,10 @@ first_object_is_legal = (
 commits_of_first_object : commits_of first_events ≡ CallEvent 0 0 (Create key r (0 ∷ []) []) (HandleReply 0) (Made 1) ∷ []
 commits_of_first_object = refl
 
-map_after_first_object : map_after [] (app ∷ []) first_events ≡ (record { app = app; id = key }, Sound (record { attributes = 0 ∷ []; bytes = []; bad = [] })) ∷ []
+map_after_first_object : (legal : IsLegal first_phase [] (untagged first_events) None) → legal.begins ≡ []
+    → map_after legal ≡ (record { app = app; id = key }, Sound (record { attributes = 0 ∷ []; bytes = []; bad = [] })) ∷ []
 unfolding create_of open_of close_of read_of
-map_after_first_object = refl
+map_after_first_object legal is = ap (λ begins. ((replay (opening_with first_phase begins) (untagged first_events)).state).objects) is
 
 -- a create is refused while the object is open, and without OVERWRITE
 overwrite_needs_no_handle : replies empty_store (Create key r [] (1 ∷ []) ∷ Create key r [] (2 ∷ []) ∷ Create key r-over [] (2 ∷ []) ∷ Close 0 ∷ Create key r-over [] (2 ∷ []) ∷ Read 1 4 ∷ []) ≡ HandleReply 0 ∷ Refused AccessConflict ∷ Refused AccessConflict ∷ Done ∷ HandleReply 1 ∷ Content (2 ∷ []) ∷ []

@@ -49,12 +49,21 @@ abbrev pub size_by : ObjectMap → Option Handle → ℕ
 size_by objects None = 0
 size_by objects (Some handle) = size_at objects handle.name
 
--- The call, answered so, changes the map of objects: a create that gives a handle, a rename or a delete that is done, a write of
--- some bytes that is done, and a truncate to another size that is done.
+-- the size of the object that a truncate is about to change; 0 for every other call
+abbrev pub size_before : MachineState → ℕ → Call → ℕ
+size_before s i (Truncate handle size) = size_by s.objects (handle_at (session_at s i) handle)
+size_before s i _ = 0
+
+-- The call, answered so, changes the map of objects, where its object had that size before: a create that gives a handle, a rename
+-- or a delete that is done, a write of some bytes that is done, and a truncate to another size that is done.
+abbrev pub is_commit_of : Call → ℕ → Reply → Bool
+is_commit_of (Create id flags attributes bytes) size reply = is_handle reply
+is_commit_of (Write handle bytes) size reply = is_done reply && nat_lt 0 (length bytes)
+is_commit_of (Truncate handle new) size reply = is_done reply && not (new == size)
+is_commit_of (Rename handle id) size reply = is_done reply
+is_commit_of (Delete handle) size reply = is_done reply
+is_commit_of _ size reply = false
+
+-- the same of a call of session i
 abbrev pub is_commit : MachineState → ℕ → Call → Reply → Bool
-is_commit s i (Create id flags attributes bytes) reply = is_handle reply
-is_commit s i (Write handle bytes) reply = is_done reply && nat_lt 0 (length bytes)
-is_commit s i (Truncate handle size) reply = is_done reply && not (size == size_by s.objects (handle_at (session_at s i) handle))
-is_commit s i (Rename handle id) reply = is_done reply
-is_commit s i (Delete handle) reply = is_done reply
-is_commit s i _ reply = false
+is_commit s i call reply = is_commit_of call (size_before s i call) reply

@@ -1,12 +1,13 @@
 -- How a file that is not honest may be altered back: its object then has less damage than it had.
-use Rattle.std.specs.Prelude.{◌≡◌, ◌⊎◌, ◌+◌, ℕ, List, length, slice_index, false, Option, Some, Contains}
-use Rattle.std.specs.List.{list_any, AllZip, Any}
+use Rattle.std.specs.Prelude.{◌≡◌, ◌⊎◌, ◌+◌, ℕ, List, length, slice_index, false, true, Some, Contains}
+use Rattle.std.specs.List.{list_any, AllZip}
 use Rattle.store_model.specs.declared.name.ObjectName.{ObjectName}
 use Rattle.store_model.specs.Object.{Object, Contents, Sound, Damaged, ObjectMap}
-use Rattle.store_model.specs.Record.{Record, file_of}
+use Rattle.store_model.specs.Files.{FileMap}
+use Rattle.store_model.specs.Record.{Record, is_named}
 use Rattle.store_model.specs.Data.{meets_block}
 
--- the second has no bad block that the first has not, and what is good in the first is the same
+-- The second has no bad block that the first has not, and what is good in the first is the same.
 pub record HasFewerBad (old new : Contents) : Type 0 where
   pub attributes : new.attributes ≡ old.attributes
   pub size : length new.bytes ≡ length old.bytes
@@ -20,12 +21,19 @@ HasLessDamage (Sound old) (Damaged size) = ⊥
 HasLessDamage (Damaged size) (Sound new) = length new.bytes ≡ size
 HasLessDamage (Damaged size) (Damaged other) = other ≡ size
 
--- a record names that file
-abbrev pub NamesFile : {Root : Type 0} → List (Record Root) → ℕ → Type 0
-NamesFile records file = Any (λ r. file_of r ≡ Some file) records
+-- The object of that name has less damage; its file is not honest, and a record names it.
+pub record IsMended {Root : Type 0} (files : FileMap) (dishonest : List ℕ) (records : List (Record Root)) (name : ObjectName) (old new : Object) : Type 0 where
+  pub file : ℕ
+  pub of_object : files name ≡ Some file
+  pub not_honest : Contains dishonest file
+  pub named : is_named records file ≡ true
+  pub less : HasLessDamage old new
 
--- The second map has the names of the first. An object is the same; or it has less damage, and its file is not honest and is named
--- by a record.
-abbrev pub IsAlteredBack : {Root : Type 0} → (ObjectName → Option ℕ) → List ℕ → List (Record Root) → ObjectMap → ObjectMap → Type 0
-IsAlteredBack files dishonest records old new =
-    AllZip (λ e f. (f.0 ≡ e.0) × ((f.1 ≡ e.1) ⊎ ((file : ℕ) × (files e.0 ≡ Some file) × Contains dishonest file × NamesFile records file × HasLessDamage e.1 f.1))) old new
+-- One entry of a map that may be altered back: it is the same, or its object is mended.
+pub record IsMaybeMended {Root : Type 0} (files : FileMap) (dishonest : List ℕ) (records : List (Record Root)) (old new : ObjectName × Object) : Type 0 where
+  pub name : new.0 ≡ old.0
+  pub object : (new.1 ≡ old.1) ⊎ IsMended files dishonest records old.0 old.1 new.1
+
+-- the second map is the first, altered back where these records name files that are not honest
+abbrev pub IsAlteredBack : {Root : Type 0} → FileMap → List ℕ → List (Record Root) → ObjectMap → ObjectMap → Type 0
+IsAlteredBack files dishonest records old new = AllZip (IsMaybeMended files dishonest records) old new

@@ -11,6 +11,8 @@ pub record Doubt : Type 0 where
   pub commit : ℕ
   pub session : ℕ
   pub call : Call
+  -- the file of its object, where it has one
+  pub file : Option ℕ
 
 -- the session's live handle of that number stands for the object of that identifier
 abbrev pub follows : MachineState → ℕ → ℕ → List ℕ → Option Handle → Session
@@ -25,6 +27,6 @@ session_landed s i (Rename handle id) = follows s i handle id (handle_at (sessio
 session_landed s i _ = session_at s i
 
 -- the state after the doubted call landed: the objects are those that the call leaves, and no position changes
-abbrev pub landed : MachineState → Doubt → MachineState
-landed s doubt =
+abbrev pub state_landed : MachineState → Doubt → MachineState
+state_landed s doubt =
     with_session (record s { objects = (state_after s doubt.session doubt.call).objects }) doubt.session (session_landed s doubt.session doubt.call)

@@ -2,15 +2,15 @@
 use Rattle.std.specs.Prelude.{ℕ, Bool, not, ◌&&◌, ◌||◌, nat_lt, nat_le, ◌+◌, List, [], ◌∷◌, ◌++◌, length}
 use Rattle.std.specs.List.{list_any, list_all}
 use Rattle.tee_types.specs.declared.flags.Flags.{Flags}
-use Rattle.tee_types.specs.declared.flags.TheConstants.{OVERWRITE}
 use Rattle.tee_types.specs.declared.reply.Reply.{Reply}
 use Rattle.tee_types.specs.declared.reply.Reply.TheVariants.{Done, Handle as HandleReply, Refused, Misuse, Corrupt}
 use Rattle.tee_types.specs.declared.reply.Code.TheVariants.{AccessConflict, BadParameters, ItemNotFound, NoSpace}
 use Rattle.tee_types.specs.declared.reply.Reason.TheVariants.{BadFlags, TooMany}
-use Rattle.tee_types.specs.Rights.{has, is_known, are_compatible, without_overwrite}
+use Rattle.tee_types.specs.Limits.{most_attribute_bytes, most_data_bytes}
+use Rattle.tee_types.specs.Rights.{overwrite_bit, has, is_known, are_compatible, without_overwrite}
 use Rattle.store_model.specs.declared.name.ObjectName.{ObjectName}
 use Rattle.store_model.specs.Name.{name_eq}
-use Rattle.store_model.specs.Object.{Sound, ObjectMap, object_at, holds, with_object, is_damaged}
+use Rattle.store_model.specs.Object.{Sound, ObjectMap, most_objects, object_at, holds, with_object, is_damaged}
 use Rattle.store_model.specs.Machine.{Session, MachineState, Outcome, session_at, with_session, name_in, handle_at, without_handle, has_all_handles, unless_refused, by_handle}
 
 -- a handle of the session stands for that object
@@ -33,17 +33,17 @@ open_handle s i name flags = let session = session_at s i in record {
 
 -- an object of that name would be new, and the store has as many objects as it may have
 abbrev pub lacks_room : ObjectMap → ObjectName → Bool
-lacks_room objects name = not (holds objects name) && nat_le 256 (length objects)
+lacks_room objects name = not (holds objects name) && nat_le most_objects (length objects)
 
 -- why a create is refused
 abbrev pub create_refusals : MachineState → ℕ → ObjectName → Flags → List ℕ → List ℕ → List (Bool × Reply)
 create_refusals s i name flags attributes bytes =
     (not (is_known flags), Misuse BadFlags)
     ∷ (has_all_handles (session_at s i), Misuse TooMany)
-    ∷ (nat_lt 2048 (length attributes), Refused BadParameters)
-    ∷ (holds s.objects name && not (has flags OVERWRITE), Refused AccessConflict)
+    ∷ (nat_lt most_attribute_bytes (length attributes), Refused BadParameters)
+    ∷ (holds s.objects name && not (has flags overwrite_bit), Refused AccessConflict)
     ∷ (holds s.objects name && list_any (has_open name) s.sessions, Refused AccessConflict)
-    ∷ (nat_lt 1044480 (length bytes) || lacks_room s.objects name, Refused NoSpace)
+    ∷ (nat_lt most_data_bytes (length bytes) || lacks_room s.objects name, Refused NoSpace)
     ∷ []
 
 -- TEE_CreatePersistentObject: the object is made or replaced, whole and at once, and opened.
@@ -57,7 +57,7 @@ create_of s i id flags attributes bytes =
 -- why an open is refused
 abbrev pub open_refusals : MachineState → ℕ → ObjectName → Flags → List (Bool × Reply)
 open_refusals s i name flags =
-    (not (is_known flags) || has flags OVERWRITE, Misuse BadFlags)
+    (not (is_known flags) || has flags overwrite_bit, Misuse BadFlags)
     ∷ (has_all_handles (session_at s i), Misuse TooMany)
     ∷ (not (holds s.objects name), Refused ItemNotFound)
     ∷ (not (list_all (allows_open name flags) s.sessions), Refused AccessConflict)

@@ -1,9 +1,9 @@
 -- Which histories are legal: each event is one that the store may give where the replay of the earlier ones stands.
-use Rattle.std.specs.Prelude.{◌≡◌, ◌⊎◌, ◌<◌, ◌+◌, ◌^◌, ℕ, Bool, true, false, List, [], ◌∷◌, Option, Some, None, Contains}
+use Rattle.std.specs.Prelude.{◌≡◌, ◌<◌, ◌+◌, ◌^◌, ℕ, Bool, true, false, not, ◌&&◌, ◌||◌, List, [], ◌∷◌, length, Option, Some, None, Contains}
 use Rattle.tee_types.specs.declared.call.Call.{Call}
 use Rattle.tee_types.specs.declared.call.Call.TheVariants.{Open, Read, Write, Truncate, Info}
 use Rattle.tee_types.specs.declared.reply.Reply.{Reply}
-use Rattle.tee_types.specs.declared.reply.Reply.TheVariants.{Handle, Content, Info as InfoReply, Misuse, Corrupt, NotAvailable, InDoubt, CounterSpent}
+use Rattle.tee_types.specs.declared.reply.Reply.TheVariants.{Handle, Content, Info as InfoReply, Corrupt, NotAvailable, CounterSpent}
 use Rattle.tee_types.specs.declared.reply.Cause.{Cause}
 use Rattle.tee_types.specs.declared.reply.Cause.TheVariants.{Fault}
 use Rattle.tee_types.specs.declared.reply.Device.TheVariants.{File}
@@ -11,43 +11,11 @@ use Rattle.store_model.specs.declared.event.Event.{Event}
 use Rattle.store_model.specs.declared.event.Event.TheVariants.{Call as CallEvent, Landed}
 use Rattle.store_model.specs.declared.event.Mark.{Mark}
 use Rattle.store_model.specs.declared.event.Mark.TheVariants.{Unchanged, Made, Doubtful}
-use Rattle.store_model.specs.Object.{ObjectMap}
-use Rattle.store_model.specs.Record.{Record, file_of}
-use Rattle.store_model.specs.Machine.{MachineState, opened_store}
-use Rattle.store_model.specs.Calls.{reply_of, state_after, is_commit}
-use Rattle.store_model.specs.Doubt.{Doubt, landed}
-
--- where the replay of a history stands: the state of the machine, the card's write counter, and the commit that is in doubt
-pub record Standing : Type 0 where
-  pub state : MachineState
-  pub counter : ℕ
-  pub doubt : Option Doubt
-
--- the call was answered for a device, or for damage that is not the machine's: it was not done
-abbrev pub is_undone : Reply → Bool
-is_undone Corrupt = true
-is_undone (NotAvailable cause) = true
-is_undone (InDoubt commit) = true
-is_undone (CounterSpent counter) = true
-is_undone _ = false
-
--- where the replay stands after a call with that reply and mark
-abbrev pub standing_after_call : Standing → ℕ → Call → Reply → Mark → Standing
-standing_after_call s session call reply Unchanged =
-    record s { state = elim (is_undone reply) [ true ↦ s.state | false ↦ state_after s.state session call ] }
-standing_after_call s session call reply (Made commit) = record s { state = state_after s.state session call; counter = commit }
-standing_after_call s session call reply (Doubtful commit) =
-    record s { doubt = Some (record { commit = commit; session = session; call = call }) }
-
--- where the replay stands after the doubt is settled: the commit landed
-abbrev pub standing_landed : Standing → Option Doubt → Standing
-standing_landed s None = s
-standing_landed s (Some doubt) = record { state = landed s.state doubt; counter = doubt.commit; doubt = None }
-
--- where the replay stands after an event
-abbrev pub standing_after : Standing → Event → Standing
-standing_after s (CallEvent session number call reply mark) = standing_after_call s session call reply mark
-standing_after s (Landed commit) = standing_landed s s.doubt
+use Rattle.store_model.specs.Record.{Record, file_of, fault_in_reply}
+use Rattle.store_model.specs.Calls.{reply_of, is_commit}
+use Rattle.store_model.specs.Files.{IsFree, file_named, makes_object, reads_file, is_misuse, is_corrupt}
+use Rattle.store_model.specs.Doubt.{Doubt}
+use Rattle.store_model.specs.Standing.{Standing, is_of_card, standing_after}
 
 -- the mark of a call that is answered as the machine does
 abbrev pub mark_of : ℕ → Bool → Mark
@@ -58,6 +26,13 @@ mark_of counter false = Unchanged
 abbrev pub counter_after : ℕ → Bool → ℕ
 counter_after counter true = counter + 1
 counter_after counter false = counter
+
+-- what the machine answers to the call where the replay stands, and whether that is a commit
+abbrev pub meant_by : Standing → ℕ → Call → Reply
+meant_by s session call = reply_of s.state session call
+
+abbrev pub is_commit_due : Standing → ℕ → Call → Bool
+is_commit_due s session call = is_commit s.state session call (meant_by s session call)
 
 -- the call reads an object's file, or changes it
 abbrev pub touches_file : Call → Bool
@@ -75,93 +50,128 @@ tells_object (Content bytes) = true
 tells_object (InfoReply size position flags attributes) = true
 tells_object _ = false
 
-abbrev pub is_corrupt : Reply → Bool
-is_corrupt Corrupt = true
-is_corrupt _ = false
-
--- the cause is a fault of that file
-abbrev pub IsFaultOf : Option ℕ → Cause → Type 0
-IsFaultOf file cause = (number : ℕ) × (count : ℕ) × (file ≡ Some number) × (cause ≡ Fault (File number) count)
-
 -- The event has the machine's reply; a commit raises the counter, which ends at 4,294,967,295.
 pub record IsAnswered (s : Standing) (session : ℕ) (call : Call) (reply : Reply) (mark : Mark) : Type 0 where
-  pub replied : reply ≡ reply_of s.state session call
-  pub marked : mark ≡ mark_of s.counter (is_commit s.state session call reply)
-  pub counted : counter_after s.counter (is_commit s.state session call reply) < 2 ^ 32
+  pub replied : reply ≡ meant_by s session call
+  pub marked : mark ≡ mark_of s.counter (is_commit_due s session call)
+  pub counted : counter_after s.counter (is_commit_due s session call) < 2 ^ 32
 
--- A device failed: a commit was not made, or the object's file was not read.
+-- The open doubt could not be resolved. A misuse is found before.
+pub record IsUnresolved (s : Standing) (session : ℕ) (call : Call) (cause : Cause) : Type 0 where
+  pub doubt : Doubt
+  pub is_open : s.doubt ≡ Some doubt
+  pub no_misuse : is_misuse (meant_by s session call) ≡ false
+  pub of_card : is_of_card cause ≡ true
+
+-- The object's file failed as it was read.
+pub record IsUnread (s : Standing) (session : ℕ) (call : Call) (cause : Cause) (file : Option ℕ) : Type 0 where
+  pub touches : touches_file call ≡ true
+  pub tells : (tells_object (meant_by s session call) || is_corrupt (meant_by s session call)) ≡ true
+  pub number : ℕ
+  pub count : ℕ
+  pub named : file ≡ Some number
+  pub failed : cause ≡ Fault (File number) count
+
+-- why a device keeps a call from being done
+pub data IsHindered (s : Standing) (session : ℕ) (call : Call) (cause : Cause) (file : Option ℕ) : Type 0 where
+  -- a commit was due, and was not made
+  NotMade : is_commit_due s session call ≡ true → IsHindered s session call cause file
+  Unread : IsUnread s session call cause file → IsHindered s session call cause file
+  Unresolved : IsUnresolved s session call cause → IsHindered s session call cause file
+
+-- TEE_ERROR_STORAGE_NOT_AVAILABLE: a device failed, and nothing was done.
 pub record IsUnavailable (s : Standing) (session : ℕ) (call : Call) (reply : Reply) (mark : Mark) (file : Option ℕ) : Type 0 where
   pub cause : Cause
   pub replied : reply ≡ NotAvailable cause
   pub marked : mark ≡ Unchanged
-  pub due : let meant = reply_of s.state session call in
-      (is_commit s.state session call meant ≡ true)
-      ⊎ ((touches_file call ≡ true) × ((tells_object meant ≡ true) ⊎ (is_corrupt meant ≡ true)) × IsFaultOf file cause)
+  pub due : IsHindered s session call cause file
 
 -- A commit was not confirmed: it is in doubt from here on.
 pub record IsDoubted (s : Standing) (session : ℕ) (call : Call) (reply : Reply) (mark : Mark) : Type 0 where
   pub cause : Cause
   pub replied : reply ≡ NotAvailable cause
   pub marked : mark ≡ Doubtful (s.counter + 1)
-  pub due : is_commit s.state session call (reply_of s.state session call) ≡ true
+  pub due : is_commit_due s session call ≡ true
   pub counted : s.counter + 1 < 2 ^ 32
 
--- The object's file is not honest, and what it gave was refused.
+-- TEE_ERROR_CORRUPT_OBJECT: the object's file is not honest, and what it gave was refused. A commit was due, or an answer that tells
+-- of the object.
 pub record IsFoundCorrupt (dishonest : List ℕ) (s : Standing) (session : ℕ) (call : Call) (reply : Reply) (mark : Mark) (file : Option ℕ) : Type 0 where
   pub replied : reply ≡ Corrupt
   pub marked : mark ≡ Unchanged
   pub touches : touches_file call ≡ true
-  pub due : let meant = reply_of s.state session call in
-      (is_commit s.state session call meant ≡ true) ⊎ (tells_object meant ≡ true)
-  pub dishonest_file : (number : ℕ) × (file ≡ Some number) × Contains dishonest number
+  pub due : (is_commit_due s session call || tells_object (meant_by s session call)) ≡ true
+  pub number : ℕ
+  pub named : file ≡ Some number
+  pub not_honest : Contains dishonest number
 
 -- A commit was due, and the card's counter is at its last value.
 pub record IsSpent (s : Standing) (session : ℕ) (call : Call) (reply : Reply) (mark : Mark) : Type 0 where
   pub replied : reply ≡ CounterSpent 4294967295
   pub marked : mark ≡ Unchanged
-  pub due : is_commit s.state session call (reply_of s.state session call) ≡ true
+  pub due : is_commit_due s session call ≡ true
   pub spent : s.counter ≡ 4294967295
 
--- the reply to a call that the machine would answer so, while that commit is in doubt
-abbrev pub held_up : ℕ → Reply → Reply
-held_up commit (Misuse reason) = Misuse reason
-held_up commit _ = InDoubt commit
-
--- While a commit is in doubt, a misuse is answered as the machine does, and every other call by the doubt.
-pub record IsHeldUp (s : Standing) (doubt : Doubt) (session : ℕ) (call : Call) (reply : Reply) (mark : Mark) : Type 0 where
-  pub marked : mark ≡ Unchanged
-  pub held : reply ≡ held_up doubt.commit (reply_of s.state session call)
-
 -- the ways in which a call may be answered where the replay stands
-abbrev pub IsLegalCall : List ℕ → Standing → Option Doubt → ℕ → Call → Reply → Mark → Option ℕ → Type 0
-IsLegalCall dishonest s None session call reply mark file =
-    IsAnswered s session call reply mark
-    ⊎ IsUnavailable s session call reply mark file
-    ⊎ IsDoubted s session call reply mark
-    ⊎ IsFoundCorrupt dishonest s session call reply mark file
-    ⊎ IsSpent s session call reply mark
-IsLegalCall dishonest s (Some doubt) session call reply mark file = IsHeldUp s doubt session call reply mark
+pub data IsLegalAnswer (dishonest : List ℕ) (s : Standing) (session : ℕ) (call : Call) (reply : Reply) (mark : Mark) (file : Option ℕ) : Type 0 where
+  Answered : IsAnswered s session call reply mark → IsLegalAnswer dishonest s session call reply mark file
+  Unavailable : IsUnavailable s session call reply mark file → IsLegalAnswer dishonest s session call reply mark file
+  Doubted : IsDoubted s session call reply mark → IsLegalAnswer dishonest s session call reply mark file
+  FoundCorrupt : IsFoundCorrupt dishonest s session call reply mark file → IsLegalAnswer dishonest s session call reply mark file
+  Spent : IsSpent s session call reply mark → IsLegalAnswer dishonest s session call reply mark file
 
--- a commit lands only while it is in doubt
-abbrev pub IsLegalLanding : Option Doubt → ℕ → Type 0
-IsLegalLanding None commit = ⊥
-IsLegalLanding (Some doubt) commit = commit ≡ doubt.commit
+abbrev pub is_unchanged : Mark → Bool
+is_unchanged Unchanged = true
+is_unchanged (Made commit) = false
+is_unchanged (Doubtful commit) = false
+
+-- the reply stands for the open doubt, whatever the call: its object's file was not looked at
+abbrev pub stands_for_doubt : Option Doubt → Reply → Mark → Bool
+stands_for_doubt (Some doubt) (NotAvailable cause) Unchanged = is_of_card cause
+stands_for_doubt _ _ _ = false
+
+-- the event was given by the object's file, or changed its object
+abbrev pub needs_file : Standing → ℕ → Call → Reply → Mark → Bool
+needs_file s session call reply Unchanged = not (stands_for_doubt s.doubt reply Unchanged) && reads_file call (meant_by s session call)
+needs_file s session call reply (Made commit) = true
+needs_file s session call reply (Doubtful commit) = true
+
+-- the file of the object that the call makes is no other object's, and every other call has the file of the object that it names
+abbrev pub IsFileOf : Standing → ℕ → Call → ℕ → Type 0
+IsFileOf s session call file = elim (makes_object call (meant_by s session call)) [
+  | true ↦ IsFree s.files file
+  | false ↦ file_named s.files s.state session call ≡ Some file
+]
+
+-- Which file the tag of a call's event names.
+pub record IsTagged (s : Standing) (session : ℕ) (call : Call) (reply : Reply) (mark : Mark) (file : Option ℕ) : Type 0 where
+  -- its object's
+  pub own : (number : ℕ) → file ≡ Some number → IsFileOf s session call number
+  -- what needs the file has a tag, where the object has a file
+  pub needed : needs_file s session call reply mark ≡ true → file ≡ None → file_named s.files s.state session call ≡ None
+  -- a reply that carries a fault of an object's file comes with that file
+  pub fault : (number : ℕ) → fault_in_reply reply ≡ Some number → file ≡ Some number
+
+-- A call of a declared application, with its tag, may be answered so.
+pub record IsLegalCall (dishonest : List ℕ) (s : Standing) (session : ℕ) (call : Call) (reply : Reply) (mark : Mark) (file : Option ℕ) : Type 0 where
+  pub declared : session < length s.state.sessions
+  pub tagged : IsTagged s session call reply mark file
+  pub answer : IsLegalAnswer dishonest s session call reply mark file
+
+-- A commit lands only while it is in doubt, and its event has no tag.
+pub record IsLegalLanding (s : Standing) (commit : ℕ) (file : Option ℕ) : Type 0 where
+  pub doubt : Doubt
+  pub is_open : s.doubt ≡ Some doubt
+  pub number : commit ≡ doubt.commit
+  pub untagged : file ≡ None
 
 -- the ways in which an event may stand where the replay does
 abbrev pub IsLegalEvent : List ℕ → Standing → Event → Option ℕ → Type 0
-IsLegalEvent dishonest s (CallEvent session number call reply mark) file = IsLegalCall dishonest s s.doubt session call reply mark file
-IsLegalEvent dishonest s (Landed commit) file = IsLegalLanding s.doubt commit
+IsLegalEvent dishonest s (CallEvent session number call reply mark) file = IsLegalCall dishonest s session call reply mark file
+IsLegalEvent dishonest s (Landed commit) file = IsLegalLanding s commit file
 
 -- each event is legal where the replay of those before it stands
 abbrev pub IsLegalFrom : {Root : Type 0} → List ℕ → Standing → List (Record Root) → Type 0
 IsLegalFrom dishonest s [] = Unit {0}
-IsLegalFrom dishonest s (r ∷ records) = IsLegalEvent dishonest s r.event (file_of r) × IsLegalFrom dishonest (standing_after s r.event) records
-
--- where the replay of these events stands
-abbrev pub replay : Standing → List Event → Standing
-replay s [] = s
-replay s (e ∷ events) = replay (standing_after s e) events
-
--- where a phase begins: a session for each application, without handles and enumerators, and no doubt
-abbrev pub opening : ObjectMap → List (List ℕ) → ℕ → Standing
-opening objects applications counter = record { state = opened_store objects applications; counter = counter; doubt = None }
+IsLegalFrom dishonest s (r ∷ records) =
+    IsLegalEvent dishonest s r.event (file_of r) × IsLegalFrom dishonest (standing_after s r.event (file_of r)) records

@@ -1,5 +1,6 @@
 pub mod Name
 pub mod Object
+pub mod Sound
 pub mod Machine
 pub mod Handles
 pub mod Data
@@ -11,8 +12,12 @@ pub mod Refusal
 pub mod Ledger
 pub mod History
 pub mod Record
+pub mod Files
 pub mod Doubt
+pub mod Standing
 pub mod Legal
 pub mod Damage
 pub mod LegalHistory
 pub mod Commits
+pub mod Makes
+pub mod Laws

@@ -1,14 +1,20 @@
 -- Objects and the map of objects (TEE Internal Core API, Trusted Storage: a persistent object has an identifier,
 -- attributes and a data stream; the standard's corrupt object is told part by part here).
-use Rattle.std.specs.Prelude.{ℕ, ◌≤◌, Bool, true, false, List, [], ◌∷◌, Option, Some, None, length, is_some}
+use Rattle.std.specs.Prelude.{ℕ, ◌-◌, ◌*◌, ◌≤◌, Bool, true, false, List, [], ◌∷◌, Option, Some, None, length, is_some}
 use Rattle.std.specs.Ordering.{is_eq}
 use Rattle.std.specs.Map.{lookup, set_value, remove_entry}
 use Rattle.std.specs.BTreeMap.{insert_entry}
 use Rattle.store_model.specs.Name.{name_cmp}
 use Rattle.store_model.specs.declared.name.ObjectName.{ObjectName}
 
--- A sound object. Data block k, from 1 on, holds the bytes from 4096 * (k - 1) up to 4096 * k.
--- The bytes of a bad block stand as zero.
+-- data block k, from 1 on, holds the bytes from its start on and before its end
+abbrev pub block_start : ℕ → ℕ
+block_start k = 4096 * (k - 1)
+
+abbrev pub block_end : ℕ → ℕ
+block_end k = 4096 * k
+
+-- A sound object. The bytes of a bad block stand as zero.
 pub record Contents : Type 0 where
   pub attributes : List ℕ
   pub bytes : List ℕ
@@ -37,6 +43,10 @@ bytes_of (Damaged size) = []
 -- a finite map from names to objects, as its entries in the order of the names
 abbrev pub ObjectMap : Type 0
 ObjectMap = List (ObjectName × Object)
+
+-- the store has at most so many objects
+abbrev pub most_objects : ℕ
+most_objects = 256
 
 -- no identifier of these objects is empty
 abbrev pub AreNamed : ObjectMap → Type 0

@@ -3,7 +3,7 @@ use Rattle.std.specs.Prelude.{◌≡◌, ℕ, Bool, true, false}
 use Rattle.tee_types.specs.declared.call.Call.{Call}
 use Rattle.tee_types.specs.declared.call.Call.TheVariants.{EnumStart}
 use Rattle.tee_types.specs.declared.reply.Reply.{Reply}
-use Rattle.tee_types.specs.declared.reply.Reply.TheVariants.{Done, Handle, Content, Info, Found, Refused, NotAvailable, InDoubt, CounterSpent}
+use Rattle.tee_types.specs.declared.reply.Reply.TheVariants.{Done, Handle, Content, Info, Found, Refused, NotAvailable, CounterSpent}
 use Rattle.enumerators.specs.Enumeration.{reset}
 use Rattle.store_model.specs.Machine.{MachineState, session_at}
 use Rattle.store_model.specs.Enumerating.{with_enumerators}
@@ -18,10 +18,9 @@ is_refusal (Info size position flags attributes) = false
 is_refusal (Found id size) = false
 is_refusal _ = true
 
--- a device has a part in the reply: it failed, its commit is in doubt, or its counter is spent
+-- a device has a part in the reply: it failed, or its counter is spent
 abbrev pub is_of_device : Reply → Bool
 is_of_device (NotAvailable cause) = true
-is_of_device (InDoubt commit) = true
 is_of_device (CounterSpent counter) = true
 is_of_device _ = false
 

@@ -33,10 +33,11 @@ impl History {
         }
     }
 
-    /// Makes room for n more events. A refusal leaves the events.
+    /// Makes room for n more events, and keeps the room that was there. A refusal leaves the events.
     pub fn reserve(&mut self, n: usize) -> Result<(), NoMemory>
         ensures events { self.new.events ≡ self.old.events }
         ensures ok { OnOk result (n ≤ self.new.spare) }
+        ensures kept { self.old.spare ≤ self.new.spare }
     {
         self.items.reserve(n)
     }

@@ -5,12 +5,6 @@ ghost use Rattle.std.specs.Prelude.{◌≡◌, ◌≤◌, ◌+◌, ◌++◌, ◌
 use std::marker::Model;
 use tee_types::{Bytes, NoMemory};
 
-/// The greatest number of bytes of an object's data, 255 blocks of 4,096.
-pub const MAX_DATA: usize = 1_044_480;
-
-/// The greatest number of bytes of an object's attributes.
-pub const MAX_ATTRIBUTES: usize = 2_048;
-
 /// An object of the machine. It is sound, and none of its blocks is bad.
 #[derive(Debug, Drop)]
 pub struct StoredObject {

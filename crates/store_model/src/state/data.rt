@@ -5,11 +5,10 @@ ghost use Rattle.store_model.specs.Machine.{first_refusal};
 ghost use Rattle.store_model.specs.Data.{bytes_at, seek_base, at_least_zero, write_refusals, truncate_refusals};
 
 use crate::name::ObjectName;
-use crate::object::MAX_DATA;
 use crate::session::Handle;
 use crate::state::State;
 use std::alloc::Global;
-use tee_types::{Bytes, Code, NoMemory, READ, Reason, Reply, WRITE, Whence};
+use tee_types::{Bytes, Code, MAX_DATA, NoMemory, READ, Reason, Reply, WRITE, Whence};
 
 /// The greatest position of a handle.
 const MAX_POSITION: u64 = 0xffff_ffff;

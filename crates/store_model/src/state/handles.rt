@@ -1,10 +1,12 @@
 //! Calls that give handles and take them back.
 
 use crate::name::ObjectName;
-use crate::object::{MAX_ATTRIBUTES, MAX_DATA, StoredObject};
+use crate::object::StoredObject;
 use crate::state::{MAX_OBJECTS, State};
 use std::alloc::Global;
-use tee_types::{Bytes, Code, Flags, NoMemory, OVERWRITE, ObjectId, Reason, Reply};
+use tee_types::{
+    Bytes, Code, Flags, MAX_ATTRIBUTES, MAX_DATA, NoMemory, OVERWRITE, ObjectId, Reason, Reply,
+};
 
 impl State {
     ghost use Rattle.std.specs.Prelude.{◌≡◌, ◌<◌, ◌≤◌, length, false, IfOk, IsNone, OnOk, OnErr};
