@@ -70,3 +70,9 @@ BlockAnswer key head node k MayBe (Err (BadTag bad want found)) page =
     MayBe page × (page_of key head node k page ≡ None) × (bad ≡ k) × (want ≡ node.tag) × (found ≡ tag_of key head node k page)
 BlockAnswer key head node k MayBe (Err (Failed count)) page = Unit {0}
 BlockAnswer key head node k MayBe (Err fault) page = ⊥
+
+-- the values that a fault carries have the lengths of a hash and of a tag
+abbrev pub HasFaultWidths : TreeFault → Type 0
+HasFaultWidths (Damaged n want found) = (length want ≡ 32) × (length found ≡ 32)
+HasFaultWidths (BadTag k want found) = (length want ≡ 16) × (length found ≡ 16)
+HasFaultWidths fault = Unit {0}

@@ -8,3 +8,4 @@ pub mod Changes
 pub mod WriteSets
 pub mod Selected
 pub mod Staging
+pub mod Stages

@@ -1,15 +1,19 @@
 -- The places that a committed reference selects, and what a firm tree keeps.
-use Rattle.std.specs.Prelude.{◌≡◌, ℕ, ◌+◌, ◌<◌, ◌≤◌, List, length, true, IsTrue}
+use Rattle.std.specs.Prelude.{◌≡◌, ℕ, ◌+◌, ◌<◌, ◌≤◌, List, length, map, true, IsTrue}
 use Rattle.disk_model.specs.State.{FileState, LeftSince, moment}
 use Rattle.node_image.specs.declared.node.NodeImage.{NodeImage}
 use Rattle.node_image.specs.declared.node.RootRef.{RootRef}
-use Rattle.node_image.specs.Layout.{has_form}
+use Rattle.node_image.specs.Layout.{has_form, head_of, node_of}
 use Rattle.node_image.specs.Parts.{Part, In, start}
 use Rattle.node_image.specs.Parts.Part.{head, node, block}
 use Rattle.node_image.specs.Tables.{block_version, node_version}
-use Rattle.node_image.specs.Selection.{Matches, head_in, part_in, selected_tree}
+use Rattle.node_image.specs.Selection.{Matches, SelectedTree, head_in, part_in, selected_tree}
 use Rattle.htree_file.specs.Opening.{IsVerified, Loaded}
 use Rattle.htree_file.specs.Standing.{IsFirm, OpensTo}
+
+-- the head and the nodes in the bytes that a reference selects
+abbrev pub loaded_in : SelectedTree → Loaded
+loaded_in what = record { head = head_of what.head_bytes; nodes = map node_of what.nodes }
 
 -- the part is one that the root's version and the nodes' flags name
 abbrev pub IsSelected : List NodeImage → (root : ℕ) → Part → Type 0

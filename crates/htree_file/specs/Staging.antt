@@ -1,47 +1,105 @@
--- A stage while it is written: what stands in the file already.
-use Rattle.std.specs.Prelude.{◌≡◌, ℕ, ◌+◌, ◌-◌, ◌<◌, ◌≤◌, List, length, get_or, Bool, true, Option}
+-- A version of a tree while it is written: what stands in the file, where what it reads as can be followed.
+use Rattle.std.specs.Prelude.{◌≡◌, ℕ, ◌+◌, ◌-◌, ◌<◌, ◌≤◌, List, length, get_or, Bool, true, false, Option, Some, ⊥}
+use Rattle.disk_model.specs.State.{FileState}
+use Rattle.disk_model.specs.Keeps.{Keeps}
 use Rattle.node_image.specs.declared.node.NodeImage.{NodeImage}
 use Rattle.node_image.specs.declared.head.Head.{Head}
-use Rattle.node_image.specs.Layout.{node_bytes, node_of}
+use Rattle.node_image.specs.Layout.{has_form, head_bytes, head_of, is_sized, node_bytes, node_of}
 use Rattle.node_image.specs.Parts.{Off, Part}
-use Rattle.node_image.specs.Parts.Part.{block, node}
-use Rattle.node_image.specs.Tables.{at_node, block_version, no_node, node_version}
+use Rattle.node_image.specs.Parts.Part.{block, head, node}
+use Rattle.node_image.specs.Tables.{at_node, block_bit, block_version, hash_in, no_node, node_version}
 use Rattle.htree_file.specs.declared.change.BlockChange.{BlockChange}
-use Rattle.htree_file.specs.Changes.{page_after, page_for}
-use Rattle.htree_file.specs.Pages.{page_in}
-use Rattle.htree_file.specs.Standing.{PageStands, Stands}
+use Rattle.htree_file.specs.Changes.{IsChanged, block_at, page_after, page_at, page_for}
+use Rattle.htree_file.specs.Pages.{page_in, page_of}
+use Rattle.htree_file.specs.Standing.{Stands}
 
--- the version of block k that the committed nodes do not name
-abbrev pub other_version : List NodeImage → (k : ℕ) → ℕ
-other_version nodes k = 1 - block_version nodes k
+-- A run of writes: it keeps these places, writes at most so many bytes, and settles nothing.
+pub record WritesAtMost (Kept : ℕ → Type 0) (bytes : ℕ) (old new : FileState) : Type 0 where
+  pub keeps : Keeps Kept old new
+  pub written : new.written ≤ old.written + bytes
+  pub pending_from : new.pending_from ≡ old.pending_from
+
+-- where a table has block k, and node n
+abbrev pub named_block : List NodeImage → (k : ℕ) → Part
+named_block table k = block k (block_version table k)
+
+abbrev pub named_node : List NodeImage → (root n : ℕ) → Part
+named_node table root n = node n (node_version table root n)
+
+-- the place lies off the blocks of these changes, and off the nodes of the set
+abbrev pub OffBlocks : List NodeImage → List BlockChange → (place : ℕ) → Type 0
+OffBlocks table changes place = (j : ℕ) → j < length changes → Off (named_block table (block_at changes j)) place
+
+abbrev pub OffNodes : List NodeImage → (root : ℕ) → (set : ℕ → Bool) → (place : ℕ) → Type 0
+OffNodes table root set place = (n : ℕ) → 1 ≤ n → n ≤ length table → set n ≡ true → Off (named_node table root n) place
+
+-- the place lies off all that is written: these blocks and nodes, and the head
+pub record OffWritten (table : List NodeImage) (root : ℕ) (changes : List BlockChange) (set : ℕ → Bool) (place : ℕ) : Type 0 where
+  pub blocks : OffBlocks table changes place
+  pub nodes : OffNodes table root set place
+  pub top : Off (head root) place
+
+-- The node seals the page as block k: a ciphertext opens to it. Where the file is known, that stands in the version which the
+-- node names.
+pub record IsSealed (known : Type 0) (file key : List ℕ) (h : Head) (n : NodeImage) (k : ℕ) (page : List ℕ) : Type 0 where
+  pub ciphertext : List ℕ
+  pub opens : page_of key h n k ciphertext ≡ Some page
+  pub stands : known → Stands file (block k (block_bit n.flags)) ciphertext
+
+-- the pages of the first changes are sealed by the nodes of the table
+abbrev pub AreSealed : (known : Type 0) → (file key : List ℕ) → Head → (table : List NodeImage) → List BlockChange → (count : ℕ) → Type 0
+AreSealed known file key h table changes count =
+    (j : ℕ) → j < count → IsSealed known file key h (get_or table (block_at changes j) no_node) (block_at changes j) (page_at changes j)
+
+-- the node is read back from its bytes, which stand in the part where the file is known
+pub record NodeStands (known : Type 0) (file : List ℕ) (q : Part) (image : NodeImage) : Type 0 where
+  pub stands : known → Stands file q (node_bytes image)
+  pub returns : node_of (node_bytes image) ≡ image
+
+-- those of the first nodes that are in the set stand where the table has them
+abbrev pub NodesStand : (known : Type 0) → (file : List ℕ) → (root : ℕ) → (table : List NodeImage) → (set : ℕ → Bool) → (count : ℕ) → Type 0
+NodesStand known file root table set count =
+    (n : ℕ) → 1 ≤ n → n ≤ count → set n ≡ true → NodeStands known file (named_node table root n) (at_node table n)
+
+-- a table with room for the nodes of any tree, whose nodes name version 0
+pub record IsBlank (table : List NodeImage) : Type 0 where
+  pub room : length table ≡ 256
+  pub zero : (k : ℕ) → (get_or table k no_node).flags ≡ 0
+
+-- a head is read back from its bytes, which have the form of a head where its numbers fit
+pub record HeadReturns (h : Head) : Type 0 where
+  pub read : head_of (head_bytes h) ≡ h
+  pub form : has_form (head_bytes h) ≡ is_sized h
+
+-- a node whose hash alone may have changed
+pub record SameSeal (old new : NodeImage) : Type 0 where
+  pub iv : new.iv ≡ old.iv
+  pub tag : new.tag ≡ old.tag
+  pub flags : new.flags ≡ old.flags
+
+-- those of the set that come after a node have their own hashes
+abbrev pub HashedAmong : (set : ℕ → Bool) → List NodeImage → Head → (from : ℕ) → Type 0
+HashedAmong set table h from = (n : ℕ) → from < n → n ≤ length table → set n ≡ true → (at_node table n).hash ≡ hash_in table h n
+
+-- the nodes of these changes may have another vector and tag, and each other node is as it was
+pub record SealsAnew (changes : List BlockChange) (old new : List NodeImage) : Type 0 where
+  pub flags : (k : ℕ) → (get_or new k no_node).flags ≡ (get_or old k no_node).flags
+  pub others : (k : ℕ) → (IsChanged changes k → ⊥) → get_or new k no_node ≡ get_or old k no_node
+
+-- besides, the nodes of the set may have another hash
+pub record MadeFrom (changes : List BlockChange) (set : ℕ → Bool) (old new : List NodeImage) : Type 0 where
+  pub flags : (k : ℕ) → (get_or new k no_node).flags ≡ (get_or old k no_node).flags
+  pub seals : (k : ℕ) → (IsChanged changes k → ⊥) → SameSeal (get_or old k no_node) (get_or new k no_node)
+  pub same : (n : ℕ) → 1 ≤ n → set n ≡ false → (IsChanged changes (n - 1) → ⊥) → at_node new n ≡ at_node old n
+
+-- a version of a tree, as it is once its parts are written
+pub record IsWritten (known : Type 0) (file key : List ℕ) (top : Head) (root : ℕ) (changes : List BlockChange) (set : ℕ → Bool) (table : List NodeImage) : Type 0 where
+  pub sealed : AreSealed known file key top table changes (length changes)
+  pub hashed : HashedAmong set table top 0
+  pub nodes : NodesStand known file root table set (length table)
+  pub top_stands : known → Stands file (head root) (head_bytes top)
+  pub top_returns : HeadReturns top
 
 -- the page that block k is to have: its change's, or the one that it has in the file, good or bad
 abbrev pub wanted_page : (file key : List ℕ) → Head → List NodeImage → List BlockChange → (k : ℕ) → Option (List ℕ)
 wanted_page file key h nodes changes k = page_after (page_for changes k) (page_in file key (record { head = h; nodes = nodes }) k)
-
--- those of the first blocks that are written stand in the other version, with the wanted page by the next table
-abbrev pub BlocksStaged : (before after key : List ℕ) → Head → (nodes next : List NodeImage) → List BlockChange → (blocks : ℕ → Bool) → (count : ℕ) → Type 0
-BlocksStaged before after key h nodes next changes blocks count =
-    (k : ℕ) → k < count → blocks (k + 1) ≡ true → PageStands after key h (get_or next k no_node) k (other_version nodes k) (wanted_page before key h nodes changes k)
-
--- the place lies off the other version of each of the first blocks
-abbrev pub OffBlocks : List NodeImage → (count place : ℕ) → Type 0
-OffBlocks nodes count place = (k : ℕ) → k < count → Off (block k (other_version nodes k)) place
-
--- where a table has node n
-abbrev pub named_part : List NodeImage → (root n : ℕ) → Part
-named_part nodes root n = node n (node_version nodes root n)
-
--- the node stands in the part, and is read back from its bytes
-pub record NodeStands (file : List ℕ) (q : Part) (image : NodeImage) : Type 0 where
-  pub stands : Stands file q (node_bytes image)
-  pub returns : node_of (node_bytes image) ≡ image
-
--- those of the first nodes that are written stand where their table has them
-abbrev pub NodesStaged : (file : List ℕ) → (root : ℕ) → (next : List NodeImage) → (chosen : ℕ → Bool) → (count : ℕ) → Type 0
-NodesStaged file root next chosen count =
-    (n : ℕ) → 1 ≤ n → n ≤ count → chosen n ≡ true → NodeStands file (named_part next root n) (at_node next n)
-
--- the place lies off each of the nodes that are written
-abbrev pub OffChosen : (root : ℕ) → (next : List NodeImage) → (chosen : ℕ → Bool) → (place : ℕ) → Type 0
-OffChosen root next chosen place = (n : ℕ) → 1 ≤ n → n ≤ length next → chosen n ≡ true → Off (named_part next root n) place

@@ -1,11 +1,12 @@
 // Calls of the file.
 ghost use Rattle.std.specs.Prelude.{◌≡◌, ◌+◌, ◌-◌, ◌<◌, ◌≤◌, ◌^◌, ◌++◌, length, take, replicate, IfErr, OnOk, IsTrue};
+ghost use Rattle.disk_model.specs.Arms.{count_call};
 ghost use Rattle.disk_model.specs.Calls.{Known, Rests};
-ghost use Rattle.disk_model.specs.Keeps.{Keeps, Outside};
+ghost use Rattle.disk_model.specs.Keeps.{Outside};
 ghost use Rattle.node_image.specs.Selection.{bytes_at};
 ghost use Rattle.htree_file.specs.Answers.{HasCause, IsFailed};
+ghost use Rattle.htree_file.specs.Staging.{WritesAtMost};
 
-ghost use Rattle.disk_model.specs.Arms.{count_call};
 use crate::fault::TreeFault;
 use tee_ports::StoreFile;
 
@@ -39,7 +40,7 @@ pub(crate) fn read_padded<F: StoreFile>(
 /// Writes bytes at a place, by one call of the file.
 pub(crate) fn put<F: StoreFile>(file: &mut F, at: u64, bytes: &[u8]) -> Result<(), TreeFault>
     requires { at + length bytes.now < 2 ^ 32 }
-    ensures keeps { Keeps (Outside at (at + length bytes.now)) (F.state file.old) (F.state file.new) }
+    ensures writes { WritesAtMost (Outside at (at + length bytes.now)) (length bytes.now) (F.state file.old) (F.state file.new) }
     ensures fits { OnOk result (Known (F.state file.old) (F.state file.new) →
         at + length bytes.now ≤ length (F.state file.new).reads) }
     ensures stands { OnOk result (Known (F.state file.old) (F.state file.new) →

@@ -4,29 +4,27 @@
 //! A tree is made whole, or loaded from a file that may hold anything. What is loaded is verified against the reference:
 //! a page that is read is the deciphering of a ciphertext with the tag that a verified node has for it.
 //!
-//! A tree is changed by a stage, which writes what changes into the version that the committed tree does not select. A stage
+//! A tree is changed by a stage, which writes what changes, and nothing else, into the version that the committed tree does not
+//! select. A stage
 //! is settled and then adopted, or dropped. On an honest file a crash meanwhile leaves a firm tree as it was committed.
 #![tactic(auto)]
 
 mod change;
 mod device;
 mod fault;
-mod making;
 mod opening;
+mod laws;
 mod pages;
 mod parts;
 mod reading;
 mod sealing;
-#[cfg(test)]
-mod stage_tests;
 mod staging;
 mod table;
-#[cfg(test)]
-mod tests;
 mod tree;
 mod version;
 mod write_set;
 
 pub use change::BlockChange;
 pub use fault::{Broken, Page, TreeFault};
+pub use laws::{firm_opens_alike, read_keeps_firm, selection_names_tree};
 pub use tree::Tree;

@@ -1,12 +1,11 @@
 // Each part is written by one call of the file.
 ghost use Rattle.std.specs.Prelude.{◌≡◌, ◌<◌, ◌≤◌, IfErr, OnOk};
 ghost use Rattle.disk_model.specs.Calls.{Known};
-ghost use Rattle.disk_model.specs.Keeps.{Keeps};
-ghost use Rattle.node_image.specs.Layout.{head_bytes, node_bytes, node_of};
+ghost use Rattle.node_image.specs.Layout.{head_bytes};
 ghost use Rattle.node_image.specs.Parts.{Off};
 ghost use Rattle.node_image.specs.Parts.Part.{block, head, node};
 ghost use Rattle.htree_file.specs.Answers.{HasCause, IsFailed};
-ghost use Rattle.htree_file.specs.Making.{HeadReturns};
+ghost use Rattle.htree_file.specs.Staging.{HeadReturns, NodeStands, WritesAtMost};
 ghost use Rattle.htree_file.specs.Standing.{Stands};
 
 use crate::device::put;
@@ -21,7 +20,7 @@ pub(crate) fn write_head<F: StoreFile>(
     top: &Head,
 ) -> Result<(), TreeFault>
     requires { version < 2 }
-    ensures keeps { Keeps (Off (head version)) (F.state file.old) (F.state file.new) }
+    ensures writes { WritesAtMost (Off (head version)) 32 (F.state file.old) (F.state file.new) }
     ensures stands { OnOk result (Known (F.state file.old) (F.state file.new) →
         Stands (F.state file.new).reads (head version) (head_bytes top.now)) }
     ensures returns { HeadReturns top.now }
@@ -39,10 +38,9 @@ pub(crate) fn write_node<F: StoreFile>(
     image: &NodeImage,
 ) -> Result<(), TreeFault>
     requires { (1 ≤ n) × (n ≤ 256) × (version < 2) }
-    ensures keeps { Keeps (Off (node n version)) (F.state file.old) (F.state file.new) }
-    ensures stands { OnOk result (Known (F.state file.old) (F.state file.new) →
-        Stands (F.state file.new).reads (node n version) (node_bytes image.now)) }
-    ensures returns { node_of (node_bytes image.now) ≡ image.now }
+    ensures writes { WritesAtMost (Off (node n version)) 66 (F.state file.old) (F.state file.new) }
+    ensures stands { OnOk result (NodeStands (Known (F.state file.old) (F.state file.new)) (F.state file.new).reads
+        (node n version) image.now) }
     ensures cause { HasCause (F.state file.old) (F.state file.new) result }
     ensures failed { IfErr result IsFailed }
 {
@@ -57,7 +55,7 @@ pub(crate) fn write_block<F: StoreFile>(
     ciphertext: &Page,
 ) -> Result<(), TreeFault>
     requires { (k < 256) × (version < 2) }
-    ensures keeps { Keeps (Off (block k version)) (F.state file.old) (F.state file.new) }
+    ensures writes { WritesAtMost (Off (block k version)) 4096 (F.state file.old) (F.state file.new) }
     ensures stands { OnOk result (Known (F.state file.old) (F.state file.new) →
         Stands (F.state file.new).reads (block k version) ciphertext.now) }
     ensures cause { HasCause (F.state file.old) (F.state file.new) result }

@@ -1,249 +1,163 @@
-// A stage writes what changes, each part in the version that the committed tree does not select.
-ghost use Rattle.std.specs.Prelude.{◌≡◌, ℕ, ◌+◌, ◌-◌, ◌<◌, ◌≤◌, length, true, None, option_copied, IfErr, IfOk, OnOk, IsTrue};
+// A version of a tree is written: the blocks that change, the nodes of a set, and the head, each where the table names it.
+ghost use Rattle.std.specs.Prelude.{◌≡◌, ◌↔◌, ℕ, ◌+◌, ◌-◌, ◌*◌, ◌<◌, ◌≤◌, length, cond, true, IfErr, IfOk, IsTrue, OnOk};
 ghost use Rattle.disk_model.specs.Calls.{Known};
-ghost use Rattle.disk_model.specs.Keeps.{Keeps};
-ghost use Rattle.node_image.specs.declared.head.Head.{Head};
 ghost use Rattle.node_image.specs.Layout.{is_sized};
 ghost use Rattle.node_image.specs.Parts.{Off};
-ghost use Rattle.node_image.specs.Parts.Part.{block};
-ghost use Rattle.node_image.specs.Tables.{at_node, block_bit};
-ghost use Rattle.node_image.specs.Selection.{part_in};
+ghost use Rattle.node_image.specs.Tables.{at_node};
 ghost use Rattle.tree_paths.specs.Paths.{holds};
+ghost use Rattle.tree_paths.specs.Staged.{IsStaged, count_to, write_budget};
 ghost use Rattle.htree_file.specs.Answers.{HasCause, IsFailed};
-ghost use Rattle.htree_file.specs.Changes.{AreChanges, page_after, page_for};
-ghost use Rattle.htree_file.specs.Making.{DrawCause, IsDeviceFault, NotEntropy};
-ghost use Rattle.htree_file.specs.Opening.{IsVerified};
-ghost use Rattle.htree_file.specs.Pages.{page_in, page_of};
-ghost use Rattle.htree_file.specs.Selected.{BlocksEnd, IsLoaded, Lies};
-ghost use Rattle.htree_file.specs.Staging.{BlocksStaged, NodeStands, NodesStaged, OffBlocks, OffChosen, named_part, other_version, wanted_page};
-ghost use Rattle.htree_file.specs.Standing.{PageStands, Stands, Told};
-ghost use Rattle.htree_file.specs.WriteSets.{AreStaged, IsStaged, IsWriteSet};
+ghost use Rattle.htree_file.specs.Changes.{AreApart, AreChanges, block_at, changed_blocks, changes_of};
+ghost use Rattle.htree_file.specs.Staging.{AreSealed, IsWritten, MadeFrom, NodeStands, NodesStand, OffBlocks, OffNodes, OffWritten, SealsAnew, WritesAtMost, named_node};
+ghost use Rattle.htree_file.specs.WriteSets.{IsWriteSet};
 
-use crate::change::{BlockChange, page_for};
-use crate::device::read_padded;
-use crate::fault::{Page, TreeFault};
-use crate::parts::{write_block, write_head, write_node};
+use crate::change::NewPages;
+use crate::fault::TreeFault;
+use crate::parts::{write_head, write_node};
 use crate::sealing::write_page;
-use crate::table::{BLANK, node_version, rehash_nodes, version_of_block};
-use crate::write_set::{WriteSet, turn_node};
+use crate::table::{node_version, rehash_nodes};
+use crate::write_set::WriteSet;
 use aes_block::Aes128;
-use node_image::{Head, NodeImage, RootRef, block_offset};
-use tee_ports::{Entropy, StoreFile};
-use tree_paths::NodeSet;
+use node_image::{Head, NodeImage, RootRef};
+use tee_ports::StoreFile;
 
-const ZERO_PAGE: Page = [0; 4096];
-
-// The committed node of block k. A new block has none yet, and its node begins blank.
-fn old_node(nodes: &[NodeImage], k: u32) -> NodeImage
-    ensures node { k < length nodes.now → result ≡ at_node nodes.now (k + 1) }
-    ensures flags { result.flags ≡ (at_node nodes.now (k + 1)).flags }
-{
-    match nodes.get(k as usize) {
-        Some(node) => *node,
-        None => BLANK,
-    }
+/// A version of a tree that is to be written, in place of one of `before` nodes: the blocks' key, the head and its version,
+/// the pages that it gets, and the parts that are written.
+#[derive(Drop)]
+pub(crate) struct NewVersion<'a> {
+    pub(crate) key: &'a Aes128,
+    pub(crate) head: &'a Head,
+    pub(crate) root: u8,
+    pub(crate) pages: NewPages<'a>,
+    pub(crate) before: u32,
+    pub(crate) set: WriteSet,
+    ghost few: { (1 ≤ head.now.greatest) × (head.now.greatest ≤ 256) × (root < 2) × (before ≤ 256) × (length (changes_of pages) ≤ 256) },
+    ghost sized: { IsTrue (is_sized head.now) },
+    ghost changes: { AreChanges before head.now.greatest (changes_of pages) },
+    ghost apart: { AreApart head.now.greatest (changes_of pages) },
+    ghost closed: { IsWriteSet before head.now.greatest (changes_of pages) (holds set.nodes) (holds set.blocks) },
+    ghost budget: { (m : ℕ) → IsTrue (holds set.nodes m) ↔ IsStaged (changed_blocks (changes_of pages)) before head.now.greatest m },
 }
 
-// Copies block k from a version into the other one as it stands, so that a bad block stays bad.
-fn copy_block<F: StoreFile>(file: &mut F, k: u32, version: u8) -> Result<(), TreeFault>
-    requires { (k < 256) × (version < 2) }
-    ensures stands { OnOk result (Told (F.state file.old) (F.state file.new) →
-        Stands (F.state file.new).reads (block k (1 - version)) (part_in (F.state file.old).reads (block k version))) }
-    ensures keeps { Keeps (Off (block k (1 - version))) (F.state file.old) (F.state file.new) }
-    ensures cause { HasCause (F.state file.old) (F.state file.new) result }
-    ensures failed { IfErr result IsFailed }
-{
-    let mut ciphertext = ZERO_PAGE;
-    read_padded(file, block_offset(k, version), &mut ciphertext)?;
-    write_block(file, k, 1 - version, &ciphertext)?;
-    Ok(())
-}
-
-// Writes block k in the version that its node does not name: the page of its change, under a new initialization vector, or
-// else the block as it stands, with its vector and tag. Gives the node with vector and tag.
-fn stage_block<F: StoreFile, E: Entropy>(
-    file: &mut F,
-    entropy: &mut E,
-    key: &Aes128,
-    head: &Head,
-    node: &NodeImage,
-    k: u32,
-    change: Option<&Page>,
-) -> Result<NodeImage, TreeFault>
-    requires { k < 256 }
-    ensures flags { IfOk result (λ sealed. sealed.flags ≡ node.now.flags) }
-    ensures stands { IfOk result (λ sealed. Told (F.state file.old) (F.state file.new) →
-        PageStands (F.state file.new).reads key.now head.now sealed k (1 - block_bit node.now.flags)
-        (page_after (option_copied change.entry)
-        (page_of key.now head.now node.now k (part_in (F.state file.old).reads (block k (block_bit node.now.flags)))))) }
-    ensures keeps { Keeps (Off (block k (1 - block_bit node.now.flags))) (F.state file.old) (F.state file.new) }
-    ensures cause { HasCause (F.state file.old) (F.state file.new) result }
-    ensures draws { DrawCause (E.faults entropy.old) (E.faults entropy.new) result }
-    ensures reliable { E.is_reliable entropy.old → E.is_reliable entropy.new }
-    ensures drawn { E.is_reliable entropy.old → IfErr result NotEntropy }
-    ensures fault { IfErr result IsDeviceFault }
-{
-    let version = version_of_block(node);
-    match change {
-        Some(page) => {
-            let sealed = write_page(file, entropy, key, head, node, k, 1 - version, page)?;
-            Ok(sealed)
-        }
-        None => {
-            copy_block(file, k, version)?;
-            Ok(*node)
+impl<'a> NewVersion<'a> {
+    /// The version for new pages.
+    pub(crate) fn of_pages(
+        key: &'a Aes128,
+        head: &'a Head,
+        root: u8,
+        pages: NewPages<'a>,
+        before: u32,
+    ) -> NewVersion<'a>
+        requires few { (1 ≤ head.now.greatest) × (head.now.greatest ≤ 256) × (root < 2) × (before ≤ 256) }
+        requires sized { IsTrue (is_sized head.now) }
+        requires changes { AreChanges before head.now.greatest (changes_of pages) }
+        ensures key { result.key.now ≡ key.now }
+        ensures head { result.head.now ≡ head.now }
+        ensures root { (result.root ≡ root) × (result.before ≡ before) }
+        ensures pages { changes_of result.pages ≡ changes_of pages.entry }
+    {
+        let set = WriteSet::of_pages(&pages, before, head.greatest);
+        NewVersion {
+            key,
+            head,
+            root,
+            pages,
+            before,
+            set,
         }
     }
-}
 
-// Stages block k and its node, where the set has them. Gives the node, all but its hash.
-fn stage_part<F: StoreFile, E: Entropy>(
-    file: &mut F,
-    entropy: &mut E,
-    key: &Aes128,
-    head: &Head,
-    nodes: &[NodeImage],
-    changes: &[BlockChange],
-    set: &WriteSet,
-    k: u32,
-) -> Result<NodeImage, TreeFault>
-    requires { k < 256 }
-    ensures staged { IfOk result (λ staged. IsStaged nodes.now (holds set.now.nodes) (holds set.now.blocks) (k + 1) staged) }
-    ensures stands { IfOk result (λ staged. Told (F.state file.old) (F.state file.new) →
-        (page_for changes.now k ≡ None → k < length nodes.now) → holds set.now.blocks (k + 1) ≡ true →
-        PageStands (F.state file.new).reads key.now head.now staged k (other_version nodes.now k)
-        (wanted_page (F.state file.old).reads key.now head.now nodes.now changes.now k)) }
-    ensures keeps { Keeps (Off (block k (other_version nodes.now k))) (F.state file.old) (F.state file.new) }
-    ensures cause { HasCause (F.state file.old) (F.state file.new) result }
-    ensures draws { DrawCause (E.faults entropy.old) (E.faults entropy.new) result }
-    ensures reliable { E.is_reliable entropy.old → E.is_reliable entropy.new }
-    ensures drawn { E.is_reliable entropy.old → IfErr result NotEntropy }
-    ensures fault { IfErr result IsDeviceFault }
-{
-    let node = old_node(nodes, k);
-    if !set.blocks.has(k + 1) {
-        return Ok(turn_node(set, k + 1, &node));
+    // Enciphers and writes the new pages. The table's nodes get their tags.
+    fn write_pages<F: StoreFile>(
+        &self,
+        file: &mut F,
+        table: &mut [NodeImage],
+    ) -> Result<(), TreeFault>
+        requires { length table.old ≡ self.now.head.now.greatest }
+        ensures sealed { OnOk result (AreSealed (Known (F.state file.old) (F.state file.new)) (F.state file.new).reads
+            self.now.key.now self.now.head.now table.new (changes_of self.now.pages) (length (changes_of self.now.pages))) }
+        ensures anew { SealsAnew (changes_of self.now.pages) table.old table.new }
+        ensures writes { WritesAtMost (OffBlocks table.old (changes_of self.now.pages)) (4096 * length (changes_of self.now.pages))
+            (F.state file.old) (F.state file.new) }
+        ensures cause { HasCause (F.state file.old) (F.state file.new) result }
+        ensures failed { IfErr result IsFailed }
+    {
+        for j in 0..self.pages.count() {
+            let k = self.pages.block(j);
+            let page = self.pages.page(j);
+            let node = write_page(file, self.key, self.head, &table[k as usize], k, page)?;
+            table[k as usize] = node;
+        }
+        Ok(())
     }
-    let sealed = stage_block(file, entropy, key, head, &node, k, page_for(changes, k))?;
-    Ok(turn_node(set, k + 1, &sealed))
-}
 
-// Stages all blocks. The next table gets their nodes, all but the hashes.
-fn stage_blocks<F: StoreFile, E: Entropy>(
-    file: &mut F,
-    entropy: &mut E,
-    key: &Aes128,
-    head: &Head,
-    nodes: &[NodeImage],
-    changes: &[BlockChange],
-    set: &WriteSet,
-    next: &mut [NodeImage],
-) -> Result<(), TreeFault>
-    requires few { length next.old ≤ 256 }
-    requires changes { AreChanges (length nodes.now) (length next.old) changes.now }
-    ensures staged { OnOk result (AreStaged nodes.now (holds set.now.nodes) (holds set.now.blocks) next.new (length next.old)) }
-    ensures stand { OnOk result (Told (F.state file.old) (F.state file.new) → BlocksEnd (F.state file.old).reads nodes.now →
-        BlocksStaged (F.state file.old).reads (F.state file.new).reads key.now head.now nodes.now next.new changes.now
-        (holds set.now.blocks) (length next.old)) }
-    ensures keeps { Keeps (OffBlocks nodes.now (length next.old)) (F.state file.old) (F.state file.new) }
-    ensures cause { HasCause (F.state file.old) (F.state file.new) result }
-    ensures draws { DrawCause (E.faults entropy.old) (E.faults entropy.new) result }
-    ensures reliable { E.is_reliable entropy.old → E.is_reliable entropy.new }
-    ensures drawn { E.is_reliable entropy.old → IfErr result NotEntropy }
-    ensures fault { IfErr result IsDeviceFault }
-{
-    for k in 0..next.len() {
-        let node = stage_part(file, entropy, key, head, nodes, changes, set, k as u32)?;
-        next[k] = node;
+    // Writes node n where the table has it, if it is in the set.
+    fn write_chosen<F: StoreFile>(
+        &self,
+        file: &mut F,
+        table: &[NodeImage],
+        n: u32,
+    ) -> Result<(), TreeFault>
+        requires { (1 ≤ n) × (n ≤ length table.now) × (length table.now ≤ 256) }
+        ensures stands { OnOk result (holds self.now.set.nodes n ≡ true →
+            NodeStands (Known (F.state file.old) (F.state file.new)) (F.state file.new).reads
+            (named_node table.now self.now.root n) (at_node table.now n)) }
+        ensures one { WritesAtMost (Off (named_node table.now self.now.root n)) (66 * cond (holds self.now.set.nodes n) 1 0)
+            (F.state file.old) (F.state file.new) }
+        ensures writes { WritesAtMost (OffNodes table.now self.now.root (holds self.now.set.nodes))
+            (66 * cond (holds self.now.set.nodes n) 1 0) (F.state file.old) (F.state file.new) }
+        ensures cause { HasCause (F.state file.old) (F.state file.new) result }
+        ensures failed { IfErr result IsFailed }
+    {
+        if !self.set.nodes.has(n) {
+            return Ok(());
+        }
+        let version = node_version(table, self.root, n);
+        write_node(file, n, version, &table[n as usize - 1])?;
+        Ok(())
     }
-    Ok(())
-}
 
-// Writes node n where its table has it, if the set has the node.
-fn write_chosen<F: StoreFile>(
-    file: &mut F,
-    root: u8,
-    nodes: &[NodeImage],
-    set: &NodeSet,
-    n: u32,
-) -> Result<(), TreeFault>
-    requires { (1 ≤ n) × (n ≤ length nodes.now) × (length nodes.now ≤ 256) × (root < 2) }
-    ensures stands { OnOk result (Known (F.state file.old) (F.state file.new) → holds set.now n ≡ true →
-        NodeStands (F.state file.new).reads (named_part nodes.now root n) (at_node nodes.now n)) }
-    ensures one { Keeps (Off (named_part nodes.now root n)) (F.state file.old) (F.state file.new) }
-    ensures keeps { Keeps (OffChosen root nodes.now (holds set.now)) (F.state file.old) (F.state file.new) }
-    ensures cause { HasCause (F.state file.old) (F.state file.new) result }
-    ensures failed { IfErr result IsFailed }
-{
-    if !set.has(n) {
-        return Ok(());
+    // Writes each node of the set where the table has it.
+    fn write_nodes<F: StoreFile>(&self, file: &mut F, table: &[NodeImage]) -> Result<(), TreeFault>
+        requires { length table.now ≤ 256 }
+        ensures stand { OnOk result (NodesStand (Known (F.state file.old) (F.state file.new)) (F.state file.new).reads
+            self.now.root table.now (holds self.now.set.nodes) (length table.now)) }
+        ensures writes { WritesAtMost (OffNodes table.now self.now.root (holds self.now.set.nodes))
+            (66 * count_to (holds self.now.set.nodes) 256) (F.state file.old) (F.state file.new) }
+        ensures cause { HasCause (F.state file.old) (F.state file.new) result }
+        ensures failed { IfErr result IsFailed }
+    {
+        for k in 0..table.len() {
+            self.write_chosen(file, table, k as u32 + 1)?;
+        }
+        Ok(())
     }
-    let version = node_version(nodes, root, n);
-    write_node(file, n, version, &nodes[n as usize - 1])?;
-    Ok(())
-}
 
-// Writes each node of the set where its table has it.
-fn write_chosen_nodes<F: StoreFile>(
-    file: &mut F,
-    root: u8,
-    nodes: &[NodeImage],
-    set: &NodeSet,
-) -> Result<(), TreeFault>
-    requires { (length nodes.now ≤ 256) × (root < 2) }
-    ensures stand { OnOk result (Known (F.state file.old) (F.state file.new) →
-        NodesStaged (F.state file.new).reads root nodes.now (holds set.now) (length nodes.now)) }
-    ensures keeps { Keeps (OffChosen root nodes.now (holds set.now)) (F.state file.old) (F.state file.new) }
-    ensures cause { HasCause (F.state file.old) (F.state file.new) result }
-    ensures failed { IfErr result IsFailed }
-{
-    for k in 0..nodes.len() {
-        write_chosen(file, root, nodes, set, k as u32 + 1)?;
+    /// Writes the version, each part where the table names it: the new pages under the vectors that the table has for them,
+    /// the nodes of the set with the hashes that they have then, and the head. Gives the reference.
+    pub(crate) fn write<F: StoreFile>(
+        &self,
+        file: &mut F,
+        table: &mut [NodeImage],
+    ) -> Result<RootRef, TreeFault>
+        requires { length table.old ≡ self.now.head.now.greatest }
+        ensures root { IfOk result (λ r. r ≡ record { hash = (at_node table.new 1).hash; version = self.now.root }) }
+        ensures written { OnOk result (IsWritten (Known (F.state file.old) (F.state file.new)) (F.state file.new).reads
+            self.now.key.now self.now.head.now self.now.root (changes_of self.now.pages) (holds self.now.set.nodes) table.new) }
+        ensures from { OnOk result (MadeFrom (changes_of self.now.pages) (holds self.now.set.nodes) table.old table.new) }
+        ensures writes { WritesAtMost (OffWritten table.old self.now.root (changes_of self.now.pages) (holds self.now.set.nodes))
+            (write_budget (length (changes_of self.now.pages)) (count_to (holds self.now.set.nodes) 256)) (F.state file.old) (F.state file.new) }
+        ensures cause { HasCause (F.state file.old) (F.state file.new) result }
+        ensures failed { IfErr result IsFailed }
+    {
+        self.write_pages(file, table)?;
+        rehash_nodes(table, self.head, &self.set.nodes);
+        self.write_nodes(file, table)?;
+        write_head(file, self.root, self.head)?;
+        let hash = table[0].hash;
+        Ok(RootRef {
+            hash,
+            version: self.root,
+        })
     }
-    Ok(())
-}
-
-/// Writes the version that the committed tree does not select: the blocks and nodes of the set, and the head. The next table
-/// gets the nodes. Gives the reference.
-pub(crate) fn stage_tree<F: StoreFile, E: Entropy>(
-    file: &mut F,
-    entropy: &mut E,
-    key: &Aes128,
-    root: RootRef,
-    nodes: &[NodeImage],
-    head: &Head,
-    changes: &[BlockChange],
-    set: &WriteSet,
-    next: &mut [NodeImage],
-) -> Result<RootRef, TreeFault>
-    requires few { (length nodes.now ≤ 256) × (root.version < 2) }
-    requires next { (length next.old ≡ head.now.greatest) × (1 ≤ head.now.greatest) × (head.now.greatest ≤ 256) }
-    requires sized { IsTrue (is_sized head.now) }
-    requires changes { AreChanges (length nodes.now) (length next.old) changes.now }
-    requires closed { IsWriteSet (length nodes.now) (length next.old) changes.now (holds set.now.nodes) (holds set.now.blocks) }
-    ensures root { IfOk result (λ r. r ≡ record { hash = (at_node next.new 1).hash; version = 1 - root.version }) }
-    ensures verified { IfOk result (λ r. (was : Head) →
-        IsVerified root (record { head = was; nodes = nodes.now }) →
-        IsVerified r (record { head = head.now; nodes = next.new })) }
-    ensures loaded { IfOk result (λ r. (was : Head) → Told (F.state file.old) (F.state file.new) →
-        IsLoaded (F.state file.old).reads root (record { head = was; nodes = nodes.now }) →
-        IsLoaded (F.state file.new).reads r (record { head = head.now; nodes = next.new })) }
-    ensures pages { OnOk result ((was : Head) → Told (F.state file.old) (F.state file.new) →
-        IsLoaded (F.state file.old).reads root (record { head = was; nodes = nodes.now }) →
-        (k : ℕ) → k < length next.new → page_in (F.state file.new).reads key.now (record { head = head.now; nodes = next.new }) k
-        ≡ wanted_page (F.state file.old).reads key.now head.now nodes.now changes.now k) }
-    ensures keeps { Keeps (Lies nodes.now root.version) (F.state file.old) (F.state file.new) }
-    ensures cause { HasCause (F.state file.old) (F.state file.new) result }
-    ensures draws { DrawCause (E.faults entropy.old) (E.faults entropy.new) result }
-    ensures reliable { E.is_reliable entropy.old → E.is_reliable entropy.new }
-    ensures drawn { E.is_reliable entropy.old → IfErr result NotEntropy }
-    ensures fault { IfErr result IsDeviceFault }
-{
-    stage_blocks(file, entropy, key, head, nodes, changes, set, next)?;
-    rehash_nodes(next, head, &set.nodes);
-    let version = 1 - root.version;
-    write_chosen_nodes(file, version, next, &set.nodes)?;
-    write_head(file, version, head)?;
-    let hash = next[0].hash;
-    Ok(RootRef { hash, version })
 }

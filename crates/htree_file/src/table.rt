@@ -1,8 +1,8 @@
 // Tables of nodes, node 1 first, and what they name.
 ghost use Rattle.std.specs.Prelude.{◌≡◌, ◌≢◌, ℕ, ◌+◌, ◌-◌, ◌*◌, ◌<◌, ◌≤◌, length, IfOk, IfSome, IfNone, option_copied, option_map, get_or, Bool, false};
 ghost use Rattle.node_image.specs.Tables.{at_node, block_bit, block_version, hash_in, no_node, node_version};
-ghost use Rattle.htree_file.specs.Making.{HashedAmong, HashedFrom, SameSeal};
 ghost use Rattle.htree_file.specs.Opening.{first_damaged, need_of};
+ghost use Rattle.htree_file.specs.Staging.{HashedAmong, IsBlank, SameSeal};
 ghost use Rattle.tree_paths.specs.Paths.{holds};
 
 use node_image::{Head, NodeImage, block_offset, node_hash};
@@ -27,11 +27,14 @@ pub(crate) const BLANK: NodeImage = NodeImage {
     flags: 0,
 };
 
-/// A table with room for the nodes of any tree.
-pub(crate) fn blank_nodes(alloc: Global) -> Result<Vec<NodeImage>, NoMemory>
-    ensures { IfOk result (λ nodes. length nodes.items ≡ 256) }
+/// Two tables, each with room for the nodes of any tree, whose nodes name version 0.
+pub(crate) fn blank_tables(alloc: Global) -> Result<(Vec<NodeImage>, Vec<NodeImage>), NoMemory>
+    ensures first { IfOk result (λ tables. IsBlank tables.0.items) }
+    ensures second { IfOk result (λ tables. IsBlank tables.1.items) }
 {
-    vec![in alloc; BLANK; MOST_NODES]
+    let nodes = vec![in alloc; BLANK; MOST_NODES]?;
+    let next = vec![in alloc; BLANK; MOST_NODES]?;
+    Ok((nodes, next))
 }
 
 /// The version of node `n`, by the nodes above it.
@@ -123,36 +126,7 @@ pub(crate) fn need_of(nodes: &[NodeImage]) -> u64
     most
 }
 
-// Gives node i + 1 the hash that it has. Its children have theirs.
-fn hash_node(nodes: &mut [NodeImage], head: &Head, i: usize)
-    requires all { length nodes.old ≡ head.now.greatest }
-    requires within { (i < length nodes.old) × (length nodes.old ≤ 256) }
-    ensures others { (j : ℕ) → j ≢ i → get_or nodes.new j no_node ≡ get_or nodes.old j no_node }
-    ensures seal { SameSeal (get_or nodes.old i no_node) (get_or nodes.new i no_node) }
-    ensures hashed { HashedFrom nodes.old head.now (i + 1) → HashedFrom nodes.new head.now i }
-    ensures among { (chosen : ℕ → Bool) →
-        HashedAmong chosen nodes.old head.now (i + 1) → HashedAmong chosen nodes.new head.now i }
-{
-    let hash = hash_in(nodes, head, i as u32 + 1);
-    let node = &mut nodes[i];
-    node.hash = hash;
-}
-
-/// Gives each node the hash that it has, from the last one up to the root.
-pub(crate) fn hash_nodes(nodes: &mut [NodeImage], head: &Head)
-    requires all { length nodes.old ≡ head.now.greatest }
-    requires few { length nodes.old ≤ 256 }
-    ensures seals { (k : ℕ) → SameSeal (get_or nodes.old k no_node) (get_or nodes.new k no_node) }
-    ensures hashed { HashedFrom nodes.new head.now 0 }
-{
-    let mut i = nodes.len();
-    while i > 0 {
-        i -= 1;
-        hash_node(nodes, head, i);
-    }
-}
-
-// The same where the set has the node.
+// Gives node i + 1 the hash that it has, if it is in the set. Its children have theirs.
 fn rehash_node(nodes: &mut [NodeImage], head: &Head, set: &NodeSet, i: usize)
     requires all { length nodes.old ≡ head.now.greatest }
     requires within { (i < length nodes.old) × (length nodes.old ≤ 256) }
@@ -165,7 +139,9 @@ fn rehash_node(nodes: &mut [NodeImage], head: &Head, set: &NodeSet, i: usize)
     if !set.has(i as u32 + 1) {
         return;
     }
-    hash_node(nodes, head, i);
+    let hash = hash_in(nodes, head, i as u32 + 1);
+    let node = &mut nodes[i];
+    node.hash = hash;
 }
 
 /// Gives each node of the set the hash that it has, from the last one up to the root.

@@ -1,29 +1,29 @@
 // A tree over a file.
-ghost use Rattle.std.specs.Prelude.{◌≡◌, ◌⊎◌, ◌+◌, ◌-◌, ◌<◌, ◌≤◌, length, map, IfErr, IfOk, IfSome, IsSome, IsSomeAnd, IsTrue, OnErr, OnOk, Result, Some, None, true, false};
+ghost use Rattle.std.specs.Prelude.{◌≡◌, ◌⊎◌, ℕ, [], ◌+◌, ◌-◌, ◌<◌, ◌≤◌, get_or, length, map, IfErr, IfOk, IfSome, IsSome, IsSomeAnd, IsTrue, OnErr, OnOk, Result, Some, None, true, false};
 ghost use Rattle.aes_block.specs.WrappedKey.{unwrapped_of};
 ghost use Rattle.disk_model.specs.Controls.{disarmed, failure_armed, stop_armed, taint_armed};
-ghost use Rattle.disk_model.specs.Calls.{Known, Rests};
+ghost use Rattle.disk_model.specs.Arms.{count_call};
+ghost use Rattle.disk_model.specs.Calls.{Known, Rests, Syncs};
 ghost use Rattle.disk_model.specs.Keeps.{Anywhere, Keeps};
 ghost use Rattle.node_image.specs.Layout.{greatest_of, is_sized};
 ghost use Rattle.node_image.specs.Tables.{at_node};
-ghost use Rattle.htree_file.specs.Answers.{BlockAnswer, Differs, FaultCause, FilePassed, HasCause, IsFailed, IsLoadFault, IsOutside};
-ghost use Rattle.htree_file.specs.Changes.{AreChanges, OpensAfter};
-ghost use Rattle.htree_file.specs.Making.{DrawCause, DrawFault, IsDeviceFault, IsMakeFault, NotEntropy, Nowhere};
+ghost use Rattle.htree_file.specs.Answers.{BlockAnswer, Differs, FaultCause, FilePassed, HasCause, HasFaultWidths, IsFailed, IsLoadFault, IsOutside};
+ghost use Rattle.htree_file.specs.Changes.{AreChanges, OpensAfter, Seals, SealsChanges, SparesZero, changed_blocks};
+ghost use Rattle.htree_file.specs.Making.{DrawFault, HasCauses, IsDeviceFault, IsDrawFault, IsMakeFault, NamesVersionZero, NotEntropy, Nowhere};
 ghost use Rattle.htree_file.specs.Opening.{IsVerified, load_of};
 ghost use Rattle.htree_file.specs.Pages.{block_in, opened_of};
 ghost use Rattle.htree_file.specs.Selected.{KeepsFirm, Lies};
 ghost use Rattle.htree_file.specs.Standing.{IsFirm, Told};
+ghost use Rattle.tree_paths.specs.Staged.{IsWithinBudget};
 
-ghost use Rattle.disk_model.specs.Arms.{count_call};
-use crate::change::BlockChange;
+use crate::change::{BlockChange, NewPages};
 use crate::device::read_padded;
 use crate::fault::{Broken, Page, TreeFault};
-use crate::making::build_tree;
 use crate::pages::open_page;
 use crate::reading::read_tree;
 use crate::sealing::draw;
-use crate::table::{blank_nodes, block_version};
-use crate::version::stage_version;
+use crate::staging::NewVersion;
+use crate::table::{blank_tables, block_version};
 use aes_block::{Aes128, unwrap_key};
 use node_image::{Head, NodeImage, RootRef, block_offset, greatest_node};
 use std::alloc::Global;
@@ -57,7 +57,8 @@ struct Stage {
 }
 
 impl<F: StoreFile> Model for Tree<F> {
-    ghost use Rattle.std.specs.Prelude.{◌≡◌, ◌<◌, ◌≤◌, length, take, option_map};
+    ghost use Rattle.std.specs.Prelude.{◌≡◌, ◌<◌, ◌≤◌, IfSome, length, take, option_map};
+    ghost use Rattle.htree_file.specs.Opening.{IsVerified};
     ghost use Rattle.htree_file.specs.Value.{TreeValue};
 
     ghost Value = { TreeValue F };
@@ -74,7 +75,9 @@ impl<F: StoreFile> Model for Tree<F> {
       }) t.stage;
     } };
 
-    ghost invariant = { λ t. (length t.nodes.items ≡ 256) × (length t.next.items ≡ 256) × (1 ≤ t.head.greatest) × (t.head.greatest ≤ 256) × (t.root.version < 2) };
+    ghost invariant = { λ t. (length t.nodes.items ≡ 256) × (length t.next.items ≡ 256) × (1 ≤ t.head.greatest) × (t.head.greatest ≤ 256) × (t.root.version < 2)
+        × IsVerified t.root (record { head = t.head; nodes = take t.head.greatest t.nodes.items })
+        × IfSome t.stage (λ s. IsVerified s.root (record { head = s.head; nodes = take s.head.greatest t.next.items })) };
 }
 
 // The head of a new tree.
@@ -101,8 +104,8 @@ impl<F: StoreFile> Tree<F> {
     ///
     /// # Errors
     ///
-    /// `Failed` where a call of the file failed, `NoEntropy` where a draw failed, and `NoMemory`. The file then may hold
-    /// anything in version 0.
+    /// `Failed` where a call of the file failed; the file then may hold anything in version 0. Besides `NoEntropy`, where a draw
+    /// failed, and `NoMemory`: nothing was written then.
     pub fn make<E: Entropy>(
         alloc: Global,
         mut file: F,
@@ -123,12 +126,16 @@ impl<F: StoreFile> Tree<F> {
         ensures firm { IfOk result (λ made. IsTrue (F.state made.0.file).honest →
             IsFirm (F.state made.0.file) made.1 made.0.tree) }
         ensures verified { IfOk result (λ made. IsVerified made.1 made.0.tree) }
+        // Of any file.
+        ensures seals { IfOk result (λ made. (k : ℕ) → k < length blocks.now → Seals made.0.key made.0.tree k (get_or blocks.now k [])) }
+        ensures flags { IfOk result (λ made. NamesVersionZero made.0.tree) }
         ensures few { IfOk result (λ made. (1 ≤ made.0.tree.head.greatest) × (made.0.tree.head.greatest ≤ 256)) }
         ensures key { IfOk result (λ made. made.0.key ≡ unwrapped_of wrap.now made.0.tree.head.wrapped) }
         ensures bytes { IfOk result (λ made. made.0.tree.head.length ≡ bytes) }
         ensures keeps { IfOk result (λ made. Keeps Nowhere (F.state file) (F.state made.0.file)) }
         ensures keeps_err { IfErr result (λ b. Keeps Nowhere (F.state file) (F.state b.file)) }
         ensures fault { IfErr result (λ b. IsMakeFault b.fault) }
+        ensures untouched { IfErr result (λ b. IsDrawFault b.fault → b.file ≡ file) }
         ensures passed { IfOk result (λ made. FilePassed (F.state file) (F.state made.0.file)) }
         ensures cause { IfErr result (λ b. FaultCause (F.state file) (F.state b.file) b.fault) }
         ensures drew { IfOk result (λ _. E.faults entropy.new ≡ E.faults entropy.old) }
@@ -136,17 +143,8 @@ impl<F: StoreFile> Tree<F> {
         ensures reliable { E.is_reliable entropy.old → E.is_reliable entropy.new }
         ensures drawn { E.is_reliable entropy.old → IfErr result (λ b. NotEntropy b.fault) }
     {
-        let mut nodes = match blank_nodes(alloc) {
-            Ok(nodes) => nodes,
-            Err(_) => {
-                return Err(Broken {
-                    file,
-                    fault: TreeFault::NoMemory,
-                });
-            }
-        };
-        let next = match blank_nodes(alloc) {
-            Ok(next) => next,
+        let (mut nodes, next) = match blank_tables(alloc) {
+            Ok(tables) => tables,
             Err(_) => {
                 return Err(Broken {
                     file,
@@ -160,7 +158,9 @@ impl<F: StoreFile> Tree<F> {
         };
         let head = new_head(wrap, &fek, bytes);
         let key = Aes128::new(&fek);
-        match build_tree(&mut file, entropy, &key, &head, blocks, &mut nodes) {
+        let version = NewVersion::of_pages(&key, &head, 0, NewPages::All(blocks), 0);
+        let table = &mut nodes[..head.greatest as usize];
+        match version.make(&mut file, entropy, table) {
             Ok(root) => {
                 let tree = Tree {
                     file,
@@ -204,6 +204,7 @@ impl<F: StoreFile> Tree<F> {
         ensures kind { IfErr result (λ b. IsLoadFault b.fault) }
         ensures verified { IfOk result (λ t. IsVerified root t.tree) }
         ensures few { IfOk result (λ t. (1 ≤ t.tree.head.greatest) × (t.tree.head.greatest ≤ 256)) }
+        ensures widths { IfErr result (λ b. HasFaultWidths b.fault) }
         ensures differs { IfErr result (λ b. IsTrue (F.state b.file).tells → Differs (F.state b.file).reads root b.fault) }
         ensures rests { IfOk result (λ t. Rests (F.state file) (F.state t.file)) }
         ensures rests_err { IfErr result (λ b. Rests (F.state file) (F.state b.file)) }
@@ -211,17 +212,8 @@ impl<F: StoreFile> Tree<F> {
         ensures two { IfOk result (λ t. IsTrue (F.state file).tells_arms → (F.state t.file).arms ≡ count_call (count_call (F.state file).arms)) }
         ensures cause { IfErr result (λ b. FaultCause (F.state file) (F.state b.file) b.fault) }
     {
-        let mut nodes = match blank_nodes(alloc) {
-            Ok(nodes) => nodes,
-            Err(_) => {
-                return Err(Broken {
-                    file,
-                    fault: TreeFault::NoMemory,
-                });
-            }
-        };
-        let next = match blank_nodes(alloc) {
-            Ok(next) => next,
+        let (mut nodes, next) = match blank_tables(alloc) {
+            Ok(tables) => tables,
             Err(_) => {
                 return Err(Broken {
                     file,
@@ -255,6 +247,8 @@ impl<F: StoreFile> Tree<F> {
             BlockAnswer self.old.key tree.head (at_node tree.nodes (block + 1)) block
             (λ ciphertext. IsTrue (F.state self.new.file).tells → ciphertext ≡ block_in (F.state self.new.file).reads tree block)
             result into.new }
+        ensures widths { IfErr result HasFaultWidths }
+        ensures verified { IsVerified self.old.root self.old.tree }
         ensures once { IsTrue (F.state self.old.file).tells_arms → (F.state self.new.file).arms ≡ count_call (F.state self.old.file).arms }
         ensures same { self.new ≡ record self.old { file = self.new.file } }
         ensures rests { Rests (F.state self.old.file) (F.state self.new.file) }
@@ -266,15 +260,16 @@ impl<F: StoreFile> Tree<F> {
         open_page(&self.key, &self.head, &node, block, into)
     }
 
-    /// Writes a changed tree of so many bytes into the version that the committed tree does not select, and leaves it open as
-    /// a stage. Blocks that do not change are taken over as they stand, good or bad. The committed tree stays, and nothing is
-    /// settled. Takes no memory.
+    /// Writes what changes of a tree of so many bytes into the version that the committed tree does not select, and leaves it
+    /// open as a stage: the blocks of the changes, the nodes that change with them, and the head. The committed tree stays,
+    /// and nothing is settled. Takes no memory.
     ///
     /// `changes` are the blocks that change, in their order, with one for each new block.
     ///
     /// # Errors
     ///
-    /// `Failed` where a call of the file failed, and `NoEntropy` where a draw failed. No stage is open then.
+    /// `NoEntropy` where a draw failed; no call of the file was made. `Failed` where a call of the file failed. No stage is
+    /// open then.
     pub fn stage<E: Entropy>(
         &mut self,
         bytes: u64,
@@ -289,42 +284,41 @@ impl<F: StoreFile> Tree<F> {
         ensures next { OnOk result (IfSome self.new.stage (λ s. (s.root.version ≡ 1 - self.old.root.version) × (s.settled ≡ false)
             × (s.tree.head ≡ record self.old.tree.head { length = bytes; greatest = greatest_of bytes }))) }
         ensures same { self.new ≡ record self.old { file = self.new.file; stage = self.new.stage } }
+        // All vectors are drawn before the first call of the file.
+        ensures untouched { IfErr result (λ fault. IsDrawFault fault → self.new ≡ self.old) }
         // In every image at every moment since, the committed reference names the committed tree.
         ensures firm { KeepsFirm (F.state self.old.file) (F.state self.new.file) self.old.root self.old.tree }
         ensures keeps { Keeps (Lies self.old.tree.nodes self.old.root.version) (F.state self.old.file) (F.state self.new.file) }
+        // It writes no more than the write budget has for these changes, and settles nothing.
+        ensures budget { IsWithinBudget (changed_blocks changes.now) self.old.tree.head.greatest (greatest_of bytes)
+            (F.state self.old.file).written (F.state self.new.file).written }
+        ensures unsettled { (F.state self.new.file).pending_from ≡ (F.state self.old.file).pending_from }
         // The stage's reference opens to the old pages with the changes.
-        ensures loaded { OnOk result (Told (F.state self.old.file) (F.state self.new.file) →
+        ensures loaded { OnOk result (Known (F.state self.old.file) (F.state self.new.file) →
             load_of (F.state self.old.file).reads self.old.root ≡ Result.Ok self.old.tree →
             IfSome self.new.stage (λ s. load_of (F.state self.new.file).reads s.root ≡ Result.Ok s.tree)) }
-        ensures opened { OnOk result (Told (F.state self.old.file) (F.state self.new.file) →
+        ensures opened { OnOk result (Known (F.state self.old.file) (F.state self.new.file) →
             load_of (F.state self.old.file).reads self.old.root ≡ Result.Ok self.old.tree →
             IfSome self.new.stage (λ s. OpensAfter self.old.key self.old.tree.head.wrapped
             (F.state self.old.file).reads self.old.root (F.state self.new.file).reads s.root bytes changes.now)) }
-        ensures verified { OnOk result (IsVerified self.old.root self.old.tree →
-            IfSome self.new.stage (λ s. IsVerified s.root s.tree)) }
-        ensures fault { IfErr result IsDeviceFault }
-        ensures cause { HasCause (F.state self.old.file) (F.state self.new.file) result }
-        ensures draws { DrawCause (E.faults entropy.old) (E.faults entropy.new) result }
-        ensures reliable { E.is_reliable entropy.old → E.is_reliable entropy.new }
-        ensures drawn { E.is_reliable entropy.old → IfErr result NotEntropy }
+        // Of any file.
+        ensures verified { OnOk result (IfSome self.new.stage (λ s. IsVerified s.root s.tree)) }
+        ensures seals { OnOk result (IfSome self.new.stage (λ s. SealsChanges self.old.key self.old.tree s.tree changes.now)) }
+        ensures spares { OnOk result (IfSome self.new.stage (λ s. SparesZero self.old.tree s.tree)) }
+        ensures causes { HasCauses IsDeviceFault (F.state self.old.file) (F.state self.new.file) (E.faults entropy.old) (E.faults entropy.new)
+            (E.is_reliable entropy.old) (E.is_reliable entropy.new) result }
     {
-        self.stage = None;
         let head = Head {
             length: bytes,
             greatest: greatest_node(bytes),
             ..self.head
         };
-        let root = stage_version(
-            &mut self.file,
-            entropy,
-            &self.key,
-            self.root,
-            &self.head,
-            &self.nodes,
-            &head,
-            changes,
-            &mut self.next,
-        )?;
+        let before = self.head.greatest;
+        let pages = NewPages::Changed(changes);
+        let version = NewVersion::of_pages(&self.key, &head, 1 - self.root.version, pages, before);
+        let committed = &self.nodes[..before as usize];
+        let next = &mut self.next[..head.greatest as usize];
+        let root = version.stage(&mut self.file, entropy, committed, next)?;
         self.stage = Some(Stage {
             root,
             head,
@@ -342,6 +336,7 @@ impl<F: StoreFile> Tree<F> {
         requires open { IsSome self.old.stage }
         ensures settled { IfOk result (λ root. IfSome self.old.stage (λ s.
             (root ≡ s.root) × (self.new.stage ≡ Some (record s { settled = true })))) }
+        ensures synced { OnOk result (Syncs (F.state self.old.file) (F.state self.new.file)) }
         ensures open { OnErr result (self.new.stage ≡ self.old.stage) }
         ensures same { self.new ≡ record self.old { file = self.new.file; stage = self.new.stage } }
         ensures reads { Known (F.state self.old.file) (F.state self.new.file) →
@@ -387,7 +382,10 @@ impl<F: StoreFile> Tree<F> {
 
     /// How many bytes the tree holds.
     pub fn length(&self) -> u64
-        ensures { result ≡ self.now.tree.head.length }
+        ensures length { result ≡ self.now.tree.head.length }
+        ensures few { result ≤ 1048576 }
+        // Each tree is verified under its reference.
+        ensures verified { IsVerified self.now.root self.now.tree }
     {
         self.head.length
     }
