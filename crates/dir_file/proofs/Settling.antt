@@ -78,6 +78,11 @@ held_kept old new d sound still kept honest was =
         ∙ was.entries_are old.reads (reads_left old sound);
     }
 
+-- without a stage no entry is left over
+pub idle_next : (o : Option Staged) (next : Option NextEntry) (entries : List (Option DirEntry)) (wrapped : List ℕ) → NextFits wrapped o next → staged_of o next entries ≡ None → next ≡ None
+idle_next None next entries wrapped fits idle = fits
+idle_next (Some s) next entries wrapped fits idle = absurd (cc (sym (staged_is (Some s) next entries s fits.entry refl fits.is) ∙ idle))
+
 module _ {F : Type 0} (t u : TreeValue F) (old new : FileState) (tsk : List ℕ) (entries : List (Option DirEntry)) (sound : Sound old) (still : Sound new) where
   -- settling
   module _ (next : Option NextEntry) (opens : IsSome (staged_of t.stage next entries)) (same : u ≡ record t { file = u.file; stage = u.stage })
