@@ -1,31 +1,31 @@
 -- A directory with the page of one block replaced.
-use Rattle.std.proofs.Common.{◌≡◌, ◌≢◌, ◌⊎◌, ◌∙◌, ◌+◌, ◌*◌, ◌/◌, ◌%◌, ◌-◌, ◌<◌, ◌≤◌, ◌==◌, ℕ, List, [], ◌∷◌, length, get_or, slice_set, unwrap_or, Option, Some, None, Result, Ok, Err, is_none, Bool, true, false, refl, sym, ap, subst, inl, inr, arith, get_or-set_same, get_or-set_other}
+use Rattle.std.proofs.Common.{◌≡◌, ◌≢◌, ◌∙◌, ◌+◌, ◌*◌, ◌/◌, ◌%◌, ◌<◌, ◌==◌, ℕ, List, [], ◌∷◌, length, get_or, slice_set, unwrap_or, Option, Some, None, Result, Ok, is_none, Bool, true, false, refl, sym, ap, subst, inl, inr, arith, get_or-set_same, get_or-set_other}
 use Rattle.std.proofs.lemmas.Bool.{cases_eq, cond-true, cond-false, eq-eqb, eqb-true, ne_eqb}
 use Rattle.std.proofs.Common.{is_eq}
 use Rattle.store_model.specs.declared.name.ObjectName.{ObjectName}
 use Rattle.store_model.specs.Name.{name_cmp}
 use Rattle.crash_core.proofs.Names.{alike_is}
 use Rattle.crash_core.proofs.EntryMaps.{self}
-use Rattle.std.specs.Prelude.{◌&&◌, ◌||◌}
+use Rattle.std.specs.Prelude.{◌||◌}
 use Rattle.std.proofs.Math.ListN.{length-set}
-use Rattle.std.specs.Prelude.{find, option_map}
+use Rattle.std.specs.Prelude.{option_map}
 use Rattle.aes_block.specs.WrappedKey.{unwrapped_of}
 use Rattle.byte_fields.specs.Field.{field}
 use Rattle.node_image.specs.declared.node.RootRef.{RootRef}
-use Rattle.node_image.specs.Layout.{greatest_of}
-use Rattle.node_image.specs.Selection.{row}
 use Rattle.node_image.proofs.Matching.{length-row, row_at}
 use Rattle.htree_file.specs.declared.change.BlockChange.{BlockChange}
 use Rattle.htree_file.specs.Changes.{OpensAfter, opened_after, page_after, page_for}
 use Rattle.htree_file.specs.Opening.{Loaded, load_of}
-use Rattle.htree_file.specs.Pages.{Opened, opened_of}
+use Rattle.htree_file.specs.Pages.{Opened}
 use Rattle.dir_records.specs.declared.entry.DirEntry.{DirEntry}
 use Rattle.dir_records.specs.declared.entry.BadRecord.{BadRecord}
 use Rattle.dir_records.specs.Form.{record_of}
 use Rattle.crash_core.specs.Entries.{is_double, name_of, record_at}
 use Rattle.crash_core.specs.Directory.{directory_of}
-use Rattle.dir_file.specs.EntryForms.{Fits}
-use Rattle.dir_file.proofs.Entries.{AreEntries, Distinct, HoldsEntries, directory_opened, directory_opens}
+use Rattle.dir_records.specs.Form.{HasForm}
+use Rattle.std.proofs.Common.{IfSome}
+use Rattle.dir_file.specs.EntryForms.{AreEntriesOf, Fits, HasForms}
+use Rattle.dir_file.proofs.Entries.{Distinct, HoldsEntries, double_back, entries_single, directory_opened, directory_opens}
 
 -- the change of one block
 abbrev pub one_change : (block : ℕ) (page : List ℕ) → List BlockChange
@@ -64,6 +64,49 @@ double_sym (Some a) (Some b) = same_sym a b
   where
     same_sym : (a b : DirEntry) → is_double (Some a) (Some b) ≡ is_double (Some b) (Some a)
     same_sym a b = λ i. name_sym (name_of a) (name_of b) i || number_sym a.file b.file i
+
+-- entries without doubles stay so, where the new one fits
+module _ (entries : List (Option DirEntry)) (index : ℕ) (entry : Option DirEntry) (long : length entries ≡ 256) (distinct_are : Distinct entries 256) (fits : Fits entries index entry) where
+  pub distinct_after : Distinct (slice_set entries index entry) 256
+  distinct_after i lt j le = elim (cases_eq i index) [
+    | inl same ↦
+        let ne : j ≢ index = λ e. absurd (omega arith) in
+        ap (λ (e : Option DirEntry). is_double e (get_or (slice_set entries index entry) i None)) (get_or-set_other entries index j entry None ne)
+        ∙ ap (is_double (get_or entries j None)) (entry_at i same)
+        ∙ fits.alone j (omega arith) ne
+    | inr other ↦ elim (cases_eq j index) [
+      | inl first ↦
+          ap (λ (e : Option DirEntry). is_double e (get_or (slice_set entries index entry) i None)) (entry_at j first)
+          ∙ ap (is_double entry) (get_or-set_other entries index i entry None other)
+          ∙ double_sym entry (get_or entries i None)
+          ∙ fits.alone i lt other
+      | inr ne ↦
+          ap (λ (e : Option DirEntry). is_double e (get_or (slice_set entries index entry) i None)) (get_or-set_other entries index j entry None ne)
+          ∙ ap (is_double (get_or entries j None)) (get_or-set_other entries index i entry None other)
+          ∙ distinct_are i lt j le
+    ]
+  ]
+    where
+      entry_at : (k : ℕ) → k ≡ index → get_or (slice_set entries index entry) k None ≡ entry
+      entry_at k same = ap (λ (m : ℕ). get_or (slice_set entries index entry) m None) same ∙ get_or-set_same entries index entry None (omega (arith, long, fits.below))
+
+forms_after : (entries : List (Option DirEntry)) (index : ℕ) (entry : Option DirEntry) → length entries ≡ 256 → HasForms entries → Fits entries index entry → HasForms (slice_set entries index entry)
+forms_after entries index entry long forms fits i lt = elim (cases_eq i index) [
+  | inl same ↦
+      let at : get_or (slice_set entries index entry) i None ≡ entry =
+      ap (λ (m : ℕ). get_or (slice_set entries index entry) m None) same ∙ get_or-set_same entries index entry None (omega (arith, long, fits.below)) in
+      subst (λ (e : Option DirEntry). IfSome e HasForm) (sym at) fits.form
+  | inr other ↦
+      subst (λ (e : Option DirEntry). IfSome e HasForm) (sym (get_or-set_other entries index i entry None other)) (forms i (omega (arith, lt, length-set entries index entry)))
+]
+
+-- A directory's entries are ones still, once one that fits was changed.
+pub entries_after : (entries : List (Option DirEntry)) (index : ℕ) (entry : Option DirEntry) → Fits entries index entry → AreEntriesOf entries → AreEntriesOf (slice_set entries index entry)
+entries_after entries index entry fits are = record {
+  whole = length-set entries index entry ∙ are.whole;
+  forms = forms_after entries index entry are.whole are.forms fits;
+  apart = entries_single (slice_set entries index entry) (distinct_after entries index entry are.whole (λ i lt j le. double_back entries 256 are.apart i lt j le) fits);
+}
 
 module _ (opened : Opened) (entries : List (Option DirEntry)) (holds : HoldsEntries opened entries) (index : ℕ) (entry : Option DirEntry) (fits : Fits entries index entry) (page : List ℕ)
     (records : (j : ℕ) → j < 32 → record_of (field (128 * j) 128 page) ≡ Ok (get_or (slice_set entries index entry) (32 * (index / 32) + j) None)) where
@@ -113,36 +156,13 @@ module _ (opened : Opened) (entries : List (Option DirEntry)) (holds : HoldsEntr
       set_away : (i : ℕ) → i ≢ index → get_or (slice_set entries index entry) i None ≡ get_or entries i None
       set_away i ne = get_or-set_other entries index i entry None ne
 
-  distinct_then : Distinct after 256
-  distinct_then i lt j le = elim (cases_eq i index) [
-    | inl same ↦
-        let ne : j ≢ index = λ e. absurd (omega arith) in
-        ap (λ (e : Option DirEntry). is_double e (get_or after i None)) (get_or-set_other entries index j entry None ne)
-        ∙ ap (is_double (get_or entries j None)) (entry_at i same)
-        ∙ fits.alone j (omega arith) ne
-    | inr other ↦ elim (cases_eq j index) [
-      | inl first ↦
-          ap (λ (e : Option DirEntry). is_double e (get_or after i None)) (entry_at j first)
-          ∙ ap (is_double entry) (get_or-set_other entries index i entry None other)
-          ∙ double_sym entry (get_or entries i None)
-          ∙ fits.alone i lt other
-      | inr ne ↦
-          ap (λ (e : Option DirEntry). is_double e (get_or after i None)) (get_or-set_other entries index j entry None ne)
-          ∙ ap (is_double (get_or entries j None)) (get_or-set_other entries index i entry None other)
-          ∙ holds.distinct_are i lt j le
-    ]
-  ]
-    where
-      entry_at : (k : ℕ) → k ≡ index → get_or (slice_set entries index entry) k None ≡ entry
-      entry_at k same = ap (λ (m : ℕ). get_or (slice_set entries index entry) m None) same ∙ get_or-set_same entries index entry None (omega (arith, holds.entries_are.long, fits.below))
-
   pub holds_after : HoldsEntries now after
   holds_after = record {
     bytes = refl;
     blocks = length-row page_then 8;
     good = still_good;
     entries_are = record { long = length-set entries index entry ∙ holds.entries_are.long; records = record_then };
-    distinct_are = distinct_then;
+    distinct_are = distinct_after entries index entry holds.entries_are.long holds.distinct_are fits;
   }
 
 -- The directory after the change of one block.

@@ -1,24 +1,21 @@
 -- What a directory holds, entry by entry.
-use Rattle.std.proofs.Common.{◌≡◌, ◌≢◌, ◌⊎◌, ◌∙◌, ◌+◌, ◌*◌, ◌-◌, ◌<◌, ◌≤◌, ◌==◌, ℕ, zero, suc, List, [], ◌∷◌, ◌++◌, length, get_or, Option, Some, None, Result, Ok, Err, cond, is_none, Bool, true, false, refl, sym, ap, subst, inl, inr, arith, length-append}
+use Rattle.std.proofs.Common.{◌≡◌, ◌∙◌, ◌+◌, ◌<◌, ◌≤◌, ◌==◌, ℕ, zero, suc, List, [], ◌∷◌, ◌++◌, length, get_or, Option, Some, None, Result, Ok, Err, cond, is_none, Bool, true, false, refl, sym, ap, subst, inl, inr, arith, length-append}
 use Rattle.std.proofs.lemmas.Bool.{cases_eq, cases_lt, cond-true, cond-false, eq-eqb, ne_eqb}
 use Rattle.aes_block.specs.WrappedKey.{unwrapped_of}
 use Rattle.node_image.specs.declared.node.RootRef.{RootRef}
 use Rattle.node_image.specs.Layout.{greatest_of}
 use Rattle.node_image.specs.Selection.{row}
 use Rattle.std.proofs.lemmas.List.{get_or_append_left, get_or_push, get_or-map}
-use Rattle.node_image.proofs.Matching.{length-row, row_at, row_is}
-use Rattle.htree_file.specs.declared.fault.TreeFault.{TreeFault}
-use Rattle.htree_file.specs.declared.fault.TreeFault.TheVariants.{BadTag}
+use Rattle.node_image.proofs.Matching.{length-row, row_is}
 use Rattle.htree_file.specs.Opening.{Loaded, load_of}
 use Rattle.htree_file.specs.Pages.{Opened, opened_in, opened_of, page_in}
-use Rattle.htree_file.specs.Selected.{IsLoaded}
 use Rattle.htree_file.proofs.Loadings.{loaded_from}
 use Rattle.htree_file.proofs.Sizes.{sized_greatest}
 use Rattle.crash_core.proofs.Doubles.{like_none as like_found, double_none as double_found}
 use Rattle.dir_records.specs.declared.entry.DirEntry.{DirEntry}
 use Rattle.dir_records.specs.declared.entry.BadRecord.{BadRecord}
 use Rattle.crash_core.specs.declared.fault.DirFault.{DirFault}
-use Rattle.crash_core.specs.declared.fault.DirFault.TheVariants.{Tree, WrongLength, Record, Double}
+use Rattle.crash_core.specs.declared.fault.DirFault.TheVariants.{WrongLength}
 use Rattle.dir_file.specs.Pages.{some_pages}
 use Rattle.crash_core.specs.Entries.{distinct, double_or, entries_of, first_double, first_like, is_double, or_double, record_at, with_record}
 use Rattle.crash_core.specs.Directory.{bad_block, blocks_of, directory_from, directory_in, directory_of, directory_or, directory_pages, first_bad, or_bad, pages_of}
@@ -160,14 +157,17 @@ directory_opens tsk image root tree entries loads is =
     let found : or_bad image key tree pages (bad_block tree.head.length pages) ≡ Ok entries = sym (ap (directory_or tsk image) loads) ∙ is in
     let good = by_bad image key tree pages entries (bad_block tree.head.length pages) refl found in
     let ok = in_ok tree.head.length pages entries good.1 in
-    let many : length tree.nodes ≡ 8 = l.verified.all ∙ sized_greatest tree.head l.verified.sized ∙ ap greatest_of ok.0 in
-    (opening tsk image tree, ap (opened_in image tsk) loads, record {
-      bytes = ok.0;
-      blocks = length-row (page_in image key tree) (length tree.nodes) ∙ many;
-      good = λ k lt. bad_back pages 0 (blocks_of tree.head.length) good.0 k (omega arith) (omega (arith, ok.0));
-      entries_are = ok.1;
-      distinct_are = ok.2;
-    })
+    let many : length tree.nodes ≡ 8 = l.verified.all ∙ sized_greatest tree.head l.verified.sized ∙ ap greatest_of ok.0 in (
+      opening tsk image tree,
+      ap (opened_in image tsk) loads,
+      record {
+        bytes = ok.0;
+        blocks = length-row (page_in image key tree) (length tree.nodes) ∙ many;
+        good = λ k lt. bad_back pages 0 (blocks_of tree.head.length) good.0 k (omega arith) (omega (arith, ok.0));
+        entries_are = ok.1;
+        distinct_are = ok.2;
+      },
+    )
   where
     by_bad : (image key : List ℕ) (tree : Loaded) (pages : List (Option (List ℕ))) (entries : List (Option DirEntry)) (o : Option ℕ) → bad_block tree.head.length pages ≡ o → or_bad image key tree pages o ≡ Ok entries
         → (bad_block tree.head.length pages ≡ None) × (directory_in tree.head.length pages ≡ Ok entries)
@@ -198,3 +198,7 @@ pages_read bytes items is long =
     ap (directory_pages (record { bytes = bytes; pages = pages }))
     (bad_none pages 0 (blocks_of bytes) (λ j from upto. ap is_none (get_or-map (λ p. Some p) items j [] None (omega (arith, is, long)))))
     ∙ cond-true (bytes == 32768) (distinct (entries_of pages 256)) (Err (WrongLength bytes)) (eq-eqb bytes 32768 is)
+
+-- a list without doubles, in its forms
+pub entries_single : (entries : List (Option DirEntry)) → Distinct entries 256 → first_double entries 0 256 ≡ None
+entries_single entries distinct_are = double_none entries 0 256 (λ k from upto j lt. distinct_are k (omega arith) j lt)

@@ -1,59 +1,19 @@
 -- The entries in pages that were read.
-use Rattle.std.proofs.Common.{◌≡◌, ◌≢◌, ◌⊎◌, ◌∙◌, ◌+◌, ◌*◌, ◌/◌, ◌%◌, ◌-◌, ◌<◌, ◌≤◌, ◌==◌, ℕ, zero, suc, List, [], ◌∷◌, ◌++◌, length, map, min, max, get_or, Option, Some, None, Result, Ok, Err, cond, is_none, nat_lt, if◌then◌else◌, Bool, true, false, refl, sym, ap, subst, inl, inr, arith, length-append, unwrap_or}
-use Rattle.std.specs.Prelude.{IsTrue, IfSome, IfOk, IfErr, replicate, take, drop, ◌&&◌}
-use Rattle.std.proofs.lemmas.Bool.{cases_eq, cases_lt, cond-true, cond-false, eq-eqb, ne_eqb, lt-ltb, le-ltb}
-use Rattle.std.proofs.lemmas.List.{get_or_append_left, get_or_push, get_or-map, length-map, get_or-replicate, length-replicate}
+use Rattle.std.proofs.Common.{◌≡◌, ◌∙◌, ◌*◌, ◌/◌, ◌%◌, ℕ, List, [], get_or, Option, Some, None, Result, Ok, Err, if◌then◌else◌, Bool, true, false, refl, ap, subst, arith, unwrap_or}
+use Rattle.std.specs.Prelude.{IfSome}
 use Rattle.byte_fields.specs.Field.{field}
-use Rattle.disk_model.specs.State.{FileState, LeftNow, Sound}
-use Rattle.disk_model.proofs.ImageLaws.{reads_left}
-use Rattle.disk_model.specs.Calls.{Known, Rests}
-use Rattle.disk_model.proofs.Goings.{first_known, goes_on_then, then_known}
-use Rattle.aes_block.specs.WrappedKey.{unwrapped_of}
-use Rattle.node_image.specs.declared.node.RootRef.{RootRef}
-use Rattle.node_image.specs.Layout.{greatest_of}
-use Rattle.node_image.specs.Selection.{row}
-use Rattle.node_image.specs.Tables.{at_node}
-use Rattle.node_image.proofs.Matching.{length-row, row_at, row_is}
-use Rattle.htree_file.specs.declared.fault.TreeFault.{TreeFault}
-use Rattle.htree_file.specs.declared.fault.TreeFault.TheVariants.{BadHead, BadTag, Damaged, Failed, NoEntropy, NoMemory, Short}
-use Rattle.htree_file.specs.Answers.{BlockAnswer, FaultCause, FilePassed, IsOutside}
-use Rattle.htree_file.specs.Opening.{IsVerified, Loaded, load_of}
-use Rattle.htree_file.specs.Pages.{block_in, page_in, page_of, tag_of}
-use Rattle.htree_file.specs.Standing.{IsFirm, Told}
-use Rattle.htree_file.specs.Pages.{Opened, opened_of}
-use Rattle.node_image.specs.Selection.{selected_tree}
-use Rattle.crash_core.proofs.SameDirectory.{directory_same}
-use Rattle.dir_file.specs.Held.{IsHeld}
-use Rattle.dir_file.specs.Inside.{DirInside, NextFits}
-use Rattle.dir_file.specs.declared.file.NextEntry.{NextEntry}
-use Rattle.htree_file.specs.Value.{Staged}
-use Rattle.node_image.specs.declared.head.Head.{Head}
-use Rattle.htree_file.specs.Value.{TreeValue}
-use Rattle.htree_file.proofs.Causes.{fault_then, passed_then, rests_then, told_then}
-use Rattle.htree_file.proofs.Sizes.{sized_greatest}
 use Rattle.dir_records.specs.declared.entry.DirEntry.{DirEntry}
 use Rattle.dir_records.specs.declared.entry.BadRecord.{BadRecord}
 use Rattle.dir_records.specs.Form.{HasForm, entry_or, first_fault, is_free, record_of}
 use Rattle.dir_records.specs.Layout.{entry_of}
 use Rattle.dir_records.proofs.Reading.{has_form-entry_of, passes}
-use Rattle.dir_records.proofs.Bytes.{is_free-replicate}
 use Rattle.crash_core.specs.declared.fault.DirFault.{DirFault}
 use Rattle.crash_core.specs.declared.fault.DirFault.TheVariants.{Tree, WrongLength, Record, Double}
-use Rattle.crash_core.specs.Entries.{distinct, entries_of, first_double, is_double, or_double, record_at}
-use Rattle.crash_core.specs.Directory.{blocks_of, directory_from, directory_in, directory_of, directory_or, first_bad, or_bad, pages_of, tree_directory}
+use Rattle.crash_core.specs.Entries.{distinct, entries_of, first_double, or_double}
 use Rattle.dir_file.specs.Pages.{Parses, some_pages}
-use Rattle.dir_file.specs.EntryForms.{HasForms}
-use Rattle.dir_file.specs.EntryForms.{AreEntriesOf, no_entries}
-use Rattle.dir_file.specs.Pages.{ArePages, ReadsEntries, kept}
-use Rattle.dir_file.specs.Loading.{DirCause, IsOutsideDir}
-use Rattle.dir_file.specs.Making.{AreBlank}
-use Rattle.dir_file.proofs.Entries.{AreEntries, Distinct, HoldsEntries, bad_none, pages_read, directory_opened, double_none, entries_back}
-use Rattle.htree_file.specs.Changes.{Seals}
-use Rattle.dir_file.specs.Loading.{HasPages, IsReadDirectory}
-use Rattle.dir_file.specs.Refusals.{DirDiffers, EntriesDiffer, IsRefusedBlock, IsRefusedTree}
-use Rattle.dir_file.specs.Pages.{AreSealed}
-use Rattle.dir_file.specs.Calls.{ReadsBlocks, calls_counted}
-use Rattle.disk_model.specs.Arms.{Arms, count_call}
+use Rattle.dir_file.specs.EntryForms.{AreEntriesOf}
+use Rattle.dir_file.specs.Pages.{ReadsEntries}
+use Rattle.dir_file.proofs.Entries.{AreEntries, entries_back}
 
 -- an entry that is read has its form
 form_of : (b : List ℕ) (e : DirEntry) → record_of b ≡ Ok (Some e) → HasForm e

@@ -7,3 +7,4 @@ pub mod EntriesRead
 pub mod PagesRead
 pub mod Loading
 pub mod MadeDirectory
+pub mod Budget

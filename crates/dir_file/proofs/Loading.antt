@@ -1,60 +1,39 @@
 -- What a tree that loaded holds as a directory.
-use Rattle.std.proofs.Common.{◌≡◌, ◌≢◌, ◌⊎◌, ◌∙◌, ◌+◌, ◌*◌, ◌/◌, ◌%◌, ◌-◌, ◌<◌, ◌≤◌, ◌==◌, ℕ, zero, suc, List, [], ◌∷◌, ◌++◌, length, map, min, max, get_or, Option, Some, None, Result, Ok, Err, cond, is_none, nat_lt, if◌then◌else◌, Bool, true, false, refl, sym, ap, subst, inl, inr, arith, length-append, unwrap_or}
-use Rattle.std.specs.Prelude.{IsTrue, IfSome, IfOk, IfErr, replicate, take, drop, ◌&&◌}
-use Rattle.std.proofs.lemmas.Bool.{cases_eq, cases_lt, cond-true, cond-false, eq-eqb, ne_eqb, lt-ltb, le-ltb}
-use Rattle.std.proofs.lemmas.List.{get_or_append_left, get_or_push, get_or-map, length-map, get_or-replicate, length-replicate}
-use Rattle.byte_fields.specs.Field.{field}
-use Rattle.disk_model.specs.State.{FileState, LeftNow, Sound}
-use Rattle.disk_model.proofs.ImageLaws.{reads_left}
-use Rattle.disk_model.specs.Calls.{Known, Rests}
-use Rattle.disk_model.proofs.Goings.{first_known, goes_on_then, then_known}
+use Rattle.std.proofs.Common.{◌≡◌, ◌≢◌, ◌⊎◌, ◌∙◌, ◌+◌, ◌/◌, ◌≤◌, ◌==◌, ℕ, List, [], length, min, max, Option, Some, None, Result, Ok, Err, is_none, refl, sym, ap, subst, inl, inr, arith}
+use Rattle.std.specs.Prelude.{IsTrue, IfOk, IfErr}
+use Rattle.std.proofs.lemmas.Bool.{cond-true, cond-false, eq-eqb, ne_eqb}
+use Rattle.std.proofs.lemmas.List.{get_or-map, length-map}
+use Rattle.disk_model.specs.State.{FileState}
+use Rattle.disk_model.specs.Calls.{Rests}
+use Rattle.disk_model.proofs.Goings.{first_known}
 use Rattle.aes_block.specs.WrappedKey.{unwrapped_of}
 use Rattle.node_image.specs.declared.node.RootRef.{RootRef}
 use Rattle.node_image.specs.Layout.{greatest_of}
-use Rattle.node_image.specs.Selection.{row}
-use Rattle.node_image.specs.Tables.{at_node}
-use Rattle.node_image.proofs.Matching.{length-row, row_at, row_is}
+use Rattle.node_image.proofs.Matching.{row_at, row_is}
 use Rattle.htree_file.specs.declared.fault.TreeFault.{TreeFault}
 use Rattle.htree_file.specs.declared.fault.TreeFault.TheVariants.{BadHead, BadTag, Damaged, Failed, NoEntropy, NoMemory, Short}
-use Rattle.htree_file.specs.Answers.{BlockAnswer, Differs, IsLoadFault, FaultCause, FilePassed, IsOutside}
+use Rattle.htree_file.specs.Answers.{Differs, IsLoadFault, FaultCause, FilePassed, IsOutside}
 use Rattle.htree_file.specs.Opening.{IsVerified, Loaded, load_of}
-use Rattle.htree_file.specs.Pages.{block_in, page_in, page_of, tag_of}
-use Rattle.htree_file.specs.Standing.{IsFirm, Told}
-use Rattle.htree_file.specs.Pages.{Opened, opened_of}
-use Rattle.node_image.specs.Selection.{selected_tree}
-use Rattle.crash_core.proofs.SameDirectory.{directory_same}
-use Rattle.dir_file.specs.Held.{IsHeld}
+use Rattle.htree_file.specs.Pages.{page_in}
+use Rattle.htree_file.specs.Standing.{Told}
 use Rattle.dir_file.specs.Inside.{DirInside, NextFits}
-use Rattle.dir_file.specs.declared.file.NextEntry.{NextEntry}
 use Rattle.htree_file.specs.Value.{Staged}
-use Rattle.node_image.specs.declared.head.Head.{Head}
 use Rattle.htree_file.specs.Value.{TreeValue}
-use Rattle.htree_file.proofs.Causes.{fault_then, passed_then, rests_then, told_then}
+use Rattle.htree_file.proofs.Causes.{fault_then, passed_then, told_then}
 use Rattle.htree_file.proofs.Sizes.{sized_greatest}
 use Rattle.dir_records.specs.declared.entry.DirEntry.{DirEntry}
-use Rattle.dir_records.specs.declared.entry.BadRecord.{BadRecord}
-use Rattle.dir_records.specs.Form.{HasForm, entry_or, first_fault, is_free, record_of}
-use Rattle.dir_records.specs.Layout.{entry_of}
-use Rattle.dir_records.proofs.Reading.{has_form-entry_of, passes}
-use Rattle.dir_records.proofs.Bytes.{is_free-replicate}
 use Rattle.crash_core.specs.declared.fault.DirFault.{DirFault}
 use Rattle.crash_core.specs.declared.fault.DirFault.TheVariants.{Tree, WrongLength, Record, Double}
-use Rattle.crash_core.specs.Entries.{distinct, entries_of, first_double, is_double, or_double, record_at}
-use Rattle.crash_core.specs.Directory.{blocks_of, directory_from, directory_in, directory_of, directory_or, first_bad, or_bad, pages_of, tree_directory}
-use Rattle.dir_file.specs.Pages.{Parses, some_pages}
-use Rattle.dir_file.specs.EntryForms.{HasForms}
-use Rattle.dir_file.specs.EntryForms.{AreEntriesOf, no_entries}
-use Rattle.dir_file.specs.Pages.{ArePages, ReadsEntries, kept}
+use Rattle.crash_core.specs.Entries.{distinct, entries_of}
+use Rattle.crash_core.specs.Directory.{blocks_of, directory_in, directory_of, directory_or, or_bad, pages_of, tree_directory}
+use Rattle.dir_file.specs.Pages.{some_pages}
+use Rattle.dir_file.specs.EntryForms.{AreEntriesOf}
+use Rattle.dir_file.specs.Pages.{ArePages, ReadsEntries}
 use Rattle.dir_file.specs.Loading.{DirCause, IsOutsideDir}
-use Rattle.dir_file.specs.Making.{AreBlank}
-use Rattle.dir_file.proofs.Entries.{AreEntries, Distinct, HoldsEntries, bad_none, pages_read, directory_opened, double_none, entries_back}
-use Rattle.htree_file.specs.Changes.{Seals}
-use Rattle.dir_file.specs.Loading.{HasPages, IsReadDirectory}
-use Rattle.dir_file.specs.Refusals.{DirDiffers, EntriesDiffer, IsRefusedBlock, IsRefusedTree}
+use Rattle.dir_file.proofs.Entries.{bad_none, pages_read}
+use Rattle.dir_file.specs.Loading.{HasPages, IsDirFault, IsReadDirectory}
+use Rattle.dir_file.specs.Refusals.{DirDiffers, EntriesDiffer}
 use Rattle.dir_file.specs.Pages.{AreSealed}
-use Rattle.dir_file.specs.Calls.{ReadsBlocks, calls_counted}
-use Rattle.disk_model.specs.Arms.{Arms, count_call}
-use Rattle.dir_file.proofs.EntriesRead.{read_refused}
 
 pages_same : (image key : List ℕ) (tree : Loaded) (items : List (List ℕ)) → length tree.nodes ≡ 8 → length items ≡ 8 → ArePages image key tree items 8 → pages_of image key tree ≡ some_pages items
 pages_same image key tree items many long are =
@@ -169,7 +148,6 @@ pub load_refused : (a b d : FileState) (tsk key : List ℕ) (root : RootRef) (tr
 load_refused a b d tsk key root tree fault first second loads keyed (inl outside) = inl outside
 load_refused a b d tsk key root tree fault first second loads keyed (inr refused) = inr (loaded_directory a b d tsk key root tree (Err fault) first second loads keyed refused)
 
-
 -- the pages of entries that were read, whatever the file is
 pub ok_pages : (key : List ℕ) (tree : Loaded) (items read : List (List ℕ)) (V : Type 0) (vs : V → List (Option DirEntry)) (result : Result V DirFault)
     → length items ≡ min 8 (blocks_of tree.head.length) → tree.head.length ≡ 32768 → read ≡ items → AreSealed key tree items → ReadsEntries read vs result
@@ -224,6 +202,28 @@ entries_differ tsk key d root tree fault verified keyed differs = by_fault fault
     by_fault (WrongLength bytes) at = record { tree = tree; verified = verified; differs = at }
     by_fault (Record index offset) at = record { tree = tree; verified = verified; differs = at }
     by_fault (Double index first) at = record { tree = tree; verified = verified; differs = at }
+
+-- no vector is drawn
+pub tree_kind : (fault : TreeFault) → IsLoadFault fault → IsDirFault (Tree fault)
+tree_kind (NoEntropy count) kind = absurd kind
+tree_kind (BadTag k want found) kind = tt
+tree_kind (Failed count) kind = tt
+tree_kind (BadHead long greatest) kind = tt
+tree_kind (Short end need) kind = tt
+tree_kind (Damaged n want found) kind = tt
+tree_kind NoMemory kind = tt
+
+pub entries_kind : (key : List ℕ) (tree : Loaded) (d : FileState) (fault : DirFault) → EntriesDiffer key tree d fault → IsDirFault fault
+entries_kind key tree d (Tree (NoEntropy count)) at = absurd at
+entries_kind key tree d (Tree (BadTag k want found)) at = tt
+entries_kind key tree d (Tree (Failed count)) at = tt
+entries_kind key tree d (Tree (BadHead long greatest)) at = tt
+entries_kind key tree d (Tree (Short end need)) at = tt
+entries_kind key tree d (Tree (Damaged n want found)) at = tt
+entries_kind key tree d (Tree NoMemory) at = tt
+entries_kind key tree d (WrongLength bytes) at = tt
+entries_kind key tree d (Record index offset) at = tt
+entries_kind key tree d (Double index first) at = tt
 
 -- the parts of a directory that is loaded
 pub loaded_inside : {F : Type 0} (t u : TreeValue F) (tsk : List ℕ) (root : RootRef) (entries : List (Option DirEntry)) → u ≡ record t { file = u.file } → t.root ≡ root → t.stage ≡ None

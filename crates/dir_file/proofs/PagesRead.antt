@@ -1,59 +1,30 @@
 -- Reading the blocks of a directory's tree.
-use Rattle.std.proofs.Common.{◌≡◌, ◌≢◌, ◌⊎◌, ◌∙◌, ◌+◌, ◌*◌, ◌/◌, ◌%◌, ◌-◌, ◌<◌, ◌≤◌, ◌==◌, ℕ, zero, suc, List, [], ◌∷◌, ◌++◌, length, map, min, max, get_or, Option, Some, None, Result, Ok, Err, cond, is_none, nat_lt, if◌then◌else◌, Bool, true, false, refl, sym, ap, subst, inl, inr, arith, length-append, unwrap_or, add-one}
-use Rattle.std.specs.Prelude.{IsTrue, IfSome, IfOk, IfErr, replicate, take, drop, ◌&&◌}
-use Rattle.std.proofs.lemmas.Bool.{cases_eq, cases_lt, cond-true, cond-false, eq-eqb, ne_eqb, lt-ltb, le-ltb}
-use Rattle.std.proofs.lemmas.List.{get_or_append_left, get_or_push, get_or-map, length-map, get_or-replicate, length-replicate}
-use Rattle.byte_fields.specs.Field.{field}
-use Rattle.disk_model.specs.State.{FileState, LeftNow, Sound}
-use Rattle.disk_model.proofs.ImageLaws.{reads_left}
-use Rattle.disk_model.specs.Calls.{Known, Rests}
-use Rattle.disk_model.proofs.Goings.{first_known, goes_on_then, then_known}
-use Rattle.aes_block.specs.WrappedKey.{unwrapped_of}
-use Rattle.node_image.specs.declared.node.RootRef.{RootRef}
-use Rattle.node_image.specs.Layout.{greatest_of}
-use Rattle.node_image.specs.Selection.{row}
+use Rattle.std.proofs.Common.{◌≡◌, ◌⊎◌, ◌∙◌, ◌+◌, ◌<◌, ◌≤◌, ℕ, zero, suc, List, [], ◌∷◌, ◌++◌, length, min, get_or, Option, Some, None, Result, Ok, Err, is_none, nat_lt, true, false, refl, sym, ap, subst, inl, inr, arith, length-append, add-one}
+use Rattle.std.specs.Prelude.{IsTrue}
+use Rattle.std.proofs.lemmas.Bool.{cases_eq, cases_lt, cond-true, cond-false, lt-ltb, le-ltb}
+use Rattle.std.proofs.lemmas.List.{get_or_append_left, get_or_push}
+use Rattle.disk_model.specs.State.{FileState}
+use Rattle.disk_model.specs.Calls.{Rests}
+use Rattle.disk_model.proofs.Goings.{first_known}
 use Rattle.node_image.specs.Tables.{at_node}
-use Rattle.node_image.proofs.Matching.{length-row, row_at, row_is}
+use Rattle.node_image.proofs.Matching.{row_at}
 use Rattle.htree_file.specs.declared.fault.TreeFault.{TreeFault}
 use Rattle.htree_file.specs.declared.fault.TreeFault.TheVariants.{BadHead, BadTag, Damaged, Failed, NoEntropy, NoMemory, Short}
-use Rattle.htree_file.specs.Answers.{BlockAnswer, FaultCause, FilePassed, IsOutside}
-use Rattle.htree_file.specs.Opening.{IsVerified, Loaded, load_of}
+use Rattle.htree_file.specs.Answers.{BlockAnswer, IsOutside}
+use Rattle.htree_file.specs.Opening.{Loaded}
 use Rattle.htree_file.specs.Pages.{block_in, page_in, page_of, tag_of}
-use Rattle.htree_file.specs.Standing.{IsFirm, Told}
-use Rattle.htree_file.specs.Pages.{Opened, opened_of}
-use Rattle.node_image.specs.Selection.{selected_tree}
-use Rattle.crash_core.proofs.SameDirectory.{directory_same}
-use Rattle.dir_file.specs.Held.{IsHeld}
-use Rattle.dir_file.specs.Inside.{DirInside, NextFits}
-use Rattle.dir_file.specs.declared.file.NextEntry.{NextEntry}
-use Rattle.htree_file.specs.Value.{Staged}
-use Rattle.node_image.specs.declared.head.Head.{Head}
-use Rattle.htree_file.specs.Value.{TreeValue}
-use Rattle.htree_file.proofs.Causes.{fault_then, passed_then, rests_then, told_then}
-use Rattle.htree_file.proofs.Sizes.{sized_greatest}
+use Rattle.htree_file.specs.Standing.{Told}
+use Rattle.htree_file.proofs.Causes.{rests_then}
 use Rattle.dir_records.specs.declared.entry.DirEntry.{DirEntry}
-use Rattle.dir_records.specs.declared.entry.BadRecord.{BadRecord}
-use Rattle.dir_records.specs.Form.{HasForm, entry_or, first_fault, is_free, record_of}
-use Rattle.dir_records.specs.Layout.{entry_of}
-use Rattle.dir_records.proofs.Reading.{has_form-entry_of, passes}
-use Rattle.dir_records.proofs.Bytes.{is_free-replicate}
 use Rattle.crash_core.specs.declared.fault.DirFault.{DirFault}
-use Rattle.crash_core.specs.declared.fault.DirFault.TheVariants.{Tree, WrongLength, Record, Double}
-use Rattle.crash_core.specs.Entries.{distinct, entries_of, first_double, is_double, or_double, record_at}
-use Rattle.crash_core.specs.Directory.{blocks_of, directory_from, directory_in, directory_of, directory_or, first_bad, or_bad, pages_of, tree_directory}
-use Rattle.dir_file.specs.Pages.{Parses, some_pages}
-use Rattle.dir_file.specs.EntryForms.{HasForms}
-use Rattle.dir_file.specs.EntryForms.{AreEntriesOf, no_entries}
-use Rattle.dir_file.specs.Pages.{ArePages, ReadsEntries, kept}
-use Rattle.dir_file.specs.Loading.{DirCause, IsOutsideDir}
-use Rattle.dir_file.specs.Making.{AreBlank}
-use Rattle.dir_file.proofs.Entries.{AreEntries, Distinct, HoldsEntries, bad_none, pages_read, directory_opened, double_none, entries_back}
+use Rattle.crash_core.specs.declared.fault.DirFault.TheVariants.{Tree}
+use Rattle.crash_core.specs.Directory.{blocks_of, first_bad, or_bad, pages_of, tree_directory}
+use Rattle.dir_file.specs.Pages.{ArePages, kept}
 use Rattle.htree_file.specs.Changes.{Seals}
-use Rattle.dir_file.specs.Loading.{HasPages, IsReadDirectory}
-use Rattle.dir_file.specs.Refusals.{DirDiffers, EntriesDiffer, IsRefusedBlock, IsRefusedTree}
+use Rattle.dir_file.specs.Refusals.{EntriesDiffer}
 use Rattle.dir_file.specs.Pages.{AreSealed}
 use Rattle.dir_file.specs.Calls.{ReadsBlocks, calls_counted}
-use Rattle.disk_model.specs.Arms.{Arms, count_call}
+use Rattle.disk_model.specs.Arms.{count_call}
 
 kept_length : (items : List (List ℕ)) (k : ℕ) (page : List ℕ) → length items ≡ min 8 k → length (kept items k page) ≡ min 8 (k + 1)
 kept_length items k page long = elim (cases_lt k 8) [
@@ -189,7 +160,7 @@ refused_differs d key tree k page NoMemory answer = absurd answer
 refused_differs d key tree k page (BadTag bad want found) answer = record {
   ciphertext = page;
   answer = subst (λ (m : ℕ). BlockAnswer key tree.head (at_node tree.nodes (m + 1)) m (λ c. IsTrue d.tells → c ≡ block_in d.reads tree m) (let r : Result (Unit {0}) TreeFault = Err (BadTag bad want found) in r) page)
-  (sym answer.2) answer;
+      (sym answer.2) answer;
 }
 
 -- one call more

@@ -1,7 +1,7 @@
 -- A stage of a directory, and settling it, from those of its tree.
-use Rattle.std.proofs.Common.{[], ◌∷◌, ◌≡◌, ◌≢◌, ◌∙◌, ◌+◌, ◌*◌, ◌/◌, ◌-◌, ◌<◌, ℕ, List, length, get_or, slice_set, Bool, true, false, Option, Some, None, Result, Ok, Err, IfSome, IsSome, IsTrue, OnErr, OnOk, refl, sym, ap, subst, inl, arith}
+use Rattle.std.proofs.Common.{[], ◌∷◌, ◌≡◌, ◌∙◌, ◌+◌, ◌*◌, ◌/◌, ◌-◌, ◌<◌, ℕ, List, get_or, slice_set, true, false, Option, Some, None, Result, Ok, Err, IfSome, IsSome, IsTrue, OnErr, OnOk, refl, sym, ap, subst, inl, arith}
 use Rattle.std.specs.Prelude.{IfOk}
-use Rattle.disk_model.specs.State.{FileState, LeftNow, Sound}
+use Rattle.disk_model.specs.State.{FileState, Sound}
 use Rattle.disk_model.specs.Calls.{Known}
 use Rattle.disk_model.specs.Keeps.{Anywhere, Keeps}
 use Rattle.disk_model.proofs.ImageLaws.{reads_left}
@@ -12,9 +12,8 @@ use Rattle.node_image.specs.declared.head.Head.{Head}
 use Rattle.node_image.specs.Selection.{selected_tree}
 use Rattle.htree_file.specs.declared.fault.TreeFault.{TreeFault}
 use Rattle.htree_file.specs.Changes.{OpensAfter}
-use Rattle.htree_file.specs.Opening.{Loaded, load_of}
+use Rattle.htree_file.specs.Opening.{load_of}
 use Rattle.htree_file.specs.Selected.{KeepsFirm, Lies}
-use Rattle.htree_file.specs.Making.{IsDrawFault}
 use Rattle.htree_file.specs.Opening.{IsVerified}
 use Rattle.node_image.specs.Layout.{greatest_of}
 use Rattle.tree_paths.specs.Staged.{IsWithinBudget}
@@ -22,11 +21,8 @@ use Rattle.disk_model.specs.Calls.{Syncs}
 use Rattle.disk_model.specs.State.{moment}
 use Rattle.disk_model.proofs.ImageLaws.{now_since}
 use Rattle.dir_file.specs.Stages.{IsNext, KeepsHeld}
-use Rattle.dir_file.specs.View.{DirValue}
-use Rattle.dir_file.specs.Inside.{IsDirectoryTree}
-use Rattle.dir_file.specs.EntryForms.{HasForms}
 use Rattle.dir_records.specs.Form.{HasForm}
-use Rattle.htree_file.specs.Standing.{IsFirm, Told}
+use Rattle.htree_file.specs.Standing.{IsFirm}
 use Rattle.htree_file.specs.Value.{Staged, TreeValue}
 use Rattle.dir_records.specs.declared.entry.DirEntry.{DirEntry}
 use Rattle.dir_records.specs.Form.{record_of}
@@ -39,7 +35,8 @@ use Rattle.dir_file.specs.declared.file.NextEntry.{NextEntry}
 use Rattle.dir_file.specs.EntryForms.{Fits}
 use Rattle.dir_file.specs.Inside.{DirInside, NextFits, NextInside, staged_of}
 use Rattle.dir_file.specs.Stages.{StagesEntry}
-use Rattle.dir_file.proofs.ChangedEntry.{changed_directory, one_change}
+use Rattle.dir_file.proofs.Budget.{one_block}
+use Rattle.dir_file.proofs.ChangedEntry.{changed_directory, one_change, entries_after}
 
 -- what a contract sees of a directory
 abbrev pub view_of : {F : Type 0} → TreeValue F → (tsk : List ℕ) → List (Option DirEntry) → Option NextEntry → DirView
@@ -67,6 +64,18 @@ if_staged o P s is holds = subst (λ (v : Option StagedDirectory). IfSome v P) (
 at_stage : (o : Option Staged) (P : Staged → Type 0) (s : Staged) → o ≡ Some s → IfSome o P → P s
 at_stage o P s is holds = subst (λ (v : Option Staged). IfSome v P) is holds
 
+-- what the page of a block holds, and what a stage of it writes
+pub page_records : (page : List ℕ) (entries list : List (Option DirEntry)) (index number : ℕ) (entry : Option DirEntry) → number ≡ index → list ≡ entries
+    → ((j : ℕ) → j < 32 → record_of (field (128 * j) 128 page) ≡ Ok (get_or (slice_set list index entry) (32 * (number / 32) + j) None))
+    → (j : ℕ) → j < 32 → record_of (field (128 * j) 128 page) ≡ Ok (get_or (slice_set entries index entry) (32 * (index / 32) + j) None)
+page_records page entries list index number entry is same records =
+    subst (λ (m : ℕ). (j : ℕ) → j < 32 → record_of (field (128 * j) 128 page) ≡ Ok (get_or (slice_set entries index entry) (32 * (m / 32) + j) None)) is
+    (subst (λ (l : List (Option DirEntry)). (j : ℕ) → j < 32 → record_of (field (128 * j) 128 page) ≡ Ok (get_or (slice_set l index entry) (32 * (number / 32) + j) None)) same records)
+
+pub page_budget : (index number before old new : ℕ) → number ≡ index → before ≡ 8 → IsWithinBudget (number / 32 ∷ []) before 8 old new → IsWithinBudget (index / 32 ∷ []) 8 8 old new
+page_budget index number before old new is eight budget =
+    subst (λ (m : ℕ). IsWithinBudget (m / 32 ∷ []) 8 8 old new) is (subst (λ (n : ℕ). IsWithinBudget (number / 32 ∷ []) n 8 old new) eight budget)
+
 -- a firm directory that stays firm is held
 pub held_kept : (old new : FileState) (d : DirView) → Sound old → Sound new → KeepsFirm old new d.root d.tree → KeepsHeld old new d
 held_kept old new d sound still kept honest was =
@@ -74,8 +83,8 @@ held_kept old new d sound still kept honest was =
     record {
       firm = firm.firm;
       entries_are = λ image left.
-        directory_same image old.reads d.root d.tree (selected_tree old.reads d.root.version) (firm.always image (now_since new (moment old) image still left)) (was.firm old.reads (reads_left old sound)) d.tsk
-        ∙ was.entries_are old.reads (reads_left old sound);
+          directory_same image old.reads d.root d.tree (selected_tree old.reads d.root.version) (firm.always image (now_since new (moment old) image still left)) (was.firm old.reads (reads_left old sound)) d.tsk
+          ∙ was.entries_are old.reads (reads_left old sound);
     }
 
 -- without a stage no entry is left over
@@ -102,7 +111,7 @@ module _ {F : Type 0} (t u : TreeValue F) (old new : FileState) (tsk : List ℕ)
         record {
           same = view_same;
           settled = if_staged (staged_of t.stage next entries) (λ (x : StagedDirectory). staged_of u.stage next entries ≡ Some (record x { settled = true })) (stage_at s n entries) is
-          (staged_is u.stage next entries (record s { settled = true }) n stage_then p.3);
+              (staged_is u.stage next entries (record s { settled = true }) n stage_then p.3);
           is_open = tt;
           synced = syncs;
           reads = reads;
@@ -110,14 +119,14 @@ module _ {F : Type 0} (t u : TreeValue F) (old new : FileState) (tsk : List ℕ)
           firm = kept;
           held = held_kept old new (view_of t tsk entries next) sound still kept;
           next = if_staged (staged_of t.stage next entries) (λ (x : StagedDirectory). IsTrue new.honest → IsStaged old tsk x → IsHeld new tsk x.root x.tree x.entries) (stage_at s n entries) is
-          (λ honest staged.
-            let stands : IsFirm new s.root s.tree = at_stage t.stage (λ (x : Staged). IsTrue new.honest → load_of old.reads x.root ≡ Ok x.tree → IsFirm new x.root x.tree) s p.2 firm honest staged.loads in
-            record {
-              firm = stands;
-              entries_are = λ image left.
-                directory_same image new.reads s.root s.tree (selected_tree new.reads s.root.version) (stands image left) (stands new.reads (reads_left new still)) tsk
-                ∙ ap (λ (b : List ℕ). directory_of tsk b s.root) (reads (inl honest)) ∙ staged.entries_are;
-            });
+              (λ honest staged.
+              let stands : IsFirm new s.root s.tree = at_stage t.stage (λ (x : Staged). IsTrue new.honest → load_of old.reads x.root ≡ Ok x.tree → IsFirm new x.root x.tree) s p.2 firm honest staged.loads in
+              record {
+                firm = stands;
+                entries_are = λ image left.
+                    directory_same image new.reads s.root s.tree (selected_tree new.reads s.root.version) (stands image left) (stands new.reads (reads_left new still)) tsk
+                    ∙ ap (λ (b : List ℕ). directory_of tsk b s.root) (reads (inl honest)) ∙ staged.entries_are;
+              });
         }
 
     pub settles_err : (fault : TreeFault) → u.stage ≡ t.stage → SettlesDirectory old new (view_of t tsk entries next) (view_of u tsk entries next) {A = RootRef} (Err fault)
@@ -164,6 +173,7 @@ module _ {F : Type 0} (t u : TreeValue F) (old new : FileState) (tsk : List ℕ)
         held = held_kept old new before sound still kept;
         staged = tt;
         budget = budget;
+        most = one_block (index / 32) old.written new.written (omega (arith, fits.below)) budget;
         unsettled = unsettled;
       }
 
@@ -182,22 +192,23 @@ module _ {F : Type 0} (t u : TreeValue F) (old new : FileState) (tsk : List ℕ)
             none = tt;
             opens = subst IsSome (sym is) refl;
             next = if_staged (staged_of u.stage (Some put) entries) (IsNext before index entry) (stage_at s put entries) is
-            (record { version = v.0; settled = v.1; entries_are = refl; verified = at_stage u.stage (λ (x : Staged). IsVerified x.root x.tree) s p.1 verified });
+                (record { version = v.0; settled = v.1; entries_are = refl; are = entries_after entries index entry fits; verified = at_stage u.stage (λ (x : Staged). IsVerified x.root x.tree) s p.1 verified });
             keeps = keeps;
             firm = kept;
             held = held_kept old new before sound still kept;
             staged = λ honest held.
-              let known : Known old new = inl honest in
-              let loads_before : load_of old.reads t.root ≡ Ok t.tree = (held.firm old.reads (reads_left old sound)).opens in
-              let loads : load_of new.reads s.root ≡ Ok s.tree = at_stage u.stage (λ (x : Staged). load_of new.reads x.root ≡ Ok x.tree) s p.1 (loaded known loads_before) in
-              let after : OpensAfter t.key t.tree.head.wrapped old.reads t.root new.reads s.root 32768 (one_change (index / 32) page) =
-              at_stage u.stage (λ (x : Staged). OpensAfter t.key t.tree.head.wrapped old.reads t.root new.reads x.root 32768 (one_change (index / 32) page)) s p.1 (opened known loads_before) in
-              if_staged (staged_of u.stage (Some put) entries) (IsStaged new tsk) (stage_at s put entries) is (record {
-                loads = loads;
-                entries_are = changed_directory tsk old.reads new.reads t.key t.root s.root t.tree s.tree entries index entry page loads_before loads inside
-                (held.entries_are old.reads (reads_left old sound)) fits records after;
-              });
+                let known : Known old new = inl honest in
+                let loads_before : load_of old.reads t.root ≡ Ok t.tree = (held.firm old.reads (reads_left old sound)).opens in
+                let loads : load_of new.reads s.root ≡ Ok s.tree = at_stage u.stage (λ (x : Staged). load_of new.reads x.root ≡ Ok x.tree) s p.1 (loaded known loads_before) in
+                let after : OpensAfter t.key t.tree.head.wrapped old.reads t.root new.reads s.root 32768 (one_change (index / 32) page) =
+                at_stage u.stage (λ (x : Staged). OpensAfter t.key t.tree.head.wrapped old.reads t.root new.reads x.root 32768 (one_change (index / 32) page)) s p.1 (opened known loads_before) in
+                if_staged (staged_of u.stage (Some put) entries) (IsStaged new tsk) (stage_at s put entries) is (record {
+                  loads = loads;
+                  entries_are = changed_directory tsk old.reads new.reads t.key t.root s.root t.tree s.tree entries index entry page loads_before loads inside
+                      (held.entries_are old.reads (reads_left old sound)) fits records after;
+                });
             budget = budget;
+            most = one_block (index / 32) old.written new.written (omega (arith, fits.below)) budget;
             unsettled = unsettled;
           }
 

@@ -2,6 +2,7 @@
 use Rattle.std.specs.Prelude.{◌≡◌, ℕ, List, Option, Result, Ok, Err}
 use Rattle.disk_model.specs.State.{FileState}
 use Rattle.aes_block.specs.WrappedKey.{unwrapped_of}
+use Rattle.htree_file.specs.declared.fault.TreeFault.TheVariants.{NoEntropy}
 use Rattle.htree_file.specs.Answers.{FaultCause, FilePassed, IsOutside}
 use Rattle.htree_file.specs.Opening.{Loaded}
 use Rattle.dir_records.specs.declared.entry.DirEntry.{DirEntry}
@@ -14,6 +15,11 @@ use Rattle.dir_file.specs.Pages.{AreSealed, some_pages}
 abbrev pub IsOutsideDir : DirFault → Type 0
 IsOutsideDir (Tree fault) = IsOutside fault
 IsOutsideDir fault = ⊥
+
+-- what loading can answer: no vector is drawn
+abbrev pub IsDirFault : DirFault → Type 0
+IsDirFault (Tree (NoEntropy count)) = ⊥
+IsDirFault fault = Unit {0}
 
 -- a fault of the file has its cause in the file's counts, and no other fault has
 abbrev pub DirCause : FileState → FileState → DirFault → Type 0

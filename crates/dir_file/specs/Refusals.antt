@@ -1,5 +1,5 @@
 -- What a refusal to load a directory says of any file: the value that it carries is what differs.
-use Rattle.std.specs.Prelude.{◌≡◌, ◌≢◌, ℕ, ◌+◌, List, Result, Err, IsTrue}
+use Rattle.std.specs.Prelude.{◌≡◌, ◌≢◌, ℕ, ◌+◌, List, Err, IsTrue}
 use Rattle.disk_model.specs.State.{FileState}
 use Rattle.aes_block.specs.WrappedKey.{unwrapped_of}
 use Rattle.node_image.specs.declared.node.RootRef.{RootRef}
@@ -11,7 +11,7 @@ use Rattle.htree_file.specs.Opening.{IsVerified, Loaded}
 use Rattle.htree_file.specs.Pages.{block_in}
 use Rattle.crash_core.specs.declared.fault.DirFault.{DirFault}
 use Rattle.crash_core.specs.declared.fault.DirFault.TheVariants.{Tree, WrongLength, Record, Double}
-use Rattle.dir_file.specs.Loading.{HasPages, IsReadDirectory}
+use Rattle.dir_file.specs.Loading.{HasPages}
 
 -- reading block k of a tree was refused: what stands there, as the file reads now, has another tag than its node
 pub record IsRefusedBlock (key : List ℕ) (tree : Loaded) (new : FileState) (k : ℕ) (fault : TreeFault) : Type 0 where

@@ -1,14 +1,14 @@
 -- A stage of a directory, and settling it.
-use Rattle.std.specs.Prelude.{◌≡◌, ℕ, ◌-◌, ◌/◌, List, [], ◌∷◌, slice_set, false, true, Option, None, Some, Result, IfErr, IfSome, IsSome, IsTrue, OnErr, OnOk}
+use Rattle.std.specs.Prelude.{◌≡◌, ℕ, ◌+◌, ◌-◌, ◌/◌, ◌≤◌, [], ◌∷◌, slice_set, false, true, Option, None, Some, Result, IfSome, IsSome, IsTrue, OnErr, OnOk}
 use Rattle.disk_model.specs.State.{FileState}
 use Rattle.disk_model.specs.Calls.{Known, Syncs}
 use Rattle.disk_model.specs.Keeps.{Anywhere, Keeps}
 use Rattle.tree_paths.specs.Staged.{IsWithinBudget}
-use Rattle.node_image.specs.declared.node.RootRef.{RootRef}
 use Rattle.htree_file.specs.declared.fault.TreeFault.{TreeFault}
 use Rattle.htree_file.specs.Opening.{IsVerified}
 use Rattle.htree_file.specs.Selected.{KeepsFirm, Lies}
 use Rattle.dir_records.specs.declared.entry.DirEntry.{DirEntry}
+use Rattle.dir_file.specs.EntryForms.{AreEntriesOf}
 use Rattle.dir_file.specs.Held.{IsHeld, IsStaged}
 use Rattle.dir_file.specs.View.{DirView, StagedDirectory}
 
@@ -21,6 +21,8 @@ pub record IsNext (was : DirView) (index : ℕ) (entry : Option DirEntry) (s : S
   pub version : s.root.version ≡ 1 - was.root.version
   pub settled : s.settled ≡ false
   pub entries_are : s.entries ≡ slice_set was.entries index entry
+  -- each name and each file stands once still
+  pub are : AreEntriesOf was.entries → AreEntriesOf s.entries
   pub verified : IsVerified s.root s.tree
 
 -- what a stage of one entry answers
@@ -35,8 +37,9 @@ pub record StagesEntry (old new : FileState) (was now : DirView) (index : ℕ) (
   pub held : KeepsHeld old new was
   -- as the file reads, the stage's reference names the entries with the one changed
   pub staged : OnOk result (IsTrue new.honest → IsHeld old was.tsk was.root was.tree was.entries → IfSome now.stage (IsStaged new was.tsk))
-  -- it writes no more than the write budget of one block, and settles nothing
+  -- it writes no more than the write budget of one block of eight, and settles nothing
   pub budget : IsWithinBudget (index / 32 ∷ []) 8 8 old.written new.written
+  pub most : new.written ≤ old.written + 4392
   pub unsettled : new.pending_from ≡ old.pending_from
 
 -- what settling a stage answers

@@ -7,7 +7,7 @@ ghost use Rattle.htree_file.specs.Standing.{Told};
 ghost use Rattle.crash_core.specs.Directory.{directory_of, tree_directory};
 ghost use Rattle.dir_file.specs.Calls.{ReadsBlocks};
 ghost use Rattle.dir_file.specs.EntryForms.{AreEntriesOf};
-ghost use Rattle.dir_file.specs.Loading.{DirCause, HasDirCause, HasPages, IsOutsideDir, IsReadDirectory};
+ghost use Rattle.dir_file.specs.Loading.{DirCause, HasDirCause, HasPages, IsDirFault, IsOutsideDir, IsReadDirectory};
 ghost use Rattle.dir_file.specs.Pages.{ReadsEntries};
 ghost use Rattle.dir_file.specs.Refusals.{DirDiffers, EntriesDiffer};
 
@@ -96,6 +96,7 @@ impl<F: StoreFile> DirFile<F> {
         ensures fault { IfErr result (λ b. IsOutsideDir b.fault ⊎ (Told (F.state file) (F.state b.file) →
             directory_of tsk.now (F.state b.file).reads root ≡ Result.Err b.fault)) }
         // Of any file.
+        ensures kind { IfErr result (λ b. IsDirFault b.fault) }
         ensures verified { IfOk result (λ d. IsVerified root d.dir.tree) }
         ensures entries { IfOk result (λ d. AreEntriesOf d.dir.entries) }
         ensures pages { IfOk result (λ d. IsReadDirectory tsk.now d.dir.tree (Result.Ok d.dir.entries)) }

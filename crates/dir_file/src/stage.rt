@@ -28,7 +28,8 @@ impl<F: StoreFile> DirFile<F> {
         let mut page = [0; 4096];
         let block = u32::from(index) / 32;
         directory_page(&self.entries, index, entry, block, &mut page);
-        self.tree.stage(32_768, &[BlockChange { block, page }], entropy)?;
+        self.tree
+            .stage(32_768, &[BlockChange { block, page }], entropy)?;
         self.next = Some(NextEntry {
             index,
             entry: *entry,

@@ -1,4 +1,4 @@
-use Rattle.std.proofs.Common.{◌≡◌, ◌∙◌, List, Option, Vec, Global, length, sym, inr}
+use Rattle.std.proofs.Common.{◌∙◌, Option, Vec, Global, sym, inr}
 use Rattle.dir_records.specs.declared.entry.DirEntry.{DirEntry}
 use Rattle.dir_file.proofs.Loading.{directory_wrong, err_differs, err_directory, few_blocks, ok_directory, ok_pages}
 use Rattle.dir_file.proofs.load.read_directory.Goals as goal

@@ -1,6 +1,6 @@
-use Rattle.std.proofs.Common.{◌≡◌, ◌∙◌, ℕ, List, Option, Some, None, Vec, Global, length, sym, ap}
+use Rattle.std.proofs.Common.{◌∙◌, List, Option, Vec, Global, length, sym, ap}
 use Rattle.dir_records.specs.declared.entry.DirEntry.{DirEntry}
-use Rattle.crash_core.specs.Entries.{entries_of, first_double}
+use Rattle.crash_core.specs.Entries.{first_double}
 use Rattle.dir_file.specs.Pages.{some_pages}
 use Rattle.dir_file.proofs.Entries.{entries_back}
 use Rattle.dir_file.proofs.EntriesRead.{read_double, read_single}

@@ -1,16 +1,12 @@
-use Rattle.std.proofs.Common.{rules, refl, ◌≡◌, ◌∙◌, ◌+◌, ◌<◌, ℕ, List, Ok, Err, length, min, sym, ap, subst, arith}
+use Rattle.std.proofs.Common.{rules, refl, ◌≡◌, ◌+◌, ℕ, List, Ok, Err, length, sym, ap, subst, arith}
 use Rattle.std.specs.Prelude.{IsTrue}
 use Rattle.std.proofs.lemmas.Result.{err_from_is_err_and}
-use Rattle.node_image.specs.Layout.{greatest_of}
 use Rattle.node_image.specs.Tables.{at_node}
 use Rattle.htree_file.specs.declared.fault.TreeFault.{TreeFault}
 use Rattle.htree_file.specs.Answers.{BlockAnswer}
 use Rattle.htree_file.specs.Pages.{block_in}
 use Rattle.htree_file.proofs.Causes.{fault_then, passed_none, passed_then, rests_none, rests_then}
-use Rattle.htree_file.proofs.Sizes.{sized_greatest}
 use Rattle.dir_file.specs.Pages.{ArePages, AreSealed}
-use Rattle.dir_file.specs.Refusals.{EntriesDiffer}
-use Rattle.crash_core.specs.declared.fault.DirFault.TheVariants.{Tree}
 use Rattle.dir_file.proofs.Loading.{few_blocks}
 use Rattle.dir_file.proofs.PagesRead.{once_none, pages_begin, once_step, read_long, read_step, refused_block, refused_differs, sealed_begin, sealed_step}
 use Rattle.dir_file.proofs.pages.read_pages.Goals as goal
@@ -74,7 +70,7 @@ loop-k-preserved g c =
       passed = passed_then a b d before.passed c.in_ok-read_block.ensures.cause;
       long = read_long c.loop-k.pages.items k page c.keep_page.new.pages.items before.long c.in-Ok.ensures;
       pages = λ told. subst (λ (l : List (List ℕ)). ArePages a.reads t.key t.tree l (k + 1)) (sym c.in-Ok.ensures)
-      (read_step a b d t.key t.tree c.loop-k.pages.items k page before.rests c.in_ok-read_block.ensures.rests before.long before.pages answer told);
+          (read_step a b d t.key t.tree c.loop-k.pages.items k page before.rests c.in_ok-read_block.ensures.rests before.long before.pages answer told);
       sealed = subst (AreSealed t.key t.tree) (sym c.in-Ok.ensures) (sealed_step t.key t.tree c.loop-k.pages.items k page before.long before.sealed (answer.0, answer.2));
       once = once_step a b d k before.rests before.once c.in_ok-read_block.ensures.once;
     }

@@ -1,4 +1,4 @@
-use Rattle.std.proofs.Common.{◌≡◌, ℕ, length, min}
+use Rattle.std.proofs.Common.{◌≡◌, length, min}
 use Rattle.disk_model.specs.Calls.{Rests}
 use Rattle.htree_file.specs.Answers.{FilePassed}
 use Rattle.htree_file.specs.Standing.{Told}

@@ -1,4 +1,4 @@
-use Rattle.std.proofs.Common.{◌≡◌, ◌∙◌, ◌+◌, ◌-◌, ◌<◌, Option, Some, None, cond, get_or, length, Bool, true, false, sym, ap, ℕ, arith}
+use Rattle.std.proofs.Common.{◌≡◌, ◌∙◌, ◌+◌, ◌-◌, Option, Some, None, cond, get_or, Bool, sym, ap, arith}
 use Rattle.dir_records.specs.declared.entry.DirEntry.{DirEntry}
 use Rattle.crash_core.specs.Entries.{first_like, is_double}
 use Rattle.dir_file.proofs.Parsing.{like_end, like_step, read_at}

@@ -1,5 +1,3 @@
-use Rattle.std.proofs.Common.{◌≡◌, Option, Some}
-use Rattle.dir_records.specs.declared.entry.DirEntry.{DirEntry}
 use Rattle.dir_file.proofs.Parsing.{double_else, double_then}
 use Rattle.dir_file.proofs.records.is_double.Goals as goal
 

@@ -1,11 +1,5 @@
-use Rattle.std.proofs.Common.{◌≡◌, ◌∙◌, Result, Ok, Err, List, Option, sym, inl, inr, ap}
-use Rattle.std.specs.Prelude.{◌⊎◌}
-use Rattle.htree_file.specs.Standing.{Told}
-use Rattle.dir_records.specs.declared.entry.DirEntry.{DirEntry}
-use Rattle.crash_core.specs.declared.fault.DirFault.{DirFault}
-use Rattle.crash_core.specs.Directory.{directory_of}
-use Rattle.dir_file.specs.Loading.{IsOutsideDir}
-use Rattle.dir_file.proofs.Loading.{entries_differ, load_refused, loaded_directory, loaded_pages, refused_directory, tree_differs}
+use Rattle.std.proofs.Common.{Ok}
+use Rattle.dir_file.proofs.Loading.{entries_differ, entries_kind, tree_kind, load_refused, loaded_directory, loaded_pages, refused_directory, tree_differs}
 use Rattle.dir_file.proofs.PagesRead.{once_loaded}
 use Rattle.dir_file.proofs.file.DirFile.load.Goals as goal
 
@@ -46,3 +40,10 @@ pub returns-in-Ok-read_directory-clause-pages : goal.returns-in-Ok-read_director
 returns-in-Ok-read_directory-clause-pages g c =
     loaded_pages c.in-Ok.tree c.read_directory.new.tree c.args.tsk.now (Ok c.in-Ok-read_directory.entries.items) c.in-Ok-read_directory.ensures.same c.in-Ok.ensures.key
     c.in-Ok-read_directory.ensures.pages
+
+pub returns-in-Err-clause-kind : goal.returns-in-Err-clause-kind
+returns-in-Err-clause-kind g c = tree_kind c.in-Err.field-0.fault c.in-Err.ensures.kind
+
+pub returns-in-Err-read_directory-clause-kind : goal.returns-in-Err-read_directory-clause-kind
+returns-in-Err-read_directory-clause-kind g c =
+    entries_kind c.in-Ok.tree.key c.in-Ok.tree.tree (g.F.StoreFile.state c.read_directory.new.tree.file) c.in-Err-read_directory.fault c.in-Err-read_directory.ensures.differs

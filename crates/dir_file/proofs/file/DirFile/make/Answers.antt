@@ -1,4 +1,4 @@
-use Rattle.std.proofs.Common.{◌≡◌, ◌∙◌, sym, inl}
+use Rattle.std.proofs.Common.{inl}
 use Rattle.dir_file.proofs.MadeDirectory.{made_held, made_inside}
 use Rattle.dir_file.proofs.file.DirFile.make.Goals as goal
 

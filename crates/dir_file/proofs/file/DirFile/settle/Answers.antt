@@ -1,5 +1,3 @@
-use Rattle.std.proofs.Common.{IsSome, subst}
-use Rattle.dir_file.specs.View.{DirValue}
 use Rattle.dir_file.proofs.Settling.{settles}
 use Rattle.dir_file.proofs.file.DirFile.settle.Goals as goal
 
