@@ -1,0 +1,4 @@
+mod Names
+mod Places
+mod Above
+mod Changes

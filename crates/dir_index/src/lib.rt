@@ -1,0 +1,10 @@
+//! The names of the objects in a directory, in order, each with the index of its record.
+#![tactic(auto)]
+
+mod index;
+mod laws;
+#[cfg(test)]
+mod tests;
+
+pub use index::DirIndex;
+pub use laws::changes_concern_one_name;
