@@ -7,9 +7,10 @@ use hmac_keys::hmac;
 
 const KEY: [u8; 16] = [0, 1, 2, 3, 4, 5, 6, 7, 8, 9, 10, 11, 12, 13, 14, 15];
 
-const IV: [u8; 12] = [0x5a; 12];
+// The lengths of a block's initialization vector and of its additional data in a file.
+const IV: [u8; 16] = [0x5a; 16];
 
-const AAD: [u8; 16] = [0xa5; 16];
+const AAD: [u8; 20] = [0xa5; 20];
 
 /// How many bytes a round of any work takes in.
 pub const BYTES_A_ROUND: u32 = 4096;

@@ -46,22 +46,30 @@ fn next_eight(counter: &mut [u8; 16]) -> [[u8; 16]; 8]
     made
 }
 
-// GCTR, block by block.
-fn apply_blocks(key: &Aes128, first: &[u8; 16], text: &mut [u8])
-    ensures { text.new ≡ gctr (cipher key.now) first.now text.old }
+// Adds the stream to the last part of the text, which is shorter than eight blocks.
+fn xor_last(part: &mut [u8], streams: &[[u8; 16]; 8])
+    requires { length part.old < 128 }
+    ensures { (k : ℕ) → k < length part.old → slice_index part.new k ≡ bit_xor (slice_index part.old k) (slice_index (slice_index_or streams.now (k / 16) []) (k % 16)) }
 {
-    let mut counter = *first;
-    for i in 0..text.len().div_ceil(16) {
-        let mut stream = counter;
-        key.encrypt(&mut stream);
-        let end = text.len().min(16 * i + 16);
-        xor_into(&mut text[16 * i..end], &stream);
-        inc32(&mut counter);
+    for i in 0..part.len() {
+        part[i] ^= streams[i / 16][i % 16];
     }
 }
 
-/// GCTR of the text from the counter block `first`: whole groups of eight blocks at once, and then
-/// block by block.
+// GCTR of the last part of the text. Eight blocks at once take less time than `encrypt` takes for one.
+fn apply_last(key: &Aes128, first: &[u8; 16], text: &mut [u8])
+    requires { length text.old < 128 }
+    ensures { text.new ≡ gctr (cipher key.now) first.now text.old }
+{
+    if text.len() > 0 {
+        let mut counter = *first;
+        let mut streams = next_eight(&mut counter);
+        key.encrypt_eight(&mut streams);
+        xor_last(text, &streams);
+    }
+}
+
+/// GCTR of the text from the counter block `first`, in groups of eight blocks.
 pub(crate) fn apply_stream(key: &Aes128, first: &[u8; 16], text: &mut [u8])
     ensures { text.new ≡ gctr (cipher key.now) first.now text.old }
 {
@@ -72,5 +80,5 @@ pub(crate) fn apply_stream(key: &Aes128, first: &[u8; 16], text: &mut [u8])
         key.encrypt_eight(&mut streams);
         xor_eight(&mut text[128 * g..128 * g + 128], &streams);
     }
-    apply_blocks(key, &counter, &mut text[128 * groups..]);
+    apply_last(key, &counter, &mut text[128 * groups..]);
 }

@@ -10,6 +10,7 @@ ghost use Rattle.gcm_mode.specs.Gcm.{gcm_tag, gcm_text};
 
 use aes_block::Aes128;
 use counter_mode::{apply_stream, inc32};
+use ghash_field::Ghash;
 use tags::{hash_subkey, pre_counter_block, tag_of};
 
 mod counter_mode;
@@ -36,12 +37,13 @@ pub fn seal(key: &Aes128, iv: &[u8], aad: &[u8], text: &mut [u8]) -> [u8; 16]
     ensures text { text.new ≡ gcm_text (cipher key.now) iv.now text.old }
     ensures tag { result ≡ gcm_tag (cipher key.now) iv.now aad.now text.new }
 {
-    let h = hash_subkey(key);
-    let first = pre_counter_block(key, h, iv);
+    let mut hash = Ghash::of_zero();
+    hash.begin(hash_subkey(key));
+    let first = pre_counter_block(&mut hash, iv);
     let mut counter = first;
     inc32(&mut counter);
     apply_stream(key, &counter, text);
-    tag_of(key, h, &first, aad, text)
+    tag_of(key, &mut hash, &first, aad, text)
 }
 
 /// Deciphers `text` in place where `tag` is the tag of the additional data and the ciphertext (7.2).
@@ -64,9 +66,10 @@ pub fn open_text(
     ensures undoes_seal { (plain : List ℕ) → text.old ≡ gcm_text (cipher key.now) iv.now plain
         → tag.now ≡ gcm_tag (cipher key.now) iv.now aad.now text.old → (result ≡ Ok tt) × (text.new ≡ plain) }
 {
-    let h = hash_subkey(key);
-    let first = pre_counter_block(key, h, iv);
-    let found = tag_of(key, h, &first, aad, text);
+    let mut hash = Ghash::of_zero();
+    hash.begin(hash_subkey(key));
+    let first = pre_counter_block(&mut hash, iv);
+    let found = tag_of(key, &mut hash, &first, aad, text);
     if found != *tag {
         return Err(BadTag { want: *tag, found });
     }

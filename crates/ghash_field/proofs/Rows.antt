@@ -1,15 +1,15 @@
 -- The rows of the table of multiples, and the product by it.
-use Rattle.std.proofs.Common.{◌≡◌, ℕ, ◌+◌, ◌-◌, ◌*◌, ◌/◌, ◌%◌, ◌^◌, ◌<◌, ◌≤◌, List, [], ◌∷◌, length, get_or, bit_xor, sym, ap, subst, ◌∙◌, arith, mod-lt, below_more, ⊎_elim}
+use Rattle.std.proofs.Common.{◌≡◌, ℕ, ◌+◌, ◌-◌, ◌*◌, ◌/◌, ◌%◌, ◌^◌, ◌<◌, ◌≤◌, List, [], ◌∷◌, length, replicate, get_or, bit_xor, sym, ap, subst, ◌∙◌, arith, mod-lt, below_more, ⊎_elim}
 use Rattle.std.proofs.Math.ListN.{set}
 use Rattle.std.proofs.lemmas.Bool.{cases_lt}
-use Rattle.std.proofs.lemmas.List.{get_or-set_same, get_or-set_other}
+use Rattle.std.proofs.lemmas.List.{get_or-replicate, get_or-set_same, get_or-set_other}
 use Rattle.std.proofs.lemmas.Nat.{pow_pos, pow-add, pow_below, xor_lt, xor_block, mod-pow-add}
 use Rattle.std.specs.Int.Bits.{xor_zero_l, xor_zero_r, xor_self, xor_comm, xor_shifted}
 use Rattle.ghash_field.specs.Field.{reflected, block_product}
 use Rattle.ghash_field.specs.Table.{block_step, IsRow, IsTable}
 use Rattle.ghash_field.proofs.Algebra.{times_below, times-comm, times-inside}
 use Rattle.ghash_field.proofs.Division.{times_x, times_x-linear, times_x-lt, powers}
-use Rattle.ghash_field.proofs.FieldLaws.{product-linear, one-product}
+use Rattle.ghash_field.proofs.FieldLaws.{product-comm, product-linear, one-product}
 use Rattle.ghash_field.proofs.Reflected.{reflected-lt, reflected-step, reflected-product, product-lt, same_from_reflected}
 
 -- a step leaves a block
@@ -149,3 +149,10 @@ no_group a h = let e : a % 2 ^ (4 * 0) ≡ 0 = omega arith in sym (ap (λ w. blo
 -- 32 groups of four bits are the whole block
 pub all_groups : (a : ℕ) → a < 2 ^ 128 → a % 2 ^ (4 * 32) ≡ a
 all_groups a lt = omega arith
+
+-- a table of zeros is that of the hash subkey 0
+pub zero_table : IsTable 0 (replicate 32 (replicate 16 0))
+unfolding IsTable IsRow
+zero_table = λ i lt n low.
+    ap (λ row. get_or row n 0) (get_or-replicate 32 i (replicate 16 0) [] lt)
+    ∙ get_or-replicate 16 n 0 0 low ∙ sym (product-comm (n * 2 ^ (4 * i)) 0 ∙ zero-product (n * 2 ^ (4 * i)))

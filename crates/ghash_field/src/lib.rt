@@ -12,7 +12,7 @@ ghost use Rattle.ghash_field.specs.Ghash.{ghash};
 ghost use Rattle.ghash_field.specs.Hasher.{Holds};
 ghost use Rattle.ghash_field.specs.Table.{block_step};
 
-use table::{Table, mul_by_table, table_of};
+use table::{Table, fill_table, mul_by_table};
 
 mod table;
 #[cfg(test)]
@@ -77,10 +77,34 @@ impl Ghash {
     pub fn new(h: u128) -> Ghash
         ensures { Holds result h [] }
     {
+        let mut hash = Ghash::of_zero();
+        hash.begin(h);
+        hash
+    }
+
+    /// A hasher of no block, under the hash subkey 0. Its table is all zeros, and takes no work.
+    pub fn of_zero() -> Ghash
+        ensures { Holds result 0 [] }
+    {
         Ghash {
-            table: table_of(h),
+            table: [[0; 16]; 32],
             sum: 0,
         }
+    }
+
+    /// Begins with no block, under the hash subkey `h`: its table is made where the one before stands.
+    pub fn begin(&mut self, h: u128)
+        ensures { Holds self.new h [] }
+    {
+        fill_table(&mut self.table, h);
+        self.sum = 0;
+    }
+
+    /// Begins again with no block, under the same hash subkey, and makes no new table.
+    pub fn restart(&mut self)
+        ensures { (h : ℕ) (xs : List ℕ) → Holds self.old h xs → Holds self.new h [] }
+    {
+        self.sum = 0;
     }
 
     /// Takes in one block.

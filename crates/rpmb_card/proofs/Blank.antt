@@ -7,7 +7,7 @@ pub blank_sound : IsCard blank
 unfolding zero_blocks
 blank_sound =
     let zeros : List ℕ = replicate 256 0 in record {
-      key = tt;
+      key = λ key is. cc;
       counter = lit< tt;
       blocks = length-replicate 256 zeros;
       block = λ address lt. ap length (get_or-replicate 256 address zeros [] lt) ∙ length-replicate {A = ℕ} 256 0;

@@ -1,2 +1,3 @@
 pub mod Blank
 pub mod Comparison
+pub mod Hearing

@@ -1,3 +1,4 @@
+pub mod Protocol
 pub mod EmptyFrame
 pub mod Card
 pub mod Arms

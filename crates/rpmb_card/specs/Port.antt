@@ -1,11 +1,11 @@
 -- A port that carries frames to a card, as contracts see it, and what one exchange of a frame for an answer does to it.
-use Rattle.std.specs.Prelude.{◌≡◌, ◌⊎◌, ℕ, Bool, ◌-◌, ◌<◌, ◌≤◌, ◌^◌, List, ◌∷◌, [], ◌++◌, length, drop, Option, Some, None, Result, Ok, Err, IsTrue, IsOk, IsErr, IfOk, IfErr, OnOk, OnErr, IfSome}
+use Rattle.std.specs.Prelude.{◌≡◌, ◌⊎◌, ℕ, Bool, ◌-◌, ◌<◌, ◌≤◌, ◌^◌, List, ◌∷◌, [], ◌++◌, length, drop, slice_index_or, Option, Some, None, Result, Ok, Err, IsTrue, IsOk, IsErr, IfOk, IfErr, OnOk, OnErr, IfSome}
 use Rattle.tee_ports.specs.declared.failed.Failed.{Failed}
 use Rattle.tee_ports.specs.Faults.{Rose}
 use Rattle.rpmb_card.specs.Card.{CardState, IsCard, card_after, card_answer}
 use Rattle.rpmb_card.specs.declared.arms.Fate.{Fate}
 use Rattle.rpmb_card.specs.declared.arms.Fate.TheVariants.{Passes, Fails, Loses}
-use Rattle.rpmb_card.specs.Arms.{Arms, fate_of, count_call}
+use Rattle.rpmb_card.specs.Arms.{Arms, fate_of, count_call, is_unarmed}
 
 pub record PortState : Type 0 where
   -- how many exchanges failed, and for want of memory
@@ -20,6 +20,26 @@ pub record PortState : Type 0 where
   -- the port tells which faults are armed, and which these are
   pub tells_arms : Bool
   pub arms : Arms
+
+-- what holds of every port
+pub record Sound (port : PortState) : Type 0 where
+  pub card : IfSome port.card IsCard
+  pub faults : port.faults < 2 ^ 64
+  -- a card never starves
+  pub starved : port.starved ≡ 0
+  pub heard : length port.heard ≤ 3
+  -- one that tells its armed faults, and has none, is calm
+  pub calm : IsTrue port.tells_arms → IsTrue (is_unarmed port.arms) → IsTrue port.calm
+
+-- the frame is one of those that were heard
+pub record IsHeard (port : PortState) (frame : List ℕ) : Type 0 where
+  pub place : ℕ
+  pub below : place < length port.heard
+  pub is : slice_index_or port.heard place [] ≡ frame
+
+-- the frame that was heard last
+abbrev pub last_heard : PortState → List ℕ
+last_heard port = slice_index_or port.heard (length port.heard - 1) []
 
 -- the frames heard after one more
 abbrev pub heard_after : List (List ℕ) → List ℕ → List (List ℕ)

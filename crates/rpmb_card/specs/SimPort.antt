@@ -1,23 +1,27 @@
--- A port to a simulated card, as contracts see it.
-use Rattle.std.specs.Prelude.{ℕ, List, Some, true}
-use Rattle.rpmb_card.specs.Card.{CardState}
-use Rattle.rpmb_card.specs.Arms.{Arms, is_unarmed}
-use Rattle.rpmb_card.specs.Port.{PortState}
-
-pub record SimPortState : Type 0 where
-  pub card : CardState
-  pub heard : List (List ℕ)
-  pub arms : Arms
-  pub faults : ℕ
+-- A port to a simulated card, as what is known of a port.
+use Rattle.std.specs.Prelude.{Some, true, refl}
+use Rattle.rpmb_card.specs.Arms.{is_unarmed}
+use Rattle.rpmb_card.specs.Port.{PortState, Sound}
+use Rattle.rpmb_card.specs.declared.sim_port.SimPort.{SimPort}
 
 -- it tells everything, and is calm where nothing is armed
-abbrev pub port_state : SimPortState → PortState
-port_state s = record {
-  faults = s.faults;
+abbrev pub port_state : SimPort → PortState
+port_state port = record {
+  faults = port.faults;
   starved = 0;
-  card = Some s.card;
-  heard = s.heard;
-  calm = is_unarmed s.arms;
+  card = Some port.card;
+  heard = port.heard;
+  calm = is_unarmed port.arms;
   tells_arms = true;
-  arms = s.arms;
+  arms = port.arms;
+}
+
+-- what holds of every port holds of a port to a simulated card
+pub port_sound : (port : SimPort) → Sound (port_state port)
+port_sound port = record {
+  card = port.card_sound;
+  faults = port.faults_fit;
+  starved = refl;
+  heard = port.heard_few;
+  calm = λ tells unarmed. unarmed;
 }

@@ -36,5 +36,6 @@ pub trait CardRig: RpmbPort {
     /// Removes all of these.
     fn disarm(&mut self)
         ensures rearmed { Rearmed (Self.state self.old) (Self.state self.new) no_arms }
-        ensures calm { IsTrue (Self.state self.old).tells_arms → IsTrue (Self.state self.new).calm };
+        ensures calm { IsTrue (Self.state self.old).tells_arms → IsTrue (Self.state self.new).calm }
+        ensures stays_calm { IsTrue (Self.state self.old).calm → IsTrue (Self.state self.new).calm };
 }

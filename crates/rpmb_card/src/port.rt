@@ -1,8 +1,6 @@
 // The way to a card.
 
-ghost use Rattle.std.specs.Prelude.{IsTrue};
-ghost use Rattle.rpmb_card.specs.Arms.{is_unarmed};
-ghost use Rattle.rpmb_card.specs.Port.{PortState, Exchanged};
+ghost use Rattle.rpmb_card.specs.Port.{Exchanged, PortState, Sound};
 
 use tee_ports::Failed;
 
@@ -19,7 +17,6 @@ pub trait RpmbPort {
     fn exchange(&mut self, frame: &[u8; 512]) -> Result<[u8; 512], Failed>
         ensures { Exchanged (state self.old) (state self.new) frame.now result };
 
-    // A port that tells its armed faults, and has none, is calm.
-    ghost calm_unarmed: { (port : Self) → IsTrue (state port).tells_arms
-        → IsTrue (is_unarmed (state port).arms) → IsTrue (state port).calm };
+    // What holds of every port.
+    ghost sound: { (port : Self) → Sound (state port) };
 }

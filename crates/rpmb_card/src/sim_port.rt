@@ -1,14 +1,12 @@
 // A port to a simulated card.
 
-ghost use Rattle.std.specs.Prelude.{◌≡◌, [], OnOk, OnErr};
-ghost use Rattle.tee_ports.specs.Faults.{next_count};
-ghost use Rattle.rpmb_card.specs.Arms.{no_arms};
+ghost use Rattle.std.specs.Prelude.{length, ◌≤◌, ◌<◌, ◌^◌};
+ghost use Rattle.rpmb_card.specs.Card.{IsCard};
 
 use crate::arms::{ArmedCalls, Fate};
 use crate::heard::Heard;
 use crate::{CardRig, NoMemory, RpmbPort, SimCard};
 use std::alloc::Global;
-use std::marker::Model;
 use tee_ports::Failed;
 
 /// A port to a simulated card, with chosen exchanges that fail.
@@ -18,24 +16,26 @@ pub struct SimPort {
     heard: Heard,
     arms: ArmedCalls,
     faults: u64,
-}
-
-impl Model for SimPort {
-    ghost use Rattle.std.specs.Prelude.{◌<◌, ◌^◌};
-    ghost use Rattle.rpmb_card.specs.SimPort.{SimPortState};
-
-    ghost Value = { SimPortState };
-
-    ghost view = { λ p. record { card = p.card; heard = p.heard; arms = p.arms; faults = p.faults } };
-
-    ghost invariant = { λ p. p.faults < 2 ^ 64 };
+    ghost card_sound: { IsCard card },
+    ghost heard_few: { length heard ≤ 3 },
+    ghost faults_fit: { faults < 2 ^ 64 },
 }
 
 impl SimPort {
+    ghost use Rattle.std.specs.Prelude.{◌≡◌, [], Some};
+    ghost use Rattle.tee_ports.specs.Faults.{next_count};
+    ghost use Rattle.rpmb_card.specs.Arms.{no_arms};
+    ghost use Rattle.rpmb_card.specs.SimPort.{port_state};
+
     /// A port to this card, with no fault armed. Arming takes memory from `alloc`.
     pub fn new(alloc: Global, card: SimCard) -> SimPort
-        ensures { result ≡ record { card = card; heard = []; arms = no_arms; faults = 0 } }
+        ensures card { (port_state result).card ≡ Some card }
+        ensures heard { (port_state result).heard ≡ [] }
+        ensures arms { (port_state result).arms ≡ no_arms }
+        ensures faults { (port_state result).faults ≡ 0 }
     {
+        // What is known of every card is known once a field is read.
+        let _ = &card.key;
         SimPort {
             card,
             heard: Heard::new(),
@@ -46,15 +46,15 @@ impl SimPort {
 
     /// The card, as it is.
     pub fn into_card(self) -> SimCard
-        ensures { result ≡ self.card }
+        ensures { Some result ≡ (port_state self).card }
     {
         self.card
     }
 
     // Counts one more fault.
     fn fail(&mut self) -> Failed
-        ensures counted { self.new ≡ record self.old { faults = next_count self.old.faults } }
-        ensures carried { result.count ≡ self.new.faults }
+        ensures counted { port_state self.new ≡ record (port_state self.old) { faults = next_count (port_state self.old).faults } }
+        ensures carried { result.count ≡ (port_state self.new).faults }
     {
         self.faults = self.faults.saturating_add(1);
         Failed { count: self.faults }
@@ -62,9 +62,11 @@ impl SimPort {
 }
 
 impl RpmbPort for SimPort {
-    ghost use Rattle.rpmb_card.specs.SimPort.{port_state};
+    ghost use Rattle.rpmb_card.specs.SimPort.{port_sound, port_state};
 
     ghost state = { port_state };
+
+    ghost sound = { port_sound };
 
     fn exchange(&mut self, frame: &[u8; 512]) -> Result<[u8; 512], Failed> {
         // What is known of every card is known once a field is read.
@@ -83,8 +85,6 @@ impl RpmbPort for SimPort {
             }
         }
     }
-
-    ghost calm_unarmed = { λ port tells unarmed. unarmed };
 }
 
 impl CardRig for SimPort {

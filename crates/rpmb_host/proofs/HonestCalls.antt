@@ -5,14 +5,14 @@ use Rattle.std.proofs.lemmas.List.{get_or-set_same}
 use Rattle.tee_ports.specs.declared.failed.Failed.{Failed}
 use Rattle.rpmb_frame.specs.declared.frame.Frame.{Frame}
 use Rattle.rpmb_card.specs.Card.{CardState, IsCard, card_after, card_answer}
-use Rattle.rpmb_card.specs.Port.{PortState, Exchanged, acted}
+use Rattle.rpmb_card.specs.Port.{PortState, Exchanged, acted, last_heard}
 use Rattle.rpmb_host.specs.declared.fault.HostFault.{HostFault}
 use Rattle.rpmb_host.specs.declared.fault.HostFault.TheVariants.{Failed as HostFailed, BadFrame, CardResult, Spent}
 use Rattle.rpmb_host.specs.declared.verdict.Wanted.{Wanted}
 use Rattle.rpmb_host.specs.Verdict.{verdict}
 use Rattle.rpmb_host.specs.Requests.{counter_request, block_request, result_request, write_request}
 use Rattle.rpmb_host.specs.Honest.{HasCard, IsWritten, card_block, card_write, write_end, written_card}
-use Rattle.rpmb_host.specs.Calls.{WriteExchanges, has_failed, block_wanted, counter_wanted, judged, last_heard, received, told, write_wanted}
+use Rattle.rpmb_host.specs.Calls.{WriteExchanges, has_failed, block_wanted, counter_wanted, judged, received, told, write_wanted}
 use Rattle.rpmb_host.proofs.HonestReads.{block-told, bool_cases, counter-told, is_keyed, request-block, request-counter}
 use Rattle.rpmb_host.proofs.HonestWrites.{card_after-write, request-result, write-told}
 

@@ -9,7 +9,7 @@ use Rattle.rpmb_frame.specs.Authentication.{carried_mac, mac_of, sealed}
 use Rattle.rpmb_frame.proofs.RoundTrips.{frame_of-frame_bytes}
 use Rattle.rpmb_card.proofs.Comparison.{bytes_eq-same}
 use Rattle.rpmb_card.specs.EmptyFrame.{empty_frame}
-use Rattle.rpmb_card.specs.declared.protocol.TheConstants.{READ_COUNTER, READ_BLOCK, BLOCK_READ}
+use Rattle.rpmb_card.specs.Protocol.{read_counter_kind, read_block_kind, block_read_kind}
 use Rattle.rpmb_card.specs.Card.{CardState, IsCard, given_result, card_answer, counter_answer}
 use Rattle.rpmb_host.specs.declared.fault.HostFault.TheVariants.{CardResult}
 use Rattle.rpmb_host.specs.declared.verdict.Wanted.{Wanted}
@@ -56,7 +56,7 @@ given_width counter result low =
     ]
 
 abbrev pub counter_fields : List ℕ → Frame
-counter_fields nonce = record empty_frame { nonce = nonce; kind = READ_COUNTER }
+counter_fields nonce = record empty_frame { nonce = nonce; kind = read_counter_kind }
 
 counter_widths : (nonce : List ℕ) → length nonce ≡ 16 → HasWidths (counter_fields nonce)
 counter_widths nonce len =
@@ -81,7 +81,7 @@ counter-told key nonce s sound len =
     rw (answer-counter key nonce s len, verdict-sealed key (counter_wanted nonce) g g_widths, same, given-low s.counter 0 refl refl)
 
 abbrev pub block_fields : ℕ → List ℕ → Frame
-block_fields address nonce = record empty_frame { nonce = nonce; address = address; kind = READ_BLOCK }
+block_fields address nonce = record empty_frame { nonce = nonce; address = address; kind = read_block_kind }
 
 pub request-block : (address : ℕ) (nonce : List ℕ) → address < 2 ^ 16 → length nonce ≡ 16
     → frame_of (block_request address nonce) ≡ block_fields address nonce
@@ -97,7 +97,7 @@ block_frame s address nonce block result = record empty_frame {
   address = address;
   count = 1;
   result = given_result s.counter result;
-  kind = BLOCK_READ;
+  kind = block_read_kind;
 }
 
 -- a block that the card has not

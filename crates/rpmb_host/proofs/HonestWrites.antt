@@ -8,7 +8,7 @@ use Rattle.rpmb_frame.specs.Authentication.{carried_mac, mac_of}
 use Rattle.rpmb_frame.proofs.RoundTrips.{frame_of-frame_bytes}
 use Rattle.rpmb_card.proofs.Comparison.{bytes_eq-same}
 use Rattle.rpmb_card.specs.EmptyFrame.{empty_frame}
-use Rattle.rpmb_card.specs.declared.protocol.TheConstants.{READ_RESULT, BLOCK_WRITTEN}
+use Rattle.rpmb_card.specs.Protocol.{read_result_kind, block_written_kind}
 use Rattle.rpmb_card.specs.Card.{CardState, IsCard, given_result, card_answer, card_after, programmed, write_result, written}
 use Rattle.rpmb_host.specs.declared.fault.HostFault.TheVariants.{CardResult}
 use Rattle.rpmb_host.specs.Verdict.{verdict}
@@ -54,7 +54,7 @@ card_after-write key address counter block s low fits long =
     ∙ ap (λ (n : ℕ). written (keyed key s) (write_fields address counter block) n) ends
 
 abbrev result_fields : Frame
-result_fields = record empty_frame { kind = READ_RESULT }
+result_fields = record empty_frame { kind = read_result_kind }
 
 pub request-result : frame_of result_request ≡ result_fields
 request-result =
@@ -67,7 +67,7 @@ result_frame counter address result = record empty_frame {
   counter = counter;
   address = address;
   result = given_result counter result;
-  kind = BLOCK_WRITTEN;
+  kind = block_written_kind;
 }
 
 result_widths : (counter address result : ℕ) → counter < 2 ^ 32 → address < 2 ^ 16 → result < 2 ^ 16

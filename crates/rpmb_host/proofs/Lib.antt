@@ -3,3 +3,4 @@ pub mod HonestReads
 pub mod HonestWrites
 pub mod HonestCalls
 pub mod Counting
+pub mod CardsBefore

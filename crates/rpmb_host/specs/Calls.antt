@@ -1,11 +1,11 @@
 -- What a call of the host makes of its exchanges.
-use Rattle.std.specs.Prelude.{ℕ, Bool, true, false, ◌≡◌, ◌⊎◌, ◌+◌, ◌-◌, List, [], length, slice_index_or, Some, None, Result, Ok, Err, IsErr}
+use Rattle.std.specs.Prelude.{ℕ, Bool, true, false, ◌≡◌, ◌⊎◌, ◌+◌, List, Some, None, Result, Ok, Err, IsErr}
 use Rattle.std.specs.Result.{result_map_both}
 use Rattle.tee_ports.specs.declared.failed.Failed.{Failed}
 use Rattle.tee_ports.specs.Faults.{Rose}
 use Rattle.rpmb_frame.specs.declared.frame.Frame.{Frame}
-use Rattle.rpmb_card.specs.Port.{PortState, Exchanged}
-use Rattle.rpmb_card.specs.declared.protocol.TheConstants.{COUNTER_READ, BLOCK_READ, BLOCK_WRITTEN}
+use Rattle.rpmb_card.specs.Port.{PortState, Exchanged, last_heard}
+use Rattle.rpmb_card.specs.Protocol.{counter_read_kind, block_read_kind, block_written_kind}
 use Rattle.rpmb_host.specs.declared.fault.HostFault.{HostFault}
 use Rattle.rpmb_host.specs.declared.fault.HostFault.TheVariants.{Failed as HostFailed}
 use Rattle.rpmb_host.specs.declared.verdict.Wanted.{Wanted}
@@ -16,10 +16,6 @@ use Rattle.rpmb_host.specs.Verdict.{verdict}
 pub record HostState (R : Type 0) : Type 0 where
   pub port : R
   pub key : List ℕ
-
--- the frame that was heard last
-abbrev pub last_heard : PortState → List ℕ
-last_heard port = slice_index_or port.heard (length port.heard - 1) []
 
 -- what came of a call's last exchange: a failure, or the frame that was heard last
 abbrev pub fault_received : PortState → HostFault → Result (List ℕ) Failed
@@ -58,14 +54,14 @@ has_failed (Err fault) = is_failure fault
 
 -- the wanted answers
 abbrev pub counter_wanted : (nonce : List ℕ) → Wanted
-counter_wanted nonce = record { kind = COUNTER_READ; nonce = Some nonce; counter = None; address = None }
+counter_wanted nonce = record { kind = counter_read_kind; nonce = Some nonce; counter = None; address = None }
 
 abbrev pub block_wanted : ℕ → (nonce : List ℕ) → Wanted
-block_wanted address nonce = record { kind = BLOCK_READ; nonce = Some nonce; counter = None; address = Some address }
+block_wanted address nonce = record { kind = block_read_kind; nonce = Some nonce; counter = None; address = Some address }
 
 abbrev pub write_wanted : (address counter : ℕ) → Wanted
 write_wanted address counter =
-    record { kind = BLOCK_WRITTEN; nonce = None; counter = Some (counter + 1); address = Some address }
+    record { kind = block_written_kind; nonce = None; counter = Some (counter + 1); address = Some address }
 
 -- the exchanges of a write: the write, and where it was answered, whatever the answer, one read of its result
 abbrev pub WriteExchanges : PortState → PortState → (write : List ℕ) → Result (List ℕ) Failed → Type 0

@@ -8,7 +8,7 @@ use Rattle.rpmb_frame.specs.Layout.{frame_of}
 use Rattle.rpmb_frame.specs.Authentication.{carried_mac, mac_of}
 use Rattle.rpmb_host.specs.declared.fault.HostFault.{HostFault}
 use Rattle.rpmb_host.specs.declared.fault.HostFault.TheVariants.{Failed, BadFrame, CardResult, Spent}
-use Rattle.rpmb_host.specs.declared.verdict.TheConstants.{RESULT_BITS}
+use Rattle.rpmb_card.specs.Protocol.{result_bits}
 use Rattle.rpmb_host.specs.declared.verdict.Wanted.{Wanted}
 
 -- a value is wanted, and this is another
@@ -32,7 +32,7 @@ abbrev pub fields_verdict : Wanted → Frame → Result Frame HostFault
 fields_verdict wanted f =
     if is_other_nonce wanted.nonce f.nonce then Err (BadFrame (Nonce (unwrap_or wanted.nonce f.nonce) f.nonce))
     else if not (f.kind == wanted.kind) then Err (BadFrame (Kind wanted.kind f.kind))
-    else if not (bit_and f.result RESULT_BITS == 0) then Err (CardResult f.result)
+    else if not (bit_and f.result result_bits == 0) then Err (CardResult f.result)
     else place_verdict wanted f
 
 -- the frame, or what is wrong with it first

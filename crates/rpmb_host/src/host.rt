@@ -1,11 +1,12 @@
 // The host.
 
-ghost use Rattle.std.specs.Prelude.{◌≡◌, ◌≢◌, ◌↔◌, ◌⊎◌, false, IfOk, IsTrue, Some};
-ghost use Rattle.rpmb_card.specs.Card.{CardState, last_counter};
+ghost use Rattle.std.specs.Prelude.{◌≡◌, ◌≢◌, ◌≤◌, ◌↔◌, ◌⊎◌, false, IfOk, IsTrue, Some};
+ghost use Rattle.rpmb_card.specs.Card.{CardState};
+ghost use Rattle.rpmb_card.specs.Protocol.{last_counter};
 ghost use Rattle.rpmb_card.specs.Port.{Exchanged};
 ghost use Rattle.rpmb_host.specs.Requests.{block_request, counter_request, write_request};
 ghost use Rattle.rpmb_host.specs.declared.fault.HostFault.TheVariants.{Spent};
-ghost use Rattle.rpmb_host.specs.Honest.{HasCard, IsWritten, card_block, card_write, written_card};
+ghost use Rattle.rpmb_host.specs.Honest.{HadCard, HasCard, IsWritten, card_block, card_write, written_card};
 ghost use Rattle.rpmb_host.specs.Calls.{Counts, WriteExchanges, block_wanted, counter_wanted, has_failed, judged, received, told, write_wanted};
 
 use crate::HostFault;
@@ -59,13 +60,18 @@ impl<R: RpmbPort> Host<R> {
             (counter_request nonce.now) (received (R.state self.new.port) result) }
         ensures answer { result ≡ told (λ f. f.counter) (judged self.old.key
             (counter_wanted nonce.now) (received (R.state self.new.port) result)) }
+        ensures unspent { result ≢ Err Spent }
         ensures key { self.new.key ≡ self.old.key }
         ensures counts { Counts (R.state self.old.port) (R.state self.new.port) result }
+        ensures counted { (R.state self.old.port).faults ≤ (R.state self.new.port).faults }
         ensures calm { IsTrue (R.state self.old.port).calm
             → (has_failed result ≡ false) × IsTrue (R.state self.new.port).calm }
 
-        // The card stays; one that has the host's key tells its counter, worn or not.
+        // The card stays; one that has the host's key tells its counter, worn or not. A card that has the key afterwards had
+        // it before.
         ensures stays { (R.state self.new.port).card ≡ (R.state self.old.port).card }
+        ensures was { (card : CardState) → HasCard (R.state self.new.port) self.new.key card
+            → HadCard (R.state self.old.port) self.old.key }
         ensures honest { (card : CardState) → HasCard (R.state self.old.port) self.old.key card
             → has_failed result ≡ false → result ≡ Ok card.counter }
     {
@@ -90,13 +96,17 @@ impl<R: RpmbPort> Host<R> {
             (block_request address nonce.now) (received (R.state self.new.port) result) }
         ensures answer { result ≡ told (λ f. f.block) (judged self.old.key
             (block_wanted address nonce.now) (received (R.state self.new.port) result)) }
+        ensures unspent { result ≢ Err Spent }
         ensures key { self.new.key ≡ self.old.key }
         ensures counts { Counts (R.state self.old.port) (R.state self.new.port) result }
+        ensures counted { (R.state self.old.port).faults ≤ (R.state self.new.port).faults }
         ensures calm { IsTrue (R.state self.old.port).calm
             → (has_failed result ≡ false) × IsTrue (R.state self.new.port).calm }
 
-        // The card stays; one that has the host's key gives its block.
+        // The card stays; one that has the host's key gives its block. A card that has the key afterwards had it before.
         ensures stays { (R.state self.new.port).card ≡ (R.state self.old.port).card }
+        ensures was { (card : CardState) → HasCard (R.state self.new.port) self.new.key card
+            → HadCard (R.state self.old.port) self.old.key }
         ensures honest { (card : CardState) → HasCard (R.state self.old.port) self.old.key card
             → has_failed result ≡ false → result ≡ card_block card address }
     {
@@ -133,14 +143,18 @@ impl<R: RpmbPort> Host<R> {
             (judged self.old.key (write_wanted address counter) (received (R.state self.new.port) result)) }
         ensures key { self.new.key ≡ self.old.key }
         ensures counts { Counts (R.state self.old.port) (R.state self.new.port) result }
+        ensures counted { (R.state self.old.port).faults ≤ (R.state self.new.port).faults }
         ensures calm { IsTrue (R.state self.old.port).calm
             → (has_failed result ≡ false) × IsTrue (R.state self.new.port).calm }
 
-        // What a card that has the host's key does and tells. After a failure it has written, or not.
+        // What a card that has the host's key does and tells. After a failure it has written, or not. A card that has the
+        // key afterwards had it before.
         ensures honest { counter ≢ last_counter → (card : CardState)
             → HasCard (R.state self.old.port) self.old.key card → has_failed result ≡ false
             → (result ≡ card_write card address counter)
             × ((R.state self.new.port).card ≡ Some (written_card card address counter block.now)) }
+        ensures was { (card : CardState) → HasCard (R.state self.new.port) self.new.key card
+            → HadCard (R.state self.old.port) self.old.key }
         ensures left { counter ≢ last_counter → (card : CardState)
             → HasCard (R.state self.old.port) self.old.key card
             → ((R.state self.new.port).card ≡ Some card)

@@ -11,3 +11,4 @@ mod verdict;
 
 pub use fault::HostFault;
 pub use host::Host;
+pub use verdict::Wanted;

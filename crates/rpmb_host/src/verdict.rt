@@ -12,10 +12,14 @@ pub(crate) const RESULT_BITS: u16 = 0x7f;
 
 /// The wanted answer. `None` leaves a field free.
 #[derive(Clone, Copy)]
-pub(crate) struct Wanted {
+pub struct Wanted {
+    /// Which response it is.
     pub kind: u16,
+    /// The nonce of the request.
     pub nonce: Option<[u8; 16]>,
+    /// The write counter.
     pub counter: Option<u32>,
+    /// The block's address.
     pub address: Option<u16>,
 }
 

@@ -1,5 +1,6 @@
-use Rattle.std.proofs.Common.{◌≡◌, rules, refl, ap, ◌∙◌}
+use Rattle.std.proofs.Common.{◌≡◌, [], rules, refl, subst, ap, ◌∙◌}
 use Rattle.aes_block.specs.Cipher.{cipher}
+use Rattle.ghash_field.specs.Hasher.{Holds}
 use Rattle.gcm_mode.specs.CounterMode.{gctr, inc32}
 use Rattle.gcm_mode.specs.Gcm.{gcm_text}
 use Rattle.gcm_mode.proofs.Twice.{gcm_text-gcm_text}
@@ -8,9 +9,11 @@ use Rattle.gcm_mode.proofs.open_text.Goals as goal
 pub returns-clause-tags : goal.returns-clause-tags
 unfolding gcm_text
 returns-clause-tags c =
-    let same : c.args.tag.now ≡ c.tag_of-found.result = search rules in (
-      same ∙ c.tag_of-found.ensures c.args.iv.now c.pre_counter_block-first.ensures,
-      c.apply_stream.ensures ∙ ap (λ b. gctr (cipher c.args.key.now) b c.args.text.now) (c.inc32.ensures ∙ ap inc32 c.pre_counter_block-first.ensures),
+    let same : c.args.tag.now ≡ c.tag_of-found.result = search rules in
+    let begun = subst (λ h. Holds c.begin.new.self h []) c.hash_subkey.ensures c.begin.ensures in
+    let first = c.pre_counter_block-first.ensures.block (cipher c.args.key.now) begun in (
+      same ∙ c.tag_of-found.ensures c.args.iv.now (c.pre_counter_block-first.ensures.hash _ begun) first,
+      c.apply_stream.ensures ∙ ap (λ b. gctr (cipher c.args.key.now) b c.args.text.now) (c.inc32.ensures ∙ ap inc32 first),
     )
 
 pub returns-clause-undoes_seal : goal.returns-clause-undoes_seal

@@ -34,7 +34,7 @@ returns c =
     let first : List ℕ = c.args.first.now in
     let orig : List ℕ = c.args.text.now in
     let text : List ℕ = c.groups.text in
-    let part : List ℕ = c.apply_blocks.new.text in
+    let part : List ℕ = c.apply_last.new.text in
     let e : List ℕ → List ℕ = cipher c.args.key.now in
     let g : ℕ = length orig / 128 in
     let at : c.groups.g ≡ g = omega arith in
@@ -42,11 +42,11 @@ returns c =
     let n : ℕ = length text - a in
     let fits : a + n ≤ length text = omega (arith, c.groups.auto.text) in
     let tail : length (take n (drop a text)) ≡ n = length-take n (drop a text) ∙ omega (arith, length-drop a text) in
-    let len : length part ≡ n = c.apply_blocks.auto.text ∙ tail in
+    let len : length part ≡ n = c.apply_last.auto.text ∙ tail in
     let counter : c.groups.counter ≡ counter_block first (8 * g) = c.groups.invariant.count ∙ ap (λ j. counter_block first (8 * j)) at in
     let stream : (k : ℕ) → k < n → get_or part k 0 ≡ bit_xor (get_or text (a + k) 0) (stream_byte e first (a + k)) = λ k lt.
     let place : 16 * (8 * g) + k ≡ a + k = omega arith in
-    ap (λ xs. get_or xs k 0) c.apply_blocks.ensures
+    ap (λ xs. get_or xs k 0) c.apply_last.ensures
     ∙ gctr-later e first c.groups.counter (take n (drop a text)) (8 * g) k counter (omega (arith, tail))
     ∙ (λ t. bit_xor ((get_or-take n (drop a text) k 0 lt ∙ get_or-drop a text k 0) t) (stream_byte e first (place t))) in
     gctr-all e first orig _ (put-length a n text part fits len ∙ c.groups.auto.text)

@@ -4,6 +4,7 @@ use Rattle.rpmb_frame.specs.declared.frame.Frame.{Frame}
 use Rattle.rpmb_host.specs.Calls.{told}
 use Rattle.rpmb_host.specs.declared.fault.HostFault.{HostFault}
 use Rattle.rpmb_host.proofs.Counting.{exchange_calm, exchange_counts}
+use Rattle.rpmb_host.proofs.CardsBefore.{was_left}
 use Rattle.rpmb_host.proofs.HonestCalls.{card_stays, block_honest, block_stays}
 use Rattle.rpmb_host.proofs.host.Host.read_block.Goals as goal
 
@@ -50,3 +51,13 @@ returns-clause-counts g c =
 pub returns-clause-calm : goal.returns-clause-calm
 returns-clause-calm g c =
     exchange_calm (g.R.RpmbPort.state c.args.self.now.port) (g.R.RpmbPort.state c.ask.new.self.port) c.block_request.result (let value : Result Frame HostFault = Ok c.in_ok-answer.answer in value) c.in_ok-answer.ensures.exchanged
+
+pub returns-in_err-answer-clause-was : goal.returns-in_err-answer-clause-was
+returns-in_err-answer-clause-was g c card has =
+    was_left (g.R.RpmbPort.state c.args.self.now.port) (g.R.RpmbPort.state c.ask.new.self.port) c.args.self.now.key c.ask.new.self.key card
+    (returns-in_err-answer-clause-stays g c) c.in_err-answer.ensures.key has
+
+pub returns-clause-was : goal.returns-clause-was
+returns-clause-was g c card has =
+    was_left (g.R.RpmbPort.state c.args.self.now.port) (g.R.RpmbPort.state c.ask.new.self.port) c.args.self.now.key c.ask.new.self.key card
+    (returns-clause-stays g c) c.in_ok-answer.ensures.key has

@@ -5,6 +5,7 @@ use Rattle.rpmb_host.specs.Calls.{told}
 use Rattle.rpmb_host.specs.Requests.{write_request}
 use Rattle.rpmb_host.specs.declared.fault.HostFault.{HostFault}
 use Rattle.rpmb_host.proofs.Counting.{write_calm, write_counts}
+use Rattle.rpmb_host.proofs.CardsBefore.{was_written}
 use Rattle.rpmb_host.proofs.HonestCalls.{write_honest, write_left, write_sound, write_written}
 use Rattle.rpmb_host.proofs.host.Host.write_block.Goals as goal
 
@@ -62,3 +63,17 @@ returns-clause-counts g c =
 pub returns-clause-calm : goal.returns-clause-calm
 returns-clause-calm g c =
     write_calm (g.R.RpmbPort.state c.args.self.now.port) (g.R.RpmbPort.state c.write.new.self.port) c.write_request-request.result (let value : Result Frame HostFault = Ok c.in_ok-answer.answer in value) c.in_ok-answer.ensures.exchanged
+
+pub returns-in_err-answer-clause-was : goal.returns-in_err-answer-clause-was
+returns-in_err-answer-clause-was g c card has =
+    let request : c.write_request-request.result ≡ write_request c.args.self.now.key c.args.address c.args.counter c.args.block.now = search rules in
+    was_written (g.R.RpmbPort.state c.args.self.now.port) (g.R.RpmbPort.state c.write.new.self.port) c.args.self.now.key c.write.new.self.key
+    c.args.address c.args.counter c.args.block.now _ card (omega arith) (omega arith) c.told-block
+    (rw request at c.in_err-answer.ensures.exchanged) c.in_err-answer.ensures.key has
+
+pub returns-clause-was : goal.returns-clause-was
+returns-clause-was g c card has =
+    let request : c.write_request-request.result ≡ write_request c.args.self.now.key c.args.address c.args.counter c.args.block.now = search rules in
+    was_written (g.R.RpmbPort.state c.args.self.now.port) (g.R.RpmbPort.state c.write.new.self.port) c.args.self.now.key c.write.new.self.key
+    c.args.address c.args.counter c.args.block.now _ card (omega arith) (omega arith) c.told-block
+    (rw request at c.in_ok-answer.ensures.exchanged) c.in_ok-answer.ensures.key has

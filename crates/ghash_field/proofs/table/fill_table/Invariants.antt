@@ -1,7 +1,7 @@
 use Rattle.std.proofs.Common.{◌≡◌, ℕ, ◌*◌, ◌<◌, ◌≤◌, ◌^◌, ◌-◌, [], get_or, length}
 use Rattle.ghash_field.specs.Field.{block_product}
 use Rattle.ghash_field.specs.Table.{IsRow}
-use Rattle.ghash_field.proofs.table.table_of.Given as goal
+use Rattle.ghash_field.proofs.table.fill_table.Given as goal
 
 abbrev pub invariant-loop-i : goal.invariant-loop-i
 invariant-loop-i l = record {

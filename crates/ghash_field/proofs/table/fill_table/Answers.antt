@@ -2,7 +2,7 @@ use Rattle.std.proofs.Common.{ℕ, ◌-◌, ◌<◌, ◌∙◌, arith}
 use Rattle.std.proofs.lemmas.List.{length-set}
 use Rattle.ghash_field.specs.Table.{IsRow, IsTable}
 use Rattle.ghash_field.proofs.Rows.{one_top, next_top, row_written, entry-one}
-use Rattle.ghash_field.proofs.table.table_of.Goals as goal
+use Rattle.ghash_field.proofs.table.fill_table.Goals as goal
 
 pub loop-i-init : goal.loop-i-init
 loop-i-init c = record {
