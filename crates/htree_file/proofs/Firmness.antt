@@ -6,21 +6,23 @@ use Rattle.disk_model.specs.Calls.{Syncs}
 use Rattle.disk_model.specs.Keeps.{Anywhere, Keeps}
 use Rattle.disk_model.proofs.ImageLaws.{left_since_now, now_since, reads_left}
 use Rattle.disk_model.proofs.Laws.{keeps_fewer, synced}
+use Rattle.aes_block.specs.WrappedKey.{unwrapped_of}
 use Rattle.node_image.specs.declared.node.NodeImage.{NodeImage}
 use Rattle.node_image.specs.declared.node.RootRef.{RootRef}
 use Rattle.node_image.specs.Layout.{has_form, head_of, node_of}
 use Rattle.node_image.specs.Parts.{Part, size, start}
 use Rattle.node_image.specs.Parts.Part.{block, head, node}
-use Rattle.node_image.specs.Tables.{block_bit, block_version, node_version}
+use Rattle.node_image.specs.Tables.{at_node, block_bit, block_version, node_version}
 use Rattle.node_image.specs.Selection.{SelectedTree, head_in, part_in, row, selected_node, selected_tree, version_in}
 use Rattle.node_image.proofs.ImageBytes.{bytes_give, bytes_same}
 use Rattle.node_image.proofs.Matching.{node_is, row_at, row_same, version_is}
+use Rattle.htree_file.specs.Making.{IsSynced}
 use Rattle.htree_file.specs.Opening.{Loaded, load_of}
+use Rattle.htree_file.specs.Pages.{opened_in, opened_of, page_in, page_of}
 use Rattle.htree_file.specs.Selected.{IsLoaded, IsSelected, KeepsFirm, Lies}
 use Rattle.htree_file.specs.Standing.{IsFirm, OpensTo}
 use Rattle.htree_file.specs.Value.{Staged}
 use Rattle.htree_file.proofs.Loadings.{loaded_from, loaded_is}
-use Rattle.htree_file.proofs.Made.{synced_firm}
 use Rattle.htree_file.proofs.SameTable.{node_version_bit}
 use Rattle.htree_file.proofs.Sizes.{sized_few}
 
@@ -143,6 +145,12 @@ stays_firm old new root tree sound still bit keeps firm honest = record {
   firm = still_firm old new root tree sound bit firm keeps still honest;
 }
 
+-- what loads from the only image is firm
+pub synced_firm : (s : FileState) (root : RootRef) (loaded : Loaded) → IsSynced s → IsTrue s.honest → load_of s.reads root ≡ Ok loaded → IsFirm s root loaded
+synced_firm s root loaded synced honest loads image left =
+    let same : image ≡ s.reads = synced honest image left in
+    record { opens = ap (λ (i : List ℕ). load_of i root) same ∙ loads; selects = ap (λ (i : List ℕ). selected_tree i root.version) same }
+
 -- what keeps all places keeps the selected ones
 pub keeps_selected : (nodes : List NodeImage) (root : ℕ) (old new : FileState) → Keeps Anywhere old new → Keeps (Lies nodes root) old new
 keeps_selected nodes root old new keeps = keeps_fewer Anywhere (Lies nodes root) old new (λ p at. tt) keeps
@@ -152,3 +160,21 @@ pub settled_firm : (stage : Option Staged) (old new : FileState) → Syncs old n
 settled_firm None old new syncs = tt
 settled_firm (Some s) old new syncs = λ honest loads.
     synced_firm new s.root s.tree (λ h image left. synced old new syncs h image left) honest (ap (λ (l : List ℕ). load_of l s.root) (syncs.reads (inl honest)) ∙ loads)
+
+-- images in which a reference selects and loads alike open alike
+opened_by : (wrap i r : List ℕ) (root : RootRef) (tree : Loaded) → IsLoaded i root tree → IsLoaded r root tree → selected_tree i root.version ≡ selected_tree r root.version
+    → opened_in i wrap (Ok tree) ≡ opened_in r wrap (Ok tree)
+opened_by wrap i r root tree a b same =
+    let key : List ℕ = unwrapped_of wrap tree.head.wrapped in
+    ap (λ (pages : List (Option (List ℕ))). Ok (record { bytes = tree.head.length; pages = pages }))
+    (row_same (page_in i key tree) (page_in r key tree) (length tree.nodes)
+    (λ k lt. ap (page_of key tree.head (at_node tree.nodes (k + 1)) k)
+    (same_selected i r root tree a b same (block k (block_version tree.nodes k)) (lt, refl))))
+
+pub opens_alike : (s : FileState) (root : RootRef) (tree : Loaded) → Sound s → IsFirm s root tree → (wrap image : List ℕ) → LeftNow s image → opened_of wrap image root ≡ opened_of wrap s.reads root
+opens_alike s root tree sound firm wrap image left =
+    let there = firm image left in
+    let here = firm s.reads (reads_left s sound) in
+    ap (opened_in image wrap) there.opens
+    ∙ opened_by wrap image s.reads root tree (loaded_from image root tree there.opens) (loaded_from s.reads root tree here.opens) there.selects
+    ∙ sym (ap (opened_in s.reads wrap) here.opens)

@@ -6,7 +6,7 @@ use Rattle.node_image.specs.declared.node.NodeImage.{NodeImage}
 use Rattle.node_image.specs.declared.head.Head.{Head}
 use Rattle.node_image.specs.Hashes.{hash_input, node_hash_of}
 use Rattle.node_image.specs.Tables.{at_node, hash_in, no_node, stored_hash}
-use Rattle.htree_file.specs.Making.{HashedAmong, HashedFrom, SameSeal}
+use Rattle.htree_file.specs.Staging.{HashedAmong, SameSeal}
 
 -- nodes with the same fields but for the hash
 same_input : (a b : NodeImage) (top : Option Head) (left right : Option (List ℕ)) → SameSeal a b → node_hash_of b top left right ≡ node_hash_of a top left right
@@ -44,10 +44,6 @@ hashed_among chosen nodes h i made lt seal own below n above most has =
           })
           (ap (λ (x : NodeImage). x.hash) (other (2 * (i + 1)) (omega arith) (λ e. omega (arith, e)))) (ap (λ (x : NodeImage). x.hash) (other (2 * (i + 1) + 1) (omega arith) (λ e. omega (arith, e))))))
     ]
-
-pub hashed_step : (nodes : List NodeImage) (h : Head) (i : ℕ) (made : NodeImage) → i < length nodes → SameSeal (get_or nodes i no_node) made → made.hash ≡ hash_in nodes h (i + 1)
-    → HashedFrom nodes h (i + 1) → HashedFrom (set nodes i made) h i
-hashed_step nodes h i made lt seal own below n above most = hashed_among (λ m. true) nodes h i made lt seal own (λ m later low has. below m later low) n above most refl
 
 -- a node that is not among those of which this is said is passed
 pub hashed_past : (chosen : ℕ → Bool) (nodes : List NodeImage) (h : Head) (i : ℕ) → chosen (i + 1) ≡ false → HashedAmong chosen nodes h (i + 1) → HashedAmong chosen nodes h i

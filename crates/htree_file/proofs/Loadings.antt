@@ -1,30 +1,35 @@
 -- What loads, part by part, and back.
-use Rattle.std.proofs.Common.{◌≡◌, ℕ, ◌+◌, ◌-◌, ◌≤◌, List, length, get_or, leb, None, Result, Ok, Err, refl, sym, ◌∙◌, ap, subst, arith}
+use Rattle.std.proofs.Common.{◌≡◌, ℕ, zero, suc, ◌+◌, ◌-◌, ◌≤◌, List, [], ◌∷◌, ◌++◌, length, map, get_or, leb, None, Result, Ok, Err, refl, sym, ◌∙◌, ap, subst, arith}
 use Rattle.std.proofs.lemmas.Bool.{leb-true}
+use Rattle.std.proofs.lemmas.List.{map-append}
 use Rattle.std.specs.Str.{bytes_eq}
 use Rattle.node_image.specs.declared.node.NodeImage.{NodeImage}
 use Rattle.node_image.specs.declared.node.RootRef.{RootRef}
 use Rattle.node_image.specs.declared.head.Head.{Head}
-use Rattle.node_image.specs.Layout.{has_form}
-use Rattle.node_image.specs.Parts.Part.{head}
+use Rattle.node_image.specs.Layout.{has_form, node_of}
+use Rattle.node_image.specs.Parts.Part.{head, node}
 use Rattle.node_image.specs.Tables.{at_node, no_node}
-use Rattle.node_image.specs.Selection.{Matches, head_in, nodes_in, part_in, row, selected_node}
+use Rattle.node_image.specs.Selection.{Matches, head_in, nodes_in, part_in, row, selected_node, selected_tree, version_in}
 use Rattle.node_image.proofs.Matching.{length-row, node_is, row_is, table_matches}
 use Rattle.htree_file.specs.declared.fault.TreeFault.{TreeFault}
 use Rattle.htree_file.specs.declared.fault.TreeFault.TheVariants.{BadHead, Damaged, Short}
 use Rattle.htree_file.specs.Opening.{Loaded, checked, first_damaged, load_of, long_enough, need_of, or_damaged, table_of}
-use Rattle.htree_file.specs.Selected.{IsLoaded}
+use Rattle.htree_file.specs.Selected.{IsLoaded, loaded_in}
 use Rattle.htree_file.proofs.Damage.{each_ends, need_within, undamaged}
 use Rattle.htree_file.proofs.Verdicts.{checked_by, table_checked}
 use Rattle.htree_file.proofs.Verified.{cond_ok, long_is, table_verified, undamaged_ok}
+
+-- the nodes of a tree that loads are those that the reference selects
+nodes_selected : (image : List ℕ) (root : RootRef) (tree : Loaded) → IsLoaded image root tree → row (λ k. selected_node image root.version (k + 1)) tree.head.greatest ≡ tree.nodes
+nodes_selected image root tree l =
+    row_is (λ k. selected_node image root.version (k + 1)) tree.nodes tree.head.greatest no_node l.verified.all
+    (λ k lt. node_is image root.version tree.nodes (length tree.nodes) l.matches (k + 1) (omega arith) (omega (arith, lt, l.verified.all)) ∙ ap (λ (j : ℕ). get_or tree.nodes j no_node) (let e : (k + 1) - 1 ≡ k = omega arith in e))
 
 pub loaded_is : (image : List ℕ) (root : RootRef) (tree : Loaded) → IsLoaded image root tree → load_of image root ≡ Ok tree
 loaded_is image root tree l =
     let h : Head = tree.head in
     let nodes : List NodeImage = tree.nodes in
-    let nodes_are : nodes ≡ row (λ k. selected_node image root.version (k + 1)) h.greatest =
-    sym (row_is (λ k. selected_node image root.version (k + 1)) nodes h.greatest no_node l.verified.all
-    (λ k lt. node_is image root.version nodes (length nodes) l.matches (k + 1) (omega arith) (omega (arith, lt, l.verified.all)) ∙ ap (λ (j : ℕ). get_or nodes j no_node) (let e : (k + 1) - 1 ≡ k = omega arith in e))) in
+    let nodes_are : nodes ≡ row (λ k. selected_node image root.version (k + 1)) h.greatest = sym (nodes_selected image root tree l) in
     let table : table_of image root ≡ Ok tree =
     table_checked image root h (sym l.top) nodes l.form nodes_are
     ∙ checked_by h nodes root None l.verified.root_hash (sym (undamaged h nodes 1 (length nodes) (λ n le lt. l.verified.hashes n le (omega arith)))) in
@@ -55,3 +60,16 @@ loaded_from image root tree is =
       verified = table_verified image root tree ended.0;
       ends = each_ends tree.nodes (length tree.nodes) (length image) ended.1;
     }
+
+-- what the selected bytes hold
+map_row : {A B : Type 0} (h : A → B) (f : ℕ → A) (n : ℕ) → map h (row f n) ≡ row (λ k. h (f k)) n
+map_row h f zero = refl
+map_row h f (suc n) = map-append h (row f n) (f n ∷ []) ∙ ap (λ l. l ++ h (f n) ∷ []) (map_row h f n)
+
+pub selection_is : (image : List ℕ) (root : RootRef) (tree : Loaded) → load_of image root ≡ Ok tree → loaded_in (selected_tree image root.version) ≡ tree
+selection_is image root tree is =
+    let l = loaded_from image root tree is in
+    let nodes : map node_of (selected_tree image root.version).nodes ≡ tree.nodes =
+    map_row node_of (λ k. part_in image (node (k + 1) (version_in image root.version (k + 1)))) (head_in image root.version).greatest
+    ∙ ap (λ (h : Head). row (λ k. selected_node image root.version (k + 1)) h.greatest) l.top ∙ nodes_selected image root tree l in
+    λ i. record { head = l.top i; nodes = nodes i }

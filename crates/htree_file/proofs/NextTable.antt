@@ -6,17 +6,22 @@ use Rattle.node_image.specs.declared.head.Head.{Head}
 use Rattle.node_image.specs.Hashes.{node_hash_of}
 use Rattle.node_image.specs.Tables.{at_node, block_bit, block_version, child_bit, hash_in, node_version, stored_hash}
 use Rattle.htree_file.specs.declared.change.BlockChange.{BlockChange}
+use Rattle.htree_file.specs.Staging.{HashedAmong}
 use Rattle.htree_file.specs.WriteSets.{IsWriteSet, turned, turned_flags}
 
--- the nodes of the set have their flags turned and their own hashes, and the others are as they were
-pub record IsNext (nodes next : List NodeImage) (top : Head) (dirty moved : ℕ → Bool) : Type 0 where
+-- the nodes of the set have their flags turned, and the others as they were
+pub record AreFlags (nodes next : List NodeImage) (dirty moved : ℕ → Bool) : Type 0 where
   pub flags : (n : ℕ) → 1 ≤ n → n ≤ length next → dirty n ≡ true → (at_node next n).flags ≡ turned_flags dirty moved n (at_node nodes n).flags
-  pub hash : (n : ℕ) → 1 ≤ n → n ≤ length next → dirty n ≡ true → (at_node next n).hash ≡ hash_in next top n
-  pub same : (n : ℕ) → 1 ≤ n → n ≤ length next → dirty n ≡ false → at_node next n ≡ at_node nodes n
+  pub kept : (n : ℕ) → 1 ≤ n → n ≤ length next → dirty n ≡ false → (at_node next n).flags ≡ (at_node nodes n).flags
 
 turned_bit : (b : Bool) (v : ℕ) → v < 2 → turned b v < 2
 turned_bit true v lt = omega arith
 turned_bit false v lt = lt
+
+-- turned flags have no spare bits
+pub turned_few : (dirty moved : ℕ → Bool) (n f : ℕ) → turned_flags dirty moved n f < 8
+turned_few dirty moved n f =
+    omega (arith, turned_bit (moved n) (f % 2) (omega arith), turned_bit (dirty (2 * n)) ((f / 2) % 2) (omega arith), turned_bit (dirty (2 * n + 1)) ((f / 4) % 2) (omega arith))
 
 -- what three bits give back
 block_bit_of : (a b c : ℕ) → a < 2 → b < 2 → c < 2 → block_bit (a + (2 * b + 4 * c)) ≡ a
@@ -49,12 +54,12 @@ child_turns dirty moved f n m two half =
     ]
 
 -- and that of its block
-block_turns : (dirty moved : ℕ → Bool) (f n : ℕ) → block_bit (turned_flags dirty moved n f) ≡ turned (moved n) (block_bit f)
+pub block_turns : (dirty moved : ℕ → Bool) (f n : ℕ) → block_bit (turned_flags dirty moved n f) ≡ turned (moved n) (block_bit f)
 block_turns dirty moved f n =
     block_bit_of (turned (moved n) (f % 2)) _ _ (turned_bit (moved n) (f % 2) (omega arith)) (turned_bit (dirty (2 * n)) ((f / 2) % 2) (omega arith)) (turned_bit (dirty (2 * n + 1)) ((f / 4) % 2) (omega arith))
 
-module _ (nodes next : List NodeImage) (changes : List BlockChange) (top : Head) (dirty moved : ℕ → Bool) (root : ℕ)
-    (closed : IsWriteSet (length nodes) (length next) changes dirty moved) (is : IsNext nodes next top dirty moved) where
+module _ (nodes next : List NodeImage) (changes : List BlockChange) (dirty moved : ℕ → Bool) (root : ℕ)
+    (closed : IsWriteSet (length nodes) (length next) changes dirty moved) (is : AreFlags nodes next dirty moved) where
   -- each node of the set has its other version, each other node its own
   pub version_turns : (n : ℕ) → 1 ≤ n → n ≤ length next → node_version next (1 - root) n ≡ turned (dirty n) (node_version nodes root n)
   version_turns n least most = elim (cases_lt 1 n) [
@@ -64,7 +69,7 @@ module _ (nodes next : List NodeImage) (changes : List BlockChange) (top : Head)
         let bits : child_bit (at_node next m).flags n ≡ turned (dirty n) (child_bit (at_node nodes m).flags n) = ⊎_elim
         (λ busy. ap (λ (k : ℕ). child_bit k n) (is.flags m (omega arith) (omega arith) busy) ∙ child_turns dirty moved (at_node nodes m).flags n m above refl)
         (λ idle. let clean : dirty n ≡ false = false_from_ne_true (dirty n) (λ hit. false≢true (sym idle ∙ closed.up n above most hit)) in
-        ap (λ (x : NodeImage). child_bit x.flags n) (is.same m (omega arith) (omega arith) idle) ∙ sym (cond-false (dirty n) _ _ clean))
+        ap (λ (f : ℕ). child_bit f n) (is.kept m (omega arith) (omega arith) idle) ∙ sym (cond-false (dirty n) _ _ clean))
         (cases_Bool (dirty m)) in
         cond-false (leb n 1) _ _ past ∙ bits ∙ ap (turned (dirty n)) (sym (cond-false (leb n 1) root (child_bit (at_node nodes m).flags n) past))
     | inr first ↦
@@ -81,7 +86,7 @@ module _ (nodes next : List NodeImage) (changes : List BlockChange) (top : Head)
       ⊎_elim
       (λ busy. ap block_bit (is.flags n (omega arith) (omega arith) busy) ∙ block_turns dirty moved (at_node nodes n).flags n)
       (λ idle. let still : moved n ≡ false = false_from_ne_true (moved n) (λ hit. false≢true (sym idle ∙ closed.own n (omega arith) (omega arith) hit)) in
-      ap (λ (x : NodeImage). block_bit x.flags) (is.same n (omega arith) (omega arith) idle) ∙ sym (cond-false (moved n) _ _ still))
+      ap block_bit (is.kept n (omega arith) (omega arith) idle) ∙ sym (cond-false (moved n) _ _ still))
       (cases_Bool (dirty n))
 
   -- a node that is not written is an old one
@@ -97,6 +102,10 @@ module _ (nodes next : List NodeImage) (changes : List BlockChange) (top : Head)
     | inr within ↦ omega arith
   ]
 
+-- The nodes that are not written are as they were.
+module _ (nodes next : List NodeImage) (changes : List BlockChange) (top : Head) (dirty moved : ℕ → Bool)
+    (closed : IsWriteSet (length nodes) (length next) changes dirty moved) (hashed : HashedAmong dirty next top 0)
+    (same : (n : ℕ) → 1 ≤ n → n ≤ length next → dirty n ≡ false → (n ≤ length nodes) × (at_node next n ≡ at_node nodes n)) where
   -- a node that is not written keeps its children
   clean_child : (before after : ℕ) → before ≡ length nodes → after ≡ length next → (n m : ℕ) → 1 ≤ n → n ≤ length next → dirty n ≡ false → 2 ≤ m → n ≡ m / 2
       → stored_hash next after m ≡ stored_hash nodes before m
@@ -113,20 +122,20 @@ module _ (nodes next : List NodeImage) (changes : List BlockChange) (top : Head)
             let t : leb m after ≡ true = le-leb m after within in
             let u : leb m before ≡ true = le-leb m before (omega arith) in
             let clean : dirty m ≡ false = false_from_ne_true (dirty m) (λ hit. false≢true (sym idle ∙ ap dirty half ∙ closed.up m two low hit)) in
-            cond-true (leb m after) _ _ t ∙ ap (λ (x : NodeImage). Some x.hash) (is.same m (omega arith) low clean) ∙ sym (cond-true (leb m before) (Some (at_node nodes m).hash) None u)
+            cond-true (leb m after) _ _ t ∙ ap (λ (x : NodeImage). Some x.hash) (same m (omega arith) low clean).1 ∙ sym (cond-true (leb m before) (Some (at_node nodes m).hash) None u)
       ]
 
   -- each node has its own hash
   pub hashes_next : (was : Head) → was.greatest ≡ length nodes → top.greatest ≡ length next → ((n : ℕ) → 1 ≤ n → n ≤ length nodes → (at_node nodes n).hash ≡ hash_in nodes was n)
       → (n : ℕ) → 1 ≤ n → n ≤ length next → (at_node next n).hash ≡ hash_in next top n
   hashes_next was long long_next old n least most = ⊎_elim
-      (λ busy. is.hash n least most busy)
+      (λ busy. hashed n (omega arith) most busy)
       (λ idle.
-      let here = is.same n least most idle in
+      let here = (same n least most idle).1 in
       let left = clean_child was.greatest top.greatest long long_next n (2 * n) least most idle (omega arith) (omega arith) in
       let right = clean_child was.greatest top.greatest long long_next n (2 * n + 1) least most idle (omega arith) (omega arith) in
       let below : (n ≡ 1 → ⊥) = λ e. false≢true (sym idle ∙ ap dirty e ∙ closed.root) in
       let t : eqb n 1 ≡ false = ne_eqb n 1 below in
       let tops : cond (eqb n 1) (Some top) None ≡ cond (eqb n 1) (Some was) None = cond-false (eqb n 1) (Some top) None t ∙ sym (cond-false (eqb n 1) (Some was) None t) in
-      ap (λ (x : NodeImage). x.hash) here ∙ old n least (old_node n most idle) ∙ sym (λ j. node_hash_of (here j) (tops j) (left j) (right j)))
+      ap (λ (x : NodeImage). x.hash) here ∙ old n least (same n least most idle).0 ∙ sym (λ j. node_hash_of (here j) (tops j) (left j) (right j)))
       (cases_Bool (dirty n))

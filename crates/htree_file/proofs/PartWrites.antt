@@ -4,15 +4,16 @@ use Rattle.disk_model.specs.Images.{Has}
 use Rattle.disk_model.specs.State.{FileState}
 use Rattle.disk_model.specs.Calls.{Known}
 use Rattle.disk_model.specs.Keeps.{Keeps, Outside}
-use Rattle.disk_model.proofs.Laws.{keeps_fewer}
 use Rattle.node_image.specs.Parts.{In, Off, Part, size, start}
 use Rattle.node_image.specs.Selection.{bytes_at}
 use Rattle.node_image.proofs.ImageBytes.{bytes_same}
+use Rattle.htree_file.specs.Staging.{WritesAtMost}
 use Rattle.htree_file.specs.Standing.{Stands}
+use Rattle.htree_file.proofs.Writings.{writes_within}
 
-pub put_keeps : (q : Part) (at wide : ℕ) (old new : FileState) → at ≡ start q → wide ≡ size q → Keeps (Outside at (at + wide)) old new → Keeps (Off q) old new
-put_keeps q at wide old new begin long keeps =
-    keeps_fewer (Outside at (at + wide)) (Off q) old new (λ p off. ⊎_elim (λ low. inl (omega (arith, low, begin))) (λ high. inr (omega (arith, high, begin, long))) off) keeps
+pub put_writes : (q : Part) (at wide : ℕ) (old new : FileState) → at ≡ start q → wide ≡ size q → WritesAtMost (Outside at (at + wide)) wide old new → WritesAtMost (Off q) (size q) old new
+put_writes q at wide old new begin long writes =
+    writes_within (Outside at (at + wide)) (Off q) wide (size q) old new (omega (arith, long)) (λ p off. ⊎_elim (λ low. inl (omega (arith, low, begin))) (λ high. inr (omega (arith, high, begin, long))) off) writes
 
 pub put_stands : (q : Part) (at wide : ℕ) (bytes file : List ℕ) → at ≡ start q → wide ≡ size q → at + wide ≤ length file → bytes_at file at wide ≡ bytes → Stands file q bytes
 put_stands q at wide bytes file begin long fits is = record {

@@ -10,7 +10,7 @@ use Rattle.node_image.specs.Selection.{bytes_at, head_in, nodes_in, selected_nod
 use Rattle.node_image.proofs.ImageBytes.{length-bytes_at}
 use Rattle.node_image.proofs.Matching.{row_at}
 use Rattle.byte_fields.proofs.Fields.{length-field}
-use Rattle.htree_file.specs.Making.{HeadReturns}
+use Rattle.htree_file.specs.Staging.{HeadReturns}
 use Rattle.htree_file.specs.Opening.{HasFields}
 use Rattle.byte_fields.specs.Field.{field}
 use Rattle.node_image.specs.Layout.{greatest_of, has_form, head_bytes, head_of, is_sized, node_bytes, node_of}

@@ -13,7 +13,7 @@ use Rattle.htree_file.specs.Changes.{AreChanges, OpensAfter, page_after, page_fo
 use Rattle.htree_file.specs.Opening.{Loaded, load_of}
 use Rattle.htree_file.specs.Pages.{Opened, block_in, opened_in, page_in, page_of}
 use Rattle.htree_file.specs.Staging.{wanted_page}
-use Rattle.htree_file.proofs.StageSteps.{unchanged_old}
+use Rattle.htree_file.proofs.ChangeLists.{unchanged_old}
 
 -- of a head a block's page knows the wrapped key alone
 page_wrapped : (key : List ℕ) (h top : Head) (n : NodeImage) (k : ℕ) (ciphertext : List ℕ) → top.wrapped ≡ h.wrapped → page_of key top n k ciphertext ≡ page_of key h n k ciphertext

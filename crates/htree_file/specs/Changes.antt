@@ -4,7 +4,7 @@ use Rattle.std.specs.List.Sorted.{IsStrictlyIncreasing}
 use Rattle.aes_block.specs.WrappedKey.{unwrapped_of}
 use Rattle.node_image.specs.declared.node.NodeImage.{NodeImage}
 use Rattle.node_image.specs.declared.node.RootRef.{RootRef}
-use Rattle.node_image.specs.Layout.{greatest_of}
+use Rattle.node_image.specs.Layout.{HasNoSpareBits, greatest_of}
 use Rattle.node_image.specs.Selection.{row}
 use Rattle.node_image.specs.Tables.{at_node}
 use Rattle.htree_file.specs.declared.change.BlockChange.{BlockChange}
@@ -93,4 +93,4 @@ SealsChanges key old new changes = (k : ℕ) → k < length new.nodes → SealsA
 
 -- each node of the new tree is the old tree's of that number, or the spare bits of its flags are zero
 abbrev pub SparesZero : (old new : Loaded) → Type 0
-SparesZero old new = (n : ℕ) → 1 ≤ n → n ≤ length new.nodes → (at_node new.nodes n ≡ at_node old.nodes n) ⊎ ((at_node new.nodes n).flags < 8)
+SparesZero old new = (n : ℕ) → 1 ≤ n → n ≤ length new.nodes → (at_node new.nodes n ≡ at_node old.nodes n) ⊎ HasNoSpareBits (at_node new.nodes n)

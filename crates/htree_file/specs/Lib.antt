@@ -9,3 +9,4 @@ pub mod WriteSets
 pub mod Selected
 pub mod Staging
 pub mod Stages
+pub mod Plans

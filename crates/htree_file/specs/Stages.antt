@@ -3,7 +3,7 @@ use Rattle.std.specs.Prelude.{◌≡◌, ℕ, ◌-◌, ◌<◌, List, length, Op
 use Rattle.node_image.specs.declared.node.RootRef.{RootRef}
 use Rattle.node_image.specs.Tables.{at_node}
 use Rattle.htree_file.specs.declared.change.BlockChange.{BlockChange}
-use Rattle.htree_file.specs.Changes.{OpensAfter, Seals, SealsChanges, SparesZero, page_at}
+use Rattle.htree_file.specs.Changes.{OpensAfter, Seals, SealsChanges, SparesZero, block_at, page_at}
 use Rattle.htree_file.specs.Opening.{IsVerified, Loaded, load_of}
 use Rattle.htree_file.specs.Pages.{page_in}
 
@@ -23,5 +23,5 @@ pub record IsMade (known : Type 0) (file key : List ℕ) (root : RootRef) (tree 
   pub root_is : root ≡ record { hash = (at_node tree.nodes 1).hash; version = 0 }
   pub verified : IsVerified root tree
   pub loaded : known → load_of file root ≡ Ok tree
-  pub opens : known → (k : ℕ) → k < length tree.nodes → page_in file key tree k ≡ Some (page_at pages k)
-  pub seals : (k : ℕ) → k < length tree.nodes → Seals key tree k (page_at pages k)
+  pub opens : known → (j : ℕ) → j < length pages → page_in file key tree (block_at pages j) ≡ Some (page_at pages j)
+  pub seals : (j : ℕ) → j < length pages → Seals key tree (block_at pages j) (page_at pages j)

@@ -1,5 +1,5 @@
 -- A version of a tree while it is written: what stands in the file, where what it reads as can be followed.
-use Rattle.std.specs.Prelude.{◌≡◌, ℕ, ◌+◌, ◌-◌, ◌<◌, ◌≤◌, List, length, get_or, Bool, true, false, Option, Some, ⊥}
+use Rattle.std.specs.Prelude.{◌≡◌, ℕ, ◌+◌, ◌-◌, ◌<◌, ◌≤◌, List, length, get_or, Bool, true, false, Option, Some}
 use Rattle.disk_model.specs.State.{FileState}
 use Rattle.disk_model.specs.Keeps.{Keeps}
 use Rattle.node_image.specs.declared.node.NodeImage.{NodeImage}

@@ -5,11 +5,11 @@ ghost use Rattle.node_image.specs.Layout.{is_sized};
 ghost use Rattle.node_image.specs.Parts.{Off};
 ghost use Rattle.node_image.specs.Tables.{at_node};
 ghost use Rattle.tree_paths.specs.Paths.{holds};
-ghost use Rattle.tree_paths.specs.Staged.{IsStaged, count_to, write_budget};
+ghost use Rattle.tree_paths.specs.Staged.{count_to, write_budget};
 ghost use Rattle.htree_file.specs.Answers.{HasCause, IsFailed};
-ghost use Rattle.htree_file.specs.Changes.{AreApart, AreChanges, block_at, changed_blocks, changes_of};
+ghost use Rattle.htree_file.specs.Changes.{AreChanges, changes_of};
+ghost use Rattle.htree_file.specs.Plans.{Fits};
 ghost use Rattle.htree_file.specs.Staging.{AreSealed, IsWritten, MadeFrom, NodeStands, NodesStand, OffBlocks, OffNodes, OffWritten, SealsAnew, WritesAtMost, named_node};
-ghost use Rattle.htree_file.specs.WriteSets.{IsWriteSet};
 
 use crate::change::NewPages;
 use crate::fault::TreeFault;
@@ -31,12 +31,6 @@ pub(crate) struct NewVersion<'a> {
     pub(crate) pages: NewPages<'a>,
     pub(crate) before: u32,
     pub(crate) set: WriteSet,
-    ghost few: { (1 ≤ head.now.greatest) × (head.now.greatest ≤ 256) × (root < 2) × (before ≤ 256) × (length (changes_of pages) ≤ 256) },
-    ghost sized: { IsTrue (is_sized head.now) },
-    ghost changes: { AreChanges before head.now.greatest (changes_of pages) },
-    ghost apart: { AreApart head.now.greatest (changes_of pages) },
-    ghost closed: { IsWriteSet before head.now.greatest (changes_of pages) (holds set.nodes) (holds set.blocks) },
-    ghost budget: { (m : ℕ) → IsTrue (holds set.nodes m) ↔ IsStaged (changed_blocks (changes_of pages)) before head.now.greatest m },
 }
 
 impl<'a> NewVersion<'a> {
@@ -51,6 +45,7 @@ impl<'a> NewVersion<'a> {
         requires few { (1 ≤ head.now.greatest) × (head.now.greatest ≤ 256) × (root < 2) × (before ≤ 256) }
         requires sized { IsTrue (is_sized head.now) }
         requires changes { AreChanges before head.now.greatest (changes_of pages) }
+        ensures fits { Fits result }
         ensures key { result.key.now ≡ key.now }
         ensures head { result.head.now ≡ head.now }
         ensures root { (result.root ≡ root) × (result.before ≡ before) }
@@ -73,7 +68,8 @@ impl<'a> NewVersion<'a> {
         file: &mut F,
         table: &mut [NodeImage],
     ) -> Result<(), TreeFault>
-        requires { length table.old ≡ self.now.head.now.greatest }
+        requires fits { Fits self.now }
+        requires all { length table.old ≡ self.now.head.now.greatest }
         ensures sealed { OnOk result (AreSealed (Known (F.state file.old) (F.state file.new)) (F.state file.new).reads
             self.now.key.now self.now.head.now table.new (changes_of self.now.pages) (length (changes_of self.now.pages))) }
         ensures anew { SealsAnew (changes_of self.now.pages) table.old table.new }
@@ -98,7 +94,7 @@ impl<'a> NewVersion<'a> {
         table: &[NodeImage],
         n: u32,
     ) -> Result<(), TreeFault>
-        requires { (1 ≤ n) × (n ≤ length table.now) × (length table.now ≤ 256) }
+        requires { (1 ≤ n) × (n ≤ length table.now) × (length table.now ≤ 256) × (self.now.root < 2) }
         ensures stands { OnOk result (holds self.now.set.nodes n ≡ true →
             NodeStands (Known (F.state file.old) (F.state file.new)) (F.state file.new).reads
             (named_node table.now self.now.root n) (at_node table.now n)) }
@@ -119,7 +115,7 @@ impl<'a> NewVersion<'a> {
 
     // Writes each node of the set where the table has it.
     fn write_nodes<F: StoreFile>(&self, file: &mut F, table: &[NodeImage]) -> Result<(), TreeFault>
-        requires { length table.now ≤ 256 }
+        requires { (length table.now ≤ 256) × (self.now.root < 2) }
         ensures stand { OnOk result (NodesStand (Known (F.state file.old) (F.state file.new)) (F.state file.new).reads
             self.now.root table.now (holds self.now.set.nodes) (length table.now)) }
         ensures writes { WritesAtMost (OffNodes table.now self.now.root (holds self.now.set.nodes))
@@ -140,7 +136,8 @@ impl<'a> NewVersion<'a> {
         file: &mut F,
         table: &mut [NodeImage],
     ) -> Result<RootRef, TreeFault>
-        requires { length table.old ≡ self.now.head.now.greatest }
+        requires fits { Fits self.now }
+        requires all { length table.old ≡ self.now.head.now.greatest }
         ensures root { IfOk result (λ r. r ≡ record { hash = (at_node table.new 1).hash; version = self.now.root }) }
         ensures written { OnOk result (IsWritten (Known (F.state file.old) (F.state file.new)) (F.state file.new).reads
             self.now.key.now self.now.head.now self.now.root (changes_of self.now.pages) (holds self.now.set.nodes) table.new) }

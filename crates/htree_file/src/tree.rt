@@ -159,8 +159,7 @@ impl<F: StoreFile> Tree<F> {
         let head = new_head(wrap, &fek, bytes);
         let key = Aes128::new(&fek);
         let version = NewVersion::of_pages(&key, &head, 0, NewPages::All(blocks), 0);
-        let table = &mut nodes[..head.greatest as usize];
-        match version.make(&mut file, entropy, table) {
+        match version.make(&mut file, entropy, &mut nodes) {
             Ok(root) => {
                 let tree = Tree {
                     file,
@@ -317,8 +316,7 @@ impl<F: StoreFile> Tree<F> {
         let pages = NewPages::Changed(changes);
         let version = NewVersion::of_pages(&self.key, &head, 1 - self.root.version, pages, before);
         let committed = &self.nodes[..before as usize];
-        let next = &mut self.next[..head.greatest as usize];
-        let root = version.stage(&mut self.file, entropy, committed, next)?;
+        let root = version.stage(&mut self.file, entropy, committed, &mut self.next)?;
         self.stage = Some(Stage {
             root,
             head,

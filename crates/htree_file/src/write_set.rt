@@ -21,7 +21,8 @@ pub(crate) struct WriteSet {
 // The numbers of the blocks that change come first.
 fn numbers_of(pages: &NewPages) -> [u32; 256]
     requires { length (changes_of pages.now) ≤ 256 }
-    ensures { (j : ℕ) → j < length (changes_of pages.now) → slice_index result j ≡ block_at (changes_of pages.now) j }
+    ensures wide { length result ≡ 256 }
+    ensures each { (j : ℕ) → j < length (changes_of pages.now) → slice_index result j ≡ block_at (changes_of pages.now) j }
 {
     let mut numbers = [0; 256];
     for j in 0..pages.count() {

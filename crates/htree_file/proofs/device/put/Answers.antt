@@ -4,13 +4,19 @@ use Rattle.node_image.specs.Selection.{bytes_at}
 use Rattle.htree_file.proofs.Transfers.{written_fits, written_stands}
 use Rattle.htree_file.proofs.device.put.Goals as goal
 
-pub returns-in_err-write_at-clause-keeps : goal.returns-in_err-write_at-clause-keeps
-returns-in_err-write_at-clause-keeps g c =
-    change_keeps c.args.at (c.args.at + length c.args.bytes.now) _ _ (g.met.F.StoreFile.sound c.args.file.now) c.write_at.ensures.changes c.write_at.ensures.others
+pub returns-in_err-write_at-clause-writes : goal.returns-in_err-write_at-clause-writes
+returns-in_err-write_at-clause-writes g c = record {
+  keeps = change_keeps c.args.at (c.args.at + length c.args.bytes.now) _ _ (g.met.F.StoreFile.sound c.args.file.now) c.write_at.ensures.changes c.write_at.ensures.others;
+  written = c.write_at.ensures.at_most;
+  pending_from = c.write_at.ensures.changes.pending_from;
+}
 
-pub returns-clause-keeps : goal.returns-clause-keeps
-returns-clause-keeps g c =
-    change_keeps c.args.at (c.args.at + length c.args.bytes.now) _ _ (g.met.F.StoreFile.sound c.args.file.now) c.write_at.ensures.changes c.write_at.ensures.others
+pub returns-clause-writes : goal.returns-clause-writes
+returns-clause-writes g c = record {
+  keeps = change_keeps c.args.at (c.args.at + length c.args.bytes.now) _ _ (g.met.F.StoreFile.sound c.args.file.now) c.write_at.ensures.changes c.write_at.ensures.others;
+  written = c.write_at.ensures.at_most;
+  pending_from = c.write_at.ensures.changes.pending_from;
+}
 
 pub returns-clause-fits : goal.returns-clause-fits
 returns-clause-fits g c = λ known.

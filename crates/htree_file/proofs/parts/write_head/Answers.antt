@@ -1,7 +1,7 @@
 use Rattle.std.proofs.Common.{length, arith}
 use Rattle.node_image.specs.Parts.Part.{head}
-use Rattle.htree_file.proofs.PartWrites.{put_keeps}
+use Rattle.htree_file.proofs.PartWrites.{put_writes}
 use Rattle.htree_file.proofs.parts.write_head.Goals as goal
 
-pub returns-clause-keeps : goal.returns-clause-keeps
-returns-clause-keeps g c = put_keeps (head c.args.version) c.head_offset.result (length c.to_bytes.result) _ _ c.head_offset.ensures (omega arith) c.put.ensures.keeps
+pub returns-clause-writes : goal.returns-clause-writes
+returns-clause-writes g c = put_writes (head c.args.version) c.head_offset.result (length c.to_bytes.result) _ _ c.head_offset.ensures (omega arith) c.put.ensures.writes

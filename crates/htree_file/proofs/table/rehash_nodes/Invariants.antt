@@ -1,7 +1,7 @@
 use Rattle.std.proofs.Common.{◌≡◌, ℕ, ◌≤◌, false, length, get_or}
 use Rattle.tree_paths.specs.Paths.{holds}
 use Rattle.node_image.specs.Tables.{at_node, no_node}
-use Rattle.htree_file.specs.Making.{HashedAmong, SameSeal}
+use Rattle.htree_file.specs.Staging.{HashedAmong, SameSeal}
 use Rattle.htree_file.proofs.table.rehash_nodes.Given as goal
 
 abbrev pub invariant-loop-i : goal.invariant-loop-i

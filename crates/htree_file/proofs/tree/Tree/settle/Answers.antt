@@ -31,3 +31,7 @@ returns-clause-keeps g c =
 pub returns-clause-next_firm : goal.returns-clause-next_firm
 returns-clause-next_firm g c =
     rw (← c.self.view_is) (settled_firm _ (g.F.StoreFile.state c.self.inside.file) (g.F.StoreFile.state c.sync.new.self) c.in_ok-sync.ensures.synced)
+
+pub returns-in_err-sync-clause-keeps : goal.returns-in_err-sync-clause-keeps
+returns-in_err-sync-clause-keeps g c =
+    rw (← c.self.view_is) (rest_keeps (g.F.StoreFile.state c.self.inside.file) (g.F.StoreFile.state c.sync.new.self) (g.met.F.StoreFile.sound c.self.inside.file) c.in_err-sync.ensures.unsettled)
