@@ -1,5 +1,5 @@
 -- A tree that was made is the one that its reference names.
-use Rattle.std.proofs.Common.{◌≡◌, ℕ, ◌+◌, ◌-◌, ◌<◌, ◌≤◌, List, [], length, get_or, map, Bool, true, false, Option, None, Some, Ok, refl, sym, ◌∙◌, ap, subst, arith}
+use Rattle.std.proofs.Common.{◌≡◌, ℕ, ◌<◌, ◌≤◌, List, [], length, get_or, map, Bool, true, Option, None, Some, Ok, refl, sym, ◌∙◌, ap, subst, arith}
 use Rattle.std.proofs.lemmas.Bool.{false≢true}
 use Rattle.std.proofs.lemmas.List.{get_or-map, length-map}
 use Rattle.aes_block.specs.WrappedKey.{unwrapped_of}
@@ -11,7 +11,7 @@ use Rattle.node_image.specs.Tables.{at_node}
 use Rattle.node_image.specs.Selection.{row}
 use Rattle.node_image.proofs.Matching.{row_is}
 use Rattle.htree_file.specs.declared.change.BlockChange.{BlockChange}
-use Rattle.htree_file.specs.Changes.{IsChanged, Seals, block_at, numbered, page_at}
+use Rattle.htree_file.specs.Changes.{IsChanged, Seals, block_at, numbered}
 use Rattle.htree_file.specs.Opening.{IsVerified, Loaded, load_of}
 use Rattle.htree_file.specs.Pages.{opened_in, opened_of, page_in}
 use Rattle.htree_file.specs.Staging.{IsWritten}
@@ -70,10 +70,6 @@ made_seals known file key root tree pages made k lt =
     (subst (λ (p : List ℕ). Seals key tree (block_at (numbered pages 0) k) p) (numbered_page pages 0 k lt) (made.seals k (omega (arith, lt, length-numbered pages 0))))
 
 -- by terms that are the same
-pub made_over : (known : Type 0) (file : List ℕ) (r : RootRef) (ka kb : List ℕ) (ta tb : Head) (la lb : List NodeImage) (pa pb : List BlockChange) → ka ≡ kb → ta ≡ tb → la ≡ lb → pa ≡ pb
-    → IsMade known file ka r (record { head = ta; nodes = la }) pa → IsMade known file kb r (record { head = tb; nodes = lb }) pb
-made_over known file r ka kb ta tb la lb pa pb ek et el ep made =
-    subst (λ (p : List BlockChange). IsMade known file kb r (record { head = tb; nodes = lb }) p) ep
-    (subst (λ (l : List NodeImage). IsMade known file kb r (record { head = tb; nodes = l }) pa) el
-    (subst (λ (h : Head). IsMade known file kb r (record { head = h; nodes = la }) pa) et
-    (subst (λ (k : List ℕ). IsMade known file k r (record { head = ta; nodes = la }) pa) ek made)))
+pub made_over : (known : Type 0) (file : List ℕ) (r : RootRef) (ka kb : List ℕ) (ta tb : Loaded) (pa pb : List BlockChange) → ka ≡ kb → ta ≡ tb → pa ≡ pb → IsMade known file ka r ta pa → IsMade known file kb r tb pb
+made_over known file r ka kb ta tb pa pb ek et ep made =
+    subst (λ (p : List BlockChange). IsMade known file kb r tb p) ep (subst (λ (t : Loaded). IsMade known file kb r t pa) et (subst (λ (k : List ℕ). IsMade known file k r ta pa) ek made))

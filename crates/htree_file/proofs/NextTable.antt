@@ -89,13 +89,7 @@ module _ (nodes next : List NodeImage) (changes : List BlockChange) (dirty moved
       ap block_bit (is.kept n (omega arith) (omega arith) idle) ∙ sym (cond-false (moved n) _ _ still))
       (cases_Bool (dirty n))
 
-  -- a node that is not written is an old one
-  pub old_node : (n : ℕ) → n ≤ length next → dirty n ≡ false → n ≤ length nodes
-  old_node n most idle = elim (cases_lt (length nodes) n) [
-    | inl past ↦ absurd (false≢true (sym idle ∙ (closed.fresh n past most).0))
-    | inr within ↦ within
-  ]
-
+  -- a block that is not written is an old one
   pub old_block : (k : ℕ) → k < length next → moved (k + 1) ≡ false → k < length nodes
   old_block k lt idle = elim (cases_lt (length nodes) (k + 1)) [
     | inl past ↦ absurd (false≢true (sym idle ∙ (closed.fresh (k + 1) past (omega arith)).1))

@@ -1,5 +1,5 @@
 -- One turn of the loops that draw vectors, seal pages and write nodes.
-use Rattle.std.proofs.Common.{◌≡◌, ◌≢◌, inl, inr, ℕ, ◌+◌, ◌-◌, ◌*◌, ◌<◌, ◌≤◌, List, length, get_or, set, Bool, true, false, cond, refl, sym, ◌∙◌, ap, subst, arith}
+use Rattle.std.proofs.Common.{◌≡◌, ◌≢◌, inl, inr, ℕ, ◌+◌, ◌-◌, ◌*◌, ◌<◌, ◌≤◌, List, length, get_or, set, Bool, true, cond, refl, sym, ◌∙◌, ap, subst, arith}
 use Rattle.std.proofs.lemmas.Bool.{cases_lt, cases_eq}
 use Rattle.std.proofs.lemmas.List.{get_or-set_other, get_or-set_same}
 use Rattle.disk_model.specs.State.{FileState}
@@ -13,7 +13,7 @@ use Rattle.node_image.specs.Parts.Part.{block, head, node}
 use Rattle.node_image.specs.Tables.{at_node, block_bit, block_version, no_node, node_version}
 use Rattle.node_image.proofs.PartPlaces.{off_other}
 use Rattle.htree_file.specs.declared.change.BlockChange.{BlockChange}
-use Rattle.htree_file.specs.Changes.{AreApart, IsChanged, block_at, page_at}
+use Rattle.htree_file.specs.Changes.{AreApart, block_at, page_at}
 use Rattle.htree_file.specs.Staging.{AreSealed, IsSealed, NodeStands, NodesStand, OffBlocks, OffNodes, SealsAnew, WritesAtMost, named_block, named_node}
 use Rattle.htree_file.specs.WriteSets.{AreTurned, IsTurned}
 use Rattle.htree_file.proofs.PartWrites.{stands_kept}
@@ -42,9 +42,6 @@ turned_step nodes table dirty moved k made lt one before j under = elim (cases_l
 ]
 
 -- one node more gets a vector or a tag
-pub anew_none : (changes : List BlockChange) (table : List NodeImage) → SealsAnew changes table table
-anew_none changes table = record { flags = λ k. refl; others = λ k out. refl }
-
 pub anew_step : (changes : List BlockChange) (old now : List NodeImage) (j k : ℕ) (made : NodeImage) → block_at changes j ≡ k → j < length changes → k < length now
     → made.flags ≡ (get_or now k no_node).flags → SealsAnew changes old now → SealsAnew changes old (set now k made)
 anew_step changes old now j k made at lt low same before = record {
@@ -55,9 +52,6 @@ anew_step changes old now j k made at lt low same before = record {
   ];
   others = λ m out. get_or-set_other now k m made no_node (λ here. out (record { place = j; below = lt; is = at ∙ sym here })) ∙ before.others m out;
 }
-
-pub anew_then : (changes : List BlockChange) (a b c : List NodeImage) → SealsAnew changes a b → SealsAnew changes b c → SealsAnew changes a c
-anew_then changes a b c first second = record { flags = λ k. second.flags k ∙ first.flags k; others = λ k out. second.others k out ∙ first.others k out }
 
 -- a sealed page stays where other places are written
 pub sealed_kept : (K : ℕ → Type 0) (a b c : FileState) (key : List ℕ) (h : Head) (n : NodeImage) (k : ℕ) (page : List ℕ) → GoesOn a b → Keeps K b c

@@ -1,15 +1,18 @@
 -- A stage, as the tree that it belongs to sees it.
-use Rattle.std.proofs.Common.{◌≡◌, ◌↔◌, ℕ, ◌+◌, ◌≤◌, List, ◌++◌, length, take, drop, Option, Some, None, IfSome, option_map, IsTrue, refl, sym, ◌∙◌, ap, subst, arith}
+use Rattle.std.proofs.Common.{◌≡◌, ℕ, ◌+◌, ◌-◌, ◌≤◌, List, ◌++◌, length, take, drop, Option, Some, None, IfSome, option_map, subst, arith}
 use Rattle.std.proofs.lemmas.List.{take_at}
+use Rattle.disk_model.specs.State.{FileState}
+use Rattle.disk_model.specs.Keeps.{Keeps}
 use Rattle.node_image.specs.declared.node.NodeImage.{NodeImage}
 use Rattle.node_image.specs.declared.node.RootRef.{RootRef}
-use Rattle.node_image.specs.declared.head.Head.{Head}
 use Rattle.tree_paths.specs.Paths.{holds}
-use Rattle.tree_paths.specs.Staged.{IsStaged, IsWithinBudget, count_to, write_budget}
+use Rattle.tree_paths.specs.Staged.{IsWithinBudget, count_to, write_budget}
 use Rattle.htree_file.specs.declared.change.BlockChange.{BlockChange}
 use Rattle.htree_file.specs.declared.staging.NewVersion.{NewVersion}
 use Rattle.htree_file.specs.Changes.{changed_blocks, changes_of}
+use Rattle.htree_file.specs.Opening.{Loaded}
 use Rattle.htree_file.specs.Plans.{Fits}
+use Rattle.htree_file.specs.Selected.{Lies}
 use Rattle.htree_file.specs.Stages.{IsStage}
 use Rattle.std.proofs.lemmas.List.{length-map}
 
@@ -17,16 +20,16 @@ use Rattle.std.proofs.lemmas.List.{length-map}
 pub held : (table items : List NodeImage) (len : ℕ) → length table ≡ len → take len (table ++ drop (length table) items) ≡ table
 held table items len is = take_at table (drop (length table) items) len is
 
+-- what a stage keeps, by the committed table and its reference's version
+pub keeps_over : (nodes items : List NodeImage) (n v root : ℕ) (a b : FileState) → nodes ≡ items → 1 - v ≡ root → Keeps (Lies (take n nodes) (1 - v)) a b → Keeps (Lies (take n items) root) a b
+keeps_over nodes items n v root a b same turn keeps = subst (λ (m : ℕ). Keeps (Lies (take n items) m) a b) turn (subst (λ (l : List NodeImage). Keeps (Lies (take n l) (1 - v)) a b) same keeps)
+
 -- a stage by terms that are the same
-pub stage_over : (known : Type 0) (before after : List ℕ) (root : RootRef) (was : Head) (r : RootRef) (ka kb : List ℕ) (na nb : List NodeImage) (ta tb : Head) (la lb : List NodeImage) (ca cb : List BlockChange)
-    → ka ≡ kb → na ≡ nb → ta ≡ tb → la ≡ lb → ca ≡ cb
-    → IsStage known before after ka root (record { head = was; nodes = na }) r (record { head = ta; nodes = la }) ca → IsStage known before after kb root (record { head = was; nodes = nb }) r (record { head = tb; nodes = lb }) cb
-stage_over known before after root was r ka kb na nb ta tb la lb ca cb ek en et el ec stage =
-    subst (λ (c : List BlockChange). IsStage known before after kb root (record { head = was; nodes = nb }) r (record { head = tb; nodes = lb }) c) ec
-    (subst (λ (l : List NodeImage). IsStage known before after kb root (record { head = was; nodes = nb }) r (record { head = tb; nodes = l }) ca) el
-    (subst (λ (h : Head). IsStage known before after kb root (record { head = was; nodes = nb }) r (record { head = h; nodes = la }) ca) et
-    (subst (λ (l : List NodeImage). IsStage known before after kb root (record { head = was; nodes = l }) r (record { head = ta; nodes = la }) ca) en
-    (subst (λ (k : List ℕ). IsStage known before after k root (record { head = was; nodes = na }) r (record { head = ta; nodes = la }) ca) ek stage))))
+pub stage_over : (known : Type 0) (before after : List ℕ) (root r : RootRef) (ka kb : List ℕ) (oa ob ta tb : Loaded) (ca cb : List BlockChange) → ka ≡ kb → oa ≡ ob → ta ≡ tb → ca ≡ cb
+    → IsStage known before after ka root oa r ta ca → IsStage known before after kb root ob r tb cb
+stage_over known before after root r ka kb oa ob ta tb ca cb ek eo et ec stage =
+    subst (λ (c : List BlockChange). IsStage known before after kb root ob r tb c) ec (subst (λ (t : Loaded). IsStage known before after kb root ob r t ca) et
+    (subst (λ (t : Loaded). IsStage known before after kb root t r ta ca) eo (subst (λ (k : List ℕ). IsStage known before after k root oa r ta ca) ek stage)))
 
 -- where no stage is open, nothing is said of it
 pub none_open : {A B : Type 0} (f : A → B) (P : A → Type 0) (o : Option A) → option_map f o ≡ None → IfSome o P

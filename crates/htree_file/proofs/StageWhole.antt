@@ -1,5 +1,5 @@
 -- A whole stage: what the next reference opens to.
-use Rattle.std.proofs.Common.{◌≡◌, inl, inr, ⊎_elim, ℕ, ◌+◌, ◌-◌, ◌<◌, ◌≤◌, List, [], length, get_or, Bool, true, false, Option, None, Some, Ok, refl, sym, ◌∙◌, ap, subst, arith}
+use Rattle.std.proofs.Common.{◌≡◌, inl, inr, ⊎_elim, ℕ, ◌+◌, ◌-◌, ◌<◌, ◌≤◌, List, [], length, Bool, true, false, Option, None, Some, refl, sym, ◌∙◌, ap, subst, arith}
 use Rattle.std.proofs.lemmas.Bool.{cases_Bool, cases_lt, cond-true, cond-false, false≢true, false_from_ne_true}
 use Rattle.disk_model.specs.State.{FileState}
 use Rattle.disk_model.specs.Calls.{Known}
@@ -7,21 +7,21 @@ use Rattle.disk_model.specs.Keeps.{Keeps}
 use Rattle.node_image.specs.declared.node.NodeImage.{NodeImage}
 use Rattle.node_image.specs.declared.node.RootRef.{RootRef}
 use Rattle.node_image.specs.declared.head.Head.{Head}
-use Rattle.node_image.specs.Layout.{HasNoSpareBits, is_sized, node_of}
+use Rattle.node_image.specs.Layout.{is_sized, node_of}
 use Rattle.node_image.specs.Parts.{IsPart, Off, Part, size, start}
 use Rattle.node_image.specs.Parts.Part.{block, head, node}
-use Rattle.node_image.specs.Tables.{at_node, block_bit, block_version, no_node, node_version}
+use Rattle.node_image.specs.Tables.{at_node, block_version, node_version}
 use Rattle.node_image.specs.Selection.{node_in, part_in}
 use Rattle.node_image.proofs.PartPlaces.{off_other}
 use Rattle.htree_file.specs.declared.change.BlockChange.{BlockChange}
-use Rattle.htree_file.specs.Changes.{AreApart, AreChanges, IsChanged, SealsAt, block_at, page_after, page_at, page_for}
-use Rattle.htree_file.specs.Opening.{HasFields, IsVerified, load_of}
+use Rattle.htree_file.specs.Changes.{AreApart, AreChanges, IsChanged, SealsAt, block_at, page_after, page_for}
+use Rattle.htree_file.specs.Opening.{HasFields, IsVerified}
 use Rattle.htree_file.specs.Pages.{page_in, page_of}
 use Rattle.htree_file.specs.Selected.{IsLoaded, IsSelected, Lies}
-use Rattle.htree_file.specs.Staging.{HashedAmong, IsWritten, MadeFrom, OffWritten, SealsAnew, named_node, wanted_page}
+use Rattle.htree_file.specs.Staging.{IsWritten, MadeFrom, OffWritten, SealsAnew, named_node, wanted_page}
 use Rattle.htree_file.specs.Stages.{IsStage}
 use Rattle.htree_file.specs.Standing.{Stands}
-use Rattle.htree_file.specs.WriteSets.{AreTurned, IsTurned, IsWriteSet, turned, turned_flags}
+use Rattle.htree_file.specs.WriteSets.{AreTurned, IsTurned, IsWriteSet}
 use Rattle.htree_file.proofs.ChangeLists.{found, has_page, page_cases}
 use Rattle.htree_file.proofs.Firmness.{part_ends}
 use Rattle.htree_file.proofs.Loadings.{loaded_from, loaded_is}

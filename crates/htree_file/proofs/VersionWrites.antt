@@ -1,5 +1,5 @@
 -- The runs that write a version, one after the other: its blocks, its nodes, its head.
-use Rattle.std.proofs.Common.{◌≡◌, inl, inr, ℕ, ◌+◌, ◌-◌, ◌*◌, ◌/◌, ◌<◌, ◌≤◌, List, length, get_or, cond, leb, Bool, true, refl, sym, ◌∙◌, ap, subst, arith}
+use Rattle.std.proofs.Common.{◌≡◌, ℕ, ◌+◌, ◌-◌, ◌*◌, ◌/◌, ◌<◌, ◌≤◌, List, length, get_or, cond, leb, Bool, sym, ◌∙◌, ap, subst, arith}
 use Rattle.disk_model.specs.State.{FileState}
 use Rattle.disk_model.specs.Calls.{Known}
 use Rattle.disk_model.proofs.Goings.{first_known, goes_on_then, then_known}
@@ -8,7 +8,7 @@ use Rattle.node_image.specs.declared.head.Head.{Head}
 use Rattle.node_image.specs.Layout.{head_bytes}
 use Rattle.node_image.specs.Parts.{IsPart, Off}
 use Rattle.node_image.specs.Parts.Part.{block, head, node}
-use Rattle.node_image.specs.Tables.{at_node, block_bit, child_bit, no_node, node_version}
+use Rattle.node_image.specs.Tables.{block_bit, child_bit, no_node, node_version}
 use Rattle.node_image.proofs.PartPlaces.{off_other}
 use Rattle.tree_paths.specs.Staged.{count_to, write_budget}
 use Rattle.htree_file.specs.declared.change.BlockChange.{BlockChange}

@@ -1,5 +1,5 @@
 -- The set of a stage.
-use Rattle.std.proofs.Common.{◌≡◌, ◌↔◌, ℕ, ◌+◌, ◌-◌, ◌<◌, ◌≤◌, min, List, length, get_or, take, Bool, true, IsTrue, length-take, refl, sym, ◌∙◌, ap, subst, arith}
+use Rattle.std.proofs.Common.{◌≡◌, ◌↔◌, ℕ, ◌+◌, ◌-◌, ◌<◌, ◌≤◌, List, length, get_or, take, Bool, true, IsTrue, length-take, sym, ◌∙◌, subst, arith}
 use Rattle.std.proofs.lemmas.List.{ext_get_or, get_or-take, length-map}
 use Rattle.tree_paths.specs.Staged.{IsStaged}
 use Rattle.tree_paths.proofs.StagedNodes.{set_edge, set_fresh, set_root, set_up, staged_block}

@@ -1,5 +1,5 @@
 -- Runs of writes, one after the other.
-use Rattle.std.proofs.Common.{◌≡◌, ℕ, ◌+◌, ◌≤◌, ◌∙◌, refl, arith}
+use Rattle.std.proofs.Common.{ℕ, ◌+◌, ◌≤◌, ◌∙◌, refl, arith}
 use Rattle.disk_model.specs.State.{FileState}
 use Rattle.disk_model.proofs.Laws.{keeps_fewer, keeps_none, keeps_then}
 use Rattle.htree_file.specs.Staging.{WritesAtMost}

@@ -1,5 +1,5 @@
 -- What a version that is written comes to.
-use Rattle.std.proofs.Common.{◌≡◌, inl, inr, ℕ, ◌+◌, ◌-◌, ◌<◌, ◌≤◌, List, length, get_or, Bool, true, false, Some, refl, ◌∙◌, ap, subst, sym, arith}
+use Rattle.std.proofs.Common.{◌≡◌, inl, inr, ℕ, ◌+◌, ◌-◌, ◌≤◌, List, length, get_or, Bool, true, false, Some, refl, ◌∙◌, ap, subst, arith}
 use Rattle.std.proofs.lemmas.Bool.{cases_Bool}
 use Rattle.node_image.specs.declared.node.NodeImage.{NodeImage}
 use Rattle.node_image.specs.declared.node.RootRef.{RootRef}
@@ -8,7 +8,7 @@ use Rattle.node_image.specs.Layout.{has_form, head_of, is_sized, node_of}
 use Rattle.node_image.specs.Tables.{at_node, hash_in, no_node, node_version}
 use Rattle.node_image.specs.Selection.{node_in}
 use Rattle.htree_file.specs.declared.change.BlockChange.{BlockChange}
-use Rattle.htree_file.specs.Changes.{IsChanged, block_at, page_at}
+use Rattle.htree_file.specs.Changes.{IsChanged, page_at}
 use Rattle.htree_file.specs.Opening.{HasFields, IsVerified, Loaded}
 use Rattle.htree_file.specs.Pages.{page_in, page_of}
 use Rattle.htree_file.specs.Selected.{BlocksEnd, IsLoaded}

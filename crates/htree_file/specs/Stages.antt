@@ -1,5 +1,5 @@
 -- What a whole version of a tree is, once it is written.
-use Rattle.std.specs.Prelude.{◌≡◌, ℕ, ◌-◌, ◌<◌, List, length, Option, Some, Ok}
+use Rattle.std.specs.Prelude.{◌≡◌, ℕ, ◌-◌, ◌<◌, List, length, Some, Ok}
 use Rattle.node_image.specs.declared.node.RootRef.{RootRef}
 use Rattle.node_image.specs.Tables.{at_node}
 use Rattle.htree_file.specs.declared.change.BlockChange.{BlockChange}

@@ -16,11 +16,6 @@ pub record Stands (file : List ℕ) (q : Part) (bytes : List ℕ) : Type 0 where
   pub fits : start q + size q ≤ length file
   pub is : part_in file q ≡ bytes
 
--- block k stands in a version, and has this page by the node, or is bad
-pub record PageStands (file key : List ℕ) (h : Head) (n : NodeImage) (k version : ℕ) (page : Option (List ℕ)) : Type 0 where
-  pub fits : start (block k version) + 4096 ≤ length file
-  pub opens : page_of key h n k (part_in file (block k version)) ≡ page
-
 -- what the file reads as can be followed, and is told
 abbrev pub Told : FileState → FileState → Type 0
 Told old new = IsTrue new.tells × Known old new

@@ -13,19 +13,16 @@ ghost use Rattle.htree_file.specs.Standing.{IsFirm};
 pub fn firm_opens_alike()
     ensures { (s : FileState) (root : RootRef) (tree : Loaded) → Sound s → IsFirm s root tree →
         (wrap image : List ℕ) → LeftNow s image → opened_of wrap image root ≡ opened_of wrap s.reads root }
-{
-}
+{}
 
 /// A call that changes nothing, as a read, keeps a tree firm.
 pub fn read_keeps_firm()
     ensures { (old new : FileState) (root : RootRef) (tree : Loaded) → Sound old → Sound new → root.version < 2 →
         Rests old new → KeepsFirm old new root tree }
-{
-}
+{}
 
 /// The bytes that a reference selects tell the tree that loads.
 pub fn selection_names_tree()
     ensures { (image : List ℕ) (root : RootRef) (tree : Loaded) → load_of image root ≡ Result.Ok tree →
         loaded_in (selected_tree image root.version) ≡ tree }
-{
-}
+{}

@@ -12,8 +12,8 @@
 mod change;
 mod device;
 mod fault;
-mod opening;
 mod laws;
+mod opening;
 mod pages;
 mod parts;
 mod reading;

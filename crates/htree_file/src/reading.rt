@@ -6,9 +6,9 @@ ghost use Rattle.node_image.specs.Selection.{bytes_at};
 ghost use Rattle.htree_file.specs.Answers.{Differs, HasCause, IsLoadFault, IsOutside};
 ghost use Rattle.htree_file.specs.Opening.{IsVerified, load_of};
 ghost use Rattle.htree_file.specs.Standing.{Told};
+ghost use Rattle.disk_model.specs.Arms.{count_call};
 
 use crate::device::read_padded;
-ghost use Rattle.disk_model.specs.Arms.{count_call};
 use crate::fault::TreeFault;
 use crate::opening::{NODES_END, read_table};
 use crate::table::need_of;

@@ -1,4 +1,4 @@
-use Rattle.std.proofs.Common.{◌≡◌, List, sym, ◌∙◌, subst, ℕ}
+use Rattle.std.proofs.Common.{sym, subst, ℕ}
 use Rattle.node_image.specs.Parts.Part.{block}
 use Rattle.htree_file.specs.Standing.{Stands}
 use Rattle.htree_file.proofs.PageLaws.{page_good}

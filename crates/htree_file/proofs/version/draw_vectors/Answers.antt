@@ -1,4 +1,4 @@
-use Rattle.std.proofs.Common.{◌≡◌, ℕ, ◌<◌, length, sym, ◌∙◌, refl, arith}
+use Rattle.std.proofs.Common.{◌≡◌, ◌<◌, length, sym, ◌∙◌, refl, arith}
 use Rattle.htree_file.specs.Changes.{block_at, changes_of}
 use Rattle.htree_file.proofs.SealSteps.{anew_step}
 use Rattle.htree_file.proofs.version.draw_vectors.Goals as goal

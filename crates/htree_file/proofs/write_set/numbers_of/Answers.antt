@@ -1,4 +1,4 @@
-use Rattle.std.proofs.Common.{◌≡◌, ◌≢◌, length, ◌∙◌, arith, below_more, get_or-set_other, get_or-set_same}
+use Rattle.std.proofs.Common.{◌≢◌, ◌∙◌, arith, below_more, get_or-set_other, get_or-set_same}
 use Rattle.std.proofs.lemmas.List.{length-set}
 use Rattle.htree_file.proofs.write_set.numbers_of.Goals as goal
 

@@ -1,4 +1,4 @@
-use Rattle.std.proofs.Common.{◌≡◌, inl, inr, ⊎_elim, ℕ, ◌+◌, ◌<◌, true, IsTrue, ap, subst, sym, arith, below_more}
+use Rattle.std.proofs.Common.{◌≡◌, ⊎_elim, ℕ, ◌+◌, true, subst, arith, below_more}
 use Rattle.tree_paths.specs.Paths.{holds}
 use Rattle.tree_paths.proofs.Halving.{added_here, added_old, added_only}
 use Rattle.htree_file.specs.Changes.{block_at, changes_of}

@@ -1,4 +1,4 @@
-use Rattle.std.proofs.Common.{◌≡◌, ℕ, ◌+◌, ◌<◌, List, length, sym, ◌∙◌, ap, arith}
+use Rattle.std.proofs.Common.{ℕ, ◌<◌, List, length, ap, arith}
 use Rattle.htree_file.specs.declared.change.NewPages.{NewPages}
 use Rattle.htree_file.specs.Changes.{block_at, changes_of}
 use Rattle.htree_file.proofs.ChangeLists.{length-numbered, numbered_block}

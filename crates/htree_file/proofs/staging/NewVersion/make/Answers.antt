@@ -1,4 +1,4 @@
-use Rattle.std.proofs.Common.{◌≡◌, ℕ, ◌+◌, ◌-◌, ◌<◌, ◌≤◌, List, ◌++◌, length, get_or, take, drop, length-take, true, sym, ◌∙◌, ap, subst, arith}
+use Rattle.std.proofs.Common.{◌≡◌, ℕ, ◌-◌, ◌<◌, ◌≤◌, List, ◌++◌, length, get_or, take, drop, length-take, true, sym, ◌∙◌, ap, subst, arith}
 use Rattle.std.proofs.lemmas.List.{get_or-take, take_at}
 use Rattle.disk_model.specs.State.{FileState}
 use Rattle.disk_model.specs.Calls.{Known}
@@ -9,7 +9,7 @@ use Rattle.node_image.specs.declared.node.NodeImage.{NodeImage}
 use Rattle.node_image.specs.declared.node.RootRef.{RootRef}
 use Rattle.node_image.specs.Tables.{at_node, no_node}
 use Rattle.tree_paths.specs.Paths.{holds}
-use Rattle.htree_file.specs.Changes.{AreChanges, IsChanged, changes_of}
+use Rattle.htree_file.specs.Changes.{IsChanged, changes_of}
 use Rattle.htree_file.specs.Making.{Nowhere}
 use Rattle.htree_file.specs.Staging.{IsWritten}
 use Rattle.htree_file.specs.Stages.{IsMade}

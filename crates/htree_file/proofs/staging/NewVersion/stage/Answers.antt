@@ -1,5 +1,6 @@
-use Rattle.std.proofs.Common.{◌≡◌, ℕ, ◌-◌, ◌≤◌, ◌<◌, List, length, take, drop, length-take, sym, ◌∙◌, ap, subst, arith}
+use Rattle.std.proofs.Common.{◌≡◌, ℕ, ◌-◌, List, length, take, drop, length-take, sym, ◌∙◌, subst, arith}
 use Rattle.std.proofs.lemmas.List.{take_at}
+use Rattle.disk_model.specs.State.{FileState}
 use Rattle.disk_model.specs.Calls.{Known}
 use Rattle.disk_model.specs.Keeps.{Keeps}
 use Rattle.node_image.specs.declared.node.NodeImage.{NodeImage}
@@ -7,12 +8,11 @@ use Rattle.node_image.specs.declared.node.RootRef.{RootRef}
 use Rattle.node_image.specs.Tables.{at_node}
 use Rattle.tree_paths.specs.Paths.{holds}
 use Rattle.tree_paths.specs.Staged.{count_to, write_budget}
-use Rattle.htree_file.specs.declared.change.BlockChange.{BlockChange}
 use Rattle.htree_file.specs.Changes.{AreApart, AreChanges, changes_of}
 use Rattle.htree_file.specs.Plans.{Fits}
 use Rattle.htree_file.specs.declared.staging.NewVersion.{NewVersion}
 use Rattle.htree_file.specs.Selected.{Lies}
-use Rattle.htree_file.specs.Staging.{IsWritten, OffWritten, SealsAnew}
+use Rattle.htree_file.specs.Staging.{IsWritten, OffWritten, SealsAnew, WritesAtMost}
 use Rattle.htree_file.specs.Stages.{IsStage}
 use Rattle.htree_file.specs.WriteSets.{AreTurned, IsWriteSet}
 use Rattle.htree_file.proofs.StageWhole.{drawn_flags, is_stage, lies_written}
@@ -26,16 +26,17 @@ closed_at v before after fits old new =
     (subst (λ (n : ℕ). IsWriteSet v.before n (changes_of v.pages) (holds v.set.nodes) (holds v.set.blocks)) (sym new) fits.closed)
 
 -- no write meets the committed tree
-misses : (v : NewVersion) (nodes filled drawn : List NodeImage) → Fits v → length nodes ≡ v.before → length drawn ≡ v.head.now.greatest
-    → AreTurned nodes (holds v.set.nodes) (holds v.set.blocks) filled (length drawn) → SealsAnew (changes_of v.pages) filled drawn
-    → (p : ℕ) → Lies nodes (1 - v.root) p → OffWritten drawn v.root (changes_of v.pages) (holds v.set.nodes) p
-misses v nodes filled drawn fits old new turns anew p lies =
+misses : (v : NewVersion) (nodes filled drawn : List NodeImage) (count bytes : ℕ) (a b : FileState) → Fits v → length nodes ≡ v.before → count ≡ length drawn → length drawn ≡ v.head.now.greatest
+    → AreTurned nodes (holds v.set.nodes) (holds v.set.blocks) filled count → SealsAnew (changes_of v.pages) filled drawn
+    → WritesAtMost (OffWritten drawn v.root (changes_of v.pages) (holds v.set.nodes)) bytes a b → WritesAtMost (Lies nodes (1 - v.root)) bytes a b
+misses v nodes filled drawn count bytes a b fits old long new turns anew writes =
     let closed = closed_at v (length nodes) (length drawn) fits old new in
     let e : 1 - (1 - v.root) ≡ v.root = omega (arith, fits.bits.0) in
-    subst (λ (r : ℕ). OffWritten drawn r (changes_of v.pages) (holds v.set.nodes) p) e
+    writes_within (OffWritten drawn v.root (changes_of v.pages) (holds v.set.nodes)) (Lies nodes (1 - v.root)) bytes bytes a b (omega arith)
+    (λ p lies. subst (λ (r : ℕ). OffWritten drawn r (changes_of v.pages) (holds v.set.nodes) p) e
     (lies_written nodes drawn (changes_of v.pages) (holds v.set.nodes) (holds v.set.blocks) (1 - v.root) (omega (arith, old, fits.bits.1)) (omega (arith, new, fits.few.1)) (omega arith) closed
-    (drawn_flags nodes filled drawn (changes_of v.pages) (holds v.set.nodes) (holds v.set.blocks) closed turns anew)
-    (subst (λ (n : ℕ). AreApart n (changes_of v.pages)) (sym new) fits.apart) p lies)
+    (drawn_flags nodes filled drawn (changes_of v.pages) (holds v.set.nodes) (holds v.set.blocks) closed (subst (λ (n : ℕ). AreTurned nodes (holds v.set.nodes) (holds v.set.blocks) filled n) long turns) anew)
+    (subst (λ (n : ℕ). AreApart n (changes_of v.pages)) (sym new) fits.apart) p lies)) writes
 
 pub returns-in_err-draw_vectors-clause-writes : goal.returns-in_err-draw_vectors-clause-writes
 returns-in_err-draw_vectors-clause-writes g c =
@@ -47,27 +48,15 @@ pub returns-in_err-root-clause-writes : goal.returns-in_err-root-clause-writes
 returns-in_err-root-clause-writes g c =
     let v = c.args.self.now in
     let drawn = c.draw_vectors.new.table in
-    let filled = c.turn_nodes.new.next in
     let long : length (take v.head.now.greatest c.args.next.now) ≡ length drawn = omega arith in
-    let new : length drawn ≡ v.head.now.greatest = omega (arith, long, length-take v.head.now.greatest c.args.next.now, c.requires.room, c.requires.fits.few.1) in
-    let turns : AreTurned c.args.committed.now (holds v.set.nodes) (holds v.set.blocks) filled (length drawn) =
-    subst (λ (n : ℕ). AreTurned c.args.committed.now (holds v.set.nodes) (holds v.set.blocks) filled n) long c.turn_nodes.ensures in
-    let budget : ℕ = write_budget (length (changes_of v.pages)) (count_to (holds v.set.nodes) 256) in
-    writes_within (OffWritten drawn v.root (changes_of v.pages) (holds v.set.nodes)) (Lies c.args.committed.now (1 - v.root)) budget budget _ _ (omega arith)
-    (misses v c.args.committed.now filled drawn c.requires.fits c.requires.committed new turns c.draw_vectors.ensures.anew) c.write.ensures.writes
+    misses v c.args.committed.now c.turn_nodes.new.next drawn _ _ _ _ c.requires.fits c.requires.committed long (omega (arith, long, length-take v.head.now.greatest c.args.next.now, c.requires.room, c.requires.fits.few.1)) c.turn_nodes.ensures c.draw_vectors.ensures.anew c.write.ensures.writes
 
 pub returns-clause-writes : goal.returns-clause-writes
 returns-clause-writes g c =
     let v = c.args.self.now in
     let drawn = c.draw_vectors.new.table in
-    let filled = c.turn_nodes.new.next in
     let long : length (take v.head.now.greatest c.args.next.now) ≡ length drawn = omega arith in
-    let new : length drawn ≡ v.head.now.greatest = omega (arith, long, length-take v.head.now.greatest c.args.next.now, c.requires.room, c.requires.fits.few.1) in
-    let turns : AreTurned c.args.committed.now (holds v.set.nodes) (holds v.set.blocks) filled (length drawn) =
-    subst (λ (n : ℕ). AreTurned c.args.committed.now (holds v.set.nodes) (holds v.set.blocks) filled n) long c.turn_nodes.ensures in
-    let budget : ℕ = write_budget (length (changes_of v.pages)) (count_to (holds v.set.nodes) 256) in
-    writes_within (OffWritten drawn v.root (changes_of v.pages) (holds v.set.nodes)) (Lies c.args.committed.now (1 - v.root)) budget budget _ _ (omega arith)
-    (misses v c.args.committed.now filled drawn c.requires.fits c.requires.committed new turns c.draw_vectors.ensures.anew) c.write.ensures.writes
+    misses v c.args.committed.now c.turn_nodes.new.next drawn _ _ _ _ c.requires.fits c.requires.committed long (omega (arith, long, length-take v.head.now.greatest c.args.next.now, c.requires.room, c.requires.fits.few.1)) c.turn_nodes.ensures c.draw_vectors.ensures.anew c.write.ensures.writes
 
 pub returns-clause-stage : goal.returns-clause-stage
 returns-clause-stage g c = λ root was is.

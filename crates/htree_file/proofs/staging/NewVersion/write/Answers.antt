@@ -1,4 +1,4 @@
-use Rattle.std.proofs.Common.{◌≡◌, ℕ, ◌*◌, ◌+◌, ◌≤◌, List, length, subst, sym, arith}
+use Rattle.std.proofs.Common.{◌≡◌, ℕ, ◌*◌, length, subst, arith}
 use Rattle.tree_paths.specs.Paths.{holds}
 use Rattle.tree_paths.specs.Staged.{count_to, write_budget}
 use Rattle.htree_file.specs.Changes.{AreApart, changes_of}

@@ -1,4 +1,4 @@
-use Rattle.std.proofs.Common.{ℕ, ◌+◌, ◌*◌, ◌≤◌, cond, arith}
+use Rattle.std.proofs.Common.{◌+◌, ◌*◌, ◌≤◌, cond, arith}
 use Rattle.tree_paths.specs.Paths.{holds}
 use Rattle.tree_paths.specs.Staged.{count_to}
 use Rattle.tree_paths.proofs.StagedNodes.{count_fewer, count_next}

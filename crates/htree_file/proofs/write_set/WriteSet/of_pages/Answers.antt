@@ -1,7 +1,7 @@
-use Rattle.std.proofs.Common.{◌≡◌, ◌↔◌, ℕ, ◌≤◌, List, length, take, IsTrue, length-take, ◌∙◌, ap, subst, arith}
+use Rattle.std.proofs.Common.{◌≡◌, ◌↔◌, ℕ, List, take, IsTrue, length-take, ◌∙◌, ap, subst, arith}
 use Rattle.tree_paths.specs.Paths.{holds}
 use Rattle.tree_paths.specs.Staged.{IsStaged}
-use Rattle.htree_file.specs.Changes.{block_at, changed_blocks, changes_of}
+use Rattle.htree_file.specs.Changes.{changed_blocks, changes_of}
 use Rattle.htree_file.proofs.ChangeLists.{apart_of, few_of}
 use Rattle.htree_file.proofs.WriteSetLaws.{closed_of, numbers_are}
 use Rattle.htree_file.proofs.write_set.WriteSet.of_pages.Goals as goal

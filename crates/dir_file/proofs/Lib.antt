@@ -1,0 +1,10 @@
+pub mod PageFields
+pub mod Entries
+pub mod ChangedEntry
+pub mod Settling
+pub mod Parsing
+pub mod EntriesRead
+pub mod PagesRead
+pub mod Loading
+pub mod MadeDirectory
+pub mod Budget

@@ -1,0 +1,10 @@
+pub mod View
+pub mod EntryForms
+pub mod Inside
+pub mod Held
+pub mod Stages
+pub mod Pages
+pub mod Loading
+pub mod Refusals
+pub mod Making
+pub mod Calls
