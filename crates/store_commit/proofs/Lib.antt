@@ -1,0 +1,5 @@
+pub mod CardWrites
+pub mod CardCauses
+pub mod Preparing
+pub mod Ending
+pub mod Hearing

@@ -1,0 +1,9 @@
+pub mod Changes
+pub mod Sides
+pub mod CardEnds
+pub mod Ends
+pub mod Steps
+pub mod Causes
+pub mod CardCauses
+pub mod Heard
+pub mod Prepared

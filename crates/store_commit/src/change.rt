@@ -1,0 +1,45 @@
+//! A change of the directory, and how a commit ends.
+
+use dir_records::DirEntry;
+use tee_types::Cause;
+
+/// A change of one entry of the directory.
+#[derive(Clone, Copy, PartialEq, Eq, Debug)]
+pub enum EntryChange {
+    /// An entry is put at an index, in place of the one there.
+    Put {
+        /// The entry's index, below 256.
+        index: u16,
+        /// The entry.
+        entry: DirEntry,
+    },
+    /// The entry at an index goes.
+    Clear {
+        /// The entry's index, below 256.
+        index: u16,
+    },
+}
+
+/// How a commit ended.
+#[derive(Clone, Copy, PartialEq, Eq, Debug)]
+pub enum CommitEnd {
+    /// It was made; the card's counter after it.
+    Made(u32),
+    /// It was not made: a device failed, or the card refused.
+    Dropped(Cause),
+    /// Whether it was made is not known: its number, which is the card's counter if it was.
+    Doubtful(u32, Cause),
+    /// The card's counter is at its end, so nothing was tried.
+    Spent,
+}
+
+/// How the write of the card's block 0 ended.
+#[derive(Clone, Copy, PartialEq, Eq, Debug)]
+pub enum CardEnd {
+    /// The block stands.
+    Landed,
+    /// The block was not written.
+    Lost(Cause),
+    /// Which of both is not known.
+    Unknown(Cause),
+}

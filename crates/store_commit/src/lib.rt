@@ -1,0 +1,16 @@
+//! The commit gate of a store, on one thread: the directory in its file, and the card whose block 0 names it.
+//!
+//! A commit changes one entry of the directory. Its order is fixed: the directory is staged and settled, then the card's block 0 is
+//! written with its result read, and where that is not confirmed the card's counter is read. Whichever call of a device fails, and
+//! at every moment, each picture of the directory's file and the card mounts to the entries before the commit or after it.
+#![tactic(auto)]
+
+mod card;
+mod change;
+mod commit;
+mod staging;
+
+pub use card::{root_block, write_root};
+pub use change::{CardEnd, CommitEnd, EntryChange};
+pub use commit::commit_parts;
+pub use staging::prepare;
