@@ -184,7 +184,7 @@ impl<F: StoreFile> BlockFile<F> {
         requires idle { self.old.stage ≡ None }
         requires few { at + length bytes.now ≤ 1048576 }
         ensures staged { StageAnswer F.state self.old self.new (max self.old.tree.head.length (at + length bytes.now)) result }
-        // It writes no other blocks than those that the change meets, within the write budget.
+        // It writes no more than the write budget has for the blocks that the change meets.
         ensures budget { WritesRange (write_range self.old.tree.head.length at (length bytes.now))
             (max self.old.tree.head.length (at + length bytes.now)) self.old.tree.head.greatest (F.state self.old.file) (F.state self.new.file) }
         // Of any file.
@@ -228,7 +228,7 @@ impl<F: StoreFile> BlockFile<F> {
         requires idle { self.old.stage ≡ None }
         requires few { size ≤ 1048576 }
         ensures staged { StageAnswer F.state self.old self.new size result }
-        // It writes no other blocks than those that the change meets and that hold bytes afterwards, within the write budget.
+        // It writes no more than the write budget has for the blocks that the change meets and that hold bytes afterwards.
         ensures budget { WritesRange (resize_range self.old.tree.head.length size) size self.old.tree.head.greatest
             (F.state self.old.file) (F.state self.new.file) }
         // Of any file.

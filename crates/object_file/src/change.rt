@@ -55,7 +55,7 @@ impl<F: StoreFile> ObjectFile<F> {
             load_of (F.state self.old.tree.file).reads self.old.tree.root ≡ Result.Ok self.old.tree.tree →
             IfSome self.new.tree.stage (HoldsAfter self.old self.new (F.state self.old.tree.file).reads (F.state self.new.tree.file).reads
             (λ c. written_contents c at bytes.now))) }
-        // It writes no other blocks than those that the change meets, within the write budget.
+        // It writes no more than the write budget has for the blocks that the change meets.
         ensures budget { WritesRange (write_range self.old.tree.tree.head.length (4096 + at) (length bytes.now))
             (max self.old.tree.tree.head.length (4096 + at + length bytes.now)) self.old.tree.tree.head.greatest
             (F.state self.old.tree.file) (F.state self.new.tree.file) }
@@ -115,7 +115,7 @@ impl<F: StoreFile> ObjectFile<F> {
             load_of (F.state self.old.tree.file).reads self.old.tree.root ≡ Result.Ok self.old.tree.tree →
             IfSome self.new.tree.stage (HoldsAfter self.old self.new (F.state self.old.tree.file).reads (F.state self.new.tree.file).reads
             (λ c. resized_contents c size))) }
-        // It writes no other blocks than those that the change meets and that hold bytes afterwards, within the write budget.
+        // It writes no more than the write budget has for the blocks that the change meets and that hold bytes afterwards.
         ensures budget { WritesRange (resize_range self.old.tree.tree.head.length (4096 + size)) (4096 + size)
             self.old.tree.tree.head.greatest (F.state self.old.tree.file) (F.state self.new.tree.file) }
         // Of any file.
