@@ -1,6 +1,6 @@
 // Bytes over a tree, step by step.
 
-ghost use Rattle.std.specs.Prelude.{◌≡◌, ◌≤◌, length, None, IfOk, IsSome, OnErr, OnOk};
+ghost use Rattle.std.specs.Prelude.{◌≡◌, ◌≤◌, None, IfOk, IsSome, OnOk};
 
 use crate::arms::Arm;
 use crate::change::{Change, new_bytes};

@@ -1,6 +1,6 @@
 // What names an object.
 
-ghost use Rattle.std.specs.Prelude.{◌≡◌, ◌<◌, ◌≤◌};
+ghost use Rattle.std.specs.Prelude.{◌<◌, ◌≤◌};
 ghost use Rattle.dir_records.specs.Form.{HasForm};
 
 use dir_records::DirEntry;

@@ -1,6 +1,6 @@
 // Objects, step by step.
 
-ghost use Rattle.std.specs.Prelude.{◌≡◌, ◌≤◌, length, None, IfOk, IsSome, IsSomeAnd, IsTrue, OnErr, OnOk};
+ghost use Rattle.std.specs.Prelude.{◌≡◌, None, IfOk, IsSome, OnErr, OnOk};
 
 use crate::arms::Arm;
 use crate::base::ATTRIBUTES;

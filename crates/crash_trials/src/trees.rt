@@ -1,6 +1,6 @@
 // Whole blocks of a tree, step by step.
 
-ghost use Rattle.std.specs.Prelude.{◌≡◌, ◌≤◌, length, None, IfOk, IsSome, OnErr, OnOk};
+ghost use Rattle.std.specs.Prelude.{◌≡◌, ◌≤◌, None, IsSome, OnOk};
 
 use crate::arms::Arm;
 use crate::blocks::load;

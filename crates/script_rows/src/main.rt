@@ -15,8 +15,6 @@
 
 use anyhow::Context;
 use row::Row;
-use std::alloc::Global;
-use std::io;
 use trial::difference;
 
 mod marks;
