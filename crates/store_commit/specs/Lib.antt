@@ -7,3 +7,6 @@ pub mod Causes
 pub mod CardCauses
 pub mod Heard
 pub mod Prepared
+pub mod NameIndex
+pub mod Holds
+pub mod Gates
