@@ -6,3 +6,5 @@ pub mod Hearing
 pub mod NameIndexes
 pub mod HoldLists
 pub mod Gating
+pub mod Resolutions
+pub mod Looking

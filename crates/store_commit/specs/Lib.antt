@@ -10,3 +10,5 @@ pub mod Prepared
 pub mod NameIndex
 pub mod Holds
 pub mod Gates
+pub mod Resolving
+pub mod Noting

@@ -1,5 +1,5 @@
 -- The index of names beside the entries of the directory.
-use Rattle.std.specs.Prelude.{◌≡◌, ◌≢◌, ◌<◌, ℕ, true, if◌then◌else◌, List, length, slice_set, Option, Some, None}
+use Rattle.std.specs.Prelude.{◌≡◌, ◌≢◌, ◌<◌, ℕ, true, if◌then◌else◌, List, length, slice_set, Option, Some, None, IsSome}
 use Rattle.std.specs.Ordering.{is_eq, is_le}
 use Rattle.tee_types.specs.Identifier.{bytes_cmp}
 use Rattle.store_model.specs.declared.name.ObjectName.{ObjectName}
@@ -53,3 +53,8 @@ ClearsName old new before index = (entries : List (Option DirEntry)) → length 
 abbrev pub ChangesNames : (old new : IndexState) → (before : Option DirEntry) → EntryChange → Type 0
 ChangesNames old new before (Put index e) = PutsName old new before index e
 ChangesNames old new before (Clear index) = ClearsName old new before index
+
+-- The least index of a free entry; or none of the 256 is free.
+abbrev pub IsFirstFree : List (Option DirEntry) → Option ℕ → Type 0
+IsFirstFree entries (Some index) = (index < 256) × (entry_at entries index ≡ None) × ((i : ℕ) → i < index → IsSome (entry_at entries i))
+IsFirstFree entries None = (i : ℕ) → i < 256 → IsSome (entry_at entries i)

@@ -12,6 +12,8 @@ mod gate;
 mod holds;
 mod look;
 mod names;
+mod note;
+mod resolve;
 mod staging;
 
 pub use card::{root_block, write_root};
@@ -20,4 +22,5 @@ pub use commit::commit_parts;
 pub use gate::{Doubted, Gate};
 pub use holds::SESSIONS;
 pub use look::Held;
+pub use resolve::Resolved;
 pub use staging::prepare;
