@@ -3,3 +3,8 @@ pub mod CardCauses
 pub mod Preparing
 pub mod Ending
 pub mod Hearing
+pub mod NameIndexes
+pub mod HoldLists
+pub mod Gating
+pub mod Resolutions
+pub mod Looking

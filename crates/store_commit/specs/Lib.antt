@@ -7,3 +7,8 @@ pub mod Causes
 pub mod CardCauses
 pub mod Heard
 pub mod Prepared
+pub mod NameIndex
+pub mod Holds
+pub mod Gates
+pub mod Resolving
+pub mod Noting

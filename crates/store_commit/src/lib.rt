@@ -8,9 +8,19 @@
 mod card;
 mod change;
 mod commit;
+mod gate;
+mod holds;
+mod look;
+mod names;
+mod note;
+mod resolve;
 mod staging;
 
 pub use card::{root_block, write_root};
 pub use change::{CardEnd, CommitEnd, EntryChange};
 pub use commit::commit_parts;
+pub use gate::{Doubted, Gate};
+pub use holds::SESSIONS;
+pub use look::Held;
+pub use resolve::Resolved;
 pub use staging::prepare;

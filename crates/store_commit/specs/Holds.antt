@@ -1,0 +1,37 @@
+-- The files that sessions hold: each session at most one, before an entry names it.
+use Rattle.std.specs.Prelude.{◌≡◌, ◌≢◌, ◌==◌, if◌then◌else◌, ℕ, List, Option, Some, None, get_or}
+use Rattle.dir_records.specs.declared.entry.DirEntry.{DirEntry}
+use Rattle.crash_core.specs.EntryLists.{IsUnnamed}
+use Rattle.crash_core.specs.EntryChanges.{file_put}
+use Rattle.store_commit.specs.declared.change.EntryChange.{EntryChange}
+use Rattle.store_commit.specs.Changes.{change_of}
+
+-- the file that a session holds
+abbrev pub file_held : (holds : List (Option ℕ)) → (session : ℕ) → Option ℕ
+file_held holds session = get_or holds session None
+
+-- no session holds the file
+abbrev pub IsUnheld : (holds : List (Option ℕ)) → (file : ℕ) → Type 0
+IsUnheld holds file = (session : ℕ) → file_held holds session ≢ Some file
+
+-- no entry names a file that is held, and no two sessions hold one file
+pub record AreHolds (entries : List (Option DirEntry)) (holds : List (Option ℕ)) : Type 0 where
+  pub unnamed : (session file : ℕ) → file_held holds session ≡ Some file → IsUnnamed entries file
+  pub single : (a b file : ℕ) → file_held holds a ≡ Some file → file_held holds b ≡ Some file → a ≡ b
+
+-- a hold, unless it is on that file
+abbrev pub unless_file : (file : ℕ) → Option ℕ → Option ℕ
+unless_file file None = None
+unless_file file (Some held) = if held == file then None else Some held
+
+-- all holds but those on that file
+abbrev pub HoldsWithout : (file : ℕ) → (old new : List (Option ℕ)) → Type 0
+HoldsWithout file old new = (session : ℕ) → file_held new session ≡ unless_file file (file_held old session)
+
+-- the hold on the file that a change puts ends
+abbrev pub EndsHold : Option ℕ → (old new : List (Option ℕ)) → Type 0
+EndsHold None old new = new ≡ old
+EndsHold (Some file) old new = HoldsWithout file old new
+
+abbrev pub EndsHoldOf : EntryChange → (old new : List (Option ℕ)) → Type 0
+EndsHoldOf change old new = EndsHold (file_put (change_of change)) old new

@@ -1,0 +1,80 @@
+//! The open handles of all sessions, as events add and take them.
+
+ghost use Rattle.std.specs.Prelude.{◌≡◌, ◌≤◌, OnOk};
+ghost use Rattle.store_commit.specs.Noting.{DropsHandle, Notes, NotesReply};
+
+use crate::gate::Gate;
+use open_table::OpenTable;
+use rpmb_card::RpmbPort;
+use store_model::Event;
+use tee_ports::StoreFile;
+use tee_types::{Call, NoMemory, Reply};
+
+// Takes a session's handle away, where it is open.
+fn drop_handle(handles: &mut OpenTable, session: u32, handle: u32)
+    ensures { DropsHandle handles.old handles.new session handle }
+{
+    if let Some(key) = handles.find(session, handle) {
+        handles.remove(key);
+    }
+}
+
+// Adds or takes the handle that a call and its reply name.
+fn note_reply(handles: &mut OpenTable, file: u16, session: u32, call: &Call, reply: &Reply)
+    requires room { 1 ≤ handles.old.spare }
+    ensures { NotesReply handles.old handles.new file session call.now reply.now }
+{
+    match (call, reply) {
+        (Call::Create { flags, .. }, Reply::Handle(handle)) => {
+            handles.add(file, session, *handle, flags.without_overwrite());
+        }
+        (Call::Open { flags, .. }, Reply::Handle(handle)) => {
+            handles.add(file, session, *handle, flags.without_overwrite());
+        }
+        (Call::Close { handle }, Reply::Done) => drop_handle(handles, session, *handle),
+        (Call::Delete { handle }, Reply::Done) => drop_handle(handles, session, *handle),
+        _ => {}
+    }
+}
+
+impl<F: StoreFile + Drop, R: RpmbPort + Drop> Gate<F, R> {
+    /// Makes room for one commit, and for one handle more. It takes memory only where there is none.
+    ///
+    /// # Errors
+    ///
+    /// Memory ran out. Nothing changed but that there may be room.
+    pub fn reserve(&mut self) -> Result<(), NoMemory>
+        ensures room { OnOk result ((1 ≤ self.new.room) × (1 ≤ self.new.open_handles.spare)) }
+        ensures handles { self.new.open_handles.records ≡ self.old.open_handles.records }
+        ensures same { self.new ≡ record self.old { open_handles = self.new.open_handles; room = self.new.room } }
+    {
+        self.index.reserve()?;
+        self.handles.reserve()
+    }
+
+    /// Adds the open handle that an event names, or takes it away: a Create or an Open that was answered with a handle adds it, on that
+    /// file; a Close or a Delete that was done takes it away. Other events change nothing.
+    pub fn note(&mut self, file: u16, event: &Event)
+        requires room { 1 ≤ self.old.open_handles.spare }
+        ensures notes { Notes self.old.open_handles self.new.open_handles file event.now }
+        ensures same { self.new ≡ record self.old { open_handles = self.new.open_handles } }
+    {
+        match event {
+            Event::Call {
+                session,
+                call,
+                reply,
+                ..
+            } => note_reply(&mut self.handles, file, *session, call, reply),
+            Event::Landed { .. } => {}
+        }
+    }
+
+    /// Takes a session's handle away, where it is open: that of a Delete which was in doubt and landed.
+    pub fn drop_handle(&mut self, session: u32, handle: u32)
+        ensures drops { DropsHandle self.old.open_handles self.new.open_handles session handle }
+        ensures same { self.new ≡ record self.old { open_handles = self.new.open_handles } }
+    {
+        drop_handle(&mut self.handles, session, handle);
+    }
+}
