@@ -80,7 +80,7 @@ pub fn commit_parts<F: StoreFile, R: RpmbPort, E: Entropy>(
     };
     let root = match prepare(dir, change, entropy) {
         Ok(root) => root,
-        Err(cause) => return CommitEnd::Dropped(cause),
+        Err(failed) => return CommitEnd::Dropped(failed),
     };
     match write_root(host, at, &nonce, &root) {
         CardEnd::Landed => {
