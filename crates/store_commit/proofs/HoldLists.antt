@@ -1,5 +1,5 @@
 -- Holds of sessions, as entries change.
-use Rattle.std.proofs.Common.{◌≡◌, ◌≢◌, ◌⊎◌, ◌∙◌, ◌==◌, ◌<◌, ◌≤◌, ◌+◌, ℕ, Bool, true, false, List, length, Option, Some, None, if◌then◌else◌, refl, sym, ap, subst, inl, inr, arith}
+use Rattle.std.proofs.Common.{◌≡◌, ◌≢◌, ◌⊎◌, ◌∙◌, ◌==◌, ◌<◌, ◌≤◌, ◌+◌, ℕ, zero, suc, replicate, Bool, true, false, List, length, Option, Some, None, if◌then◌else◌, refl, sym, ap, subst, inl, inr, arith}
 use Rattle.std.specs.Prelude.{slice_set}
 use Rattle.std.proofs.lemmas.Bool.{cases_eq, cases_lt, eq-eqb}
 use Rattle.std.proofs.lemmas.List.{get_or-set_other, get_or-set_same, get_or_past}
@@ -76,3 +76,15 @@ holds_after entries old new (Clear index) holds same = subst (AreHolds (entries_
   unnamed = λ session file held. unnamed_clear entries index file (holds.unnamed session file held);
   single = holds.single;
 })
+
+-- nothing is held
+pub none_held : (n session file : ℕ) → (let none : Option ℕ = None in file_held (replicate n none) session ≡ Some file) → ⊥
+none_held zero session file is = absurd (cc (is))
+none_held (suc n) zero file is = absurd (cc (is))
+none_held (suc n) (suc session) file is = none_held n session file is
+
+pub no_holds : (entries : List (Option DirEntry)) (n : ℕ) → (let none : Option ℕ = None in AreHolds entries (replicate n none))
+no_holds entries n = record {
+  unnamed = λ session file held. absurd (none_held n session file held);
+  single = λ a b file x y. absurd (none_held n a file x);
+}

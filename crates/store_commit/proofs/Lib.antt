@@ -8,3 +8,10 @@ pub mod HoldLists
 pub mod Gating
 pub mod Resolutions
 pub mod Looking
+pub mod Outside
+pub mod Mounting
+pub mod Syncing
+pub mod Cards
+pub mod Mounted
+pub mod Formatting
+pub mod Indexing

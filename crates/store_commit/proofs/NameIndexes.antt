@@ -31,16 +31,16 @@ equal_is a b same =
     let both = and_parts (bytes_eq a.app b.app) (bytes_eq a.id b.id) same in
     λ i. record { app = same_is a.app b.app both.0 i; id = same_is a.id b.id both.1 i }
 
-not_some : (e : DirEntry) → (let o : Option DirEntry = None in o ≡ Some e) → ⊥
+pub not_some : (e : DirEntry) → (let o : Option DirEntry = None in o ≡ Some e) → ⊥
 not_some e is = absurd (cc (is))
 
-no_place : (i : ℕ) → (let o : Option ℕ = None in o ≡ Some i) → ⊥
+pub no_place : (i : ℕ) → (let o : Option ℕ = None in o ≡ Some i) → ⊥
 no_place i is = absurd (cc (is))
 
-one_place : (i j : ℕ) → (let o : Option ℕ = Some i in o ≡ Some j) → i ≡ j
+pub one_place : (i j : ℕ) → (let o : Option ℕ = Some i in o ≡ Some j) → i ≡ j
 one_place i j is = cc (is)
 
-one_entry : (e f : DirEntry) → (let o : Option DirEntry = Some e in o ≡ Some f) → e ≡ f
+pub one_entry : (e f : DirEntry) → (let o : Option DirEntry = Some e in o ≡ Some f) → e ≡ f
 one_entry e f is = cc (is)
 
 -- a place that holds an entry is one of the list

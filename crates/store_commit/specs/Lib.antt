@@ -12,3 +12,6 @@ pub mod Holds
 pub mod Gates
 pub mod Resolving
 pub mod Noting
+pub mod Blocks
+pub mod Mounts
+pub mod Formats

@@ -41,6 +41,11 @@ abbrev pub AddsName : (old new : IndexState) → DirEntry → (place : ℕ) → 
 AddsName old new e place = index_at old (name_of e) ≡ None
     → (other : ObjectName) → index_at new other ≡ (if is_eq (name_cmp other (name_of e)) then Some place else index_at old other)
 
+-- the name of an entry is put in, if there is one
+abbrev pub IndexesEntry : (old new : IndexState) → Option DirEntry → (place : ℕ) → Type 0
+IndexesEntry old new None place = new ≡ old
+IndexesEntry old new (Some e) place = AddsName old new e place
+
 -- The index after an entry was put in a place, or taken from it, where another stood or none; whatever the other entries are.
 abbrev pub PutsName : (old new : IndexState) → (before : Option DirEntry) → (index : ℕ) → DirEntry → Type 0
 PutsName old new before index e = (entries : List (Option DirEntry)) → length entries ≡ 256 → Fits entries index (Some e) → entry_at entries index ≡ before

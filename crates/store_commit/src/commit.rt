@@ -21,7 +21,7 @@ use tee_ports::{Entropy, StoreFile};
 use tee_types::{Cause, Device};
 
 // Draws a nonce.
-fn draw_nonce<E: Entropy>(entropy: &mut E) -> Result<[u8; 16], Cause>
+pub(crate) fn draw_nonce<E: Entropy>(entropy: &mut E) -> Result<[u8; 16], Cause>
     ensures reliable { E.is_reliable entropy.old → IsOk result × E.is_reliable entropy.new }
     ensures cause { DrawnCause (E.faults entropy.old) (E.faults entropy.new) result }
 {
@@ -80,7 +80,7 @@ pub fn commit_parts<F: StoreFile, R: RpmbPort, E: Entropy>(
     };
     let root = match prepare(dir, change, entropy) {
         Ok(root) => root,
-        Err(cause) => return CommitEnd::Dropped(cause),
+        Err(failed) => return CommitEnd::Dropped(failed),
     };
     match write_root(host, at, &nonce, &root) {
         CardEnd::Landed => {

@@ -5,20 +5,29 @@
 //! at every moment, each picture of the directory's file and the card mounts to the entries before the commit or after it.
 #![tactic(auto)]
 
+mod block;
 mod card;
 mod change;
 mod commit;
+mod fault;
+mod form;
 mod gate;
 mod holds;
 mod look;
+mod mount;
 mod names;
 mod note;
+mod reading;
 mod resolve;
 mod staging;
+mod sync;
 
+pub use block::root_in;
 pub use card::{root_block, write_root};
 pub use change::{CardEnd, CommitEnd, EntryChange};
 pub use commit::commit_parts;
+pub use fault::{GateBroken, MountFault};
+pub use form::format_parts;
 pub use gate::{Doubted, Gate};
 pub use holds::SESSIONS;
 pub use look::Held;

@@ -35,8 +35,8 @@ fn forget_name(index: &mut DirIndex, entry: &DirEntry)
     index.remove(entry.app, entry.id);
 }
 
-// Puts the name of an entry in, where it is not held.
-fn add_name(index: &mut DirIndex, entry: &DirEntry, place: u16)
+/// Puts the name of an entry in, where it is not held.
+pub(crate) fn add_name(index: &mut DirIndex, entry: &DirEntry, place: u16)
     requires room { 1 ≤ index.old.spare }
     ensures names { AddsName index.old index.new entry.now place }
     ensures room { index.old.spare ≤ index.new.spare + 1 }

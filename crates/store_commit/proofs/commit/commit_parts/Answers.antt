@@ -147,7 +147,7 @@ pub returns-in-Err-prepare-clause-calm : goal.returns-in-Err-prepare-clause-calm
 returns-in-Err-prepare-clause-calm g c calm =
     let d = c.args.dir.now in
     let e = c.prepare.new.dir in
-    (record { calm = calm; faults = refl }, side_not_card (g.F.StoreFile.state d.file) (g.F.StoreFile.state e.file) _ _ c.in-Err-prepare.cause c.in-Err-prepare.ensures.cause)
+    (record { calm = calm; faults = refl }, side_not_card (g.F.StoreFile.state d.file) (g.F.StoreFile.state e.file) _ _ c.in-Err-prepare.failed c.in-Err-prepare.ensures.cause)
 
 pub returns-in-Landed-clause-calm : goal.returns-in-Landed-clause-calm
 returns-in-Landed-clause-calm g c calm =

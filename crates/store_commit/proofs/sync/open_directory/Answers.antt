@@ -1,0 +1,25 @@
+use Rattle.disk_model.specs.Calls.{Rests}
+use Rattle.disk_model.specs.Keeps.{Anywhere, Keeps}
+use Rattle.disk_model.proofs.Laws.{rest_keeps}
+use Rattle.store_commit.proofs.Syncing.{err_map, keeps_after, ok_map}
+use Rattle.store_commit.proofs.sync.open_directory.Goals as goal
+
+pub returns-in-Ok-clause-keeps : goal.returns-in-Ok-clause-keeps
+returns-in-Ok-clause-keeps g c =
+    let state = g.F.StoreFile.state in
+    let a = state c.args.file in
+    let b = state c.sync.new.self in
+    ok_map c.load.result (λ d. Rests b (state d.file)) (λ d. Keeps Anywhere a (state d.file))
+    (λ d rests. keeps_after a b (state d.file) c.in-Ok.ensures.synced rests (g.met.F.StoreFile.sound c.args.file) (g.met.F.StoreFile.sound c.sync.new.self)) c.load.ensures.rests
+
+pub returns-in-Ok-clause-keeps_err : goal.returns-in-Ok-clause-keeps_err
+returns-in-Ok-clause-keeps_err g c =
+    let state = g.F.StoreFile.state in
+    let a = state c.args.file in
+    let b = state c.sync.new.self in
+    err_map c.load.result (λ d. Rests b (state d.file)) (λ d. Keeps Anywhere a (state d.file))
+    (λ d rests. keeps_after a b (state d.file) c.in-Ok.ensures.synced rests (g.met.F.StoreFile.sound c.args.file) (g.met.F.StoreFile.sound c.sync.new.self)) c.load.ensures.rests_err
+
+pub returns-in-Err-clause-keeps_err : goal.returns-in-Err-clause-keeps_err
+returns-in-Err-clause-keeps_err g c =
+    rest_keeps (g.F.StoreFile.state c.args.file) (g.F.StoreFile.state c.sync.new.self) (g.met.F.StoreFile.sound c.args.file) c.in-Err.ensures.unsettled

@@ -1,0 +1,41 @@
+//! Why a store is not mounted or formatted.
+
+use crash_core::DirFault;
+use rpmb_card::RpmbPort;
+use tee_ports::StoreFile;
+use tee_types::{Cause, FrameFault};
+
+/// Why a store is not mounted or formatted.
+#[derive(Clone, Copy, PartialEq, Eq, Debug)]
+pub enum MountFault {
+    /// The card's block 0 is all zero.
+    NoStore,
+    /// The card's block 0 has not the form of one.
+    CardBlock {
+        /// The first byte that is outside the form.
+        byte: u16,
+    },
+    /// The card's block 0 names no directory.
+    Directory(DirFault),
+    /// A frame that came is not the wanted answer.
+    Frame(FrameFault),
+    /// A verified frame carries this result.
+    CardResult(u16),
+    /// A device failed.
+    Failed(Cause),
+    /// The card's counter is at its end.
+    Spent,
+    /// Memory ran out.
+    NoMemory,
+}
+
+/// The directory's file and the card of a store that is not mounted or formatted, and why.
+#[derive(Drop)]
+pub struct GateBroken<F: StoreFile, R: RpmbPort> {
+    /// The directory's file.
+    pub dir: F,
+    /// The port to the card.
+    pub card: R,
+    /// Why.
+    pub fault: MountFault,
+}

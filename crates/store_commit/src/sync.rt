@@ -1,0 +1,63 @@
+//! Opening the directory's file.
+
+ghost use Rattle.std.specs.Prelude.{◌≡◌, ◌⊎◌, ◌<◌, None, IfErr, IfOk, IsTrue, Result};
+ghost use Rattle.disk_model.specs.Calls.{Known};
+ghost use Rattle.disk_model.specs.Keeps.{Anywhere, Keeps};
+ghost use Rattle.htree_file.specs.Answers.{FilePassed};
+ghost use Rattle.htree_file.specs.Making.{IsSynced};
+ghost use Rattle.htree_file.specs.Opening.{IsVerified};
+ghost use Rattle.htree_file.specs.Standing.{Told};
+ghost use Rattle.crash_core.specs.Directory.{directory_of};
+ghost use Rattle.dir_file.specs.EntryForms.{AreEntriesOf};
+ghost use Rattle.dir_file.specs.Held.{IsHeld};
+ghost use Rattle.dir_file.specs.Loading.{DirCause, IsOutsideDir};
+
+use crash_core::DirFault;
+use dir_file::{DirBroken, DirFile};
+use htree_file::TreeFault;
+use node_image::RootRef;
+use std::alloc::Global;
+use tee_ports::StoreFile;
+
+/// Syncs the directory's file, and loads the directory that a reference names in it. After the sync what the file reads as is all that
+/// a crash may leave, so the directory that is loaded stands in every image.
+///
+/// # Errors
+///
+/// The sync failed, or what `DirFile::load` answers.
+pub(crate) fn open_directory<F: StoreFile>(
+    alloc: Global,
+    mut file: F,
+    tsk: &[u8; 32],
+    root: RootRef,
+) -> Result<DirFile<F>, DirBroken<F>>
+    requires { root.version < 2 }
+    ensures root { IfOk result (λ d. d.dir.root ≡ root) }
+    ensures idle { IfOk result (λ d. d.dir.stage ≡ None) }
+    ensures tsk { IfOk result (λ d. d.dir.tsk ≡ tsk.now) }
+    ensures verified { IfOk result (λ d. IsVerified root d.dir.tree) }
+    ensures entries { IfOk result (λ d. AreEntriesOf d.dir.entries) }
+    ensures synced { IfOk result (λ d. IsSynced (F.state d.file)) }
+    ensures held { IfOk result (λ d. IsTrue (F.state d.file).honest →
+        IsHeld (F.state d.file) tsk.now root d.dir.tree d.dir.entries) }
+    ensures directory { IfOk result (λ d. Told (F.state file) (F.state d.file) →
+        directory_of tsk.now (F.state d.file).reads root ≡ Result.Ok d.dir.entries) }
+    ensures fault { IfErr result (λ b. IsOutsideDir b.fault ⊎ (Told (F.state file) (F.state b.file) →
+        directory_of tsk.now (F.state b.file).reads root ≡ Result.Err b.fault)) }
+    ensures reads { IfOk result (λ d. Known (F.state file) (F.state d.file) → (F.state d.file).reads ≡ (F.state file).reads) }
+    ensures reads_err { IfErr result (λ b. Known (F.state file) (F.state b.file) → (F.state b.file).reads ≡ (F.state file).reads) }
+    ensures keeps { IfOk result (λ d. Keeps Anywhere (F.state file) (F.state d.file)) }
+    ensures keeps_err { IfErr result (λ b. Keeps Anywhere (F.state file) (F.state b.file)) }
+    ensures passed { IfOk result (λ d. FilePassed (F.state file) (F.state d.file)) }
+    ensures cause { IfErr result (λ b. DirCause (F.state file) (F.state b.file) b.fault) }
+{
+    match file.sync() {
+        Ok(()) => DirFile::load(alloc, file, tsk, root),
+        Err(failed) => {
+            let fault = DirFault::Tree(TreeFault::Failed {
+                count: failed.count,
+            });
+            Err(DirBroken { file, fault })
+        }
+    }
+}
