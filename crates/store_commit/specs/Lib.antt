@@ -15,3 +15,4 @@ pub mod Noting
 pub mod Blocks
 pub mod Mounts
 pub mod Formats
+pub mod Marks

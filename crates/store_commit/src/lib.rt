@@ -14,6 +14,7 @@ mod form;
 mod gate;
 mod holds;
 mod look;
+mod marks;
 mod mount;
 mod names;
 mod note;
