@@ -16,7 +16,7 @@ use Rattle.block_file.proofs.Reading.{page_first, page_then}
 
 module _ (key : List ℕ) (tree : Loaded) (r : ByteRange) (at : ℕ) (bytes : List ℕ) (a b c : FileState) (goes : GoesOn b c) where
   -- a page that was made stays one as the calls go on
-  new_page_first : (k : ℕ) (page : List ℕ) → IsNewPage key tree a b r at bytes k page → IsNewPage key tree a c r at bytes k page
+  pub new_page_first : (k : ℕ) (page : List ℕ) → IsNewPage key tree a b r at bytes k page → IsNewPage key tree a c r at bytes k page
   new_page_first k page made = record {
     over = made.over;
     read = λ is. page_first key tree a b c k made.over goes (made.read is);

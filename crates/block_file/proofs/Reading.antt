@@ -1,8 +1,9 @@
 -- Pages that were read, in the course of further calls.
-use Rattle.std.proofs.Common.{◌≡◌, ◌∙◌, ℕ, ◌+◌, ◌-◌, ◌*◌, ◌/◌, ◌%◌, ◌<◌, ◌≤◌, List, ◌++◌, length, get_or, drop, min, Option, None, Some, Bool, true, inl, inr, Err, IsTrue, ap, sym, subst, arith, length-append, length-drop}
-use Rattle.std.proofs.lemmas.Bool.{cases_lt}
+use Rattle.std.proofs.Common.{◌≡◌, ◌∙◌, ℕ, ◌+◌, ◌-◌, ◌*◌, ◌/◌, ◌%◌, ◌<◌, ◌≤◌, ◌==◌, suc, cond, List, [], ◌++◌, length, get_or, drop, min, ◌&&◌, nat_le, nat_lt, if◌then◌else◌, Option, None, Some, Bool, true, inl, inr, Result, Ok, Err, IsTrue, ap, sym, subst, arith, length-append, length-drop}
+use Rattle.std.proofs.lemmas.Bool.{cases_lt, cond-false, cond-true, eq-eqb, false≢true, ne_eqb}
 use Rattle.std.proofs.lemmas.Grind.{same_number_lists}
 use Rattle.std.proofs.lemmas.List.{get_or_append_left, get_or-append_right, get_or-drop}
+use Rattle.disk_model.specs.Arms.{Arms, count_call}
 use Rattle.disk_model.specs.State.{FileState}
 use Rattle.disk_model.specs.Calls.{GoesOn, Rests}
 use Rattle.disk_model.proofs.Goings.{first_known}
@@ -13,17 +14,29 @@ use Rattle.htree_file.specs.Standing.{Told}
 use Rattle.htree_file.proofs.Causes.{told_then}
 use Rattle.page_bytes.specs.declared.range.ByteRange.{ByteRange}
 use Rattle.page_bytes.specs.Pages.{byte_at, byte_in, bytes_from}
-use Rattle.page_bytes.specs.Ranges.{end_block, meets, read_range}
+use Rattle.page_bytes.specs.Ranges.{end_block, first_block, meets, read_range}
 use Rattle.page_bytes.specs.Rewriting.{given_byte}
-use Rattle.page_bytes.proofs.Content.{get_or-bytes_from, length-bytes_from}
+use borrow.Rule.Slice.PartMut.{put_mid}
+use Rattle.page_bytes.proofs.Laying.{byte-put}
+use Rattle.page_bytes.proofs.Content.{get_or-bytes_from, length-bytes_from, not-meets-before, not-meets-behind}
 use Rattle.htree_file.specs.declared.fault.TreeFault.{TreeFault}
 use Rattle.htree_file.specs.declared.fault.TreeFault.TheVariants.{BadHead, BadTag, Damaged, Failed, NoEntropy, NoMemory, Short}
-use Rattle.block_file.specs.Reads.{BlocksAnswer, IsBad, IsByte, IsPage, WasRead}
-use Rattle.block_file.specs.Parts.{IsGiven, PartAnswer}
+use Rattle.block_file.specs.Reads.{AreBytes, BlocksAnswer, IsBad, IsPage, WasRead, after_calls, blocks_of}
+use Rattle.block_file.specs.Parts.{AreRead, IsGiven, KeepsBehind, PageAnswer, PartAnswer}
 
 -- what is told and followed to the end is so up to a point between
 pub told_first : (a b c : FileState) → GoesOn b c → Told a c → Told a b
 told_first a b c goes told = (subst (λ (t : Bool). IsTrue t) goes.tells told.0, first_known a b c goes told.1)
+
+-- a page put among others
+abbrev put_page : (pages : ℕ → List ℕ) (k : ℕ) (page : List ℕ) → ℕ → List ℕ
+put_page pages k page j = cond (j == k) page (pages j)
+
+put_old : (pages : ℕ → List ℕ) (k j : ℕ) (page : List ℕ) → j < k → put_page pages k page j ≡ pages j
+put_old pages k j page low = cond-false (j == k) page (pages j) (ne_eqb j k (λ same. omega arith))
+
+put_new : (pages : ℕ → List ℕ) (k j : ℕ) (page : List ℕ) → j ≡ k → put_page pages k page j ≡ page
+put_new pages k j page same = cond-true (j == k) page (pages j) (eq-eqb j k same)
 
 module _ (key : List ℕ) (tree : Loaded) where
   -- a page that was read stays one as the calls go on
@@ -41,38 +54,38 @@ module _ (key : List ℕ) (tree : Loaded) where
   pub was_first : (a b c : FileState) (k : ℕ) → GoesOn b c → WasRead key tree a b k → WasRead key tree a c k
   was_first a b c k goes read = (read.0, page_first a b c k read.0 goes read.1)
 
-  pub byte_first : (a b c : FileState) (p byte : ℕ) → GoesOn b c → IsByte key tree a b p byte → IsByte key tree a c p byte
-  byte_first a b c p byte goes read = record { page = read.page; read = page_first a b c (p / 4096) read.page goes read.read; is = read.is }
+  -- no block was read yet
+  pub read_none : (a : FileState) (r : ByteRange) (k : ℕ) (into : List ℕ) → k ≡ first_block r → AreRead key tree a a r k into
+  read_none a r k into is = record {
+    pages = λ j. [];
+    read = λ j lt met. absurd (false≢true (sym (not-meets-before r j (omega (arith, lt, is))) ∙ met));
+    are = λ i among lt. absurd (omega (arith, lt, is));
+  }
 
-  -- one block more was read
-  pub read_step : (a b c : FileState) (asked : ℕ → Bool) (k : ℕ) → Rests a b → GoesOn b c
-      → ((j : ℕ) → j < k → asked j ≡ true → WasRead key tree a b j) → WasRead key tree b c k
-      → (j : ℕ) → j < k + 1 → asked j ≡ true → WasRead key tree a c j
-  read_step a b c asked k rests goes before read j lt is = elim (cases_lt j k) [
-    | inl low ↦ was_first a b c j goes (before j low is)
-    | inr high ↦ let same : k ≡ j = omega arith in
-        subst (λ (n : ℕ). WasRead key tree a c n) same (read.0, page_then a b c k read.0 rests goes read.1)
-  ]
-
-  -- and its bytes stand where they belong
-  pub bytes_step : (a b c : FileState) (r : ByteRange) (k : ℕ) (before after : List ℕ) → Rests a b → GoesOn b c
-      → ((i : ℕ) → i < r.last - r.first → r.first + i < 4096 * k → IsByte key tree a b (r.first + i) (get_or before i 0))
-      → IsGiven key tree b c r k before after
-      → (i : ℕ) → i < r.last - r.first → r.first + i < 4096 * (k + 1) → IsByte key tree a c (r.first + i) (get_or after i 0)
-  bytes_step a b c r k before after rests goes old given i among lt = elim (cases_lt (r.first + i) (4096 * k)) [
-    | inl low ↦
-        let same : get_or before i 0 ≡ get_or after i 0 = grind (arith, given.given i) in
-        subst (λ (x : ℕ). IsByte key tree a c (r.first + i) x) same (byte_first a b c (r.first + i) (get_or before i 0) goes (old i among low))
-    | inr high ↦
-        let block : k ≡ (r.first + i) / 4096 = omega arith in
-        let place : (r.first + i) % 4096 ≡ r.first + i - 4096 * k = omega arith in
-        let got : get_or given.page (r.first + i - 4096 * k) 0 ≡ get_or after i 0 = grind (arith, given.given i) in
-        record {
-          page = given.page;
-          read = subst (λ (n : ℕ). IsPage key tree a c n given.page) block (page_then a b c k given.page rests goes given.read);
-          is = ap (λ (n : ℕ). get_or given.page n 0) place ∙ got;
-        }
-  ]
+  -- one block more was read, and its bytes stand where they belong
+  pub read_step : (a b c : FileState) (r : ByteRange) (k : ℕ) (before after : List ℕ) → Rests a b → GoesOn b c
+      → AreRead key tree a b r k before → IsGiven key tree b c r k before after → AreRead key tree a c r (k + 1) after
+  read_step a b c r k before after rests goes old given = record {
+    pages = put_page old.pages k given.page;
+    read = λ j lt met. elim (cases_lt j k) [
+      | inl low ↦ subst (λ (page : List ℕ). IsPage key tree a c j page) (sym (put_old old.pages k j given.page low)) (page_first a b c j (old.pages j) goes (old.read j low met))
+      | inr high ↦ let same : j ≡ k = omega arith in
+          subst (λ (page : List ℕ). IsPage key tree a c j page) (sym (put_new old.pages k j given.page same))
+          (subst (λ (n : ℕ). IsPage key tree a c n given.page) (sym same) (page_then a b c k given.page rests goes given.read))
+    ];
+    are = λ i among lt. elim (cases_lt (r.first + i) (4096 * k)) [
+      | inl low ↦
+          let same : get_or after i 0 ≡ get_or before i 0 = grind (arith, given.given i) in
+          same ∙ old.are i among low
+          ∙ ap (λ (page : List ℕ). get_or page ((r.first + i) % 4096) 0) (sym (put_old old.pages k ((r.first + i) / 4096) given.page (omega arith)))
+      | inr high ↦
+          let block : (r.first + i) / 4096 ≡ k = omega arith in
+          let place : r.first + i - 4096 * k ≡ (r.first + i) % 4096 = omega arith in
+          let got : get_or after i 0 ≡ get_or given.page (r.first + i - 4096 * k) 0 = grind (arith, given.given i) in
+          got ∙ ap (λ (n : ℕ). get_or given.page n 0) place
+          ∙ ap (λ (page : List ℕ). get_or page ((r.first + i) % 4096) 0) (sym (put_new old.pages k ((r.first + i) / 4096) given.page block))
+    ];
+  }
 
 -- a block that was not read, behind those that were
 pub part_blocks : (key : List ℕ) (tree : Loaded) (a b c : FileState) (asked : ℕ → Bool) (r : ByteRange) (k : ℕ) (before after : List ℕ) (A B : Type 0) (e : TreeFault)
@@ -90,9 +103,9 @@ part_blocks key tree a b c asked r k before after A B (Damaged n want found) goe
 part_blocks key tree a b c asked r k before after A B (NoEntropy count) goes is earlier answer = tt
 part_blocks key tree a b c asked r k before after A B NoMemory goes is earlier answer = tt
 
--- and what it was to be read into stays
+-- and what lies behind the range stays
 pub part_kept : (key : List ℕ) (tree : Loaded) (b c : FileState) (r : ByteRange) (k : ℕ) (before after : List ℕ) (A : Type 0) (e : TreeFault)
-    → PartAnswer key tree b c r k before after {A = A} (Err e) → after ≡ before
+    → PartAnswer key tree b c r k before after {A = A} (Err e) → KeepsBehind r before after
 part_kept key tree b c r k before after A (BadTag bad want found) answer = answer.2
 part_kept key tree b c r k before after A (Failed count) answer = answer
 part_kept key tree b c r k before after A (BadHead long greatest) answer = absurd answer
@@ -159,8 +172,85 @@ bad_stands key tree old new k want found rests told bad =
     let now : page_in new.reads key tree k ≡ None = ap (page_of key tree.head (at_node tree.nodes (k + 1)) k) (sym (bad.stands told.0)) ∙ bad.fails in
     ap (λ (image : List ℕ). page_in image key tree k) (sym (rests.reads told.1)) ∙ now
 
+meets_place : (at count i : ℕ) → i < count → meets at (at + count) ((at + i) / 4096) ≡ true
+meets_place at count i lt = grind (arith, lt)
+
 -- a byte of a file that is followed
-pub byte_stands : (key : List ℕ) (tree : Loaded) (old new : FileState) (p byte : ℕ) → Told old new → IsByte key tree old new p byte → byte ≡ byte_at (page_in old.reads key tree) p
-byte_stands key tree old new p byte told read =
-    let good = page_stands key tree old new (p / 4096) read.page told read.read in
-    sym read.is ∙ sym (ap (λ (page : Option (List ℕ)). byte_in page (p % 4096)) good)
+pub byte_stands : (key : List ℕ) (tree : Loaded) (old new : FileState) (at : ℕ) (bytes : List ℕ) (count : ℕ) → Told old new → AreBytes key tree old new at bytes count
+    → (i : ℕ) → i < count → get_or bytes i 0 ≡ byte_at (page_in old.reads key tree) (at + i)
+byte_stands key tree old new at bytes count told read i lt =
+    let k : ℕ = (at + i) / 4096 in
+    let good = page_stands key tree old new k (read.pages k) told (read.read k (meets_place at count i lt)) in
+    read.are i lt ∙ sym (ap (λ (page : Option (List ℕ)). byte_in page ((at + i) % 4096)) good)
+
+-- a block that the range meets lies before the end of its blocks
+before_end : (r : ByteRange) (k : ℕ) → meets r.first r.last k ≡ true → k < end_block r
+before_end r k met = elim (cases_lt k (end_block r)) [
+  | inl below ↦ below
+  | inr from ↦ absurd (false≢true (sym (not-meets-behind r k from) ∙ met))
+]
+
+-- once all blocks of a read's range were read, so were its bytes
+pub all_read : (key : List ℕ) (tree : Loaded) (a b : FileState) (r : ByteRange) (size at count k : ℕ) (into : List ℕ) → r ≡ read_range size at count → end_block r ≤ k
+    → AreRead key tree a b r k into → AreBytes key tree a b at into (r.last - r.first)
+all_read key tree a b r size at count k into is ends read = record {
+  pages = read.pages;
+  read = λ j met. let there = in_range j met in read.read j (omega (arith, before_end r j there, ends)) there;
+  are = λ i among. subst (λ (n : ℕ). get_or into i 0 ≡ get_or (read.pages ((n + i) / 4096)) ((n + i) % 4096) 0) (range_place r size at count i is among)
+      (read.are i among (range_ends r k i ends among));
+}
+  where
+    in_range : (j : ℕ) → meets at (at + (r.last - r.first)) j ≡ true → meets r.first r.last j ≡ true
+    in_range j met = sym (range_meets r size at count j is) ∙ sym (ap (λ (n : ℕ). meets at (at + n) j) (range_count r size at count is)) ∙ met
+
+-- calls that were counted
+pub no_calls : (arms : Arms) (k first : ℕ) → k ≡ first → arms ≡ after_calls (k - first) arms
+no_calls arms k first is = let none : k - first ≡ 0 = omega arith in sym (ap (λ (n : ℕ). after_calls n arms) none)
+
+pub one_call : (old mid new : Arms) (k first : ℕ) → first ≤ k → mid ≡ after_calls (k - first) old → new ≡ count_call mid → new ≡ after_calls (k + 1 - first) old
+one_call old mid new k first le before step =
+    let more : suc (k - first) ≡ k + 1 - first = omega arith in
+    step ∙ ap count_call before ∙ ap (λ (n : ℕ). after_calls n old) more
+
+blocks_in_order : (r : ByteRange) → first_block r ≤ end_block r
+blocks_in_order r = elim (cases_lt r.first r.last) [ inl some ↦ grind (arith, some) | inr none ↦ grind (arith, none) ]
+
+pub all_calls : (old new : Arms) (r s : ByteRange) (k : ℕ) → r ≡ s → end_block r ≤ k → (first_block r ≤ end_block r → k ≤ end_block r) → new ≡ after_calls (k - first_block r) old → new ≡ after_calls (blocks_of s) old
+all_calls old new r s k is past within calls =
+    let all : k - first_block r ≡ blocks_of r = omega (arith, past, within (blocks_in_order r)) in
+    calls ∙ ap (λ (n : ℕ). after_calls n old) all ∙ ap (λ (x : ByteRange). after_calls (blocks_of x) old) is
+
+-- a page in the midst of other bytes
+module _ (r : ByteRange) (k : ℕ) (before page : List ℕ) (low : r.first ≤ 4096 * k) (high : 4096 * (k + 1) ≤ r.last) (room : r.last ≤ r.first + length before) (long : length page ≡ 4096) where
+  abbrev begin : ℕ
+  begin = 4096 * k - r.first
+
+  put : (i : ℕ) → get_or (put_mid begin 4096 before page) i 0 ≡ if nat_le begin i && nat_lt i (begin + 4096) then get_or page (i - begin) 0 else get_or before i 0
+  put i = byte-put before page begin 4096 i (omega (arith, low, high, room)) long
+
+  page_given : (i : ℕ) → get_or (put_mid begin 4096 before page) i 0 ≡ given_byte r k page i (get_or before i 0)
+  page_given i = elim (cases_lt i begin) [
+    | inl early ↦ grind (arith, put i, early, low, high)
+    | inr from ↦ elim (cases_lt i (begin + 4096)) [
+      | inl within ↦
+          let place : i - begin ≡ r.first + i - 4096 * k = omega (arith, low, from) in
+          let here : get_or page (i - begin) 0 ≡ get_or page (r.first + i - 4096 * k) 0 = ap (λ (n : ℕ). get_or page n 0) place in
+          grind (arith, put i, from, within, low, high, here)
+      | inr late ↦ grind (arith, put i, late, low, high)
+    ]
+  ]
+
+  page_behind : KeepsBehind r before (put_mid begin 4096 before page)
+  page_behind i behind = grind (arith, put i, behind, low, high)
+
+  -- a block that was read where its bytes belong
+  pub part_inside : (key : List ℕ) (tree : Loaded) (b c : FileState) (A : Type 0) (result : Result A TreeFault) → PageAnswer key tree b c k result page
+      → PartAnswer key tree b c r k before (put_mid begin 4096 before page) result
+  part_inside key tree b c A (Ok done) answer = record { page = page; read = answer; given = page_given }
+  part_inside key tree b c A (Err (BadTag bad want found)) answer = (answer.0, answer.1, page_behind)
+  part_inside key tree b c A (Err (Failed count)) answer = page_behind
+  part_inside key tree b c A (Err (BadHead h g)) answer = absurd answer
+  part_inside key tree b c A (Err (Short end need)) answer = absurd answer
+  part_inside key tree b c A (Err (Damaged n want found)) answer = absurd answer
+  part_inside key tree b c A (Err (NoEntropy count)) answer = absurd answer
+  part_inside key tree b c A (Err NoMemory) answer = absurd answer

@@ -1,5 +1,5 @@
 -- The bytes that a stage opens to.
-use Rattle.std.proofs.Common.{◌≡◌, ◌∙◌, ℕ, ◌+◌, ◌*◌, ◌<◌, ◌≤◌, max, List, [], length, Option, Result, Ok, Err, IfSome, IsSome, OnOk, ap, sym, subst, refl, arith}
+use Rattle.std.proofs.Common.{◌≡◌, ◌∙◌, ℕ, ◌+◌, ◌*◌, ◌<◌, ◌≤◌, max, List, [], length, Option, Result, Ok, Err, IfSome, IsSome, OnOk, ap, sym, subst, refl, arith, get_or, inl, inr}
 use Rattle.disk_model.specs.Bytes.{after_resize, after_write}
 use Rattle.disk_model.proofs.Writes.{length-after_resize}
 use Rattle.node_image.specs.declared.node.RootRef.{RootRef}
@@ -12,7 +12,9 @@ use Rattle.htree_file.specs.Pages.{Opened, opened_in, opened_of, page_in}
 use Rattle.htree_file.specs.Value.{Staged}
 use Rattle.page_bytes.specs.declared.range.ByteRange.{ByteRange}
 use Rattle.page_bytes.specs.Changed.{IsChanged}
-use Rattle.page_bytes.specs.Pages.{bytes_from, page_at}
+use Rattle.page_bytes.specs.Pages.{byte_in, bytes_from, page_at}
+use Rattle.page_bytes.specs.Rewriting.{changed_byte}
+use Rattle.std.proofs.lemmas.Bool.{cases_lt}
 use Rattle.page_bytes.specs.Ranges.{resize_range, write_range}
 use Rattle.page_bytes.proofs.Content.{bytes-resized, bytes-written, length-after_write, length-bytes_from}
 use Rattle.block_file.specs.NewPages.{IsRewriting}
@@ -35,6 +37,15 @@ changed r at bytes size was now is = record {
 blocks_reach : (size : ℕ) → size ≤ 4096 * greatest_of size
 blocks_reach size = omega arith
 
+write_behind : (old at : ℕ) (bytes : List ℕ) (p was : ℕ) → max old (at + length bytes) ≤ p → changed_byte (write_range old at (length bytes)) at bytes p was ≡ 0
+write_behind old at bytes p was past = grind (arith, past)
+
+resize_behind : (old size p was : ℕ) → size ≤ p → changed_byte (resize_range old size) size [] p was ≡ 0
+resize_behind old size p was past = elim (cases_lt p (max size old)) [
+  | inl below ↦ grind (arith, past, below)
+  | inr behind ↦ grind (arith, past, behind)
+]
+
 -- a change that lays bytes is a write
 pub leaves_written : (key wrapped before after : List ℕ) (root next : RootRef) (tree : Loaded) (at : ℕ) (bytes : List ℕ) → load_of before root ≡ Ok tree
     → LeavesRewritten key wrapped before root after next (write_range tree.head.length at (length bytes)) at bytes (max tree.head.length (at + length bytes))
@@ -56,6 +67,11 @@ leaves_written key wrapped before after root next tree at bytes loads leaves wra
         bytes = ap (bytes_from (page_at now.pages) 0) made.size
             ∙ bytes-written old at (greatest_of size) bytes (page_at was.pages) (page_at now.pages) (blocks_reach size) made.met made.missed
             ∙ ap (λ (n : ℕ). after_write (bytes_from (page_at was.pages) 0 n) at bytes) (sym few);
+        behind = λ k i lt met within past.
+            let page = made.met k (subst (λ (n : ℕ). k < n) made.blocks lt) met in
+            let end : length (after_write (bytes_in was) at bytes) ≡ size = length-after_write (bytes_in was) at bytes ∙ ap (λ (n : ℕ). max n (at + length bytes)) long in
+            ap (λ (o : Option (List ℕ)). byte_in o i) page.is ∙ page.rewritten i within
+            ∙ write_behind old at bytes (4096 * k + i) (get_or page.over i 0) (subst (λ (n : ℕ). n ≤ 4096 * k + i) end past);
       },
     )
 
@@ -78,6 +94,10 @@ leaves_resized key wrapped before after root next tree size loads leaves wrap wa
         bytes = ap (bytes_from (page_at now.pages) 0) made.size
             ∙ bytes-resized old size (greatest_of size) (page_at was.pages) (page_at now.pages) (blocks_reach size) made.met made.missed
             ∙ ap (λ (n : ℕ). after_resize (bytes_from (page_at was.pages) 0 n) size) (sym few);
+        behind = λ k i lt met within past.
+            let page = made.met k (subst (λ (n : ℕ). k < n) made.blocks lt) met in
+            ap (λ (o : Option (List ℕ)). byte_in o i) page.is ∙ page.rewritten i within
+            ∙ resize_behind old size (4096 * k + i) (get_or page.over i 0) (subst (λ (n : ℕ). n ≤ 4096 * k + i) (length-after_resize (bytes_in was) size) past);
       },
     )
 

@@ -1,12 +1,13 @@
 -- What the stage of a change opens to, by the pages that were made for it.
 use Rattle.std.proofs.Common.{◌≡◌, ◌∙◌, inl, inr, ℕ, ◌+◌, ◌-◌, ◌*◌, ◌<◌, ◌≤◌, ◌⊎◌, min, List, length, get_or, Option, None, Some, Result, Ok, Err, true, IfErr, IfSome, IsSome, OnOk, ap, sym, subst, refl, arith}
+use Rattle.std.specs.List.{range_with_len}
+use Rattle.tree_paths.specs.Staged.{IsWithinBudget}
 use Rattle.std.proofs.lemmas.Bool.{cases_lt, false≢true}
 use Rattle.aes_block.specs.WrappedKey.{unwrapped_of}
 use Rattle.disk_model.specs.State.{FileState}
-use Rattle.disk_model.specs.Calls.{GoesOn, Rests}
-use Rattle.disk_model.proofs.Goings.{first_known}
+use Rattle.disk_model.specs.Calls.{GoesOn, Known, Rests}
+use Rattle.disk_model.proofs.Goings.{first_known, then_known}
 use Rattle.htree_file.specs.Value.{Staged}
-use Rattle.htree_file.proofs.Causes.{told_then}
 use Rattle.node_image.specs.declared.node.RootRef.{RootRef}
 use Rattle.node_image.specs.Layout.{greatest_of}
 use Rattle.node_image.specs.Selection.{row}
@@ -14,7 +15,7 @@ use Rattle.node_image.proofs.Matching.{length-row, row_at}
 use Rattle.htree_file.specs.declared.fault.TreeFault.{TreeFault}
 use Rattle.htree_file.specs.declared.fault.TreeFault.TheVariants.{BadHead, BadTag, Damaged, Failed, NoEntropy, NoMemory, Short}
 use Rattle.htree_file.specs.declared.change.BlockChange.{BlockChange}
-use Rattle.htree_file.specs.Changes.{AreChanges, OpensAfter, opened_after, page_after, page_for}
+use Rattle.htree_file.specs.Changes.{AreChanges, OpensAfter, SealsAt, SealsChanges, changed_blocks, opened_after, page_after, page_for}
 use Rattle.htree_file.specs.Making.{IsDeviceFault}
 use Rattle.htree_file.specs.Opening.{IsVerified, Loaded, load_of}
 use Rattle.htree_file.specs.Pages.{Opened, opened_in, page_in}
@@ -25,8 +26,9 @@ use Rattle.page_bytes.specs.Ranges.{end_block, first_block, meets, needs}
 use Rattle.page_bytes.proofs.Content.{meets-blocks, not-meets-before, not-meets-behind}
 use Rattle.block_file.specs.NewPages.{AreNewPages, IsRewriting, Reaches}
 use Rattle.block_file.specs.Reads.{BlocksAnswer}
-use Rattle.block_file.specs.Stages.{LeavesRewritten}
+use Rattle.block_file.specs.Stages.{LeavesRewritten, SealsRange, WritesRange, changed_of}
 use Rattle.block_file.proofs.ChangeLists.{AreChanges-run, page_for-missed}
+use Rattle.block_file.proofs.NewPages.{new_page_first}
 use Rattle.block_file.proofs.Reading.{page_first, page_stands, told_first}
 
 -- what follows for a stage holds of the one that is there
@@ -153,11 +155,36 @@ module _ (key : List ℕ) (tree : Loaded) (r : ByteRange) (at : ℕ) (bytes : Li
 -- so it is of an answer that succeeds, after calls that change nothing and are followed
 pub rewritten_then : (old : FileState) (mid new : FileState) (A : Type 0) (result : Result A TreeFault) (stage : Option Staged) (tree : Loaded) (root : RootRef)
     (P Q : Staged → Type 0) → Rests old mid → GoesOn mid new
-    → OnOk result (Told mid new → load_of mid.reads root ≡ Ok tree → IfSome stage P)
+    → OnOk result (Known mid new → load_of mid.reads root ≡ Ok tree → IfSome stage P)
     → (Told old mid → load_of old.reads root ≡ Ok tree → (s : Staged) → P s → Q s)
     → OnOk result (Told old new → load_of old.reads root ≡ Ok tree → IfSome stage Q)
 rewritten_then old mid new A (Ok done) stage tree root P Q rests goes was then = λ told loads.
     let known = first_known old mid new goes told.1 in
     let same : mid.reads ≡ old.reads = rests.reads known in
-    some_then stage P Q (then (told_first old mid new goes told) loads) (was (told_then old mid new rests.goes_on told) (ap (λ (l : List ℕ). load_of l root) same ∙ loads))
+    some_then stage P Q (then (told_first old mid new goes told) loads) (was (then_known old mid new rests.goes_on told.1) (ap (λ (l : List ℕ). load_of l root) same ∙ loads))
 rewritten_then old mid new A (Err fault) stage tree root P Q rests goes was then = tt
+
+-- what the nodes of a stage seal, by the pages that were made for it
+pub seals_range : (key : List ℕ) (tree : Loaded) (r : ByteRange) (at : ℕ) (bytes : List ℕ) (size first upto : ℕ) (a b c : FileState) (changes : List BlockChange)
+    → first ≡ first_block r → upto ≡ min (end_block r) (greatest_of size) → first ≤ upto → AreNewPages key tree a b r at bytes changes first upto → GoesOn b c
+    → (A : Type 0) (result : Result A TreeFault) (stage : Option Staged)
+    → OnOk result (IfSome stage (λ s. SealsChanges key tree s.tree changes)) → OnOk result (IfSome stage (λ s. SealsRange key tree s.tree a c r at bytes size))
+seals_range key tree r at bytes size first upto a b c changes begins ends forward made goes A (Ok done) stage seals =
+    some_then stage (λ s. SealsChanges key tree s.tree changes) (λ s. SealsRange key tree s.tree a c r at bytes size) (λ s each. record {
+      met = λ k lt from below.
+          let page = made.pages k (omega (arith, from, begins)) (omega (arith, below, ends)) in
+          (page.0, subst (λ (o : Option (List ℕ)). SealsAt key tree s.tree k o) page.1 (each k lt), new_page_first key tree r at bytes a b c goes k page.0 page.2);
+      missed = λ k lt out.
+          let outside : (k < first) ⊎ (first + (upto - first) ≤ k) = elim out [ inl low ↦ inl (omega (arith, low, begins)) | inr high ↦ inr (omega (arith, high, ends, forward)) ] in
+          subst (λ (o : Option (List ℕ)). SealsAt key tree s.tree k o) (page_for-missed changes first (upto - first) k made.blocks outside) (each k lt);
+    }) seals
+seals_range key tree r at bytes size first upto a b c changes begins ends forward made goes A (Err fault) stage seals = tt
+
+-- and what it wrote
+pub writes_range : (r : ByteRange) (size before first upto : ℕ) (changes : List BlockChange) (old mid new : FileState) → first ≡ first_block r → upto ≡ min (end_block r) (greatest_of size)
+    → changed_blocks changes ≡ range_with_len first (upto - first) → mid.written ≡ old.written
+    → IsWithinBudget (changed_blocks changes) before (greatest_of size) mid.written new.written → WritesRange r size before old new
+writes_range r size before first upto changes old mid new begins ends are same within =
+    let blocks : changed_blocks changes ≡ changed_of r size = are ∙ (λ i. range_with_len (begins i) (ends i - begins i)) in
+    inr (subst (λ (w : ℕ). IsWithinBudget (changed_of r size) before (greatest_of size) w new.written) same
+    (subst (λ (l : List ℕ). IsWithinBudget l before (greatest_of size) mid.written new.written) blocks within))

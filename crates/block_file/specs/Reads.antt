@@ -1,5 +1,6 @@
 -- What reading blocks of a tree says, whatever the file is.
-use Rattle.std.specs.Prelude.{◌≡◌, ℕ, ◌+◌, ◌/◌, ◌%◌, ◌<◌, List, get_or, Some, None, Bool, true, Result, Ok, Err, IsTrue}
+use Rattle.std.specs.Prelude.{◌≡◌, ℕ, zero, suc, ◌+◌, ◌-◌, ◌/◌, ◌%◌, ◌<◌, List, get_or, Some, None, Bool, true, Result, Ok, Err, IsTrue}
+use Rattle.disk_model.specs.Arms.{Arms, count_call}
 use Rattle.disk_model.specs.State.{FileState}
 use Rattle.node_image.specs.Tables.{at_node}
 use Rattle.htree_file.specs.declared.fault.TreeFault.{TreeFault}
@@ -7,6 +8,8 @@ use Rattle.htree_file.specs.declared.fault.TreeFault.TheVariants.{BadTag, Failed
 use Rattle.htree_file.specs.Opening.{Loaded}
 use Rattle.htree_file.specs.Pages.{block_in, page_of, tag_of}
 use Rattle.htree_file.specs.Standing.{Told}
+use Rattle.page_bytes.specs.declared.range.ByteRange.{ByteRange}
+use Rattle.page_bytes.specs.Ranges.{end_block, first_block, meets}
 
 -- Block k was read as that page: a ciphertext with the tag of its node deciphers to it. Where the file is followed, it is the
 -- one that stands there.
@@ -38,15 +41,21 @@ BlocksAnswer key tree old new asked (Ok answer) = (k : ℕ) → asked k ≡ true
 BlocksAnswer key tree old new asked (Err (BadTag k want found)) = IsFirstBad key tree old new asked k want found
 BlocksAnswer key tree old new asked (Err fault) = Unit {0}
 
--- byte p was read as this: it is the one of its block's page
-pub record IsByte (key : List ℕ) (tree : Loaded) (old new : FileState) (p byte : ℕ) : Type 0 where
-  pub page : List ℕ
-  pub read : IsPage key tree old new (p / 4096) page
-  pub is : get_or page (p % 4096) 0 ≡ byte
+-- These bytes, from a place on, were read: each block that has one of them was read as one page, and they are the bytes of these
+-- pages.
+pub record AreBytes (key : List ℕ) (tree : Loaded) (old new : FileState) (at : ℕ) (bytes : List ℕ) (count : ℕ) : Type 0 where
+  pub pages : ℕ → List ℕ
+  pub read : (k : ℕ) → meets at (at + count) k ≡ true → IsPage key tree old new k (pages k)
+  pub are : (i : ℕ) → i < count → get_or bytes i 0 ≡ get_or (pages ((at + i) / 4096)) ((at + i) % 4096) 0
 
--- so was each of these bytes, from a place on
-abbrev pub AreBytes : (key : List ℕ) → Loaded → (old new : FileState) → (at : ℕ) → (bytes : List ℕ) → (count : ℕ) → Type 0
-AreBytes key tree old new at bytes count = (i : ℕ) → i < count → IsByte key tree old new (at + i) (get_or bytes i 0)
+-- so many calls more
+abbrev pub after_calls : ℕ → Arms → Arms
+after_calls zero arms = arms
+after_calls (suc n) arms = count_call (after_calls n arms)
+
+-- how many blocks have a byte of the range
+abbrev pub blocks_of : ByteRange → ℕ
+blocks_of r = end_block r - first_block r
 
 -- what reading can answer: that a block is bad, or that a call of the file failed
 abbrev pub IsReadFault : TreeFault → Type 0
@@ -59,6 +68,12 @@ abbrev pub IsChangeFault : TreeFault → Type 0
 IsChangeFault (NoEntropy count) = Unit {0}
 IsChangeFault NoMemory = Unit {0}
 IsChangeFault fault = IsReadFault fault
+
+-- a fault that is found before anything is drawn or written: a bad block, or want of memory
+abbrev pub IsEarlyFault : TreeFault → Type 0
+IsEarlyFault NoMemory = Unit {0}
+IsEarlyFault (BadTag k want found) = Unit {0}
+IsEarlyFault fault = ⊥
 
 -- a block is bad
 abbrev pub IsBadTag : TreeFault → Type 0

@@ -2,18 +2,19 @@
 
 ghost use Rattle.std.specs.Prelude.{◌≡◌, ◌+◌, ◌<◌, ◌≤◌, ◌^◌, ℕ, [], length, max, true, None, IfErr, IfSome, OnOk, Result};
 ghost use Rattle.disk_model.specs.Bytes.{after_resize, after_write};
-ghost use Rattle.disk_model.specs.Calls.{Rests};
+ghost use Rattle.disk_model.specs.Calls.{Known, Rests};
 ghost use Rattle.node_image.specs.Layout.{greatest_of};
 ghost use Rattle.htree_file.specs.Answers.{HasCause};
-ghost use Rattle.htree_file.specs.Changes.{AreChanges, OpensAfter};
-ghost use Rattle.htree_file.specs.Making.{DrawCause, IsDeviceFault, NotEntropy};
+ghost use Rattle.htree_file.specs.Changes.{AreChanges, OpensAfter, SealsChanges, changed_blocks};
+ghost use Rattle.htree_file.specs.Making.{HasCauses, IsDeviceFault, IsDrawFault};
 ghost use Rattle.htree_file.specs.Opening.{IsVerified, load_of};
 ghost use Rattle.htree_file.specs.Standing.{Told};
+ghost use Rattle.tree_paths.specs.Staged.{IsWithinBudget};
 ghost use Rattle.page_bytes.specs.Ranges.{needs, resize_range, write_range};
 ghost use Rattle.page_bytes.specs.Rewriting.{Fits};
 ghost use Rattle.block_file.specs.NewPages.{NeededAnswer, NewPageAnswer, NewPagesAnswer, Reaches};
-ghost use Rattle.block_file.specs.Reads.{BlocksAnswer, IsBadTag, IsChangeFault};
-ghost use Rattle.block_file.specs.Stages.{LeavesBytes, LeavesRewritten, StageAnswer};
+ghost use Rattle.block_file.specs.Reads.{BlocksAnswer, IsChangeFault, IsEarlyFault};
+ghost use Rattle.block_file.specs.Stages.{LeavesBytes, LeavesRewritten, SealsRange, StageAnswer, WritesRange};
 
 use crate::file::BlockFile;
 use htree_file::{BlockChange, Page, TreeFault};
@@ -92,8 +93,16 @@ impl<F: StoreFile> BlockFile<F> {
         Ok(changes)
     }
 
-    // Stages a tree of so many bytes, with these changes.
-    fn stage_changes<E: Entropy>(
+    /// Writes a tree of so many bytes with these pages in place of the old ones into the version that the committed tree does not
+    /// select, and leaves it open as a stage. Reads nothing, and takes no memory.
+    ///
+    /// `changes` are the blocks that change, in their order, with one for each new block.
+    ///
+    /// # Errors
+    ///
+    /// `NoEntropy` where a draw failed; no call of the file was made. `Failed` where a call of the file failed. No stage is open
+    /// then.
+    pub fn stage_pages<E: Entropy>(
         &mut self,
         size: u64,
         changes: &[BlockChange],
@@ -103,14 +112,17 @@ impl<F: StoreFile> BlockFile<F> {
         requires few { size ≤ 1048576 }
         requires changes { AreChanges self.old.tree.head.greatest (greatest_of size) changes.now }
         ensures staged { StageAnswer F.state self.old self.new size result }
-        ensures opened { OnOk result (Told (F.state self.old.file) (F.state self.new.file) →
+        ensures untouched { IfErr result (λ e. IsDrawFault e → self.new ≡ self.old) }
+        ensures budget { IsWithinBudget (changed_blocks changes.now) self.old.tree.head.greatest (greatest_of size)
+            (F.state self.old.file).written (F.state self.new.file).written }
+        ensures opened { OnOk result (Known (F.state self.old.file) (F.state self.new.file) →
             load_of (F.state self.old.file).reads self.old.root ≡ Result.Ok self.old.tree →
             IfSome self.new.stage (λ s. OpensAfter self.old.key self.old.tree.head.wrapped
             (F.state self.old.file).reads self.old.root (F.state self.new.file).reads s.root size changes.now)) }
-        ensures fault { IfErr result IsDeviceFault }
-        ensures draws { DrawCause (E.faults entropy.old) (E.faults entropy.new) result }
-        ensures reliable { E.is_reliable entropy.old → E.is_reliable entropy.new }
-        ensures drawn { E.is_reliable entropy.old → IfErr result NotEntropy }
+        // Of any file.
+        ensures seals { OnOk result (IfSome self.new.stage (λ s. SealsChanges self.old.key self.old.tree s.tree changes.now)) }
+        ensures causes { HasCauses IsDeviceFault (F.state self.old.file) (F.state self.new.file) (E.faults entropy.old) (E.faults entropy.new)
+            (E.is_reliable entropy.old) (E.is_reliable entropy.new) result }
     {
         self.tree.stage(size, changes, entropy)
     }
@@ -132,21 +144,23 @@ impl<F: StoreFile> BlockFile<F> {
         requires fits { Fits range at (length bytes.now) }
         requires reaches { Reaches range size }
         ensures staged { StageAnswer F.state self.old self.new size result }
+        ensures budget { WritesRange range size self.old.tree.head.greatest (F.state self.old.file) (F.state self.new.file) }
+        ensures seals { OnOk result (IfSome self.new.stage (λ s. SealsRange self.old.key self.old.tree s.tree
+            (F.state self.old.file) (F.state self.new.file) range at bytes.now size)) }
         ensures rewritten { OnOk result (Told (F.state self.old.file) (F.state self.new.file) →
             load_of (F.state self.old.file).reads self.old.root ≡ Result.Ok self.old.tree →
             IfSome self.new.stage (λ s. LeavesRewritten self.old.key self.old.tree.head.wrapped
             (F.state self.old.file).reads self.old.root (F.state self.new.file).reads s.root range at bytes.now size)) }
         ensures blocks { BlocksAnswer self.old.key self.old.tree (F.state self.old.file) (F.state self.new.file) (needs range) result }
-        ensures early { IfErr result (λ e. IsBadTag e → Rests (F.state self.old.file) (F.state self.new.file) × (entropy.new ≡ entropy.old)) }
-        ensures fault { IfErr result IsChangeFault }
-        ensures draws { DrawCause (E.faults entropy.old) (E.faults entropy.new) result }
-        ensures reliable { E.is_reliable entropy.old → E.is_reliable entropy.new }
-        ensures drawn { E.is_reliable entropy.old → IfErr result NotEntropy }
+        ensures early { IfErr result (λ e. IsEarlyFault e → Rests (F.state self.old.file) (F.state self.new.file) × (entropy.new ≡ entropy.old)) }
+        ensures undrawn { IfErr result (λ e. IsDrawFault e → Rests (F.state self.old.file) (F.state self.new.file)) }
+        ensures causes { HasCauses IsChangeFault (F.state self.old.file) (F.state self.new.file) (E.faults entropy.old) (E.faults entropy.new)
+            (E.is_reliable entropy.old) (E.is_reliable entropy.new) result }
     {
         let (first, end) = (range.first_block(), range.end_block());
         let upto = end.min(greatest_node(size));
         let changes = self.new_pages(alloc, range, at, bytes, first, upto)?;
-        self.stage_changes(size, &changes, entropy)
+        self.stage_pages(size, &changes, entropy)
     }
 
     /// Writes bytes from the place `at` on, with zero between the old end and that place, into the version that the committed
@@ -158,8 +172,8 @@ impl<F: StoreFile> BlockFile<F> {
     /// # Errors
     ///
     /// `BadTag` names the first of these blocks that has not the tag of its node, as the file reads when the call ends; nothing
-    /// was drawn or written then. Besides `Failed`, where a call of the file failed, `NoEntropy`, where a draw failed, and
-    /// `NoMemory`. No stage is open then.
+    /// was drawn or written then, nor for `NoMemory`. `NoEntropy` where a draw failed, before anything was written. Besides
+    /// `Failed`, where a call of the file failed. No stage is open then.
     pub fn stage_write<E: Entropy>(
         &mut self,
         alloc: Global,
@@ -170,7 +184,14 @@ impl<F: StoreFile> BlockFile<F> {
         requires idle { self.old.stage ≡ None }
         requires few { at + length bytes.now ≤ 1048576 }
         ensures staged { StageAnswer F.state self.old self.new (max self.old.tree.head.length (at + length bytes.now)) result }
-        // The stage's reference opens to the old bytes with these.
+        // It writes no more than the write budget has for the blocks that the change meets.
+        ensures budget { WritesRange (write_range self.old.tree.head.length at (length bytes.now))
+            (max self.old.tree.head.length (at + length bytes.now)) self.old.tree.head.greatest (F.state self.old.file) (F.state self.new.file) }
+        // Of any file.
+        ensures seals { OnOk result (IfSome self.new.stage (λ s. SealsRange self.old.key self.old.tree s.tree
+            (F.state self.old.file) (F.state self.new.file) (write_range self.old.tree.head.length at (length bytes.now)) at bytes.now
+            (max self.old.tree.head.length (at + length bytes.now)))) }
+        // The stage's reference opens to the old bytes with these, and zero behind the last one.
         ensures written { OnOk result (Told (F.state self.old.file) (F.state self.new.file) →
             load_of (F.state self.old.file).reads self.old.root ≡ Result.Ok self.old.tree →
             IfSome self.new.stage (λ s. LeavesBytes self.old.key self.old.tree.head.wrapped
@@ -178,12 +199,11 @@ impl<F: StoreFile> BlockFile<F> {
             (write_range self.old.tree.head.length at (length bytes.now)) (λ old. after_write old at bytes.now))) }
         ensures blocks { BlocksAnswer self.old.key self.old.tree (F.state self.old.file) (F.state self.new.file)
             (needs (write_range self.old.tree.head.length at (length bytes.now))) result }
-        ensures early { IfErr result (λ e. IsBadTag e → Rests (F.state self.old.file) (F.state self.new.file) × (entropy.new ≡ entropy.old)) }
+        ensures early { IfErr result (λ e. IsEarlyFault e → Rests (F.state self.old.file) (F.state self.new.file) × (entropy.new ≡ entropy.old)) }
+        ensures undrawn { IfErr result (λ e. IsDrawFault e → Rests (F.state self.old.file) (F.state self.new.file)) }
         ensures verified { IsVerified self.old.root self.old.tree }
-        ensures fault { IfErr result IsChangeFault }
-        ensures draws { DrawCause (E.faults entropy.old) (E.faults entropy.new) result }
-        ensures reliable { E.is_reliable entropy.old → E.is_reliable entropy.new }
-        ensures drawn { E.is_reliable entropy.old → IfErr result NotEntropy }
+        ensures causes { HasCauses IsChangeFault (F.state self.old.file) (F.state self.new.file) (E.faults entropy.old) (E.faults entropy.new)
+            (E.is_reliable entropy.old) (E.is_reliable entropy.new) result }
     {
         let old = self.length();
         let range = ByteRange::of_write(old, at, bytes.len() as u64);
@@ -208,6 +228,12 @@ impl<F: StoreFile> BlockFile<F> {
         requires idle { self.old.stage ≡ None }
         requires few { size ≤ 1048576 }
         ensures staged { StageAnswer F.state self.old self.new size result }
+        // It writes no more than the write budget has for the blocks that the change meets and that hold bytes afterwards.
+        ensures budget { WritesRange (resize_range self.old.tree.head.length size) size self.old.tree.head.greatest
+            (F.state self.old.file) (F.state self.new.file) }
+        // Of any file.
+        ensures seals { OnOk result (IfSome self.new.stage (λ s. SealsRange self.old.key self.old.tree s.tree
+            (F.state self.old.file) (F.state self.new.file) (resize_range self.old.tree.head.length size) size [] size)) }
         // The stage's reference opens to the old bytes, cut or with zero behind them.
         ensures resized { OnOk result (Told (F.state self.old.file) (F.state self.new.file) →
             load_of (F.state self.old.file).reads self.old.root ≡ Result.Ok self.old.tree →
@@ -216,12 +242,11 @@ impl<F: StoreFile> BlockFile<F> {
             (resize_range self.old.tree.head.length size) (λ old. after_resize old size))) }
         ensures blocks { BlocksAnswer self.old.key self.old.tree (F.state self.old.file) (F.state self.new.file)
             (needs (resize_range self.old.tree.head.length size)) result }
-        ensures early { IfErr result (λ e. IsBadTag e → Rests (F.state self.old.file) (F.state self.new.file) × (entropy.new ≡ entropy.old)) }
+        ensures early { IfErr result (λ e. IsEarlyFault e → Rests (F.state self.old.file) (F.state self.new.file) × (entropy.new ≡ entropy.old)) }
+        ensures undrawn { IfErr result (λ e. IsDrawFault e → Rests (F.state self.old.file) (F.state self.new.file)) }
         ensures verified { IsVerified self.old.root self.old.tree }
-        ensures fault { IfErr result IsChangeFault }
-        ensures draws { DrawCause (E.faults entropy.old) (E.faults entropy.new) result }
-        ensures reliable { E.is_reliable entropy.old → E.is_reliable entropy.new }
-        ensures drawn { E.is_reliable entropy.old → IfErr result NotEntropy }
+        ensures causes { HasCauses IsChangeFault (F.state self.old.file) (F.state self.new.file) (E.faults entropy.old) (E.faults entropy.new)
+            (E.is_reliable entropy.old) (E.is_reliable entropy.new) result }
     {
         let range = ByteRange::of_resize(self.length(), size);
         self.stage_range(alloc, size, range, size, &[], entropy)

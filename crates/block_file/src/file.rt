@@ -1,7 +1,8 @@
 //! Bytes over a tree.
 
-ghost use Rattle.std.specs.Prelude.{◌≡◌, ◌+◌, ◌-◌, ◌<◌, ◌≤◌, ◌++◌, length, drop, min, true, None, IfErr, IfOk, IfSome, IsSome, IsSomeAnd, IsTrue, OnErr, OnOk, Result};
-ghost use Rattle.disk_model.specs.Calls.{Known, Rests};
+ghost use Rattle.std.specs.Prelude.{◌≡◌, ◌+◌, ◌-◌, ◌*◌, ◌<◌, ◌≤◌, ◌++◌, length, drop, min, true, None, IfErr, IfOk, IfSome, IsSome, IsSomeAnd, IsTrue, OnErr, OnOk, Result};
+ghost use Rattle.disk_model.specs.Arms.{count_call};
+ghost use Rattle.disk_model.specs.Calls.{Known, Rests, Syncs};
 ghost use Rattle.disk_model.specs.Keeps.{Anywhere, Keeps};
 ghost use Rattle.htree_file.specs.Answers.{HasCause, IsFailed};
 ghost use Rattle.htree_file.specs.Opening.{IsVerified, load_of};
@@ -9,9 +10,9 @@ ghost use Rattle.htree_file.specs.Pages.{page_in};
 ghost use Rattle.htree_file.specs.Selected.{KeepsFirm};
 ghost use Rattle.htree_file.specs.Standing.{IsFirm, Told};
 ghost use Rattle.page_bytes.specs.Pages.{bytes_from};
-ghost use Rattle.page_bytes.specs.Ranges.{meets};
+ghost use Rattle.page_bytes.specs.Ranges.{meets, read_range};
 ghost use Rattle.block_file.specs.Parts.{PageAnswer, PartAnswer};
-ghost use Rattle.block_file.specs.Reads.{AreBytes, BlocksAnswer, IsReadFault};
+ghost use Rattle.block_file.specs.Reads.{AreBytes, BlocksAnswer, IsReadFault, after_calls, blocks_of};
 
 use htree_file::{Page, Tree, TreeFault};
 use node_image::RootRef;
@@ -26,22 +27,17 @@ pub struct BlockFile<F: StoreFile> {
 }
 
 impl<F: StoreFile> Model for BlockFile<F> {
-    ghost use Rattle.std.specs.Prelude.{IfSome};
-    ghost use Rattle.htree_file.specs.Opening.{IsVerified};
     ghost use Rattle.htree_file.specs.Value.{TreeValue};
 
     ghost Value = { TreeValue F };
 
     ghost view = { λ b. b.tree };
-
-    ghost invariant = { λ b. IsVerified b.tree.root b.tree.tree × IfSome b.tree.stage (λ s. IsVerified s.root s.tree) };
 }
 
 impl<F: StoreFile> BlockFile<F> {
     /// The bytes of a tree without a stage, which was made or loaded.
     pub fn new(tree: Tree<F>) -> BlockFile<F>
-        requires idle { tree.stage ≡ None }
-        requires verified { IsVerified tree.root tree.tree }
+        requires { tree.stage ≡ None }
         ensures { result ≡ tree }
     {
         BlockFile { tree }
@@ -60,6 +56,7 @@ impl<F: StoreFile> BlockFile<F> {
     pub(crate) fn read_page(&mut self, k: u32, page: &mut Page) -> Result<(), TreeFault>
         requires { k < self.old.tree.head.greatest }
         ensures answer { PageAnswer self.old.key self.old.tree (F.state self.old.file) (F.state self.new.file) k result page.new }
+        ensures once { IsTrue (F.state self.old.file).tells_arms → (F.state self.new.file).arms ≡ count_call (F.state self.old.file).arms }
         ensures same { self.new ≡ record self.old { file = self.new.file } }
         ensures rests { Rests (F.state self.old.file) (F.state self.new.file) }
         ensures cause { HasCause (F.state self.old.file) (F.state self.new.file) result }
@@ -67,11 +64,41 @@ impl<F: StoreFile> BlockFile<F> {
         self.tree.read_block(k, page)
     }
 
-    // Reads block k, and puts those of its bytes that are in the range where they belong.
-    fn read_part(&mut self, range: ByteRange, k: u32, into: &mut [u8]) -> Result<(), TreeFault>
+    // Reads block k into as many bytes as a block has.
+    fn read_whole(&mut self, k: u32, into: &mut [u8]) -> Result<(), TreeFault>
+        requires block { k < self.old.tree.head.greatest }
+        requires long { length into.old ≡ 4096 }
+        ensures answer { PageAnswer self.old.key self.old.tree (F.state self.old.file) (F.state self.new.file) k result into.new }
+        ensures once { IsTrue (F.state self.old.file).tells_arms → (F.state self.new.file).arms ≡ count_call (F.state self.old.file).arms }
+        ensures same { self.new ≡ record self.old { file = self.new.file } }
+        ensures rests { Rests (F.state self.old.file) (F.state self.new.file) }
+        ensures cause { HasCause (F.state self.old.file) (F.state self.new.file) result }
+    {
+        let page = into.first_chunk_mut::<4096>().unwrap();
+        self.read_page(k, page)
+    }
+
+    // Reads block k, of which all bytes are in the range, where they belong.
+    fn read_inside(&mut self, range: ByteRange, k: u32, into: &mut [u8]) -> Result<(), TreeFault>
+        requires block { k < self.old.tree.head.greatest }
+        requires room { range.last ≤ range.first + length into.old }
+        requires whole { (range.first ≤ 4096 * k) × (4096 * (k + 1) ≤ range.last) }
+        ensures answer { PartAnswer self.old.key self.old.tree (F.state self.old.file) (F.state self.new.file) range k into.old into.new result }
+        ensures once { IsTrue (F.state self.old.file).tells_arms → (F.state self.new.file).arms ≡ count_call (F.state self.old.file).arms }
+        ensures same { self.new ≡ record self.old { file = self.new.file } }
+        ensures rests { Rests (F.state self.old.file) (F.state self.new.file) }
+        ensures cause { HasCause (F.state self.old.file) (F.state self.new.file) result }
+    {
+        let begin = (4096 * u64::from(k) - range.first) as usize;
+        self.read_whole(k, &mut into[begin..begin + 4096])
+    }
+
+    // Reads block k, and copies those of its bytes that are in the range where they belong.
+    fn read_split(&mut self, range: ByteRange, k: u32, into: &mut [u8]) -> Result<(), TreeFault>
         requires block { k < self.old.tree.head.greatest }
         requires room { range.last ≤ range.first + length into.old }
         ensures answer { PartAnswer self.old.key self.old.tree (F.state self.old.file) (F.state self.new.file) range k into.old into.new result }
+        ensures once { IsTrue (F.state self.old.file).tells_arms → (F.state self.new.file).arms ≡ count_call (F.state self.old.file).arms }
         ensures same { self.new ≡ record self.old { file = self.new.file } }
         ensures rests { Rests (F.state self.old.file) (F.state self.new.file) }
         ensures cause { HasCause (F.state self.old.file) (F.state self.new.file) result }
@@ -82,8 +109,25 @@ impl<F: StoreFile> BlockFile<F> {
         Ok(())
     }
 
+    // Reads block k, and puts those of its bytes that are in the range where they belong.
+    fn read_part(&mut self, range: ByteRange, k: u32, into: &mut [u8]) -> Result<(), TreeFault>
+        requires block { k < self.old.tree.head.greatest }
+        requires room { range.last ≤ range.first + length into.old }
+        ensures answer { PartAnswer self.old.key self.old.tree (F.state self.old.file) (F.state self.new.file) range k into.old into.new result }
+        ensures once { IsTrue (F.state self.old.file).tells_arms → (F.state self.new.file).arms ≡ count_call (F.state self.old.file).arms }
+        ensures same { self.new ≡ record self.old { file = self.new.file } }
+        ensures rests { Rests (F.state self.old.file) (F.state self.new.file) }
+        ensures cause { HasCause (F.state self.old.file) (F.state self.new.file) result }
+    {
+        if range.has_whole(k) {
+            self.read_inside(range, k, into)
+        } else {
+            self.read_split(range, k, into)
+        }
+    }
+
     /// Reads bytes from the place `at` on into the front of `into`, fewer where the end is nearer, and says how many.
-    /// It reads each block that has one of these bytes, once. Takes no memory.
+    /// It reads each block that has one of these bytes, once, and deciphers a whole one where its bytes belong. Takes no memory.
     ///
     /// # Errors
     ///
@@ -95,6 +139,9 @@ impl<F: StoreFile> BlockFile<F> {
         ensures bytes { IfOk result (λ n. AreBytes self.old.key self.old.tree (F.state self.old.file) (F.state self.new.file) at into.new n) }
         ensures blocks { BlocksAnswer self.old.key self.old.tree (F.state self.old.file) (F.state self.new.file)
             (meets at (at + min (length into.old) (self.old.tree.head.length - at))) result }
+        // Each block is read once, and nothing else is asked of the file.
+        ensures once { IfOk result (λ n. IsTrue (F.state self.old.file).tells_arms → (F.state self.new.file).arms
+            ≡ after_calls (blocks_of (read_range self.old.tree.head.length at (length into.old))) (F.state self.old.file).arms) }
         // Of a file that can be followed.
         ensures content { IfOk result (λ n. Told (F.state self.old.file) (F.state self.new.file) →
             into.new ≡ bytes_from (page_in (F.state self.old.file).reads self.old.key self.old.tree) at n ++ drop n into.old) }
@@ -122,6 +169,7 @@ impl<F: StoreFile> BlockFile<F> {
         requires open { IsSome self.old.stage }
         ensures settled { IfOk result (λ root. IfSome self.old.stage (λ s.
             (root ≡ s.root) × (self.new.stage ≡ Some (record s { settled = true })))) }
+        ensures synced { OnOk result (Syncs (F.state self.old.file) (F.state self.new.file)) }
         ensures open { OnErr result (self.new.stage ≡ self.old.stage) }
         ensures same { self.new ≡ record self.old { file = self.new.file; stage = self.new.stage } }
         ensures reads { Known (F.state self.old.file) (F.state self.new.file) →

@@ -8,7 +8,5 @@
 mod arms;
 mod change;
 mod file;
-#[cfg(test)]
-mod tests;
 
 pub use file::BlockFile;

@@ -67,11 +67,11 @@ module _ (entries : List (Option DirEntry)) (none : first_double entries 0 (leng
       ∙ like_none entries (get_or entries b None) 0 b (double_none entries 0 (length entries) none b (omega arith) (let long = below entries b f there in omega arith)) a (omega arith) (omega arith)
 
   names_apart : (a b : ℕ) (e f : DirEntry) → entry_at entries a ≡ Some e → entry_at entries b ≡ Some f → a < b → is_eq (name_cmp (name_of e) (name_of f)) ≡ false
-  names_apart a b e f at there lt = (either_false (is_eq (name_cmp (name_of e) (name_of f))) (e.file == f.file) (two a b e f at there lt)).0
+  names_apart a b e f at there lt = (either_false (is_eq (name_cmp (name_of e) (name_of f))) _ (two a b e f at there lt)).0
 
   files_apart : (a b : ℕ) (e f : DirEntry) → entry_at entries a ≡ Some e → entry_at entries b ≡ Some f → a < b → e.file ≢ f.file
   files_apart a b e f at there lt same =
-      true≢false (sym (eq-eqb e.file f.file same) ∙ (either_false (is_eq (name_cmp (name_of e) (name_of f))) (e.file == f.file) (two a b e f at there lt)).1)
+      true≢false (sym (eq-eqb e.file f.file same) ∙ (either_false _ (e.file == f.file) (two a b e f at there lt)).1)
 
   -- Entries without a double have distinct names,
   pub names_distinct : AreDistinct entries

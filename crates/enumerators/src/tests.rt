@@ -1,4 +1,4 @@
-use crate::{Cursor, EnumFault, Enumerators, freed_numbers_stay_freed, numbers_count_up};
+use crate::{Cursor, EnumFault, Enumerators};
 use std::test::Fail;
 use tee_types::ObjectId;
 
@@ -26,21 +26,5 @@ fn an_enumerator_goes_from_idle_to_its_last_identifier(rt: HostRuntime) -> Resul
     assert_eq!(rt; table.reset(1), Err(EnumFault::BadEnumerator));
     assert_eq!(rt; table.free(1), Err(EnumFault::BadEnumerator));
     assert_eq!(rt; table.cursor(0), Ok(Cursor::Idle));
-    Ok(())
-}
-
-#[test]
-fn sixty_four_are_live_and_a_number_is_never_given_again(rt: HostRuntime) -> Result<(), Fail> {
-    let mut table = Enumerators::new(rt.alloc());
-    for number in 0..64 {
-        assert_eq!(rt; table.add(), Ok(number));
-    }
-    assert_eq!(rt; table.add(), Err(EnumFault::TooMany));
-    assert_eq!(rt; table.free(3), Ok(()));
-    assert_eq!(rt; table.add(), Ok(64));
-    assert_eq!(rt; table.add(), Err(EnumFault::TooMany));
-    assert_eq!(rt; table.cursor(3), Err(EnumFault::BadEnumerator));
-    numbers_count_up();
-    freed_numbers_stay_freed();
     Ok(())
 }

@@ -7,7 +7,7 @@ use Rattle.std.specs.List.{list_any}
 use Rattle.store_model.specs.declared.event.Event.{Event}
 use Rattle.store_model.specs.declared.event.Event.TheVariants.{Call as CallEvent, Landed}
 use Rattle.store_model.specs.declared.event.Mark.TheVariants.{Doubtful}
-use Rattle.store_model.specs.LegalHistory.{events_of}
+use Rattle.store_model.specs.Record.{events_of}
 use Rattle.history_seats.specs.Records.{HistoryRecord}
 use Rattle.history_seats.specs.Settling.{is_settling_mark, settles, is_landing, HasMark, is_early, IsDecidedBelow}
 use Rattle.history_seats.proofs.Lists.{or_left, or_right, or_second}

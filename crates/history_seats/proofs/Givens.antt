@@ -1,35 +1,35 @@
 -- What a slot's view tells of its file after the whole history.
-use Rattle.std.proofs.Common.{◌≡◌, ℕ, suc, ◌+◌, ◌<◌, ◌≤◌, ◌==◌, List, [], ◌∷◌, ◌++◌, length, Bool, true, false, true≢false, cond, not, ◌&&◌, ◌||◌, Option, Some, None, refl, sym, ap, ◌∙◌, subst, inl, inr, ⊎_elim, arith, length-append, append_assoc}
+use Rattle.std.proofs.Common.{◌≡◌, ℕ, suc, ◌+◌, ◌<◌, ◌≤◌, List, [], ◌∷◌, ◌++◌, length, Bool, true, false, true≢false, cond, not, ◌&&◌, Option, Some, None, refl, sym, ap, ◌∙◌, subst, inl, inr, ⊎_elim, arith, length-append, append_assoc}
 use Rattle.std.proofs.lemmas.Bool.{lt-ltb, le-leb}
 use Rattle.std.proofs.lemmas.List.Sums.{fold-append}
-use Rattle.std.specs.Prelude.{filter, nat_le, slice_index_or}
+use Rattle.std.specs.Prelude.{nat_le, slice_index_or}
 use Rattle.std.specs.List.{list_any, fold}
-use Rattle.tee_types.specs.declared.call.Call.{Call}
-use Rattle.tee_types.specs.declared.call.Call.TheVariants.{Create, Rename, Delete}
+use Rattle.std.specs.Option.{option_map}
 use Rattle.store_model.specs.declared.event.Event.{Event}
 use Rattle.store_model.specs.declared.event.Event.TheVariants.{Call as CallEvent, Landed}
 use Rattle.store_model.specs.declared.event.Mark.{Mark}
 use Rattle.store_model.specs.declared.event.Mark.TheVariants.{Unchanged, Made, Doubtful}
-use Rattle.store_model.specs.declared.name.ObjectName.{ObjectName}
-use Rattle.store_model.specs.Name.{name_eq}
-use Rattle.store_model.specs.Record.{Tag}
-use Rattle.store_model.specs.LegalHistory.{events_of}
-use Rattle.history_seats.specs.Records.{Version, HistoryRecord, Begins, names_file, names_object, concerns_file}
-use Rattle.history_seats.specs.Settling.{Pending, landed, settled_by_mark, settled_by, settles, is_landing, is_doubtful, HasMark, is_doubtful_mark, settling, settled, is_early, IsDecidedBelow, IsOpenDoubt}
+use Rattle.store_model.specs.Record.{Tag, concerns_file, events_of, is_file}
+use Rattle.history_seats.specs.Records.{Version, HistoryRecord, IsUpToDate, concerns_object, is_object}
+use Rattle.history_seats.specs.Settling.{Pending, as_landed, settled_by_mark, settled_by, settles, is_landing, is_doubtful, HasMark, is_doubtful_mark, settling, settled, is_early, IsDecidedBelow, IsOpenDoubt}
 use Rattle.history_seats.specs.Mounts.{Entry, Mounted}
-use Rattle.history_seats.specs.Versions.{is_entry_of, mounted_version, version_after, version_next, version_of}
-use Rattle.history_seats.specs.Directory.{with_name, entries_committed, entries_marked, entries_after, entries_next, mounted_entries, directory_of, has_entry, given_version}
-use Rattle.history_seats.specs.Laws.{IsGiven}
-use Rattle.history_seats.proofs.Lists.{either_bool, neither, or_kept, or_right}
+use Rattle.history_seats.specs.Versions.{mounted_version, version_after, version_next, version_of}
+use Rattle.history_seats.specs.Directory.{entries_committed, entries_marked, entries_after, entries_next, mounted_entries, directory_of, has_entry, given_version}
+use Rattle.history_seats.specs.VersionLaws.{IsGiven}
+use Rattle.history_seats.proofs.Lists.{either_bool, neither}
 use Rattle.history_seats.proofs.Parts.{settled-all, part-kept}
+use Rattle.history_seats.proofs.DoubtedEntries.{has_committed}
 
 -- a tag that names another file names another object
-other_object : (file generation : ℕ) (tag : Option (Tag Version)) → names_file file tag ≡ false → names_object file generation tag ≡ false
-other_object file generation None e = refl
-other_object file generation (Some tag) e = rw e refl
+other-tag : (file generation : ℕ) (tag : Option (Tag Version)) → is_file file (option_map (λ t. t.file) tag) ≡ false → is_object file generation tag ≡ false
+other-tag file generation None e = refl
+other-tag file generation (Some tag) e = rw e refl
+
+pub other-object : (file generation : ℕ) (r : HistoryRecord) → concerns_file file r ≡ false → concerns_object file generation r ≡ false
+other-object file generation r e = other-tag file generation r.tag e
 
 -- records whose tags do not name the object
-version-past : (file generation : ℕ) (those : HistoryRecord → Bool) → ((r : HistoryRecord) → those r ≡ false → names_object file generation r.tag ≡ false)
+version-past : (file generation : ℕ) (those : HistoryRecord → Bool) → ((r : HistoryRecord) → those r ≡ false → concerns_object file generation r ≡ false)
     → (p : Pending (Option Version)) (records : List HistoryRecord) → list_any those records ≡ false
     → fold (version_next file generation) p records ≡ settled (settling records) p
 version-past file generation those other p records lacks =
@@ -37,61 +37,26 @@ version-past file generation those other p records lacks =
     (λ q r rs fine off. ap (λ (b : Bool). cond b (version_after r.event r.tag q) (settled_by r.event q)) (other r off))
     (λ q r rs fine. tt) p records tt lacks
 
-pub version-last : (file generation : ℕ) (mounted : Mounted) (front back : List HistoryRecord) (r : HistoryRecord) → names_object file generation r.tag ≡ true
-    → list_any (λ x. names_object file generation x.tag) back ≡ false
+pub version-last : (file generation : ℕ) (mounted : Mounted) (front back : List HistoryRecord) (r : HistoryRecord) → concerns_object file generation r ≡ true
+    → list_any (concerns_object file generation) back ≡ false
     → version_of file generation mounted (front ++ r ∷ back) ≡ settled (settling back) (version_after r.event r.tag (version_of file generation mounted front))
 version-last file generation mounted front back r own lacks =
     let known = version_of file generation mounted front in
     fold-append (version_next file generation) (mounted_version file generation mounted) front (r ∷ back)
-    ∙ version-past file generation (λ x. names_object file generation x.tag) (λ x e. e) (version_next file generation known r) back lacks
+    ∙ version-past file generation (concerns_object file generation) (λ x e. e) (version_next file generation known r) back lacks
     ∙ ap (λ (b : Bool). settled (settling back) (cond b (version_after r.event r.tag known) (settled_by r.event known))) own
 
-pub version-whole : (file generation : ℕ) (mounted : Mounted) (seen whole : List HistoryRecord) (b : Begins (concerns_file file) seen whole)
+pub version-whole : (file generation : ℕ) (mounted : Mounted) (seen whole : List HistoryRecord) (b : IsUpToDate (concerns_file file) seen whole)
     → version_of file generation mounted whole ≡ settled (settling b.rest) (version_of file generation mounted seen)
 version-whole file generation mounted seen whole b =
     ap (fold (version_next file generation) (mounted_version file generation mounted)) (sym b.is)
     ∙ fold-append (version_next file generation) (mounted_version file generation mounted) seen b.rest
-    ∙ version-past file generation (concerns_file file) (λ r off. other_object file generation r.tag off) (version_of file generation mounted seen) b.rest b.lacks
-
--- what a filter leaves was there
-any-filter : {A : Type 0} (p q : A → Bool) (xs : List A) → list_any p (filter q xs) ≡ true → list_any p xs ≡ true
-any-filter p q [] h = h
-any-filter p q (x ∷ xs) h = one (q x) (any-filter p q xs) h
-  where
-    one : (b : Bool) → (list_any p (filter q xs) ≡ true → list_any p xs ≡ true) → list_any p (cond b (x ∷ filter q xs) (filter q xs)) ≡ true → (p x || list_any p xs) ≡ true
-    one true hyp e = or_kept (p x) (list_any p (filter q xs)) (list_any p xs) e hyp
-    one false hyp e = or_right (p x) (list_any p xs) (hyp e)
-
--- a name changes no file
-any-renamed : (file generation : ℕ) (tag : Tag Version) (name : ObjectName) (entries : List Entry) → has_entry file generation (with_name tag name entries) ≡ has_entry file generation entries
-any-renamed file generation tag name [] = refl
-any-renamed file generation tag name (e ∷ entries) =
-    ap (λ (b : Bool). b || has_entry file generation (with_name tag name entries)) (one (is_entry_of tag.file tag.generation e))
-    ∙ ap (λ (b : Bool). is_entry_of file generation e || b) (any-renamed file generation tag name entries)
-  where
-    one : (b : Bool) → is_entry_of file generation (cond b (record e { name = name }) e) ≡ is_entry_of file generation e
-    one true = refl
-    one false = refl
-
--- a commit of another file brings no entry of this one
-none-comes : (file generation : ℕ) (application : List ℕ) (call : Call) (tag : Option (Tag Version)) (entries : List Entry) → names_file file tag ≡ false
-    → has_entry file generation (entries_committed application call tag entries) ≡ true → has_entry file generation entries ≡ true
-none-comes file generation application call None entries off h = h
-none-comes file generation application (Create id flags attributes bytes) (Some tag) entries off h =
-    let name : ObjectName = record { app = application; id = id } in
-    any-filter (is_entry_of file generation) (λ e. not (name_eq name e.name)) entries (past (tag.file == file) (tag.generation == generation) _ off h)
-  where
-    past : (b same rest : Bool) → b ≡ false → ((b && same) || rest) ≡ true → rest ≡ true
-    past true same rest e q = absurd (true≢false e)
-    past false same rest e q = q
-none-comes file generation application (Rename handle id) (Some tag) entries off h = sym (any-renamed file generation tag (record { app = application; id = id }) entries) ∙ h
-none-comes file generation application (Delete handle) (Some tag) entries off h = any-filter (is_entry_of file generation) (λ e. not (is_entry_of tag.file tag.generation e)) entries h
-none-comes file generation application _ (Some tag) entries off h = h
+    ∙ version-past file generation (concerns_file file) (λ r off. other-object file generation r off) (version_of file generation mounted seen) b.rest b.lacks
 
 -- no entry of the file is in the first that is not in the second, now or once the doubt landed
 record IsWithin (file generation : ℕ) (p q : Pending (List Entry)) : Type 0 where
   pub now : has_entry file generation p.now ≡ true → has_entry file generation q.now ≡ true
-  pub then : has_entry file generation (landed p).now ≡ true → has_entry file generation (landed q).now ≡ true
+  pub then : has_entry file generation (as_landed p).now ≡ true → has_entry file generation (as_landed q).now ≡ true
 
 within-next : (file generation : ℕ) (applications : List (List ℕ)) (p q : Pending (List Entry)) (r : HistoryRecord) → concerns_file file r ≡ false → IsWithin file generation p q
     → IsWithin file generation (entries_next applications p r) (settled_by r.event q)
@@ -104,7 +69,7 @@ within-next file generation applications p q r off w = one r.event
 
     one : (event : Event) → IsWithin file generation (entries_after applications event r.tag p) (settled_by event q)
     one (CallEvent session number call reply mark) =
-        marked mark (entries_committed (slice_index_or applications session []) call r.tag p.now) (none-comes file generation (slice_index_or applications session []) call r.tag p.now off)
+        marked mark (entries_committed (slice_index_or applications session []) call r.tag p.now) (has_committed file generation (slice_index_or applications session []) call r.tag p.now (other-object file generation r off))
     one (Landed commit) = record { now = w.then; then = w.then }
 
 within-rest : (file generation : ℕ) (applications : List (List ℕ)) (p q : Pending (List Entry)) (records : List HistoryRecord) → list_any (concerns_file file) records ≡ false → IsWithin file generation p q
@@ -115,28 +80,28 @@ within-rest file generation applications p q (r ∷ records) lacks w =
     within-rest file generation applications (entries_next applications p r) (settled_by r.event q) records off.1 (within-next file generation applications p q r off.0 w)
 
 -- an entry of the file after the whole history is one that the beginning tells
-pub entry-whole : (file generation : ℕ) (applications : List (List ℕ)) (mounted : Mounted) (seen whole : List HistoryRecord) (b : Begins (concerns_file file) seen whole)
-    → has_entry file generation (directory_of applications mounted whole).now ≡ true
-    → has_entry file generation (settled (settling b.rest) (directory_of applications mounted seen)).now ≡ true
-entry-whole file generation applications mounted seen whole b h =
-    let known = directory_of applications mounted seen in
-    let parts : directory_of applications mounted whole ≡ fold (entries_next applications) known b.rest =
-    ap (fold (entries_next applications) (mounted_entries mounted)) (sym b.is) ∙ fold-append (entries_next applications) (mounted_entries mounted) seen b.rest in
-    let within = within-rest file generation applications known known b.rest b.lacks (record { now = λ x. x; then = λ x. x }) in
+pub entry-whole : (file generation : ℕ) (mounted : Mounted) (seen whole : List HistoryRecord) (b : IsUpToDate (concerns_file file) seen whole)
+    → has_entry file generation (directory_of mounted whole).now ≡ true
+    → has_entry file generation (settled (settling b.rest) (directory_of mounted seen)).now ≡ true
+entry-whole file generation mounted seen whole b h =
+    let known = directory_of mounted seen in
+    let parts : directory_of mounted whole ≡ fold (entries_next mounted.applications) known b.rest =
+    ap (fold (entries_next mounted.applications) (mounted_entries mounted)) (sym b.is) ∙ fold-append (entries_next mounted.applications) (mounted_entries mounted) seen b.rest in
+    let within = within-rest file generation mounted.applications known known b.rest b.lacks (record { now = λ x. x; then = λ x. x }) in
     sym (ap (λ (x : Pending (List Entry)). has_entry file generation x.now) (settled-all known b.rest))
     ∙ within.now (sym (ap (λ (x : Pending (List Entry)). has_entry file generation x.now) parts) ∙ h)
 
-pub given-whole : (file generation : ℕ) (applications : List (List ℕ)) (mounted : Mounted) (seen whole : List HistoryRecord) (b : Begins (concerns_file file) seen whole)
-    → IsGiven (settled (settling b.rest) (version_of file generation mounted seen)).now (settled (settling b.rest) (directory_of applications mounted seen)).now file generation (given_version applications mounted whole file generation)
-given-whole file generation applications mounted seen whole b = record {
+pub given-whole : (file generation : ℕ) (mounted : Mounted) (seen whole : List HistoryRecord) (b : IsUpToDate (concerns_file file) seen whole)
+    → IsGiven (settled (settling b.rest) (version_of file generation mounted seen)).now (settled (settling b.rest) (directory_of mounted seen)).now file generation (given_version mounted whole file generation)
+given-whole file generation mounted seen whole b = record {
   version = ⊎_elim
-      (λ (y : has_entry file generation (directory_of applications mounted whole).now ≡ true). inr (rw y (ap (λ (x : Pending (Option Version)). x.now) (version-whole file generation mounted seen whole b))))
-      (λ (y : has_entry file generation (directory_of applications mounted whole).now ≡ false). inl (rw y refl))
-      (either_bool (has_entry file generation (directory_of applications mounted whole).now));
+      (λ (y : has_entry file generation (directory_of mounted whole).now ≡ true). inr (rw y (ap (λ (x : Pending (Option Version)). x.now) (version-whole file generation mounted seen whole b))))
+      (λ (y : has_entry file generation (directory_of mounted whole).now ≡ false). inl (rw y refl))
+      (either_bool (has_entry file generation (directory_of mounted whole).now));
   nothing = λ none. ⊎_elim
-      (λ (y : has_entry file generation (directory_of applications mounted whole).now ≡ true). absurd (true≢false (sym (entry-whole file generation applications mounted seen whole b y) ∙ none)))
-      (λ (y : has_entry file generation (directory_of applications mounted whole).now ≡ false). rw y refl)
-      (either_bool (has_entry file generation (directory_of applications mounted whole).now));
+      (λ (y : has_entry file generation (directory_of mounted whole).now ≡ true). absurd (true≢false (sym (entry-whole file generation mounted seen whole b y) ∙ none)))
+      (λ (y : has_entry file generation (directory_of mounted whole).now ≡ false). rw y refl)
+      (either_bool (has_entry file generation (directory_of mounted whole).now));
 }
 
 -- what is early for a doubtful event stays so past the events that do not settle it
@@ -172,7 +137,7 @@ marked-doubtful : (commit : ℕ) (event : Event) → HasMark (Doubtful commit) e
 marked-doubtful commit (CallEvent session number call reply mark) e = ap is_doubtful_mark e
 marked-doubtful commit (Landed n) e = absurd e
 
-pub doubt-stays : (z commit : ℕ) (those : HistoryRecord → Bool) (seen whole : List HistoryRecord) (b : Begins those seen whole) (doubt : IsOpenDoubt commit 0 seen)
+pub doubt-stays : (z commit : ℕ) (those : HistoryRecord → Bool) (seen whole : List HistoryRecord) (b : IsUpToDate those seen whole) (doubt : IsOpenDoubt commit 0 seen)
     → IsDecidedBelow z 0 whole → z ≤ length seen → length doubt.front < z → (event : Event) → settling b.rest ≡ Some event → is_landing event ≡ false
 doubt-stays z commit those seen whole b doubt s within lt =
     let front = doubt.front in
@@ -189,6 +154,6 @@ pub version-snoc : (file generation : ℕ) (mounted : Mounted) (records : List H
     → version_of file generation mounted (records ++ r ∷ []) ≡ version_next file generation (version_of file generation mounted records) r
 version-snoc file generation mounted records r = fold-append (version_next file generation) (mounted_version file generation mounted) records (r ∷ [])
 
-pub directory-snoc : (applications : List (List ℕ)) (mounted : Mounted) (records : List HistoryRecord) (r : HistoryRecord)
-    → directory_of applications mounted (records ++ r ∷ []) ≡ entries_next applications (directory_of applications mounted records) r
-directory-snoc applications mounted records r = fold-append (entries_next applications) (mounted_entries mounted) records (r ∷ [])
+pub directory-snoc : (mounted : Mounted) (records : List HistoryRecord) (r : HistoryRecord)
+    → directory_of mounted (records ++ r ∷ []) ≡ entries_next mounted.applications (directory_of mounted records) r
+directory-snoc mounted records r = fold-append (entries_next mounted.applications) (mounted_entries mounted) records (r ∷ [])

@@ -1,16 +1,19 @@
 -- What each step keeps of the rule: the views that it leaves as they are.
-use Rattle.std.proofs.Common.{◌≡◌, ◌≢◌, ℕ, zero, suc, ◌+◌, ◌%◌, ◌^◌, ◌<◌, ◌≤◌, List, [], ◌∷◌, ◌++◌, length, set, get_or, true≢false, Option, Some, None, refl, sym, ap, subst, ⊎_elim, arith, length-append, length-set}
+use Rattle.std.proofs.Common.{◌≡◌, ◌≢◌, ℕ, zero, suc, ◌+◌, ◌%◌, ◌^◌, ◌<◌, ◌≤◌, List, [], ◌∷◌, ◌++◌, length, set, get_or, Bool, true≢false, Option, Some, None, refl, sym, ap, subst, ⊎_elim, arith, length-append, length-set}
 use Rattle.std.specs.Prelude.{unwrap_or}
 use mathlib.Core.Option.{some, some-ne-none, some-injective}
 use lib.ListN.{get_elem?}
 use Rattle.atomic_table.proofs.Lists.{at_set}
 use Rattle.std.proofs.lemmas.List.Elements.{All-nil}
-use Rattle.history_seats.specs.Records.{HistoryRecord, Begins, IsFaultTagged, concerns_file, is_of_session}
+use Rattle.store_model.specs.Record.{concerns_file}
+use Rattle.history_seats.specs.Records.{HistoryRecord, IsUpToDate, is_of_session}
 use Rattle.history_seats.specs.Settling.{IsDecidedBelow}
+use Rattle.history_seats.specs.Tags.{HasDueTag}
 use Rattle.history_seats.specs.Views.{GateView, SlotView, PassView, Joined, SeatView, alone, new_gate}
 use Rattle.history_seats.specs.Views.SeatView.{Gate, Slot, Pass, Spent}
-use Rattle.history_seats.specs.Rule.{SlotFits, PassFits, Fits, Holds, SeatRule}
+use Rattle.history_seats.specs.Rule.{HasSeen, SlotFits, PassFits, Fits, Holds, SeatRule}
 use Rattle.history_seats.proofs.Lists.{at_snoc, no_some}
+use Rattle.history_seats.proofs.Prefixes.{begins-whole}
 
 -- the rule, read at the gate's own view
 pub at_gate : (words : List ℕ) (views : List SeatView) (id : ℕ) (j : Joined) → SeatRule words views → get_elem? views id ≡ some (Gate j)
@@ -73,21 +76,30 @@ and_new j k id w sa sb pa pb words views h slots passes mine =
     (subst (λ (n : ℕ). Fits k id sb pb n w) (sym (length-set views id (Gate k))) mine)
 
 -- a seat fits a gate with the same records, devices and place
-pub keep_slot : (g h : GateView) (s : SlotView) → h.all ≡ g.all → (g.mounted ≡ Some s.mounted → h.mounted ≡ Some s.mounted) → (g.served ≡ Some s.served → h.served ≡ Some s.served) → h.decided ≡ g.decided → SlotFits g s → SlotFits h s
-keep_slot g h s all mounted served decided f = record {
-  begins = subst (λ (l : List HistoryRecord). Begins (concerns_file s.file) s.seen l) (sym all) f.begins;
-  mounted = mounted f.mounted;
-  served = served f.served;
-  decided_before = subst (λ (z : ℕ). s.decided ≤ z) (sym decided) f.decided_before;
-  decided_seen = f.decided_seen;
-  decided_below = subst (λ (l : List HistoryRecord). IsDecidedBelow s.decided 0 l) (sym all) f.decided_below;
+keep_seen : (those : HistoryRecord → Bool) (z : ℕ) (seen : List HistoryRecord) (g h : GateView) → h.all ≡ g.all → h.decided ≡ g.decided → HasSeen those z seen g → HasSeen those z seen h
+keep_seen those z seen g h all decided f = record {
+  begins = subst (λ (l : List HistoryRecord). IsUpToDate those seen l) (sym all) f.begins;
+  decided_before = subst (λ (n : ℕ). z ≤ n) (sym decided) f.decided_before;
+  decided_within = f.decided_within;
+  decided_below = subst (λ (l : List HistoryRecord). IsDecidedBelow z 0 l) (sym all) f.decided_below;
 }
 
-pub keep_pass : (g h : GateView) (p : PassView) → h.all ≡ g.all → (g.mounted ≡ Some p.mounted → h.mounted ≡ Some p.mounted) → PassFits g p → PassFits h p
-keep_pass g h p all mounted f = record {
-  begins = subst (λ (l : List HistoryRecord). Begins (is_of_session p.session) p.seen l) (sym all) f.begins;
+pub keep_slot : (g h : GateView) (s : SlotView) → h.all ≡ g.all → (g.mounted ≡ Some s.mounted → h.mounted ≡ Some s.mounted) → (g.served ≡ Some s.served → h.served ≡ Some s.served) → h.decided ≡ g.decided → SlotFits g s → SlotFits h s
+keep_slot g h s all mounted served decided f = record {
+  sees = keep_seen (concerns_file s.file) s.decided s.seen g h all decided f.sees;
+  mounted = mounted f.mounted;
+  served = served f.served;
+}
+
+pub keep_pass : (g h : GateView) (p : PassView) → h.all ≡ g.all → (g.mounted ≡ Some p.mounted → h.mounted ≡ Some p.mounted) → h.decided ≡ g.decided → PassFits g p → PassFits h p
+keep_pass g h p all mounted decided f = record {
+  sees = keep_seen (is_of_session p.session) p.decided p.seen g h all decided f.sees;
   mounted = mounted f.mounted;
 }
+
+-- the whole history, seen from the gate's own place
+pub seen-whole : (those : HistoryRecord → Bool) (h : GateView) → h.decided ≤ length h.all → IsDecidedBelow h.decided 0 h.all → HasSeen those h.decided h.all h
+seen-whole those h within below = record { begins = begins-whole those h.all; decided_before = omega arith; decided_within = within; decided_below = below }
 
 -- what was told stays
 pub still_told : {A : Type 0} (o : Option A) (d x : A) → o ≡ Some x → Some (unwrap_or o d) ≡ Some x
@@ -125,7 +137,7 @@ begins = (
         decided_within = omega arith;
         decided_below = tt;
         tags_right = λ mounted e. tt;
-        faults_tagged = All-nil IsFaultTagged;
+        tagged = All-nil HasDueTag;
         numbered = λ session. refl;
         files_distinct = refl;
         sessions_distinct = refl;

@@ -11,6 +11,13 @@ pub mod WordSteps
 pub mod SeatSteps
 pub mod Moves
 pub mod Parts
+pub mod DoubtedEntries
 pub mod Givens
+pub mod Places
+pub mod LearnedDoubts
+pub mod OpenDoubts
+pub mod KnownEntries
+pub mod GivenStays
+pub mod GivenVersions
 pub mod OtherSessions
 pub mod SessionParts

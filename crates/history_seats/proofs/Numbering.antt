@@ -7,11 +7,10 @@ use Rattle.tee_types.specs.declared.call.Call.{Call}
 use Rattle.tee_types.specs.declared.reply.Reply.{Reply}
 use Rattle.store_model.specs.declared.event.Event.{Event}
 use Rattle.store_model.specs.declared.event.Mark.{Mark}
-use Rattle.store_model.specs.Record.{Tag}
+use Rattle.store_model.specs.Record.{Tag, events_of}
 use Rattle.store_model.specs.declared.event.Event.TheVariants.{Call as CallEvent, Landed}
-use Rattle.store_model.specs.History.{numbers_of}
-use Rattle.store_model.specs.LegalHistory.{events_of}
-use Rattle.history_seats.specs.Records.{Version, HistoryRecord, Begins, is_event_of, is_of_session, count_of, AreNumbered}
+use Rattle.store_model.specs.History.{numbers_of, count_of, AreNumbered}
+use Rattle.history_seats.specs.Records.{Version, HistoryRecord, IsUpToDate, is_event_of, is_of_session}
 use Rattle.history_seats.proofs.Lists.{neither}
 
 -- the numbers that one event adds
@@ -55,16 +54,16 @@ step session ns (Landed commit) is next = subst IsNumbered (sym (append-nil ns))
 
 -- the event has its session's next number
 abbrev pub HasNextNumber : List HistoryRecord → Event → Type 0
-HasNextNumber records (CallEvent session number call reply mark) = number ≡ count_of session records
+HasNextNumber records (CallEvent session number call reply mark) = number ≡ count_of session (events_of records)
 HasNextNumber records (Landed commit) = Unit {0}
 
-next_in : (records : List HistoryRecord) (event : Event) → HasNextNumber records event → (session number : ℕ) → number_in session event ≡ number ∷ [] → number ≡ count_of session records
+next_in : (records : List HistoryRecord) (event : Event) → HasNextNumber records event → (session number : ℕ) → number_in session event ≡ number ∷ [] → number ≡ count_of session (events_of records)
 next_in records (CallEvent s n call reply mark) is session number e =
     ⊎_elim
     (λ (y : ((s == session) ≡ true) × (s ≡ session)).
     let found : n ∷ [] ≡ number ∷ [] = sym (ap (λ (b : Bool). cond b (n ∷ []) []) y.0) ∙ e in
     let same : n ≡ number = cc in
-    sym same ∙ is ∙ ap (λ (i : ℕ). count_of i records) y.1)
+    sym same ∙ is ∙ ap (λ (i : ℕ). count_of i (events_of records)) y.1)
     (λ (y : ((s == session) ≡ false) × (s ≡ session → ⊥)).
     let found : [] ≡ number ∷ [] = sym (ap (λ (b : Bool). cond b (n ∷ []) []) y.0) ∙ e in
     absurd (nothing number found))
@@ -77,20 +76,20 @@ next_in records (Landed commit) is session number e = absurd (nothing number e)
     nothing : (m : ℕ) → [] ≡ m ∷ [] → ⊥
     nothing m q = cc
 
-pub numbered-snoc : (records : List HistoryRecord) (r : HistoryRecord) → AreNumbered records → HasNextNumber records r.event → AreNumbered (records ++ r ∷ [])
+pub numbered-snoc : (records : List HistoryRecord) (r : HistoryRecord) → AreNumbered (events_of records) → HasNextNumber records r.event → AreNumbered (events_of (records ++ r ∷ []))
 numbered-snoc records r all next = λ session.
     let parts : numbers_of session (events_of (records ++ r ∷ [])) ≡ numbers_of session (events_of records) ++ number_in session r.event =
     ap (numbers_of session) (map-append (λ (x : HistoryRecord). x.event) records (r ∷ [])) ∙ numbers-append session (events_of records) (r.event ∷ []) in
     subst IsNumbered (sym parts) (step session (numbers_of session (events_of records)) r.event (all session) (next_in records r.event next session))
 
 -- the events of both parts are the events of the whole
-pub count-append : (session : ℕ) (xs ys : List HistoryRecord) → count_of session (xs ++ ys) ≡ count_of session xs + count_of session ys
+pub count-append : (session : ℕ) (xs ys : List HistoryRecord) → count_of session (events_of (xs ++ ys)) ≡ count_of session (events_of xs) + count_of session (events_of ys)
 count-append session xs ys =
     ap length (ap (numbers_of session) (map-append (λ (x : HistoryRecord). x.event) xs ys) ∙ numbers-append session (events_of xs) (events_of ys))
     ∙ length-append (numbers_of session (events_of xs)) (numbers_of session (events_of ys))
 
 -- a call of the session is one more of its events
-pub count-own : (session number : ℕ) (call : Call) (reply : Reply) (mark : Mark) (tag : Option (Tag Version)) → count_of session (record { event = CallEvent session number call reply mark; tag = tag } ∷ []) ≡ 1
+pub count-own : (session number : ℕ) (call : Call) (reply : Reply) (mark : Mark) (tag : Option (Tag Version)) → count_of session (events_of (record { event = CallEvent session number call reply mark; tag = tag } ∷ [])) ≡ 1
 count-own session number call reply mark tag = rw (eq-eqb session session refl) refl
 
 -- where no event is of the session it has no numbers
@@ -105,8 +104,8 @@ none_of session (r ∷ records) e =
     one (Landed commit) off rest = rest
 
 -- a pass knows how many events its session has
-pub count-begins : (session : ℕ) (seen whole : List HistoryRecord) → Begins (is_of_session session) seen whole → count_of session whole ≡ count_of session seen
+pub count-begins : (session : ℕ) (seen whole : List HistoryRecord) → IsUpToDate (is_of_session session) seen whole → count_of session (events_of whole) ≡ count_of session (events_of seen)
 count-begins session seen whole b =
-    let counted : count_of session whole ≡ count_of session seen + count_of session b.rest = ap (count_of session) (sym b.is) ∙ count-append session seen b.rest in
-    let none : count_of session b.rest ≡ 0 = ap length (none_of session b.rest b.lacks) in
+    let counted : count_of session (events_of whole) ≡ count_of session (events_of seen) + count_of session (events_of b.rest) = ap (λ (l : List HistoryRecord). count_of session (events_of l)) (sym b.is) ∙ count-append session seen b.rest in
+    let none : count_of session (events_of b.rest) ≡ 0 = ap length (none_of session b.rest b.lacks) in
     omega arith

@@ -6,14 +6,12 @@ use Rattle.store_model.specs.declared.event.Event.TheVariants.{Call as CallEvent
 use Rattle.store_model.specs.declared.event.Mark.{Mark}
 use Rattle.store_model.specs.declared.event.Mark.TheVariants.{Unchanged, Made, Doubtful}
 use Rattle.history_seats.specs.Records.{HistoryRecord}
-use Rattle.history_seats.specs.Settling.{Pending, landed, settled_by_mark, settled_by, is_settling_mark, settles, settling, settled}
+use Rattle.history_seats.specs.Settling.{Pending, calm, as_landed, settled_by_mark, settled_by, is_settling_mark, settles, settling, settled}
 use Rattle.history_seats.proofs.Lists.{neither}
 
 module _ {X : Type 0} where
-  abbrev pub calm : X → Pending X
-  calm x = record { now = x; if_landed = None }
-
-  calm-settled : (x : X) (o : Option Event) → settled o (calm x) ≡ calm x
+  -- a value that no doubt touches stays so
+  pub calm-settled : (x : X) (o : Option Event) → settled o (calm x) ≡ calm x
   calm-settled x None = refl
   calm-settled x (Some (CallEvent session number call reply mark)) = marked mark
     where
@@ -31,7 +29,7 @@ module _ {X : Type 0} where
       marked Unchanged = refl
       marked (Made commit) = calm-settled p.now o
       marked (Doubtful commit) = calm-settled p.now o
-  settled-twice (Landed commit) p o = calm-settled (landed p).now o
+  settled-twice (Landed commit) p o = calm-settled (as_landed p).now o
 
   -- the events of records, one after the other, do what the settling one does
   pub settled-all : (p : Pending X) (records : List HistoryRecord) → fold (λ q r. settled_by r.event q) p records ≡ settled (settling records) p

@@ -1,12 +1,13 @@
 -- Splits and joins of seats keep the rule.
-use Rattle.std.proofs.Common.{◌≡◌, ◌≢◌, ℕ, ◌==◌, List, [], ◌∷◌, ◌++◌, length, set, true, false, true≢false, Option, Some, None, refl, sym, ap, ◌∙◌, subst, arith, length-set}
+use Rattle.std.proofs.Common.{◌≡◌, ◌≢◌, ℕ, ◌==◌, List, [], ◌∷◌, ◌++◌, length, set, true, false, true≢false, Option, Some, None, refl, sym, ap, ◌∙◌, subst, length-set}
 use Rattle.std.specs.Prelude.{unwrap_or}
 use mathlib.Core.Option.{some}
 use lib.ListN.{get_elem?}
 use Rattle.atomic_table.proofs.Lists.{set_else}
-use Rattle.history_seats.specs.Records.{HistoryRecord, concerns_file, is_of_session}
+use Rattle.store_model.specs.Record.{concerns_file}
+use Rattle.history_seats.specs.Records.{HistoryRecord, is_of_session}
 use Rattle.history_seats.specs.Mounts.{Mounted}
-use Rattle.history_seats.specs.Versions.{AreTagsRight}
+use Rattle.history_seats.specs.Tags.{AreTagsRight}
 use Rattle.history_seats.specs.Views.{SlotView, PassView, Joined, SeatView}
 use Rattle.history_seats.specs.Views.SeatView.{Gate, Slot, Pass, Spent}
 use Rattle.history_seats.specs.Numbers.{is_in}
@@ -16,8 +17,7 @@ use Rattle.history_seats.proofs.Lists.{at_front, at_set_here, no_some, or_right,
 use Rattle.history_seats.proofs.Numbers.{distinct-more}
 use Rattle.history_seats.proofs.Outs.{other_than, not_the_same, out-more, out-again, out-less}
 use Rattle.history_seats.proofs.Held.{held-set, held-snoc, held-more, held-leave, held-enter}
-use Rattle.history_seats.proofs.Prefixes.{begins-whole}
-use Rattle.history_seats.proofs.Keeping.{at_gate, others, set_each, and_new, keep_slot, keep_pass, still_told}
+use Rattle.history_seats.proofs.Keeping.{at_gate, others, set_each, and_new, keep_slot, keep_pass, seen-whole, still_told}
 
 -- the tags are right from the mount that is told, which is the first
 told_tags : (o : Option Mounted) (d : Mounted) (all : List HistoryRecord) → (o ≡ None → all ≡ []) → ((m : Mounted) → o ≡ Some m → AreTagsRight m [] all)
@@ -41,7 +41,7 @@ slot_split told file generation id j new words views kept at =
     let sb = put sa file (Some (length views)) in
     let s = h.agrees.gate in
     let slot_stays : (t : SlotView) → SlotFits g t → SlotFits k.gate t = λ t f. keep_slot g k.gate t refl (still_told g.mounted told.mounted t.mounted) (still_told g.served told.served t.served) refl f in
-    let pass_stays : (p : PassView) → PassFits g p → PassFits k.gate p = λ p f. keep_pass g k.gate p refl (still_told g.mounted told.mounted p.mounted) f in (
+    let pass_stays : (p : PassView) → PassFits g p → PassFits k.gate p = λ p f. keep_pass g k.gate p refl (still_told g.mounted told.mounted p.mounted) refl f in (
       k,
       id,
       sb,
@@ -53,7 +53,7 @@ slot_split told file generation id j new words views kept at =
             (λ t seat out f. (put_else sa file (Some (length views)) t.file (other_than sa g.files file t.file seat h.files_out new out) ∙ out, slot_stays t f))
             (λ p seat out f. (out, pass_stays p f)) (
               put_here sa file (Some (length views)) file refl,
-              record { begins = begins-whole (concerns_file file) g.all; mounted = refl; served = refl; decided_before = omega arith; decided_seen = s.decided_within; decided_below = s.decided_below },
+              record { sees = seen-whole (concerns_file file) k.gate s.decided_within s.decided_below; mounted = refl; served = refl },
             );
         files_held = subst (λ (n : ℕ). AreHeld slot_file (file_taken j.slot) (put sa file (Some n)) (file ∷ g.files) ((set views id (Gate k)) ++ Slot (new_slot told file generation g) ∷ [])) (length-set views id (Gate k)) (held-more slot_file (file_taken j.slot) sa g.files (set views id (Gate k)) (Slot (new_slot told file generation g)) file refl (held-set slot_file (file_taken j.slot) sa j.gate.files views id (Gate j) (Gate k) at refl h.files_held));
         sessions_held = held-snoc pass_session (session_taken j.pass) pa g.sessions (set views id (Gate k)) (Slot (new_slot told file generation g)) (held-set pass_session (session_taken j.pass) pa j.gate.sessions views id (Gate j) (Gate k) at refl h.sessions_held);
@@ -66,7 +66,7 @@ slot_split told file generation id j new words views kept at =
             decided_within = s.decided_within;
             decided_below = s.decided_below;
             tags_right = told_tags g.mounted told.mounted g.all h.unmounted s.tags_right;
-            faults_tagged = s.faults_tagged;
+            tagged = s.tagged;
             numbered = s.numbered;
             files_distinct = distinct-more file g.files new s.files_distinct;
             sessions_distinct = s.sessions_distinct;
@@ -91,7 +91,7 @@ pass_split mounted session id j new words views kept at =
     let pb = put pa session (Some (length views)) in
     let s = h.agrees.gate in
     let slot_stays : (t : SlotView) → SlotFits g t → SlotFits k.gate t = λ t f. keep_slot g k.gate t refl (still_told g.mounted mounted t.mounted) (λ e. e) refl f in
-    let pass_stays : (p : PassView) → PassFits g p → PassFits k.gate p = λ p f. keep_pass g k.gate p refl (still_told g.mounted mounted p.mounted) f in (
+    let pass_stays : (p : PassView) → PassFits g p → PassFits k.gate p = λ p f. keep_pass g k.gate p refl (still_told g.mounted mounted p.mounted) refl f in (
       k,
       id,
       sa,
@@ -102,7 +102,7 @@ pass_split mounted session id j new words views kept at =
         fit = and_new j k id (Pass (new_pass mounted session g)) sa sa pa pb words views h
             (λ t seat out f. (out, slot_stays t f))
             (λ p seat out f. (put_else pa session (Some (length views)) p.session (other_than pa g.sessions session p.session seat h.sessions_out new out) ∙ out, pass_stays p f))
-            (put_here pa session (Some (length views)) session refl, record { begins = begins-whole (is_of_session session) g.all; mounted = refl });
+            (put_here pa session (Some (length views)) session refl, record { sees = seen-whole (is_of_session session) k.gate s.decided_within s.decided_below; mounted = refl });
         files_held = held-snoc slot_file (file_taken j.slot) sa g.files (set views id (Gate k)) (Pass (new_pass mounted session g)) (held-set slot_file (file_taken j.slot) sa j.gate.files views id (Gate j) (Gate k) at refl h.files_held);
         sessions_held = subst (λ (n : ℕ). AreHeld pass_session (session_taken j.pass) (put pa session (Some n)) (session ∷ g.sessions) ((set views id (Gate k)) ++ Pass (new_pass mounted session g) ∷ [])) (length-set views id (Gate k)) (held-more pass_session (session_taken j.pass) pa g.sessions (set views id (Gate k)) (Pass (new_pass mounted session g)) session refl (held-set pass_session (session_taken j.pass) pa j.gate.sessions views id (Gate j) (Gate k) at refl h.sessions_held));
         files_out = h.files_out;
@@ -114,7 +114,7 @@ pass_split mounted session id j new words views kept at =
             decided_within = s.decided_within;
             decided_below = s.decided_below;
             tags_right = told_tags g.mounted mounted g.all h.unmounted s.tags_right;
-            faults_tagged = s.faults_tagged;
+            tagged = s.tagged;
             numbered = s.numbered;
             files_distinct = s.files_distinct;
             sessions_distinct = distinct-more session g.sessions new s.sessions_distinct;

@@ -3,23 +3,23 @@ use Rattle.std.proofs.Common.{◌≡◌, List, [], ◌∷◌, ◌++◌, true≢f
 use Rattle.std.proofs.lemmas.Bool.{eqb-true}
 use Rattle.std.proofs.lemmas.List.{append-nil}
 use Rattle.std.proofs.lemmas.List.Elements.{All-append, All-cons, All-nil}
-use Rattle.history_seats.specs.Records.{HistoryRecord, IsFaultTagged, AreFaultsTagged}
+use Rattle.history_seats.specs.Records.{HistoryRecord}
 use Rattle.history_seats.specs.Mounts.{Mounted}
-use Rattle.history_seats.specs.Versions.{IsTagRight, AreTagsRight}
+use Rattle.history_seats.specs.Tags.{HasRightTag, AreTagsRight, HasDueTag, AreTagged}
 use Rattle.history_seats.specs.Views.{GateView, SlotView, PassView}
 use Rattle.history_seats.specs.Changes.{TagVersions, record_of, together}
 use Rattle.history_seats.specs.Steps.{IsTagIn}
 use Rattle.store_model.specs.declared.event.Event.{Event}
 
-pub tags-snoc : (m : Mounted) (before records : List HistoryRecord) (r : HistoryRecord) → AreTagsRight m before records → IsTagRight m (before ++ records) r → AreTagsRight m before (records ++ r ∷ [])
-tags-snoc m before [] r n e = (subst (λ (l : List HistoryRecord). IsTagRight m l r) (append-nil before) e, tt)
+pub tags-snoc : (m : Mounted) (before records : List HistoryRecord) (r : HistoryRecord) → AreTagsRight m before records → HasRightTag m (before ++ records) r → AreTagsRight m before (records ++ r ∷ [])
+tags-snoc m before [] r n e = (subst (λ (l : List HistoryRecord). HasRightTag m l r) (append-nil before) e, tt)
 tags-snoc m before (x ∷ records) r n e = (
   n.0,
-  tags-snoc m (before ++ x ∷ []) records r n.1 (subst (λ (l : List HistoryRecord). IsTagRight m l r) (sym (append_assoc before (x ∷ []) records)) e),
+  tags-snoc m (before ++ x ∷ []) records r n.1 (subst (λ (l : List HistoryRecord). HasRightTag m l r) (sym (append_assoc before (x ∷ []) records)) e),
 )
 
-pub faults-snoc : (records : List HistoryRecord) (r : HistoryRecord) → AreFaultsTagged records → IsFaultTagged r → AreFaultsTagged (records ++ r ∷ [])
-faults-snoc records r all here = All-append IsFaultTagged records (r ∷ []) all (All-cons IsFaultTagged r [] here (All-nil IsFaultTagged))
+pub tagged-snoc : (records : List HistoryRecord) (r : HistoryRecord) → AreTagged records → HasDueTag r → AreTagged (records ++ r ∷ [])
+tagged-snoc records r all here = All-append HasDueTag records (r ∷ []) all (All-cons HasDueTag r [] here (All-nil HasDueTag))
 
 -- a record's tag names the file of the slot that came with it, and no other
 pub tag_in : (gate : GateView) (pass : Option PassView) (event : Event) (slot : Option SlotView) (left : TagVersions) → IsTagIn (together gate slot pass) (record_of event slot left)

@@ -1,43 +1,34 @@
 -- Steps on the word keep the rule: append, landing, drop of a doubt, retirement, and a look.
-use Rattle.std.proofs.Common.{◌≡◌, ◌≢◌, ℕ, ◌+◌, ◌%◌, ◌^◌, ◌<◌, ◌≤◌, List, [], ◌∷◌, ◌++◌, length, set, get_or, true, false, Option, Some, None, refl, sym, ap, ◌∙◌, subst, ⊎_elim, arith, length-append, ne_eqb}
+use Rattle.std.proofs.Common.{◌≡◌, ◌≢◌, ℕ, ◌+◌, ◌%◌, ◌^◌, ◌<◌, ◌≤◌, List, [], ◌∷◌, ◌++◌, length, set, get_or, Bool, true, false, true≢false, Option, Some, None, refl, sym, ap, ◌∙◌, subst, ⊎_elim, arith, length-append, ne_eqb}
 use mathlib.Core.Option.{some}
 use lib.ListN.{get_elem?}
 use Rattle.store_model.specs.declared.event.Event.{Event}
 use Rattle.store_model.specs.declared.event.Event.TheVariants.{Call as CallEvent, Landed}
-use Rattle.history_seats.specs.Records.{HistoryRecord, concerns_file, is_event_of, is_of_session, count_of}
+use Rattle.store_model.specs.Record.{concerns_file, events_of}
+use Rattle.store_model.specs.History.{count_of}
+use Rattle.history_seats.specs.Records.{HistoryRecord, is_event_of, is_of_session}
 use Rattle.history_seats.specs.Settling.{is_landing, IsDecidedBelow, IsOpenDoubt}
 use Rattle.history_seats.specs.Views.{GateView, SlotView, PassView, Joined, SeatView}
 use Rattle.history_seats.specs.Views.SeatView.{Gate}
 use Rattle.history_seats.specs.Numbers.{is_in, are_distinct}
-use Rattle.history_seats.specs.Rule.{SlotFits, PassFits, IsSound, Agrees, slot_file, pass_session, file_taken, session_taken, AreHeld, SeatRule}
+use Rattle.history_seats.specs.Rule.{HasSeen, SlotFits, PassFits, IsSound, Agrees, slot_file, pass_session, file_taken, session_taken, AreHeld, SeatRule}
 use Rattle.history_seats.specs.Changes.{landing_of, IsNextOf, with_record, slot_renewed, pass_renewed, IsFitting}
 use Rattle.history_seats.specs.Steps.{slots_renewed, passes_renewed, renewed, appended, landing_appended, doubts_dropped, files_left, sessions_left, retired, IsTagIn, IsEventIn}
 use Rattle.history_seats.proofs.Lists.{at_set_here, either_bool, no_some, none_or_some}
 use Rattle.history_seats.proofs.Numbers.{distinct-without}
 use Rattle.history_seats.proofs.Outs.{AllOut, out-without}
 use Rattle.history_seats.proofs.Held.{held-set, held-without}
-use Rattle.history_seats.proofs.Prefixes.{begins-more, begins-whole}
+use Rattle.history_seats.proofs.Prefixes.{begins-more}
 use Rattle.history_seats.proofs.Numbering.{HasNextNumber, numbered-snoc, count-begins}
 use Rattle.history_seats.proofs.Doubts.{decided-snoc, decided-lands, decided-whole, marked-settles}
-use Rattle.history_seats.proofs.Tags.{tags-snoc, faults-snoc}
-use Rattle.history_seats.proofs.Keeping.{at_gate, in_place, keep_slot, keep_pass, counted, same_word}
+use Rattle.history_seats.proofs.Tags.{tags-snoc, tagged-snoc}
+use Rattle.history_seats.proofs.Keeping.{at_gate, in_place, keep_slot, keep_pass, seen-whole, counted, same_word}
 
 -- What such a step has to show: the word becomes n of what it was, and the gate's view changes.
 abbrev pub Keeps : (Joined → Joined) → (ℕ → ℕ) → ℕ → Joined → Type 0
 Keeps change n id j =
     (words : List ℕ) (views : List SeatView) → SeatRule words views → get_elem? views id ≡ some (Gate j)
     → SeatRule (set words 0 (n (get_or words 0 0))) (set views id (Gate (change j))) × (get_or words 0 0 ≡ length j.gate.all) × Agrees j
-
--- a slot that sees all fits
-slot_whole : (h : GateView) (t : SlotView) → h.decided ≤ length h.all → IsDecidedBelow h.decided 0 h.all → h.mounted ≡ Some t.mounted → h.served ≡ Some t.served → SlotFits h (slot_renewed h t)
-slot_whole h t within below mounted served = record {
-  begins = begins-whole (concerns_file t.file) h.all;
-  mounted = mounted;
-  served = served;
-  decided_before = omega arith;
-  decided_seen = within;
-  decided_below = below;
-}
 
 -- what was taken in, once it sees all
 slot_taken : (h : GateView) (P : ℕ → Type 0) (o : Option SlotView) → h.decided ≤ length h.all → IsDecidedBelow h.decided 0 h.all
@@ -47,16 +38,16 @@ slot_taken h P None within below was s e = absurd (no_some s e)
 slot_taken h P (Some t) within below was s e =
     let w = was t refl in
     let same : slot_renewed h t ≡ s = cc (e) in
-    subst (λ (x : SlotView). SlotFits h x × P x.file) same (slot_whole h t within below w.0 w.1, w.2)
+    subst (λ (x : SlotView). SlotFits h x × P x.file) same (record { sees = seen-whole (concerns_file t.file) h within below; mounted = w.0; served = w.1 }, w.2)
 
-pass_taken : (h : GateView) (P : ℕ → Type 0) (o : Option PassView)
+pass_taken : (h : GateView) (P : ℕ → Type 0) (o : Option PassView) → h.decided ≤ length h.all → IsDecidedBelow h.decided 0 h.all
     → ((t : PassView) → o ≡ Some t → (h.mounted ≡ Some t.mounted) × P t.session)
     → (p : PassView) → passes_renewed h o ≡ Some p → PassFits h p × P p.session
-pass_taken h P None was p e = absurd (no_some p e)
-pass_taken h P (Some t) was p e =
+pass_taken h P None within below was p e = absurd (no_some p e)
+pass_taken h P (Some t) within below was p e =
     let w = was t refl in
     let same : pass_renewed h t ≡ p = cc (e) in
-    subst (λ (x : PassView). PassFits h x × P x.session) same (record { begins = begins-whole (is_of_session t.session) h.all; mounted = w.0 }, w.1)
+    subst (λ (x : PassView). PassFits h x × P x.session) same (record { sees = seen-whole (is_of_session t.session) h within below; mounted = w.0 }, w.1)
 
 -- who was taken in is still
 file_stays : (h : GateView) (o : Option SlotView) → file_taken (slots_renewed h o) ≡ file_taken o
@@ -71,15 +62,25 @@ session_stays h (Some t) = refl
 record IsNextCall (p : PassView) (event : Event) : Type 0 where
   pub call : is_landing event ≡ false
   pub own : (session : ℕ) → session ≢ p.session → is_event_of session event ≡ false
-  pub next : (records : List HistoryRecord) → count_of p.session records ≡ count_of p.session p.seen → HasNextNumber records event
+  pub next : (records : List HistoryRecord) → count_of p.session (events_of records) ≡ count_of p.session (events_of p.seen) → HasNextNumber records event
 
 next_call : (p : PassView) (event : Event) → IsNextOf p event → IsNextCall p event
 next_call p (CallEvent s n call reply mark) is = record {
   call = refl;
   own = λ session apart. ne_eqb s session (λ q. apart (sym q ∙ is.0));
-  next = λ records same. is.1 ∙ sym same ∙ ap (λ (i : ℕ). count_of i records) (sym is.0);
+  next = λ records same. is.1 ∙ sym same ∙ ap (λ (i : ℕ). count_of i (events_of records)) (sym is.0);
 }
 next_call p (Landed commit) is = absurd is
+
+-- a record that is none of those comes behind what a seat has seen
+seen-snoc : (those : HistoryRecord → Bool) (z : ℕ) (seen : List HistoryRecord) (r : HistoryRecord) (g : GateView) → HasSeen those z seen g → those r ≡ false → IsDecidedBelow z 0 (g.all ++ r ∷ [])
+    → HasSeen those z seen (with_record r g)
+seen-snoc those z seen r g f off below = record {
+  begins = begins-more those seen g.all r f.begins off;
+  decided_before = f.decided_before;
+  decided_within = f.decided_within;
+  decided_below = below;
+}
 
 -- the history with one more record is sound
 sound-more : (r : HistoryRecord) (g : GateView) → IsSound g → IsDecidedBelow g.decided 0 (g.all ++ r ∷ []) → HasNextNumber g.all r.event → IsFitting g r → IsSound (with_record r g)
@@ -87,7 +88,7 @@ sound-more r g s below next fits = record {
   decided_within = omega (arith, length-append g.all (r ∷ []), s.decided_within);
   decided_below = below;
   tags_right = λ m e. tags-snoc m [] g.all r (s.tags_right m e) (fits.right m e);
-  faults_tagged = faults-snoc g.all r s.faults_tagged fits.fault_tagged;
+  tagged = tagged-snoc g.all r s.tagged fits.tagged;
   numbered = numbered-snoc g.all r s.numbered next;
   files_distinct = s.files_distinct;
   sessions_distinct = s.sessions_distinct;
@@ -106,15 +107,16 @@ append_keeps r id j room tag event fits words views kept at =
     let p = event.0 in
     let mine = (h.agrees.pass p event.1).0 in
     let call = next_call p r.event event.2 in
-    let next : HasNextNumber g.all r.event = call.next g.all (count-begins p.session p.seen g.all mine.begins) in
+    let next : HasNextNumber g.all r.event = call.next g.all (count-begins p.session p.seen g.all mine.sees.begins) in
     let not_out : (file seat : ℕ) → concerns_file file r ≡ true → sa file ≡ Some seat → ⊥ = λ file seat c out.
     let t = tag file c in
     none_or_some seat (sa file) (ap sa (sym t.2) ∙ h.slot_in t.0 t.1) out in
     let below : (z : ℕ) → IsDecidedBelow z 0 g.all → IsDecidedBelow z 0 k.gate.all = λ z s. decided-snoc z 0 g.all r s call.call in
+    let seen_more : (those : HistoryRecord → Bool) (z : ℕ) (seen : List HistoryRecord) → HasSeen those z seen g → those r ≡ false → HasSeen those z seen k.gate = λ those z seen f off. seen-snoc those z seen r g f off (below z f.decided_below) in
     let sound : IsSound k.gate = sound-more r g h.agrees.gate (below g.decided h.agrees.gate.decided_below) next fits in
     let slots = slot_taken k.gate (λ f. (sa f ≡ None) × (is_in f g.files ≡ true)) j.slot sound.decided_within sound.decided_below
     (λ t e. let w = h.agrees.slot t e in (w.0.mounted, w.0.served, (h.slot_in t e, w.1))) in
-    let passes = pass_taken k.gate (λ s. (pa s ≡ None) × (is_in s g.sessions ≡ true)) j.pass
+    let passes = pass_taken k.gate (λ s. (pa s ≡ None) × (is_in s g.sessions ≡ true)) j.pass sound.decided_within sound.decided_below
     (λ t e. let w = h.agrees.pass t e in (w.0.mounted, (h.pass_in t e, w.1))) in (
       (
         k,
@@ -126,15 +128,13 @@ append_keeps r id j room tag event fits words views kept at =
           gate_stands = at_set_here views id (Gate j) (Gate k) at;
           fit = in_place j k id sa pa words views h
               (λ s seat out f. record {
-                begins = ⊎_elim (λ (y : concerns_file s.file r ≡ true). absurd (not_out s.file seat y out)) (λ (y : concerns_file s.file r ≡ false). begins-more (concerns_file s.file) s.seen g.all r f.begins y) (either_bool (concerns_file s.file r));
+                sees = seen_more (concerns_file s.file) s.decided s.seen f.sees
+                    (⊎_elim (λ (y : concerns_file s.file r ≡ true). absurd (not_out s.file seat y out)) (λ (y : concerns_file s.file r ≡ false). y) (either_bool (concerns_file s.file r)));
                 mounted = f.mounted;
                 served = f.served;
-                decided_before = f.decided_before;
-                decided_seen = f.decided_seen;
-                decided_below = below s.decided f.decided_below;
               })
               (λ q seat out f. record {
-                begins = begins-more (is_of_session q.session) q.seen g.all r f.begins (call.own q.session (λ y. none_or_some seat (pa q.session) (ap pa y ∙ h.pass_in p event.1) out));
+                sees = seen_more (is_of_session q.session) q.decided q.seen f.sees (call.own q.session (λ y. none_or_some seat (pa q.session) (ap pa y ∙ h.pass_in p event.1) out));
                 mounted = f.mounted;
               });
           files_held = subst (λ (o : Option ℕ). AreHeld slot_file o sa g.files (set views id (Gate k))) (sym (file_stays k.gate j.slot)) (held-set slot_file (file_taken j.slot) sa g.files views id (Gate j) (Gate k) at refl h.files_held);
@@ -157,7 +157,7 @@ no_middle (x ∷ front) d back e = cc
 
 -- a landing fits anywhere
 landing_fits : (commit : ℕ) (g : GateView) → IsFitting g (landing_of commit)
-landing_fits commit g = record { right = λ m _ tag version e _ _. absurd (no_some tag e); fault_tagged = λ file e. absurd (no_some file e) }
+landing_fits commit g = record { right = λ m _ tag e. absurd (no_some tag e); tagged = record { fault = λ file e. absurd (no_some file e); commit = λ e. absurd (true≢false (sym e)) } }
 
 -- the doubt landed
 pub landing_keeps : (commit id : ℕ) (j : Joined) → length j.gate.all + 1 < 2 ^ 64 → j.slot ≡ None → j.pass ≡ None → IsOpenDoubt commit j.gate.decided j.gate.all
@@ -181,15 +181,8 @@ landing_keeps commit id j room no_slot no_pass doubt words views kept at =
           word = counted words g.all r h.word room;
           gate_stands = at_set_here views id (Gate j) (Gate k) at;
           fit = in_place j k id o.0 o.1 words views h
-              (λ s seat out f. record {
-                begins = begins-more (concerns_file s.file) s.seen g.all r f.begins refl;
-                mounted = f.mounted;
-                served = f.served;
-                decided_before = f.decided_before;
-                decided_seen = f.decided_seen;
-                decided_below = below s.decided f.decided_before f.decided_below;
-              })
-              (λ q seat out f. record { begins = begins-more (is_of_session q.session) q.seen g.all r f.begins refl; mounted = f.mounted });
+              (λ s seat out f. record { sees = seen-snoc (concerns_file s.file) s.decided s.seen r g f.sees refl (below s.decided f.sees.decided_before f.sees.decided_below); mounted = f.mounted; served = f.served })
+              (λ q seat out f. record { sees = seen-snoc (is_of_session q.session) q.decided q.seen r g f.sees refl (below q.decided f.sees.decided_before f.sees.decided_below); mounted = f.mounted });
           files_held = held-set slot_file (file_taken j.slot) o.0 g.files views id (Gate j) (Gate k) at refl h.files_held;
           sessions_held = held-set pass_session (session_taken j.pass) o.1 g.sessions views id (Gate j) (Gate k) at refl h.sessions_held;
           files_out = h.files_out;
@@ -215,7 +208,9 @@ drop_keeps id j no_slot no_pass words views kept at =
     let h = o.2 in
     let g = j.gate in
     let k = doubts_dropped j in
-    let s = h.agrees.gate in (
+    let s = h.agrees.gate in
+    let seen_still : (those : HistoryRecord → Bool) (z : ℕ) (seen : List HistoryRecord) → HasSeen those z seen g → HasSeen those z seen k.gate = λ those z seen f.
+    record { begins = f.begins; decided_before = omega (arith, f.decided_before, s.decided_within); decided_within = f.decided_within; decided_below = f.decided_below } in (
       (
         k,
         id,
@@ -225,15 +220,8 @@ drop_keeps id j no_slot no_pass words views kept at =
           word = same_word words (length g.all) h.word;
           gate_stands = at_set_here views id (Gate j) (Gate k) at;
           fit = in_place j k id o.0 o.1 words views h
-              (λ t seat out f. record {
-                begins = f.begins;
-                mounted = f.mounted;
-                served = f.served;
-                decided_before = omega (arith, f.decided_before, s.decided_within);
-                decided_seen = f.decided_seen;
-                decided_below = f.decided_below;
-              })
-              (λ q seat out f. keep_pass g k.gate q refl (λ e. e) f);
+              (λ t seat out f. record { sees = seen_still (concerns_file t.file) t.decided t.seen f.sees; mounted = f.mounted; served = f.served })
+              (λ q seat out f. record { sees = seen_still (is_of_session q.session) q.decided q.seen f.sees; mounted = f.mounted });
           files_held = held-set slot_file (file_taken j.slot) o.0 g.files views id (Gate j) (Gate k) at refl h.files_held;
           sessions_held = held-set pass_session (session_taken j.pass) o.1 g.sessions views id (Gate j) (Gate k) at refl h.sessions_held;
           files_out = h.files_out;
@@ -245,7 +233,7 @@ drop_keeps id j no_slot no_pass words views kept at =
               decided_within = omega arith;
               decided_below = decided-whole (length g.all) 0 g.all (omega arith);
               tags_right = s.tags_right;
-              faults_tagged = s.faults_tagged;
+              tagged = s.tagged;
               numbered = s.numbered;
               files_distinct = s.files_distinct;
               sessions_distinct = s.sessions_distinct;
@@ -302,7 +290,7 @@ retire_keeps id j words views kept at =
         record {
           word = same_word words (length g.all) h.word;
           gate_stands = at_set_here views id (Gate j) (Gate k) at;
-          fit = in_place j k id sa pa words views h (λ t seat out f. keep_slot g k.gate t refl (λ e. e) (λ e. e) refl f) (λ q seat out f. keep_pass g k.gate q refl (λ e. e) f);
+          fit = in_place j k id sa pa words views h (λ t seat out f. keep_slot g k.gate t refl (λ e. e) (λ e. e) refl f) (λ q seat out f. keep_pass g k.gate q refl (λ e. e) refl f);
           files_held = files_still_held sa g.files (set views id (Gate k)) j.slot s.files_distinct (held-set slot_file (file_taken j.slot) sa g.files views id (Gate j) (Gate k) at refl h.files_held);
           sessions_held = sessions_still_held pa g.sessions (set views id (Gate k)) j.pass s.sessions_distinct (held-set pass_session (session_taken j.pass) pa g.sessions views id (Gate j) (Gate k) at refl h.sessions_held);
           files_out = files_still_out sa g.files j.slot h.slot_in h.files_out;
@@ -314,7 +302,7 @@ retire_keeps id j words views kept at =
               decided_within = s.decided_within;
               decided_below = s.decided_below;
               tags_right = s.tags_right;
-              faults_tagged = s.faults_tagged;
+              tagged = s.tagged;
               numbered = s.numbered;
               files_distinct = files_still_distinct g.files j.slot s.files_distinct;
               sessions_distinct = sessions_still_distinct g.sessions j.pass s.sessions_distinct;
@@ -341,7 +329,7 @@ look_keeps id j words views kept at =
     let s = h.agrees.gate in
     let slots = slot_taken g (λ f. (sa f ≡ None) × (is_in f g.files ≡ true)) j.slot s.decided_within s.decided_below
     (λ t e. let w = h.agrees.slot t e in (w.0.mounted, w.0.served, (h.slot_in t e, w.1))) in
-    let passes = pass_taken g (λ n. (pa n ≡ None) × (is_in n g.sessions ≡ true)) j.pass
+    let passes = pass_taken g (λ n. (pa n ≡ None) × (is_in n g.sessions ≡ true)) j.pass s.decided_within s.decided_below
     (λ t e. let w = h.agrees.pass t e in (w.0.mounted, (h.pass_in t e, w.1))) in (
       (
         k,

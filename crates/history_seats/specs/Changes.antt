@@ -3,9 +3,11 @@ use Rattle.std.specs.Prelude.{◌≡◌, ℕ, [], ◌∷◌, ◌++◌, length, O
 use Rattle.store_model.specs.declared.event.Event.{Event}
 use Rattle.store_model.specs.declared.event.Event.TheVariants.{Call as CallEvent, Landed}
 use Rattle.atomic_table.specs.Seated.{TableId}
-use Rattle.history_seats.specs.Records.{Version, HistoryRecord, count_of, IsFaultTagged}
+use Rattle.store_model.specs.Record.{events_of}
+use Rattle.store_model.specs.History.{count_of}
+use Rattle.history_seats.specs.Records.{Version, HistoryRecord}
 use Rattle.history_seats.specs.Mounts.{Mounted, Served}
-use Rattle.history_seats.specs.Versions.{IsTagRight}
+use Rattle.history_seats.specs.Tags.{HasRightTag, HasDueTag}
 use Rattle.history_seats.specs.Views.{GateView, SlotView, PassView, Joined, Sight, no_mount, no_devices}
 use Rattle.history_seats.specs.Numbers.{without}
 
@@ -32,7 +34,7 @@ landing_of commit = record { event = Landed commit; tag = None }
 
 -- the event is the session's next call
 abbrev pub IsNextOf : PassView → Event → Type 0
-IsNextOf pass (CallEvent session number call reply mark) = (session ≡ pass.session) × (number ≡ count_of pass.session pass.seen)
+IsNextOf pass (CallEvent session number call reply mark) = (session ≡ pass.session) × (number ≡ count_of pass.session (events_of pass.seen))
 IsNextOf pass (Landed commit) = ⊥
 
 -- one more record
@@ -62,14 +64,14 @@ abbrev pub with_pass_out : Mounted → ℕ → GateView → GateView
 with_pass_out mounted session gate = record gate { mounted = Some (unwrap_or gate.mounted mounted); sessions = session ∷ gate.sessions }
 
 abbrev pub new_pass : Mounted → ℕ → GateView → PassView
-new_pass mounted session gate = record { mounted = unwrap_or gate.mounted mounted; seen = gate.all; session = session }
+new_pass mounted session gate = record { mounted = unwrap_or gate.mounted mounted; seen = gate.all; decided = gate.decided; session = session }
 
 -- the slot's view once it sees the whole history, and the pass's
 abbrev pub slot_renewed : GateView → SlotView → SlotView
 slot_renewed gate slot = record slot { seen = gate.all; decided = gate.decided }
 
 abbrev pub pass_renewed : GateView → PassView → PassView
-pass_renewed gate pass = record pass { seen = gate.all }
+pass_renewed gate pass = record pass { seen = gate.all; decided = gate.decided }
 
 -- no doubt of now lands any more
 abbrev pub doubt_dropped : GateView → GateView
@@ -81,10 +83,10 @@ without_slot slot gate = record gate { files = without slot.file gate.files }
 abbrev pub without_pass : PassView → GateView → GateView
 without_pass pass gate = record gate { sessions = without pass.session gate.sessions }
 
--- What a new record has to meet: its tag names the version that stood before it, and a fault of an object file has its tag.
+-- What a new record has to meet: its tag is right, and is there where it is needed.
 pub record IsFitting (gate : GateView) (r : HistoryRecord) : Type 0 where
-  pub right : (mounted : Mounted) → gate.mounted ≡ Some mounted → IsTagRight mounted gate.all r
-  pub fault_tagged : IsFaultTagged r
+  pub right : (mounted : Mounted) → gate.mounted ≡ Some mounted → HasRightTag mounted gate.all r
+  pub tagged : HasDueTag r
 
 -- the view of a seat that may be there
 abbrev pub view_in : Option (Sight SlotView) → Option SlotView

@@ -11,7 +11,7 @@ use Rattle.store_model.specs.declared.name.ObjectName.{ObjectName}
 use Rattle.store_model.specs.Name.{name_eq}
 use Rattle.store_model.specs.Record.{Tag}
 use Rattle.history_seats.specs.Records.{Version, HistoryRecord}
-use Rattle.history_seats.specs.Settling.{Pending, landed}
+use Rattle.history_seats.specs.Settling.{Pending, as_landed}
 use Rattle.history_seats.specs.Mounts.{Entry, Mounted}
 use Rattle.history_seats.specs.Versions.{is_entry_of, version_of}
 
@@ -52,7 +52,7 @@ entries_marked (Doubtful commit) committed p = record { now = p.now; if_landed =
 abbrev pub entries_after : List (List ℕ) → Event → Option (Tag Version) → Pending (List Entry) → Pending (List Entry)
 entries_after applications (CallEvent session number call reply mark) tag p =
     entries_marked mark (entries_committed (slice_index_or applications session []) call tag p.now) p
-entries_after applications (Landed commit) tag p = landed p
+entries_after applications (Landed commit) tag p = as_landed p
 
 -- what one record does to the entries; the sessions are those of these applications
 abbrev pub entries_next : List (List ℕ) → Pending (List Entry) → HistoryRecord → Pending (List Entry)
@@ -62,8 +62,8 @@ abbrev pub mounted_entries : Mounted → Pending (List Entry)
 mounted_entries mounted = record { now = map (λ e. e.entry) mounted.entries; if_landed = None }
 
 -- the directory after these records, from the mount on
-abbrev pub directory_of : List (List ℕ) → Mounted → List HistoryRecord → Pending (List Entry)
-directory_of applications mounted records = fold (entries_next applications) (mounted_entries mounted) records
+abbrev pub directory_of : Mounted → List HistoryRecord → Pending (List Entry)
+directory_of mounted records = fold (entries_next mounted.applications) (mounted_entries mounted) records
 
 -- an entry has that file and generation
 abbrev pub has_entry : (file generation : ℕ) → List Entry → Bool
@@ -71,8 +71,8 @@ has_entry file generation entries = list_any (is_entry_of file generation) entri
 
 -- The version that these records and the mount give for a file's generation: nothing where no directory entry has them after these
 -- records, else the version that stands.
-abbrev pub given_version : List (List ℕ) → Mounted → List HistoryRecord → (file generation : ℕ) → Option Version
-given_version applications mounted records file generation =
-    if has_entry file generation (directory_of applications mounted records).now
+abbrev pub given_version : Mounted → List HistoryRecord → (file generation : ℕ) → Option Version
+given_version mounted records file generation =
+    if has_entry file generation (directory_of mounted records).now
     then (version_of file generation mounted records).now
     else None

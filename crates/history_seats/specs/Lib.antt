@@ -3,10 +3,16 @@ pub mod Settling
 pub mod Mounts
 pub mod Versions
 pub mod Directory
+pub mod Tags
 pub mod Views
 pub mod Numbers
 pub mod Rule
 pub mod Changes
 pub mod Steps
 pub mod Sessions
-pub mod Laws
+pub mod Known
+pub mod DoubtLaws
+pub mod VersionLaws
+pub mod EntryLaws
+pub mod CommitLaws
+pub mod SessionLaws

@@ -14,8 +14,10 @@ pub record MountedEntry : Type 0 where
   pub entry : Entry
   pub version : Version
 
--- The mount: the entries of the directory with their versions, and how many faults each device had counted. File 0 is the directory's.
+-- The mount: the applications of the sessions, the entries of the directory with their versions, and how many faults each device had
+-- counted. File 0 is the directory's.
 pub record Mounted : Type 0 where
+  pub applications : List (List ℕ)
   pub entries : List MountedEntry
   pub file_faults : List ℕ
   pub card_faults : ℕ

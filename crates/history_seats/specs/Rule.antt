@@ -1,11 +1,13 @@
 -- The rule of the table: word 0 is the length of the history, and each seat's view fits the gate's.
-use Rattle.std.specs.Prelude.{◌≡◌, ◌⊎◌, ◌≤◌, ℕ, true, List, [], ◌∷◌, length, Option, Some, None}
+use Rattle.std.specs.Prelude.{◌≡◌, ◌⊎◌, ◌≤◌, ℕ, Bool, true, List, [], ◌∷◌, length, Option, Some, None}
 use mathlib.Core.Option.{some}
 use lib.ListN.{get_elem?}
-use Rattle.history_seats.specs.Records.{Begins, concerns_file, is_of_session, AreNumbered, AreFaultsTagged}
+use Rattle.store_model.specs.Record.{concerns_file, events_of}
+use Rattle.store_model.specs.History.{AreNumbered}
+use Rattle.history_seats.specs.Records.{HistoryRecord, IsUpToDate, is_of_session}
 use Rattle.history_seats.specs.Settling.{IsDecidedBelow}
 use Rattle.history_seats.specs.Mounts.{Mounted}
-use Rattle.history_seats.specs.Versions.{AreTagsRight}
+use Rattle.history_seats.specs.Tags.{AreTagged, AreTagsRight}
 use Rattle.history_seats.specs.Views.{GateView, SlotView, PassView, Joined, SeatView}
 use Rattle.history_seats.specs.Numbers.{is_in, are_distinct}
 use Rattle.history_seats.specs.Views.SeatView.{Gate, Slot, Pass, Spent}
@@ -15,25 +17,29 @@ pub record IsSound (gate : GateView) : Type 0 where
   -- each doubt below its place is decided
   pub decided_within : gate.decided ≤ length gate.all
   pub decided_below : IsDecidedBelow gate.decided 0 gate.all
-  -- each tag names the version that stood before it, and each fault of an object file has its tag
+  -- each tag is right, and each fault of an object file and each commit has its tag
   pub tags_right : (mounted : Mounted) → gate.mounted ≡ Some mounted → AreTagsRight mounted [] gate.all
-  pub faults_tagged : AreFaultsTagged gate.all
-  pub numbered : AreNumbered gate.all
+  pub tagged : AreTagged gate.all
+  pub numbered : AreNumbered (events_of gate.all)
   pub files_distinct : are_distinct gate.files ≡ true
   pub sessions_distinct : are_distinct gate.sessions ≡ true
 
--- A slot's view fits the gate's: past what it has seen no record concerns its file, and each doubt below its place is decided.
+-- What a seat has seen, with its place: past it there is none of those, and each doubt below the place is decided.
+pub record HasSeen (those : HistoryRecord → Bool) (decided : ℕ) (seen : List HistoryRecord) (gate : GateView) : Type 0 where
+  pub begins : IsUpToDate those seen gate.all
+  pub decided_before : decided ≤ gate.decided
+  pub decided_within : decided ≤ length seen
+  pub decided_below : IsDecidedBelow decided 0 gate.all
+
+-- A slot's view fits the gate's: past what it has seen no record concerns its file.
 pub record SlotFits (gate : GateView) (slot : SlotView) : Type 0 where
-  pub begins : Begins (concerns_file slot.file) slot.seen gate.all
+  pub sees : HasSeen (concerns_file slot.file) slot.decided slot.seen gate
   pub mounted : gate.mounted ≡ Some slot.mounted
   pub served : gate.served ≡ Some slot.served
-  pub decided_before : slot.decided ≤ gate.decided
-  pub decided_seen : slot.decided ≤ length slot.seen
-  pub decided_below : IsDecidedBelow slot.decided 0 gate.all
 
 -- A pass's view fits the gate's: past what it has seen no event is of its session.
 pub record PassFits (gate : GateView) (pass : PassView) : Type 0 where
-  pub begins : Begins (is_of_session pass.session) pass.seen gate.all
+  pub sees : HasSeen (is_of_session pass.session) pass.decided pass.seen gate
   pub mounted : gate.mounted ≡ Some pass.mounted
 
 -- what the gate has taken in fits its view, and is out

@@ -2,7 +2,7 @@
 use Rattle.std.specs.Prelude.{◌==◌, ℕ, if◌then◌else◌, Option, Some, None}
 use Rattle.store_model.specs.Machine.{MachineState, Session, session_at}
 use Rattle.store_model.specs.Doubt.{Doubt, session_landed}
-use Rattle.store_model.specs.Legal.{Standing}
+use Rattle.store_model.specs.Standing.{Standing}
 use Rattle.history_seats.specs.Settling.{Pending}
 
 -- the session once the commit in doubt landed, where that commit is its own

@@ -1,13 +1,13 @@
 -- Which version of a file stands, by the tags of the records.
-use Rattle.std.specs.Prelude.{◌≡◌, ℕ, Bool, true, false, ◌==◌, ◌&&◌, if◌then◌else◌, List, [], ◌∷◌, ◌++◌, Option, Some, None}
+use Rattle.std.specs.Prelude.{ℕ, Bool, ◌==◌, ◌&&◌, if◌then◌else◌, List, [], ◌∷◌, Option, Some, None}
 use Rattle.std.specs.List.{fold}
 use Rattle.store_model.specs.declared.event.Event.{Event}
 use Rattle.store_model.specs.declared.event.Event.TheVariants.{Call as CallEvent, Landed}
 use Rattle.store_model.specs.declared.event.Mark.{Mark}
 use Rattle.store_model.specs.declared.event.Mark.TheVariants.{Unchanged, Made, Doubtful}
 use Rattle.store_model.specs.Record.{Tag}
-use Rattle.history_seats.specs.Records.{Version, HistoryRecord, names_object}
-use Rattle.history_seats.specs.Settling.{Pending, landed, settled_by}
+use Rattle.history_seats.specs.Records.{Version, HistoryRecord, concerns_object}
+use Rattle.history_seats.specs.Settling.{Pending, as_landed, settled_by}
 use Rattle.history_seats.specs.Mounts.{MountedEntry, Mounted, Entry}
 
 abbrev pub is_entry_of : (file generation : ℕ) → Entry → Bool
@@ -38,32 +38,13 @@ version_marked (Doubtful commit) tag p = record { now = committed_in tag; if_lan
 -- the version after an event with that tag; a landing has none
 abbrev pub version_after : Event → Option (Tag Version) → Pending (Option Version) → Pending (Option Version)
 version_after (CallEvent session number call reply mark) tag p = version_marked mark tag p
-version_after (Landed commit) tag p = landed p
+version_after (Landed commit) tag p = as_landed p
 
 -- what one record does to the version of a file's generation: its tag says, where it names them, else the event may settle their doubt
 abbrev pub version_next : (file generation : ℕ) → Pending (Option Version) → HistoryRecord → Pending (Option Version)
-version_next file generation p r = if names_object file generation r.tag then version_after r.event r.tag p else settled_by r.event p
+version_next file generation p r = if concerns_object file generation r then version_after r.event r.tag p else settled_by r.event p
 
 -- The version of a file's generation after these records: that of the last tag, or that of its doubtful event once the doubt landed;
 -- where no tag names them, that of the mount.
 abbrev pub version_of : (file generation : ℕ) → Mounted → List HistoryRecord → Pending (Option Version)
 version_of file generation mounted records = fold (version_next file generation) (mounted_version file generation mounted) records
-
-abbrev pub is_made_mark : Mark → Bool
-is_made_mark (Made commit) = true
-is_made_mark _ = false
-
-abbrev pub is_made : Event → Bool
-is_made (CallEvent session number call reply mark) = is_made_mark mark
-is_made (Landed commit) = false
-
--- The tag of an object that is there after its event names the version that stood before it, unless the event made a commit.
-abbrev pub IsTagRight : Mounted → List HistoryRecord → HistoryRecord → Type 0
-IsTagRight mounted before r =
-    (tag : Tag Version) (version : Version) → r.tag ≡ Some tag → tag.committed ≡ Some version → is_made r.event ≡ false
-    → (version_of tag.file tag.generation mounted before).now ≡ Some version
-
--- each record's tag is right behind those before it
-abbrev pub AreTagsRight : Mounted → (before records : List HistoryRecord) → Type 0
-AreTagsRight mounted before [] = Unit {0}
-AreTagsRight mounted before (r ∷ records) = IsTagRight mounted before r × AreTagsRight mounted (before ++ r ∷ []) records

@@ -27,6 +27,7 @@ pub record SlotView : Type 0 where
 pub record PassView : Type 0 where
   pub mounted : Mounted
   pub seen : List HistoryRecord
+  pub decided : ℕ
   pub session : ℕ
 
 -- the gate's view, with the seats that it has taken in
@@ -55,7 +56,7 @@ abbrev pub new_gate : GateView
 new_gate = record { mounted = None; served = None; all = []; decided = 0; files = []; sessions = [] }
 
 abbrev pub no_mount : Mounted
-no_mount = record { entries = []; file_faults = []; card_faults = 0 }
+no_mount = record { applications = []; entries = []; file_faults = []; card_faults = 0 }
 
 abbrev pub no_devices : Served
 no_devices = record { files = []; card = record { faults = 0; starved = 0; is_calm = false } }
@@ -71,4 +72,4 @@ slot_of _ = record { mounted = no_mount; served = no_devices; seen = []; decided
 
 abbrev pub pass_of : SeatView → PassView
 pass_of (Pass pass) = pass
-pass_of _ = record { mounted = no_mount; seen = []; session = 0 }
+pass_of _ = record { mounted = no_mount; seen = []; decided = 0; session = 0 }

@@ -1,7 +1,7 @@
 //! The calls of the gate's seat.
 
 ghost use Rattle.std.specs.Prelude.{◌≡◌, ◌≤◌, ◌+◌, [], ◌∷◌, ◌++◌, length, true, false, Some, None};
-ghost use Rattle.store_model.specs.LegalHistory.{events_of};
+ghost use Rattle.store_model.specs.Record.{events_of};
 ghost use Rattle.history_seats.specs.Settling.{IsOpenDoubt};
 ghost use Rattle.history_seats.specs.Mounts.{Mounted};
 ghost use Rattle.history_seats.specs.Numbers.{is_in};
@@ -143,10 +143,10 @@ impl GateSeat {
     {
         let session = pass.session();
         let ids = steps::ids_of(&slot);
-        let count = steps::push_counted(history, event);
+        steps::push(history, event);
         steps::take_slot(&mut self.seat, table, slot);
         steps::take_pass(&mut self.seat, table, pass);
-        let place = steps::add_record::<N>(&mut self.seat, table, count);
+        let place = steps::add_record::<N>(&mut self.seat, table);
         let pass = steps::let_pass_out(&mut self.seat, table, session);
         let slot = steps::return_slot(&mut self.seat, table, ids);
         Appended { place, slot, pass }
@@ -163,8 +163,8 @@ impl GateSeat {
         ensures history { history.new.events ≡ history.old.events ++ Event.Landed commit ∷ [] }
         ensures spare { history.old.spare ≤ history.new.spare + 1 }
     {
-        let count = steps::push_counted(history, Event::Landed { commit });
-        steps::add_landing::<Brand>(&mut self.seat, table, commit, count)
+        steps::push(history, Event::Landed { commit });
+        steps::add_landing::<Brand>(&mut self.seat, table, commit)
     }
 
     /// Drops the doubt that is open, if there is one: a commit that is in doubt now never lands.

@@ -1,6 +1,6 @@
 //! Single steps of the gate's seat. A slot's seat and a pass may be joined to it, so it is the table's own seat here.
 
-ghost use Rattle.std.specs.Prelude.{◌≡◌, ◌≤◌, ℕ, [], ◌∷◌, ◌++◌, ◌+◌, length, Some, None};
+ghost use Rattle.std.specs.Prelude.{◌≡◌, ◌<◌, ◌≤◌, ℕ, [], ◌∷◌, ◌++◌, ◌+◌, ◌^◌, length, Some, None};
 ghost use Rattle.history_seats.specs.Settling.{IsOpenDoubt};
 ghost use Rattle.history_seats.specs.Views.{SlotView, PassView, gate_of};
 ghost use Rattle.history_seats.specs.Views.SeatView.{Gate};
@@ -25,15 +25,15 @@ pub(crate) fn ids_of(slot: &Option<SlotSeat>) -> Option<(u16, u32)>
     }
 }
 
-/// Puts the event on the history, and tells how many events there are then.
-pub(crate) fn push_counted(history: &mut History, event: Event) -> u64
+/// Puts the event on the history, whose length a word can hold then.
+pub(crate) fn push(history: &mut History, event: Event)
     requires { 1 ≤ history.old.spare }
     ensures events { history.new.events ≡ history.old.events ++ event ∷ [] }
     ensures spare { history.old.spare ≤ history.new.spare + 1 }
-    ensures count { result ≡ length (history.old.events ++ event ∷ []) }
+    ensures room { length (history.old.events ++ event ∷ []) < 2 ^ 64 }
 {
     history.push(event);
-    history.len()
+    let _length = history.len();
 }
 
 /// Joins a slot's seat, where none is joined.
@@ -125,15 +125,11 @@ pub(crate) fn let_pass_out(
     PassSeat { seat, session }
 }
 
-/// Counts one more record, which `N` names; `count` is the history's length with it.
-pub(crate) fn add_record<N: RecordName>(
-    seat: &mut Seat<(), View>,
-    table: &HistoryTable,
-    count: u64,
-) -> u64
+/// Counts one more record, which `N` names.
+pub(crate) fn add_record<N: RecordName>(seat: &mut Seat<(), View>, table: &HistoryTable) -> u64
     requires table { seat.old.table_id ≡ table.now }
     requires gate { seat.old.me ≡ (Gate (gate_of seat.old.me.0), []) }
-    requires count { count ≡ length (gate_of seat.old.me.0).gate.all + 1 }
+    requires room { length (gate_of seat.old.me.0).gate.all + 1 < 2 ^ 64 }
     requires tag { IsTagIn (gate_of seat.old.me.0) N.entry }
     requires event { IsEventIn (gate_of seat.old.me.0) N.entry }
     requires fitting { IsFitting (gate_of seat.old.me.0).gate N.entry }
@@ -141,7 +137,6 @@ pub(crate) fn add_record<N: RecordName>(
     ensures place { result ≡ length (gate_of seat.old.me.0).gate.all }
     ensures agrees { Agrees (gate_of seat.old.me.0) }
 {
-    let _ = count;
     table.table.shared.fetch_add::<Appends<N>>(seat, 0, 1)
 }
 
@@ -150,19 +145,18 @@ pub(crate) fn add_landing<N: RecordName>(
     seat: &mut Seat<(), View>,
     table: &HistoryTable,
     commit: u32,
-    count: u64,
 ) -> u64
     requires name { N.entry ≡ landing_of commit }
     requires table { seat.old.table_id ≡ table.now }
     requires gate { seat.old.me ≡ (Gate (gate_of seat.old.me.0), []) }
     requires alone { ((gate_of seat.old.me.0).slot ≡ None) × ((gate_of seat.old.me.0).pass ≡ None) }
-    requires count { count ≡ length (gate_of seat.old.me.0).gate.all + 1 }
+    requires room { length (gate_of seat.old.me.0).gate.all + 1 < 2 ^ 64 }
     requires doubt { IsOpenDoubt commit (gate_of seat.old.me.0).gate.decided (gate_of seat.old.me.0).gate.all }
     ensures seat { (seat.new.table_id ≡ seat.old.table_id) × (seat.new.me ≡ (Gate (landing_appended (landing_of commit) (gate_of seat.old.me.0)), [])) }
     ensures place { result ≡ length (gate_of seat.old.me.0).gate.all }
     ensures agrees { Agrees (gate_of seat.old.me.0) }
 {
-    let _ = (commit, count);
+    let _ = commit;
     table.table.shared.fetch_add::<Lands<N>>(seat, 0, 1)
 }
 

@@ -98,14 +98,14 @@ fn new_head(wrap: &[u8; 32], fek: &[u8; 16], bytes: u64) -> Head
 }
 
 impl<F: StoreFile> Tree<F> {
-    /// Makes a tree in a file: draws the file's key and an initialization vector for each block, writes all in version 0,
+    /// Makes a tree in a file: draws the file's key and an initialization vector for each block, then writes all in version 0,
     /// and settles it. `wrap` is the key that wraps the file's key, `bytes` is how many bytes the tree holds, and `blocks`
     /// are its pages.
     ///
     /// # Errors
     ///
-    /// `Failed` where a call of the file failed; the file then may hold anything in version 0. Besides `NoEntropy`, where a draw
-    /// failed, and `NoMemory`: nothing was written then.
+    /// `NoEntropy` where a draw failed; the file is as it was. `Failed` where a call of the file failed; the file then may hold
+    /// anything in version 0. Besides `NoMemory`.
     pub fn make<E: Entropy>(
         alloc: Global,
         mut file: F,

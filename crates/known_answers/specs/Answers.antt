@@ -18,7 +18,7 @@ use Rattle.known_answers.specs.Entries.{entry_line}
 use Rattle.known_answers.specs.Objects.{object_line}
 use Rattle.known_answers.specs.declared.questions.Parts.{Parts}
 use Rattle.known_answers.specs.declared.questions.Question.{Question}
-use Rattle.known_answers.specs.declared.questions.Question.TheVariants.{Aes, AesInverse, Ghash, GcmSeal, GcmOpen, Hmac, Ssk, Tsk, DirTsk, RpmbKey, Wrap, Unwrap, FrameMac, FrameFields, Card, Tree, TreeMake, Entry, Object}
+use Rattle.known_answers.specs.declared.questions.Question.TheVariants.{Aes, AesInverse, Ghash, GcmSeal, GcmOpen, Hmac, Ssk, Tsk, DirTsk, RpmbKey, Wrap, Unwrap, FrameMac, FrameFields, Card, Worn, Tree, TreeMake, Entry, Object}
 
 -- the fields of a frame, in their order
 abbrev pub fields_line : Frame → List ℕ
@@ -30,6 +30,10 @@ fields_line f =
 abbrev pub card_answers : CardState → List (List ℕ) → List (List ℕ)
 card_answers card [] = []
 card_answers card (frame ∷ frames) = card_answer card frame ∷ card_answers (card_after card frame) frames
+
+-- a blank card whose counter was moved on
+abbrev pub worn_card : ℕ → CardState
+worn_card counter = record blank { counter = counter }
 
 -- GHASH of blocks, all as bytes
 abbrev pub ghash_of : List ℕ → List (List ℕ) → List ℕ
@@ -65,6 +69,7 @@ IsAnswer (Unwrap tsk wrapped) line = line ≡ hex_word (unwrapped_of tsk wrapped
 IsAnswer (FrameMac key frame) line = line ≡ hex_word (mac_of key frame)
 IsAnswer (FrameFields frame) line = line ≡ fields_line (frame_of frame)
 IsAnswer (Card first rest) line = line ≡ spaced (card_answers blank (first ∷ rest.items))
+IsAnswer (Worn card) line = line ≡ spaced (card_answers (worn_card card.counter) (card.first ∷ card.rest.items))
 IsAnswer (Tree tree) line = line ≡ tree_line tree
 IsAnswer (TreeMake tree) line = IsMadeLine tree line
 IsAnswer (Entry bytes) line = line ≡ entry_line bytes

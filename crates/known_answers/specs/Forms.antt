@@ -26,6 +26,10 @@ number_in word = digits_value 10 word
 unfoldable pub is_number : List ℕ → Bool
 is_number word = nat_lt (number_in word) (2 ^ 64) && bytes_eq word (decimal (number_in word))
 
+-- a card's counter
+unfoldable pub is_counter : List ℕ → Bool
+is_counter word = is_number word && nat_lt (number_in word) (2 ^ 32)
+
 -- one of the two versions
 unfoldable pub is_version : List ℕ → Bool
 is_version word = is_number word && nat_lt (number_in word) 2

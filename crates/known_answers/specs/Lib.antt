@@ -8,3 +8,4 @@ pub mod Words
 pub mod Asks
 pub mod Refusals
 pub mod Forms
+pub mod LineForms

@@ -3,12 +3,12 @@
 ghost use Rattle.std.specs.Prelude.{◌≡◌, ◌∷◌, IfOk, map, string_bytes};
 ghost use Rattle.aes_block.specs.Cipher.{cipher};
 ghost use Rattle.aes_block.specs.InverseCipher.{inv_cipher};
-ghost use Rattle.known_answers.specs.Answers.{IsAnswer, IsOpenedLine, card_answers, fields_line, ghash_of, sealed_line};
+ghost use Rattle.known_answers.specs.Answers.{IsAnswer, IsOpenedLine, card_answers, fields_line, ghash_of, sealed_line, worn_card};
 ghost use Rattle.known_answers.specs.Lines.{hex_word, spaced};
 
 use crate::entries::entry_line;
 use crate::objects::mounted_line;
-use crate::questions::{Parts, Question};
+use crate::questions::{Parts, Question, WornCard};
 use crate::trees::{made_tree, opened_tree};
 use crate::words::{push_word, two_words, word_of};
 use aes_block::{Aes128, unwrap_key, wrap};
@@ -127,6 +127,14 @@ fn card_answers(
     Ok(line)
 }
 
+fn worn_answers(alloc: Global, worn: &WornCard) -> Result<String, AllocError>
+    ensures { IfOk result (λ line. string_bytes line ≡ spaced (card_answers (worn_card worn.now.counter) (worn.now.first ∷ worn.now.rest.items))) }
+{
+    let mut card = SimCard::blank();
+    card.wear(worn.counter);
+    card_answers(alloc, &mut card, &worn.first, &worn.rest)
+}
+
 /// The line that answers a question.
 pub fn answer(alloc: Global, question: Question) -> Result<String, AllocError>
     ensures { IfOk result (λ line. IsAnswer question (string_bytes line)) }
@@ -149,6 +157,7 @@ pub fn answer(alloc: Global, question: Question) -> Result<String, AllocError>
         Question::Card { first, rest } => {
             card_answers(alloc, &mut SimCard::blank(), &first, &rest)
         }
+        Question::Worn { card } => worn_answers(alloc, &card),
         Question::Tree { tree } => opened_tree(alloc, tree),
         Question::TreeMake { tree } => made_tree(alloc, tree),
         Question::Entry { bytes } => entry_line(alloc, &bytes),

@@ -1,12 +1,17 @@
 // The lines that ask the questions.
 
-ghost use Rattle.std.specs.Prelude.{◌≡◌, ◌<◌, ◌&&◌, IfOk, IsFalse, IsTrue, MatchResult, map};
+ghost use Rattle.std.specs.Prelude.{◌≡◌, ◌∷◌, ◌<◌, ◌&&◌, IfOk, IsFalse, IsTrue, MatchResult, map};
 ghost use Rattle.hex.specs.Hex.{decode_of};
-ghost use Rattle.known_answers.specs.Forms.{are_arrays, are_parts, has_its_pages, is_argument, is_array, is_number, is_object_image, is_tree_image, is_version};
+ghost use Rattle.known_answers.specs.Forms.{are_arrays, are_parts, has_its_pages, is_argument, is_array, is_counter, is_number, is_object_image, is_tree_image, is_version};
+ghost use Rattle.known_answers.specs.LineForms.{behind, has_form};
 ghost use Rattle.known_answers.specs.declared.lines.Unreadable.TheVariants.{Form};
 ghost use Rattle.known_answers.specs.Asks.{AreArrays, AreParts, AreTreePages, Asks, IsObjectImage, IsTreeImage};
 ghost use Rattle.known_answers.specs.Words.{IsArgument, IsNumber, words_of};
 
+use crate::arguments::{
+    array_and_more, object_alone, one_array, parts_alone, parts_and_tag, tree_alone, tree_pages,
+    two_arguments, two_arrays, worn_card,
+};
 use crate::questions::{Argument, ObjectImage, Parts, Question, TreeImage, TreePages};
 use hex::{FromHex, FromHexError};
 use itoa::Buffer;
@@ -55,7 +60,7 @@ impl From<FromHexError> for Unreadable {
 
 // A word of exactly N bytes in hex.
 #[tactic(auto, unfolding(crate::specs::Forms::is_array))]
-fn array_of<const N: usize>(word: &str) -> Result<[u8; N], Unreadable>
+pub fn array_of<const N: usize>(word: &str) -> Result<[u8; N], Unreadable>
     ensures value { IfOk result (λ bytes. decode_of word.now ≡ Ok bytes) }
     ensures form { MatchResult result (λ _. IsTrue (is_array N word.now)) (λ e. e ≡ Form → IsFalse (is_array N word.now)) }
 {
@@ -64,7 +69,7 @@ fn array_of<const N: usize>(word: &str) -> Result<[u8; N], Unreadable>
 
 // A word of any number of bytes in hex, or `-` for none.
 #[tactic(auto, using(crate::proofs::Forms::argument_of_none, crate::proofs::Forms::argument_of_hex, crate::proofs::Forms::argument_of_nothing, crate::proofs::Forms::argument_not_hex, crate::proofs::Forms::argument_too_long))]
-fn argument_of(alloc: Global, word: &str) -> Result<Argument, Unreadable>
+pub fn argument_of(alloc: Global, word: &str) -> Result<Argument, Unreadable>
     ensures value { IfOk result (λ argument. IsArgument word.now argument.bytes.items) }
     ensures form { MatchResult result (λ _. IsTrue (is_argument word.now)) (λ e. e ≡ Form → IsFalse (is_argument word.now)) }
 {
@@ -83,7 +88,13 @@ fn argument_of(alloc: Global, word: &str) -> Result<Argument, Unreadable>
 }
 
 #[tactic(auto, using(crate::proofs::Forms::iv_filled, crate::proofs::Forms::iv_not), unfolding(crate::specs::Asks::AreParts, crate::specs::Forms::are_parts))]
-fn parts_of(alloc: Global, key: &str, iv: &str, aad: &str, text: &str) -> Result<Parts, Unreadable>
+pub fn parts_of(
+    alloc: Global,
+    key: &str,
+    iv: &str,
+    aad: &str,
+    text: &str,
+) -> Result<Parts, Unreadable>
     ensures value { IfOk result (λ parts. AreParts key.now iv.now aad.now text.now parts) }
     ensures form { MatchResult result (λ _. IsTrue (are_parts key.now iv.now aad.now text.now)) (λ e. e ≡ Form → IsFalse (are_parts key.now iv.now aad.now text.now)) }
 {
@@ -97,7 +108,7 @@ fn parts_of(alloc: Global, key: &str, iv: &str, aad: &str, text: &str) -> Result
     Ok(Parts { key, iv, aad, text })
 }
 
-fn arrays_of<const N: usize>(alloc: Global, words: &[&str]) -> Result<Vec<[u8; N]>, Unreadable>
+pub fn arrays_of<const N: usize>(alloc: Global, words: &[&str]) -> Result<Vec<[u8; N]>, Unreadable>
     ensures value { IfOk result (λ arrays. AreArrays (map (λ w. w.now) words.now) arrays.items) }
     ensures form { MatchResult result (λ _. IsTrue (are_arrays N (map (λ w. w.now) words.now)))
         (λ e. e ≡ Form → IsFalse (are_arrays N (map (λ w. w.now) words.now))) }
@@ -134,8 +145,21 @@ fn version_of(word: &str) -> Result<u8, Unreadable>
     Ok(version as u8)
 }
 
+// A card's counter.
+#[tactic(auto, using(crate::proofs::Forms::number_in_decimal), unfolding(crate::specs::Forms::is_counter))]
+pub fn counter_of(word: &str) -> Result<u32, Unreadable>
+    ensures number { IfOk result (λ counter. IsNumber word.now counter) }
+    ensures form { MatchResult result (λ _. IsTrue (is_counter word.now)) (λ e. e ≡ Form → IsFalse (is_counter word.now)) }
+{
+    let counter = number_of(word)?;
+    if counter > u64::from(u32::MAX) {
+        return Err(Unreadable::Form);
+    }
+    Ok(counter as u32)
+}
+
 #[tactic(auto, unfolding(crate::specs::Asks::IsTreeImage, crate::specs::Forms::is_tree_image))]
-fn tree_image_of(
+pub fn tree_image_of(
     alloc: Global,
     tsk: &str,
     hash: &str,
@@ -154,7 +178,7 @@ fn tree_image_of(
 }
 
 #[tactic(auto, unfolding(crate::specs::Asks::IsObjectImage, crate::specs::Forms::is_object_image))]
-fn object_image_of(
+pub fn object_image_of(
     alloc: Global,
     tsk: &str,
     entry: &str,
@@ -170,7 +194,7 @@ fn object_image_of(
 }
 
 #[tactic(auto, using(crate::proofs::Forms::number_in_decimal), unfolding(crate::specs::Asks::AreTreePages, crate::specs::Forms::has_its_pages))]
-fn tree_pages_of(
+pub fn tree_pages_of(
     alloc: Global,
     tsk: &str,
     bytes: &str,
@@ -190,7 +214,10 @@ fn tree_pages_of(
 
 /// The question of a line.
 pub fn parse(alloc: Global, line: &str) -> Result<Question, Unreadable>
-    ensures { IfOk result (λ question. Asks (words_of line.now) question) }
+    ensures asks { IfOk result (λ question. Asks (words_of line.now) question) }
+    // A line that is read has a form, and one that is refused as no question has none.
+    ensures form { MatchResult result (λ _. IsTrue (has_form (words_of line.now)))
+        (λ e. e ≡ Form → IsFalse (has_form (words_of line.now))) }
 {
     let words = words_of(alloc, line)?;
     question_of(alloc, &words)
@@ -204,85 +231,93 @@ fn words_of(alloc: Global, line: &str) -> Result<Vec<&str>, AllocError>
 }
 
 fn question_of(alloc: Global, words: &[&str]) -> Result<Question, Unreadable>
-    ensures { IfOk result (λ question. Asks (map (λ w. w.now) words.now) question) }
+    ensures asks { IfOk result (λ question. Asks (map (λ w. w.now) words.now) question) }
+    ensures form { MatchResult result (λ _. IsTrue (has_form (map (λ w. w.now) words.now)))
+        (λ e. e ≡ Form → IsFalse (has_form (map (λ w. w.now) words.now))) }
 {
-    match words {
-        ["aes", key, block] => Ok(Question::Aes {
-            key: array_of(key)?,
-            block: array_of(block)?,
-        }),
-        ["aes-inverse", key, block] => Ok(Question::AesInverse {
-            key: array_of(key)?,
-            block: array_of(block)?,
-        }),
-        ["gcm-seal", key, iv, aad, text] => Ok(Question::GcmSeal {
-            parts: parts_of(alloc, key, iv, aad, text)?,
-        }),
-        ["gcm-open", key, iv, aad, text, tag] => Ok(Question::GcmOpen {
-            parts: parts_of(alloc, key, iv, aad, text)?,
-            tag: array_of(tag)?,
-        }),
-        ["hmac", key, text] => Ok(Question::Hmac {
-            key: argument_of(alloc, key)?,
-            text: argument_of(alloc, text)?,
-        }),
-        ["ssk", huk, chip] => Ok(Question::Ssk {
-            huk: array_of(huk)?,
-            chip: array_of(chip)?,
-        }),
-        ["tsk", ssk, app] => Ok(Question::Tsk {
-            ssk: array_of(ssk)?,
-            app: array_of(app)?,
-        }),
-        ["dir-tsk", ssk] => Ok(Question::DirTsk {
-            ssk: array_of(ssk)?,
-        }),
-        ["rpmb-key", huk] => Ok(Question::RpmbKey {
-            huk: array_of(huk)?,
-        }),
-        ["wrap", tsk, fek] => Ok(Question::Wrap {
-            tsk: array_of(tsk)?,
-            fek: array_of(fek)?,
-        }),
-        ["unwrap", tsk, wrapped] => Ok(Question::Unwrap {
-            tsk: array_of(tsk)?,
-            wrapped: array_of(wrapped)?,
-        }),
-        ["frame-mac", key, frame] => Ok(Question::FrameMac {
-            key: array_of(key)?,
-            frame: array_of(frame)?,
-        }),
-        ["frame-fields", frame] => Ok(Question::FrameFields {
-            frame: array_of(frame)?,
-        }),
-        ["tree", tsk, hash, version, image] => Ok(Question::Tree {
-            tree: tree_image_of(alloc, tsk, hash, version, image)?,
-        }),
-        ["entry", bytes] => Ok(Question::Entry {
-            bytes: array_of(bytes)?,
-        }),
-        ["object", tsk, entry, image] => Ok(Question::Object {
-            object: object_image_of(alloc, tsk, entry, image)?,
-        }),
-        _ => question_of_any_length(alloc, words),
-    }
+    let [name, words @ ..] = words else {
+        return Err(Unreadable::Form);
+    };
+    question_by(alloc, name, words)
 }
 
-// The question of words of any number.
-fn question_of_any_length(alloc: Global, words: &[&str]) -> Result<Question, Unreadable>
-    ensures { IfOk result (λ question. Asks (map (λ w. w.now) words.now) question) }
+// The question by its name, and by the words behind that.
+fn question_by(alloc: Global, name: &str, words: &[&str]) -> Result<Question, Unreadable>
+    ensures asks { IfOk result (λ question. Asks (name.now ∷ map (λ w. w.now) words.now) question) }
+    ensures form { MatchResult result (λ _. IsTrue (behind name.now (map (λ w. w.now) words.now)))
+        (λ e. e ≡ Form → IsFalse (behind name.now (map (λ w. w.now) words.now))) }
 {
-    match words {
-        ["ghash", subkey, words @ ..] => Ok(Question::Ghash {
-            subkey: array_of(subkey)?,
-            blocks: arrays_of(alloc, words)?,
+    match name {
+        "aes" => {
+            let (key, block) = two_arrays(words)?;
+            Ok(Question::Aes { key, block })
+        }
+        "aes-inverse" => {
+            let (key, block) = two_arrays(words)?;
+            Ok(Question::AesInverse { key, block })
+        }
+        "ghash" => {
+            let (subkey, blocks) = array_and_more(alloc, words)?;
+            Ok(Question::Ghash { subkey, blocks })
+        }
+        "gcm-seal" => Ok(Question::GcmSeal {
+            parts: parts_alone(alloc, words)?,
         }),
-        ["card", first, words @ ..] => Ok(Question::Card {
-            first: array_of(first)?,
-            rest: arrays_of(alloc, words)?,
+        "gcm-open" => {
+            let (parts, tag) = parts_and_tag(alloc, words)?;
+            Ok(Question::GcmOpen { parts, tag })
+        }
+        "hmac" => {
+            let (key, text) = two_arguments(alloc, words)?;
+            Ok(Question::Hmac { key, text })
+        }
+        "ssk" => {
+            let (huk, chip) = two_arrays(words)?;
+            Ok(Question::Ssk { huk, chip })
+        }
+        "tsk" => {
+            let (ssk, app) = two_arrays(words)?;
+            Ok(Question::Tsk { ssk, app })
+        }
+        "dir-tsk" => Ok(Question::DirTsk {
+            ssk: one_array(words)?,
         }),
-        ["tree-make", tsk, bytes, pages @ ..] => Ok(Question::TreeMake {
-            tree: tree_pages_of(alloc, tsk, bytes, pages)?,
+        "rpmb-key" => Ok(Question::RpmbKey {
+            huk: one_array(words)?,
+        }),
+        "wrap" => {
+            let (tsk, fek) = two_arrays(words)?;
+            Ok(Question::Wrap { tsk, fek })
+        }
+        "unwrap" => {
+            let (tsk, wrapped) = two_arrays(words)?;
+            Ok(Question::Unwrap { tsk, wrapped })
+        }
+        "frame-mac" => {
+            let (key, frame) = two_arrays(words)?;
+            Ok(Question::FrameMac { key, frame })
+        }
+        "frame-fields" => Ok(Question::FrameFields {
+            frame: one_array(words)?,
+        }),
+        "card" => {
+            let (first, rest) = array_and_more(alloc, words)?;
+            Ok(Question::Card { first, rest })
+        }
+        "worn-card" => Ok(Question::Worn {
+            card: worn_card(alloc, words)?,
+        }),
+        "tree" => Ok(Question::Tree {
+            tree: tree_alone(alloc, words)?,
+        }),
+        "tree-make" => Ok(Question::TreeMake {
+            tree: tree_pages(alloc, words)?,
+        }),
+        "entry" => Ok(Question::Entry {
+            bytes: one_array(words)?,
+        }),
+        "object" => Ok(Question::Object {
+            object: object_alone(alloc, words)?,
         }),
         _ => Err(Unreadable::Form),
     }

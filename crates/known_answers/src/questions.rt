@@ -45,6 +45,14 @@ pub struct TreePages {
     ghost all: { vec_len pages ≡ greatest_of bytes },
 }
 
+/// A blank card whose counter was moved on, and the frames that it is sent.
+#[derive(Drop)]
+pub struct WornCard {
+    pub counter: u32,
+    pub first: [u8; 512],
+    pub rest: Vec<[u8; 512]>,
+}
+
 /// The bytes of an object's file, an entry of the directory, and the key of its application.
 #[derive(Drop)]
 pub struct ObjectImage {
@@ -111,6 +119,9 @@ pub enum Question {
     Card {
         first: [u8; 512],
         rest: Vec<[u8; 512]>,
+    },
+    Worn {
+        card: WornCard,
     },
     Tree {
         tree: TreeImage,

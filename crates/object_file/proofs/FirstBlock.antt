@@ -5,6 +5,7 @@ use Rattle.std.proofs.lemmas.Grind.{same_number_lists}
 use Rattle.std.proofs.lemmas.List.{get_or_append_left}
 use Rattle.std.specs.Str.{bytes_eq}
 use Rattle.disk_model.specs.State.{FileState}
+use Rattle.disk_model.specs.Calls.{GoesOn, Rests}
 use Rattle.aes_block.specs.Cipher.{cipher}
 use Rattle.gcm_mode.specs.Gcm.{gcm_text}
 use Rattle.gcm_mode.proofs.Stream.{length-gctr}
@@ -19,8 +20,8 @@ use Rattle.htree_file.specs.Pages.{block_in, page_in, page_of, tag_of}
 use Rattle.htree_file.specs.Standing.{Told}
 use Rattle.page_bytes.specs.Pages.{byte_in, bytes_from}
 use Rattle.page_bytes.proofs.Content.{get_or-bytes_from-zero, length-bytes_from}
-use Rattle.block_file.specs.Reads.{WasRead}
-use Rattle.block_file.proofs.Reading.{page_stands}
+use Rattle.block_file.specs.Reads.{AreBytes, WasRead}
+use Rattle.block_file.proofs.Reading.{page_stands, page_then}
 
 -- a text keeps its length
 length-gcm_text : (e : List ℕ → List ℕ) (iv text : List ℕ) → length (gcm_text e iv text) ≡ length text
@@ -61,3 +62,11 @@ first_stands key tree old new n into before whole long told was is =
     let place : i % 4096 ≡ i = omega arith in
     sym (here ∙ ap (λ (k : ℕ). byte_in (page_in old.reads key tree k) (i % 4096)) first ∙ ap (λ (o : Option (List ℕ)). byte_in o (i % 4096)) stands ∙ ap (λ (j : ℕ). get_or page j 0) place)) in
     stands ∙ ap (λ (l : List ℕ). Some l) same
+
+-- bytes that were read after calls that change nothing
+pub bytes_then : (key : List ℕ) (tree : Loaded) (a b c : FileState) (at : ℕ) (bytes : List ℕ) (count : ℕ) → Rests a b → GoesOn b c → AreBytes key tree b c at bytes count → AreBytes key tree a c at bytes count
+bytes_then key tree a b c at bytes count rests goes read = record {
+  pages = read.pages;
+  read = λ k met. page_then key tree a b c k (read.pages k) rests goes (read.read k met);
+  are = read.are;
+}

@@ -3,3 +3,4 @@ pub mod ObjectReads
 pub mod FirstBlock
 pub mod MadeObjects
 pub mod Mounting
+pub mod HeldObjects

@@ -19,7 +19,7 @@ use Rattle.page_bytes.specs.declared.range.ByteRange.{ByteRange}
 use Rattle.page_bytes.specs.Pages.{page_at}
 use Rattle.page_bytes.specs.Ranges.{needs, resize_range, write_range}
 use Rattle.page_bytes.proofs.Content.{length-after_write, length-bytes_from}
-use Rattle.block_file.specs.Reads.{BlocksAnswer, IsBadTag}
+use Rattle.block_file.specs.Reads.{BlocksAnswer, IsBadTag, IsEarlyFault}
 use Rattle.block_file.specs.Stages.{IsAfter, LeavesBytes, bytes_in}
 use Rattle.store_model.specs.Data.{needs_block, resized_contents, written_contents}
 use Rattle.store_model.specs.Object.{Contents, Damaged, Sound}
@@ -134,6 +134,12 @@ module _ (key : List ℕ) (root : RootRef) (tree : Loaded) (a c : FileState) (si
   corrupt_change attributes bytes A (Err NoMemory) blocks early = tt
 
 -- a bad block was found by reads alone
-pub early_rests : (a c : FileState) (A P : Type 0) (result : Result A TreeFault) → IfErr result (λ e. IsBadTag e → Rests a c × P) → IfErr result (λ e. IsBadTag e → Rests a c)
+pub early_rests : (a c : FileState) (A P : Type 0) (result : Result A TreeFault) → IfErr result (λ e. IsEarlyFault e → Rests a c × P) → IfErr result (λ e. IsBadTag e → Rests a c)
 early_rests a c A P (Ok done) early = tt
-early_rests a c A P (Err fault) early = λ bad. (early bad).0
+early_rests a c A P (Err (BadTag k want found)) early = λ bad. (early tt).0
+early_rests a c A P (Err (Failed count)) early = λ bad. absurd bad
+early_rests a c A P (Err (NoEntropy count)) early = λ bad. absurd bad
+early_rests a c A P (Err (BadHead long greatest)) early = λ bad. absurd bad
+early_rests a c A P (Err (Short end need)) early = λ bad. absurd bad
+early_rests a c A P (Err (DamagedNode n want found)) early = λ bad. absurd bad
+early_rests a c A P (Err NoMemory) early = λ bad. absurd bad

@@ -9,10 +9,6 @@ mod fault;
 mod loading;
 mod making;
 mod object;
-#[cfg(test)]
-mod stage_tests;
-#[cfg(test)]
-mod tests;
 
 pub use fault::{ObjectBroken, ObjectFault};
 pub use object::ObjectFile;

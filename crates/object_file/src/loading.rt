@@ -1,6 +1,7 @@
 // What an entry asks of the tree that holds its object.
 
-ghost use Rattle.std.specs.Prelude.{◌≡◌, ◌+◌, ◌≤◌, length, take, Some, IfErr, IfOk, OnOk};
+ghost use Rattle.std.specs.Prelude.{◌≡◌, ◌+◌, ◌≤◌, length, take, Some, IfErr, IfOk, IsTrue, OnOk};
+ghost use Rattle.disk_model.specs.Arms.{count_call};
 ghost use Rattle.disk_model.specs.Calls.{Rests};
 ghost use Rattle.htree_file.specs.Answers.{HasCause};
 ghost use Rattle.htree_file.specs.Pages.{page_in};
@@ -23,6 +24,7 @@ fn read_first<F: StoreFile>(file: &mut BlockFile<F>, page: &mut Page) -> Result<
     ensures bytes { OnOk result (AreBytes file.old.key file.old.tree (F.state file.old.file) (F.state file.new.file) 0 page.new 4096) }
     ensures stands { OnOk result (Told (F.state file.old.file) (F.state file.new.file) →
         page_in (F.state file.old.file).reads file.old.key file.old.tree 0 ≡ Some page.new) }
+    ensures once { OnOk result (IsTrue (F.state file.old.file).tells_arms → (F.state file.new.file).arms ≡ count_call (F.state file.old.file).arms) }
     ensures fault { IfErr result (FirstFault file.old.key file.old.tree (F.state file.new.file)) }
     ensures same { file.new ≡ record file.old { file = file.new.file } }
     ensures rests { Rests (F.state file.old.file) (F.state file.new.file) }
@@ -53,6 +55,7 @@ pub(crate) fn read_attributes<F: StoreFile>(
         (F.state file.old.file) (F.state file.new.file) 0 bytes.items entry.now.attributes) }
     ensures front { IfOk result (λ bytes. Told (F.state file.old.file) (F.state file.new.file) →
         IsFront (F.state file.old.file).reads file.old.key file.old.tree bytes.items entry.now.attributes) }
+    ensures once { OnOk result (IsTrue (F.state file.old.file).tells_arms → (F.state file.new.file).arms ≡ count_call (F.state file.old.file).arms) }
     ensures fault { IfErr result (PartFault file.old.key file.old.tree (F.state file.new.file) entry.now.size) }
     ensures same { file.new ≡ record file.old { file = file.new.file } }
     ensures rests { Rests (F.state file.old.file) (F.state file.new.file) }

@@ -1,12 +1,14 @@
 //! Objects that are made.
 
-ghost use Rattle.std.specs.Prelude.{◌≡◌, ◌+◌, ◌≤◌, [], length, None, IfErr, IfOk, IsTrue, Result};
+ghost use Rattle.std.specs.Prelude.{◌≡◌, ◌+◌, ◌<◌, ◌≤◌, ℕ, List, [], length, map, None, Some, IfErr, IfOk, IsTrue, Result};
+ghost use Rattle.htree_file.specs.Changes.{Seals};
+ghost use Rattle.htree_file.specs.Pages.{opened_of};
 ghost use Rattle.aes_block.specs.WrappedKey.{unwrapped_of};
 ghost use Rattle.disk_model.specs.Calls.{Known};
 ghost use Rattle.disk_model.specs.Keeps.{Keeps};
 ghost use Rattle.node_image.specs.Layout.{greatest_of};
 ghost use Rattle.htree_file.specs.Answers.{FaultCause, FilePassed};
-ghost use Rattle.htree_file.specs.Making.{DrawFault, IsMakeFault, NotEntropy, Nowhere};
+ghost use Rattle.htree_file.specs.Making.{DrawFault, IsDrawFault, IsMakeFault, NamesVersionZero, NotEntropy, Nowhere};
 ghost use Rattle.htree_file.specs.Opening.{IsVerified, load_of};
 ghost use Rattle.htree_file.specs.Standing.{IsFirm};
 ghost use Rattle.store_model.specs.Object.{Sound};
@@ -109,6 +111,14 @@ impl<F: StoreFile> ObjectFile<F> {
         ensures object { IfOk result (λ made. Known (F.state file) (F.state made.0.tree.file) →
             object_in tsk.now (F.state made.0.tree.file).reads made.1 (length bytes.now) (length attributes.now)
             ≡ Sound (record { attributes = attributes.now; bytes = bytes.now; bad = [] })) }
+        ensures pages { IfOk result (λ made. Known (F.state file) (F.state made.0.tree.file) →
+            (pages : List (List ℕ)) × (opened_of tsk.now (F.state made.0.tree.file).reads made.1
+            ≡ Result.Ok (record { bytes = 4096 + length bytes.now; pages = map (λ page. Some page) pages }))
+            × AreObjectPages attributes.now bytes.now pages (length pages)) }
+        // Of any file.
+        ensures seals { IfOk result (λ made. (k : ℕ) → k < length made.0.tree.tree.nodes →
+            (page : List ℕ) × IsObjectPage attributes.now bytes.now k page × Seals made.0.tree.key made.0.tree.tree k page) }
+        ensures flags { IfOk result (λ made. NamesVersionZero made.0.tree.tree) }
         ensures firm { IfOk result (λ made. IsTrue (F.state made.0.tree.file).honest →
             IsFirm (F.state made.0.tree.file) made.1 made.0.tree.tree) }
         ensures verified { IfOk result (λ made. IsVerified made.1 made.0.tree.tree) }
@@ -116,6 +126,7 @@ impl<F: StoreFile> ObjectFile<F> {
         ensures keeps { IfOk result (λ made. Keeps Nowhere (F.state file) (F.state made.0.tree.file)) }
         ensures keeps_err { IfErr result (λ b. Keeps Nowhere (F.state file) (F.state b.file)) }
         ensures fault { IfErr result (λ b. IsMakeFault b.fault) }
+        ensures untouched { IfErr result (λ b. IsDrawFault b.fault → b.file ≡ file) }
         ensures passed { IfOk result (λ made. FilePassed (F.state file) (F.state made.0.tree.file)) }
         ensures cause { IfErr result (λ b. FaultCause (F.state file) (F.state b.file) b.fault) }
         ensures drew { IfOk result (λ _. E.faults entropy.new ≡ E.faults entropy.old) }

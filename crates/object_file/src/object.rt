@@ -2,14 +2,14 @@
 
 ghost use Rattle.std.specs.Prelude.{◌≡◌, ◌⊎◌, ◌+◌, ◌-◌, ◌≤◌, ◌++◌, length, drop, min, true, None, Some, IfErr, IfOk, IfSome, IsSome, IsSomeAnd, IsTrue, OnErr, OnOk, Result};
 ghost use Rattle.aes_block.specs.WrappedKey.{unwrapped_of};
-ghost use Rattle.disk_model.specs.Calls.{Known, Rests};
+ghost use Rattle.disk_model.specs.Calls.{Known, Rests, Syncs};
 ghost use Rattle.disk_model.specs.Keeps.{Anywhere, Keeps};
 ghost use Rattle.htree_file.specs.Answers.{FilePassed, HasCause, IsFailed};
 ghost use Rattle.htree_file.specs.Opening.{IsVerified, load_of};
 ghost use Rattle.htree_file.specs.Selected.{KeepsFirm};
 ghost use Rattle.htree_file.specs.Standing.{IsFirm, Told};
-ghost use Rattle.page_bytes.specs.Ranges.{meets};
-ghost use Rattle.block_file.specs.Reads.{AreBytes, BlocksAnswer, IsReadFault};
+ghost use Rattle.page_bytes.specs.Ranges.{meets, read_range};
+ghost use Rattle.block_file.specs.Reads.{AreBytes, BlocksAnswer, IsReadFault, after_calls, blocks_of};
 ghost use Rattle.store_model.specs.Data.{bytes_at, meets_block};
 ghost use Rattle.store_model.specs.Object.{Damaged, Sound};
 ghost use Rattle.crash_core.specs.MountedObject.{mounted_object, root_of};
@@ -96,6 +96,8 @@ impl<F: StoreFile> ObjectFile<F> {
         ensures rests { IfOk result (λ o. Rests (F.state file) (F.state o.tree.file)) }
         ensures rests_err { IfErr result (λ b. Rests (F.state file) (F.state b.file)) }
         ensures passed { IfOk result (λ o. FilePassed (F.state file) (F.state o.tree.file)) }
+        ensures three { IfOk result (λ o. IsTrue (F.state file).tells_arms →
+            (F.state o.tree.file).arms ≡ after_calls 3 (F.state file).arms) }
         ensures cause { IfErr result (λ b. ObjectCause (F.state file) (F.state b.file) b.fault) }
     {
         let root = RootRef {
@@ -155,6 +157,9 @@ impl<F: StoreFile> ObjectFile<F> {
         // Of a file that can be followed.
         ensures content { IfOk result (λ n. Told (F.state self.old.tree.file) (F.state self.new.tree.file) → into.new
             ≡ bytes_at (held_in self.old (F.state self.old.tree.file).reads).bytes at (length into.old) ++ drop n into.old) }
+        // Each block is read once, and nothing else is asked of the file.
+        ensures once { IfOk result (λ n. IsTrue (F.state self.old.tree.file).tells_arms → (F.state self.new.tree.file).arms
+            ≡ after_calls (blocks_of (read_range self.old.tree.tree.head.length (4096 + at) (length into.old))) (F.state self.old.tree.file).arms) }
         ensures corrupt { Told (F.state self.old.tree.file) (F.state self.new.tree.file) →
             CorruptAnswer (held_in self.old (F.state self.old.tree.file).reads)
             (meets_block at (at + min (length into.old) (size_in self.old - at))) result }
@@ -178,6 +183,7 @@ impl<F: StoreFile> ObjectFile<F> {
         requires open { IsSome self.old.tree.stage }
         ensures settled { IfOk result (λ root. IfSome self.old.tree.stage (λ s.
             (root ≡ s.root) × (self.new.tree.stage ≡ Some (record s { settled = true })))) }
+        ensures synced { OnOk result (Syncs (F.state self.old.tree.file) (F.state self.new.tree.file)) }
         ensures open { OnErr result (self.new.tree.stage ≡ self.old.tree.stage) }
         ensures same { self.new ≡ record self.old { tree = record self.old.tree { file = self.new.tree.file; stage = self.new.tree.stage } } }
         ensures reads { Known (F.state self.old.tree.file) (F.state self.new.tree.file) →

@@ -28,10 +28,10 @@ IsLeastKey table session handle key =
     (k : ℕ) (r : OpenRecord) → record_at table k ≡ Some r → r.session ≡ session → r.handle ≡ handle → key ≤ k
 
 -- a new handle with these flags is compatible with each open handle on that file
-abbrev pub allows_open : TableState → ℕ → Flags → Bool
-allows_open table file flags =
+abbrev pub allows_on_file : TableState → ℕ → Flags → Bool
+allows_on_file table file flags =
     list_all (λ e. not ((e.1).file == file) || are_compatible flags (e.1).flags) table.records
 
 -- a handle is open on that file
-abbrev pub has_open : TableState → ℕ → Bool
-has_open table file = list_any (λ e. (e.1).file == file) table.records
+abbrev pub is_file_open : TableState → ℕ → Bool
+is_file_open table file = list_any (λ e. (e.1).file == file) table.records

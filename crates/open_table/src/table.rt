@@ -41,7 +41,7 @@ impl OpenTable {
     ghost use Rattle.std.specs.Map.{remove_entry};
     ghost use Rattle.std.specs.BTreeMap.{insert_entry};
     ghost use Rattle.std.specs.Ordering.{nat_cmp};
-    ghost use Rattle.open_table.specs.Table.{record_at, key_of, IsLeastKey, allows_open, has_open};
+    ghost use Rattle.open_table.specs.Table.{record_at, key_of, IsLeastKey, allows_on_file, is_file_open};
 
     /// A table without handles. It takes no memory.
     pub fn new(alloc: Global) -> OpenTable
@@ -103,7 +103,7 @@ impl OpenTable {
 
     /// Whether a new handle with these flags may be opened beside every open handle on that file.
     pub fn allows(&self, file: u16, flags: Flags) -> bool
-        ensures { result ≡ allows_open self.now file flags }
+        ensures { result ≡ allows_on_file self.now file flags }
     {
         for (_, record) in self.records.iter() {
             if record.file == file && !compatible(flags, record.flags) {
@@ -115,7 +115,7 @@ impl OpenTable {
 
     /// Whether any handle is open on that file.
     pub fn any(&self, file: u16) -> bool
-        ensures { result ≡ has_open self.now file }
+        ensures { result ≡ is_file_open self.now file }
     {
         for (_, record) in self.records.iter() {
             if record.file == file {

@@ -1,6 +1,6 @@
 use crate::OpenTable;
 use std::test::Fail;
-use tee_types::{Flags, READ, SHARE_READ, WRITE_META};
+use tee_types::{Flags, READ};
 
 fn flags(bits: u32) -> Flags {
     Flags { bits }
@@ -15,23 +15,6 @@ fn open(
 ) -> Result<usize, Fail> {
     table.reserve()?;
     Ok(table.add(file, session, handle, flags(bits)))
-}
-
-#[test]
-fn a_new_handle_is_held_against_each_open_one_of_its_file(rt: HostRuntime) -> Result<(), Fail> {
-    let mut table = OpenTable::new(rt.alloc());
-    assert!(rt; table.allows(1, flags(WRITE_META)));
-    open(&mut table, 1, 0, 0, READ | SHARE_READ)?;
-    open(&mut table, 2, 0, 1, READ)?;
-    open(&mut table, 1, 1, 0, SHARE_READ)?;
-    assert!(rt; table.allows(1, flags(READ | SHARE_READ)));
-    assert!(rt; !table.allows(1, flags(READ)));
-    assert!(rt; !table.allows(1, flags(WRITE_META)));
-    assert!(rt; !table.allows(2, flags(READ | SHARE_READ)));
-    assert!(rt; table.allows(3, flags(WRITE_META)));
-    assert!(rt; table.any(2));
-    assert!(rt; !table.any(3));
-    Ok(())
 }
 
 #[test]

@@ -1,6 +1,6 @@
 -- Which blocks a range of bytes meets, and what bytes lie in the blocks after a change.
-use Rattle.std.proofs.Common.{◌≡◌, ◌+◌, ◌-◌, ◌*◌, ◌/◌, ◌%◌, ◌<◌, ◌≤◌, ◌⊎◌, inl, inr, ℕ, List, [], ◌++◌, length, get_or, take, drop, replicate, min, max, true, false, Option, arith, refl, sym, ap, ◌∙◌, length-drop}
-use Rattle.std.proofs.lemmas.Bool.{cases_lt, cases_Bool}
+use Rattle.std.proofs.Common.{◌≡◌, ◌+◌, ◌-◌, ◌*◌, ◌/◌, ◌%◌, ◌<◌, ◌≤◌, ◌⊎◌, ◌↔◌, inl, inr, ℕ, List, [], ◌++◌, length, get_or, take, drop, replicate, min, max, true, false, Option, arith, refl, sym, ap, ◌∙◌, length-drop}
+use Rattle.std.proofs.lemmas.Bool.{cases_lt, cases_Bool, false≢true}
 use Rattle.std.proofs.lemmas.Grind.{same_number_lists}
 use Rattle.std.proofs.lemmas.List.{get_or-append_right, get_or_append_left, get_or-replicate, length-replicate, take_all, get_or_past, get_or-drop}
 use Rattle.std.proofs.lemmas.List.FromFn.{get_or-map-range_with_len, length-map-range_with_len, take-map-range_with_len}
@@ -29,6 +29,22 @@ not-meets-behind r k from = elim (cases_lt r.first r.last) [
   | inl some ↦ grind (arith, some)
   | inr none ↦ grind (arith, none)
 ]
+
+-- so they are exactly those
+pub blocks-met : (r : ByteRange) (k : ℕ) → ((first_block r ≤ k) × (k < end_block r)) ↔ (meets r.first r.last k ≡ true)
+blocks-met r k = (λ among. meets-blocks r k among.0 among.1, λ met. (from met, upto met))
+  where
+    from : meets r.first r.last k ≡ true → first_block r ≤ k
+    from met = elim (cases_lt k (first_block r)) [
+      | inl below ↦ absurd (false≢true (sym (not-meets-before r k below) ∙ met))
+      | inr high ↦ high
+    ]
+
+    upto : meets r.first r.last k ≡ true → k < end_block r
+    upto met = elim (cases_lt k (end_block r)) [
+      | inl below ↦ below
+      | inr behind ↦ absurd (false≢true (sym (not-meets-behind r k behind) ∙ met))
+    ]
 
 -- the zeros between the old end and the place of a write
 written_gap : (old : List ℕ) (at : ℕ) (bytes : List ℕ) (p : ℕ) → length old ≤ p → p < at → get_or (after_write old at bytes) p 0 ≡ 0

@@ -7,5 +7,4 @@ mod range;
 #[cfg(test)]
 mod tests;
 
-pub use page::Page;
 pub use range::ByteRange;

@@ -5,8 +5,8 @@ ghost use Rattle.page_bytes.specs.Rewriting.{Fits, IsRewritten, given_byte, laid
 
 use crate::range::ByteRange;
 
-/// The bytes of a block.
-pub type Page = [u8; 4096];
+// The bytes of a block.
+type Page = [u8; 4096];
 
 /// Where a place stands in block `k`: 0 where it lies before it, 4,096 where it lies behind it.
 fn offset_in(k: u32, place: u64) -> usize
@@ -39,7 +39,7 @@ fn lay(k: u32, at: u64, bytes: &[u8], page: &mut Page)
 impl ByteRange {
     /// Copies the bytes of the range that block `k` has from its page to their places in `into`, which begins with the first
     /// byte of the range.
-    pub fn copy_out(self, k: u32, page: &Page, into: &mut [u8])
+    pub fn copy_out(self, k: u32, page: &[u8; 4096], into: &mut [u8])
         requires { self.last ≤ self.first + length into.old }
         ensures { (i : ℕ) → get_or into.new i 0 ≡ given_byte self k page.now i (get_or into.old i 0) }
     {
@@ -52,7 +52,7 @@ impl ByteRange {
 
     /// Makes the page of block `k`, as it was, the one that it is after the change: the bytes lie from the place `at` on, what
     /// else changes is zero, and so is what lies behind the old end.
-    pub fn rewrite(self, k: u32, at: u64, bytes: &[u8], page: &mut Page)
+    pub fn rewrite(self, k: u32, at: u64, bytes: &[u8], page: &mut [u8; 4096])
         requires { Fits self at (length bytes.now) }
         ensures { IsRewritten self at bytes.now k page.old page.new }
     {

@@ -1,7 +1,7 @@
 //! Ranges of bytes, and the blocks that they meet.
 
-ghost use Rattle.std.specs.Prelude.{◌≡◌, ◌+◌, ◌<◌, ◌^◌};
-ghost use Rattle.page_bytes.specs.Ranges.{end_block, first_block, needs, read_range, resize_range, write_range};
+ghost use Rattle.std.specs.Prelude.{◌≡◌, ◌↔◌, ℕ, ◌+◌, ◌*◌, ◌<◌, ◌≤◌, ◌^◌, true, IsTrue};
+ghost use Rattle.page_bytes.specs.Ranges.{end_block, first_block, meets, needs, read_range, resize_range, write_range};
 
 /// How many bytes a block has.
 const BLOCK: u64 = 4096;
@@ -63,7 +63,9 @@ impl ByteRange {
     /// The block behind the last one that has.
     pub fn end_block(self) -> u32
         requires { (self.first < 2 ^ 32) × (self.last < 2 ^ 32) }
-        ensures { result ≡ end_block self }
+        ensures value { result ≡ end_block self }
+        // From the first block on and before this one are exactly the blocks that the range meets.
+        ensures blocks { (k : ℕ) → (first_block self ≤ k) × (k < end_block self) ↔ meets self.first self.last k ≡ true }
     {
         if self.first < self.last {
             self.last.div_ceil(BLOCK) as u32
@@ -80,5 +82,13 @@ impl ByteRange {
         let end = begin + BLOCK;
         let meets = self.first < self.last && begin < self.last && self.first < end;
         meets && (begin < self.first.min(self.size) || self.last < end.min(self.size))
+    }
+
+    /// Whether all bytes of block `k` are in the range.
+    pub fn has_whole(self, k: u32) -> bool
+        ensures { IsTrue result ↔ (self.first ≤ 4096 * k) × (4096 * (k + 1) ≤ self.last) }
+    {
+        let begin = BLOCK * u64::from(k);
+        self.first <= begin && begin + BLOCK <= self.last
     }
 }

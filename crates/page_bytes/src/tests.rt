@@ -1,5 +1,7 @@
 //! Changes at the edges of blocks, worked out by hand.
-use crate::{ByteRange, Page};
+use crate::ByteRange;
+
+type Page = [u8; 4096];
 
 /// A page of sevens.
 fn sevens() -> Page {

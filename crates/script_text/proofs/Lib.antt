@@ -6,3 +6,5 @@ pub mod OneLine
 pub mod Printing
 pub mod Rows
 pub mod PrintedRows
+pub mod FormedCalls
+pub mod FormedSteps

@@ -5,7 +5,7 @@ use Rattle.std.specs.Fmt.{digits}
 use Rattle.hex.specs.Hex.{encode_with}
 use Rattle.tee_types.specs.declared.call.Call.TheVariants.{Create, Open, Close, Read, Write, Truncate, Seek, Rename, Delete, Info, EnumNew, EnumStart, EnumNext, EnumReset, EnumFree}
 use Rattle.tee_types.specs.declared.call.Whence.TheVariants.{Set, Cur, End}
-use Rattle.tee_types.specs.declared.reply.Reply.TheVariants.{Done, Handle, Content, Info as InfoReply, Found, Refused, Misuse, Corrupt, NotAvailable, InDoubt, CounterSpent, NoMemory}
+use Rattle.tee_types.specs.declared.reply.Reply.TheVariants.{Done, Handle, Content, Info as InfoReply, Found, Refused, Misuse, Corrupt, NotAvailable, CounterSpent, NoMemory}
 use Rattle.tee_types.specs.declared.reply.Code.TheVariants.{NoSpace}
 use Rattle.tee_types.specs.declared.reply.Reason.TheVariants.{TooMany}
 use Rattle.tee_types.specs.declared.reply.Device.TheVariants.{Dir, File}
@@ -38,10 +38,10 @@ flags = refl
 replies : map reply_text
     (InfoReply 32 5 (record { bits = 1 }) (0xa0 ∷ []) ∷ Found (0x6d ∷ []) 7 ∷ Refused NoSpace ∷ Misuse TooMany ∷ Corrupt
     ∷ NotAvailable (Fault (File 272) 3) ∷ NotAvailable (Fault Dir 1) ∷ NotAvailable (CardResult 0x85)
-    ∷ InDoubt 3 ∷ CounterSpent 4294967295 ∷ NoMemory ∷ [])
+    ∷ CounterSpent 4294967295 ∷ NoMemory ∷ [])
     ≡ codes "ok 32 5 r a0" ∷ codes "ok 6d 7" ∷ codes "STORAGE_NO_SPACE" ∷ codes "misuse TOO_MANY" ∷ codes "CORRUPT_OBJECT"
     ∷ codes "STORAGE_NOT_AVAILABLE file 272 3" ∷ codes "STORAGE_NOT_AVAILABLE dir 1" ∷ codes "STORAGE_NOT_AVAILABLE result 0x0085"
-    ∷ codes "in-doubt 3" ∷ codes "counter-spent 4294967295" ∷ codes "no-memory" ∷ []
+    ∷ codes "counter-spent 4294967295" ∷ codes "no-memory" ∷ []
 unfolding digits encode_with flags_text reply_text
 replies = refl
 

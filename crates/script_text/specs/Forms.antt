@@ -4,13 +4,12 @@ use Rattle.std.specs.Fmt.{signed_decimal}
 use Rattle.std.specs.Int.{w32, w16, to_be_bytes}
 use Rattle.hex.specs.Hex.{encode_lower}
 use Rattle.tee_types.specs.declared.flags.Flags.{Flags}
-use Rattle.tee_types.specs.declared.flags.TheConstants.{READ, WRITE, WRITE_META, SHARE_READ, SHARE_WRITE, OVERWRITE}
 use Rattle.tee_types.specs.declared.call.Call.{Call}
 use Rattle.tee_types.specs.declared.call.Call.TheVariants.{Create, Open, Close, Read, Write, Truncate, Seek, Rename, Delete, Info, EnumNew, EnumStart, EnumNext, EnumReset, EnumFree}
 use Rattle.tee_types.specs.declared.call.Whence.{Whence}
 use Rattle.tee_types.specs.declared.call.Whence.TheVariants.{Set, Cur, End}
 use Rattle.tee_types.specs.declared.reply.Reply.{Reply}
-use Rattle.tee_types.specs.declared.reply.Reply.TheVariants.{Done, Handle, Content, Info as InfoReply, Found, Refused, Misuse, Corrupt, NotAvailable, InDoubt, CounterSpent, NoMemory}
+use Rattle.tee_types.specs.declared.reply.Reply.TheVariants.{Done, Handle, Content, Info as InfoReply, Found, Refused, Misuse, Corrupt, NotAvailable, CounterSpent, NoMemory}
 use Rattle.tee_types.specs.declared.reply.Code.{Code}
 use Rattle.tee_types.specs.declared.reply.Code.TheVariants.{AccessConflict, BadParameters, ItemNotFound, Overflow, NoSpace}
 use Rattle.tee_types.specs.declared.reply.Reason.{Reason}
@@ -19,7 +18,7 @@ use Rattle.tee_types.specs.declared.reply.Device.{Device}
 use Rattle.tee_types.specs.declared.reply.Device.TheVariants.{Dir, File, Card, Entropy}
 use Rattle.tee_types.specs.declared.reply.Cause.{Cause}
 use Rattle.tee_types.specs.declared.reply.Cause.TheVariants.{Fault, Frame, CardResult}
-use Rattle.tee_types.specs.Rights.{has, is_known}
+use Rattle.tee_types.specs.Rights.{read_bit, write_bit, write_meta_bit, share_read_bit, share_write_bit, overwrite_bit, has, is_known}
 use Rattle.script_text.specs.declared.script.Control.{Control}
 use Rattle.script_text.specs.declared.script.Control.TheVariants.{Serial, Phase}
 
@@ -35,8 +34,8 @@ letter flags bits code = if has flags bits then code ∷ [] else []
 -- the letters r w m R W o of the bits that are set
 abbrev pub letters_text : Flags → List ℕ
 letters_text flags =
-    letter flags READ 114 ++ letter flags WRITE 119 ++ letter flags WRITE_META 109
-    ++ letter flags SHARE_READ 82 ++ letter flags SHARE_WRITE 87 ++ letter flags OVERWRITE 111
+    letter flags read_bit 114 ++ letter flags write_bit 119 ++ letter flags write_meta_bit 109
+    ++ letter flags share_read_bit 82 ++ letter flags share_write_bit 87 ++ letter flags overwrite_bit 111
 
 -- letters, `-` for no bit, or `0x` and eight digits where a bit outside the six is set
 unfoldable pub flags_text : Flags → List ℕ
@@ -116,6 +115,5 @@ reply_text (Refused code) = code_text code
 reply_text (Misuse reason) = codes "misuse " ++ reason_text reason
 reply_text Corrupt = codes "CORRUPT_OBJECT"
 reply_text (NotAvailable cause) = codes "STORAGE_NOT_AVAILABLE " ++ cause_text cause
-reply_text (InDoubt commit) = codes "in-doubt " ++ decimal commit
 reply_text (CounterSpent counter) = codes "counter-spent " ++ decimal counter
 reply_text NoMemory = codes "no-memory"

@@ -6,3 +6,4 @@ pub mod Grammar
 pub mod Parsed
 pub mod Forms
 pub mod Text
+pub mod Laws

@@ -10,7 +10,7 @@ use Rattle.std.specs.Str.Parse.{digits_value, starts_with_minus, without_leading
 use Rattle.hex.specs.Hex.{decode_of}
 use Rattle.uuid.specs.Text.{parsed}
 use Rattle.tee_types.specs.declared.flags.Flags.{Flags}
-use Rattle.tee_types.specs.declared.flags.TheConstants.{READ, WRITE, WRITE_META, SHARE_READ, SHARE_WRITE, OVERWRITE}
+use Rattle.tee_types.specs.Rights.{read_bit, write_bit, write_meta_bit, share_read_bit, share_write_bit, overwrite_bit}
 use Rattle.tee_types.specs.declared.call.Whence.{Whence}
 use Rattle.tee_types.specs.declared.call.Whence.TheVariants.{Set, Cur, End}
 
@@ -98,8 +98,8 @@ unfoldable pub letter_flags_of : List ℕ → Option Flags
 letter_flags_of word =
     if same_word word (codes "-") then Some (record { bits = 0 })
     else if are_flag_letters word then Some (record {
-      bits = count_of word 114 * READ + count_of word 119 * WRITE + count_of word 109 * WRITE_META
-          + count_of word 82 * SHARE_READ + count_of word 87 * SHARE_WRITE + count_of word 111 * OVERWRITE;
+      bits = count_of word 114 * read_bit + count_of word 119 * write_bit + count_of word 109 * write_meta_bit
+          + count_of word 82 * share_read_bit + count_of word 87 * share_write_bit + count_of word 111 * overwrite_bit;
     })
     else None
 

@@ -3,6 +3,7 @@
 
 mod append;
 mod calls;
+pub mod laws;
 mod print;
 mod print_call;
 mod print_reply;

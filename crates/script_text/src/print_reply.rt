@@ -123,7 +123,6 @@ pub(crate) fn put_reply(out: &mut Vec<u8>, reply: &Reply) -> Result<(), NoMemory
             put(out, b"STORAGE_NOT_AVAILABLE ")?;
             put_cause(out, cause)
         }
-        Reply::InDoubt(commit) => put_word_number(out, b"in-doubt ", *commit as u64),
         Reply::CounterSpent(counter) => put_word_number(out, b"counter-spent ", *counter as u64),
         Reply::NoMemory => put(out, b"no-memory"),
     }

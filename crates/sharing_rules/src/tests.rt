@@ -1,8 +1,4 @@
-use crate::{
-    compatible, handles_without_rights_are_compatible, may_open, sharing_is_symmetric,
-    write_meta_is_exclusive,
-};
-use std::test::Fail;
+use crate::compatible;
 use tee_types::{Flags, READ, SHARE_READ, SHARE_WRITE, WRITE, WRITE_META};
 
 // READ and WRITE with what they share, and whether handles with the flags on the left and on the right may be open
@@ -52,17 +48,4 @@ fn pairs_of_handles_share_by_the_table(rt: HostRuntime) {
             "{right} {left}"
         );
     }
-    sharing_is_symmetric();
-    handles_without_rights_are_compatible();
-    write_meta_is_exclusive();
-}
-
-#[test]
-fn a_new_handle_is_held_against_each_open_one(rt: HostRuntime) {
-    let reader = flags(READ | SHARE_READ);
-    let alone = flags(READ);
-    assert!(rt; may_open(alone, &[]));
-    assert!(rt; may_open(reader, &[reader, flags(SHARE_READ)]));
-    assert!(rt; !may_open(reader, &[reader, alone]));
-    assert!(rt; !may_open(reader, &[alone, reader]));
 }

@@ -3,7 +3,7 @@
 ghost use Rattle.std.specs.Prelude.{◌≡◌, ◌≤◌, ◌+◌, ◌↔◌, get_or, None, IsTrue};
 ghost use Rattle.std.specs.Option.{option_map};
 ghost use Rattle.rpmb_card.specs.Protocol.{last_counter};
-ghost use Rattle.open_table.specs.Table.{allows_open, has_open};
+ghost use Rattle.open_table.specs.Table.{allows_on_file, is_file_open};
 ghost use Rattle.crash_core.specs.EntryChanges.{index_of};
 ghost use Rattle.store_commit.specs.Changes.{FitsIn, change_of};
 ghost use Rattle.store_commit.specs.Sides.{IsSettled};
@@ -120,14 +120,14 @@ impl<F: StoreFile + Drop, R: RpmbPort + Drop> Gate<F, R> {
 
     /// Whether a new handle with these flags may be opened beside every open handle on that file.
     pub fn allows(&self, file: u16, flags: Flags) -> bool
-        ensures { result ≡ allows_open self.now.open_handles file flags }
+        ensures { result ≡ allows_on_file self.now.open_handles file flags }
     {
         self.handles.allows(file, flags)
     }
 
     /// Whether any handle is open on that file.
     pub fn any_open(&self, file: u16) -> bool
-        ensures { result ≡ has_open self.now.open_handles file }
+        ensures { result ≡ is_file_open self.now.open_handles file }
     {
         self.handles.any(file)
     }

@@ -2,22 +2,10 @@
 //! prints the history of calls and replies.
 #![tactic(auto)]
 
-mod phase;
-mod playing;
-mod printing;
-mod reading;
-mod run;
-mod status;
-#[cfg(test)]
-mod tests;
-mod writing;
-
-use run::run;
-use status::{Status, status_number, status_text};
-use std::alloc::Global;
 use std::env::Env;
 use std::process::ExitCode;
 use std::{env, io};
+use store_run::{Status, run, status_number, status_text};
 use tee_ports::{StdSink, StdSource};
 
 /// The words behind the program's name. Words that can't be read are none.

@@ -1,5 +1,5 @@
 ghost use Rattle.std.specs.Prelude.{◌≡◌, ◌≤◌, [], ◌∷◌, ◌++◌, length};
-ghost use Rattle.store_model.specs.LegalHistory.{events_of};
+ghost use Rattle.store_model.specs.Record.{events_of};
 ghost use Rattle.history_seats.specs.Views.{new_gate};
 
 use crate::{GateSeat, HistoryTable, PassSeat};
@@ -7,14 +7,14 @@ use std::test::Fail;
 use store_model::{Event, History, Mark};
 use tee_types::{Call, Cause, Device, Reply};
 
-/// A call whose commit is in doubt, since the card gave no answer.
+/// A delete whose commit is in doubt, since the card gave no answer.
 fn doubted_call() -> Event
-    ensures { result ≡ Event.Call 0 0 Call.EnumNew (Reply.NotAvailable (Cause.Fault Device.Card 1)) (Mark.Doubtful 1) }
+    ensures { result ≡ Event.Call 0 0 (Call.Delete 1) (Reply.NotAvailable (Cause.Fault Device.Card 1)) (Mark.Doubtful 1) }
 {
     Event::Call {
         session: 0,
         number: 0,
-        call: Call::EnumNew,
+        call: Call::Delete { handle: 1 },
         reply: Reply::NotAvailable(Cause::Fault {
             device: Device::Card,
             count: 1,
@@ -33,9 +33,10 @@ fn land_doubt(table: &HistoryTable, gate: &mut GateSeat, history: &mut History) 
     ensures decided { (gate.new.table ≡ table.now) × (gate.new.knows.decided ≡ 2) }
 {
     let pass = gate.split_pass(table, 0);
-    let doubted = gate.append(table, None, pass, history, doubted_call());
+    let slot = gate.split_slot(table, 1, 0);
+    let doubted = gate.append(table, Some(slot), pass, history, doubted_call());
     let place = gate.append_landed(table, history, 1);
-    let seats = gate.refresh(table, None, doubted.pass);
+    let seats = gate.refresh(table, doubted.slot, doubted.pass);
     gate.drop_doubt(table);
     (place, seats.pass)
 }

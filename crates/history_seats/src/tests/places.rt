@@ -1,5 +1,5 @@
 ghost use Rattle.std.specs.Prelude.{◌≡◌, ◌≤◌, [], ◌∷◌, ◌++◌, length, Some};
-ghost use Rattle.store_model.specs.LegalHistory.{events_of};
+ghost use Rattle.store_model.specs.Record.{events_of};
 ghost use Rattle.history_seats.specs.Views.{Sight, SlotView, new_gate};
 
 use crate::{GateSeat, HistoryTable, PassSeat, SlotSeat};

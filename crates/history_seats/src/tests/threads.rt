@@ -39,7 +39,7 @@ struct Desk<L: TableName> {
 
 impl<L: TableName> Model for Desk<L> {
     ghost use Rattle.std.specs.Prelude.{◌≡◌};
-    ghost use Rattle.store_model.specs.LegalHistory.{events_of};
+    ghost use Rattle.store_model.specs.Record.{events_of};
     ghost use Rattle.history_seats.specs.Views.{Sight, GateView};
 
     ghost Value = { Sight GateView };
@@ -60,14 +60,15 @@ struct Caller<L: TableName> {
 
 impl<L: TableName> Model for Caller<L> {
     ghost use Rattle.std.specs.Prelude.{◌≡◌, Some};
-    ghost use Rattle.history_seats.specs.Records.{count_of};
+    ghost use Rattle.store_model.specs.History.{count_of};
+    ghost use Rattle.store_model.specs.Record.{events_of};
     ghost use Rattle.history_seats.specs.Views.{Sight, PassView};
 
     ghost Value = { Unit {0} };
 
     ghost view = { λ _. tt };
 
-    ghost invariant = { λ c. (pass : Sight PassView) × (c.pass ≡ Some pass) × (pass.table ≡ L.table) × (pass.knows.session ≡ c.session) × (count_of c.session pass.knows.seen ≡ c.made) };
+    ghost invariant = { λ c. (pass : Sight PassView) × (c.pass ≡ Some pass) × (pass.table ≡ L.table) × (pass.knows.session ≡ c.session) × (count_of c.session (events_of pass.knows.seen) ≡ c.made) };
 }
 
 /// Makes the session's next call.

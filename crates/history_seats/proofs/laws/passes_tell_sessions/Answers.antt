@@ -1,5 +1,5 @@
-use Rattle.history_seats.proofs.SessionParts.{session-whole}
+use Rattle.history_seats.proofs.SessionParts.{session-told}
 use Rattle.history_seats.proofs.laws.passes_tell_sessions.Goals as goal
 
 pub returns : goal.returns
-returns c = λ dishonest start gate pass fits range legal. session-whole pass.session dishonest start pass.seen gate.all fits.begins range legal
+returns c = λ start gate pass fits none range due. session-told start gate pass fits none range due

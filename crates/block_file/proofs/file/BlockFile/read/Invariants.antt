@@ -1,8 +1,9 @@
-use Rattle.std.proofs.Common.{◌≡◌, ◌+◌, ◌-◌, ◌*◌, ◌<◌, ◌≤◌, ℕ, get_or, true}
+use Rattle.std.proofs.Common.{◌≡◌, ◌-◌, ◌≤◌, ℕ, get_or, IsTrue}
 use Rattle.disk_model.specs.Calls.{Rests}
 use Rattle.htree_file.specs.Answers.{FilePassed}
-use Rattle.page_bytes.specs.Ranges.{meets}
-use Rattle.block_file.specs.Reads.{IsByte, WasRead}
+use Rattle.page_bytes.specs.Ranges.{first_block}
+use Rattle.block_file.specs.Parts.{AreRead}
+use Rattle.block_file.specs.Reads.{after_calls}
 use Rattle.block_file.proofs.file.BlockFile.read.Given as goal
 
 abbrev pub invariant-loop-k : goal.invariant-loop-k
@@ -10,9 +11,8 @@ invariant-loop-k g l = record {
   same : l.self ≡ record l.initial.self { file = l.self.file };
   rests : Rests (g.F.StoreFile.state l.initial.self.file) (g.F.StoreFile.state l.self.file);
   passed : FilePassed (g.F.StoreFile.state l.initial.self.file) (g.F.StoreFile.state l.self.file);
-  read : (j : ℕ) → j < l.k → meets l.range.first l.range.last j ≡ true
-      → WasRead l.initial.self.key l.initial.self.tree (g.F.StoreFile.state l.initial.self.file) (g.F.StoreFile.state l.self.file) j;
-  bytes : (i : ℕ) → i < l.range.last - l.range.first → l.range.first + i < 4096 * l.k
-      → IsByte l.initial.self.key l.initial.self.tree (g.F.StoreFile.state l.initial.self.file) (g.F.StoreFile.state l.self.file) (l.range.first + i) (get_or l.into i 0);
+  read : AreRead l.initial.self.key l.initial.self.tree (g.F.StoreFile.state l.initial.self.file) (g.F.StoreFile.state l.self.file) l.range l.k l.into;
+  counted : IsTrue (g.F.StoreFile.state l.initial.self.file).tells_arms
+      → (g.F.StoreFile.state l.self.file).arms ≡ after_calls (l.k - first_block l.range) (g.F.StoreFile.state l.initial.self.file).arms;
   rest : (i : ℕ) → l.range.last - l.range.first ≤ i → get_or l.into i 0 ≡ get_or l.initial.into i 0;
 }

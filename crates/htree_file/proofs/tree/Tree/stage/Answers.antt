@@ -11,9 +11,15 @@ use Rattle.htree_file.proofs.tree.Tree.stage.Goals as goal
 pub invariant_of-self : goal.invariant_of-self
 invariant_of-self g c =
     let t = c.self.inside in
-    let inv = c.self.invariant in
-    (inv.0, ap length (held c.stage.new.next t.next.items t.next.len (omega arith)) ∙ (let room : length c.stage.new.next ≡ 256 = omega (arith, inv.1) in room), inv.2, inv.3, inv.4, inv.5,
-      none_open _ _ t.stage (ap (λ (v : TreeValue g.row.F.Denot). v.stage) c.self.view_is ∙ c.requires.idle))
+    let inv = c.self.invariant in (
+      inv.0,
+      ap length (held c.stage.new.next t.next.items t.next.len (omega arith)) ∙ (let room : length c.stage.new.next ≡ 256 = omega (arith, inv.1) in room),
+      inv.2,
+      inv.3,
+      inv.4,
+      inv.5,
+      none_open _ _ t.stage (ap (λ (v : TreeValue g.row.F.Denot). v.stage) c.self.view_is ∙ c.requires.idle),
+    )
 
 pub returns-in_err-root-clause-keeps : goal.returns-in_err-root-clause-keeps
 returns-in_err-root-clause-keeps g c =

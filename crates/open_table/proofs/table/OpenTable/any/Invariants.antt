@@ -1,5 +1,5 @@
 use Rattle.std.proofs.Common.{◌≡◌}
-use Rattle.open_table.specs.Table.{has_open}
+use Rattle.open_table.specs.Table.{is_file_open}
 use Rattle.open_table.proofs.table.OpenTable.any.Given as goal
 
 -- what the records that are left answer
@@ -7,4 +7,4 @@ abbrev pub invariant-loop-record : goal.invariant-loop-record
 invariant-loop-record l =
     (goal.iterator-loop-record).can_next l.record-iterator ×
     (goal.iterator-loop-record).is_finite l.record-iterator ×
-    (has_open l.self l.file ≡ has_open (record { records = l.record-iterator; spare = 0 }) l.file)
+    (is_file_open l.self l.file ≡ is_file_open (record { records = l.record-iterator; spare = 0 }) l.file)

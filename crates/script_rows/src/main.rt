@@ -1,0 +1,77 @@
+//! Runs rows. Each row is a script, how its run must end, and what it must put. Prints what differs, one line for each row
+//! that does, and how many rows there are.
+//!
+//! The rows are read from standard input. A row begins with a line `== NAME status NUMBER`, where behind status 3 stands
+//! `line N` and behind status 8 `bytes` or `apps N`. Lines of settings may follow, then the script, then a line `--`, and then
+//! what must be put, where empty lines are passed over. What stands before the first row is passed over, too.
+//!
+//! A setting is `= words WORD..` (the command line, else `run`), `= source fails N` (its call N), `= sink holds N` (so many bytes),
+//! or `= padded to N` (empty lines behind the script, up to so many bytes).
+//!
+//! In a line `{TEXT*N}` stands for N times that text, `{xNN}` for the byte of two hex digits, and `{end}` at its end says that no
+//! newline follows. A line `for A to B: TEXT` stands for one line for each number, where `{n}` is the number and `{n:04x}` its
+//! four hex digits.
+#![tactic(auto)]
+
+use anyhow::Context;
+use row::Row;
+use trial::difference;
+
+mod marks;
+mod row;
+mod settings;
+mod trial;
+
+/// How many rows were run, and how many of them differ.
+#[derive(Drop)]
+struct Count {
+    rows: u64,
+    differ: u64,
+}
+
+/// Runs a row, and prints its line where it differs.
+fn try_row(rt: &(impl Print + AllocGlobal), count: &mut Count, row: &Row) -> anyhow::Result<()> {
+    count.rows = count.rows.saturating_add(1);
+    if let Some(text) = difference(rt.alloc(), row)? {
+        count.differ = count.differ.saturating_add(1);
+        println!(rt; "{}: {text}", row.name.as_str())?;
+    }
+    Ok(())
+}
+
+/// Takes the next line: it belongs to the row, or begins another, and the row before it is run.
+fn take_line(
+    rt: &(impl Print + AllocGlobal),
+    count: &mut Count,
+    row: &mut Option<Row>,
+    line: &str,
+) -> anyhow::Result<()> {
+    if let Some(head) = line.strip_prefix("== ") {
+        if let Some(ended) = row.replace(Row::new(rt.alloc(), head)?) {
+            try_row(rt, count, &ended)?;
+        }
+    } else if let Some(row) = row.as_mut() {
+        row.push_line(rt.alloc(), line)?;
+    }
+    Ok(())
+}
+
+fn main(rt: HostRuntime) -> anyhow::Result<()> {
+    let mut count = Count { rows: 0, differ: 0 };
+    let mut row = None;
+    let mut number = 0u64;
+    for line in rt.lines(rt.alloc()) {
+        number = number.saturating_add(1);
+        take_line(&rt, &mut count, &mut row, line?.as_str()).context(format_args!(
+            "line {number}"
+        ))?;
+    }
+    if let Some(last) = row {
+        try_row(&rt, &mut count, &last)?;
+    }
+    println!(rt; "{} rows, {} differ", count.rows, count.differ)?;
+    if count.differ > 0 {
+        anyhow::bail!("some rows differ");
+    }
+    Ok(())
+}

@@ -1,0 +1,6 @@
+pub mod Answered
+pub mod Pushing
+pub mod Sent
+pub mod Acts
+pub mod Progress
+pub mod Running

@@ -1,0 +1,76 @@
+//! How a run ends.
+
+ghost use Rattle.std.specs.Prelude.{◌≡◌};
+ghost use Rattle.store_run.specs.Exit.{status_text, status_number};
+
+use std::alloc::AllocError;
+
+/// How a run ends.
+#[derive(Clone, Copy, Debug, PartialEq, Eq)]
+pub enum Status {
+    /// The script was read to its end, and every step was run and written.
+    Done,
+    /// The words are no form of the command line.
+    Usage,
+    /// The line of this number, from 1, is the first outside the grammar.
+    BadLine(u32),
+    /// The source failed.
+    ReadFault,
+    /// The sink failed, or it is full.
+    WriteFault,
+    /// The script passes a limit.
+    TooLong(Excess),
+    /// There was no memory.
+    NoMemory,
+}
+
+/// The limit that a script passes.
+#[derive(Clone, Copy, Debug, PartialEq, Eq)]
+pub enum Excess {
+    /// It has more than 16,777,216 bytes.
+    Bytes,
+    /// It declares so many applications, more than 16.
+    Apps(u32),
+}
+
+impl From<AllocError> for Status {
+    ghost use Rattle.std.specs.Prelude.{◌≡◌};
+    ghost use Rattle.store_run.specs.declared.status.Status.TheVariants.{NoMemory};
+
+    ghost from_gives = { λ _ e. e ≡ NoMemory };
+
+    fn from(_: AllocError) -> Status {
+        Status::NoMemory
+    }
+}
+
+/// The text that goes to standard error.
+pub fn status_text(status: &Status) -> &'static str
+    ensures { result.now ≡ status_text status.now }
+{
+    match status {
+        Status::Done => "",
+        Status::Usage => "usage: tee_run run | tee_run soak N",
+        Status::BadLine(_) => "bad line",
+        Status::ReadFault => "read fault",
+        Status::WriteFault => "write fault",
+        Status::TooLong(Excess::Bytes) => "script too long",
+        Status::TooLong(Excess::Apps(_)) => "too many applications",
+        Status::NoMemory => "no memory",
+    }
+}
+
+/// The exit status.
+pub fn status_number(status: &Status) -> u8
+    ensures { result ≡ status_number status.now }
+{
+    match status {
+        Status::Done => 0,
+        Status::Usage => 2,
+        Status::BadLine(_) => 3,
+        Status::ReadFault => 4,
+        Status::WriteFault => 5,
+        Status::TooLong(_) => 8,
+        Status::NoMemory => 9,
+    }
+}

@@ -1,5 +1,0 @@
-pub mod Pushing
-pub mod Sent
-pub mod Acts
-pub mod Progress
-pub mod Running
