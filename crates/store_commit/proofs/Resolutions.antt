@@ -138,6 +138,7 @@ undone_gate g h o d n index old new gate undone ends =
     let entries : h.dir.entries ≡ g.dir.entries = ap (λ (v : DirView). v.entries) undone.same in
     record {
       stands = undone.settled;
+      due = omega arith;
       names = subst (IsIndexOf index) (sym entries) gate.names;
       held = subst (λ (l : List (Option DirEntry)). AreHolds l new) (sym entries) (holds_fewer g.dir.entries old new d.change gate.held ends);
     }

@@ -54,7 +54,7 @@ pub struct Gate<F: StoreFile + Drop, R: RpmbPort + Drop> {
 }
 
 impl<F: StoreFile + Drop, R: RpmbPort + Drop> Model for Gate<F, R> {
-    ghost use Rattle.store_commit.specs.Gates.{GateValue, IsGate};
+    ghost use Rattle.store_commit.specs.Gates.{GateValue, IsGate, room_left};
     ghost use Rattle.store_commit.specs.Sides.{sides};
 
     ghost Value = { GateValue F R };
@@ -65,7 +65,7 @@ impl<F: StoreFile + Drop, R: RpmbPort + Drop> Model for Gate<F, R> {
       counter = g.counter;
       doubt = g.doubt;
       open_handles = g.handles;
-      room = g.index.spare;
+      room = room_left g.index g.doubt;
       holds = g.holds;
     } };
 
