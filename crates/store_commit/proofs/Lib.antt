@@ -16,3 +16,4 @@ pub mod Mounted
 pub mod Formatting
 pub mod Indexing
 pub mod Marking
+pub mod Rearming

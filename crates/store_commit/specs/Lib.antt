@@ -16,3 +16,4 @@ pub mod Blocks
 pub mod Mounts
 pub mod Formats
 pub mod Marks
+pub mod Arming
