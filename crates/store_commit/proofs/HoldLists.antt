@@ -66,6 +66,7 @@ unnamed_clear entries index file unnamed i f at = by_way (set_at entries index i
 pub holds_after : (entries : List (Option DirEntry)) (old new : List (Option ℕ)) (change : EntryChange) → AreHolds entries old → EndsHoldOf change old new
     → AreHolds (entries_after entries change) new
 holds_after entries old new (Put index e) holds without = record {
+  within = λ session file held. holds.within session file (unless_was e.file file (file_held old session) (sym (without session) ∙ held)).0;
   unnamed = λ session file held.
       let was = unless_was e.file file (file_held old session) (sym (without session) ∙ held) in
       unnamed_put entries index e file (holds.unnamed session file was.0) was.1;
@@ -73,6 +74,7 @@ holds_after entries old new (Put index e) holds without = record {
       holds.single a b file (unless_was e.file file (file_held old a) (sym (without a) ∙ x)).0 (unless_was e.file file (file_held old b) (sym (without b) ∙ y)).0;
 }
 holds_after entries old new (Clear index) holds same = subst (AreHolds (entries_after entries (Clear index))) (sym same) (record {
+  within = holds.within;
   unnamed = λ session file held. unnamed_clear entries index file (holds.unnamed session file held);
   single = holds.single;
 })
@@ -85,6 +87,7 @@ none_held (suc n) (suc session) file is = none_held n session file is
 
 pub no_holds : (entries : List (Option DirEntry)) (n : ℕ) → (let none : Option ℕ = None in AreHolds entries (replicate n none))
 no_holds entries n = record {
+  within = λ session file held. absurd (none_held n session file held);
   unnamed = λ session file held. absurd (none_held n session file held);
   single = λ a b file x y. absurd (none_held n a file x);
 }

@@ -15,3 +15,5 @@ pub mod Cards
 pub mod Mounted
 pub mod Formatting
 pub mod Indexing
+pub mod Marking
+pub mod Rearming

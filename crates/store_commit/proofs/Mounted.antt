@@ -1,5 +1,6 @@
 -- A gate that is mounted, and why one is not.
-use Rattle.std.proofs.Common.{◌≡◌, ◌⊎◌, ◌∙◌, ℕ, List, Option, None, Result, Ok, Err, IsTrue, refl, sym, ap, subst, inl, inr}
+use Rattle.std.proofs.Common.{◌≡◌, ◌⊎◌, ◌∙◌, ◌==◌, ℕ, Bool, true, false, List, Option, Some, None, Result, Ok, Err, IsTrue, refl, sym, ap, subst, inl, inr}
+use Rattle.std.specs.List.{list_all}
 use Rattle.disk_model.specs.State.{FileState}
 use Rattle.disk_model.specs.Calls.{Known}
 use Rattle.disk_model.specs.Keeps.{Anywhere, Keeps}
@@ -22,19 +23,22 @@ use Rattle.crash_core.specs.declared.fault.DirFault.{DirFault}
 use Rattle.crash_core.specs.declared.fault.DirFault.TheVariants.{Tree, WrongLength, Record, Double}
 use Rattle.crash_core.specs.Directory.{directory_of}
 use Rattle.crash_core.specs.Refusal.{Refusal, NoStore as BlankBlock, CardBlock as BadBlock, NoDirectory}
-use Rattle.crash_core.specs.CardBlock.{IsReference, root_in}
+use Rattle.crash_core.specs.CardBlock.{IsReference, first_outside, root_in, root_or}
+use Rattle.crash_core.specs.Pictures.{block_zero}
 use Rattle.crash_core.specs.DeviceKeys.{directory_key}
 use Rattle.crash_core.specs.Mounting.{directory_by, mounted_directory, unless_fault}
 use Rattle.dir_file.specs.View.{DirView}
 use Rattle.dir_file.specs.EntryForms.{AreEntriesOf}
 use Rattle.dir_file.specs.Held.{IsHeld}
-use Rattle.dir_file.specs.Loading.{DirCause, IsOutsideDir}
+use Rattle.dir_file.specs.Loading.{DirCause, IsOutsideDir, IsReadDirectory}
+use Rattle.dir_file.specs.Refusals.{DirDiffers}
 use Rattle.store_commit.specs.declared.fault.MountFault.{MountFault}
 use Rattle.store_commit.specs.declared.fault.MountFault.TheVariants.{NoStore, CardBlock, Directory, Frame, CardResult, Failed, Spent, NoMemory}
 use Rattle.store_commit.specs.Blocks.{block_answer, picture_of}
-use Rattle.store_commit.specs.Mounts.{CardRefused, MountRefused, OpensGate, Tells, directory_answer}
+use Rattle.store_commit.specs.Mounts.{CardRefused, MountDiffers, MountRefused, OpensGate, Tells, directory_answer}
 use Rattle.store_commit.specs.Sides.{IsSettled, Sides, sides}
 use Rattle.store_commit.proofs.Cards.{has_still}
+use Rattle.store_commit.proofs.Outside.{root_other, root_zero}
 use Rattle.store_commit.proofs.Ending.{settled_pictures}
 
 -- what a block names that is answered as a root
@@ -110,6 +114,48 @@ module _ (old new : FileState) (p0 p1 : PortState) (keys : Keys) (drew draws : �
       directory_refuses (Record index offset) is cause = shown (Record index offset) (λ o. o) is
       directory_refuses (Double index first) is cause = shown (Double index first) (λ o. o) is
 
+-- what differs where a mount is refused
+module _ (file : FileState) (p0 p1 : PortState) (keys : Keys) (drew draws : ℕ) where
+  pub card_differs : (fault : MountFault) → CardRefused p0 p1 (rpmb_key keys.huk) drew draws fault → MountDiffers file p0 keys fault
+  card_differs NoStore c = tt
+  card_differs (CardBlock byte) c = tt
+  card_differs (Directory d) c = absurd c
+  card_differs (Frame f) c = tt
+  card_differs (CardResult n) c = tt
+  card_differs (Failed cause) c = tt
+  card_differs Spent c = tt
+  card_differs NoMemory c = tt
+
+  -- block 0 alone refuses no directory
+  or_differs : (block : List ℕ) (o : Option ℕ) (fault : MountFault) → Err fault ≡ block_answer (root_or block o) → MountDiffers file p0 keys fault
+  or_differs block None fault is = absurd (cc (is))
+  or_differs block (Some offset) fault is = let e : fault ≡ CardBlock offset = cc (is) in subst (MountDiffers file p0 keys) (sym e) tt
+
+  pub block_differs : (block : List ℕ) (fault : MountFault) → Err fault ≡ block_answer (root_in block) → MountDiffers file p0 keys fault
+  block_differs block fault is = by_test (list_all (λ x. x == 0) block) refl
+    where
+      by_test : (b : Bool) → list_all (λ x. x == 0) block ≡ b → MountDiffers file p0 keys fault
+      by_test true zero_block = let e : fault ≡ NoStore = cc (is ∙ ap block_answer (root_zero block zero_block)) in subst (MountDiffers file p0 keys) (sym e) tt
+      by_test false other = or_differs block (first_outside block 0 256) fault (is ∙ ap block_answer (root_other block other))
+
+  pub directory_differs : (root : RootRef) → ((card : CardState) → HasCard p0 (rpmb_key keys.huk) card → root_in (block_zero card) ≡ Ok root)
+      → (fault : DirFault) → DirDiffers (directory_key keys) file root fault → MountDiffers file p0 keys (directory_answer fault)
+  directory_differs root named (Tree (FileFault count)) is = tt
+  directory_differs root named (Tree NoRoom) is = tt
+  directory_differs root named (Tree (BadHead long greatest)) is = record { root = root; named = named; differs = is }
+  directory_differs root named (Tree (Short end need)) is = record { root = root; named = named; differs = is }
+  directory_differs root named (Tree (Damaged n want found)) is = record { root = root; named = named; differs = is }
+  directory_differs root named (Tree (BadTag k want found)) is = record { root = root; named = named; differs = is }
+  directory_differs root named (Tree (NoEntropy count)) is = record { root = root; named = named; differs = is }
+  directory_differs root named (WrongLength bytes) is = record { root = root; named = named; differs = is }
+  directory_differs root named (Record index offset) is = record { root = root; named = named; differs = is }
+  directory_differs root named (Double index first) is = record { root = root; named = named; differs = is }
+
+-- what a block that is answered as a root names on the card
+pub card_names : (p0 : PortState) (k : List ℕ) (counter : ℕ) (block : List ℕ) (root : RootRef) → ((card : CardState) → HasCard p0 k card → Tells card counter block)
+    → Ok root ≡ block_answer (root_in block) → (card : CardState) → HasCard p0 k card → root_in (block_zero card) ≡ Ok root
+card_names p0 k counter block root tells names card has = ap root_in (tells card has).stands ∙ answer_root (root_in block) root names
+
 -- the gate
 module _ (old : FileState) (p0 p1 : PortState) (keys : Keys) (k : List ℕ) (counter : ℕ) (block : List ℕ) (root : RootRef) (s : FileState) (dir : DirView)
     (stays : p1.card ≡ p0.card) (same_key : k ≡ rpmb_key keys.huk) (tells : (card : CardState) → HasCard p0 (rpmb_key keys.huk) card → Tells card counter block)
@@ -139,15 +185,16 @@ module _ (old : FileState) (p0 p1 : PortState) (keys : Keys) (k : List ℕ) (cou
         };
   }
 
-  pub gate_opens : Keeps Anywhere old s → (Known old s → s.reads ≡ old.reads) → IsSynced s → IsVerified root dir.tree
+  pub gate_opens : Keeps Anywhere old s → (Known old s → s.reads ≡ old.reads) → IsSynced s → IsVerified root dir.tree → IsReadDirectory (directory_key keys) dir.tree (Ok dir.entries)
       → (Told old s → directory_of (directory_key keys) s.reads root ≡ Ok dir.entries) → OpensGate old p0 keys g
-  gate_opens keeps reads synced verified directory = record {
+  gate_opens keeps reads synced verified pages directory = record {
     devices = record { keeps = keeps; reads = reads; card = stays };
     tsk_is = tsk_is;
     key_is = same_key;
     settled = gate_settled;
     synced = synced;
     verified = subst (λ (r : RootRef). IsVerified r dir.tree) (sym root_is) verified;
+    pages = pages;
     directory = λ told card has. mounts_as old s p0 p1 keys 0 0 counter block tells root names s.reads (Ok dir.entries) (directory told) card has;
     pictures = settled_pictures g gate_settled;
   }

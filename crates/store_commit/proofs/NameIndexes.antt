@@ -1,5 +1,5 @@
 -- The index of names, as entries change.
-use Rattle.std.proofs.Common.{◌≡◌, ◌≢◌, ◌∙◌, ◌+◌, ◌<◌, ◌≤◌, ◌||◌, ◌==◌, ℕ, Bool, true, false, not, List, length, Option, Some, None, IsSome, if◌then◌else◌, is_eq, refl, sym, ap, subst, inl, inr, arith}
+use Rattle.std.proofs.Common.{◌≡◌, ◌≢◌, ◌∙◌, ◌+◌, ◌<◌, ◌≤◌, ◌||◌, ◌==◌, ℕ, Bool, true, false, not, List, length, Option, Some, None, IsSome, is_none, is_some, Result, Ok, Err, OnOk, if◌then◌else◌, is_eq, refl, sym, ap, subst, inl, inr, arith}
 use Rattle.std.specs.Prelude.{slice_set}
 use Rattle.std.proofs.lemmas.Bool.{and_parts, cases_eq, cases_lt}
 use Rattle.std.proofs.lemmas.List.{get_or_past, set-get_or, set-set}
@@ -13,13 +13,27 @@ use Rattle.crash_core.specs.Entries.{is_double, name_of}
 use Rattle.crash_core.specs.EntryLists.{entry_at}
 use Rattle.crash_core.proofs.EntryMaps.{self}
 use Rattle.crash_core.proofs.Lists.{set_else, set_here}
-use Rattle.crash_core.proofs.Names.{alike_is}
+use Rattle.crash_core.proofs.Names.{alike_is, name_test}
 use Rattle.dir_index.specs.Index.{IndexState, index_at}
-use Rattle.store_commit.specs.NameIndex.{AddsName, ClearsName, IsIndexOf, PutsName}
+use Rattle.store_commit.specs.declared.change.EntryChange.{EntryChange}
+use Rattle.store_commit.specs.declared.change.EntryChange.TheVariants.{Put, Clear}
+use Rattle.store_commit.specs.NameIndex.{AddsName, ClearsName, HasSameNames, IsIndexOf, PutsName, name_added, names_added}
 
 pub room_kept : (o : Option ℕ) (a b : ℕ) → (IsSome o → b ≡ a + 1) → (o ≡ None → b ≡ a) → a ≤ b
 room_kept None a b some none = let e = none refl in omega arith
 room_kept (Some n) a b some none = let e = some refl in omega arith
+
+pub not_true : (b : Bool) → true ≡ not b → b ≡ false
+not_true true is = absurd (cc (is))
+not_true false is = refl
+
+pub none_of : (o : Option ℕ) → false ≡ is_some o → o ≡ None
+none_of None is = refl
+none_of (Some n) is = absurd (cc (is))
+
+pub ok_then : {A B : Type 0} (r : Result A B) (P Q : Type 0) → (P → Q) → OnOk r P → OnOk r Q
+ok_then (Ok x) P Q step holds = step holds
+ok_then (Err e) P Q step holds = tt
 
 pub not_not : (b : Bool) → false ≡ not b → b ≡ true
 not_not true is = refl
@@ -201,3 +215,62 @@ clear_some s t i old names entries whole below at is = without_entry s t entries
 pub clear_none : (s : IndexState) (i : ℕ) → ClearsName s s None i
 clear_none s i entries whole below at is =
     subst (IsIndexOf s) (sym (set-get_or entries i None) ∙ ap (λ (o : Option DirEntry). slice_set entries i o) at) is
+
+-- at most one name comes
+pub added_most : (s : IndexState) (e : DirEntry) → name_added s e ≤ 1
+added_most s e = by_test (is_none (index_at s (name_of e)))
+  where
+    by_test : (b : Bool) → (if b then 1 else 0) ≤ 1
+    by_test true = omega arith
+    by_test false = omega arith
+
+pub changed_most : (s : IndexState) (change : EntryChange) → names_added s change ≤ 1
+changed_most s (Put index e) = added_most s e
+changed_most s (Clear index) = omega arith
+
+-- one comes where the name is not held
+pub added_one : (s : IndexState) (e : DirEntry) → index_at s (name_of e) ≡ None → name_added s e ≡ 1
+added_one s e none = ap (λ (o : Option ℕ). if is_none o then 1 else 0) none
+
+pub added_none : (s : IndexState) (e : DirEntry) (i : ℕ) → index_at s (name_of e) ≡ Some i → name_added s e ≡ 0
+added_none s e i held = ap (λ (o : Option ℕ). if is_none o then 1 else 0) held
+
+pub same_added : (s t : IndexState) (e : DirEntry) → index_at t (name_of e) ≡ index_at s (name_of e) → name_added t e ≡ name_added s e
+same_added s t e same = ap (λ (o : Option ℕ). if is_none o then 1 else 0) same
+
+pub same_changed : (s t : IndexState) (change : EntryChange) → HasSameNames s t → names_added t change ≡ names_added s change
+same_changed s t (Put index e) same = same_added s t e (same (name_of e))
+same_changed s t (Clear index) same = refl
+
+-- a name that is not taken out is held as before
+pub other_still : (s t : IndexState) (old new : DirEntry) → name_eq (name_of old) (name_of new) ≡ false
+    → ((other : ObjectName) → index_at t other ≡ (if is_eq (name_cmp other (name_of old)) then None else index_at s other))
+    → index_at t (name_of new) ≡ index_at s (name_of new)
+other_still s t old new unlike names =
+    names (name_of new) ∙ ap (λ (b : Bool). let o : Option ℕ = if b then None else index_at s (name_of new) in o) (by_test (is_eq (name_cmp (name_of new) (name_of old))) refl)
+  where
+    by_test : (b : Bool) → is_eq (name_cmp (name_of new) (name_of old)) ≡ b → is_eq (name_cmp (name_of new) (name_of old)) ≡ false
+    by_test false alike = alike
+    by_test true alike = absurd (cc (sym unlike ∙ ap (λ (n : ObjectName). name_eq n (name_of new)) (sym (alike_is (name_of new) (name_of old) alike))
+        ∙ (sym (name_test (name_of new) (name_of new)) ∙ ap is_eq (self (name_of new)))))
+
+-- the same names are those of the entries still
+pub same_index : (s t : IndexState) (entries : List (Option DirEntry)) → HasSameNames s t → IsIndexOf s entries → IsIndexOf t entries
+same_index s t entries same is = record {
+  found = λ name i held. is.found name i (sym (same name) ∙ held);
+  held = λ i e at. same (name_of e) ∙ is.held i e at;
+}
+
+-- a name that was put in and taken out again
+pub in_and_out : (s m t : IndexState) (name : ObjectName) (index : ℕ) → index_at s name ≡ None
+    → ((other : ObjectName) → index_at m other ≡ (if is_eq (name_cmp other name) then Some index else index_at s other))
+    → ((other : ObjectName) → index_at t other ≡ (if is_eq (name_cmp other name) then None else index_at m other)) → HasSameNames s t
+in_and_out s m t name index none comes goes other = by_test (is_eq (name_cmp other name)) refl
+  where
+    by_test : (b : Bool) → is_eq (name_cmp other name) ≡ b → index_at t other ≡ index_at s other
+    by_test true alike =
+        goes other ∙ ap (λ (b : Bool). let o : Option ℕ = if b then None else index_at m other in o) alike
+        ∙ sym none ∙ ap (index_at s) (sym (alike_is other name alike))
+    by_test false alike =
+        goes other ∙ ap (λ (b : Bool). let o : Option ℕ = if b then None else index_at m other in o) alike
+        ∙ comes other ∙ ap (λ (b : Bool). let o : Option ℕ = if b then Some index else index_at s other in o) alike

@@ -125,6 +125,7 @@ module _ (s : FileState) (d : DirView) (p0 p1 : PortState) (k0 k1 : List ℕ) (c
 -- the holds after a change that was not made
 pub holds_fewer : (entries : List (Option DirEntry)) (old new : List (Option ℕ)) (change : EntryChange) → AreHolds entries old → EndsHoldOf change old new → AreHolds entries new
 holds_fewer entries old new (Put index e) holds without = record {
+  within = λ session file held. holds.within session file (unless_was e.file file (file_held old session) (sym (without session) ∙ held)).0;
   unnamed = λ session file held. holds.unnamed session file (unless_was e.file file (file_held old session) (sym (without session) ∙ held)).0;
   single = λ a b file x y.
       holds.single a b file (unless_was e.file file (file_held old a) (sym (without a) ∙ x)).0 (unless_was e.file file (file_held old b) (sym (without b) ∙ y)).0;
@@ -137,6 +138,7 @@ undone_gate g h o d n index old new gate undone ends =
     let entries : h.dir.entries ≡ g.dir.entries = ap (λ (v : DirView). v.entries) undone.same in
     record {
       stands = undone.settled;
+      due = omega arith;
       names = subst (IsIndexOf index) (sym entries) gate.names;
       held = subst (λ (l : List (Option DirEntry)). AreHolds l new) (sym entries) (holds_fewer g.dir.entries old new d.change gate.held ends);
     }

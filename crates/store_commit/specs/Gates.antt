@@ -1,5 +1,5 @@
 -- What a contract sees of a gate.
-use Rattle.std.specs.Prelude.{◌≡◌, ◌+◌, ℕ, List, Option, Some, None}
+use Rattle.std.specs.Prelude.{◌≡◌, ◌+◌, ◌-◌, ◌≤◌, ℕ, List, Option, Some, None}
 use Rattle.disk_model.specs.State.{FileState}
 use Rattle.rpmb_card.specs.Port.{PortState}
 use Rattle.rpmb_host.specs.Calls.{HostState}
@@ -12,7 +12,7 @@ use Rattle.store_commit.specs.declared.change.CommitEnd.TheVariants.{Made, Dropp
 use Rattle.store_commit.specs.declared.change.EntryChange.{EntryChange}
 use Rattle.store_commit.specs.Changes.{FitsIn, entries_after}
 use Rattle.store_commit.specs.Holds.{AreHolds, EndsHoldOf}
-use Rattle.store_commit.specs.NameIndex.{IsIndexOf}
+use Rattle.store_commit.specs.NameIndex.{IsIndexOf, names_added}
 use Rattle.store_commit.specs.Sides.{IsInDoubt, IsSettled, Sides, sides}
 
 pub record GateValue (F R : Type 0) : Type 0 where
@@ -22,7 +22,7 @@ pub record GateValue (F R : Type 0) : Type 0 where
   pub doubt : Option Doubted
   -- the open handles of all sessions
   pub open_handles : TableState
-  -- how many names more the index takes without memory
+  -- how many names more the index takes without memory, beside the one that the commit in doubt may bring
   pub room : ℕ
   -- by session, the file that it holds
   pub holds : List (Option ℕ)
@@ -43,9 +43,18 @@ abbrev pub DoubtStands : Sides → Option Doubted → Type 0
 DoubtStands g None = IsSettled g
 DoubtStands g (Some d) = IsDoubtOf g d
 
+-- how many names the commit in doubt may bring
+abbrev pub names_due : IndexState → Option Doubted → ℕ
+names_due s None = 0
+names_due s (Some d) = names_added s d.change
+
+abbrev pub room_left : IndexState → Option Doubted → ℕ
+room_left s doubt = s.spare - names_due s doubt
+
 pub record IsGate (g : Sides) (doubt : Option Doubted) (index : IndexState) (holds : List (Option ℕ)) : Type 0 where
   pub stands : DoubtStands g doubt
   pub names : IsIndexOf index g.dir.entries
+  pub due : names_due index doubt ≤ index.spare
   pub held : AreHolds g.dir.entries holds
 
 -- the doubt that a commit leaves

@@ -1,5 +1,5 @@
 -- The files that sessions hold: each session at most one, before an entry names it.
-use Rattle.std.specs.Prelude.{◌≡◌, ◌≢◌, ◌==◌, if◌then◌else◌, ℕ, List, Option, Some, None, get_or}
+use Rattle.std.specs.Prelude.{◌≡◌, ◌≢◌, ◌<◌, ◌≤◌, ◌==◌, if◌then◌else◌, ℕ, List, Option, Some, None, get_or}
 use Rattle.dir_records.specs.declared.entry.DirEntry.{DirEntry}
 use Rattle.crash_core.specs.EntryLists.{IsUnnamed}
 use Rattle.crash_core.specs.EntryChanges.{file_put}
@@ -16,6 +16,7 @@ IsUnheld holds file = (session : ℕ) → file_held holds session ≢ Some file
 
 -- no entry names a file that is held, and no two sessions hold one file
 pub record AreHolds (entries : List (Option DirEntry)) (holds : List (Option ℕ)) : Type 0 where
+  pub within : (session file : ℕ) → file_held holds session ≡ Some file → file < 273
   pub unnamed : (session file : ℕ) → file_held holds session ≡ Some file → IsUnnamed entries file
   pub single : (a b file : ℕ) → file_held holds a ≡ Some file → file_held holds b ≡ Some file → a ≡ b
 
@@ -35,3 +36,15 @@ EndsHold (Some file) old new = HoldsWithout file old new
 
 abbrev pub EndsHoldOf : EntryChange → (old new : List (Option ℕ)) → Type 0
 EndsHoldOf change old new = EndsHold (file_put (change_of change)) old new
+
+-- an object's file that no entry names and no session holds
+pub record IsFreeFile (entries : List (Option DirEntry)) (holds : List (Option ℕ)) (file : ℕ) : Type 0 where
+  pub from : 1 ≤ file
+  pub below : file < 273
+  pub unnamed : IsUnnamed entries file
+  pub unheld : IsUnheld holds file
+
+-- the least such
+pub record IsLeastFreeFile (entries : List (Option DirEntry)) (holds : List (Option ℕ)) (file : ℕ) : Type 0 where
+  pub free : IsFreeFile entries holds file
+  pub least : (other : ℕ) → other < file → IsFreeFile entries holds other → ⊥

@@ -15,3 +15,5 @@ pub mod Noting
 pub mod Blocks
 pub mod Mounts
 pub mod Formats
+pub mod Marks
+pub mod Arming

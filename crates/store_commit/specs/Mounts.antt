@@ -4,6 +4,7 @@ use Rattle.disk_model.specs.Faults.{Rose}
 use Rattle.disk_model.specs.State.{FileState}
 use Rattle.disk_model.specs.Calls.{Known}
 use Rattle.disk_model.specs.Keeps.{Anywhere, Keeps}
+use Rattle.node_image.specs.declared.node.RootRef.{RootRef}
 use Rattle.htree_file.specs.Answers.{FileFailed}
 use Rattle.htree_file.specs.Making.{IsSynced}
 use Rattle.htree_file.specs.Opening.{IsVerified}
@@ -28,6 +29,8 @@ use Rattle.crash_core.specs.Pictures.{block_zero}
 use Rattle.store_commit.specs.declared.fault.MountFault.{MountFault}
 use Rattle.store_commit.specs.declared.fault.MountFault.TheVariants.{NoStore, CardBlock, Directory, Frame, CardResult, Failed, Spent, NoMemory}
 use Rattle.store_commit.specs.Blocks.{picture_of}
+use Rattle.dir_file.specs.Loading.{IsReadDirectory}
+use Rattle.dir_file.specs.Refusals.{DirDiffers}
 use Rattle.store_commit.specs.Sides.{EachPicture, IsSettled, Sides}
 
 -- no card that has the key is told
@@ -74,6 +77,16 @@ MountRefused old new p0 p1 keys drew draws (Frame fault) = NoCardOf p0 (rpmb_key
 MountRefused old new p0 p1 keys drew draws (CardResult result) = NoCardOf p0 (rpmb_key keys.huk)
 MountRefused old new p0 p1 keys drew draws fault = ⊥
 
+-- A directory that is refused differs, whatever its file is: under the reference that a card with the key names.
+pub record DiffersThere (file : FileState) (p0 : PortState) (keys : Keys) (fault : DirFault) : Type 0 where
+  pub root : RootRef
+  pub named : (card : CardState) → HasCard p0 (rpmb_key keys.huk) card → root_in (block_zero card) ≡ Ok root
+  pub differs : DirDiffers (directory_key keys) file root fault
+
+abbrev pub MountDiffers : FileState → PortState → Keys → MountFault → Type 0
+MountDiffers file p0 keys (Directory fault) = DiffersThere file p0 keys fault
+MountDiffers file p0 keys fault = Unit {0}
+
 -- What stands after a mount, refused or not: the card is as it was, and the calls of the directory's file were reads and at most one sync.
 pub record LeavesDevices (old new : FileState) (p0 p1 : PortState) : Type 0 where
   pub keeps : Keeps Anywhere old new
@@ -88,5 +101,7 @@ pub record OpensGate (old : FileState) (p0 : PortState) (keys : Keys) (g : Sides
   pub settled : IsSettled g
   pub synced : IsSynced g.file
   pub verified : IsVerified g.dir.root g.dir.tree
+  -- of any file: the entries are those of pages that the tree's nodes seal
+  pub pages : IsReadDirectory (directory_key keys) g.dir.tree (Ok g.dir.entries)
   pub directory : Told old g.file → (card : CardState) → HasCard p0 (rpmb_key keys.huk) card → mounted_directory keys (picture_of g.file.reads card) ≡ Ok g.dir.entries
   pub pictures : EachPicture g (λ m. m ≡ Ok g.dir.entries)

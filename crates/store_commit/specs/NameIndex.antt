@@ -1,5 +1,5 @@
 -- The index of names beside the entries of the directory.
-use Rattle.std.specs.Prelude.{◌≡◌, ◌≢◌, ◌<◌, ℕ, true, if◌then◌else◌, List, length, slice_set, Option, Some, None, IsSome}
+use Rattle.std.specs.Prelude.{◌≡◌, ◌≢◌, ◌<◌, ℕ, true, if◌then◌else◌, is_none, List, length, slice_set, Option, Some, None, IsSome}
 use Rattle.std.specs.Ordering.{is_eq, is_le}
 use Rattle.tee_types.specs.Identifier.{bytes_cmp}
 use Rattle.store_model.specs.declared.name.ObjectName.{ObjectName}
@@ -35,6 +35,19 @@ pub record IsLeastEntry (entries : List (Option DirEntry)) (app : List ℕ) (aft
 abbrev pub IsNextAbove : List (Option DirEntry) → (app : List ℕ) → (after : Option (List ℕ)) → Option DirEntry → Type 0
 IsNextAbove entries app after (Some e) = IsLeastEntry entries app after e
 IsNextAbove entries app after None = (i : ℕ) (f : DirEntry) → entry_at entries i ≡ Some f → is_above app after (name_of f) ≡ true → ⊥
+
+-- how many names more the index has with that one
+abbrev pub name_added : IndexState → DirEntry → ℕ
+name_added s e = if is_none (index_at s (name_of e)) then 1 else 0
+
+-- how many it has at most more once a change is made
+abbrev pub names_added : IndexState → EntryChange → ℕ
+names_added s (Put index e) = name_added s e
+names_added s (Clear index) = 0
+
+-- the same names are held, with the same indices
+abbrev pub HasSameNames : (old new : IndexState) → Type 0
+HasSameNames old new = (name : ObjectName) → index_at new name ≡ index_at old name
 
 -- the name is put in, where it is not held
 abbrev pub AddsName : (old new : IndexState) → DirEntry → (place : ℕ) → Type 0

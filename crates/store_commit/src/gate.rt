@@ -11,7 +11,8 @@ ghost use Rattle.store_commit.specs.Ends.{Leaves, Throughout};
 ghost use Rattle.store_commit.specs.Steps.{Steps};
 ghost use Rattle.store_commit.specs.Causes.{EndCause, EndIsDrawn, EndNotDrawn, EndNotOfCard, StaysCalm, counts};
 ghost use Rattle.store_commit.specs.Heard.{EndHeard};
-ghost use Rattle.store_commit.specs.Gates.{LeavesHolds, doubt_left, gate_sides};
+ghost use Rattle.store_commit.specs.Gates.{DoubtStands, LeavesHolds, doubt_left, gate_sides};
+ghost use Rattle.store_commit.specs.Holds.{AreHolds};
 ghost use Rattle.store_commit.specs.declared.change.CommitEnd.TheVariants.{Spent};
 
 use crate::change::{CommitEnd, EntryChange};
@@ -54,7 +55,7 @@ pub struct Gate<F: StoreFile + Drop, R: RpmbPort + Drop> {
 }
 
 impl<F: StoreFile + Drop, R: RpmbPort + Drop> Model for Gate<F, R> {
-    ghost use Rattle.store_commit.specs.Gates.{GateValue, IsGate};
+    ghost use Rattle.store_commit.specs.Gates.{GateValue, IsGate, room_left};
     ghost use Rattle.store_commit.specs.Sides.{sides};
 
     ghost Value = { GateValue F R };
@@ -65,7 +66,7 @@ impl<F: StoreFile + Drop, R: RpmbPort + Drop> Model for Gate<F, R> {
       counter = g.counter;
       doubt = g.doubt;
       open_handles = g.handles;
-      room = g.index.spare;
+      room = room_left g.index g.doubt;
       holds = g.holds;
     } };
 
@@ -110,7 +111,10 @@ impl<F: StoreFile + Drop, R: RpmbPort + Drop> Gate<F, R> {
 
     /// The number of the commit in doubt, if one is.
     pub fn doubt(&self) -> Option<u32>
-        ensures { result ≡ option_map (λ d. d.number) self.now.doubt }
+        ensures number { result ≡ option_map (λ d. d.number) self.now.doubt }
+        // What always holds of a gate: its directory and its card stand to each other, and each hold is on a file that no entry names.
+        ensures stands { DoubtStands (gate_sides F.state R.state self.now) self.now.doubt }
+        ensures held { AreHolds self.now.dir.dir.entries self.now.holds }
     {
         match self.doubt {
             Some(doubted) => Some(doubted.number),
@@ -183,7 +187,8 @@ impl<F: StoreFile + Drop, R: RpmbPort + Drop> Gate<F, R> {
 
     /// Gives back the directory's file and the port to the card.
     pub fn close(self) -> (F, R)
-        ensures { result ≡ (self.dir.file, self.host.port) }
+        ensures gives { result ≡ (self.dir.file, self.host.port) }
+        ensures stands { DoubtStands (gate_sides F.state R.state self) self.doubt }
     {
         let Gate {
             dir,

@@ -1,9 +1,15 @@
 //! Files that sessions hold, before an entry names them.
 
-ghost use Rattle.std.specs.Prelude.{◌≡◌};
-ghost use Rattle.store_commit.specs.Holds.{EndsHoldOf, HoldsWithout, unless_file};
+ghost use Rattle.std.specs.Prelude.{◌≡◌, ◌<◌, None, Some, slice_set};
+ghost use Rattle.dir_file.specs.EntryForms.{AreEntriesOf};
+ghost use Rattle.store_commit.specs.Holds.{AreHolds, EndsHoldOf, HoldsWithout, IsLeastFreeFile, file_held, unless_file};
 
 use crate::change::EntryChange;
+use crate::gate::Gate;
+use crate::marks::{FILES, first_unmarked, mark_held, mark_named};
+use dir_records::DirEntry;
+use rpmb_card::RpmbPort;
+use tee_ports::StoreFile;
 
 /// How many sessions a store has at most.
 pub const SESSIONS: usize = 16;
@@ -34,5 +40,40 @@ pub(crate) fn end_hold(holds: &mut [Option<u16>; SESSIONS], change: &EntryChange
     match change {
         EntryChange::Put { entry, .. } => drop_file(holds, entry.file),
         EntryChange::Clear { .. } => {}
+    }
+}
+
+// The least file that no entry names and no session holds, where one session at least holds none.
+fn free_file(entries: &[Option<DirEntry>], holds: &[Option<u16>; SESSIONS], session: u32) -> u16
+    requires entries { AreEntriesOf entries.now }
+    requires holds { AreHolds entries.now holds.now }
+    requires idle { (session < 16) × (file_held holds.now session ≡ None) }
+    ensures { IsLeastFreeFile entries.now holds.now result }
+{
+    let mut marks = [false; FILES];
+    mark_named(&mut marks, entries);
+    mark_held(&mut marks, holds);
+    first_unmarked(&marks)
+}
+
+impl<F: StoreFile + Drop, R: RpmbPort + Drop> Gate<F, R> {
+    /// Lets a session that holds no file hold the least one that no entry names and no session holds. There is always one: entries name
+    /// at most 256 of the 272 files, and other sessions hold at most 15.
+    pub fn reserve_file(&mut self, session: u32) -> u16
+        requires idle { (session < 16) × (file_held self.old.holds session ≡ None) }
+        ensures free { IsLeastFreeFile self.old.dir.dir.entries self.old.holds result }
+        ensures same { self.new ≡ record self.old { holds = slice_set self.old.holds session (Some result) } }
+    {
+        let file = free_file(self.dir.entries(), &self.holds, session);
+        self.holds[session as usize] = Some(file);
+        file
+    }
+
+    /// Ends a session's hold, if it has one.
+    pub fn release_file(&mut self, session: u32)
+        requires { session < 16 }
+        ensures { self.new ≡ record self.old { holds = slice_set self.old.holds session None } }
+    {
+        self.holds[session as usize] = None;
     }
 }

@@ -5,6 +5,7 @@
 //! at every moment, each picture of the directory's file and the card mounts to the entries before the commit or after it.
 #![tactic(auto)]
 
+mod arms;
 mod block;
 mod card;
 mod change;
@@ -14,6 +15,7 @@ mod form;
 mod gate;
 mod holds;
 mod look;
+mod marks;
 mod mount;
 mod names;
 mod note;

@@ -4,7 +4,7 @@ ghost use Rattle.std.specs.Prelude.{◌≡◌, ◌<◌, [], length, get_or, None
 ghost use Rattle.dir_file.specs.EntryForms.{AreEntriesOf};
 ghost use Rattle.store_commit.specs.Gates.{gate_sides};
 ghost use Rattle.store_commit.specs.Holds.{file_held};
-ghost use Rattle.store_commit.specs.Mounts.{LeavesDevices, MountRefused, OpensGate, directory_answer};
+ghost use Rattle.store_commit.specs.Mounts.{LeavesDevices, MountDiffers, MountRefused, OpensGate, directory_answer};
 ghost use Rattle.store_commit.specs.NameIndex.{IndexesEntry, IsIndexOf};
 ghost use Rattle.store_commit.specs.Sides.{IsSettled, sides};
 ghost use Rattle.store_commit.specs.declared.fault.MountFault.TheVariants.{NoMemory};
@@ -122,6 +122,8 @@ impl<F: StoreFile + Drop, R: RpmbPort + Drop> Gate<F, R> {
         ensures unheld { IfOk result (λ g. (session : _) → file_held g.holds session ≡ None) }
         ensures refused { IfErr result (λ b. MountRefused (F.state dir) (F.state b.dir) (R.state card) (R.state b.card) keys.now
             (E.faults entropy.old) (E.faults entropy.new) b.fault) }
+        // Of any file.
+        ensures differs { IfErr result (λ b. MountDiffers (F.state b.dir) (R.state card) keys.now b.fault) }
         ensures leaves { IfErr result (λ b. LeavesDevices (F.state dir) (F.state b.dir) (R.state card) (R.state b.card)) }
         ensures reliable { E.is_reliable entropy.old → E.is_reliable entropy.new }
     {

@@ -1,17 +1,18 @@
 //! The index of names beside the directory's entries.
 
-ghost use Rattle.std.specs.Prelude.{◌≡◌, ◌≤◌, ◌+◌, if◌then◌else◌, None, Some};
+ghost use Rattle.std.specs.Prelude.{◌≡◌, ◌≤◌, ◌+◌, if◌then◌else◌, None, OnOk};
 ghost use Rattle.std.specs.Ordering.{is_eq};
 ghost use Rattle.store_model.specs.declared.name.ObjectName.{ObjectName};
 ghost use Rattle.store_model.specs.Name.{name_cmp};
 ghost use Rattle.crash_core.specs.Entries.{name_of};
 ghost use Rattle.dir_index.specs.Index.{index_at};
-ghost use Rattle.store_commit.specs.NameIndex.{AddsName, ChangesNames, PutsName};
+ghost use Rattle.store_commit.specs.NameIndex.{AddsName, ChangesNames, HasSameNames, PutsName, name_added, names_added};
 
 use crate::change::EntryChange;
 use dir_index::{DirIndex, changes_concern_one_name};
 use dir_records::DirEntry;
 use store_model::ObjectName;
+use tee_types::NoMemory;
 
 // The name of an entry's object.
 fn name_of(entry: &DirEntry) -> ObjectName
@@ -37,9 +38,9 @@ fn forget_name(index: &mut DirIndex, entry: &DirEntry)
 
 /// Puts the name of an entry in, where it is not held.
 pub(crate) fn add_name(index: &mut DirIndex, entry: &DirEntry, place: u16)
-    requires room { 1 ≤ index.old.spare }
+    requires room { name_added index.old entry.now ≤ index.old.spare }
     ensures names { AddsName index.old index.new entry.now place }
-    ensures room { index.old.spare ≤ index.new.spare + 1 }
+    ensures room { index.old.spare ≤ index.new.spare + name_added index.old entry.now }
 {
     changes_concern_one_name();
     if index.find(entry.app, entry.id).is_none() {
@@ -49,9 +50,9 @@ pub(crate) fn add_name(index: &mut DirIndex, entry: &DirEntry, place: u16)
 
 // Puts the name of an entry in its place, in which this one stood before.
 fn put_name(index: &mut DirIndex, before: &Option<DirEntry>, place: u16, entry: &DirEntry)
-    requires room { 1 ≤ index.old.spare }
+    requires room { name_added index.old entry.now ≤ index.old.spare }
     ensures names { PutsName index.old index.new before.now place entry.now }
-    ensures room { index.old.spare ≤ index.new.spare + 1 }
+    ensures room { index.old.spare ≤ index.new.spare + name_added index.old entry.now }
 {
     match before {
         Some(old) => {
@@ -66,9 +67,9 @@ fn put_name(index: &mut DirIndex, before: &Option<DirEntry>, place: u16, entry: 
 
 /// Makes the change of the names that a change of the entries makes, where this one stood before.
 pub(crate) fn change_names(index: &mut DirIndex, before: &Option<DirEntry>, change: &EntryChange)
-    requires room { 1 ≤ index.old.spare }
+    requires room { names_added index.old change.now ≤ index.old.spare }
     ensures names { ChangesNames index.old index.new before.now change.now }
-    ensures room { index.old.spare ≤ index.new.spare + 1 }
+    ensures room { index.old.spare ≤ index.new.spare + names_added index.old change.now }
 {
     match (change, before) {
         (
@@ -81,4 +82,23 @@ pub(crate) fn change_names(index: &mut DirIndex, before: &Option<DirEntry>, chan
         (EntryChange::Clear { .. }, Some(old)) => forget_name(index, old),
         (EntryChange::Clear { .. }, None) => {}
     }
+}
+
+/// Makes room for one name beside that of an entry, whether this one is held or not.
+pub(crate) fn reserve_beside(index: &mut DirIndex, entry: &DirEntry) -> Result<(), NoMemory>
+    requires room { name_added index.old entry.now ≤ index.old.spare }
+    ensures names { HasSameNames index.old index.new }
+    ensures room { OnOk result (1 + name_added index.new entry.now ≤ index.new.spare) }
+    ensures spare { index.old.spare ≤ index.new.spare }
+{
+    changes_concern_one_name();
+    if index.find(entry.app, entry.id).is_some() {
+        return index.reserve();
+    }
+    // The name is put in, and taken out again.
+    index.insert(entry.app, entry.id, 0);
+    let reserved = index.reserve();
+    let _names = index.len();
+    index.remove(entry.app, entry.id);
+    reserved
 }

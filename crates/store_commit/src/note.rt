@@ -1,9 +1,14 @@
 //! The open handles of all sessions, as events add and take them.
 
-ghost use Rattle.std.specs.Prelude.{◌≡◌, ◌≤◌, OnOk};
+ghost use Rattle.std.specs.Prelude.{◌≡◌, ◌≤◌, ◌+◌, OnOk};
+ghost use Rattle.store_commit.specs.Gates.{names_due};
+ghost use Rattle.store_commit.specs.NameIndex.{HasSameNames};
 ghost use Rattle.store_commit.specs.Noting.{DropsHandle, Notes, NotesReply};
 
-use crate::gate::Gate;
+use crate::change::EntryChange;
+use crate::gate::{Doubted, Gate};
+use crate::names::reserve_beside;
+use dir_index::DirIndex;
 use open_table::OpenTable;
 use rpmb_card::RpmbPort;
 use store_model::Event;
@@ -37,8 +42,27 @@ fn note_reply(handles: &mut OpenTable, file: u16, session: u32, call: &Call, rep
     }
 }
 
+// Makes room for one name beside the one that a commit in doubt may bring.
+fn reserve_name(index: &mut DirIndex, doubt: &Option<Doubted>) -> Result<(), NoMemory>
+    requires due { names_due index.old doubt.now ≤ index.old.spare }
+    ensures names { HasSameNames index.old index.new }
+    ensures room { OnOk result (1 + names_due index.new doubt.now ≤ index.new.spare) }
+    ensures spare { index.old.spare ≤ index.new.spare }
+{
+    match doubt {
+        Some(
+            Doubted {
+                change: EntryChange::Put { entry, .. },
+                ..
+            },
+        ) => reserve_beside(index, entry),
+        _ => index.reserve(),
+    }
+}
+
 impl<F: StoreFile + Drop, R: RpmbPort + Drop> Gate<F, R> {
-    /// Makes room for one commit, and for one handle more. It takes memory only where there is none.
+    /// Makes room for one commit and for one handle more, beside what the commit in doubt needs if it lands. It takes memory only where
+    /// there is no room.
     ///
     /// # Errors
     ///
@@ -48,7 +72,7 @@ impl<F: StoreFile + Drop, R: RpmbPort + Drop> Gate<F, R> {
         ensures handles { self.new.open_handles.records ≡ self.old.open_handles.records }
         ensures same { self.new ≡ record self.old { open_handles = self.new.open_handles; room = self.new.room } }
     {
-        self.index.reserve()?;
+        reserve_name(&mut self.index, &self.doubt)?;
         self.handles.reserve()
     }
 

@@ -80,12 +80,11 @@ impl<F: StoreFile + Drop, R: RpmbPort + Drop> Gate<F, R> {
     /// The read failed, or a verified counter is neither of the two. The commit stays in doubt.
     pub fn resolve(&mut self, nonce: &[u8; 16]) -> Result<Resolved, Cause>
         requires doubt { IsSome self.old.doubt }
-        requires room { 1 ≤ self.old.room }
         ensures resolves { IfSome self.old.doubt (λ d. Resolves (gate_sides F.state R.state self.old) (gate_sides F.state R.state self.new) d result) }
         ensures doubt { LeavesDoubt self.old.doubt self.new.doubt result }
         ensures holds { IfSome self.old.doubt (λ d. ResolvesHolds d result self.old.holds self.new.holds) }
         ensures open_handles { self.new.open_handles ≡ self.old.open_handles }
-        ensures room { self.old.room ≤ self.new.room + 1 }
+        ensures room { self.old.room ≤ self.new.room }
         ensures file { F.state self.new.dir.file ≡ F.state self.old.dir.file }
         ensures key { self.new.host.key ≡ self.old.host.key }
         ensures card { (R.state self.new.host.port).card ≡ (R.state self.old.host.port).card }

@@ -10,7 +10,8 @@ ghost use Rattle.htree_file.specs.Standing.{Told};
 ghost use Rattle.crash_core.specs.Directory.{directory_of};
 ghost use Rattle.dir_file.specs.EntryForms.{AreEntriesOf};
 ghost use Rattle.dir_file.specs.Held.{IsHeld};
-ghost use Rattle.dir_file.specs.Loading.{DirCause, IsOutsideDir};
+ghost use Rattle.dir_file.specs.Loading.{DirCause, IsOutsideDir, IsReadDirectory};
+ghost use Rattle.dir_file.specs.Refusals.{DirDiffers};
 
 use crash_core::DirFault;
 use dir_file::{DirBroken, DirFile};
@@ -48,6 +49,9 @@ pub(crate) fn open_directory<F: StoreFile>(
     ensures reads_err { IfErr result (λ b. Known (F.state file) (F.state b.file) → (F.state b.file).reads ≡ (F.state file).reads) }
     ensures keeps { IfOk result (λ d. Keeps Anywhere (F.state file) (F.state d.file)) }
     ensures keeps_err { IfErr result (λ b. Keeps Anywhere (F.state file) (F.state b.file)) }
+    // Of any file.
+    ensures pages { IfOk result (λ d. IsReadDirectory tsk.now d.dir.tree (Result.Ok d.dir.entries)) }
+    ensures differs { IfErr result (λ b. DirDiffers tsk.now (F.state b.file) root b.fault) }
     ensures passed { IfOk result (λ d. FilePassed (F.state file) (F.state d.file)) }
     ensures cause { IfErr result (λ b. DirCause (F.state file) (F.state b.file) b.fault) }
 {

@@ -1,0 +1,75 @@
+//! Marks of the files that are in use.
+
+ghost use Rattle.std.specs.Prelude.{◌≡◌, ◌<◌, ◌≤◌, IfSome, Some, length};
+ghost use Rattle.std.specs.Option.{option_map};
+ghost use Rattle.dir_file.specs.EntryForms.{HasForms};
+ghost use Rattle.store_commit.specs.Holds.{file_held};
+ghost use Rattle.store_commit.specs.Marks.{AreMarked, IsFirstUnmarked, file_named, mark_count, marked};
+
+use crate::holds::SESSIONS;
+use dir_records::DirEntry;
+
+/// One more than the number of the last file.
+pub(crate) const FILES: usize = 273;
+
+// Marks a file, if there is one.
+fn mark(marks: &mut [bool; FILES], file: Option<u16>)
+    requires { IfSome file (λ n. n < 273) }
+    ensures { marks.new ≡ marked marks.old file }
+{
+    if let Some(file) = file {
+        marks[file as usize] = true;
+    }
+}
+
+// The file that a session holds.
+fn held_by(holds: &[Option<u16>; SESSIONS], session: usize) -> Option<u16>
+    requires { session < 16 }
+    ensures { result ≡ file_held holds.now session }
+{
+    holds[session]
+}
+
+// The file that an entry names.
+fn file_of(entry: &Option<DirEntry>) -> Option<u16>
+    ensures { result ≡ option_map (λ e. e.file) entry.now }
+{
+    match entry {
+        Some(entry) => Some(entry.file),
+        None => None,
+    }
+}
+
+/// Marks the files that entries name.
+pub(crate) fn mark_named(marks: &mut [bool; FILES], entries: &[Option<DirEntry>])
+    requires whole { length entries.now ≡ 256 }
+    requires forms { HasForms entries.now }
+    ensures { AreMarked (file_named entries.now) 256 marks.old marks.new }
+{
+    for index in 0..256u16 {
+        mark(marks, file_of(&entries[index as usize]));
+    }
+}
+
+/// Marks the files that sessions hold.
+pub(crate) fn mark_held(marks: &mut [bool; FILES], holds: &[Option<u16>; SESSIONS])
+    requires within { (session : _) (file : _) → file_held holds.now session ≡ Some file → file < 273 }
+    ensures { AreMarked (file_held holds.now) 16 marks.old marks.new }
+{
+    for session in 0..SESSIONS {
+        mark(marks, held_by(holds, session));
+    }
+}
+
+/// The least file from 1 on that is not marked; not all are.
+pub(crate) fn first_unmarked(marks: &[bool; FILES]) -> u16
+    requires { mark_count marks.now ≤ 271 }
+    ensures { IsFirstUnmarked marks.now result }
+{
+    for file in 1..273u16 {
+        if !marks[file as usize] {
+            return file;
+        }
+    }
+    unreachable!()
+}
