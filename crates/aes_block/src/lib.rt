@@ -19,8 +19,3 @@ mod transpose;
 pub use block_cipher::Aes128;
 pub use key_wrap::{unwrap_key, wrap};
 pub use laws::deciphering_undoes_enciphering;
-
-#[cfg(test)]
-mod published_rounds;
-#[cfg(test)]
-mod tests;

@@ -24,6 +24,7 @@ mod passed_on;
 mod ranges;
 mod roots;
 mod scenarios;
+mod single_calls;
 mod told;
 mod trees;
 mod trials;

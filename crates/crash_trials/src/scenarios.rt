@@ -7,7 +7,7 @@ use crate::outcome::Tally;
 use crate::trees::Step;
 use crate::trials::Trial;
 use crate::work::Work;
-use crate::{bad_blocks, files, masks, passed_on, ranges, roots};
+use crate::{bad_blocks, files, masks, passed_on, ranges, roots, single_calls};
 use std::alloc::Global;
 
 /// What a scenario tries.
@@ -15,6 +15,8 @@ use std::alloc::Global;
 enum Tries {
     /// A file itself.
     File,
+    /// Single calls of a file.
+    Calls,
     /// An object of so many bytes is made.
     Make(u16),
     /// An object of so many bytes is loaded and read.
@@ -51,10 +53,14 @@ pub struct Scenario {
 }
 
 /// All scenarios, in the order of the table.
-pub const ALL: [Scenario; 28] = [
+pub const ALL: [Scenario; 29] = [
     Scenario {
         name: "a file: written, cut, written past its end",
         tries: Tries::File,
+    },
+    Scenario {
+        name: "a file: single calls, stops, masks, older bytes",
+        tries: Tries::Calls,
     },
     Scenario {
         name: "an object is made",
@@ -195,6 +201,7 @@ impl Scenario {
     pub fn tally(&self, alloc: Global) -> anyhow::Result<Tally> {
         match self.tries {
             Tries::File => files::tally(alloc),
+            Tries::Calls => single_calls::tally(alloc),
             Tries::Make(size) => {
                 let data = old_bytes(alloc, usize::from(size))?;
                 Trial::Make { data }.tally(alloc)

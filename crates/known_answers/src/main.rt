@@ -15,8 +15,6 @@ mod entries;
 mod lines;
 mod objects;
 mod questions;
-#[cfg(test)]
-mod tests;
 mod trees;
 mod words;
 

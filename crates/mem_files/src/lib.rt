@@ -9,5 +9,3 @@ mod taint;
 
 pub use memory::MemFile;
 
-#[cfg(test)]
-mod tests;

@@ -11,6 +11,8 @@
 //! In a line `{TEXT*N}` stands for N times that text, `{xNN}` for the byte of two hex digits, and `{end}` at its end says that no
 //! newline follows. A line `for A to B: TEXT` stands for one line for each number, where `{n}` is the number and `{n:04x}` its
 //! four hex digits.
+//!
+//! Behind the count stand the lines of replies that no row has.
 #![tactic(auto)]
 
 use anyhow::Context;
@@ -18,6 +20,7 @@ use row::Row;
 use trial::difference;
 
 mod marks;
+mod replies;
 mod row;
 mod settings;
 mod trial;
@@ -70,6 +73,8 @@ fn main(rt: HostRuntime) -> anyhow::Result<()> {
         try_row(&rt, &mut count, &last)?;
     }
     println!(rt; "{} rows, {} differ", count.rows, count.differ)?;
+    let lines = replies::lines(rt.alloc())?;
+    print!(rt; "{}", str::from_utf8(&lines).context("no text")?)?;
     if count.differ > 0 {
         anyhow::bail!("some rows differ");
     }

@@ -9,8 +9,6 @@ mod print_call;
 mod print_reply;
 mod reading;
 mod script;
-#[cfg(test)]
-mod tests;
 mod values;
 mod words;
 

@@ -8,8 +8,6 @@ mod name;
 mod object;
 mod session;
 mod state;
-#[cfg(test)]
-mod tests;
 
 pub use event::{Event, Mark};
 pub use history::History;
