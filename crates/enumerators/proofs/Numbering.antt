@@ -3,7 +3,7 @@ use Rattle.std.proofs.Common.{◌≡◌, ◌==◌, ◌<◌, ◌≤◌, ◌+◌, 
 use Rattle.std.proofs.lemmas.Bool.{ne_eqb, eqb-true, cases_Bool}
 use Rattle.std.specs.Map.{lookup, set_value, remove_entry}
 use Rattle.enumerators.specs.declared.cursor.Cursor.{Cursor}
-use Rattle.enumerators.specs.Places.{IsNumbered, AreRising}
+use Rattle.enumerators.specs.Places.{IsNumbered}
 use Rattle.enumerators.specs.Enumeration.{HasStarted}
 
 pub IsNumbered-lower : {X : Type 0} (low lower : ℕ) (entries : List (ℕ × X)) (next : ℕ) → lower ≤ low → IsNumbered low entries next → IsNumbered lower entries next

@@ -28,15 +28,15 @@ AreRising-numbered low (e ∷ entries) next h (suc i) (suc j) d before within = 
 comparisons_rise : {X : Type 0} (number : ℕ) (entries : List (ℕ × X)) → AreRising entries → IsNonDecreasingBy (λ e. ordering_index (nat_cmp e.0 number)) entries
 comparisons_rise number entries rising i j d le within =
     let numbers_rise : (get_or entries i d).0 ≤ (get_or entries j d).0 =
-        grind (arith, rising i j d, λ (same : i ≡ j). ap (λ k. (get_or entries k d).0) same) in
+    grind (arith, rising i j d, λ (same : i ≡ j). ap (λ k. (get_or entries k d).0) same) in
     grind (arith, nat_tests)
 
 -- the entry of the number is the first one
 at_place : {X : Type 0} (number : ℕ) (entries : List (ℕ × X)) (at : ℕ) (x : ℕ × X) → AreRising entries → at < length entries → x ≡ get_or entries at x → x.0 ≡ number → IsPlaceOf number entries at
 at_place number entries at x rising within is same =
     IsPlaceOf-first number entries at x within is same (λ k before d.
-        let here : (get_or entries at d).0 ≡ number = ap (λ e. e.0) (get_or_default entries at d x within ∙ sym is) ∙ same in
-        ne_eqb _ _ (λ equal. omega (arith, rising k at d before within, equal, here)))
+    let here : (get_or entries at d).0 ≡ number = ap (λ e. e.0) (get_or_default entries at d x within ∙ sym is) ∙ same in
+    ne_eqb _ _ (λ equal. omega (arith, rising k at d before within, equal, here)))
 
 found : {X : Type 0} (number : ℕ) (entries : List (ℕ × X)) (at : ℕ) → AreRising entries → at < length entries → ((d : ℕ × X) → nat_cmp (get_or entries at d).0 number ≡ Equal) → IsPlaceOf number entries at
 found number [] at rising within equal = absurd (omega arith)
