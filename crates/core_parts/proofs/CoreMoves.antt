@@ -1,28 +1,26 @@
 -- A step of a slot is one of the core machine, whatever the other parts are.
-use Rattle.std.proofs.Common.{◌≡◌, ◌≢◌, ◌⊎◌, ℕ, ◌<◌, ◌≤◌, List, [], ◌∷◌, eqb, cond, get_or, length, IsTrue, Option, Some, None, Ok, inl, inr, refl, sym, ◌∙◌, ap, subst, arith, ne_eqb}
+use Rattle.std.proofs.Common.{◌≡◌, ◌≢◌, ◌⊎◌, ℕ, ◌<◌, ◌≤◌, List, eqb, cond, length, IsTrue, Option, Some, None, inl, inr, refl, sym, ◌∙◌, ap, subst}
 use Rattle.std.specs.Option.{option_map}
-use Rattle.std.proofs.lemmas.Bool.{cases_eq, cond-false}
+use Rattle.std.proofs.lemmas.Bool.{cases_eq}
 use Rattle.disk_model.specs.State.{FileState}
 use Rattle.disk_model.specs.Keeps.{FileCall, write, sync, rest}
 use Rattle.node_image.specs.declared.node.RootRef.{RootRef}
-use Rattle.htree_file.specs.Opening.{Loaded, load_of}
 use Rattle.store_model.specs.Object.{ObjectMap}
 use Rattle.dir_records.specs.declared.entry.DirEntry.{DirEntry}
 use Rattle.history_seats.specs.Records.{Version}
-use Rattle.history_seats.specs.Rule.{SlotFits}
 use Rattle.crash_core.specs.MountedObject.{root_of}
-use Rattle.crash_core.specs.EntryLists.{IsNamed, entry_at}
+use Rattle.crash_core.specs.EntryLists.{entry_at}
 use Rattle.crash_core.specs.EntryChanges.{Clear, EntryChange, Put, changed, index_of}
 use Rattle.crash_core.specs.Mounting.{Held}
 use Rattle.crash_core.specs.Sights.{Misses}
-use Rattle.crash_core.specs.CoreState.{Core, IsTrusted, PendingCommit, Phase, put}
+use Rattle.crash_core.specs.CoreState.{IsTrusted, PendingCommit, Phase, put}
 use Rattle.crash_core.specs.FileSteps.{IsFileStep, MayWrite, MissesNamed, MissesPending, MissesPut, MissesSealed}
 use Rattle.crash_core.specs.CoreSteps.{CoreStep, DropStage, IsStep, RestFile, SyncFile, WriteFile}
 use Rattle.crash_core.specs.Holding.{entries_held, held_at}
-use Rattle.crash_core.proofs.Lists.{map_at, put_each, put_else, put_here, set_here}
+use Rattle.crash_core.proofs.Lists.{map_at, put_else, put_here, set_here}
 use Rattle.core_parts.specs.SlotParts.{Knows, SlotHolds, SlotPart}
 use Rattle.core_parts.specs.SlotSteps.{CallFile, DropOpenStage, FileUser, IsSlotCall, IsSlotStep, IsStageWritten, Reader, SlotStep, Stager, Taker}
-use Rattle.core_parts.specs.GateParts.{GateDirectory, GateHolds, GatePart, GatePending, GateSealed, IsBacked}
+use Rattle.core_parts.specs.GateParts.{GateDirectory, GatePart, GatePending, GateSealed}
 use Rattle.core_parts.specs.Joined.{IsObjectFile, Parts, PartsHold, core_of, files_of}
 use Rattle.core_parts.specs.Moves.{MayUse}
 use Rattle.core_parts.proofs.JoinedParts.{file_is}

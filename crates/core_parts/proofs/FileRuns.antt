@@ -1,14 +1,14 @@
 -- A run of calls of a slot's file that keeps what its view knows is a list of steps of the slot.
-use Rattle.std.proofs.Common.{◌≡◌, ◌⊎◌, ℕ, ◌<◌, ◌≤◌, List, [], ◌∷◌, map, IsTrue, Option, Some, None, Ok, inl, inr, refl, sym, subst, arith}
+use Rattle.std.proofs.Common.{◌≡◌, ℕ, List, [], ◌∷◌, map, IsTrue, Option, Some, Ok, inl, inr, refl, subst, arith}
 use Rattle.disk_model.specs.State.{FileState, Sound}
-use Rattle.disk_model.specs.Keeps.{CallOff, FileCall, IsCall, IsFileRun, Outside, Runs, write, sync, rest}
+use Rattle.disk_model.specs.Keeps.{CallOff, FileCall, IsFileRun, Runs, write, sync, rest}
 use Rattle.node_image.specs.declared.node.RootRef.{RootRef}
 use Rattle.htree_file.specs.Opening.{Loaded}
 use Rattle.htree_file.specs.Selected.{Lies}
 use Rattle.history_seats.specs.Records.{Version}
 use Rattle.history_seats.specs.Views.{SlotView}
 use Rattle.core_parts.specs.SlotParts.{Knows, SlotPart}
-use Rattle.core_parts.specs.SlotSteps.{CallFile, FileRunsAreSteps, FileUser, IsSlotCall, IsSlotRun, IsSpared, IsStageAfter, IsStageWritten, KnowsOne, MayStage, Reader, SlotStep, SlotSteps, SparesKnown, Stager, Taker}
+use Rattle.core_parts.specs.SlotSteps.{CallFile, FileRunsAreSteps, FileUser, IsSlotCall, IsSlotRun, IsStageAfter, IsStageWritten, KnowsOne, MayStage, Reader, SlotSteps, SparesKnown, Stager, Taker}
 use Rattle.core_parts.proofs.SlotRuns.{call_honest}
 
 -- the stage that is open after a write, and after any call

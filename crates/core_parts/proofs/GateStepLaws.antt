@@ -1,5 +1,5 @@
 -- What makes a step of the gate: what is asked of it speaks of the gate's part, and of the slot that it is handed.
-use Rattle.std.proofs.Common.{◌≡◌, ◌≢◌, ◌⊎◌, ℕ, ◌≤◌, List, [], ◌∷◌, ◌++◌, true, eqb, cond, IsTrue, Option, Some, None, Ok, inl, inr, refl, sym, ◌∙◌, ap, subst, arith, ne_eqb}
+use Rattle.std.proofs.Common.{◌≡◌, ◌≢◌, ◌⊎◌, ℕ, ◌≤◌, List, [], ◌∷◌, ◌++◌, true, eqb, Option, Some, None, Ok, inl, inr, refl, sym, ◌∙◌, ap, subst, arith, ne_eqb}
 use Rattle.std.proofs.lemmas.Bool.{cases_eq, cond-false}
 use Rattle.disk_model.specs.State.{FileState, pending}
 use Rattle.disk_model.specs.Keeps.{write, sync, rest}

@@ -1,5 +1,5 @@
 -- The parts, each with its own fact, are one state of the core machine.
-use Rattle.std.proofs.Common.{◌≡◌, ◌⊎◌, ℕ, ◌≤◌, List, eqb, IsTrue, Option, Some, None, inl, inr, sym, subst, arith, ne_eqb}
+use Rattle.std.proofs.Common.{◌≡◌, ℕ, ◌≤◌, List, eqb, IsTrue, Option, Some, None, inl, inr, sym, subst, arith, ne_eqb}
 use Rattle.std.proofs.lemmas.Bool.{cases_eq, cond-false}
 use Rattle.disk_model.specs.State.{FileState, Sound}
 use Rattle.node_image.specs.declared.node.RootRef.{RootRef}
@@ -12,12 +12,12 @@ use Rattle.crash_core.specs.EntryChanges.{changed}
 use Rattle.crash_core.specs.Mounting.{Held}
 use Rattle.crash_core.specs.Sights.{Shows}
 use Rattle.crash_core.specs.CoreState.{IsTrusted, PendingCommit, Phase}
-use Rattle.crash_core.specs.Holding.{DirectoryStands, Holds, PendingStands, SealedStands, held_at}
+use Rattle.crash_core.specs.Holding.{DirectoryStands, Holds, PendingStands, SealedStands}
 use Rattle.crash_core.proofs.Doubles.{directory_forms}
 use Rattle.crash_core.proofs.Lists.{entry_held}
 use Rattle.core_parts.specs.SlotParts.{SlotHolds, SlotPart}
-use Rattle.core_parts.specs.GateParts.{GateDirectory, GateHolds, GatePart, GatePending, GateSealed, IsBacked, standing_of}
-use Rattle.core_parts.specs.Joined.{IsObjectFile, Parts, PartsFit, PartsHold, core_of, files_of}
+use Rattle.core_parts.specs.GateParts.{GateDirectory, GatePart, GatePending, GateSealed, IsBacked, standing_of}
+use Rattle.core_parts.specs.Joined.{IsObjectFile, Parts, PartsHold, core_of, files_of}
 use Rattle.core_parts.proofs.Versions.{entry_is_known, version_shows}
 
 -- the file of an object is that of its slot

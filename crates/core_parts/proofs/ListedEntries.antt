@@ -1,5 +1,5 @@
 -- A commit leaves the same entries in the gate's directory and in the history's.
-use Rattle.std.proofs.Common.{◌≡◌, ◌≢◌, ◌⊎◌, ℕ, ◌<◌, List, [], ◌∷◌, length, Bool, true, false, not, ◌&&◌, eqb, map, filter, Option, Some, None, inl, inr, refl, sym, ◌∙◌, ap, subst, is_eq, eq-eqb, ne_eqb, true≢false}
+use Rattle.std.proofs.Common.{◌≡◌, ◌≢◌, ℕ, ◌<◌, List, length, Bool, true, false, not, ◌&&◌, map, filter, Option, Some, None, inl, inr, sym, ◌∙◌, ap, subst, is_eq, eq-eqb, ne_eqb, true≢false}
 use Rattle.std.specs.Prelude.{◌==◌, slice_set, Contains}
 use Rattle.std.proofs.lemmas.Bool.{cases_eq, cond-true, cond-false}
 use Rattle.tee_types.specs.declared.call.Call.{Call}
@@ -9,7 +9,7 @@ use Rattle.store_model.specs.Name.{name_cmp, name_eq}
 use Rattle.store_model.specs.Machine.{MachineState, name_in, session_at}
 use Rattle.store_model.specs.Makes.{Change, MakesChange, MapChange, Move, Remove}
 use Rattle.store_model.specs.Makes.{Put as PutObject}
-use Rattle.store_model.specs.Object.{Object, ObjectMap}
+use Rattle.store_model.specs.Object.{Object}
 use Rattle.store_model.specs.Record.{Tag}
 use Rattle.dir_records.specs.declared.entry.DirEntry.{DirEntry}
 use Rattle.history_seats.specs.Records.{Version}
@@ -18,9 +18,9 @@ use Rattle.history_seats.specs.Versions.{is_entry_of}
 use Rattle.history_seats.specs.Directory.{entries_committed, renamed, with_entry, with_name, without_entry}
 use Rattle.crash_core.specs.Entries.{name_of}
 use Rattle.crash_core.specs.EntryLists.{AreDistinct, AreSingle, entry_at}
-use Rattle.crash_core.specs.EntryChanges.{Clear, Enters, EntryChange, IsChange, IsEntryOf, IsNewEntry, IsNextEntry, IsPlaceOf, Put, changed, index_of}
+use Rattle.crash_core.specs.EntryChanges.{Clear, Enters, EntryChange, IsChange, IsEntryOf, IsNextEntry, IsPlaceOf, Put, changed, index_of}
 use Rattle.crash_core.proofs.EntryMaps.{self}
-use Rattle.crash_core.proofs.Lists.{set_at, set_else, set_here}
+use Rattle.crash_core.proofs.Lists.{set_else, set_here}
 use Rattle.crash_core.proofs.Names.{name_test}
 use Rattle.core_parts.specs.Listed.{AreListed, IsInDirectory, IsTagOf, IsTagOfChange, history_entry}
 use Rattle.core_parts.proofs.Contained.{contains_cases, contains_filtered, contains_first, contains_later, contains_mapped, filtered_contains, mapped_contains}

@@ -1,5 +1,5 @@
 -- Each part of a store that is mounted and synced has its fact.
-use Rattle.std.proofs.Common.{◌≡◌, ◌⊎◌, ℕ, ◌<◌, ◌≤◌, List, [], ◌∷◌, Bool, true, false, ◌&&◌, ◌||◌, eqb, map, IsTrue, Option, Some, None, inl, inr, refl, sym, ◌∙◌, ap, subst, eq-eqb, arith, true≢false}
+use Rattle.std.proofs.Common.{◌≡◌, ℕ, ◌<◌, List, [], ◌∷◌, Bool, true, ◌&&◌, ◌||◌, eqb, map, IsTrue, Option, Some, None, inl, inr, refl, sym, ◌∙◌, ap, subst, eq-eqb, arith, true≢false}
 use Rattle.std.specs.Prelude.{◌==◌, Contains}
 use Rattle.std.specs.Option.{option_map}
 use Rattle.std.proofs.lemmas.Bool.{cases_Bool, cases_eq, cond-true, cond-false, and_parts, eqb-true}
@@ -7,28 +7,25 @@ use Rattle.disk_model.specs.State.{FileState, LeftNow, pending}
 use Rattle.node_image.specs.declared.node.RootRef.{RootRef}
 use Rattle.hmac_keys.specs.declared.Keys.{Keys}
 use Rattle.rpmb_card.specs.Card.{CardState}
-use Rattle.store_model.specs.Object.{Object}
 use Rattle.dir_records.specs.declared.entry.DirEntry.{DirEntry}
 use Rattle.history_seats.specs.Records.{Version}
 use Rattle.history_seats.specs.Mounts.{Entry, Mounted, MountedEntry, Served}
 use Rattle.history_seats.specs.Versions.{is_entry_of, version_among}
 use Rattle.history_seats.specs.Directory.{given_version, has_entry}
-use Rattle.history_seats.specs.Views.{GateView, SlotView}
-use Rattle.crash_core.specs.MountedObject.{mounted_object, object_in, root_of}
+use Rattle.crash_core.specs.MountedObject.{mounted_object, object_in}
 use Rattle.crash_core.specs.DeviceKeys.{object_key}
 use Rattle.crash_core.specs.EntryLists.{entry_at}
 use Rattle.crash_core.specs.Mounting.{Held, all_held_in, held_in}
 use Rattle.crash_core.specs.Opening.{IsOpened, core_at, reads_of}
 use Rattle.crash_core.specs.CoreState.{IsTrusted, Phase}
-use Rattle.crash_core.specs.Holding.{DirectoryStands, held_at}
+use Rattle.crash_core.specs.Holding.{held_at}
 use Rattle.crash_core.specs.Theorem.{IsStart}
 use Rattle.crash_core.proofs.Lists.{map_at}
 use Rattle.crash_core.proofs.Openings.{entries_back, held_back, openings_are_starts}
 use Rattle.crash_core.proofs.Sightings.{one_image}
-use Rattle.core_parts.specs.SlotParts.{IsShownIn, Knows, SlotHolds, SlotPart, VersionStands}
-use Rattle.core_parts.specs.GateParts.{DirectoryReads, GateDirectory, GateHolds, IsBacked, IsVersionOf, KnowsEntry}
+use Rattle.core_parts.specs.SlotParts.{IsShownIn, Knows, VersionStands}
+use Rattle.core_parts.specs.GateParts.{GateDirectory, GateHolds, IsBacked, IsVersionOf}
 use Rattle.core_parts.specs.Joined.{Parts, PartsFit, PartsHold, files_of}
-use Rattle.core_parts.specs.Listed.{history_entry}
 use Rattle.core_parts.specs.Opened.{HasMounted, IsMountOf, IsMountedAs, OpeningsHold, first_parts, first_view}
 use Rattle.core_parts.proofs.Contained.{contains_cases, contains_first, contains_later, contains_none}
 

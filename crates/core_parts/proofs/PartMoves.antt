@@ -1,5 +1,5 @@
 -- Moves of the parts, in any order, are one run of the core machine, and keep what holds of each part.
-use Rattle.std.proofs.Common.{◌≡◌, ◌≢◌, ◌⊎◌, ℕ, ◌≤◌, List, [], ◌∷◌, ◌++◌, IsTrue, Option, Some, None, inl, inr, refl, sym, ◌∙◌, ap, subst}
+use Rattle.std.proofs.Common.{◌≡◌, ◌≢◌, ◌⊎◌, ℕ, ◌≤◌, List, [], ◌∷◌, ◌++◌, IsTrue, Option, Some, inl, inr, refl, sym, ◌∙◌, ap, subst}
 use Rattle.std.proofs.lemmas.Bool.{cases_eq}
 use Rattle.disk_model.specs.State.{FileState}
 use Rattle.history_seats.specs.Records.{Version}
@@ -8,7 +8,7 @@ use Rattle.history_seats.specs.Views.{SlotView}
 use Rattle.crash_core.specs.Mounting.{Held}
 use Rattle.crash_core.specs.Sights.{Shows}
 use Rattle.crash_core.specs.CoreState.{Core, IsTrusted, Phase, put}
-use Rattle.crash_core.specs.CoreSteps.{CoreStep, IsRun, IsStep}
+use Rattle.crash_core.specs.CoreSteps.{CoreStep, IsRun}
 use Rattle.crash_core.proofs.Lists.{put_each, put_else, put_here}
 use Rattle.core_parts.specs.SlotParts.{SlotHolds, SlotPart}
 use Rattle.core_parts.specs.SlotSteps.{FileUser, IsSlotRun, IsSlotStep, SlotStep}

@@ -1,5 +1,5 @@
 -- A slot's own steps keep what holds of it, whatever the other parts do.
-use Rattle.std.proofs.Common.{◌≡◌, ◌⊎◌, ℕ, ◌<◌, ◌≤◌, List, [], ◌∷◌, IsTrue, Option, Some, None, Ok, inl, inr, refl, sym, ◌∙◌, ap, subst}
+use Rattle.std.proofs.Common.{◌≡◌, ℕ, List, [], ◌∷◌, IsTrue, sym, ◌∙◌, ap, subst}
 use Rattle.disk_model.specs.State.{FileState, LeftNow, Sound}
 use Rattle.disk_model.specs.Keeps.{FileCall, IsCall, write, sync, rest}
 use Rattle.disk_model.proofs.ImageLaws.{reads_left}
@@ -11,7 +11,7 @@ use Rattle.history_seats.specs.Views.{GateView, SlotView}
 use Rattle.history_seats.proofs.KnownEntries.{entry_known}
 use Rattle.crash_core.specs.MountedObject.{object_or_damaged}
 use Rattle.crash_core.specs.DeviceKeys.{object_key}
-use Rattle.crash_core.specs.Sights.{Misses, Sight, Stands, sight_of}
+use Rattle.crash_core.specs.Sights.{Sight, Stands, sight_of}
 use Rattle.crash_core.proofs.Sightings.{CallMisses, call_stands}
 use Rattle.core_parts.specs.SlotParts.{IsShownIn, Knows, SlotHolds, SlotPart, VersionStands}
 use Rattle.core_parts.specs.SlotSteps.{CallFile, DropOpenStage, FileUser, IsSlotCall, IsSlotRun, IsSlotStep, SlotStep, SparesKnown}

@@ -1,5 +1,5 @@
 -- Versions that stand in a file show the objects of their entries, and a slot knows those of the entries of its file.
-use Rattle.std.proofs.Common.{◌≡◌, ◌⊎◌, ℕ, List, Option, Some, None, inl, inr, sym, ◌∙◌, ap, subst}
+use Rattle.std.proofs.Common.{◌≡◌, ℕ, List, Option, Some, inl, inr, sym, ◌∙◌, ap, subst}
 use Rattle.std.specs.Prelude.{unwrap_or}
 use Rattle.disk_model.specs.State.{FileState, LeftNow, Sound}
 use Rattle.disk_model.proofs.ImageLaws.{reads_left}

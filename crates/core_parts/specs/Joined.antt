@@ -1,5 +1,5 @@
 -- The parts together: they are one state of the core machine.
-use Rattle.std.specs.Prelude.{◌≡◌, ◌==◌, ℕ, ◌≤◌, Option, Some, if◌then◌else◌, IsTrue}
+use Rattle.std.specs.Prelude.{◌≡◌, ◌==◌, ℕ, ◌≤◌, Some, if◌then◌else◌, IsTrue}
 use Rattle.disk_model.specs.State.{FileState}
 use Rattle.tee_types.specs.Limits.{last_file}
 use Rattle.store_model.specs.Legal.{IsLegalFrom}

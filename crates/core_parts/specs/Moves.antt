@@ -1,5 +1,5 @@
 -- Moves of slots and gate, each judged by what the part knows itself, are one run of the core machine, in whatever order they come.
-use Rattle.std.specs.Prelude.{◌≡◌, ◌≢◌, ◌⊎◌, ℕ, ◌≤◌, List, [], ◌∷◌, Option, Some, IsTrue}
+use Rattle.std.specs.Prelude.{◌≡◌, ◌≢◌, ◌⊎◌, ℕ, ◌≤◌, List, [], ◌∷◌, Some, IsTrue}
 use Rattle.node_image.specs.declared.node.RootRef.{RootRef}
 use Rattle.history_seats.specs.Records.{Version}
 use Rattle.crash_core.specs.EntryLists.{IsNamed}

@@ -11,7 +11,7 @@ use Rattle.crash_core.specs.EntryLists.{entry_at}
 use Rattle.crash_core.specs.DirectoryLaws.{AreEntries}
 use Rattle.crash_core.specs.Opening.{IsOpened}
 use Rattle.crash_core.specs.CoreState.{Phase}
-use Rattle.core_parts.specs.SlotParts.{IsShownIn, SlotPart}
+use Rattle.core_parts.specs.SlotParts.{IsShownIn}
 use Rattle.core_parts.specs.GateParts.{GatePart, IsVersionOf}
 use Rattle.core_parts.specs.Joined.{Parts, PartsHold}
 use Rattle.core_parts.specs.Listed.{history_entry}
