@@ -11,10 +11,10 @@ use Rattle.crash_core.specs.Pictures.{IsPictureOf, Picture}
 use Rattle.crash_core.specs.CoreState.{IsTrusted, PendingCommit, Phase}
 use Rattle.crash_core.specs.EntryChanges.{changed}
 use Rattle.crash_core.specs.Holding.{CardNames, PendingStands, SealedStands}
-use Rattle.crash_core.proofs.MountedPictures.{directory_mounts}
+use Rattle.crash_core.proofs.MountedPictures.{directory_mounts, mounts_whole}
 use Rattle.core_parts.specs.GateParts.{standing_of}
 use Rattle.core_parts.specs.Joined.{Parts, PartsHold, files_of}
-use Rattle.core_parts.specs.Finished.{IsAtRest, IsInDoubt, MountsAfter}
+use Rattle.core_parts.specs.Finished.{HonestFinishMounts, IsAtRest, IsInDoubt, MountsAfter}
 use Rattle.core_parts.proofs.JoinedParts.{committed_stands, pending_stands}
 
 -- the map that a commit in doubt leaves is that with the doubt
@@ -52,3 +52,10 @@ module _ (phase : Phase) (p : Parts) (picture : Picture) (h : PartsHold phase p)
 pub finish_mounts : (phase : Phase) (p : Parts) (picture : Picture) → PartsHold phase p → IsAtRest phase p.gate → IsPictureOf (files_of p.gate p.slots) p.gate.card picture → IsTrusted phase 0
     → MountsAfter phase picture (standing_of phase p.gate.view)
 finish_mounts phase p picture h rests is trusted = pending_mounts phase p picture h is trusted p.gate.pending rests (pending_stands phase p h p.gate.pending h.gate.pending)
+
+-- Where every file is honest, to that map itself.
+pub honest_finish_mounts : HonestFinishMounts
+honest_finish_mounts phase p picture h rests is trusted = elim (finish_mounts phase p picture h rests is (trusted 0)) [
+  | inl mounts ↦ inl (mounts_whole phase picture ((standing_of phase p.gate.view).state).objects trusted mounts)
+  | inr doubt ↦ inr (doubt.0, doubt.1, mounts_whole phase picture doubt.0 trusted doubt.2)
+]

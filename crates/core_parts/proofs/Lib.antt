@@ -9,3 +9,4 @@ pub mod Contained
 pub mod ListedEntries
 pub mod OpenedParts
 pub mod FileRuns
+pub mod OwnEvents

@@ -1,10 +1,11 @@
 -- The crash prefix of a closed store: what its pictures mount to, once all its parts are at rest.
-use Rattle.std.specs.Prelude.{◌≡◌, ◌⊎◌, Some}
+use Rattle.std.specs.Prelude.{◌≡◌, ◌⊎◌, ℕ, Option, Some, Ok}
 use Rattle.store_model.specs.Object.{ObjectMap}
 use Rattle.store_model.specs.Doubt.{Doubt}
 use Rattle.store_model.specs.Standing.{Standing}
 use Rattle.store_model.specs.Commits.{with_doubt}
 use Rattle.crash_core.specs.Pictures.{IsPictureOf, Picture}
+use Rattle.crash_core.specs.Mounting.{mounted}
 use Rattle.crash_core.specs.CoreState.{IsTrusted, PendingCommit, Phase}
 use Rattle.crash_core.specs.Theorem.{MountsTo}
 use Rattle.core_parts.specs.GateParts.{GatePart, standing_of}
@@ -31,3 +32,13 @@ abbrev pub FinishMounts : Type 0
 FinishMounts =
     (phase : Phase) (p : Parts) (picture : Picture) → PartsHold phase p → IsAtRest phase p.gate → IsPictureOf (files_of p.gate p.slots) p.gate.card picture
     → IsTrusted phase 0 → MountsAfter phase picture (standing_of phase p.gate.view)
+
+-- the same, where every file is honest: it mounts to that map itself
+abbrev pub IsMapAfter : Phase → Picture → Standing → Type 0
+IsMapAfter phase picture s =
+    (mounted phase.keys picture ≡ Ok (s.state).objects) ⊎ ((objects : ObjectMap) × (with_doubt s ≡ Some objects) × (mounted phase.keys picture ≡ Ok objects))
+
+abbrev pub HonestFinishMounts : Type 0
+HonestFinishMounts =
+    (phase : Phase) (p : Parts) (picture : Picture) → PartsHold phase p → IsAtRest phase p.gate → IsPictureOf (files_of p.gate p.slots) p.gate.card picture
+    → ((file : ℕ) → IsTrusted phase file) → IsMapAfter phase picture (standing_of phase p.gate.view)

@@ -1,5 +1,6 @@
 pub mod SlotParts
 pub mod SlotSteps
+pub mod SlotLaws
 pub mod GateParts
 pub mod Joined
 pub mod GateSteps

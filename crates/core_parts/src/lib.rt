@@ -9,6 +9,6 @@
 mod laws;
 
 pub use laws::{
-    commits_keep_listed, file_runs_are_steps, finish_mounts, moves_are_a_run, openings_hold,
-    parts_are_a_core,
+    commits_keep_listed, file_runs_are_steps, finish_mounts, honest_finish_mounts, moves_are_a_run,
+    openings_hold, own_events_keep, parts_are_a_core, renewed_slots_hold, slot_steps_keep,
 };
