@@ -1,0 +1,11 @@
+pub mod Versions
+pub mod JoinedParts
+pub mod FinishedParts
+pub mod SlotRuns
+pub mod CoreMoves
+pub mod PartMoves
+pub mod GateStepLaws
+pub mod Contained
+pub mod ListedEntries
+pub mod OpenedParts
+pub mod FileRuns

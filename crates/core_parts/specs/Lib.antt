@@ -1,0 +1,9 @@
+pub mod SlotParts
+pub mod SlotSteps
+pub mod GateParts
+pub mod Joined
+pub mod GateSteps
+pub mod Moves
+pub mod Finished
+pub mod Listed
+pub mod Opened
