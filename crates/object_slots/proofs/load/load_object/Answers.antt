@@ -1,0 +1,46 @@
+use Rattle.std.proofs.Common.{◌≡◌, ◌∙◌, ◌<◌, ℕ, Err, refl, sym, ap, subst, arith}
+use Rattle.node_image.specs.declared.node.RootRef.{RootRef}
+use Rattle.object_slots.specs.declared.fault.SlotFault.{SlotFault}
+use Rattle.object_slots.specs.Faults.{load_fault}
+use Rattle.object_slots.specs.Loads.{LoadsObject}
+use Rattle.object_slots.specs.Value.{apart, free}
+use Rattle.object_slots.proofs.LoadAnswers.{load_refused}
+use Rattle.object_slots.proofs.load.load_object.Goals as goal
+
+pub returns-in-Err-clause-loads : goal.returns-in-Err-clause-loads
+returns-in-Err-clause-loads g c =
+    let old = g.F.StoreFile.state c.args.file in
+    let new = g.F.StoreFile.state c.in-Err.field-0.file in
+    let e = c.in-Err.ensures in
+    subst (λ (f : SlotFault). LoadsObject old new c.args.tsk.now c.args.entry.now free {A = Unit {0}} (Err f)) (sym c.load_fault.ensures)
+    (load_refused old new c.args.tsk.now c.args.entry.now (Unit {0}) c.in-Err.field-0.fault e.kind e.differs e.fault e.damaged e.rests_err e.cause)
+
+pub returns-in-Ok-clause-loads : goal.returns-in-Ok-clause-loads
+returns-in-Ok-clause-loads g c =
+    let e = c.in-Ok.ensures in
+    record {
+      leaves = (
+        apart c.in-Ok.object,
+        refl,
+        record {
+          root_is = e.root;
+          key = e.key;
+          size = e.size;
+          attributes = e.attributes;
+          verified = e.verified;
+          bytes = e.bytes;
+          loads = e.loaded;
+          object = e.object;
+          faultless = e.faultless;
+        },
+      );
+      refused = tt;
+      rests = e.rests;
+      cause = e.passed;
+      three = e.three;
+    }
+
+pub returns-in-Ok-clause-content : goal.returns-in-Ok-clause-content
+returns-in-Ok-clause-content g c =
+    let e = c.in-Ok.ensures in
+    (e.idle, omega (arith, ap (λ (r : RootRef). r.version) e.root, c.requires.version))

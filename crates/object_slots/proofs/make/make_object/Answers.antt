@@ -1,0 +1,37 @@
+use Rattle.std.proofs.Common.{◌≡◌, ◌∙◌, ℕ, Err, refl, sym, ap, subst}
+use Rattle.disk_model.proofs.Laws.{keeps_then}
+use Rattle.htree_file.specs.Making.{Nowhere}
+use Rattle.object_slots.specs.declared.fault.SlotFault.{SlotFault}
+use Rattle.object_slots.specs.Faults.{slot_fault}
+use Rattle.object_slots.specs.Makes.{MakesObject}
+use Rattle.object_slots.specs.Value.{apart, free}
+use Rattle.object_slots.proofs.MadeObjects.{is_made, make_refused}
+use Rattle.object_slots.proofs.make.make_object.Goals as goal
+
+pub returns-in-Ok-make-clause-makes : goal.returns-in-Ok-make-clause-makes
+returns-in-Ok-make-clause-makes g c =
+    let old = g.F.StoreFile.state c.args.file in
+    let mid = g.F.StoreFile.state c.cut_file.new.file in
+    let new = g.F.StoreFile.state c.in-Ok-make.object.tree.file in
+    let e = c.in-Ok-make.ensures in
+    let cut = c.in-Ok.ensures in
+    record {
+      leaves = (
+        apart c.in-Ok-make.object,
+        refl,
+        is_made {F = g.row.F.Denot} old mid new c.in-Ok-make.object c.in-Ok-make.root c.args.tsk.now c.args.attributes.now c.args.bytes.now
+            cut.keeps.goes_on e.root.0 e.root.1 e.attributes e.size e.key e.verified e.flags e.seals e.loaded e.object e.firm,
+      );
+      cuts = record { cut = mid; is_cut = cut.cut; keeps = e.keeps };
+      keeps = keeps_then Nowhere old mid new cut.keeps e.keeps;
+      sound = tt;
+    }
+
+pub returns-in-Err-make-clause-makes : goal.returns-in-Err-make-clause-makes
+returns-in-Err-make-clause-makes g c =
+    let old = g.F.StoreFile.state c.args.file in
+    let mid = g.F.StoreFile.state c.cut_file.new.file in
+    let new = g.F.StoreFile.state c.in-Err-make.field-0.file in
+    let e = c.in-Err-make.ensures in
+    subst (λ (f : SlotFault). MakesObject old new c.args.tsk.now c.args.attributes.now c.args.bytes.now free (Err f)) (sym c.slot_fault.ensures)
+    (make_refused old mid new c.args.tsk.now c.args.attributes.now c.args.bytes.now c.in-Err-make.field-0.fault c.in-Ok.ensures.keeps e.keeps_err e.fault)

@@ -1,0 +1,16 @@
+use Rattle.std.proofs.Common.{◌≡◌, ℕ, Err, sym, subst}
+use Rattle.object_slots.specs.declared.fault.SlotFault.{SlotFault}
+use Rattle.object_slots.specs.Reads.{ReadsObject}
+use Rattle.object_slots.specs.Value.{apart}
+use Rattle.object_slots.proofs.ReadAnswers.{read_refused}
+use Rattle.object_slots.proofs.read.read_object.Goals as goal
+
+pub returns-in-Err-clause-reads : goal.returns-in-Err-clause-reads
+returns-in-Err-clause-reads g c =
+    let old = g.F.StoreFile.state c.args.object.now.tree.file in
+    let new = g.F.StoreFile.state c.read.new.self.tree.file in
+    let o = apart c.args.object.now in
+    let e = c.in-Err.ensures in
+    let r = c.read.ensures in
+    subst (λ (f : SlotFault). ReadsObject old new o c.args.at c.args.into.now c.read.new.into (Err f)) (sym c.slot_fault.ensures)
+    (read_refused old new o c.args.at c.args.into.now c.read.new.into c.in-Err.fault e.fault e.blocks e.corrupt r.rest r.verified r.rests e.cause)

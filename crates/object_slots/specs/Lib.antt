@@ -1,0 +1,7 @@
+pub mod Value
+pub mod Inside
+pub mod Faults
+pub mod Reads
+pub mod Loads
+pub mod Makes
+pub mod Stages
