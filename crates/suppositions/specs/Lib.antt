@@ -1,0 +1,10 @@
+pub mod Spellings
+pub mod Guesses
+pub mod Clashes
+pub mod Stores
+pub mod Mapped
+pub mod Given
+pub mod Shown
+pub mod Answered
+pub mod Listings
+pub mod Sessions
