@@ -1,4 +1,5 @@
 pub mod Spellings
+pub mod Images
 pub mod Guesses
 pub mod Clashes
 pub mod Stores
@@ -8,3 +9,9 @@ pub mod Shown
 pub mod Answered
 pub mod Listings
 pub mod Sessions
+pub mod TreeLaws
+pub mod EndLaws
+pub mod MapLaws
+pub mod CommitLaws
+pub mod SessionLaws
+pub mod ReadLaws

@@ -3,12 +3,12 @@ use Rattle.std.specs.Prelude.{◌≡◌, ℕ, List, Option, Some}
 use Rattle.store_model.specs.declared.name.ObjectName.{ObjectName}
 use Rattle.dir_records.specs.declared.entry.DirEntry.{DirEntry}
 use Rattle.crash_core.specs.Entries.{name_of}
-use Rattle.crash_core.specs.EntryLists.{entry_at}
+use Rattle.crash_core.specs.EntryLists.{AreSingle, entry_at}
 use Rattle.crash_core.specs.MountedObject.{root_of}
 use Rattle.history_seats.specs.Records.{Version}
 use Rattle.history_seats.specs.Mounts.{Entry}
 use Rattle.suppositions.specs.Stores.{entry_named}
-use Rattle.suppositions.specs.Mapped.{Versions}
+use Rattle.suppositions.specs.Mapped.{AreApart, Versions}
 
 -- an entry of the directory, as the history has it
 abbrev pub entry_of : DirEntry → Entry
@@ -31,3 +31,7 @@ pub record IsVersionOf (e : DirEntry) (v : Version) : Type 0 where
 abbrev pub HaveListedVersions : List (Option DirEntry) → Versions → Type 0
 HaveListedVersions listed versions =
     (index : ℕ) (e : DirEntry) → entry_at listed index ≡ Some e → (v : Version) × (versions e.file e.generation ≡ Some v) × IsVersionOf e v
+
+-- Entries that a directory lists, no two of one file, are apart.
+abbrev pub ListedEntriesAreApart : Type 0
+ListedEntriesAreApart = (listed : List (Option DirEntry)) (entries : List Entry) → AreListed listed entries → AreSingle listed → AreApart entries
