@@ -32,12 +32,12 @@ search_all (suc n) A B f =
     elim (search_all n A B (λ i lt. f i (omega (arith, lt)))) [
       | inr b ↦ inr b
       | inl all ↦ elim (f n (omega arith)) [
-          | inr b ↦ inr b
-          | inl a ↦ inl (λ i lt. elim (cases_lt i n) [
-              | inl low ↦ all i low
-              | inr high ↦ subst A (let e : n ≡ i = omega (arith, lt, high) in e) a
-            ])
-        ]
+        | inr b ↦ inr b
+        | inl a ↦ inl (λ i lt. elim (cases_lt i n) [
+          | inl low ↦ all i low
+          | inr high ↦ subst A (let e : n ≡ i = omega (arith, lt, high) in e) a
+        ])
+      ]
     ]
 
 pub some_of : (o : Option (List ℕ)) → IsSome o → (page : List ℕ) × (o ≡ Some page)

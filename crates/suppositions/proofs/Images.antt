@@ -39,7 +39,7 @@ module _ (keys : Keys) (image : List ℕ) (root : RootRef) (app : List ℕ) (siz
   spells-by (Ok tree) is =
       let key : List ℕ = unwrapped_of (object_key keys app) tree.head.wrapped in
       let pages = row_same (page_spelt (spelled (object_key keys app) (block_of v) tree)) (page_in image key tree) (length tree.nodes)
-          (λ k lt. ap (page_of key tree.head (at_node tree.nodes (k + 1)) k) (block-is tree is k lt)) in
+      (λ k lt. ap (page_of key tree.head (at_node tree.nodes (k + 1)) k) (block-is tree is k lt)) in
       ap (λ (l : List (Option (List ℕ))). object_of size attributes (record { bytes = tree.head.length; pages = l })) pages
 
   pub image_real : IsReal keys v

@@ -167,14 +167,14 @@ module _ (store : Store) (guess : Guess) (all : List HistoryRecord) where
   dropped-both z y le both = record {
     now = both.now;
     landed = λ doubt open_now is_open. both.landed doubt open_now (record {
-        front = is_open.front;
-        doubted = is_open.doubted;
-        back = is_open.back;
-        is = is_open.is;
-        marked = is_open.marked;
-        last = is_open.last;
-        late = omega (arith, le, is_open.late);
-      });
+      front = is_open.front;
+      doubted = is_open.doubted;
+      back = is_open.back;
+      is = is_open.is;
+      marked = is_open.marked;
+      last = is_open.last;
+      late = omega (arith, le, is_open.late);
+    });
   }
 
 pub landing_keeps : LandingsKeepMaps

@@ -46,8 +46,8 @@ module _ (store : Store) (guess : Guess) where
   legal-from front (r ∷ rest) answered none = (
     elim (answered front r rest refl) [ inl legal ↦ legal.legal | inr clash ↦ absurd (none front r rest refl clash) ],
     subst (λ (s : Standing). IsLegalFrom guess.dishonest s rest) (standing-snoc store guess front r)
-    (legal-from (front ++ r ∷ []) rest (subst (AreAnswered store guess) (sym (append_assoc front (r ∷ []) rest)) answered)
-    (λ fs x back e. none fs x back (e ∙ append_assoc front (r ∷ []) rest))),
+        (legal-from (front ++ r ∷ []) rest (subst (AreAnswered store guess) (sym (append_assoc front (r ∷ []) rest)) answered)
+        (λ fs x back e. none fs x back (e ∙ append_assoc front (r ∷ []) rest))),
   )
 
   -- where no event shows a clash, the history is legal

@@ -53,7 +53,7 @@ module _ (root : RootRef) (a b : Loaded) (va : IsVerified root a) (vb : IsVerifi
     | inr clash ↦ inr clash
     | inl same ↦
         let f = same_fields (at_node a.nodes 1) (at_node b.nodes 1) (Some a.head) (Some b.head) (stored_hash a.nodes a.head.greatest 2) (stored_hash a.nodes a.head.greatest 3)
-            (stored_hash b.nodes b.head.greatest 2) (stored_hash b.nodes b.head.greatest 3) (va.fields 1 (omega arith) some-a) (vb.fields 1 (omega arith) some-b) same in
+        (stored_hash b.nodes b.head.greatest 2) (stored_hash b.nodes b.head.greatest 3) (va.fields 1 (omega arith) some-a) (vb.fields 1 (omega arith) some-b) same in
         let la = sized_long a.head va.sized in
         let lb = sized_long b.head vb.sized in
         let fa = sized_few a.head va.sized in
@@ -124,13 +124,13 @@ module _ (root : RootRef) (a b : Loaded) (va : IsVerified root a) (vb : IsVerifi
     hashes (suc n) = elim (hashes n) [
       | inr clash ↦ inr clash
       | inl all ↦ elim (next n all) [
-          | inr clash ↦ inr clash
-          | inl last ↦ inl (λ m one le within. elim (cases_lt m (suc n)) [
-              | inl low ↦ all m one (omega (arith, low)) within
-              | inr high ↦ let is : suc n ≡ m = omega (arith, le, high) in
-                  (λ i. (at_node a.nodes (sym is i)).hash) ∙ last (omega (arith, within, is)) ∙ (λ i. (at_node b.nodes (is i)).hash)
-            ])
-        ]
+        | inr clash ↦ inr clash
+        | inl last ↦ inl (λ m one le within. elim (cases_lt m (suc n)) [
+          | inl low ↦ all m one (omega (arith, low)) within
+          | inr high ↦ let is : suc n ≡ m = omega (arith, le, high) in
+              (λ i. (at_node a.nodes (sym is i)).hash) ∙ last (omega (arith, within, is)) ∙ (λ i. (at_node b.nodes (is i)).hash)
+        ])
+      ]
     ]
       where
         next : (k : ℕ) → AllSame k → (suc k ≤ length a.nodes → (at_node a.nodes (suc k)).hash ≡ (at_node b.nodes (suc k)).hash) ⊎ NodeClash a b
@@ -153,15 +153,15 @@ module _ (root : RootRef) (a b : Loaded) (va : IsVerified root a) (vb : IsVerifi
     nodes-alike (suc n) le all = elim (nodes-alike n (omega (arith, le)) all) [
       | inr clash ↦ inr clash
       | inl low ↦ elim (inputs (suc n) (omega arith) le (omega (arith, counts, le)) (all (suc n) (omega arith) le le)) [
-          | inr clash ↦ inr clash
-          | inl same ↦
-              let o = own (suc n) (omega arith) le same in
-              let here : IsAlikeNode (at_node a.nodes (suc n)) (at_node b.nodes (suc n)) = record { hash = all (suc n) (omega arith) le le; iv = o.iv; tag = o.tag; flags = o.flags } in
-              inl (λ m one below. elim (cases_lt m (suc n)) [
-                | inl lower ↦ low m one (omega (arith, lower))
-                | inr high ↦ subst (λ (i : ℕ). IsAlikeNode (at_node a.nodes i) (at_node b.nodes i)) (let is : suc n ≡ m = omega (arith, below, high) in is) here
-              ])
-        ]
+        | inr clash ↦ inr clash
+        | inl same ↦
+            let o = own (suc n) (omega arith) le same in
+            let here : IsAlikeNode (at_node a.nodes (suc n)) (at_node b.nodes (suc n)) = record { hash = all (suc n) (omega arith) le le; iv = o.iv; tag = o.tag; flags = o.flags } in
+            inl (λ m one below. elim (cases_lt m (suc n)) [
+              | inl lower ↦ low m one (omega (arith, lower))
+              | inr high ↦ subst (λ (i : ℕ). IsAlikeNode (at_node a.nodes i) (at_node b.nodes i)) (let is : suc n ≡ m = omega (arith, below, high) in is) here
+            ])
+      ]
     ]
 
   -- One reference, one tree: what the hashes tell of the two is the same, or there is a clash.
@@ -169,12 +169,12 @@ module _ (root : RootRef) (a b : Loaded) (va : IsVerified root a) (vb : IsVerifi
   alike_trees = elim heads [
     | inr clash ↦ inr clash
     | inl h ↦ elim (hashes h (length a.nodes)) [
+      | inr clash ↦ inr clash
+      | inl all ↦ elim (nodes-alike h (length a.nodes) (omega arith) all) [
         | inr clash ↦ inr clash
-        | inl all ↦ elim (nodes-alike h (length a.nodes) (omega arith) all) [
-            | inr clash ↦ inr clash
-            | inl each ↦ inl (record { head = h; count = counts h; nodes = λ n one le. each n one le })
-          ]
+        | inl each ↦ inl (record { head = h; count = counts h; nodes = λ n one le. each n one le })
       ]
+    ]
   ]
 
 -- alike trees whose flags are 16 bits are the same

@@ -42,7 +42,7 @@ module _ (store : Store) (guess : Guess) where
   due-from front (r ∷ rest) answered = (
     due-one front r (answered front r rest refl),
     subst (λ (s : Standing). AreLandingsDue s rest) (standing-snoc store guess front r)
-    (due-from (front ++ r ∷ []) rest (subst (AreAnswered store guess) (sym (append_assoc front (r ∷ []) rest)) answered)),
+        (due-from (front ++ r ∷ []) rest (subst (AreAnswered store guess) (sym (append_assoc front (r ∷ []) rest)) answered)),
   )
 
   -- each landing of an answered history stands where a doubt is open

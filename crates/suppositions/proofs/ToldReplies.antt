@@ -176,9 +176,9 @@ module _ (store : Store) (guess : Guess) (before : List HistoryRecord) (r : Hist
     compared good alike_replies same = elim trees [
       | inr clash ↦ clashed sp stands alike_replies (inl clash)
       | inl alike ↦ elim (compare (asked_of g) sp given (same-key alike.head) alike good g.gave.good) [
-          | inl each ↦ same each
-          | inr clash ↦ clashed sp stands alike_replies (inr clash)
-        ]
+        | inl each ↦ same each
+        | inr clash ↦ clashed sp stands alike_replies (inr clash)
+      ]
     ]
 
   -- where nothing stands for the version, the supposition lacks it
