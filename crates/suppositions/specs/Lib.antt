@@ -1,0 +1,17 @@
+pub mod Spellings
+pub mod Images
+pub mod Guesses
+pub mod Clashes
+pub mod Stores
+pub mod Mapped
+pub mod Given
+pub mod Shown
+pub mod Answered
+pub mod Listings
+pub mod Sessions
+pub mod TreeLaws
+pub mod EndLaws
+pub mod MapLaws
+pub mod CommitLaws
+pub mod SessionLaws
+pub mod ReadLaws
