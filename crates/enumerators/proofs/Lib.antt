@@ -1,3 +1,4 @@
 pub mod Entries
 pub mod Numbering
 pub mod RunLemmas
+pub mod Searches

@@ -1,5 +1,5 @@
 -- The enumerators of a session (TEE Internal Core API, Trusted Storage: persistent object enumeration functions).
-use Rattle.std.specs.Prelude.{◌==◌, ℕ, Bool, ◌||◌, nat_le, ◌+◌, ◌≤◌, List, [], ◌∷◌, ◌++◌, length, Option, Some, None, IsSome, Result, Ok, Err}
+use Rattle.std.specs.Prelude.{◌==◌, ℕ, Bool, ◌||◌, nat_le, ◌+◌, List, [], ◌∷◌, ◌++◌, length, Option, Some, None, IsSome, Result, Ok, Err}
 use Rattle.std.specs.Map.{lookup, set_value, remove_entry}
 use Rattle.enumerators.specs.declared.cursor.Cursor.{Cursor}
 use Rattle.enumerators.specs.declared.cursor.Cursor.TheVariants.{Idle, First, After}
@@ -11,11 +11,6 @@ pub record EnumeratorTable : Type 0 where
   pub live : List (ℕ × Cursor)
   -- the number of the next one
   pub next : ℕ
-
--- these live enumerators have numbers from `low` on that rise, each below the next number
-abbrev pub IsNumbered : ℕ → List (ℕ × Cursor) → ℕ → Type 0
-IsNumbered low [] next = low ≤ next
-IsNumbered low (e ∷ live) next = (low ≤ e.0) × IsNumbered (e.0 + 1) live next
 
 abbrev pub no_enumerators : EnumeratorTable
 no_enumerators = record { live = []; next = 0 }

@@ -1,10 +1,9 @@
 //! The enumerators of a session.
 
-ghost use Rattle.std.specs.Prelude.{◌≡◌, ◌==◌, None, IfSome, IfNone};
-ghost use Rattle.std.specs.Map.{lookup};
+ghost use Rattle.std.specs.Prelude.{None};
 ghost use Rattle.enumerators.specs.Places.{IsPlaceOf};
 
-use crate::{Cursor, EnumFault};
+use crate::{Cursor, EnumFault, place_of};
 use std::alloc::Global;
 use std::marker::Model;
 use tee_types::ObjectId;
@@ -21,7 +20,8 @@ pub struct Enumerators {
 }
 
 impl Model for Enumerators {
-    ghost use Rattle.enumerators.specs.Enumeration.{EnumeratorTable, IsNumbered};
+    ghost use Rattle.enumerators.specs.Enumeration.{EnumeratorTable};
+    ghost use Rattle.enumerators.specs.Places.{IsNumbered};
 
     ghost Value = { EnumeratorTable };
 
@@ -139,17 +139,4 @@ impl Enumerators {
             None => Err(EnumFault::BadEnumerator),
         }
     }
-}
-
-// The place of the first enumerator of that number.
-fn place_of(live: &[(u32, Cursor)], number: u32) -> Option<usize>
-    ensures found { IfSome result (IsPlaceOf number live.now) }
-    ensures none { IfNone result (lookup (λ n. n == number) live.now ≡ None) }
-{
-    for (place, enumerator) in live.iter().enumerate() {
-        if enumerator.0 == number {
-            return Some(place);
-        }
-    }
-    None
 }

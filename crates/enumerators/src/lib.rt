@@ -5,9 +5,11 @@
 mod cursor;
 mod enumerators;
 mod laws;
+mod places;
 #[cfg(test)]
 mod tests;
 
 pub use cursor::{Cursor, EnumFault};
 pub use enumerators::Enumerators;
 pub use laws::{freed_numbers_stay_freed, numbers_count_up};
+pub use places::place_of;

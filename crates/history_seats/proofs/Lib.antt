@@ -19,5 +19,4 @@ pub mod OpenDoubts
 pub mod KnownEntries
 pub mod GivenStays
 pub mod GivenVersions
-pub mod OtherSessions
 pub mod SessionParts

@@ -1,5 +1,5 @@
 -- The numbers of each session's events.
-use Rattle.std.proofs.Common.{◌≡◌, ℕ, zero, suc, ◌+◌, ◌==◌, List, [], ◌∷◌, ◌++◌, length, Bool, true, false, cond, refl, sym, ap, ◌∙◌, subst, arith, length-append, ⊎_elim, eq-eqb, Option}
+use Rattle.std.proofs.Common.{◌≡◌, ℕ, suc, ◌+◌, ◌==◌, List, [], ◌∷◌, ◌++◌, length, Bool, true, false, cond, refl, sym, ap, ◌∙◌, subst, arith, length-append, ⊎_elim, eq-eqb, Option}
 use Rattle.std.proofs.lemmas.List.{append-nil, map-append}
 use Rattle.std.proofs.lemmas.Bool.Decides.{eqb_tells}
 use Rattle.std.specs.List.{list_any, range_with_len}
@@ -10,28 +10,13 @@ use Rattle.store_model.specs.declared.event.Mark.{Mark}
 use Rattle.store_model.specs.Record.{Tag, events_of}
 use Rattle.store_model.specs.declared.event.Event.TheVariants.{Call as CallEvent, Landed}
 use Rattle.store_model.specs.History.{numbers_of, count_of, AreNumbered}
+use Rattle.store_model.proofs.EventNumbers.{numbers-append, range-snoc}
 use Rattle.history_seats.specs.Records.{Version, HistoryRecord, IsUpToDate, is_event_of, is_of_session}
 use Rattle.history_seats.proofs.Lists.{neither}
 
 -- the numbers that one event adds
 abbrev number_in : ℕ → Event → List ℕ
 number_in session event = numbers_of session (event ∷ [])
-
-numbers-append : (session : ℕ) (xs ys : List Event) → numbers_of session (xs ++ ys) ≡ numbers_of session xs ++ numbers_of session ys
-numbers-append session [] ys = refl
-numbers-append session (CallEvent s number call reply mark ∷ xs) ys = one (s == session) (numbers-append session xs ys)
-  where
-    one : (b : Bool) → numbers_of session (xs ++ ys) ≡ numbers_of session xs ++ numbers_of session ys
-        → cond b (number ∷ numbers_of session (xs ++ ys)) (numbers_of session (xs ++ ys)) ≡ cond b (number ∷ numbers_of session xs) (numbers_of session xs) ++ numbers_of session ys
-    one true hyp = ap (λ l. number ∷ l) hyp
-    one false hyp = hyp
-numbers-append session (Landed commit ∷ xs) ys = numbers-append session xs ys
-
-range-snoc : (a n : ℕ) → range_with_len a (suc n) ≡ range_with_len a n ++ (a + n) ∷ []
-range-snoc a zero = let same : a ≡ a + 0 = omega arith in ap (λ (k : ℕ). k ∷ []) same
-range-snoc a (suc n) =
-    let same : a + 1 + n ≡ a + suc n = omega arith in
-    ap (λ (l : List ℕ). a ∷ l) (range-snoc (a + 1) n ∙ ap (λ (k : ℕ). range_with_len (a + 1) n ++ k ∷ []) same)
 
 -- one more number behind those that are in order
 more : (ns : List ℕ) (n : ℕ) → ns ≡ range_with_len 0 (length ns) → n ≡ length ns → ns ++ n ∷ [] ≡ range_with_len 0 (length (ns ++ n ∷ []))

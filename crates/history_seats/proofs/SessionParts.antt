@@ -22,6 +22,7 @@ use Rattle.store_model.specs.Legal.{IsLegalEvent, IsLegalFrom}
 use Rattle.store_model.proofs.Sessions.{length-after, length-replay}
 use Rattle.history_seats.specs.Records.{HistoryRecord, IsUpToDate, is_event_of, is_of_session}
 use Rattle.history_seats.specs.Settling.{Pending, as_landed, calm, dropped, is_doubtful, is_landing, open_from, settled_by, settles, settling, settled}
+use Rattle.store_model.proofs.OtherSessions.{session-state_after}
 use Rattle.history_seats.specs.Sessions.{session_if_landed, session_of}
 use Rattle.history_seats.specs.Known.{session_from}
 use Rattle.history_seats.specs.SessionLaws.{AreLandingsDue, MayBeDropped}
@@ -30,7 +31,6 @@ use Rattle.history_seats.specs.Rule.{PassFits}
 use Rattle.history_seats.proofs.Lists.{neither, no_some}
 use Rattle.history_seats.proofs.Parts.{calm-settled, settled-twice}
 use Rattle.history_seats.proofs.Places.{IsDoubtOf, doubt-within, open-calm, open-dropped, view-place}
-use Rattle.history_seats.proofs.OtherSessions.{session-state_after}
 
 -- what a landing makes of a session, by the session alone
 abbrev followed : Session → ℕ → List ℕ → Option Handle → Session

@@ -143,7 +143,7 @@ impl GateSeat {
     {
         let session = pass.session();
         let ids = steps::ids_of(&slot);
-        steps::push(history, event);
+        history.push(event);
         steps::take_slot(&mut self.seat, table, slot);
         steps::take_pass(&mut self.seat, table, pass);
         let place = steps::add_record::<N>(&mut self.seat, table);
@@ -163,7 +163,7 @@ impl GateSeat {
         ensures history { history.new.events ≡ history.old.events ++ Event.Landed commit ∷ [] }
         ensures spare { history.old.spare ≤ history.new.spare + 1 }
     {
-        steps::push(history, Event::Landed { commit });
+        history.push(Event::Landed { commit });
         steps::add_landing::<Brand>(&mut self.seat, table, commit)
     }
 

@@ -13,7 +13,6 @@ use crate::rule::{
 };
 use crate::seats::{HistoryTable, PassSeat, SlotSeat};
 use atomic_table::Seat;
-use store_model::{Event, History};
 
 /// The file and the generation of a slot's seat that may be there.
 pub(crate) fn ids_of(slot: &Option<SlotSeat>) -> Option<(u16, u32)>
@@ -23,17 +22,6 @@ pub(crate) fn ids_of(slot: &Option<SlotSeat>) -> Option<(u16, u32)>
         Some(slot) => Some((slot.file(), slot.generation())),
         None => None,
     }
-}
-
-/// Puts the event on the history, whose length a word can hold then.
-pub(crate) fn push(history: &mut History, event: Event)
-    requires { 1 ≤ history.old.spare }
-    ensures events { history.new.events ≡ history.old.events ++ event ∷ [] }
-    ensures spare { history.old.spare ≤ history.new.spare + 1 }
-    ensures room { length (history.old.events ++ event ∷ []) < 2 ^ 64 }
-{
-    history.push(event);
-    let _length = history.len();
 }
 
 /// Joins a slot's seat, where none is joined.

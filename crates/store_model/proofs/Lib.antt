@@ -7,6 +7,8 @@ pub mod Enumerations
 pub mod Phases
 pub mod Refusals
 pub mod Sessions
+pub mod OtherSessions
+pub mod EventNumbers
 pub mod Rows
 pub mod QuietCalls
 pub mod MadeChanges

@@ -1,5 +1,5 @@
 -- Legality is closed under prefixes: what the rest of a history names is not needed for its beginning.
-use Rattle.std.proofs.Common.{◌≡◌, ◌⊎◌, ◌+◌, ◌≤◌, ◌==◌, ℕ, suc, Bool, true, false, cond, List, [], ◌∷◌, ◌++◌, length, ap, sym, ◌∙◌, refl, subst, inl, inr, Option, Some, None}
+use Rattle.std.proofs.Common.{◌≡◌, ◌⊎◌, ◌+◌, ◌≤◌, ℕ, suc, Bool, true, false, cond, List, [], ◌∷◌, ◌++◌, length, ap, sym, ◌∙◌, refl, subst, inl, inr, Option, Some, None}
 use Rattle.std.specs.List.{All, range_with_len}
 use Rattle.std.specs.List.Sorted.{IsStrictlySortedBy}
 use Rattle.std.specs.Map.{keys_of}
@@ -9,8 +9,6 @@ use Rattle.std.proofs.lemmas.List.Elements.{All-nil, All-cons, All-head, All-tai
 use Rattle.std.proofs.lemmas.Map.Lookups.{CmpEqualImpliesEq, exact_bytes, exact_pairs}
 use Rattle.std.proofs.lemmas.Map.Views.{tells_apart}
 use Rattle.tee_types.specs.Identifier.{IsIdentifier}
-use Rattle.store_model.specs.declared.event.Event.{Event}
-use Rattle.store_model.specs.declared.event.Event.TheVariants.{Call as CallEvent, Landed}
 use Rattle.store_model.specs.declared.name.ObjectName.{ObjectName}
 use Rattle.store_model.specs.Name.{name_cmp}
 use Rattle.store_model.specs.Object.{Object, Sound, Damaged, ObjectMap, size_of, object_at}
@@ -23,6 +21,7 @@ use Rattle.store_model.specs.Legal.{IsLegalFrom}
 use Rattle.store_model.specs.Damage.{HasLessDamage, IsMended, IsMaybeMended, IsAlteredBack}
 use Rattle.store_model.specs.LegalHistory.{IsLegal, opening_with, doubt_of}
 use Rattle.store_model.specs.Laws.{PrefixesAreLegal}
+use Rattle.store_model.proofs.EventNumbers.{numbers-append}
 use Rattle.store_model.proofs.Maps.{at}
 use Rattle.store_model.proofs.Closeness.{listing, AreClose, IsUnnamed}
 use Rattle.store_model.proofs.EventSteps.{standing_over, IsInStep}
@@ -183,15 +182,6 @@ module _ {Root : Type 0} (files : FileMap) (dishonest : List ℕ) (front back : 
   }
 
 -- the numbers of a beginning
-numbers-append : (session : ℕ) (xs ys : List Event) → numbers_of session (xs ++ ys) ≡ numbers_of session xs ++ numbers_of session ys
-numbers-append session [] ys = refl
-numbers-append session (CallEvent s number call reply mark ∷ xs) ys =
-    elim (s == session) as (λ c. cond c (number ∷ numbers_of session (xs ++ ys)) (numbers_of session (xs ++ ys)) ≡ cond c (number ∷ numbers_of session xs) (numbers_of session xs) ++ numbers_of session ys) [
-      | true ↦ ap (λ l. number ∷ l) (numbers-append session xs ys)
-      | false ↦ numbers-append session xs ys
-    ]
-numbers-append session (Landed commit ∷ xs) ys = numbers-append session xs ys
-
 events-append : {Root : Type 0} (xs ys : List (Record Root)) → events_of (xs ++ ys) ≡ events_of xs ++ events_of ys
 events-append [] ys = refl
 events-append (x ∷ xs) ys = ap (λ l. x.event ∷ l) (events-append xs ys)

@@ -1,5 +1,5 @@
 -- What holds of every legal history, and of every call of the machine.
-use Rattle.std.specs.Prelude.{◌≡◌, ℕ, Bool, true, false, List, ◌++◌, length, Option, Some, Contains}
+use Rattle.std.specs.Prelude.{◌≡◌, ◌≢◌, ℕ, Bool, true, false, List, ◌++◌, length, Option, Some, Contains}
 use Rattle.std.specs.Ordering.{is_lt}
 use Rattle.tee_types.specs.declared.call.Call.{Call}
 use Rattle.tee_types.specs.declared.reply.Reply.{Reply}
@@ -10,7 +10,7 @@ use Rattle.store_model.specs.declared.event.Mark.TheVariants.{Unchanged}
 use Rattle.store_model.specs.Name.{name_cmp}
 use Rattle.store_model.specs.Object.{Object, ObjectMap}
 use Rattle.store_model.specs.Sound.{IsObjectMap, IsCall}
-use Rattle.store_model.specs.Machine.{MachineState}
+use Rattle.store_model.specs.Machine.{MachineState, session_at}
 use Rattle.store_model.specs.Calls.{reply_of, state_after, is_commit}
 use Rattle.store_model.specs.Enumerating.{is_of, is_above, next_object}
 use Rattle.store_model.specs.Record.{Record}
@@ -40,6 +40,11 @@ UnchangedMapsStay =
     (dishonest : List ℕ) (s : Standing) (session : ℕ) (call : Call) (reply : Reply) (file : Option ℕ)
     → IsLegalCall dishonest s session call reply Unchanged file
     → ((standing_after_call s session call reply Unchanged file).state).objects ≡ (s.state).objects
+
+-- A call changes no session but its own: no handle, position, enumerator or number of another.
+abbrev pub OtherSessionsStay : Type 0
+OtherSessionsStay =
+    (s : MachineState) (i k : ℕ) (call : Call) → k ≢ i → session_at (state_after s i call) k ≡ session_at s k
 
 -- No event makes a session or ends one.
 abbrev pub SessionsStay : Type 0 → Type 0

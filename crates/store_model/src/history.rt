@@ -22,7 +22,7 @@ impl Model for History {
 }
 
 impl History {
-    ghost use Rattle.std.specs.Prelude.{◌≡◌, ◌==◌, ◌≤◌, ◌+◌, [], ◌∷◌, ◌++◌, length, slice_get, OnOk, option_copied};
+    ghost use Rattle.std.specs.Prelude.{◌≡◌, ◌==◌, ◌<◌, ◌≤◌, ◌+◌, ◌^◌, [], ◌∷◌, ◌++◌, length, slice_get, OnOk, option_copied};
 
     /// No events.
     pub fn new(alloc: Global) -> History
@@ -47,6 +47,8 @@ impl History {
         requires { 1 ≤ self.old.spare }
         ensures events { self.new.events ≡ self.old.events ++ event ∷ [] }
         ensures spare { self.old.spare ≤ self.new.spare + 1 }
+        // A word can hold how many there are.
+        ensures fits { length self.new.events < 2 ^ 64 }
     {
         self.items.push(event).unwrap();
     }

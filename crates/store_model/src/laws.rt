@@ -2,7 +2,7 @@
 
 ghost use Rattle.store_model.specs.Refusal.{RefusalsChangeNothing, RepliesNameNoDevice};
 ghost use Rattle.store_model.specs.Makes.{CommitsMakeChanges};
-ghost use Rattle.store_model.specs.Laws.{PrefixesAreLegal, CallsKeepMaps, OthersKeepMaps, UnchangedMapsStay, SessionsStay, EnumeratorsGiveTheLeast};
+ghost use Rattle.store_model.specs.Laws.{PrefixesAreLegal, CallsKeepMaps, OthersKeepMaps, UnchangedMapsStay, OtherSessionsStay, SessionsStay, EnumeratorsGiveTheLeast};
 
 /// A refused call changes nothing: no object, handle, position or enumerator, and no number of a next one. A start that finds no object
 /// leaves its enumerator not started.
@@ -43,6 +43,12 @@ pub fn prefixes_are_legal<Root>()
 /// A well formed call leaves a map of objects.
 pub fn calls_keep_maps()
     ensures { CallsKeepMaps }
+{}
+
+/// A call changes no session but its own.
+#[tactic(auto, using(crate::proofs::OtherSessions::other_sessions_stay))]
+pub fn other_sessions_stay()
+    ensures { OtherSessionsStay }
 {}
 
 /// A replay keeps the number of sessions.

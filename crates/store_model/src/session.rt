@@ -1,11 +1,7 @@
 //! The session of an application: its open handles and its enumerators.
 
-ghost use Rattle.std.specs.Prelude.{◌≡◌, ◌==◌, None, IfSome, IfNone};
-ghost use Rattle.std.specs.Map.{lookup};
-ghost use Rattle.enumerators.specs.Places.{IsPlaceOf};
-
 use crate::name::ObjectName;
-use enumerators::{Cursor, EnumFault, Enumerators};
+use enumerators::{Cursor, EnumFault, Enumerators, place_of};
 use std::alloc::Global;
 use std::marker::Model;
 use tee_types::{AppId, Flags, NoMemory, ObjectId};
@@ -36,6 +32,7 @@ pub struct Session {
 impl Model for Session {
     ghost use Rattle.std.specs.Prelude.{◌≤◌};
     ghost use Rattle.std.specs.Vec.{vec_capacity};
+    ghost use Rattle.enumerators.specs.Places.{IsNumbered};
     ghost use Rattle.store_model.specs.Machine.{Session as SessionState};
 
     ghost Value = { SessionState };
@@ -47,11 +44,12 @@ impl Model for Session {
       enumerators = a.enumerators;
     } };
 
-    ghost invariant = { λ a. 1024 ≤ vec_capacity a.handles };
+    ghost invariant = { λ a. (1024 ≤ vec_capacity a.handles) × IsNumbered 0 a.handles.items a.next_handle };
 }
 
 impl Session {
-    ghost use Rattle.std.specs.Prelude.{◌≡◌, ◌==◌, ◌≤◌, ◌+◌, [], ◌∷◌, ◌++◌, false, if◌then◌else◌, IfOk, IfErr, OnOk, OnErr, IsSome, is_some};
+    ghost use Rattle.std.specs.Prelude.{◌≡◌, ◌==◌, ◌≤◌, ◌+◌, [], ◌∷◌, ◌++◌, false, if◌then◌else◌, None, IfOk, IfErr, IfSome, IfNone, OnOk, OnErr, IsSome, is_some};
+    ghost use Rattle.enumerators.specs.Places.{IsPlaceOf};
     ghost use Rattle.enumerators.specs.Enumeration.{cursor_at, has_all, allocated, started, reset, freed, advanced, IsLive, IsStarted};
     ghost use Rattle.store_model.specs.Machine.{handle_at, with_handle, without_handle, has_all_handles, new_session};
     ghost use Rattle.store_model.specs.Handles.{has_open, allows_open};
@@ -102,11 +100,19 @@ impl Session {
         number
     }
 
+    // The place of the live handle of that number.
+    fn place(&self, number: u32) -> Option<usize>
+        ensures found { IfSome result (IsPlaceOf number self.now.handles) }
+        ensures none { IfNone result (handle_at self.now number ≡ None) }
+    {
+        place_of(self.handles.as_slice(), number)
+    }
+
     /// The live handle of that number.
     pub fn handle(&self, number: u32) -> Option<Handle>
         ensures { result ≡ handle_at self.now number }
     {
-        let place = place_of(self.handles.as_slice(), number)?;
+        let place = self.place(number)?;
         Some(self.handles[place].1)
     }
 
@@ -115,7 +121,7 @@ impl Session {
         requires { IsSome (handle_at self.old number) }
         ensures { self.new ≡ without_handle self.old number }
     {
-        if let Some(place) = place_of(self.handles.as_slice(), number) {
+        if let Some(place) = self.place(number) {
             let _closed = self.handles.remove(place);
         }
     }
@@ -125,7 +131,7 @@ impl Session {
         requires { IsSome (handle_at self.old number) }
         ensures { self.new ≡ with_handle self.old number handle }
     {
-        if let Some(place) = place_of(self.handles.as_slice(), number) {
+        if let Some(place) = self.place(number) {
             self.handles[place] = (number, handle);
         }
     }
@@ -202,17 +208,4 @@ impl Session {
     {
         self.enumerators.given(number, id);
     }
-}
-
-/// The place of the first handle of that number.
-fn place_of(handles: &[(u32, Handle)], number: u32) -> Option<usize>
-    ensures found { IfSome result (IsPlaceOf number handles.now) }
-    ensures none { IfNone result (lookup (λ n. n == number) handles.now ≡ None) }
-{
-    for (place, handle) in handles.iter().enumerate() {
-        if handle.0 == number {
-            return Some(place);
-        }
-    }
-    None
 }

@@ -31,13 +31,6 @@ impl State {
         self.sessions.iter().all(|s| s.allows(name, flags))
     }
 
-    /// Whether an object of that name would be new, and there is no room for one more.
-    fn lacks_room(&self, name: &ObjectName) -> bool
-        ensures { result ≡ lacks_room self.now.objects name.now }
-    {
-        !self.objects.contains_key(name) && MAX_OBJECTS <= self.objects.len()
-    }
-
     /// Why a create is refused, if it is.
     fn create_refusal(
         &self,
@@ -67,7 +60,7 @@ impl State {
         if exists && self.is_open(name) {
             return Some(Reply::Refused(Code::AccessConflict));
         }
-        if MAX_DATA < bytes.len() || self.lacks_room(name) {
+        if MAX_DATA < bytes.len() || !exists && MAX_OBJECTS <= self.objects.len() {
             return Some(Reply::Refused(Code::NoSpace));
         }
         None

@@ -1,5 +1,6 @@
 use Rattle.std.proofs.Common.{◌≡◌, ◌+◌, None, subst, sym}
-use Rattle.enumerators.specs.Enumeration.{IsNumbered, cursor_at}
+use Rattle.enumerators.specs.Places.{IsNumbered}
+use Rattle.enumerators.specs.Enumeration.{cursor_at}
 use Rattle.enumerators.proofs.Numbering.{IsNumbered-append, lookup-next}
 use Rattle.enumerators.proofs.enumerators.Enumerators.add.Goals as goal
 

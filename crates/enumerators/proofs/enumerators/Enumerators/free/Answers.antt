@@ -1,7 +1,6 @@
 use Rattle.std.proofs.Common.{◌==◌, ◌∙◌, subst, sym, ap}
 use Rattle.std.specs.Map.{lookup}
-use Rattle.enumerators.specs.Places.{IsPlaceOf}
-use Rattle.enumerators.specs.Enumeration.{IsNumbered}
+use Rattle.enumerators.specs.Places.{IsPlaceOf, IsNumbered}
 use Rattle.enumerators.proofs.Numbering.{IsNumbered-remove_entry, lookup-removed}
 use Rattle.enumerators.proofs.enumerators.Enumerators.free.Goals as goal
 

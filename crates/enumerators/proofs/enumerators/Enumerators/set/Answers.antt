@@ -1,6 +1,5 @@
 use Rattle.std.proofs.Common.{◌==◌, subst, sym}
-use Rattle.enumerators.specs.Places.{IsPlaceOf}
-use Rattle.enumerators.specs.Enumeration.{IsNumbered}
+use Rattle.enumerators.specs.Places.{IsPlaceOf, IsNumbered}
 use Rattle.enumerators.proofs.Numbering.{IsNumbered-set_value}
 use Rattle.enumerators.proofs.enumerators.Enumerators.set.Goals as goal
 

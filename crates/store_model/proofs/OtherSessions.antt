@@ -20,6 +20,7 @@ use Rattle.store_model.specs.Data.{read_of, meets_block, bytes_at, write_of, wri
 use Rattle.store_model.specs.Naming.{rename_of, delete_of}
 use Rattle.store_model.specs.Enumerating.{enum_new_of, enum_start_of, enum_next_of, enum_reset_of, enum_free_of, by_cursor, enum_gives, is_of, with_enumerators}
 use Rattle.store_model.specs.Calls.{state_after}
+use Rattle.store_model.specs.Laws.{OtherSessionsStay}
 
 module _ (k : ℕ) where
   -- the outcome leaves session k as it is in the state
@@ -92,3 +93,6 @@ module _ (k : ℕ) where
   session-state_after s i (EnumNext number) apart = Leaves-by_cursor s (cursor_at (session_at s i).enumerators number) _ (λ cursor. Leaves-enum_gives s i number _ apart)
   session-state_after s i (EnumReset number) apart = Leaves-by_cursor s (cursor_at (session_at s i).enumerators number) _ (λ cursor. other s i _ apart)
   session-state_after s i (EnumFree number) apart = Leaves-by_cursor s (cursor_at (session_at s i).enumerators number) _ (λ cursor. other s i _ apart)
+
+pub other_sessions_stay : OtherSessionsStay
+other_sessions_stay s i k call apart = session-state_after k s i call apart
