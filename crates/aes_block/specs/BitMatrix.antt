@@ -26,13 +26,13 @@ with_bit n i k = i - i / n % 2 * n + k / n % 2 * n
 abbrev pub exchanged : ℕ → List (List ℕ) → List (List ℕ)
 exchanged n m = matrix_of (λ i k. entry m (with_bit n i k) (with_bit n k i))
 
--- the bits of a in the places of `low`, and those of b in the others
-abbrev pub selected : ℕ → ℕ → ℕ → ℕ
-selected low a b = bit_xor (bit_and a low) (bit_and b (255 - low))
+-- where two rows differ, in the places of `low`: a's bits moved down by n places, against b's
+abbrev pub difference : ℕ → ℕ → ℕ → ℕ → ℕ
+difference n low a b = bit_and (bit_xor (a / 2 ^ n) b) low
 
 -- a pair of rows with n between them, exchanged: `low` has the places whose bit of weight n is 0
 abbrev pub low_row : ℕ → ℕ → ℕ → ℕ → ℕ
-low_row n low a b = selected low a (b * 2 ^ n % 2 ^ 8)
+low_row n low a b = bit_xor a (difference n low a b * 2 ^ n % 2 ^ 8)
 
 abbrev pub high_row : ℕ → ℕ → ℕ → ℕ → ℕ
-high_row n low a b = selected low (a / 2 ^ n) b
+high_row n low a b = bit_xor b (difference n low a b)

@@ -4,12 +4,13 @@ use Rattle.std.proofs.Math.ListN.{set}
 use Rattle.std.proofs.lemmas.Bool.{cases_lt}
 use Rattle.std.proofs.lemmas.List.{get_or-replicate, get_or-set_same, get_or-set_other}
 use Rattle.std.proofs.lemmas.Nat.{pow_pos, pow-add, pow_below, xor_lt, xor_block, mod-pow-add}
-use Rattle.std.specs.Int.Bits.{xor_zero_l, xor_zero_r, xor_self, xor_comm, xor_shifted}
+use Rattle.std.specs.Int.Bits.{xor_zero_l, xor_zero_r, xor_self, xor_assoc, xor_comm, xor_shifted}
 use Rattle.ghash_field.specs.Field.{reflected, block_product}
 use Rattle.ghash_field.specs.Table.{block_step, IsRow, IsTable}
 use Rattle.ghash_field.proofs.Algebra.{times_below, times-comm, times-inside}
 use Rattle.ghash_field.proofs.Division.{times_x, times_x-linear, times_x-lt, powers}
 use Rattle.ghash_field.proofs.FieldLaws.{product-comm, product-linear, one-product}
+use Rattle.ghash_field.proofs.Sums.{xor_swap}
 use Rattle.ghash_field.proofs.Reflected.{reflected-lt, reflected-step, reflected-product, product-lt, same_from_reflected}
 
 -- a step leaves a block
@@ -132,7 +133,7 @@ low_more a i =
     ap (λ e. a % 2 ^ e) next ∙ mod-pow-add a 4 j ∙ sym (xor_shifted (a / 2 ^ j % 16) j (a % 2 ^ j) (mod-lt a (pow_pos j)))
 
 -- the product of the lowest 4 (i + 1) bits
-pub group-more : (a h i sum : ℕ) (table : List (List ℕ)) → i < 32 → IsTable h table → sum ≡ block_product (a % 2 ^ (4 * i)) h
+group-more : (a h i sum : ℕ) (table : List (List ℕ)) → i < 32 → IsTable h table → sum ≡ block_product (a % 2 ^ (4 * i)) h
     → bit_xor sum (get_or (get_or table i []) (a / 2 ^ (4 * i) % 16) 0) ≡ block_product (a % 2 ^ (4 * (i + 1))) h
 unfolding IsTable IsRow
 group-more a h i sum table lt rows e =
@@ -141,6 +142,24 @@ group-more a h i sum table lt rows e =
     ∙ xor_comm (block_product (a % 2 ^ (4 * i)) h) (block_product (n * 2 ^ (4 * i)) h)
     ∙ sym (product-linear (n * 2 ^ (4 * i)) (a % 2 ^ (4 * i)) h)
     ∙ ap (λ w. block_product w h) (sym (low_more a i))
+
+-- the product of the lowest 8 (i + 1) bits, as a sum of two sums: one of the groups at even places, one of those at odd ones
+pub pair-more : (a h i even odd : ℕ) (table : List (List ℕ)) → i < 16 → IsTable h table → bit_xor even odd ≡ block_product (a % 2 ^ (8 * i)) h
+    → bit_xor (bit_xor even (get_or (get_or table (2 * i) []) (a / 2 ^ (4 * (2 * i)) % 16) 0))
+    (bit_xor odd (get_or (get_or table (2 * i + 1) []) (a / 2 ^ (4 * (2 * i + 1)) % 16) 0))
+    ≡ block_product (a % 2 ^ (8 * (i + 1))) h
+pair-more a h i even odd table lt rows e =
+    let p : ℕ = get_or (get_or table (2 * i) []) (a / 2 ^ (4 * (2 * i)) % 16) 0 in
+    let q : ℕ = get_or (get_or table (2 * i + 1) []) (a / 2 ^ (4 * (2 * i + 1)) % 16) 0 in
+    let sum : ℕ = bit_xor even odd in
+    let first : 8 * i ≡ 4 * (2 * i) = omega arith in
+    let last : 4 * (2 * i + 1 + 1) ≡ 8 * (i + 1) = omega arith in
+    let one : bit_xor sum p ≡ block_product (a % 2 ^ (4 * (2 * i + 1))) h =
+    group-more a h (2 * i) sum table (omega arith) rows (e ∙ ap (λ k. block_product (a % 2 ^ k) h) first) in
+    xor_swap even p odd q
+    ∙ sym (xor_assoc sum p q)
+    ∙ group-more a h (2 * i + 1) (bit_xor sum p) table (omega arith) rows one
+    ∙ ap (λ k. block_product (a % 2 ^ k) h) last
 
 -- of no bits it is 0
 pub no_group : (a h : ℕ) → 0 ≡ block_product (a % 2 ^ (4 * 0)) h

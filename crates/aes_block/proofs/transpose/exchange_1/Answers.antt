@@ -5,8 +5,8 @@ use Rattle.aes_block.proofs.transpose.exchange_1.Goals as goal
 
 pub returns-clause-value : goal.returns-clause-value
 returns-clause-value c = λ j lt.
-    let low = λ (p q y : ℕ). low_bits 1 0x55 (lane c.args.x p j) (lane c.args.x q j) y (omega arith) refl in
-    let high = λ (p q y : ℕ). high_bits 1 0x55 (lane c.args.x p j) (lane c.args.x q j) y (omega arith) in
+    let low = λ (p q y : ℕ). low_bits 1 0x55 (lane c.args.x p j) (lane c.args.x q j) y (omega arith) refl refl in
+    let high = λ (p q y : ℕ). high_bits 1 0x55 (lane c.args.x p j) (lane c.args.x q j) y in
     λ i. low 0 1 _ (c.exchange.ensures.first j lt) i
     ∷ high 0 1 _ (c.exchange.ensures.second j lt) i
     ∷ low 2 3 _ (c.exchange-2.ensures.first j lt) i
