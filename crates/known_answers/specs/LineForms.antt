@@ -52,22 +52,10 @@ abbrev pub is_worn_card : List (List ℕ) → Bool
 is_worn_card (counter ∷ first ∷ rest) = is_counter counter && is_array 512 first && are_arrays 512 rest
 is_worn_card words = false
 
--- what stands behind the first word is what this word asks for
-abbrev pub behind : (name : List ℕ) → List (List ℕ) → Bool
-behind name words =
-    if bytes_eq name (codes "aes") then are_two_arrays 16 16 words
-    else if bytes_eq name (codes "aes-inverse") then are_two_arrays 16 16 words
-    else if bytes_eq name (codes "ghash") then is_array_and_more 16 16 words
-    else if bytes_eq name (codes "gcm-seal") then parts_alone words
-    else if bytes_eq name (codes "gcm-open") then are_parts_and_tag words
-    else if bytes_eq name (codes "hmac") then are_arguments words
-    else if bytes_eq name (codes "ssk") then are_two_arrays 16 32 words
-    else if bytes_eq name (codes "tsk") then are_two_arrays 32 16 words
-    else if bytes_eq name (codes "dir-tsk") then is_one_array 32 words
-    else if bytes_eq name (codes "rpmb-key") then is_one_array 16 words
-    else if bytes_eq name (codes "wrap") then are_two_arrays 32 16 words
-    else if bytes_eq name (codes "unwrap") then are_two_arrays 32 16 words
-    else if bytes_eq name (codes "frame-mac") then are_two_arrays 32 512 words
+-- what stands behind the first word is what this word asks for: of the card, of trees, and of entries
+abbrev pub behind_device : (name : List ℕ) → List (List ℕ) → Bool
+behind_device name words =
+    if bytes_eq name (codes "frame-mac") then are_two_arrays 32 512 words
     else if bytes_eq name (codes "frame-fields") then is_one_array 512 words
     else if bytes_eq name (codes "card") then is_array_and_more 512 512 words
     else if bytes_eq name (codes "worn-card") then is_worn_card words
@@ -76,6 +64,28 @@ behind name words =
     else if bytes_eq name (codes "entry") then is_one_array 128 words
     else if bytes_eq name (codes "object") then object_alone words
     else false
+
+-- the same of keys, and of what is above
+abbrev pub behind_key : (name : List ℕ) → List (List ℕ) → Bool
+behind_key name words =
+    if bytes_eq name (codes "hmac") then are_arguments words
+    else if bytes_eq name (codes "ssk") then are_two_arrays 16 32 words
+    else if bytes_eq name (codes "tsk") then are_two_arrays 32 16 words
+    else if bytes_eq name (codes "dir-tsk") then is_one_array 32 words
+    else if bytes_eq name (codes "rpmb-key") then is_one_array 16 words
+    else behind_device name words
+
+-- the same of ciphers, and of what is above
+abbrev pub behind : (name : List ℕ) → List (List ℕ) → Bool
+behind name words =
+    if bytes_eq name (codes "aes") then are_two_arrays 16 16 words
+    else if bytes_eq name (codes "aes-inverse") then are_two_arrays 16 16 words
+    else if bytes_eq name (codes "ghash") then is_array_and_more 16 16 words
+    else if bytes_eq name (codes "gcm-seal") then parts_alone words
+    else if bytes_eq name (codes "gcm-open") then are_parts_and_tag words
+    else if bytes_eq name (codes "wrap") then are_two_arrays 32 16 words
+    else if bytes_eq name (codes "unwrap") then are_two_arrays 32 16 words
+    else behind_key name words
 
 -- the words of a line are a question
 abbrev pub has_form : List (List ℕ) → Bool

@@ -3,7 +3,7 @@
 ghost use Rattle.std.specs.Prelude.{◌≡◌, ◌∷◌, ◌<◌, ◌&&◌, IfOk, IsFalse, IsTrue, MatchResult, map};
 ghost use Rattle.hex.specs.Hex.{decode_of};
 ghost use Rattle.known_answers.specs.Forms.{are_arrays, are_parts, has_its_pages, is_argument, is_array, is_counter, is_number, is_object_image, is_tree_image, is_version};
-ghost use Rattle.known_answers.specs.LineForms.{behind, has_form};
+ghost use Rattle.known_answers.specs.LineForms.{behind, behind_device, behind_key, has_form};
 ghost use Rattle.known_answers.specs.declared.lines.Unreadable.TheVariants.{Form};
 ghost use Rattle.known_answers.specs.Asks.{AreArrays, AreParts, AreTreePages, Asks, IsObjectImage, IsTreeImage};
 ghost use Rattle.known_answers.specs.Words.{IsArgument, IsNumber, words_of};
@@ -241,7 +241,7 @@ fn question_of(alloc: Global, words: &[&str]) -> Result<Question, Unreadable>
     question_by(alloc, name, words)
 }
 
-// The question by its name, and by the words behind that.
+// The question by its name, and by the words behind that: of ciphers, or else of keys and of devices.
 fn question_by(alloc: Global, name: &str, words: &[&str]) -> Result<Question, Unreadable>
     ensures asks { IfOk result (λ question. Asks (name.now ∷ map (λ w. w.now) words.now) question) }
     ensures form { MatchResult result (λ _. IsTrue (behind name.now (map (λ w. w.now) words.now)))
@@ -267,6 +267,25 @@ fn question_by(alloc: Global, name: &str, words: &[&str]) -> Result<Question, Un
             let (parts, tag) = parts_and_tag(alloc, words)?;
             Ok(Question::GcmOpen { parts, tag })
         }
+        "wrap" => {
+            let (tsk, fek) = two_arrays(words)?;
+            Ok(Question::Wrap { tsk, fek })
+        }
+        "unwrap" => {
+            let (tsk, wrapped) = two_arrays(words)?;
+            Ok(Question::Unwrap { tsk, wrapped })
+        }
+        _ => key_question(alloc, name, words),
+    }
+}
+
+// The same of keys, or else of devices.
+fn key_question(alloc: Global, name: &str, words: &[&str]) -> Result<Question, Unreadable>
+    ensures asks { IfOk result (λ question. Asks (name.now ∷ map (λ w. w.now) words.now) question) }
+    ensures form { MatchResult result (λ _. IsTrue (behind_key name.now (map (λ w. w.now) words.now)))
+        (λ e. e ≡ Form → IsFalse (behind_key name.now (map (λ w. w.now) words.now))) }
+{
+    match name {
         "hmac" => {
             let (key, text) = two_arguments(alloc, words)?;
             Ok(Question::Hmac { key, text })
@@ -285,14 +304,17 @@ fn question_by(alloc: Global, name: &str, words: &[&str]) -> Result<Question, Un
         "rpmb-key" => Ok(Question::RpmbKey {
             huk: one_array(words)?,
         }),
-        "wrap" => {
-            let (tsk, fek) = two_arrays(words)?;
-            Ok(Question::Wrap { tsk, fek })
-        }
-        "unwrap" => {
-            let (tsk, wrapped) = two_arrays(words)?;
-            Ok(Question::Unwrap { tsk, wrapped })
-        }
+        _ => device_question(alloc, name, words),
+    }
+}
+
+// The same of the card, of trees and of entries.
+fn device_question(alloc: Global, name: &str, words: &[&str]) -> Result<Question, Unreadable>
+    ensures asks { IfOk result (λ question. Asks (name.now ∷ map (λ w. w.now) words.now) question) }
+    ensures form { MatchResult result (λ _. IsTrue (behind_device name.now (map (λ w. w.now) words.now)))
+        (λ e. e ≡ Form → IsFalse (behind_device name.now (map (λ w. w.now) words.now))) }
+{
+    match name {
         "frame-mac" => {
             let (key, frame) = two_arrays(words)?;
             Ok(Question::FrameMac { key, frame })
