@@ -5,6 +5,7 @@ pub mod Entries
 pub mod Objects
 pub mod Answers
 pub mod Words
+pub mod Subjects
 pub mod Asks
 pub mod Refusals
 pub mod Forms

@@ -1,5 +1,8 @@
 -- Which lines are questions: by the first word, what the words behind it must be.
-use Rattle.std.specs.Prelude.{ℕ, ◌&&◌, if◌then◌else◌, Bool, false, List, [], ◌∷◌, bytes_eq, codes}
+use Rattle.std.specs.Prelude.{ℕ, ◌&&◌, Bool, false, List, [], ◌∷◌, Option, Some, None}
+use Rattle.known_answers.specs.declared.subjects.Subject.{Subject}
+use Rattle.known_answers.specs.declared.subjects.Subject.TheVariants.{Aes, AesInverse, Ghash, GcmSeal, GcmOpen, Hmac, Ssk, Tsk, DirTsk, RpmbKey, Wrap, Unwrap, FrameMac, FrameFields, Card, WornCard, Tree, TreeMake, Entry, Object}
+use Rattle.known_answers.specs.Subjects.{subject_named}
 use Rattle.known_answers.specs.Forms.{are_arrays, are_parts, has_its_pages, is_argument, is_array, is_counter, is_object_image, is_tree_image}
 
 -- a word of so many bytes in hex
@@ -52,32 +55,34 @@ abbrev pub is_worn_card : List (List ℕ) → Bool
 is_worn_card (counter ∷ first ∷ rest) = is_counter counter && is_array 512 first && are_arrays 512 rest
 is_worn_card words = false
 
--- what stands behind the first word is what this word asks for
-abbrev pub behind : (name : List ℕ) → List (List ℕ) → Bool
-behind name words =
-    if bytes_eq name (codes "aes") then are_two_arrays 16 16 words
-    else if bytes_eq name (codes "aes-inverse") then are_two_arrays 16 16 words
-    else if bytes_eq name (codes "ghash") then is_array_and_more 16 16 words
-    else if bytes_eq name (codes "gcm-seal") then parts_alone words
-    else if bytes_eq name (codes "gcm-open") then are_parts_and_tag words
-    else if bytes_eq name (codes "hmac") then are_arguments words
-    else if bytes_eq name (codes "ssk") then are_two_arrays 16 32 words
-    else if bytes_eq name (codes "tsk") then are_two_arrays 32 16 words
-    else if bytes_eq name (codes "dir-tsk") then is_one_array 32 words
-    else if bytes_eq name (codes "rpmb-key") then is_one_array 16 words
-    else if bytes_eq name (codes "wrap") then are_two_arrays 32 16 words
-    else if bytes_eq name (codes "unwrap") then are_two_arrays 32 16 words
-    else if bytes_eq name (codes "frame-mac") then are_two_arrays 32 512 words
-    else if bytes_eq name (codes "frame-fields") then is_one_array 512 words
-    else if bytes_eq name (codes "card") then is_array_and_more 512 512 words
-    else if bytes_eq name (codes "worn-card") then is_worn_card words
-    else if bytes_eq name (codes "tree") then tree_alone words
-    else if bytes_eq name (codes "tree-make") then are_pages words
-    else if bytes_eq name (codes "entry") then is_one_array 128 words
-    else if bytes_eq name (codes "object") then object_alone words
-    else false
+-- what the words behind the first must be
+abbrev pub behind : Subject → List (List ℕ) → Bool
+behind Aes words = are_two_arrays 16 16 words
+behind AesInverse words = are_two_arrays 16 16 words
+behind Ghash words = is_array_and_more 16 16 words
+behind GcmSeal words = parts_alone words
+behind GcmOpen words = are_parts_and_tag words
+behind Hmac words = are_arguments words
+behind Ssk words = are_two_arrays 16 32 words
+behind Tsk words = are_two_arrays 32 16 words
+behind DirTsk words = is_one_array 32 words
+behind RpmbKey words = is_one_array 16 words
+behind Wrap words = are_two_arrays 32 16 words
+behind Unwrap words = are_two_arrays 32 16 words
+behind FrameMac words = are_two_arrays 32 512 words
+behind FrameFields words = is_one_array 512 words
+behind Card words = is_array_and_more 512 512 words
+behind WornCard words = is_worn_card words
+behind Tree words = tree_alone words
+behind TreeMake words = are_pages words
+behind Entry words = is_one_array 128 words
+behind Object words = object_alone words
+
+abbrev pub behind_named : Option Subject → List (List ℕ) → Bool
+behind_named None words = false
+behind_named (Some subject) words = behind subject words
 
 -- the words of a line are a question
 abbrev pub has_form : List (List ℕ) → Bool
-has_form (name ∷ words) = behind name words
+has_form (name ∷ words) = behind_named (subject_named name) words
 has_form [] = false

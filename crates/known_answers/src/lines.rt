@@ -6,6 +6,7 @@ ghost use Rattle.known_answers.specs.Forms.{are_arrays, are_parts, has_its_pages
 ghost use Rattle.known_answers.specs.LineForms.{behind, has_form};
 ghost use Rattle.known_answers.specs.declared.lines.Unreadable.TheVariants.{Form};
 ghost use Rattle.known_answers.specs.Asks.{AreArrays, AreParts, AreTreePages, Asks, IsObjectImage, IsTreeImage};
+ghost use Rattle.known_answers.specs.Subjects.{subject_word};
 ghost use Rattle.known_answers.specs.Words.{IsArgument, IsNumber, words_of};
 
 use crate::arguments::{
@@ -13,6 +14,7 @@ use crate::arguments::{
     two_arguments, two_arrays, worn_card,
 };
 use crate::questions::{Argument, ObjectImage, Parts, Question, TreeImage, TreePages};
+use crate::subjects::{Subject, subject_of};
 use hex::{FromHex, FromHexError};
 use itoa::Buffer;
 use node_image::{RootRef, greatest_node};
@@ -238,87 +240,89 @@ fn question_of(alloc: Global, words: &[&str]) -> Result<Question, Unreadable>
     let [name, words @ ..] = words else {
         return Err(Unreadable::Form);
     };
-    question_by(alloc, name, words)
+    match subject_of(name) {
+        Some(subject) => question_about(alloc, subject, words),
+        None => Err(Unreadable::Form),
+    }
 }
 
-// The question by its name, and by the words behind that.
-fn question_by(alloc: Global, name: &str, words: &[&str]) -> Result<Question, Unreadable>
-    ensures asks { IfOk result (λ question. Asks (name.now ∷ map (λ w. w.now) words.now) question) }
-    ensures form { MatchResult result (λ _. IsTrue (behind name.now (map (λ w. w.now) words.now)))
-        (λ e. e ≡ Form → IsFalse (behind name.now (map (λ w. w.now) words.now))) }
+// The question about a subject, by the words behind its word.
+fn question_about(alloc: Global, subject: Subject, words: &[&str]) -> Result<Question, Unreadable>
+    ensures asks { IfOk result (λ question. Asks (subject_word subject ∷ map (λ w. w.now) words.now) question) }
+    ensures form { MatchResult result (λ _. IsTrue (behind subject (map (λ w. w.now) words.now)))
+        (λ e. e ≡ Form → IsFalse (behind subject (map (λ w. w.now) words.now))) }
 {
-    match name {
-        "aes" => {
+    match subject {
+        Subject::Aes => {
             let (key, block) = two_arrays(words)?;
             Ok(Question::Aes { key, block })
         }
-        "aes-inverse" => {
+        Subject::AesInverse => {
             let (key, block) = two_arrays(words)?;
             Ok(Question::AesInverse { key, block })
         }
-        "ghash" => {
+        Subject::Ghash => {
             let (subkey, blocks) = array_and_more(alloc, words)?;
             Ok(Question::Ghash { subkey, blocks })
         }
-        "gcm-seal" => Ok(Question::GcmSeal {
+        Subject::GcmSeal => Ok(Question::GcmSeal {
             parts: parts_alone(alloc, words)?,
         }),
-        "gcm-open" => {
+        Subject::GcmOpen => {
             let (parts, tag) = parts_and_tag(alloc, words)?;
             Ok(Question::GcmOpen { parts, tag })
         }
-        "hmac" => {
+        Subject::Hmac => {
             let (key, text) = two_arguments(alloc, words)?;
             Ok(Question::Hmac { key, text })
         }
-        "ssk" => {
+        Subject::Ssk => {
             let (huk, chip) = two_arrays(words)?;
             Ok(Question::Ssk { huk, chip })
         }
-        "tsk" => {
+        Subject::Tsk => {
             let (ssk, app) = two_arrays(words)?;
             Ok(Question::Tsk { ssk, app })
         }
-        "dir-tsk" => Ok(Question::DirTsk {
+        Subject::DirTsk => Ok(Question::DirTsk {
             ssk: one_array(words)?,
         }),
-        "rpmb-key" => Ok(Question::RpmbKey {
+        Subject::RpmbKey => Ok(Question::RpmbKey {
             huk: one_array(words)?,
         }),
-        "wrap" => {
+        Subject::Wrap => {
             let (tsk, fek) = two_arrays(words)?;
             Ok(Question::Wrap { tsk, fek })
         }
-        "unwrap" => {
+        Subject::Unwrap => {
             let (tsk, wrapped) = two_arrays(words)?;
             Ok(Question::Unwrap { tsk, wrapped })
         }
-        "frame-mac" => {
+        Subject::FrameMac => {
             let (key, frame) = two_arrays(words)?;
             Ok(Question::FrameMac { key, frame })
         }
-        "frame-fields" => Ok(Question::FrameFields {
+        Subject::FrameFields => Ok(Question::FrameFields {
             frame: one_array(words)?,
         }),
-        "card" => {
+        Subject::Card => {
             let (first, rest) = array_and_more(alloc, words)?;
             Ok(Question::Card { first, rest })
         }
-        "worn-card" => Ok(Question::Worn {
+        Subject::WornCard => Ok(Question::Worn {
             card: worn_card(alloc, words)?,
         }),
-        "tree" => Ok(Question::Tree {
+        Subject::Tree => Ok(Question::Tree {
             tree: tree_alone(alloc, words)?,
         }),
-        "tree-make" => Ok(Question::TreeMake {
+        Subject::TreeMake => Ok(Question::TreeMake {
             tree: tree_pages(alloc, words)?,
         }),
-        "entry" => Ok(Question::Entry {
+        Subject::Entry => Ok(Question::Entry {
             bytes: one_array(words)?,
         }),
-        "object" => Ok(Question::Object {
+        Subject::Object => Ok(Question::Object {
             object: object_alone(alloc, words)?,
         }),
-        _ => Err(Unreadable::Form),
     }
 }

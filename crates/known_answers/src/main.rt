@@ -15,6 +15,7 @@ mod entries;
 mod lines;
 mod objects;
 mod questions;
+mod subjects;
 mod trees;
 mod words;
 
