@@ -32,6 +32,7 @@ use Rattle.crash_core.specs.CoreSteps.{Append, CoreStep, DropCommit, DropTaking,
 use Rattle.core_parts.specs.SlotParts.{SlotPart}
 use Rattle.core_parts.specs.GateParts.{GatePart, standing_of}
 use Rattle.core_parts.specs.GateSteps.{GateSteps, Handed, IsGateRun, IsGateStep, IsHanded}
+use Rattle.core_parts.specs.GateLaws.{HandedShows, MaySeal}
 use Rattle.core_parts.specs.Joined.{core_of, files_of}
 
 -- the files with another directory's file
@@ -76,12 +77,6 @@ module _ (phase : Phase) (handed : Option Handed) (g : GatePart) where
   pub unseen_is_run : (putting : Option Held) (view : GateView) → view.all ≡ g.view.all → IsGateRun phase handed g [] (record g { putting = putting; view = view })
   unseen_is_run putting view same slots = (λ j. record (core_of g slots) { history = same j })
 
--- what a seal puts, the slot that is handed over shows in its file
-abbrev pub HandedShows : Phase → Option Handed → EntryChange → Object → Type 0
-HandedShows phase (Some handed) (Put index e) object = (handed.file ≡ e.file) × (1 ≤ e.file) × (IsTrusted phase e.file → Shows phase.keys handed.state e object)
-HandedShows phase None (Put index e) object = ⊥
-HandedShows phase handed (Clear index) object = Unit {0}
-
 handed_shows : (phase : Phase) (handed : Option Handed) (g : GatePart) (change : EntryChange) (object : Object) (slots : ℕ → SlotPart) → IsHanded handed slots → HandedShows phase handed change object
     → PutShows phase (files_of g slots) change object
 handed_shows phase (Some handed) g (Put index e) object slots known shows =
@@ -92,18 +87,6 @@ handed_shows phase (Some handed) g (Put index e) object slots known shows =
 handed_shows phase (Some handed) g (Clear index) object slots known shows = tt
 handed_shows phase None g (Put index e) object slots known shows = absurd shows
 handed_shows phase None g (Clear index) object slots known shows = tt
-
--- What is asked of a seal.
-pub record MaySeal (phase : Phase) (handed : Option Handed) (g : GatePart) (p : PendingCommit) (dir : RootRef) : Type 0 where
-  pub form : IsReference dir
-  pub settled : IsTrusted phase 0 → pending g.directory ≡ []
-  pub holds : IsTrusted phase 0 → directory_of (directory_key phase.keys) g.directory.reads dir ≡ Ok (changed g.entries p.change)
-  pub due : is_commit_due (standing_of phase g.view) p.session p.call ≡ true
-  pub made : MapChange
-  pub makes : MakesChange (standing_of phase g.view).state p.session p.call made
-  pub object : Object
-  pub change : IsChange ((standing_of phase g.view).state).objects g.entries g.card.counter made p.change object
-  pub shows : HandedShows phase handed p.change object
 
 module _ (phase : Phase) (handed : Option Handed) (g : GatePart) where
   -- The card is written.
