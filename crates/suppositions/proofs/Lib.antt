@@ -17,3 +17,4 @@ pub mod Comparing
 pub mod ReadCalls
 pub mod Listed
 pub mod ToldReplies
+pub mod Rewrites

@@ -15,3 +15,4 @@ pub mod MapLaws
 pub mod CommitLaws
 pub mod SessionLaws
 pub mod ReadLaws
+pub mod WriteLaws

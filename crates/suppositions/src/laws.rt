@@ -6,6 +6,7 @@ ghost use Rattle.suppositions.specs.MapLaws.{OpeningsAreInStep, EntriesHaveObjec
 ghost use Rattle.suppositions.specs.CommitLaws.{MadeChangesKeepMaps, DoubtfulChangesKeepMaps};
 ghost use Rattle.suppositions.specs.Listings.{ListedEntriesAreApart};
 ghost use Rattle.suppositions.specs.ReadLaws.{ToldRepliesAreAnswered};
+ghost use Rattle.suppositions.specs.WriteLaws.{TruncationsStandOrStray, WritesStandOrStray};
 ghost use Rattle.suppositions.specs.SessionLaws.{SessionsAreApplications, ViewsTellSessions, CalmSessionsStand, UnchangedSessionsStand, MadeSessionsStand, DoubtfulSessionsStand};
 
 /// Two trees that are verified under one reference have one head and nodes that hash alike, or two of their nodes clash.
@@ -181,7 +182,18 @@ pub fn listed_entries_are_apart()
     ensures { ListedEntriesAreApart }
 {}
 
-/// A reply to a Read or an Info that tells what its object's file gave, whatever the file is, is legal, or shows a clash, or the promises end
+/// A write that was staged over what its object's file gave, whatever the file is: what stands for the next version is what the machine
+/// writes, or what was given strays from what stood.
+pub fn writes_stand_or_stray()
+    ensures { WritesStandOrStray }
+{}
+
+/// So of a truncation.
+pub fn truncations_stand_or_stray()
+    ensures { TruncationsStandOrStray }
+{}
+
+/// A reply to an Open, a Read or an Info that tells what its object's file gave, whatever the file is, is legal, or shows a clash, or the promises end
 /// there under the supposition.
 pub fn told_replies_are_answered()
     ensures { ToldRepliesAreAnswered }
