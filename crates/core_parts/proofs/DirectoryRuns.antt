@@ -1,7 +1,7 @@
 -- Calls of the directory's file that write beside the committed tree are steps of the gate.
-use Rattle.std.proofs.Common.{◌≡◌, ◌⊎◌, ℕ, ◌<◌, ◌≤◌, List, [], ◌∷◌, IsTrue, Option, Some, None, Ok, inl, inr, refl, sym, ◌∙◌, ap, subst, arith}
-use Rattle.disk_model.specs.State.{FileState, LeftNow, Sound}
-use Rattle.disk_model.specs.Keeps.{CallOff, FileCall, IsCall, IsFileRun, Outside, write, sync, rest}
+use Rattle.std.proofs.Common.{◌≡◌, ◌⊎◌, ℕ, ◌<◌, List, [], ◌∷◌, IsTrue, Option, Some, Ok, inl, inr, refl, sym, ◌∙◌, ap, subst, arith}
+use Rattle.disk_model.specs.State.{FileState, Sound}
+use Rattle.disk_model.specs.Keeps.{CallOff, FileCall, IsFileRun, write, sync, rest}
 use Rattle.disk_model.proofs.ImageLaws.{reads_left}
 use Rattle.node_image.specs.declared.node.RootRef.{RootRef}
 use Rattle.node_image.specs.Selection.{selected_tree}
@@ -9,16 +9,15 @@ use Rattle.htree_file.specs.Opening.{Loaded, load_of}
 use Rattle.htree_file.specs.Pages.{opened_of}
 use Rattle.htree_file.specs.Selected.{Lies}
 use Rattle.htree_file.specs.Standing.{IsFirm}
-use Rattle.history_seats.specs.Records.{Version}
 use Rattle.crash_core.specs.DeviceKeys.{directory_key}
-use Rattle.crash_core.specs.Sights.{Misses, Sight, Stands, sight_of}
+use Rattle.crash_core.specs.Sights.{Sight, Stands, sight_of}
 use Rattle.crash_core.specs.CoreState.{IsTrusted, PendingCommit, Phase}
 use Rattle.crash_core.specs.FileSteps.{IsFileStep}
 use Rattle.crash_core.specs.CoreSteps.{RestFile, SyncDirectory, WriteDirectory}
 use Rattle.crash_core.proofs.SameDirectory.{opened_same}
 use Rattle.crash_core.proofs.Sightings.{CallMisses, call_stands}
 use Rattle.core_parts.specs.GateParts.{GatePart}
-use Rattle.core_parts.specs.GateSteps.{GateSteps, Handed, IsGateStep}
+use Rattle.core_parts.specs.GateSteps.{GateSteps, Handed}
 use Rattle.core_parts.specs.GateLaws.{DirectoryRunsAreSteps, IsOpenFor}
 use Rattle.core_parts.specs.Joined.{core_of}
 use Rattle.core_parts.proofs.GateStepLaws.{one_step, rest_directory_is_step, steps_then, sync_directory_is_step, write_directory_is_step}

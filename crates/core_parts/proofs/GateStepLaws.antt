@@ -1,7 +1,7 @@
 -- What makes a step of the gate: what is asked of it speaks of the gate's part, and of the slot that it is handed.
-use Rattle.std.proofs.Common.{◌≡◌, ◌≢◌, ◌⊎◌, ℕ, ◌≤◌, List, [], ◌∷◌, ◌++◌, true, eqb, Option, Some, None, Ok, inl, inr, refl, sym, ◌∙◌, ap, subst, arith, ne_eqb}
+use Rattle.std.proofs.Common.{◌≡◌, ◌≢◌, ◌⊎◌, ℕ, ◌≤◌, List, [], ◌∷◌, ◌++◌, eqb, Option, Some, None, inl, inr, refl, sym, ◌∙◌, ap, subst, arith, ne_eqb}
 use Rattle.std.proofs.lemmas.Bool.{cases_eq, cond-false}
-use Rattle.disk_model.specs.State.{FileState, pending}
+use Rattle.disk_model.specs.State.{FileState}
 use Rattle.disk_model.specs.Keeps.{write, sync, rest}
 use Rattle.node_image.specs.declared.node.RootRef.{RootRef}
 use Rattle.tee_types.specs.declared.call.Call.{Call}
@@ -10,18 +10,14 @@ use Rattle.store_model.specs.declared.event.Event.TheVariants.{Call as CallEvent
 use Rattle.store_model.specs.declared.event.Mark.TheVariants.{Unchanged, Made, Doubtful}
 use Rattle.store_model.specs.Record.{Tag, file_of}
 use Rattle.store_model.specs.Object.{Object}
-use Rattle.store_model.specs.Makes.{MakesChange, MapChange}
 use Rattle.store_model.specs.Doubt.{Doubt}
 use Rattle.store_model.specs.Standing.{standing_after}
-use Rattle.store_model.specs.Legal.{IsLegalEvent, is_commit_due}
+use Rattle.store_model.specs.Legal.{IsLegalEvent}
 use Rattle.history_seats.specs.Records.{HistoryRecord, Version}
 use Rattle.history_seats.specs.Views.{GateView}
 use Rattle.history_seats.specs.Changes.{with_record}
-use Rattle.crash_core.specs.Directory.{directory_of}
-use Rattle.crash_core.specs.CardBlock.{IsReference}
-use Rattle.crash_core.specs.DeviceKeys.{directory_key}
 use Rattle.crash_core.specs.EntryLists.{IsUnnamed}
-use Rattle.crash_core.specs.EntryChanges.{Clear, EntryChange, IsChange, Put, changed, file_put}
+use Rattle.crash_core.specs.EntryChanges.{Clear, EntryChange, Put, changed, file_put}
 use Rattle.crash_core.specs.Mounting.{Held}
 use Rattle.crash_core.specs.Sights.{Misses, Shows}
 use Rattle.crash_core.specs.CoreState.{Core, IsTrusted, PendingCommit, Phase, put}
