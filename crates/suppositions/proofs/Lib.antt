@@ -18,3 +18,4 @@ pub mod ReadCalls
 pub mod Listed
 pub mod ToldReplies
 pub mod Rewrites
+pub mod CommitEnds
