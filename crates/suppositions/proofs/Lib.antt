@@ -19,3 +19,4 @@ pub mod Listed
 pub mod ToldReplies
 pub mod Rewrites
 pub mod CommitEnds
+pub mod EntryNames
