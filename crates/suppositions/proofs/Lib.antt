@@ -20,3 +20,4 @@ pub mod ToldReplies
 pub mod Rewrites
 pub mod CommitEnds
 pub mod EntryNames
+pub mod CallSteps
