@@ -18,3 +18,6 @@ pub mod ReadCalls
 pub mod Listed
 pub mod ToldReplies
 pub mod Rewrites
+pub mod CommitEnds
+pub mod EntryNames
+pub mod CallSteps

@@ -76,12 +76,12 @@ module _ (keys : Keys) (guess : Guess) (file generation : ℕ) (v next : Version
   laid old stands long = elim (alike_trees v.root old.tree gave.tree verified gave.verified) [
     | inr clash ↦ inr (inr (inl clash))
     | inl alike ↦ elim (all_good asked old) [
-        | inr bad ↦ inr (inl (inr bad))
-        | inl good ↦ elim (compare asked old given (key_is alike) alike (λ k is. (within k (low k is), good k (within k (low k is)) is)) gave.good) [
-            | inr clash ↦ inr (inr (inr clash))
-            | inl same ↦ inl (record { count = count; long = long; met = λ k lt is. met alike same k lt is; missed = λ k lt is. missed alike k lt is })
-          ]
+      | inr bad ↦ inr (inl (inr bad))
+      | inl good ↦ elim (compare asked old given (key_is alike) alike (λ k is. (within k (low k is), good k (within k (low k is)) is)) gave.good) [
+        | inr clash ↦ inr (inr (inr clash))
+        | inl same ↦ inl (record { count = count; long = long; met = λ k lt is. met alike same k lt is; missed = λ k lt is. missed alike k lt is })
       ]
+    ]
   ]
     where
       verified : IsVerified v.root old.tree
@@ -123,9 +123,9 @@ module _ (keys : Keys) (guess : Guess) (file generation : ℕ) (v next : Version
           let n = alike.nodes (k + 1) (omega arith) (omega (arith, inside)) in
           let s = made.seal k lt off in
           let seals : SealsAt old.key old.tree new.tree k None = (
-              ap (λ (t : Loaded). (at_node t.nodes (k + 1)).iv) kept.tree ∙ s.0 ∙ sym n.iv,
-              ap (λ (t : Loaded). (at_node t.nodes (k + 1)).tag) kept.tree ∙ s.1 ∙ sym n.tag,
-            ) in
+            ap (λ (t : Loaded). (at_node t.nodes (k + 1)).iv) kept.tree ∙ s.0 ∙ sym n.iv,
+            ap (λ (t : Loaded). (at_node t.nodes (k + 1)).tag) kept.tree ∙ s.1 ∙ sym n.tag,
+          ) in
           let wrapped : new.tree.head.wrapped ≡ old.tree.head.wrapped =
           ap (λ (t : Loaded). t.head.wrapped) kept.tree ∙ made.wrapped ∙ ap (λ (h : Head). h.wrapped) (sym alike.head) in
           new-at k lt

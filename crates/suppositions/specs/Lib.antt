@@ -16,3 +16,4 @@ pub mod CommitLaws
 pub mod SessionLaws
 pub mod ReadLaws
 pub mod WriteLaws
+pub mod EntryLaws

@@ -7,6 +7,7 @@ ghost use Rattle.suppositions.specs.CommitLaws.{MadeChangesKeepMaps, DoubtfulCha
 ghost use Rattle.suppositions.specs.Listings.{ListedEntriesAreApart, ListedEntriesAreNamed};
 ghost use Rattle.suppositions.specs.ReadLaws.{ToldRepliesAreAnswered};
 ghost use Rattle.suppositions.specs.WriteLaws.{TruncationsStandOrStray, WritesStandOrStray};
+ghost use Rattle.suppositions.specs.EntryLaws.{CreatesKeepMaps, DeletesKeepMaps, RenamesKeepMaps};
 ghost use Rattle.suppositions.specs.SessionLaws.{SessionsAreApplications, ViewsTellSessions, CalmSessionsStand, UnchangedSessionsStand, MadeSessionsStand, DoubtfulSessionsStand};
 
 /// Two trees that are verified under one reference have one head and nodes that hash alike, or two of their nodes clash.
@@ -141,6 +142,21 @@ pub fn made_changes_keep_maps()
 /// So does one in doubt, in both readings.
 pub fn doubtful_changes_keep_maps()
     ensures { DoubtfulChangesKeepMaps }
+{}
+
+/// A create leaves the map in step, made or in doubt, where its file is new and its version has the object that the machine's does.
+pub fn creates_keep_maps()
+    ensures { CreatesKeepMaps }
+{}
+
+/// So does a rename, where the version stays and no entry has the new name.
+pub fn renames_keep_maps()
+    ensures { RenamesKeepMaps }
+{}
+
+/// So does a delete.
+pub fn deletes_keep_maps()
+    ensures { DeletesKeepMaps }
 {}
 
 /// A phase has a session for each application.
