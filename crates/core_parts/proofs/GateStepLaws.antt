@@ -1,7 +1,7 @@
 -- What makes a step of the gate: what is asked of it speaks of the gate's part, and of the slot that it is handed.
-use Rattle.std.proofs.Common.{◌≡◌, ◌≢◌, ◌⊎◌, ℕ, ◌≤◌, List, [], ◌∷◌, ◌++◌, true, eqb, Option, Some, None, Ok, inl, inr, refl, sym, ◌∙◌, ap, subst, arith, ne_eqb}
+use Rattle.std.proofs.Common.{◌≡◌, ◌≢◌, ◌⊎◌, ℕ, ◌≤◌, List, [], ◌∷◌, ◌++◌, eqb, Option, Some, None, inl, inr, refl, sym, ◌∙◌, ap, subst, arith, ne_eqb}
 use Rattle.std.proofs.lemmas.Bool.{cases_eq, cond-false}
-use Rattle.disk_model.specs.State.{FileState, pending}
+use Rattle.disk_model.specs.State.{FileState}
 use Rattle.disk_model.specs.Keeps.{write, sync, rest}
 use Rattle.node_image.specs.declared.node.RootRef.{RootRef}
 use Rattle.tee_types.specs.declared.call.Call.{Call}
@@ -10,18 +10,14 @@ use Rattle.store_model.specs.declared.event.Event.TheVariants.{Call as CallEvent
 use Rattle.store_model.specs.declared.event.Mark.TheVariants.{Unchanged, Made, Doubtful}
 use Rattle.store_model.specs.Record.{Tag, file_of}
 use Rattle.store_model.specs.Object.{Object}
-use Rattle.store_model.specs.Makes.{MakesChange, MapChange}
 use Rattle.store_model.specs.Doubt.{Doubt}
 use Rattle.store_model.specs.Standing.{standing_after}
-use Rattle.store_model.specs.Legal.{IsLegalEvent, is_commit_due}
+use Rattle.store_model.specs.Legal.{IsLegalEvent}
 use Rattle.history_seats.specs.Records.{HistoryRecord, Version}
 use Rattle.history_seats.specs.Views.{GateView}
 use Rattle.history_seats.specs.Changes.{with_record}
-use Rattle.crash_core.specs.Directory.{directory_of}
-use Rattle.crash_core.specs.CardBlock.{IsReference}
-use Rattle.crash_core.specs.DeviceKeys.{directory_key}
 use Rattle.crash_core.specs.EntryLists.{IsUnnamed}
-use Rattle.crash_core.specs.EntryChanges.{Clear, EntryChange, IsChange, Put, changed, file_put}
+use Rattle.crash_core.specs.EntryChanges.{Clear, EntryChange, Put, changed, file_put}
 use Rattle.crash_core.specs.Mounting.{Held}
 use Rattle.crash_core.specs.Sights.{Misses, Shows}
 use Rattle.crash_core.specs.CoreState.{Core, IsTrusted, PendingCommit, Phase, put}
@@ -32,6 +28,7 @@ use Rattle.crash_core.specs.CoreSteps.{Append, CoreStep, DropCommit, DropTaking,
 use Rattle.core_parts.specs.SlotParts.{SlotPart}
 use Rattle.core_parts.specs.GateParts.{GatePart, standing_of}
 use Rattle.core_parts.specs.GateSteps.{GateSteps, Handed, IsGateRun, IsGateStep, IsHanded}
+use Rattle.core_parts.specs.GateLaws.{HandedShows, MaySeal}
 use Rattle.core_parts.specs.Joined.{core_of, files_of}
 
 -- the files with another directory's file
@@ -76,12 +73,6 @@ module _ (phase : Phase) (handed : Option Handed) (g : GatePart) where
   pub unseen_is_run : (putting : Option Held) (view : GateView) → view.all ≡ g.view.all → IsGateRun phase handed g [] (record g { putting = putting; view = view })
   unseen_is_run putting view same slots = (λ j. record (core_of g slots) { history = same j })
 
--- what a seal puts, the slot that is handed over shows in its file
-abbrev pub HandedShows : Phase → Option Handed → EntryChange → Object → Type 0
-HandedShows phase (Some handed) (Put index e) object = (handed.file ≡ e.file) × (1 ≤ e.file) × (IsTrusted phase e.file → Shows phase.keys handed.state e object)
-HandedShows phase None (Put index e) object = ⊥
-HandedShows phase handed (Clear index) object = Unit {0}
-
 handed_shows : (phase : Phase) (handed : Option Handed) (g : GatePart) (change : EntryChange) (object : Object) (slots : ℕ → SlotPart) → IsHanded handed slots → HandedShows phase handed change object
     → PutShows phase (files_of g slots) change object
 handed_shows phase (Some handed) g (Put index e) object slots known shows =
@@ -92,18 +83,6 @@ handed_shows phase (Some handed) g (Put index e) object slots known shows =
 handed_shows phase (Some handed) g (Clear index) object slots known shows = tt
 handed_shows phase None g (Put index e) object slots known shows = absurd shows
 handed_shows phase None g (Clear index) object slots known shows = tt
-
--- What is asked of a seal.
-pub record MaySeal (phase : Phase) (handed : Option Handed) (g : GatePart) (p : PendingCommit) (dir : RootRef) : Type 0 where
-  pub form : IsReference dir
-  pub settled : IsTrusted phase 0 → pending g.directory ≡ []
-  pub holds : IsTrusted phase 0 → directory_of (directory_key phase.keys) g.directory.reads dir ≡ Ok (changed g.entries p.change)
-  pub due : is_commit_due (standing_of phase g.view) p.session p.call ≡ true
-  pub made : MapChange
-  pub makes : MakesChange (standing_of phase g.view).state p.session p.call made
-  pub object : Object
-  pub change : IsChange ((standing_of phase g.view).state).objects g.entries g.card.counter made p.change object
-  pub shows : HandedShows phase handed p.change object
 
 module _ (phase : Phase) (handed : Option Handed) (g : GatePart) where
   -- The card is written.

@@ -10,3 +10,4 @@ pub mod ListedEntries
 pub mod OpenedParts
 pub mod FileRuns
 pub mod OwnEvents
+pub mod DirectoryRuns

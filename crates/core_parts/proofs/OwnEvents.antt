@@ -1,15 +1,14 @@
 -- After an event of a slot's object its view knows what it knew, and what the event's commit left, or leaves in doubt.
-use Rattle.std.proofs.Common.{◌≡◌, ◌⊎◌, ℕ, ◌≤◌, List, [], ◌∷◌, ◌++◌, length, Bool, true, false, ◌&&◌, IsTrue, Option, Some, None, inl, inr, refl, sym, ◌∙◌, ap, subst, true≢false}
+use Rattle.std.proofs.Common.{◌≡◌, ◌⊎◌, ℕ, ◌≤◌, List, [], ◌∷◌, ◌++◌, length, Bool, true, false, Some, None, inl, inr, refl, sym, ◌∙◌, subst, true≢false}
 use Rattle.std.specs.Prelude.{◌==◌}
 use Rattle.std.proofs.lemmas.Bool.{and_parts, cases_Bool, cond-true, cond-false, eqb-true}
-use Rattle.hmac_keys.specs.declared.Keys.{Keys}
 use Rattle.store_model.specs.declared.event.Event.{Event}
 use Rattle.store_model.specs.declared.event.Event.TheVariants.{Call as CallEvent, Landed}
 use Rattle.store_model.specs.declared.event.Mark.TheVariants.{Unchanged, Made, Doubtful}
 use Rattle.store_model.specs.Record.{Tag}
 use Rattle.history_seats.specs.Records.{HistoryRecord, Version, is_object}
 use Rattle.history_seats.specs.Mounts.{Mounted}
-use Rattle.history_seats.specs.Settling.{Pending, is_landing}
+use Rattle.history_seats.specs.Settling.{is_landing}
 use Rattle.history_seats.specs.Versions.{version_of}
 use Rattle.history_seats.specs.Directory.{directory_of, given_version, has_entry}
 use Rattle.history_seats.specs.Known.{IsKnown}
@@ -18,7 +17,6 @@ use Rattle.history_seats.specs.Changes.{TagVersions}
 use Rattle.history_seats.proofs.GivenStays.{doubt-gives, made-gives, unchanged-leaves}
 use Rattle.history_seats.proofs.KnownEntries.{entry_known}
 use Rattle.history_seats.proofs.Places.{open-less}
-use Rattle.core_parts.specs.SlotParts.{SlotHolds}
 use Rattle.core_parts.specs.SlotLaws.{IsNewlyKnown, OwnEventsKeep}
 
 module _ (mounted : Mounted) (all : List HistoryRecord) (z : ℕ) (within : z ≤ length all) (file generation : ℕ) (versions : TagVersions) where

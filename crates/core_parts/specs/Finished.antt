@@ -1,5 +1,5 @@
 -- The crash prefix of a closed store: what its pictures mount to, once all its parts are at rest.
-use Rattle.std.specs.Prelude.{◌≡◌, ◌⊎◌, ℕ, Option, Some, Ok}
+use Rattle.std.specs.Prelude.{◌≡◌, ◌⊎◌, ℕ, Some, Ok}
 use Rattle.store_model.specs.Object.{ObjectMap}
 use Rattle.store_model.specs.Doubt.{Doubt}
 use Rattle.store_model.specs.Standing.{Standing}

@@ -4,6 +4,7 @@ pub mod SlotLaws
 pub mod GateParts
 pub mod Joined
 pub mod GateSteps
+pub mod GateLaws
 pub mod Moves
 pub mod Finished
 pub mod Listed

@@ -1,5 +1,5 @@
 -- What keeps a slot's fact: its own steps, a seat that sees more, and the events of its own object.
-use Rattle.std.specs.Prelude.{◌≡◌, false, Option, Some, IsTrue}
+use Rattle.std.specs.Prelude.{◌≡◌, false, Some, IsTrue}
 use Rattle.hmac_keys.specs.declared.Keys.{Keys}
 use Rattle.store_model.specs.declared.event.Event.{Event}
 use Rattle.store_model.specs.declared.event.Event.TheVariants.{Call as CallEvent, Landed}

@@ -1,6 +1,7 @@
 //! Laws of the parts. Each function does nothing: its contract is the law.
 
 ghost use Rattle.core_parts.specs.Finished.{FinishMounts, HonestFinishMounts};
+ghost use Rattle.core_parts.specs.GateLaws.{DirectoryRunsAreSteps, SealsAreSteps};
 ghost use Rattle.core_parts.specs.Joined.{PartsAreACore};
 ghost use Rattle.core_parts.specs.Listed.{CommitsKeepListed};
 ghost use Rattle.core_parts.specs.Moves.{MovesAreARun};
@@ -57,4 +58,14 @@ pub fn renewed_slots_hold()
 /// An event of a slot's object keeps the slot's fact, where the version that it makes known stands in the file.
 pub fn own_events_keep()
     ensures { OwnEventsKeep }
+{}
+
+/// Calls of the directory's file that write beside the committed tree are steps of the gate.
+pub fn directory_runs_are_steps()
+    ensures { DirectoryRunsAreSteps }
+{}
+
+/// The write of the card is a step of the gate, where the slot that it is handed shows what is put.
+pub fn seals_are_steps()
+    ensures { SealsAreSteps }
 {}

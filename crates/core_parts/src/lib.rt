@@ -9,6 +9,7 @@
 mod laws;
 
 pub use laws::{
-    commits_keep_listed, file_runs_are_steps, finish_mounts, honest_finish_mounts, moves_are_a_run,
-    openings_hold, own_events_keep, parts_are_a_core, renewed_slots_hold, slot_steps_keep,
+    commits_keep_listed, directory_runs_are_steps, file_runs_are_steps, finish_mounts,
+    honest_finish_mounts, moves_are_a_run, openings_hold, own_events_keep, parts_are_a_core,
+    renewed_slots_hold, seals_are_steps, slot_steps_keep,
 };

@@ -23,7 +23,7 @@ use Rattle.suppositions.specs.Spellings.{Spelling, page_spelt, pages_spelt}
 use Rattle.suppositions.specs.Clashes.{BlocksClash, IsAlike}
 use Rattle.suppositions.proofs.Standing.{page_same}
 
-meets_from : (first last k : ℕ) → first < last → 4096 * k < last → first < 4096 * (k + 1) → meets first last k ≡ true
+pub meets_from : (first last k : ℕ) → first < last → 4096 * k < last → first < 4096 * (k + 1) → meets first last k ≡ true
 meets_from first last k some begins ends = grind (arith, some, begins, ends)
 
 pub search_all : (n : ℕ) (A : ℕ → Type 0) (B : Type 0) → ((i : ℕ) → i < n → A i ⊎ B) → ((i : ℕ) → i < n → A i) ⊎ B

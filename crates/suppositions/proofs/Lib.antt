@@ -17,3 +17,7 @@ pub mod Comparing
 pub mod ReadCalls
 pub mod Listed
 pub mod ToldReplies
+pub mod Rewrites
+pub mod CommitEnds
+pub mod EntryNames
+pub mod CallSteps

@@ -63,7 +63,7 @@ same_files files s i (Write handle bytes) file partial = refl
 same_files files s i (Truncate handle size) file partial = refl
 same_files files s i call file partial = absurd partial
 
-not_object : (file generation : ℕ) (tag : Tag Version) → ((file ≡ tag.file) × (generation ≡ tag.generation) → ⊥) → is_object file generation (Some tag) ≡ false
+pub not_object : (file generation : ℕ) (tag : Tag Version) → ((file ≡ tag.file) × (generation ≡ tag.generation) → ⊥) → is_object file generation (Some tag) ≡ false
 not_object file generation tag apart = elim (cases_Bool ((tag.file == file) && (tag.generation == generation))) [
   | inl same ↦
       let both = and_parts (tag.file == file) (tag.generation == generation) same in

@@ -3,9 +3,9 @@ use Rattle.std.proofs.Common.{◌≡◌, ◌⊎◌, ◌+◌, ◌-◌, ◌*◌, �
 use Rattle.std.specs.Option.{option_and_then}
 use Rattle.std.proofs.lemmas.Bool.{cases_Bool, eq-eqb, eqb-true}
 use Rattle.tee_types.specs.declared.call.Call.{Call}
-use Rattle.tee_types.specs.declared.call.Call.TheVariants.{Info, Read}
+use Rattle.tee_types.specs.declared.call.Call.TheVariants.{Info, Open, Read}
 use Rattle.tee_types.specs.declared.reply.Reply.{Reply}
-use Rattle.tee_types.specs.declared.reply.Reply.TheVariants.{Content, Corrupt, Info as InfoReply}
+use Rattle.tee_types.specs.declared.reply.Reply.TheVariants.{Content, Corrupt, Handle as HandleReply, Info as InfoReply}
 use Rattle.tee_types.specs.declared.flags.Flags.{Flags}
 use Rattle.tee_types.specs.Rights.{has, read_bit}
 use Rattle.aes_block.specs.WrappedKey.{unwrapped_of}
@@ -23,7 +23,7 @@ use Rattle.store_model.specs.declared.event.Mark.{Mark}
 use Rattle.store_model.specs.declared.event.Mark.TheVariants.{Unchanged}
 use Rattle.store_model.specs.declared.name.ObjectName.{ObjectName}
 use Rattle.store_model.specs.Object.{Contents, Damaged, Object, Sound, object_at}
-use Rattle.store_model.specs.Machine.{handle_at, session_at}
+use Rattle.store_model.specs.Machine.{handle_at, name_in, session_at}
 use Rattle.store_model.specs.Calls.{is_commit, reply_of}
 use Rattle.store_model.specs.Data.{bytes_at}
 use Rattle.store_model.specs.Files.{FileMap, IsFree, file_named, makes_object, object_named}
@@ -44,14 +44,14 @@ use Rattle.suppositions.specs.Mapped.{IsMapped}
 use Rattle.suppositions.specs.Given.{DiffersInBytes, Tells, is_asked, position_by, position_of, spelling_given}
 use Rattle.suppositions.specs.Shown.{IsClashedAt, IsEndAt, IsGivenAt, IsLackingAt, IsToldAt, Lacks, asked_of, meant_at, stands_for}
 use Rattle.suppositions.specs.Answered.{IsAnsweredAt, IsLegalAt}
-use Rattle.suppositions.specs.ReadLaws.{IsAdmitted, IsLive, SaysHandle, ToldRepliesAreAnswered}
+use Rattle.suppositions.specs.ReadLaws.{IsAdmitted, IsOpening, ToldRepliesAreAnswered}
 use Rattle.suppositions.proofs.Mending.{none_some, some_same}
 use Rattle.suppositions.proofs.Standing.{key_under, verified_under}
 use Rattle.suppositions.proofs.SameTrees.{alike_trees}
 use Rattle.suppositions.proofs.InStep.{entry_object}
 use Rattle.suppositions.proofs.SessionSteps.{sessions_at}
 use Rattle.suppositions.proofs.Comparing.{at-pages, bad-at, compare, count-is, good-met, is_some_of, met-low, same-bytes, within}
-use Rattle.suppositions.proofs.ReadCalls.{info-damaged, info-good, meets_bad, read-bad, read-damaged, read-good}
+use Rattle.suppositions.proofs.ReadCalls.{info-damaged, info-good, meets_bad, open-damaged, open-good, read-bad, read-damaged, read-good}
 
 -- what an object that is spelled out is, by the length of its tree and its first page
 pub data SpeltCase (size attributes : ℕ) (sp : Spelling) : Type 0 where
@@ -325,11 +325,41 @@ module _ (store : Store) (guess : Guess) (before : List HistoryRecord) (r : Hist
         by_stands None none = nothing-stands none (corrupt (damaged-there none))
         by_stands (Some sp) stands = by_case sp stands (spelt_case v.size v.attributes sp (some-node sp stands) (row_at (page_spelt sp) (length sp.tree.nodes) 0 None (some-node sp stands)))
 
+  -- An Open.
+  module _ (id : List ℕ) (flags : Flags) (is : g.call ≡ Open id flags) (number : ℕ) (replied : g.reply ≡ HandleReply number)
+      (opens : IsOpening here.state g.session (name_in here.state g.session id) flags number) where
+    open-at : (o : Object) → object_at here.state.objects g.name ≡ Some o → object_at here.state.objects (name_in here.state g.session id) ≡ Some o
+    open-at o there =
+        ap (object_at here.state.objects) (some_same (name_in here.state g.session id) g.name (sym (ap (object_named here.state g.session) is) ∙ g.of_call)) ∙ there
+
+    open-meant : (reply : Reply) → reply_of here.state g.session (Open id flags) ≡ reply → meant_at g ≡ reply
+    open-meant reply e = ap (reply_of here.state g.session) is ∙ e
+
+    pub open-told : Result
+    open-told = by_stands (stands_for g) refl
+      where
+        corrupt : object_at here.state.objects g.name ≡ Some (Damaged v.size) → meant_at g ≡ Corrupt
+        corrupt there = open-meant Corrupt (open-damaged here.state g.session id flags number opens v.size (open-at (Damaged v.size) there))
+
+        by_case : (sp : Spelling) → stands_for g ≡ Some sp → SpeltCase v.size v.attributes sp → Result
+        by_case sp stands (OtherLength off damaged) = other-length sp stands (corrupt (is-there sp stands (Damaged v.size) damaged)) off
+        by_case sp stands (FirstBad bad damaged) = bad-at-block sp stands (corrupt (is-there sp stands (Damaged v.size) damaged)) 0 first-asked bad
+        by_case sp stands (SpeltSound long page first sound) =
+            let c : Contents = contents_of v.size v.attributes (pages_spelt sp) page in
+            let meant : meant_at g ≡ HandleReply number = open-meant (HandleReply number) (open-good here.state g.session id flags number opens c (open-at (Sound c) (is-there sp stands (Sound c) sound))) in
+            legal-same (ap (λ (y : Call). makes_object y (meant_at g)) is) (ap fault_in_reply replied) (ap (λ (y : Call). is_commit here.state g.session y (meant_at g)) is) (replied ∙ sym meant)
+
+        by_stands : (o : Option Spelling) → stands_for g ≡ o → Result
+        by_stands None none = nothing-stands none (corrupt (damaged-there none))
+        by_stands (Some sp) stands = by_case sp stands (spelt_case v.size v.attributes sp (some-node sp stands) (row_at (page_spelt sp) (length sp.tree.nodes) 0 None (some-node sp stands)))
+
   by_reply : (call : Call) (reply : Reply) → g.call ≡ call → g.reply ≡ reply → Tells given v.size v.attributes g.position call reply → IsAdmitted here.state g.session v.size call reply → Result
   by_reply (Read number count) (Content bytes) is replied tells admitted =
       read-told number count is admitted.0.handle admitted.0.live admitted.1 bytes replied tells
   by_reply (Info number) (InfoReply long at flags attributes) is replied tells admitted =
       info-told number is admitted.0.handle admitted.0.live long at flags attributes replied admitted.1.0 admitted.1.1 admitted.1.2 tells.0 tells.1 tells.2
+  by_reply (Open id flags) (HandleReply number) is replied tells admitted = open-told id flags is number replied admitted
+  by_reply (Open id flags) reply is replied tells admitted = absurd tells
   by_reply (Read number count) reply is replied tells admitted = absurd tells
   by_reply (Info number) reply is replied tells admitted = absurd tells
   by_reply call reply is replied tells admitted = absurd admitted

@@ -31,7 +31,7 @@ use Rattle.suppositions.proofs.Standing.{keeps_own}
 sound_same : (c d : Contents) → Sound c ≡ Sound d → c ≡ d
 sound_same c d e = cc
 
-damaged_sound : (size : ℕ) (c : Contents) → Damaged size ≡ Sound c → ⊥
+pub damaged_sound : (size : ℕ) (c : Contents) → Damaged size ≡ Sound c → ⊥
 damaged_sound size c e = cc
 
 -- an object that is sound has the length that its size wants, and its first page
@@ -58,7 +58,7 @@ sound_of size attributes opened c is = by_length (opened.bytes == 4096 + size) r
     by_length false e same = absurd (damaged_sound size c same)
 
 -- a block that a call has to know holds bytes of the object, or its attributes
-asked_within : (size position : ℕ) (call : Call) (k : ℕ) → is_asked size position call k ≡ true → 4096 * k < 4096 + size
+pub asked_within : (size position : ℕ) (call : Call) (k : ℕ) → is_asked size position call k ≡ true → 4096 * k < 4096 + size
 asked_within size position call k asked = elim (cases_Bool (k == 0)) [
   | inl first ↦ omega (arith, eqb-true k 0 first)
   | inr other ↦ by_call call (sym (ap (λ (b : Bool). b || is_data_asked size position call k) other) ∙ asked)

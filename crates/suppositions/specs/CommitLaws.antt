@@ -42,13 +42,16 @@ pub record ChangesObject (store : Store) (guess : Guess) (before : List HistoryR
   pub changes : (state_after (standing_at store guess before).state session call).objects
       ≡ changed_object (standing_at store guess before).state.objects mine (object_under store.keys guess tag.file tag.generation version)
 
--- its record with that mark, whose tag has these versions
+-- the record of a call with that mark, on the object there, whose tag has these versions
+abbrev pub commit_record : (session number : ℕ) → Call → Reply → Mark → Place → (committed doubted : Option Version) → HistoryRecord
+commit_record session number call reply mark place committed doubted = record {
+  event = CallEvent session number call reply mark;
+  tag = Some (record { file = place.file; generation = place.generation; committed = committed; doubted = doubted });
+}
+
 abbrev pub changing_record : {store : Store} {guess : Guess} {before : List HistoryRecord} → ChangesObject store guess before → Mark
     → (committed doubted : Option Version) → HistoryRecord
-changing_record x mark committed doubted = record {
-  event = CallEvent x.session x.number x.call x.reply mark;
-  tag = Some (record { file = x.tag.file; generation = x.tag.generation; committed = committed; doubted = doubted });
-}
+changing_record x mark committed doubted = commit_record x.session x.number x.call x.reply mark x.tag committed doubted
 
 -- A write or a truncation that is made leaves the map in step.
 abbrev pub MadeChangesKeepMaps : Type 0

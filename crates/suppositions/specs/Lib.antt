@@ -15,3 +15,5 @@ pub mod MapLaws
 pub mod CommitLaws
 pub mod SessionLaws
 pub mod ReadLaws
+pub mod WriteLaws
+pub mod EntryLaws

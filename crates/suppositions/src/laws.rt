@@ -4,8 +4,10 @@ ghost use Rattle.suppositions.specs.TreeLaws.{OneReferenceNamesOneTree, AlikeTre
 ghost use Rattle.suppositions.specs.EndLaws.{FairHistoriesAreAnswered, AnsweredHistoriesAreLegal, AnsweredLandingsAreDue, UndamagedEndsClash, AnswersAreByEvent, FairnessIsByEvent, OwnEventsAreByEvent};
 ghost use Rattle.suppositions.specs.MapLaws.{OpeningsAreInStep, EntriesHaveObjects, UnchangedEventsKeepMaps, LandingsKeepMaps, DropsKeepMaps};
 ghost use Rattle.suppositions.specs.CommitLaws.{MadeChangesKeepMaps, DoubtfulChangesKeepMaps};
-ghost use Rattle.suppositions.specs.Listings.{ListedEntriesAreApart};
+ghost use Rattle.suppositions.specs.Listings.{ListedEntriesAreApart, ListedEntriesAreNamed};
 ghost use Rattle.suppositions.specs.ReadLaws.{ToldRepliesAreAnswered};
+ghost use Rattle.suppositions.specs.WriteLaws.{TruncationsStandOrStray, WritesStandOrStray};
+ghost use Rattle.suppositions.specs.EntryLaws.{CreatesKeepMaps, DeletesKeepMaps, RenamesKeepMaps};
 ghost use Rattle.suppositions.specs.SessionLaws.{SessionsAreApplications, ViewsTellSessions, CalmSessionsStand, UnchangedSessionsStand, MadeSessionsStand, DoubtfulSessionsStand};
 
 /// Two trees that are verified under one reference have one head and nodes that hash alike, or two of their nodes clash.
@@ -142,6 +144,21 @@ pub fn doubtful_changes_keep_maps()
     ensures { DoubtfulChangesKeepMaps }
 {}
 
+/// A create leaves the map in step, made or in doubt, where its file is new and its version has the object that the machine's does.
+pub fn creates_keep_maps()
+    ensures { CreatesKeepMaps }
+{}
+
+/// So does a rename, where the version stays and no entry has the new name.
+pub fn renames_keep_maps()
+    ensures { RenamesKeepMaps }
+{}
+
+/// So does a delete.
+pub fn deletes_keep_maps()
+    ensures { DeletesKeepMaps }
+{}
+
 /// A phase has a session for each application.
 #[tactic(auto, using(crate::proofs::SessionSteps::sessions_at))]
 pub fn sessions_are_applications()
@@ -181,7 +198,23 @@ pub fn listed_entries_are_apart()
     ensures { ListedEntriesAreApart }
 {}
 
-/// A reply to a Read or an Info that tells what its object's file gave, whatever the file is, is legal, or shows a clash, or the promises end
+/// Each entry of a directory is found among the history's by its name.
+pub fn listed_entries_are_named()
+    ensures { ListedEntriesAreNamed }
+{}
+
+/// A write that was staged over what its object's file gave, whatever the file is: what stands for the next version is what the machine
+/// writes, or what was given strays from what stood.
+pub fn writes_stand_or_stray()
+    ensures { WritesStandOrStray }
+{}
+
+/// So of a truncation.
+pub fn truncations_stand_or_stray()
+    ensures { TruncationsStandOrStray }
+{}
+
+/// A reply to an Open, a Read or an Info that tells what its object's file gave, whatever the file is, is legal, or shows a clash, or the promises end
 /// there under the supposition.
 pub fn told_replies_are_answered()
     ensures { ToldRepliesAreAnswered }
