@@ -35,6 +35,7 @@ use Rattle.object_slots.specs.Stages.{DataChange, HoldsStage, IsStageOf, OpensSt
 use Rattle.object_slots.specs.Value.{HeldObject, Holding, apart, live, staged}
 use Rattle.object_slots.proofs.FaultLaws.{corrupt_fault}
 use Rattle.object_slots.proofs.SettleAnswers.{at_some, opened}
+use Rattle.object_slots.proofs.StepLaws.{stage_steps}
 
 -- what an adopted stage holds depends on the object apart from its file alone
 module _ {F : Type 0} (old new : ObjectValue F) (key : new.tree.key ≡ old.tree.key) (own : new.attributes ≡ old.attributes) (before after : List ℕ) (change : Contents → Contents) where
@@ -114,6 +115,7 @@ module _ (o : HeldObject) (c : DataChange) (Undrawn : Type 0) where
     keeps = opens.keeps;
     firm = stays_firm old new o.tree.root o.tree.tree sound still bit opens.keeps;
     verified = opens.verified;
+    steps = stage_steps old new o still opens.keeps;
   }
 
   -- what the new nodes seal, in the course of further calls
@@ -200,6 +202,7 @@ module _ (o : HeldObject) (c : DataChange) (Undrawn : Type 0) where
         keeps = both_keep settles.keeps;
         firm = stays_firm old new o.tree.root o.tree.tree sound still bit (both_keep settles.keeps);
         verified = opens.verified;
+        steps = stage_steps old new o still (both_keep settles.keeps);
       }
 
     file_corrupt : (x : Contents) (fault : SlotFault) → IsFileFault fault → CorruptAnswer {A = RootRef} x c.asked (Err fault)
@@ -225,4 +228,5 @@ module _ (o : HeldObject) (c : DataChange) (Undrawn : Type 0) where
       keeps = both_keep settles.keeps;
       firm = stays_firm old new o.tree.root o.tree.tree sound still bit (both_keep settles.keeps);
       verified = opens.verified;
+      steps = stage_steps old new o still (both_keep settles.keeps);
     }

@@ -15,6 +15,7 @@ use Rattle.object_file.specs.Loading.{IsObjectFault, IsOutsideObject, ObjectDiff
 use Rattle.object_slots.specs.declared.fault.SlotFault.{SlotFault}
 use Rattle.object_slots.specs.declared.fault.SlotFault.TheVariants.{Corrupt, NoEntropy}
 use Rattle.object_slots.specs.Faults.{HasCause}
+use Rattle.object_slots.specs.Steps.{ReadSteps}
 use Rattle.object_slots.specs.Value.{HeldObject, Holding, free, live}
 
 -- The object was loaded by the entry, under the application's key.
@@ -58,5 +59,6 @@ pub record LoadsObject (old new : FileState) (tsk : List ℕ) (e : DirEntry) (no
   pub refused : IfErr result (LoadFault old new tsk e)
   pub rests : Rests old new
   pub cause : HasCause old new result
+  pub steps : ReadSteps old new
   -- three calls of the file: a read of head and nodes, one of the length, and one of block 0
   pub three : OnOk result (IsTrue old.tells_arms → new.arms ≡ after_calls 3 old.arms)

@@ -1,0 +1,28 @@
+//! Laws of slots. Each function does nothing: its contract is the law.
+
+ghost use Rattle.object_slots.specs.Versions.{LoadedAreVersions, MadeAreVersions, RefusedAreDamaged, StagesAreVersions, VersionsAreHeld};
+
+/// An object that is loaded by its entry, from an honest file in which the entry's version stands, is the one of that version.
+pub fn loaded_are_versions()
+    ensures { LoadedAreVersions }
+{}
+
+/// Where loading is refused as corrupt, over such a file, the version's object is damaged.
+pub fn refused_are_damaged()
+    ensures { RefusedAreDamaged }
+{}
+
+/// While a version stands in its file, the object that is of it holds what the version has.
+pub fn versions_are_held()
+    ensures { VersionsAreHeld }
+{}
+
+/// A settled stage of an honest file leaves a version that stands in it: the old object, changed.
+pub fn stages_are_versions()
+    ensures { StagesAreVersions }
+{}
+
+/// An object that was made in an honest file is of a version that stands in it.
+pub fn made_are_versions()
+    ensures { MadeAreVersions }
+{}
