@@ -1,16 +1,28 @@
 -- Lists of changes that are of consecutive blocks.
-use Rattle.std.proofs.Common.{◌≡◌, ◌∙◌, ◌==◌, ℕ, zero, suc, ◌+◌, ◌-◌, ◌<◌, ◌≤◌, ◌⊎◌, inl, inr, List, [], ◌∷◌, ◌++◌, map, length, get_or, drop, find, option_map, Option, Some, None, IsSome, ap, sym, subst, refl, arith}
+use Rattle.std.proofs.Common.{◌≡◌, ◌∙◌, ◌==◌, ℕ, zero, suc, ◌+◌, ◌-◌, ◌<◌, ◌≤◌, ◌⊎◌, inl, inr, List, [], ◌∷◌, ◌++◌, map, length, get_or, slice_set, drop, find, option_map, Option, Some, None, IsSome, ap, sym, subst, refl, arith}
 use Rattle.std.specs.List.{range_with_len}
 use Rattle.std.specs.Option.{option_or}
 use Rattle.std.specs.List.Sorted.{IsStrictlyIncreasing}
 use Rattle.std.proofs.lemmas.Bool.{cond-false, cond-true, eq-eqb, ne_eqb}
-use Rattle.std.proofs.lemmas.List.{get_or-map, length-map, map-append}
+use Rattle.std.proofs.lemmas.List.{get_or-map, get_or_at, length-append, length-map, map-append, set_at}
 use Rattle.std.proofs.lemmas.List.Elements.{All-from_get_or}
 use Rattle.std.proofs.lemmas.List.Folds.{find-append}
 use Rattle.std.proofs.lemmas.List.FromFn.{get_or-range_with_len, length-range_with_len}
 use Rattle.std.proofs.lemmas.Option.{none-some}
 use Rattle.htree_file.specs.declared.change.BlockChange.{BlockChange}
 use Rattle.htree_file.specs.Changes.{AreChanges, page_for}
+
+-- the last change of a list gets its page
+pub page_put : (changes kept pushed : List BlockChange) (blank at : BlockChange) (n k : ℕ) (page : List ℕ) → kept ≡ changes → pushed ≡ kept ++ blank ∷ [] → blank.block ≡ k → n ≡ length pushed
+    → at ≡ get_or pushed (n - 1) at → changes ++ record { block = k; page = page } ∷ [] ≡ slice_set pushed (n - 1) (record { block = at.block; page = page })
+page_put changes kept pushed blank at n k page same push is long here =
+    let all : pushed ≡ changes ++ blank ∷ [] = push ∙ ap (λ (l : List BlockChange). l ++ blank ∷ []) same in
+    let last : length changes ≡ n - 1 = omega (arith, long, ap length all, length-append changes (blank ∷ [])) in
+    let found : at ≡ blank = here ∙ ap (λ (l : List BlockChange). get_or l (n - 1) at) all ∙ get_or_at changes blank [] at (n - 1) last in
+    let block : k ≡ at.block = sym (ap (λ (c : BlockChange). c.block) found ∙ is) in
+    ap (λ (b : ℕ). let c : BlockChange = record { block = b; page = page } in changes ++ c ∷ []) block
+    ∙ sym (set_at changes blank [] (record { block = at.block; page = page }) (n - 1) last)
+    ∙ ap (λ (l : List BlockChange). slice_set l (n - 1) (record { block = at.block; page = page })) (sym all)
 
 range_end : (a n j : ℕ) → a + n ≡ j → range_with_len a (suc n) ≡ range_with_len a n ++ j ∷ []
 range_end a zero j e = let same : a ≡ j = omega arith in ap (λ k. k ∷ []) same

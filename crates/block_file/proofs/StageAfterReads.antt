@@ -13,7 +13,7 @@ use Rattle.htree_file.specs.declared.change.BlockChange.{BlockChange}
 use Rattle.htree_file.specs.declared.fault.TreeFault.{TreeFault}
 use Rattle.htree_file.specs.declared.fault.TreeFault.TheVariants.{BadHead, BadTag, Damaged, Failed, NoEntropy, NoMemory, Short}
 use Rattle.htree_file.specs.Making.{HasCauses, IsDeviceFault}
-use Rattle.htree_file.specs.Answers.{FilePassed, HasCause}
+use Rattle.htree_file.specs.Answers.{FilePassed, HasCause, HasFaultWidths}
 use Rattle.htree_file.specs.Opening.{Loaded, load_of}
 use Rattle.htree_file.specs.Selected.{KeepsFirm, Lies}
 use Rattle.htree_file.specs.Standing.{IsFirm, OpensTo}
@@ -55,6 +55,17 @@ then_firm a b c root tree rests goes keeps firm honest =
           (stays.always image (subst (λ (n : ℕ). LeftSince c n image) (sym (ap length rests.trail)) left));
       firm = stays.firm;
     }
+
+-- a fault of the file or of the entropy carries no hash and no tag
+pub device_widths : (A : Type 0) (result : Result A TreeFault) → IfErr result IsDeviceFault → IfErr result HasFaultWidths
+device_widths A (Ok answer) fault = tt
+device_widths A (Err (BadHead long greatest)) fault = tt
+device_widths A (Err (Short end need)) fault = tt
+device_widths A (Err (Damaged n want found)) fault = absurd fault
+device_widths A (Err (BadTag k want found)) fault = absurd fault
+device_widths A (Err (Failed count)) fault = tt
+device_widths A (Err (NoEntropy count)) fault = tt
+device_widths A (Err NoMemory) fault = tt
 
 cause_then : (a b c : FileState) (A : Type 0) (result : Result A TreeFault) → GoesOn a b → FilePassed a b → HasCause b c result → HasCause a c result
 cause_then a b c A (Ok answer) goes passed cause = passed_then a b c passed cause

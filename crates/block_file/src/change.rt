@@ -4,7 +4,7 @@ ghost use Rattle.std.specs.Prelude.{◌≡◌, ◌+◌, ◌<◌, ◌≤◌, ◌^
 ghost use Rattle.disk_model.specs.Bytes.{after_resize, after_write};
 ghost use Rattle.disk_model.specs.Calls.{Known, Rests};
 ghost use Rattle.node_image.specs.Layout.{greatest_of};
-ghost use Rattle.htree_file.specs.Answers.{HasCause};
+ghost use Rattle.htree_file.specs.Answers.{HasCause, HasFaultWidths};
 ghost use Rattle.htree_file.specs.Changes.{AreChanges, OpensAfter, SealsChanges, changed_blocks};
 ghost use Rattle.htree_file.specs.Making.{HasCauses, IsDeviceFault, IsDrawFault};
 ghost use Rattle.htree_file.specs.Opening.{IsVerified, load_of};
@@ -23,12 +23,23 @@ use page_bytes::ByteRange;
 use std::alloc::Global;
 use tee_ports::{Entropy, StoreFile};
 
+// The change of a block, with a page that is still to be made.
+fn blank_change(block: u32) -> BlockChange
+    ensures { result.block ≡ block }
+{
+    BlockChange {
+        block,
+        page: [0; 4096],
+    }
+}
+
 impl<F: StoreFile> BlockFile<F> {
     // Reads block k, where the change of a range needs it.
     fn read_needed(&mut self, range: ByteRange, k: u32, page: &mut Page) -> Result<(), TreeFault>
         requires verified { IsVerified self.old.root self.old.tree }
         requires size { range.size ≡ self.old.tree.head.length }
         ensures answer { NeededAnswer self.old.key self.old.tree (F.state self.old.file) (F.state self.new.file) range k result page.new }
+        ensures widths { IfErr result HasFaultWidths }
         ensures same { self.new ≡ record self.old { file = self.new.file } }
         ensures rests { Rests (F.state self.old.file) (F.state self.new.file) }
         ensures cause { HasCause (F.state self.old.file) (F.state self.new.file) result }
@@ -53,6 +64,7 @@ impl<F: StoreFile> BlockFile<F> {
         requires size { range.size ≡ self.old.tree.head.length }
         requires fits { Fits range at (length bytes.now) }
         ensures answer { NewPageAnswer self.old.key self.old.tree (F.state self.old.file) (F.state self.new.file) range at bytes.now k result page.new }
+        ensures widths { IfErr result HasFaultWidths }
         ensures same { self.new ≡ record self.old { file = self.new.file } }
         ensures rests { Rests (F.state self.old.file) (F.state self.new.file) }
         ensures cause { HasCause (F.state self.old.file) (F.state self.new.file) result }
@@ -62,7 +74,7 @@ impl<F: StoreFile> BlockFile<F> {
         Ok(())
     }
 
-    // Makes the pages of the blocks from `first` on and before `upto`.
+    // Makes the pages of the blocks from `first` on and before `upto`, each where it stands in the list.
     fn new_pages(
         &mut self,
         alloc: Global,
@@ -79,16 +91,17 @@ impl<F: StoreFile> BlockFile<F> {
         requires needed { (k : ℕ) → needs range k ≡ true → (first ≤ k) × (k < upto) }
         ensures answer { NewPagesAnswer self.old.key self.old.tree (F.state self.old.file) (F.state self.new.file) range at bytes.now first upto
             (λ v. v.items) result }
+        ensures widths { IfErr result HasFaultWidths }
         ensures same { self.new ≡ record self.old { file = self.new.file } }
         ensures rests { Rests (F.state self.old.file) (F.state self.new.file) }
         ensures cause { HasCause (F.state self.old.file) (F.state self.new.file) result }
     {
         let mut changes = Vec::new(alloc);
         for k in first..upto {
-            let mut page = [0; 4096];
-            self.new_page(range, at, bytes, k, &mut page)?;
             changes.reserve(1)?;
-            changes.push_reserved(BlockChange { block: k, page });
+            changes.push_reserved(blank_change(k));
+            let last = changes.len() - 1;
+            self.new_page(range, at, bytes, k, &mut changes[last].page)?;
         }
         Ok(changes)
     }
@@ -152,6 +165,7 @@ impl<F: StoreFile> BlockFile<F> {
             IfSome self.new.stage (λ s. LeavesRewritten self.old.key self.old.tree.head.wrapped
             (F.state self.old.file).reads self.old.root (F.state self.new.file).reads s.root range at bytes.now size)) }
         ensures blocks { BlocksAnswer self.old.key self.old.tree (F.state self.old.file) (F.state self.new.file) (needs range) result }
+        ensures widths { IfErr result HasFaultWidths }
         ensures early { IfErr result (λ e. IsEarlyFault e → Rests (F.state self.old.file) (F.state self.new.file) × (entropy.new ≡ entropy.old)) }
         ensures undrawn { IfErr result (λ e. IsDrawFault e → Rests (F.state self.old.file) (F.state self.new.file)) }
         ensures causes { HasCauses IsChangeFault (F.state self.old.file) (F.state self.new.file) (E.faults entropy.old) (E.faults entropy.new)
@@ -199,6 +213,7 @@ impl<F: StoreFile> BlockFile<F> {
             (write_range self.old.tree.head.length at (length bytes.now)) (λ old. after_write old at bytes.now))) }
         ensures blocks { BlocksAnswer self.old.key self.old.tree (F.state self.old.file) (F.state self.new.file)
             (needs (write_range self.old.tree.head.length at (length bytes.now))) result }
+        ensures widths { IfErr result HasFaultWidths }
         ensures early { IfErr result (λ e. IsEarlyFault e → Rests (F.state self.old.file) (F.state self.new.file) × (entropy.new ≡ entropy.old)) }
         ensures undrawn { IfErr result (λ e. IsDrawFault e → Rests (F.state self.old.file) (F.state self.new.file)) }
         ensures verified { IsVerified self.old.root self.old.tree }
@@ -242,6 +257,7 @@ impl<F: StoreFile> BlockFile<F> {
             (resize_range self.old.tree.head.length size) (λ old. after_resize old size))) }
         ensures blocks { BlocksAnswer self.old.key self.old.tree (F.state self.old.file) (F.state self.new.file)
             (needs (resize_range self.old.tree.head.length size)) result }
+        ensures widths { IfErr result HasFaultWidths }
         ensures early { IfErr result (λ e. IsEarlyFault e → Rests (F.state self.old.file) (F.state self.new.file) × (entropy.new ≡ entropy.old)) }
         ensures undrawn { IfErr result (λ e. IsDrawFault e → Rests (F.state self.old.file) (F.state self.new.file)) }
         ensures verified { IsVerified self.old.root self.old.tree }

@@ -4,7 +4,7 @@ ghost use Rattle.std.specs.Prelude.{◌≡◌, ◌+◌, ◌-◌, ◌*◌, ◌<�
 ghost use Rattle.disk_model.specs.Arms.{count_call};
 ghost use Rattle.disk_model.specs.Calls.{Known, Rests, Syncs};
 ghost use Rattle.disk_model.specs.Keeps.{Anywhere, Keeps};
-ghost use Rattle.htree_file.specs.Answers.{HasCause, IsFailed};
+ghost use Rattle.htree_file.specs.Answers.{HasCause, HasFaultWidths, IsFailed};
 ghost use Rattle.htree_file.specs.Opening.{IsVerified, load_of};
 ghost use Rattle.htree_file.specs.Pages.{page_in};
 ghost use Rattle.htree_file.specs.Selected.{KeepsFirm};
@@ -56,6 +56,7 @@ impl<F: StoreFile> BlockFile<F> {
     pub(crate) fn read_page(&mut self, k: u32, page: &mut Page) -> Result<(), TreeFault>
         requires { k < self.old.tree.head.greatest }
         ensures answer { PageAnswer self.old.key self.old.tree (F.state self.old.file) (F.state self.new.file) k result page.new }
+        ensures widths { IfErr result HasFaultWidths }
         ensures once { IsTrue (F.state self.old.file).tells_arms → (F.state self.new.file).arms ≡ count_call (F.state self.old.file).arms }
         ensures same { self.new ≡ record self.old { file = self.new.file } }
         ensures rests { Rests (F.state self.old.file) (F.state self.new.file) }
@@ -69,6 +70,7 @@ impl<F: StoreFile> BlockFile<F> {
         requires block { k < self.old.tree.head.greatest }
         requires long { length into.old ≡ 4096 }
         ensures answer { PageAnswer self.old.key self.old.tree (F.state self.old.file) (F.state self.new.file) k result into.new }
+        ensures widths { IfErr result HasFaultWidths }
         ensures once { IsTrue (F.state self.old.file).tells_arms → (F.state self.new.file).arms ≡ count_call (F.state self.old.file).arms }
         ensures same { self.new ≡ record self.old { file = self.new.file } }
         ensures rests { Rests (F.state self.old.file) (F.state self.new.file) }
@@ -84,6 +86,7 @@ impl<F: StoreFile> BlockFile<F> {
         requires room { range.last ≤ range.first + length into.old }
         requires whole { (range.first ≤ 4096 * k) × (4096 * (k + 1) ≤ range.last) }
         ensures answer { PartAnswer self.old.key self.old.tree (F.state self.old.file) (F.state self.new.file) range k into.old into.new result }
+        ensures widths { IfErr result HasFaultWidths }
         ensures once { IsTrue (F.state self.old.file).tells_arms → (F.state self.new.file).arms ≡ count_call (F.state self.old.file).arms }
         ensures same { self.new ≡ record self.old { file = self.new.file } }
         ensures rests { Rests (F.state self.old.file) (F.state self.new.file) }
@@ -98,6 +101,7 @@ impl<F: StoreFile> BlockFile<F> {
         requires block { k < self.old.tree.head.greatest }
         requires room { range.last ≤ range.first + length into.old }
         ensures answer { PartAnswer self.old.key self.old.tree (F.state self.old.file) (F.state self.new.file) range k into.old into.new result }
+        ensures widths { IfErr result HasFaultWidths }
         ensures once { IsTrue (F.state self.old.file).tells_arms → (F.state self.new.file).arms ≡ count_call (F.state self.old.file).arms }
         ensures same { self.new ≡ record self.old { file = self.new.file } }
         ensures rests { Rests (F.state self.old.file) (F.state self.new.file) }
@@ -114,6 +118,7 @@ impl<F: StoreFile> BlockFile<F> {
         requires block { k < self.old.tree.head.greatest }
         requires room { range.last ≤ range.first + length into.old }
         ensures answer { PartAnswer self.old.key self.old.tree (F.state self.old.file) (F.state self.new.file) range k into.old into.new result }
+        ensures widths { IfErr result HasFaultWidths }
         ensures once { IsTrue (F.state self.old.file).tells_arms → (F.state self.new.file).arms ≡ count_call (F.state self.old.file).arms }
         ensures same { self.new ≡ record self.old { file = self.new.file } }
         ensures rests { Rests (F.state self.old.file) (F.state self.new.file) }
@@ -139,6 +144,7 @@ impl<F: StoreFile> BlockFile<F> {
         ensures bytes { IfOk result (λ n. AreBytes self.old.key self.old.tree (F.state self.old.file) (F.state self.new.file) at into.new n) }
         ensures blocks { BlocksAnswer self.old.key self.old.tree (F.state self.old.file) (F.state self.new.file)
             (meets at (at + min (length into.old) (self.old.tree.head.length - at))) result }
+        ensures widths { IfErr result HasFaultWidths }
         // Each block is read once, and nothing else is asked of the file.
         ensures once { IfOk result (λ n. IsTrue (F.state self.old.file).tells_arms → (F.state self.new.file).arms
             ≡ after_calls (blocks_of (read_range self.old.tree.head.length at (length into.old))) (F.state self.old.file).arms) }

@@ -31,12 +31,12 @@ use Rattle.dir_file.proofs.Entries.{Distinct, HoldsEntries, double_back, entries
 abbrev pub one_change : (block : ℕ) (page : List ℕ) → List BlockChange
 one_change block page = record { block = block; page = page } ∷ []
 
-page_here : (block : ℕ) (page : List ℕ) → page_for (one_change block page) block ≡ Some page
+pub page_here : (block : ℕ) (page : List ℕ) → page_for (one_change block page) block ≡ Some page
 page_here block page =
     ap (λ (o : Option BlockChange). option_map (λ (c : BlockChange). c.page) o)
     (cond-true (block == block) (let o : Option BlockChange = Some (record { block = block; page = page }) in o) None (eq-eqb block block refl))
 
-page_other : (block k : ℕ) (page : List ℕ) → block ≢ k → page_for (one_change block page) k ≡ None
+pub page_other : (block k : ℕ) (page : List ℕ) → block ≢ k → page_for (one_change block page) k ≡ None
 page_other block k page other =
     ap (λ (o : Option BlockChange). option_map (λ (c : BlockChange). c.page) o)
     (cond-false (block == k) (let o : Option BlockChange = Some (record { block = block; page = page }) in o) None (ne_eqb block k other))

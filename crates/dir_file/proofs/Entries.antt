@@ -5,7 +5,7 @@ use Rattle.aes_block.specs.WrappedKey.{unwrapped_of}
 use Rattle.node_image.specs.declared.node.RootRef.{RootRef}
 use Rattle.node_image.specs.Layout.{greatest_of}
 use Rattle.node_image.specs.Selection.{row}
-use Rattle.std.proofs.lemmas.List.{get_or_append_left, get_or_push, get_or-map}
+use Rattle.std.proofs.lemmas.List.{get_or_append_left, get_or_push, get_or-map, length-map}
 use Rattle.node_image.proofs.Matching.{length-row, row_is}
 use Rattle.htree_file.specs.Opening.{Loaded, load_of}
 use Rattle.htree_file.specs.Pages.{Opened, opened_in, opened_of, page_in}
@@ -189,6 +189,31 @@ directory_opened tsk image root tree opened entries loads opens holds =
     ∙ cond-true (tree.head.length == 32768) (distinct (entries_of pages 256)) (Err (WrongLength tree.head.length)) (eq-eqb tree.head.length 32768 here.bytes)
     ∙ ap distinct (entries_from pages entries 256 here.entries_are.long here.entries_are.records)
     ∙ ap (or_double entries) (double_none entries 0 (length entries) (λ k from upto j lt. here.distinct_are k (omega (arith, here.entries_are.long)) j lt))
+
+-- pages that hold these entries are a directory of them
+pub directory_held : (opened : Opened) (entries : List (Option DirEntry)) → HoldsEntries opened entries → directory_from (Ok opened) ≡ Ok entries
+directory_held opened entries holds =
+    ap (directory_pages opened) (bad_none opened.pages 0 (blocks_of opened.bytes) (λ j from upto. holds.good j (omega (arith, holds.bytes))))
+    ∙ cond-true (opened.bytes == 32768) (distinct (entries_of opened.pages 256)) (Err (WrongLength opened.bytes)) (eq-eqb opened.bytes 32768 holds.bytes)
+    ∙ ap distinct (entries_from opened.pages entries 256 holds.entries_are.long holds.entries_are.records)
+    ∙ ap (or_double entries) (double_none entries 0 (length entries) (λ k from upto j lt. holds.distinct_are k (omega (arith, holds.entries_are.long)) j lt))
+
+-- and back, of eight pages
+pub directory_holds : (bytes : ℕ) (items : List (List ℕ)) (entries : List (Option DirEntry)) → length items ≡ 8
+    → directory_from (Ok (record { bytes = bytes; pages = some_pages items })) ≡ Ok entries → HoldsEntries (record { bytes = bytes; pages = some_pages items }) entries
+directory_holds bytes items entries long is =
+    let ok = in_ok bytes (some_pages items) entries (none_bad (bad_block bytes (some_pages items)) is) in
+    record {
+      bytes = ok.0;
+      blocks = length-map items (λ p. Some p) ∙ long;
+      good = λ k lt. ap is_none (get_or-map (λ p. Some p) items k [] None (omega (arith, long)));
+      entries_are = ok.1;
+      distinct_are = ok.2;
+    }
+  where
+    none_bad : (o : Option ℕ) → directory_pages (record { bytes = bytes; pages = some_pages items }) o ≡ Ok entries → directory_in bytes (some_pages items) ≡ Ok entries
+    none_bad None ok = ok
+    none_bad (Some k) ok = absurd (cc (ok))
 
 -- eight good pages, as a directory of the right length
 pub pages_read : (bytes : ℕ) (items : List (List ℕ)) → bytes ≡ 32768 → length items ≡ 8

@@ -7,4 +7,5 @@ pub mod EntriesRead
 pub mod PagesRead
 pub mod Loading
 pub mod MadeDirectory
+pub mod SealedEntries
 pub mod Budget

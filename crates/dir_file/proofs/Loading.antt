@@ -12,7 +12,7 @@ use Rattle.node_image.specs.Layout.{greatest_of}
 use Rattle.node_image.proofs.Matching.{row_at, row_is}
 use Rattle.htree_file.specs.declared.fault.TreeFault.{TreeFault}
 use Rattle.htree_file.specs.declared.fault.TreeFault.TheVariants.{BadHead, BadTag, Damaged, Failed, NoEntropy, NoMemory, Short}
-use Rattle.htree_file.specs.Answers.{Differs, IsLoadFault, FaultCause, FilePassed, IsOutside}
+use Rattle.htree_file.specs.Answers.{Differs, HasFaultWidths, IsLoadFault, FaultCause, FilePassed, IsOutside}
 use Rattle.htree_file.specs.Opening.{IsVerified, Loaded, load_of}
 use Rattle.htree_file.specs.Pages.{page_in}
 use Rattle.htree_file.specs.Standing.{Told}
@@ -31,7 +31,7 @@ use Rattle.dir_file.specs.EntryForms.{AreEntriesOf}
 use Rattle.dir_file.specs.Pages.{ArePages, ReadsEntries}
 use Rattle.dir_file.specs.Loading.{DirCause, IsOutsideDir}
 use Rattle.dir_file.proofs.Entries.{bad_none, pages_read}
-use Rattle.dir_file.specs.Loading.{HasPages, IsDirFault, IsReadDirectory}
+use Rattle.dir_file.specs.Loading.{HasDirWidths, HasPages, IsDirFault, IsReadDirectory}
 use Rattle.dir_file.specs.Refusals.{DirDiffers, EntriesDiffer}
 use Rattle.dir_file.specs.Pages.{AreSealed}
 
@@ -155,6 +155,7 @@ pub ok_pages : (key : List ℕ) (tree : Loaded) (items read : List (List ℕ)) (
 ok_pages key tree items read V vs (Err fault) long is same sealed reads = tt
 ok_pages key tree items read V vs (Ok v) long is same sealed reads = record {
   items = items;
+  long = omega (arith, long, is);
   sealed = sealed;
   reads = pages_read tree.head.length items is (omega (arith, long, is)) ∙ ap (λ (l : List (List ℕ)). distinct (entries_of (some_pages l) 256)) (sym same) ∙ reads.0;
 }
@@ -167,14 +168,23 @@ err_differs d key tree items read V vs (Err (Tree fault)) long is same sealed re
 err_differs d key tree items read V vs (Err (WrongLength bytes)) long is same sealed reads = absurd reads
 err_differs d key tree items read V vs (Err (Record index offset)) long is same sealed reads = record {
   items = items;
+  long = omega (arith, long, is);
   sealed = sealed;
   reads = pages_read tree.head.length items is (omega (arith, long, is)) ∙ ap (λ (l : List (List ℕ)). distinct (entries_of (some_pages l) 256)) (sym same) ∙ reads;
 }
 err_differs d key tree items read V vs (Err (Double index first)) long is same sealed reads = record {
   items = items;
+  long = omega (arith, long, is);
   sealed = sealed;
   reads = pages_read tree.head.length items is (omega (arith, long, is)) ∙ ap (λ (l : List (List ℕ)). distinct (entries_of (some_pages l) 256)) (sym same) ∙ reads;
 }
+
+pub entries_widths : (items : List (List ℕ)) (V : Type 0) (vs : V → List (Option DirEntry)) (result : Result V DirFault) → ReadsEntries items vs result → IfErr result HasDirWidths
+entries_widths items V vs (Ok v) reads = tt
+entries_widths items V vs (Err (Tree fault)) reads = subst HasFaultWidths (sym reads) tt
+entries_widths items V vs (Err (WrongLength bytes)) reads = tt
+entries_widths items V vs (Err (Record index offset)) reads = tt
+entries_widths items V vs (Err (Double index first)) reads = tt
 
 -- what a tree that did not load says of any file
 pub tree_differs : (tsk : List ℕ) (d : FileState) (root : RootRef) (fault : TreeFault) → IsLoadFault fault → (IsTrue d.tells → Differs d.reads root fault) → DirDiffers tsk d root (Tree fault)

@@ -53,13 +53,13 @@ free_count = let none : Option DirEntry = None in length-replicate 256 none
 none_at : (i : ℕ) → i < 256 → get_or no_entries i None ≡ None
 none_at i lt = get_or-replicate 256 i None None lt
 
-abbrev blank : List (List ℕ) → Opened
+abbrev pub blank : List (List ℕ) → Opened
 blank pages = record { bytes = 32768; pages = map (λ page. Some page) pages }
 
 blank_at : (pages : List (List ℕ)) → AreBlank pages → (k : ℕ) → k < 8 → get_or (blank pages).pages k None ≡ Some (replicate 4096 0)
 blank_at pages b k lt = get_or-map (λ p. Some p) pages k [] None (omega (arith, b.long)) ∙ ap (λ (p : List ℕ). let o : Option (List ℕ) = Some p in o) (b.zero k lt)
 
-blank_holds : (pages : List (List ℕ)) → AreBlank pages → HoldsEntries (blank pages) no_entries
+pub blank_holds : (pages : List (List ℕ)) → AreBlank pages → HoldsEntries (blank pages) no_entries
 blank_holds pages b = record {
   bytes = refl;
   blocks = length-map pages (λ p. Some p) ∙ b.long;

@@ -11,7 +11,7 @@ use Rattle.node_image.specs.declared.node.RootRef.{RootRef}
 use Rattle.node_image.specs.declared.head.Head.{Head}
 use Rattle.node_image.specs.Selection.{selected_tree}
 use Rattle.htree_file.specs.declared.fault.TreeFault.{TreeFault}
-use Rattle.htree_file.specs.Changes.{OpensAfter}
+use Rattle.htree_file.specs.Changes.{OpensAfter, SealsChanges, SparesZero}
 use Rattle.htree_file.specs.Opening.{load_of}
 use Rattle.htree_file.specs.Selected.{KeepsFirm, Lies}
 use Rattle.htree_file.specs.Opening.{IsVerified}
@@ -36,7 +36,10 @@ use Rattle.dir_file.specs.EntryForms.{Fits}
 use Rattle.dir_file.specs.Inside.{DirInside, NextFits, NextInside, staged_of}
 use Rattle.dir_file.specs.Stages.{StagesEntry}
 use Rattle.dir_file.proofs.Budget.{one_block}
+use Rattle.dir_file.specs.Loading.{IsReadDirectory}
 use Rattle.dir_file.proofs.ChangedEntry.{changed_directory, one_change, entries_after}
+use Rattle.dir_file.proofs.Loading.{nodes_eight}
+use Rattle.dir_file.proofs.SealedEntries.{sealed_after}
 
 -- what a contract sees of a directory
 abbrev pub view_of : {F : Type 0} → TreeValue F → (tsk : List ℕ) → List (Option DirEntry) → Option NextEntry → DirView
@@ -172,6 +175,8 @@ module _ {F : Type 0} (t u : TreeValue F) (old new : FileState) (tsk : List ℕ)
         firm = kept;
         held = held_kept old new before sound still kept;
         staged = tt;
+        seals = tt;
+        spares = tt;
         budget = budget;
         most = one_block (index / 32) old.written new.written (omega (arith, fits.below)) budget;
         unsettled = unsettled;
@@ -181,18 +186,22 @@ module _ {F : Type 0} (t u : TreeValue F) (old new : FileState) (tsk : List ℕ)
           → IfSome u.stage (λ s. IsVerified s.root s.tree)
           → (Known old new → load_of old.reads t.root ≡ Ok t.tree → IfSome u.stage (λ s. load_of new.reads s.root ≡ Ok s.tree))
           → (Known old new → load_of old.reads t.root ≡ Ok t.tree → IfSome u.stage (λ s. OpensAfter t.key t.tree.head.wrapped old.reads t.root new.reads s.root 32768 (one_change (index / 32) page)))
+          → IfSome u.stage (λ s. SealsChanges t.key t.tree s.tree (one_change (index / 32) page)) → IfSome u.stage (λ s. SparesZero t.tree s.tree)
+          → top.wrapped ≡ t.tree.head.wrapped → top.length ≡ 32768
           → StagesEntry old new before (view_of u tsk entries (Some put)) index entry {A = Unit {0}} (Ok tt)
-      stages_ok opens version verified loaded opened =
+      stages_ok opens version verified loaded opened sealed spares wrapped bytes =
           let p = stage_some u.stage opens in
           let s : Staged = p.0 in
           let is : staged_of u.stage (Some put) entries ≡ Some (stage_at s put entries) = staged_is u.stage (Some put) entries s put p.1 refl in
           let v : (s.root.version ≡ 1 - t.root.version) × (s.settled ≡ false) × (s.tree.head ≡ top) = at_stage u.stage (λ (x : Staged). (x.root.version ≡ 1 - t.root.version) × (x.settled ≡ false) × (x.tree.head ≡ top)) s p.1 version in
+          let stands : IsVerified s.root s.tree = at_stage u.stage (λ (x : Staged). IsVerified x.root x.tree) s p.1 verified in
+          let long : s.tree.head.length ≡ 32768 = ap (λ (h : Head). h.length) v.2 ∙ bytes in
           record {
             same = λ i. record { tsk = tsk; root = (same i).root; tree = (same i).tree; entries = entries; stage = staged_of u.stage (Some put) entries };
             none = tt;
             opens = subst IsSome (sym is) refl;
             next = if_staged (staged_of u.stage (Some put) entries) (IsNext before index entry) (stage_at s put entries) is
-                (record { version = v.0; settled = v.1; entries_are = refl; are = entries_after entries index entry fits; verified = at_stage u.stage (λ (x : Staged). IsVerified x.root x.tree) s p.1 verified });
+                (record { version = v.0; settled = v.1; entries_are = refl; are = entries_after entries index entry fits; verified = stands });
             keeps = keeps;
             firm = kept;
             held = held_kept old new before sound still kept;
@@ -207,6 +216,11 @@ module _ {F : Type 0} (t u : TreeValue F) (old new : FileState) (tsk : List ℕ)
                   entries_are = changed_directory tsk old.reads new.reads t.key t.root s.root t.tree s.tree entries index entry page loads_before loads inside
                       (held.entries_are old.reads (reads_left old sound)) fits records after;
                 });
+            seals = λ read. if_staged (staged_of u.stage (Some put) entries) (λ (x : StagedDirectory). IsReadDirectory tsk x.tree (Ok x.entries)) (stage_at s put entries) is
+                (sealed_after tsk t.key t.tree s.tree entries index entry page inside (ap (λ (h : Head). h.wrapped) v.2 ∙ wrapped) long (nodes_eight s.root s.tree stands long) fits records
+                (at_stage u.stage (λ (x : Staged). SealsChanges t.key t.tree x.tree (one_change (index / 32) page)) s p.1 sealed) read);
+            spares = if_staged (staged_of u.stage (Some put) entries) (λ (x : StagedDirectory). SparesZero t.tree x.tree) (stage_at s put entries) is
+                (at_stage u.stage (λ (x : Staged). SparesZero t.tree x.tree) s p.1 spares);
             budget = budget;
             most = one_block (index / 32) old.written new.written (omega (arith, fits.below)) budget;
             unsettled = unsettled;

@@ -1,9 +1,9 @@
 -- What loading a directory answers, of any file.
-use Rattle.std.specs.Prelude.{◌≡◌, ℕ, List, Option, Result, Ok, Err}
+use Rattle.std.specs.Prelude.{◌≡◌, ℕ, List, length, Option, Result, Ok, Err}
 use Rattle.disk_model.specs.State.{FileState}
 use Rattle.aes_block.specs.WrappedKey.{unwrapped_of}
 use Rattle.htree_file.specs.declared.fault.TreeFault.TheVariants.{NoEntropy}
-use Rattle.htree_file.specs.Answers.{FaultCause, FilePassed, IsOutside}
+use Rattle.htree_file.specs.Answers.{FaultCause, FilePassed, HasFaultWidths, IsOutside}
 use Rattle.htree_file.specs.Opening.{Loaded}
 use Rattle.dir_records.specs.declared.entry.DirEntry.{DirEntry}
 use Rattle.crash_core.specs.declared.fault.DirFault.{DirFault}
@@ -30,9 +30,15 @@ abbrev pub HasDirCause : {A : Type 0} → FileState → FileState → Result A D
 HasDirCause old new (Ok answer) = FilePassed old new
 HasDirCause old new (Err fault) = DirCause old new fault
 
--- Pages that ciphertexts with the tags of the tree's nodes decipher to, and what they hold as a directory of the tree's length.
+-- the values that a tree's fault carries have the lengths of a hash and of a tag
+abbrev pub HasDirWidths : DirFault → Type 0
+HasDirWidths (Tree fault) = HasFaultWidths fault
+HasDirWidths fault = Unit {0}
+
+-- Eight pages that ciphertexts with the tags of the tree's nodes decipher to, and what they hold as a directory of the tree's length.
 pub record HasPages (key : List ℕ) (tree : Loaded) (answer : Result (List (Option DirEntry)) DirFault) : Type 0 where
   pub items : List (List ℕ)
+  pub long : length items ≡ 8
   pub sealed : AreSealed key tree items
   pub reads : directory_from (Ok (record { bytes = tree.head.length; pages = some_pages items })) ≡ answer
 

@@ -1,15 +1,17 @@
 -- A stage of a directory, and settling it.
-use Rattle.std.specs.Prelude.{◌≡◌, ℕ, ◌+◌, ◌-◌, ◌/◌, ◌≤◌, [], ◌∷◌, slice_set, false, true, Option, None, Some, Result, IfSome, IsSome, IsTrue, OnErr, OnOk}
+use Rattle.std.specs.Prelude.{◌≡◌, ℕ, ◌+◌, ◌-◌, ◌/◌, ◌≤◌, [], ◌∷◌, slice_set, false, true, Option, None, Some, Result, Ok, IfSome, IsSome, IsTrue, OnErr, OnOk}
 use Rattle.disk_model.specs.State.{FileState}
 use Rattle.disk_model.specs.Calls.{Known, Syncs}
 use Rattle.disk_model.specs.Keeps.{Anywhere, Keeps}
 use Rattle.tree_paths.specs.Staged.{IsWithinBudget}
 use Rattle.htree_file.specs.declared.fault.TreeFault.{TreeFault}
+use Rattle.htree_file.specs.Changes.{SparesZero}
 use Rattle.htree_file.specs.Opening.{IsVerified}
 use Rattle.htree_file.specs.Selected.{KeepsFirm, Lies}
 use Rattle.dir_records.specs.declared.entry.DirEntry.{DirEntry}
 use Rattle.dir_file.specs.EntryForms.{AreEntriesOf}
 use Rattle.dir_file.specs.Held.{IsHeld, IsStaged}
+use Rattle.dir_file.specs.Loading.{IsReadDirectory}
 use Rattle.dir_file.specs.View.{DirView, StagedDirectory}
 
 -- the committed directory stays in every image, where it was in each
@@ -37,6 +39,10 @@ pub record StagesEntry (old new : FileState) (was now : DirView) (index : ℕ) (
   pub held : KeepsHeld old new was
   -- as the file reads, the stage's reference names the entries with the one changed
   pub staged : OnOk result (IsTrue new.honest → IsHeld old was.tsk was.root was.tree was.entries → IfSome now.stage (IsStaged new was.tsk))
+  -- of any file: where the committed tree's nodes seal pages that hold the committed entries, those of the stage seal pages that
+  -- hold its own; and each node that was written has no spare bits in its flags
+  pub seals : OnOk result (IsReadDirectory was.tsk was.tree (Ok was.entries) → IfSome now.stage (λ s. IsReadDirectory was.tsk s.tree (Ok s.entries)))
+  pub spares : OnOk result (IfSome now.stage (λ s. SparesZero was.tree s.tree))
   -- it writes no more than the write budget of one block of eight, and settles nothing
   pub budget : IsWithinBudget (index / 32 ∷ []) 8 8 old.written new.written
   pub most : new.written ≤ old.written + 4392

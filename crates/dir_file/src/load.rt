@@ -7,7 +7,7 @@ ghost use Rattle.htree_file.specs.Standing.{Told};
 ghost use Rattle.crash_core.specs.Directory.{directory_of, tree_directory};
 ghost use Rattle.dir_file.specs.Calls.{ReadsBlocks};
 ghost use Rattle.dir_file.specs.EntryForms.{AreEntriesOf};
-ghost use Rattle.dir_file.specs.Loading.{DirCause, HasDirCause, HasPages, IsDirFault, IsOutsideDir, IsReadDirectory};
+ghost use Rattle.dir_file.specs.Loading.{DirCause, HasDirCause, HasDirWidths, HasPages, IsDirFault, IsOutsideDir, IsReadDirectory};
 ghost use Rattle.dir_file.specs.Pages.{ReadsEntries};
 ghost use Rattle.dir_file.specs.Refusals.{DirDiffers, EntriesDiffer};
 
@@ -54,6 +54,7 @@ fn read_directory<F: StoreFile>(
     ensures fault { IfErr result (λ f. IsOutsideDir f ⊎ (Told (F.state tree.old.file) (F.state tree.new.file) →
         tree_directory (F.state tree.old.file).reads tree.old.key tree.old.tree ≡ Result.Err f)) }
     ensures differs { IfErr result (EntriesDiffer tree.old.key tree.old.tree (F.state tree.new.file)) }
+    ensures widths { IfErr result HasDirWidths }
     ensures verified { IsVerified tree.old.root tree.old.tree }
     ensures same { tree.new ≡ record tree.old { file = tree.new.file } }
     ensures rests { Rests (F.state tree.old.file) (F.state tree.new.file) }
@@ -101,6 +102,7 @@ impl<F: StoreFile> DirFile<F> {
         ensures entries { IfOk result (λ d. AreEntriesOf d.dir.entries) }
         ensures pages { IfOk result (λ d. IsReadDirectory tsk.now d.dir.tree (Result.Ok d.dir.entries)) }
         ensures differs { IfErr result (λ b. DirDiffers tsk.now (F.state b.file) root b.fault) }
+        ensures widths { IfErr result (λ b. HasDirWidths b.fault) }
         ensures rests { IfOk result (λ d. Rests (F.state file) (F.state d.file)) }
         ensures rests_err { IfErr result (λ b. Rests (F.state file) (F.state b.file)) }
         // The tree loads with two calls, and each of its eight blocks is read with one.

@@ -1,11 +1,12 @@
 // Making a directory without objects.
-ghost use Rattle.std.specs.Prelude.{◌≡◌, length, IfErr, IfOk, IsTrue, None};
+ghost use Rattle.std.specs.Prelude.{◌≡◌, length, IfErr, IfOk, IsTrue, None, Result};
 ghost use Rattle.disk_model.specs.Keeps.{Keeps};
 ghost use Rattle.htree_file.specs.Answers.{FaultCause, FilePassed};
 ghost use Rattle.htree_file.specs.Making.{DrawFault, IsDrawFault, IsMakeFault, NamesVersionZero, NotEntropy, Nowhere};
 ghost use Rattle.htree_file.specs.Opening.{IsVerified};
 ghost use Rattle.dir_file.specs.EntryForms.{no_entries};
 ghost use Rattle.dir_file.specs.Held.{IsHeld};
+ghost use Rattle.dir_file.specs.Loading.{IsReadDirectory};
 ghost use Rattle.dir_file.specs.Making.{AreBlank};
 
 use crate::file::DirFile;
@@ -48,8 +49,8 @@ impl<F: StoreFile> DirFile<F> {
     ///
     /// # Errors
     ///
-    /// `Failed` where a call of the file failed; the file then may hold anything in version 0. Besides `NoEntropy`, where a draw failed,
-    /// and `NoMemory`: nothing was written then.
+    /// `NoEntropy` where a draw failed; the file is as it was. `Failed` where a call of the file failed; the file then may hold anything in
+    /// version 0. Besides `NoMemory`.
     pub fn make<E: Entropy>(
         alloc: Global,
         file: F,
@@ -62,6 +63,8 @@ impl<F: StoreFile> DirFile<F> {
         ensures entries { IfOk result (λ made. made.0.dir.entries ≡ no_entries) }
         ensures verified { IfOk result (λ made. IsVerified made.1 made.0.dir.tree) }
         ensures flags { IfOk result (λ made. NamesVersionZero made.0.dir.tree) }
+        // Of any file: the tree's nodes seal the pages of the directory without objects.
+        ensures pages { IfOk result (λ made. IsReadDirectory tsk.now made.0.dir.tree (Result.Ok no_entries)) }
         // In every image that the file may leave, the reference names the directory without objects.
         ensures held { IfOk result (λ made. IsTrue (F.state made.0.file).honest →
             IsHeld (F.state made.0.file) tsk.now made.1 made.0.dir.tree no_entries) }

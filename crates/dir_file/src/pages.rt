@@ -1,7 +1,7 @@
 // Reading the pages of a directory's tree.
 ghost use Rattle.std.specs.Prelude.{◌≡◌, ◌⊎◌, ◌≤◌, length, min, IfErr, IfOk, IsTrue, OnOk, Result};
 ghost use Rattle.disk_model.specs.Calls.{Rests};
-ghost use Rattle.htree_file.specs.Answers.{HasCause, IsOutside};
+ghost use Rattle.htree_file.specs.Answers.{HasCause, HasFaultWidths, IsOutside};
 ghost use Rattle.htree_file.specs.Opening.{IsVerified};
 ghost use Rattle.htree_file.specs.Standing.{Told};
 ghost use Rattle.crash_core.specs.declared.fault.DirFault.TheVariants.{Tree as TreeRefusal};
@@ -45,6 +45,7 @@ pub(crate) fn read_pages<F: StoreFile>(
     ensures fault { IfErr result (λ f. IsOutside f ⊎ (Told (F.state tree.old.file) (F.state tree.new.file) →
         tree_directory (F.state tree.old.file).reads tree.old.key tree.old.tree ≡ Result.Err (TreeRefusal f))) }
     ensures differs { IfErr result (λ f. EntriesDiffer tree.old.key tree.old.tree (F.state tree.new.file) (TreeRefusal f)) }
+    ensures widths { IfErr result HasFaultWidths }
     ensures verified { IsVerified tree.old.root tree.old.tree }
     ensures same { tree.new ≡ record tree.old { file = tree.new.file } }
     ensures rests { Rests (F.state tree.old.file) (F.state tree.new.file) }

@@ -1,8 +1,8 @@
 -- The page of block 0, which has the attributes.
-use Rattle.std.proofs.Common.{◌≡◌, ◌∙◌, ◌+◌, ◌/◌, ◌%◌, ◌<◌, ◌++◌, ℕ, List, length, get_or, drop, Option, Some, None, sym, ap, inl, inr, arith}
+use Rattle.std.proofs.Common.{◌≡◌, ◌∙◌, ◌+◌, ◌/◌, ◌%◌, ◌<◌, ◌≤◌, ◌++◌, refl, ℕ, List, length, get_or, take, drop, Option, Some, None, sym, ap, inl, inr, arith}
 use Rattle.std.proofs.lemmas.Bool.{cases_Bool, cond-true, cond-false}
 use Rattle.std.proofs.lemmas.Grind.{same_number_lists}
-use Rattle.std.proofs.lemmas.List.{get_or_append_left}
+use Rattle.std.proofs.lemmas.List.{get_or-take, get_or_append_left}
 use Rattle.std.specs.Str.{bytes_eq}
 use Rattle.disk_model.specs.State.{FileState}
 use Rattle.disk_model.specs.Calls.{GoesOn, Rests}
@@ -22,6 +22,7 @@ use Rattle.page_bytes.specs.Pages.{byte_in, bytes_from}
 use Rattle.page_bytes.proofs.Content.{get_or-bytes_from-zero, length-bytes_from}
 use Rattle.block_file.specs.Reads.{AreBytes, WasRead}
 use Rattle.block_file.proofs.Reading.{page_stands, page_then}
+use Rattle.object_file.specs.Loading.{IsFirstRead}
 
 -- a text keeps its length
 length-gcm_text : (e : List ℕ → List ℕ) (iv text : List ℕ) → length (gcm_text e iv text) ≡ length text
@@ -62,6 +63,25 @@ first_stands key tree old new n into before whole long told was is =
     let place : i % 4096 ≡ i = omega arith in
     sym (here ∙ ap (λ (k : ℕ). byte_in (page_in old.reads key tree k) (i % 4096)) first ∙ ap (λ (o : Option (List ℕ)). byte_in o (i % 4096)) stands ∙ ap (λ (j : ℕ). get_or page j 0) place)) in
     stands ∙ ap (λ (l : List ℕ). Some l) same
+
+-- the page of block 0, of which these are the first bytes
+pub first_read : (key : List ℕ) (tree : Loaded) (a b : FileState) (whole attributes : List ℕ) (count : ℕ) → count ≤ 4096 → AreBytes key tree a b 0 whole 4096 → attributes ≡ take count whole
+    → IsFirstRead key tree a b attributes count
+first_read key tree a b whole attributes count few read is = record {
+  page = read.pages 0;
+  read = read.read 0 refl;
+  are = λ i lt.
+      let first : (0 + i) / 4096 ≡ 0 = omega (arith, lt, few) in
+      let place : (0 + i) % 4096 ≡ i = omega (arith, lt, few) in
+      ap (λ (l : List ℕ). get_or l i 0) is ∙ get_or-take count whole i 0 lt ∙ read.are i (omega (arith, lt, few)) ∙ (λ j. get_or (read.pages (first j)) (place j) 0);
+}
+
+pub first_then : (key : List ℕ) (tree : Loaded) (a b c : FileState) (attributes : List ℕ) (count : ℕ) → Rests a b → GoesOn b c → IsFirstRead key tree b c attributes count → IsFirstRead key tree a c attributes count
+first_then key tree a b c attributes count rests goes first = record {
+  page = first.page;
+  read = page_then key tree a b c 0 first.page rests goes first.read;
+  are = first.are;
+}
 
 -- bytes that were read after calls that change nothing
 pub bytes_then : (key : List ℕ) (tree : Loaded) (a b c : FileState) (at : ℕ) (bytes : List ℕ) (count : ℕ) → Rests a b → GoesOn b c → AreBytes key tree b c at bytes count → AreBytes key tree a c at bytes count

@@ -1,15 +1,15 @@
 -- Why an entry of the directory has no object in its file.
-use Rattle.std.specs.Prelude.{◌≡◌, ◌≢◌, ℕ, ◌+◌, ◌==◌, List, take, Option, Some, None, Result, Ok, Err, IsTrue, if◌then◌else◌}
+use Rattle.std.specs.Prelude.{◌≡◌, ◌≢◌, ℕ, ◌+◌, ◌<◌, ◌==◌, List, get_or, take, Option, Some, None, Result, Ok, Err, IsTrue, if◌then◌else◌}
 use Rattle.disk_model.specs.State.{FileState}
 use Rattle.aes_block.specs.WrappedKey.{unwrapped_of}
 use Rattle.node_image.specs.declared.node.RootRef.{RootRef}
 use Rattle.node_image.specs.Tables.{at_node}
 use Rattle.htree_file.specs.declared.fault.TreeFault.{TreeFault}
 use Rattle.htree_file.specs.declared.fault.TreeFault.TheVariants.{BadTag}
-use Rattle.htree_file.specs.Answers.{Differs, FaultCause, FilePassed, IsFailed, IsLoadFault, IsOutside}
+use Rattle.htree_file.specs.Answers.{Differs, FaultCause, FilePassed, HasFaultWidths, IsFailed, IsLoadFault, IsOutside}
 use Rattle.htree_file.specs.Opening.{IsVerified, Loaded, load_of}
 use Rattle.htree_file.specs.Pages.{block_in, page_in, tag_of}
-use Rattle.block_file.specs.Reads.{IsBad}
+use Rattle.block_file.specs.Reads.{IsBad, IsPage}
 use Rattle.crash_core.specs.MountedObject.{root_of}
 use Rattle.dir_records.specs.declared.entry.DirEntry.{DirEntry}
 use Rattle.object_file.specs.declared.fault.ObjectFault.{ObjectFault}
@@ -46,6 +46,11 @@ IsObjectFault (Tree (BadTag k want found)) = k ≡ 0
 IsObjectFault (Tree fault) = IsLoadFault fault
 IsObjectFault (WrongSize entry head) = Unit {0}
 
+-- the values that a tree's fault carries have the lengths of a hash and of a tag
+abbrev pub HasObjectWidths : ObjectFault → Type 0
+HasObjectWidths (Tree fault) = HasFaultWidths fault
+HasObjectWidths (WrongSize entry head) = Unit {0}
+
 -- a fault of the file has its cause in the file's counts, and no other fault has
 abbrev pub ObjectCause : FileState → FileState → ObjectFault → Type 0
 ObjectCause old new (Tree fault) = FaultCause old new fault
@@ -65,6 +70,12 @@ PartFault key tree new size (WrongSize entry head) = (entry ≡ size) × (tree.h
 abbrev pub FirstFault : (key : List ℕ) → Loaded → (new : FileState) → TreeFault → Type 0
 FirstFault key tree new (BadTag k want found) = (k ≡ 0) × IsBad key tree new 0 want found
 FirstFault key tree new fault = IsFailed fault
+
+-- block 0 was read, also where there are no attributes, and these are the first bytes of its page
+pub record IsFirstRead (key : List ℕ) (tree : Loaded) (old new : FileState) (attributes : List ℕ) (count : ℕ) : Type 0 where
+  pub page : List ℕ
+  pub read : IsPage key tree old new 0 page
+  pub are : (i : ℕ) → i < count → get_or attributes i 0 ≡ get_or page i 0
 
 -- the page of block 0 begins with so many bytes
 pub record IsFront (image key : List ℕ) (tree : Loaded) (attributes : List ℕ) (count : ℕ) : Type 0 where

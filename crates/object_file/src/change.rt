@@ -2,6 +2,7 @@
 
 ghost use Rattle.std.specs.Prelude.{◌≡◌, ◌+◌, ◌≤◌, [], length, max, min, None, IfErr, IfSome, OnOk, Result};
 ghost use Rattle.disk_model.specs.Calls.{Rests};
+ghost use Rattle.htree_file.specs.Answers.{HasFaultWidths};
 ghost use Rattle.htree_file.specs.Making.{HasCauses, IsDrawFault};
 ghost use Rattle.htree_file.specs.Opening.{load_of};
 ghost use Rattle.htree_file.specs.Standing.{Told};
@@ -75,6 +76,7 @@ impl<F: StoreFile> ObjectFile<F> {
         ensures corrupt { Told (F.state self.old.tree.file) (F.state self.new.tree.file) →
             CorruptAnswer (held_in self.old (F.state self.old.tree.file).reads)
             (needs_block (size_in self.old) (min at (size_in self.old)) (at + length bytes.now)) result }
+        ensures widths { IfErr result HasFaultWidths }
         ensures early { IfErr result (λ e. IsEarlyFault e →
             Rests (F.state self.old.tree.file) (F.state self.new.tree.file) × (entropy.new ≡ entropy.old)) }
         ensures undrawn { IfErr result (λ e. IsDrawFault e → Rests (F.state self.old.tree.file) (F.state self.new.tree.file)) }
@@ -133,6 +135,7 @@ impl<F: StoreFile> ObjectFile<F> {
         ensures corrupt { Told (F.state self.old.tree.file) (F.state self.new.tree.file) →
             CorruptAnswer (held_in self.old (F.state self.old.tree.file).reads)
             (needs_block (size_in self.old) (min size (size_in self.old)) (max size (size_in self.old))) result }
+        ensures widths { IfErr result HasFaultWidths }
         ensures early { IfErr result (λ e. IsEarlyFault e →
             Rests (F.state self.old.tree.file) (F.state self.new.tree.file) × (entropy.new ≡ entropy.old)) }
         ensures undrawn { IfErr result (λ e. IsDrawFault e → Rests (F.state self.old.tree.file) (F.state self.new.tree.file)) }

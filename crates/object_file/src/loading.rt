@@ -3,12 +3,12 @@
 ghost use Rattle.std.specs.Prelude.{◌≡◌, ◌+◌, ◌≤◌, length, take, Some, IfErr, IfOk, IsTrue, OnOk};
 ghost use Rattle.disk_model.specs.Arms.{count_call};
 ghost use Rattle.disk_model.specs.Calls.{Rests};
-ghost use Rattle.htree_file.specs.Answers.{HasCause};
+ghost use Rattle.htree_file.specs.Answers.{HasCause, HasFaultWidths};
 ghost use Rattle.htree_file.specs.Pages.{page_in};
 ghost use Rattle.htree_file.specs.Standing.{Told};
 ghost use Rattle.block_file.specs.Reads.{AreBytes};
 ghost use Rattle.dir_records.specs.Form.{HasForm};
-ghost use Rattle.object_file.specs.Loading.{FirstFault, HasObjectCause, IsFront, PartFault};
+ghost use Rattle.object_file.specs.Loading.{FirstFault, HasObjectCause, HasObjectWidths, IsFirstRead, IsFront, PartFault};
 
 use crate::fault::ObjectFault;
 use crate::object::FIRST_BLOCK;
@@ -26,6 +26,7 @@ fn read_first<F: StoreFile>(file: &mut BlockFile<F>, page: &mut Page) -> Result<
         page_in (F.state file.old.file).reads file.old.key file.old.tree 0 ≡ Some page.new) }
     ensures once { OnOk result (IsTrue (F.state file.old.file).tells_arms → (F.state file.new.file).arms ≡ count_call (F.state file.old.file).arms) }
     ensures fault { IfErr result (FirstFault file.old.key file.old.tree (F.state file.new.file)) }
+    ensures widths { IfErr result HasFaultWidths }
     ensures same { file.new ≡ record file.old { file = file.new.file } }
     ensures rests { Rests (F.state file.old.file) (F.state file.new.file) }
     ensures cause { HasCause (F.state file.old.file) (F.state file.new.file) result }
@@ -53,10 +54,13 @@ pub(crate) fn read_attributes<F: StoreFile>(
     ensures attributes { IfOk result (λ bytes. length bytes.items ≡ entry.now.attributes) }
     ensures bytes { IfOk result (λ bytes. AreBytes file.old.key file.old.tree
         (F.state file.old.file) (F.state file.new.file) 0 bytes.items entry.now.attributes) }
+    ensures first { IfOk result (λ bytes. IsFirstRead file.old.key file.old.tree
+        (F.state file.old.file) (F.state file.new.file) bytes.items entry.now.attributes) }
     ensures front { IfOk result (λ bytes. Told (F.state file.old.file) (F.state file.new.file) →
         IsFront (F.state file.old.file).reads file.old.key file.old.tree bytes.items entry.now.attributes) }
     ensures once { OnOk result (IsTrue (F.state file.old.file).tells_arms → (F.state file.new.file).arms ≡ count_call (F.state file.old.file).arms) }
     ensures fault { IfErr result (PartFault file.old.key file.old.tree (F.state file.new.file) entry.now.size) }
+    ensures widths { IfErr result HasObjectWidths }
     ensures same { file.new ≡ record file.old { file = file.new.file } }
     ensures rests { Rests (F.state file.old.file) (F.state file.new.file) }
     ensures cause { HasObjectCause (F.state file.old.file) (F.state file.new.file) result }

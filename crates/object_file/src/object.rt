@@ -4,7 +4,7 @@ ghost use Rattle.std.specs.Prelude.{◌≡◌, ◌⊎◌, ◌+◌, ◌-◌, ◌�
 ghost use Rattle.aes_block.specs.WrappedKey.{unwrapped_of};
 ghost use Rattle.disk_model.specs.Calls.{Known, Rests, Syncs};
 ghost use Rattle.disk_model.specs.Keeps.{Anywhere, Keeps};
-ghost use Rattle.htree_file.specs.Answers.{FilePassed, HasCause, IsFailed};
+ghost use Rattle.htree_file.specs.Answers.{FilePassed, HasCause, HasFaultWidths, IsFailed};
 ghost use Rattle.htree_file.specs.Opening.{IsVerified, load_of};
 ghost use Rattle.htree_file.specs.Selected.{KeepsFirm};
 ghost use Rattle.htree_file.specs.Standing.{IsFirm, Told};
@@ -16,7 +16,7 @@ ghost use Rattle.crash_core.specs.MountedObject.{mounted_object, root_of};
 ghost use Rattle.dir_records.specs.Form.{HasForm};
 ghost use Rattle.object_file.specs.Value.{size_in};
 ghost use Rattle.object_file.specs.Held.{held_in};
-ghost use Rattle.object_file.specs.Loading.{IsObjectFault, IsOutsideObject, ObjectCause, ObjectDiffers, fault_of};
+ghost use Rattle.object_file.specs.Loading.{HasObjectWidths, IsFirstRead, IsObjectFault, IsOutsideObject, ObjectCause, ObjectDiffers, fault_of};
 ghost use Rattle.object_file.specs.Corrupt.{CorruptAnswer};
 
 use crate::fault::{ObjectBroken, ObjectFault};
@@ -80,6 +80,8 @@ impl<F: StoreFile> ObjectFile<F> {
         ensures attributes { IfOk result (λ o. length o.attributes ≡ entry.now.attributes) }
         ensures bytes { IfOk result (λ o. AreBytes o.tree.key o.tree.tree (F.state file) (F.state o.tree.file) 0
             o.attributes entry.now.attributes) }
+        ensures first { IfOk result (λ o. IsFirstRead o.tree.key o.tree.tree (F.state file) (F.state o.tree.file)
+            o.attributes entry.now.attributes) }
         ensures loaded { IfOk result (λ o. Told (F.state file) (F.state o.tree.file) →
             load_of (F.state o.tree.file).reads o.tree.root ≡ Result.Ok o.tree.tree) }
         ensures object { IfOk result (λ o. Told (F.state file) (F.state o.tree.file) →
@@ -93,6 +95,7 @@ impl<F: StoreFile> ObjectFile<F> {
         // Of any file.
         ensures differs { IfErr result (λ b. ObjectDiffers tsk.now (F.state b.file) entry.now b.fault) }
         ensures kind { IfErr result (λ b. IsObjectFault b.fault) }
+        ensures widths { IfErr result (λ b. HasObjectWidths b.fault) }
         ensures rests { IfOk result (λ o. Rests (F.state file) (F.state o.tree.file)) }
         ensures rests_err { IfErr result (λ b. Rests (F.state file) (F.state b.file)) }
         ensures passed { IfOk result (λ o. FilePassed (F.state file) (F.state o.tree.file)) }
@@ -154,6 +157,7 @@ impl<F: StoreFile> ObjectFile<F> {
             (F.state self.old.tree.file) (F.state self.new.tree.file) (4096 + at) into.new n) }
         ensures blocks { BlocksAnswer self.old.tree.key self.old.tree.tree (F.state self.old.tree.file) (F.state self.new.tree.file)
             (meets (4096 + at) (4096 + at + min (length into.old) (size_in self.old - at))) result }
+        ensures widths { IfErr result HasFaultWidths }
         // Of a file that can be followed.
         ensures content { IfOk result (λ n. Told (F.state self.old.tree.file) (F.state self.new.tree.file) → into.new
             ≡ bytes_at (held_in self.old (F.state self.old.tree.file).reads).bytes at (length into.old) ++ drop n into.old) }

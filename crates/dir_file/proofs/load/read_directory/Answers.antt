@@ -1,6 +1,6 @@
 use Rattle.std.proofs.Common.{◌∙◌, Option, Vec, Global, sym, inr}
 use Rattle.dir_records.specs.declared.entry.DirEntry.{DirEntry}
-use Rattle.dir_file.proofs.Loading.{directory_wrong, err_differs, err_directory, few_blocks, ok_directory, ok_pages}
+use Rattle.dir_file.proofs.Loading.{directory_wrong, err_differs, entries_widths, err_directory, few_blocks, ok_directory, ok_pages}
 use Rattle.dir_file.proofs.load.read_directory.Goals as goal
 
 pub returns-then-bytes-ne32768-clause-fault : goal.returns-then-bytes-ne32768-clause-fault
@@ -33,3 +33,6 @@ returns-clause-differs g c =
     let t = c.args.tree.now in
     err_differs (g.F.StoreFile.state c.read_pages.new.tree.file) t.key t.tree c.in_ok-pages.pages.items c.deref.result.now (Vec (Option DirEntry) Global) (λ v. v.items) c.read_entries.result
     c.in_ok-pages.ensures.count (sym c.length-bytes.ensures.length ∙ c.if-bytes-ne32768.false) c.deref.ensures.value c.in_ok-pages.ensures.sealed c.read_entries.ensures
+
+pub returns-clause-widths : goal.returns-clause-widths
+returns-clause-widths g c = entries_widths c.deref.result.now (Vec (Option DirEntry) Global) (λ v. v.items) c.read_entries.result c.read_entries.ensures

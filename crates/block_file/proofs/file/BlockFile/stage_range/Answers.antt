@@ -11,7 +11,7 @@ use Rattle.htree_file.specs.Opening.{load_of}
 use Rattle.disk_model.specs.Calls.{Known}
 use Rattle.page_bytes.specs.declared.range.ByteRange.{ByteRange}
 use Rattle.page_bytes.specs.Ranges.{end_block}
-use Rattle.block_file.proofs.StageAfterReads.{causes_then, no_stage, stage_then}
+use Rattle.block_file.proofs.StageAfterReads.{causes_then, device_widths, no_stage, stage_then}
 use Rattle.block_file.proofs.file.BlockFile.stage_range.Goals as goal
 
 pub returns-in_err-changes-clause-staged : goal.returns-in_err-changes-clause-staged
@@ -109,3 +109,6 @@ pub returns-clause-causes : goal.returns-clause-causes
 returns-clause-causes g c =
     causes_then (g.F.StoreFile.state c.args.self.now.file) (g.F.StoreFile.state c.new_pages.new.self.file) (g.F.StoreFile.state c.stage_pages.new.self.file) _ _ _ _ (Unit {0}) c.stage_pages.result
     c.in_ok-changes.ensures.rests.goes_on c.in_ok-changes.ensures.cause c.stage_pages.ensures.causes
+
+pub returns-clause-widths : goal.returns-clause-widths
+returns-clause-widths g c = device_widths (Unit {0}) c.stage_pages.result c.stage_pages.ensures.causes.kind

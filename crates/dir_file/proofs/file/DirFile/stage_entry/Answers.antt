@@ -1,7 +1,9 @@
-use Rattle.std.proofs.Common.{◌≡◌, ◌/◌, ℕ, List, Option, Ok, IfSome, subst}
+use Rattle.std.proofs.Common.{◌≡◌, ◌/◌, ℕ, List, Option, Ok, IfSome, refl, subst}
 use Rattle.std.proofs.lemmas.Result.{err_from_is_err_and}
 use Rattle.disk_model.specs.Calls.{Known}
-use Rattle.htree_file.specs.Changes.{OpensAfter}
+use Rattle.node_image.specs.declared.head.Head.{Head}
+use Rattle.node_image.specs.Layout.{greatest_of}
+use Rattle.htree_file.specs.Changes.{OpensAfter, SealsChanges}
 use Rattle.htree_file.specs.Opening.{load_of}
 use Rattle.dir_records.specs.declared.entry.DirEntry.{DirEntry}
 use Rattle.dir_file.specs.EntryForms.{Fits}
@@ -26,9 +28,12 @@ returns-clause-answer g c =
     let budget = page_budget index c.from-block.result t.tree.head.greatest old.written new.written block c.self.invariant.tree.blocks s.budget in
     let opened : Known old new → load_of old.reads t.root ≡ Ok t.tree → IfSome u.stage (λ s. OpensAfter t.key t.tree.head.wrapped old.reads t.root new.reads s.root 32768 (one_change (index / 32) page)) =
     subst (λ (m : ℕ). Known old new → load_of old.reads t.root ≡ Ok t.tree → IfSome u.stage (λ s. OpensAfter t.key t.tree.head.wrapped old.reads t.root new.reads s.root 32768 (one_change (m / 32) page))) block s.opened in
+    let seals : IfSome u.stage (λ s. SealsChanges t.key t.tree s.tree (one_change (index / 32) page)) =
+    subst (λ (m : ℕ). IfSome u.stage (λ s. SealsChanges t.key t.tree s.tree (one_change (m / 32) page))) block s.seals in
+    let top : Head = record t.tree.head { length = 32768; greatest = greatest_of 32768 } in
     rw (← c.self.view_is)
-    (stages_ok t u old new c.self.inside.tsk entries (g.met.F.StoreFile.sound t.file) (g.met.F.StoreFile.sound u.file) index entry page c.self.invariant.key fits records c.self.inside.next _
-    s.same s.keeps s.firm budget s.unsettled s.open s.next s.verified s.loaded opened)
+    (stages_ok t u old new c.self.inside.tsk entries (g.met.F.StoreFile.sound t.file) (g.met.F.StoreFile.sound u.file) index entry page c.self.invariant.key fits records c.self.inside.next top
+    s.same s.keeps s.firm budget s.unsettled s.open s.next s.verified s.loaded opened seals s.spares refl refl)
 
 pub returns-in_err-stage-clause-answer : goal.returns-in_err-stage-clause-answer
 returns-in_err-stage-clause-answer g c =

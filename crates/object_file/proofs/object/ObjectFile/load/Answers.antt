@@ -6,8 +6,8 @@ use Rattle.htree_file.specs.Standing.{Told}
 use Rattle.htree_file.specs.Value.{TreeValue}
 use Rattle.block_file.specs.Reads.{AreBytes}
 use Rattle.crash_core.specs.MountedObject.{root_of}
-use Rattle.object_file.specs.Loading.{IsFront, PartFault}
-use Rattle.object_file.proofs.FirstBlock.{bytes_then}
+use Rattle.object_file.specs.Loading.{IsFirstRead, IsFront, PartFault}
+use Rattle.object_file.proofs.FirstBlock.{bytes_then, first_then}
 use Rattle.object_file.proofs.Mounting.{mounted_held, part_damaged, sound_faultless}
 use Rattle.object_file.specs.Held.{held_in}
 use Rattle.object_file.specs.Value.{ObjectValue}
@@ -71,3 +71,18 @@ returns-in-Ok-read_attributes-clause-bytes g c =
     sym (subst (λ (t : TreeValue g.row.F.Denot). c.read_attributes.new.file ≡ record t { file = c.read_attributes.new.file.file }) c.new-file.ensures c.read_attributes.ensures.same) in
     subst (λ (t : TreeValue g.row.F.Denot). AreBytes t.key t.tree a d 0 attributes count) same
     (bytes_then c.in-Ok.tree.key c.in-Ok.tree.tree a b d 0 attributes count c.in-Ok.ensures.rests rests.goes_on read)
+
+pub returns-in-Ok-read_attributes-clause-first : goal.returns-in-Ok-read_attributes-clause-first
+returns-in-Ok-read_attributes-clause-first g c =
+    let a = g.F.StoreFile.state c.args.file in
+    let b = g.F.StoreFile.state c.in-Ok.tree.file in
+    let d = g.F.StoreFile.state c.read_attributes.new.file.file in
+    let count = c.args.entry.now.attributes in
+    let attributes = c.in-Ok-read_attributes.attributes.items in
+    let rests : Rests b d = subst (λ (t : TreeValue g.row.F.Denot). Rests (g.F.StoreFile.state t.file) d) c.new-file.ensures c.read_attributes.ensures.rests in
+    let read : IsFirstRead c.in-Ok.tree.key c.in-Ok.tree.tree b d attributes count =
+    subst (λ (t : TreeValue g.row.F.Denot). IsFirstRead t.key t.tree (g.F.StoreFile.state t.file) d attributes count) c.new-file.ensures c.in-Ok-read_attributes.ensures.first in
+    let same : record c.in-Ok.tree { file = c.read_attributes.new.file.file } ≡ c.read_attributes.new.file =
+    sym (subst (λ (t : TreeValue g.row.F.Denot). c.read_attributes.new.file ≡ record t { file = c.read_attributes.new.file.file }) c.new-file.ensures c.read_attributes.ensures.same) in
+    subst (λ (t : TreeValue g.row.F.Denot). IsFirstRead t.key t.tree a d attributes count) same
+    (first_then c.in-Ok.tree.key c.in-Ok.tree.tree a b d attributes count c.in-Ok.ensures.rests rests.goes_on read)
