@@ -7,3 +7,4 @@ pub mod MadeObjects
 pub mod StageAnswers
 pub mod SettleAnswers
 pub mod VersionLaws
+pub mod FrontLaws

@@ -107,7 +107,7 @@ stages_are_versions keys old new o v was c root s keeps sound still honest stand
     let long : s.tree.head.length ≡ 4096 + c.size = ap (λ (h : Head). h.length) stage.head in
     let size : size_in (adopted o s) ≡ c.size = omega (arith, long) in (
       firm_stands keys new s.root s.tree v.app c.size v.attributes (Sound (c.contents was)) bit still (stage.firm honest loads)
-      (ap (λ (n : ℕ). object_in wrap new.reads s.root c.size n) has.attributes ∙ object),
+          (ap (λ (n : ℕ). object_in wrap new.reads s.root c.size n) has.attributes ∙ object),
       record {
         root = refl;
         loads = refl;

@@ -7,3 +7,4 @@ pub mod Loads
 pub mod Makes
 pub mod Stages
 pub mod Versions
+pub mod Fronts

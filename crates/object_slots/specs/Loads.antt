@@ -11,7 +11,7 @@ use Rattle.crash_core.specs.MountedObject.{mounted_object, root_of}
 use Rattle.dir_records.specs.declared.entry.DirEntry.{DirEntry}
 use Rattle.object_file.specs.declared.fault.ObjectFault.{ObjectFault}
 use Rattle.object_file.specs.Held.{held_in}
-use Rattle.object_file.specs.Loading.{IsObjectFault, IsOutsideObject, ObjectDiffers, fault_of}
+use Rattle.object_file.specs.Loading.{IsFirstRead, IsObjectFault, IsOutsideObject, ObjectDiffers, fault_of}
 use Rattle.object_slots.specs.declared.fault.SlotFault.{SlotFault}
 use Rattle.object_slots.specs.declared.fault.SlotFault.TheVariants.{Corrupt, NoEntropy}
 use Rattle.object_slots.specs.Faults.{HasCause}
@@ -27,6 +27,7 @@ pub record IsLoadedBy (old new : FileState) (tsk : List ℕ) (e : DirEntry) (o :
   -- of any file
   pub verified : IsVerified o.tree.root o.tree.tree
   pub bytes : AreBytes o.tree.key o.tree.tree old new 0 o.attributes e.attributes
+  pub first : IsFirstRead o.tree.key o.tree.tree old new o.attributes e.attributes
   -- of one that can be followed
   pub loads : Told old new → load_of new.reads o.tree.root ≡ Ok o.tree.tree
   pub object : Told old new → mounted_object tsk new.reads e ≡ Sound (held_in o new.reads)

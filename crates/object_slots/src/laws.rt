@@ -1,5 +1,6 @@
 //! Laws of slots. Each function does nothing: its contract is the law.
 
+ghost use Rattle.object_slots.specs.Fronts.{LoadedHaveFronts, MadeHaveFronts, StagesKeepFronts};
 ghost use Rattle.object_slots.specs.Versions.{LoadedAreVersions, MadeAreVersions, RefusedAreDamaged, StagesAreVersions, VersionsAreHeld};
 
 /// An object that is loaded by its entry, from an honest file in which the entry's version stands, is the one of that version.
@@ -25,4 +26,19 @@ pub fn stages_are_versions()
 /// An object that was made in an honest file is of a version that stands in it.
 pub fn made_are_versions()
     ensures { MadeAreVersions }
+{}
+
+/// Whatever the file is, the node of block 0 seals the attributes: of an object that is loaded,
+pub fn loaded_have_fronts()
+    ensures { LoadedHaveFronts }
+{}
+
+/// of one that is made,
+pub fn made_have_fronts()
+    ensures { MadeHaveFronts }
+{}
+
+/// and of one whose change is adopted.
+pub fn stages_keep_fronts()
+    ensures { StagesKeepFronts }
 {}

@@ -30,6 +30,7 @@ returns-in-Ok-clause-loads g c =
           attributes = e.attributes;
           verified = e.verified;
           bytes = e.bytes;
+          first = e.first;
           loads = e.loaded;
           object = e.object;
           faultless = e.faultless;
