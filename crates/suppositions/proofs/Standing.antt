@@ -1,0 +1,171 @@
+-- What stands for a version: by which tree, and which of its pages are good.
+use Rattle.std.proofs.Common.{◌≡◌, ◌+◌, ℕ, Bool, true, false, cond, List, ◌++◌, Option, Some, None, option_map, Result, Ok, Err, refl, sym, ap, ◌∙◌, subst}
+use Rattle.std.specs.Int.{w32, to_be_bytes}
+use Rattle.std.specs.Str.{bytes_eq}
+use Rattle.aes_block.specs.Cipher.{cipher}
+use Rattle.aes_block.specs.WrappedKey.{unwrapped_of}
+use Rattle.gcm_mode.specs.Gcm.{gcm_tag, gcm_text}
+use Rattle.node_image.specs.declared.node.NodeImage.{NodeImage}
+use Rattle.node_image.specs.declared.node.RootRef.{RootRef}
+use Rattle.node_image.specs.declared.head.Head.{Head}
+use Rattle.node_image.specs.Tables.{at_node}
+use Rattle.htree_file.specs.declared.fault.TreeFault.{TreeFault}
+use Rattle.htree_file.specs.Changes.{SealsAt}
+use Rattle.htree_file.specs.Opening.{IsVerified, Loaded}
+use Rattle.htree_file.specs.Pages.{page_of}
+use Rattle.hmac_keys.specs.declared.Keys.{Keys}
+use Rattle.crash_core.specs.DeviceKeys.{object_key}
+use Rattle.history_seats.specs.Numbers.{is_in}
+use Rattle.history_seats.specs.Records.{Version}
+use Rattle.suppositions.specs.Spellings.{IsReal, Spelling, block_of, page_spelt, spelled, spelled_if, spelling_of, wrap_of}
+use Rattle.suppositions.specs.Guesses.{Guess, VerifiedTree, block_or, mended, supposed_under, tree_or, tree_supposed, under}
+use Rattle.suppositions.specs.TreeLaws.{KeepsGood, SuppositionsAreVerified}
+use Rattle.suppositions.proofs.Mending.{good_stays, none_some, some_same}
+
+-- a page is told by the key, the wrapped key, the node's vector and tag, and the ciphertext
+pub page_same : (key other : List ℕ) (h g : Head) (n m : NodeImage) (k : ℕ) (c d : List ℕ) → key ≡ other → h.wrapped ≡ g.wrapped → n.iv ≡ m.iv → n.tag ≡ m.tag → c ≡ d
+    → page_of key h n k c ≡ page_of other g m k d
+page_same key other h g n m k c d keys wrapped iv tag text =
+    λ i. cond (bytes_eq (tag i) (gcm_tag (cipher (keys i)) (iv i) (wrapped i ++ to_be_bytes w32 k) (text i))) (Some (gcm_text (cipher (keys i)) (iv i) (text i))) None
+
+module _ (keys : Keys) (guess : Guess) (file generation : ℕ) (v : Version) where
+  -- the spelling of a tree of this version, mended where its file is not honest
+  abbrev pub spelt_with : Bool → Loaded → Spelling
+  spelt_with b tree = cond b (mended (guess.blocks file generation) (spelled (wrap_of keys v) (block_of v) tree)) (spelled (wrap_of keys v) (block_of v) tree)
+
+  -- its tree, of which it is the spelling
+  pub record IsBy (sp : Spelling) : Type 0 where
+    pub tree : Loaded
+    pub is : spelt_with (is_in file guess.dishonest) tree ≡ sp
+    pub verified : IsReal keys v → IsVerified v.root tree
+
+  pub by_tree : (sp : Spelling) → under keys guess file generation v ≡ Some sp → IsBy sp
+  by_tree sp stands = by_test (is_in file guess.dishonest) refl stands
+    where
+      by_supposed : (t : Option (VerifiedTree v.root)) (fault : TreeFault) → v.loads ≡ Err fault → is_in file guess.dishonest ≡ true
+          → option_map (λ tree. mended (guess.blocks file generation) (spelled (wrap_of keys v) (block_of v) tree)) (tree_supposed t) ≡ Some sp → IsBy sp
+      by_supposed None fault is b e = absurd (none_some sp e)
+      by_supposed (Some t) fault is b e = record {
+        tree = t.tree;
+        is = ap (λ (q : Bool). spelt_with q t.tree) b ∙ some_same (mended (guess.blocks file generation) (spelled (wrap_of keys v) (block_of v) t.tree)) sp e;
+        verified = λ real. t.verified;
+      }
+
+      by_load : (r : Result Loaded TreeFault) → v.loads ≡ r → is_in file guess.dishonest ≡ true
+          → option_map (λ tree. mended (guess.blocks file generation) (spelled (wrap_of keys v) (block_of v) tree)) (tree_or r (guess.trees file generation v.root)) ≡ Some sp → IsBy sp
+      by_load (Ok tree) is b e = record {
+        tree = tree;
+        is = ap (λ (q : Bool). spelt_with q tree) b ∙ some_same (mended (guess.blocks file generation) (spelled (wrap_of keys v) (block_of v) tree)) sp e;
+        verified = λ real. real.verified tree is;
+      }
+      by_load (Err fault) is b e = by_supposed (guess.trees file generation v.root) fault is b e
+
+      by_own : (r : Result Loaded TreeFault) → v.loads ≡ r → is_in file guess.dishonest ≡ false → spelled_if (wrap_of keys v) (block_of v) r ≡ Some sp → IsBy sp
+      by_own (Ok tree) is b e = record {
+        tree = tree;
+        is = ap (λ (q : Bool). spelt_with q tree) b ∙ some_same (spelled (wrap_of keys v) (block_of v) tree) sp e;
+        verified = λ real. real.verified tree is;
+      }
+      by_own (Err fault) is b e = absurd (none_some sp e)
+
+      by_test : (b : Bool) → is_in file guess.dishonest ≡ b → cond b (supposed_under keys guess file generation v) (spelling_of keys v) ≡ Some sp → IsBy sp
+      by_test true b e = by_load v.loads refl b e
+      by_test false b e = by_own v.loads refl b e
+
+  with-tree : (b : Bool) (tree : Loaded) → (spelt_with b tree).tree ≡ tree
+  with-tree true tree = refl
+  with-tree false tree = refl
+
+  -- what stands is verified under the version's reference, with the key that it wraps
+  pub verified_under : (sp : Spelling) → under keys guess file generation v ≡ Some sp → IsReal keys v → IsVerified v.root sp.tree
+  verified_under sp stands real =
+      let x = by_tree sp stands in
+      subst (IsVerified v.root) (sym (with-tree (is_in file guess.dishonest) x.tree) ∙ ap (λ (s : Spelling). s.tree) x.is) (x.verified real)
+
+  pub key_under : (sp : Spelling) → under keys guess file generation v ≡ Some sp → sp.key ≡ unwrapped_of (wrap_of keys v) sp.tree.head.wrapped
+  key_under sp stands =
+      let x = by_tree sp stands in
+      subst (λ (s : Spelling). s.key ≡ unwrapped_of (wrap_of keys v) s.tree.head.wrapped) x.is (by_test (is_in file guess.dishonest) x.tree)
+    where
+      by_test : (b : Bool) (tree : Loaded) → (spelt_with b tree).key ≡ unwrapped_of (wrap_of keys v) (spelt_with b tree).tree.head.wrapped
+      by_test true tree = refl
+      by_test false tree = refl
+
+  -- what stands for a version whose tree loads
+  pub keeps_own : (own : Spelling) → spelling_of keys v ≡ Some own → KeepsGood keys guess file generation v own
+  keeps_own own is = by_test (is_in file guess.dishonest) refl
+    where
+      by_load : (r : Result Loaded TreeFault) → v.loads ≡ r → spelled_if (wrap_of keys v) (block_of v) r ≡ Some own → is_in file guess.dishonest ≡ true → KeepsGood keys guess file generation v own
+      by_load (Ok tree) loads e b =
+          let same : spelled (wrap_of keys v) (block_of v) tree ≡ own = some_same (spelled (wrap_of keys v) (block_of v) tree) own e in
+          record {
+            sp = mended (guess.blocks file generation) own;
+            stands =
+                ap (λ (q : Bool). cond q (supposed_under keys guess file generation v) (spelling_of keys v)) b
+                ∙ ap (λ (r : Result Loaded TreeFault). option_map (λ t. mended (guess.blocks file generation) (spelled (wrap_of keys v) (block_of v) t)) (tree_or r (guess.trees file generation v.root))) loads
+                ∙ ap (λ (s : Spelling). Some (mended (guess.blocks file generation) s)) same;
+            tree = refl;
+            good = good_stays (guess.blocks file generation) own;
+          }
+      by_load (Err fault) loads e b = absurd (none_some own e)
+
+      by_test : (b : Bool) → is_in file guess.dishonest ≡ b → KeepsGood keys guess file generation v own
+      by_test true b = by_load v.loads refl is b
+      by_test false b = record {
+        sp = own;
+        stands = ap (λ (q : Bool). cond q (supposed_under keys guess file generation v) (spelling_of keys v)) b ∙ is;
+        tree = refl;
+        good = λ k page e. e;
+      }
+
+-- A block that a change does not meet has the page in the next version that it had: its node is sealed as before, and its committed ciphertext
+-- is the same.
+module _ (keys : Keys) (guess : Guess) (file generation : ℕ) (v next : Version) (k : ℕ) (app : next.app ≡ v.app) (block : block_of next k ≡ block_of v k) where
+  abbrev spelt_old : Loaded → Spelling
+  spelt_old tree = spelled (wrap_of keys v) (block_of v) tree
+
+  abbrev spelt_new : Loaded → Spelling
+  spelt_new tree = spelled (wrap_of keys next) (block_of next) tree
+
+  own-page : (a b : Loaded) → b.head.wrapped ≡ a.head.wrapped → (at_node b.nodes (k + 1)).iv ≡ (at_node a.nodes (k + 1)).iv → (at_node b.nodes (k + 1)).tag ≡ (at_node a.nodes (k + 1)).tag
+      → (c d : List ℕ) → d ≡ c → page_of (spelt_new b).key b.head (at_node b.nodes (k + 1)) k d ≡ page_of (spelt_old a).key a.head (at_node a.nodes (k + 1)) k c
+  own-page a b wrapped iv tag c d text =
+      page_same (spelt_new b).key (spelt_old a).key b.head a.head (at_node b.nodes (k + 1)) (at_node a.nodes (k + 1)) k d c
+      (λ i. unwrapped_of (object_key keys (app i)) (wrapped i)) wrapped iv tag text
+
+  with-page : (q : Bool) (a b : Loaded) → b.head.wrapped ≡ a.head.wrapped → (at_node b.nodes (k + 1)).iv ≡ (at_node a.nodes (k + 1)).iv → (at_node b.nodes (k + 1)).tag ≡ (at_node a.nodes (k + 1)).tag
+      → page_spelt (spelt_with keys guess file generation next q b) k ≡ page_spelt (spelt_with keys guess file generation v q a) k
+  with-page false a b wrapped iv tag = own-page a b wrapped iv tag (block_of v k) (block_of next k) block
+  with-page true a b wrapped iv tag =
+      let same : page_spelt (spelt_new b) k ≡ page_spelt (spelt_old a) k = own-page a b wrapped iv tag (block_of v k) (block_of next k) block in
+      own-page a b wrapped iv tag (block_or (page_spelt (spelt_old a) k) (block_of v k) (guess.blocks file generation k)) (block_or (page_spelt (spelt_new b) k) (block_of next k) (guess.blocks file generation k))
+      (λ i. block_or (same i) (block i) (guess.blocks file generation k))
+
+  tree-old : (q : Bool) (a : Loaded) → (spelt_with keys guess file generation v q a).tree ≡ a
+  tree-old true a = refl
+  tree-old false a = refl
+
+  tree-new : (q : Bool) (b : Loaded) → (spelt_with keys guess file generation next q b).tree ≡ b
+  tree-new true b = refl
+  tree-new false b = refl
+
+  pub unmet_page : (old new : Spelling) → under keys guess file generation v ≡ Some old → under keys guess file generation next ≡ Some new
+      → new.tree.head.wrapped ≡ old.tree.head.wrapped → SealsAt old.key old.tree new.tree k None → page_spelt new k ≡ page_spelt old k
+  unmet_page old new stands stood wrapped seals =
+      let q = is_in file guess.dishonest in
+      let x = by_tree keys guess file generation v old stands in
+      let y = by_tree keys guess file generation next new stood in
+      let a : old.tree ≡ x.tree = ap (λ (s : Spelling). s.tree) (sym x.is) ∙ tree-old q x.tree in
+      let b : new.tree ≡ y.tree = ap (λ (s : Spelling). s.tree) (sym y.is) ∙ tree-new q y.tree in
+      ap (λ (s : Spelling). page_spelt s k) (sym y.is)
+      ∙ with-page q x.tree y.tree
+      (ap (λ (t : Loaded). t.head.wrapped) (sym b) ∙ wrapped ∙ ap (λ (t : Loaded). t.head.wrapped) a)
+      (ap (λ (t : Loaded). (at_node t.nodes (k + 1)).iv) (sym b) ∙ seals.0 ∙ ap (λ (t : Loaded). (at_node t.nodes (k + 1)).iv) a)
+      (ap (λ (t : Loaded). (at_node t.nodes (k + 1)).tag) (sym b) ∙ seals.1 ∙ ap (λ (t : Loaded). (at_node t.nodes (k + 1)).tag) a)
+      ∙ ap (λ (s : Spelling). page_spelt s k) x.is
+
+pub spelled_under : SuppositionsAreVerified
+spelled_under keys guess file generation v sp real stands = record {
+  verified = verified_under keys guess file generation v sp stands real;
+  key = key_under keys guess file generation v sp stands;
+}

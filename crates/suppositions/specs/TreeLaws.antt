@@ -1,0 +1,77 @@
+-- One reference names one tree; and what a version is under a supposition.
+use Rattle.std.specs.Prelude.{◌≡◌, ◌⊎◌, ℕ, false, List, Option, Some, None}
+use Rattle.aes_block.specs.WrappedKey.{unwrapped_of}
+use Rattle.node_image.specs.declared.node.RootRef.{RootRef}
+use Rattle.htree_file.specs.Changes.{SealsAt}
+use Rattle.htree_file.specs.Opening.{IsVerified, Loaded}
+use Rattle.hmac_keys.specs.declared.Keys.{Keys}
+use Rattle.store_model.specs.Object.{size_of}
+use Rattle.store_model.specs.Damage.{HasLessDamage}
+use Rattle.history_seats.specs.Numbers.{is_in}
+use Rattle.history_seats.specs.Records.{Version}
+use Rattle.suppositions.specs.Spellings.{IsReal, Spelling, block_of, page_spelt, spelling_of, wrap_of}
+use Rattle.suppositions.specs.Guesses.{Guess, nothing_back, object_under, under}
+use Rattle.suppositions.specs.Clashes.{HaveFlags, IsAlike, NodeClash}
+use Rattle.suppositions.specs.Images.{version_of_image}
+
+-- Two trees that are verified under one reference are alike, or two of their nodes clash.
+abbrev pub OneReferenceNamesOneTree : Type 0
+OneReferenceNamesOneTree = (root : RootRef) (one other : Loaded) → IsVerified root one → IsVerified root other → IsAlike one other ⊎ NodeClash one other
+
+-- Alike trees whose flags are 16 bits are the same.
+abbrev pub AlikeTreesAreSame : Type 0
+AlikeTreesAreSame = (one other : Loaded) → HaveFlags one → HaveFlags other → IsAlike one other → one ≡ other
+
+-- What an image holds is real.
+abbrev pub ImagesHoldRealVersions : Type 0
+ImagesHoldRealVersions =
+    (keys : Keys) (image : List ℕ) (root : RootRef) (app : List ℕ) (size attributes : ℕ) → IsReal keys (version_of_image keys image root app size attributes)
+
+-- A supposition leaves a version's object with less damage, or the same.
+abbrev pub SuppositionsMend : Type 0
+SuppositionsMend =
+    (keys : Keys) (guess : Guess) (file generation : ℕ) (v : Version) → IsReal keys v → HasLessDamage v.object (object_under keys guess file generation v)
+
+-- and with its size
+abbrev pub SuppositionsKeepSizes : Type 0
+SuppositionsKeepSizes = (keys : Keys) (guess : Guess) (file generation : ℕ) (v : Version) → size_of (object_under keys guess file generation v) ≡ v.size
+
+-- In a file that is honest stands what was committed.
+abbrev pub HonestFilesStand : Type 0
+HonestFilesStand =
+    (keys : Keys) (guess : Guess) (file generation : ℕ) (v : Version) → IsReal keys v → is_in file guess.dishonest ≡ false
+    → object_under keys guess file generation v ≡ v.object
+
+-- For every set of files there is the supposition that nothing comes back: what was committed stands.
+abbrev pub NothingComesBack : Type 0
+NothingComesBack =
+    (keys : Keys) (dishonest : List ℕ) (file generation : ℕ) (v : Version) → IsReal keys v
+    → object_under keys (nothing_back dishonest) file generation v ≡ v.object
+
+-- What stands for a version is verified under its reference, with the key that it wraps.
+pub record IsSpelled (keys : Keys) (v : Version) (sp : Spelling) : Type 0 where
+  pub verified : IsVerified v.root sp.tree
+  pub key : sp.key ≡ unwrapped_of (wrap_of keys v) sp.tree.head.wrapped
+
+abbrev pub SuppositionsAreVerified : Type 0
+SuppositionsAreVerified =
+    (keys : Keys) (guess : Guess) (file generation : ℕ) (v : Version) (sp : Spelling) → IsReal keys v → under keys guess file generation v ≡ Some sp → IsSpelled keys v sp
+
+-- What stands for a version whose tree loads has that tree, and its good pages.
+pub record KeepsGood (keys : Keys) (guess : Guess) (file generation : ℕ) (v : Version) (own : Spelling) : Type 0 where
+  pub sp : Spelling
+  pub stands : under keys guess file generation v ≡ Some sp
+  pub tree : sp.tree ≡ own.tree
+  pub good : (k : ℕ) (page : List ℕ) → page_spelt own k ≡ Some page → page_spelt sp k ≡ Some page
+
+abbrev pub SuppositionsKeepGood : Type 0
+SuppositionsKeepGood =
+    (keys : Keys) (guess : Guess) (file generation : ℕ) (v : Version) (own : Spelling) → spelling_of keys v ≡ Some own → KeepsGood keys guess file generation v own
+
+-- A block that a change does not meet, so that its node is sealed as before and its committed ciphertext is the same, has the page in the
+-- next version that it had.
+abbrev pub UnmetPagesStay : Type 0
+UnmetPagesStay =
+    (keys : Keys) (guess : Guess) (file generation : ℕ) (v next : Version) (k : ℕ) → next.app ≡ v.app → block_of next k ≡ block_of v k → (old new : Spelling)
+    → under keys guess file generation v ≡ Some old → under keys guess file generation next ≡ Some new → new.tree.head.wrapped ≡ old.tree.head.wrapped
+    → SealsAt old.key old.tree new.tree k None → page_spelt new k ≡ page_spelt old k

@@ -1,0 +1,23 @@
+//! What one history says of a store, under each supposition on the files that are not honest.
+//!
+//! Nobody knows before the end of a phase which files will then be honest. So what is said of the machine, of the map of its objects and
+//! of its sessions is said under each supposition: which files are not honest, and what stands in the place of damage in them. At the
+//! end one supposition is chosen.
+//!
+//! It has definitions and laws alone.
+#![tactic(auto)]
+
+mod laws;
+
+pub use laws::{
+    alike_trees_are_same, answered_histories_are_legal, answered_landings_are_due,
+    answers_are_by_event, calm_sessions_stand, doubtful_changes_keep_maps, doubtful_sessions_stand,
+    drops_keep_maps, entries_have_objects, fair_histories_are_answered, fairness_is_by_event,
+    honest_files_stand, images_hold_real_versions, landings_keep_maps, listed_entries_are_apart,
+    made_changes_keep_maps, made_sessions_stand, nothing_comes_back, one_reference_names_one_tree,
+    openings_are_in_step, own_events_are_by_event, sessions_are_applications,
+    suppositions_are_verified, suppositions_keep_good, suppositions_keep_sizes, suppositions_mend,
+    told_replies_are_answered, truncations_stand_or_stray, unchanged_events_keep_maps,
+    unchanged_sessions_stand, undamaged_ends_clash, unmet_pages_stay, views_tell_sessions,
+    writes_stand_or_stray,
+};
