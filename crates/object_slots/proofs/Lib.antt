@@ -8,3 +8,4 @@ pub mod StageAnswers
 pub mod SettleAnswers
 pub mod VersionLaws
 pub mod FrontLaws
+pub mod GiveLaws

@@ -8,3 +8,4 @@ pub mod Makes
 pub mod Stages
 pub mod Versions
 pub mod Fronts
+pub mod Gives

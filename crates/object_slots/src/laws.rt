@@ -1,6 +1,7 @@
 //! Laws of slots. Each function does nothing: its contract is the law.
 
 ghost use Rattle.object_slots.specs.Fronts.{LoadedHaveFronts, MadeHaveFronts, StagesKeepFronts};
+ghost use Rattle.object_slots.specs.Gives.{ChangesGive, ReadsTell};
 ghost use Rattle.object_slots.specs.Versions.{LoadedAreVersions, MadeAreVersions, RefusedAreDamaged, StagesAreVersions, VersionsAreHeld};
 
 /// An object that is loaded by its entry, from an honest file in which the entry's version stands, is the one of that version.
@@ -41,4 +42,14 @@ pub fn made_have_fronts()
 /// and of one whose change is adopted.
 pub fn stages_keep_fronts()
     ensures { StagesKeepFronts }
+{}
+
+/// Whatever the file is, a read that succeeds was given each block that it asked, and its bytes are those that these tell.
+pub fn reads_tell()
+    ensures { ReadsTell }
+{}
+
+/// So was a change that was staged given each block that it needs.
+pub fn changes_give()
+    ensures { ChangesGive }
 {}
