@@ -1,5 +1,5 @@
 -- The front of an object.
-use Rattle.std.proofs.Common.{◌≡◌, ◌∙◌, ◌+◌, ◌/◌, ◌<◌, ◌≤◌, ℕ, List, length, get_or, Some, inl, sym, ap, subst, arith}
+use Rattle.std.proofs.Common.{◌≡◌, ◌∙◌, ◌<◌, ◌≤◌, ℕ, List, length, get_or, inl, sym, ap, subst, arith}
 use Rattle.node_image.specs.declared.node.NodeImage.{NodeImage}
 use Rattle.node_image.specs.declared.head.Head.{Head}
 use Rattle.node_image.specs.Tables.{at_node}
@@ -8,7 +8,7 @@ use Rattle.htree_file.specs.Opening.{IsVerified, Loaded}
 use Rattle.htree_file.specs.Pages.{page_of}
 use Rattle.htree_file.proofs.Sizes.{sized_few}
 use Rattle.object_file.specs.Making.{IsObjectPage}
-use Rattle.object_slots.specs.Fronts.{HasFront, LoadedHaveFronts, MadeHaveFronts, StagesKeepFronts}
+use Rattle.object_slots.specs.Fronts.{LoadedHaveFronts, MadeHaveFronts, StagesKeepFronts}
 
 -- a tree has a node 1
 has_nodes : (tree : Loaded) → (1 ≤ length tree.nodes) → 0 < length tree.nodes

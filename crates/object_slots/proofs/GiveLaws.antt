@@ -1,5 +1,5 @@
 -- What a slot's file gave for a read.
-use Rattle.std.proofs.Common.{◌≡◌, ◌⊎◌, inl, inr, ◌∙◌, ◌+◌, ◌-◌, ◌/◌, ◌%◌, ◌==◌, ◌<◌, ◌≤◌, ◌||◌, ℕ, Bool, true, false, cond, List, [], length, get_or, take, min, Option, Some, Ok, refl, sym, ap, subst, arith}
+use Rattle.std.proofs.Common.{◌≡◌, ◌⊎◌, inl, inr, ◌∙◌, ◌+◌, ◌-◌, ◌/◌, ◌%◌, ◌==◌, ◌<◌, ◌≤◌, ◌||◌, ℕ, Bool, true, false, cond, List, [], length, take, min, Option, Some, Ok, refl, sym, ap, subst, arith}
 use Rattle.std.specs.Option.{IsSome}
 use Rattle.std.proofs.lemmas.Bool.{cond-false, eqb-true, ne_eqb}
 use Rattle.std.proofs.lemmas.List.{get_or-take, length-take-le}
@@ -7,13 +7,12 @@ use Rattle.disk_model.specs.State.{FileState}
 use Rattle.aes_block.specs.WrappedKey.{unwrapped_of}
 use Rattle.node_image.specs.declared.node.NodeImage.{NodeImage}
 use Rattle.node_image.specs.Tables.{at_node}
-use Rattle.htree_file.specs.Opening.{IsVerified}
 use Rattle.htree_file.specs.Pages.{page_of}
-use Rattle.page_bytes.specs.Pages.{byte_at, byte_in, bytes_from}
+use Rattle.page_bytes.specs.Pages.{byte_in, bytes_from}
 use Rattle.page_bytes.specs.declared.range.ByteRange.{ByteRange}
 use Rattle.page_bytes.specs.Ranges.{meets, needs}
 use Rattle.page_bytes.proofs.Content.{bytes_from-is}
-use Rattle.block_file.specs.Reads.{AreBytes, IsPage, WasRead}
+use Rattle.block_file.specs.Reads.{AreBytes, WasRead}
 use Rattle.tee_types.specs.declared.call.Call.TheVariants.{Read}
 use Rattle.suppositions.specs.Given.{Gave, is_asked}
 use Rattle.suppositions.specs.Spellings.{Spelling, page_spelt, spelled}

@@ -2,7 +2,6 @@
 use Rattle.std.proofs.Common.{◌≡◌, ◌⊎◌, inl, inr, ℕ, List, Some, Err, refl}
 use Rattle.disk_model.specs.State.{FileState, Sound}
 use Rattle.disk_model.specs.Calls.{Rests}
-use Rattle.htree_file.specs.declared.fault.TreeFault.{TreeFault}
 use Rattle.htree_file.specs.declared.fault.TreeFault.TheVariants.{BadHead, BadTag, Damaged as DamagedNode, Failed, NoEntropy, NoMemory, Short}
 use Rattle.htree_file.specs.Standing.{Told}
 use Rattle.store_model.specs.Object.{Damaged}

@@ -1,5 +1,5 @@
 -- An object that was made in a file that was cut before.
-use Rattle.std.proofs.Common.{◌≡◌, ◌∙◌, ◌+◌, ◌<◌, ℕ, List, length, Ok, Err, IsTrue, refl, sym, ap, subst, arith}
+use Rattle.std.proofs.Common.{◌≡◌, ◌∙◌, ◌+◌, ◌<◌, ℕ, List, length, Ok, Err, IsTrue, refl, sym, subst, arith}
 use Rattle.disk_model.specs.State.{FileState, Sound as SoundFile}
 use Rattle.disk_model.specs.Calls.{GoesOn, Known}
 use Rattle.disk_model.specs.Keeps.{Keeps}
@@ -15,7 +15,6 @@ use Rattle.htree_file.specs.Opening.{IsVerified, load_of}
 use Rattle.htree_file.specs.Standing.{IsFirm}
 use Rattle.store_model.specs.Object.{Sound}
 use Rattle.crash_core.specs.MountedObject.{object_in}
-use Rattle.object_file.specs.Held.{held_in}
 use Rattle.object_file.specs.Making.{IsObjectPage}
 use Rattle.object_file.specs.Value.{ObjectValue, size_in}
 use Rattle.object_file.proofs.HeldObjects.{held-is}

@@ -1,5 +1,5 @@
 -- Calls of a slot's file as steps of the slot.
-use Rattle.std.proofs.Common.{ℕ, [], ◌∷◌, Option, IsTrue, refl}
+use Rattle.std.proofs.Common.{[], ◌∷◌, refl}
 use Rattle.disk_model.specs.State.{FileState, Sound}
 use Rattle.disk_model.specs.Calls.{Rests}
 use Rattle.disk_model.specs.Keeps.{Keeps, rest}

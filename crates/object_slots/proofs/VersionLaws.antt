@@ -1,6 +1,6 @@
 -- The object of a slot as a committed version of its file, from what the slot's calls say.
-use Rattle.std.proofs.Common.{◌≡◌, ◌∙◌, ◌+◌, ◌-◌, ◌<◌, ℕ, List, length, Result, Ok, IsTrue, inl, refl, sym, ap, subst, arith}
-use Rattle.disk_model.specs.State.{FileState, LeftNow, Sound as SoundFile}
+use Rattle.std.proofs.Common.{◌≡◌, ◌∙◌, ◌+◌, ◌<◌, ℕ, List, length, Result, Ok, IsTrue, inl, refl, sym, ap, subst, arith}
+use Rattle.disk_model.specs.State.{FileState, Sound as SoundFile}
 use Rattle.disk_model.proofs.ImageLaws.{reads_left}
 use Rattle.aes_block.specs.WrappedKey.{unwrapped_of}
 use Rattle.hmac_keys.specs.declared.Keys.{Keys}
@@ -11,7 +11,6 @@ use Rattle.htree_file.specs.declared.fault.TreeFault.{TreeFault}
 use Rattle.htree_file.specs.Opening.{Loaded, load_of}
 use Rattle.htree_file.specs.Pages.{Opened}
 use Rattle.htree_file.specs.Standing.{IsFirm, OpensTo, Told}
-use Rattle.htree_file.specs.Value.{Staged}
 use Rattle.store_model.specs.Object.{Contents, Damaged, Object, Sound}
 use Rattle.crash_core.specs.DeviceKeys.{object_key}
 use Rattle.crash_core.specs.MountedObject.{object_in, object_or_damaged, root_of}
@@ -21,14 +20,12 @@ use Rattle.history_seats.specs.Records.{Version}
 use Rattle.core_parts.specs.SlotParts.{IsShownIn, VersionStands}
 use Rattle.core_parts.specs.GateParts.{IsVersionOf}
 use Rattle.object_file.specs.Changes.{adopted}
-use Rattle.object_file.specs.Held.{held_in}
 use Rattle.object_file.specs.Value.{size_in}
 use Rattle.object_file.proofs.HeldObjects.{held-is}
-use Rattle.object_slots.specs.Loads.{IsLoadedBy, IsRefusedBy}
-use Rattle.object_slots.specs.Makes.{IsMade, new_contents}
-use Rattle.object_slots.specs.Stages.{DataChange, HoldsStage, IsStageOf}
+use Rattle.object_slots.specs.Makes.{new_contents}
+use Rattle.object_slots.specs.Stages.{HoldsStage}
 use Rattle.object_slots.specs.Value.{HeldObject}
-use Rattle.object_slots.specs.Versions.{HasVersion, LoadedAreVersions, MadeAreVersions, RefusedAreDamaged, StagesAreVersions, VersionsAreHeld, changed_version, new_version}
+use Rattle.object_slots.specs.Versions.{HasVersion, LoadedAreVersions, MadeAreVersions, RefusedAreDamaged, StagesAreVersions, VersionsAreHeld}
 
 -- what the file reads as shows a version that stands
 shown_now : (keys : Keys) (s : FileState) (v : Version) → SoundFile s → VersionStands keys s v → IsShownIn keys s.reads v

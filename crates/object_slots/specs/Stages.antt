@@ -1,5 +1,5 @@
 -- What a change of an object's data answers, whose stage is settled in the same call.
-use Rattle.std.specs.Prelude.{◌≡◌, ℕ, ◌+◌, ◌-◌, List, [], length, max, min, Bool, true, false, Option, Some, None, Result, Ok, Err, IfErr, IfSome, IsSome, IsTrue, OnErr, OnOk}
+use Rattle.std.specs.Prelude.{◌≡◌, ℕ, ◌+◌, ◌-◌, List, [], length, max, min, Bool, true, false, Option, None, Result, Ok, Err, IfErr, IfSome, IsSome, IsTrue, OnErr, OnOk}
 use Rattle.disk_model.specs.Bytes.{after_resize, after_write}
 use Rattle.disk_model.specs.State.{FileState}
 use Rattle.disk_model.specs.Calls.{Known, Rests, Syncs}

@@ -4,7 +4,7 @@ use Rattle.disk_model.specs.State.{FileState}
 use Rattle.history_seats.specs.Records.{Version}
 use Rattle.history_seats.specs.Views.{SlotView}
 use Rattle.core_parts.specs.SlotParts.{Knows, SlotPart}
-use Rattle.core_parts.specs.SlotSteps.{FileUser, KnowsOne, MayStage, Reader, SlotSteps, Stager, Taker}
+use Rattle.core_parts.specs.SlotSteps.{KnowsOne, MayStage, Reader, SlotSteps, Stager, Taker}
 use Rattle.object_slots.specs.Value.{HeldObject}
 
 -- the file, what the slot's seat knows, and who has an open stage on the file

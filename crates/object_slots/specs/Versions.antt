@@ -1,5 +1,5 @@
 -- The object of a slot as a committed version of its file.
-use Rattle.std.specs.Prelude.{◌≡◌, ℕ, ◌-◌, List, length, Ok, IsTrue}
+use Rattle.std.specs.Prelude.{◌≡◌, ℕ, List, length, Ok, IsTrue}
 use Rattle.disk_model.specs.State.{FileState, Sound as SoundFile}
 use Rattle.aes_block.specs.WrappedKey.{unwrapped_of}
 use Rattle.hmac_keys.specs.declared.Keys.{Keys}

@@ -1,7 +1,6 @@
-use Rattle.std.proofs.Common.{◌≡◌, ◌∙◌, ◌<◌, ℕ, Err, refl, sym, ap, subst, arith}
+use Rattle.std.proofs.Common.{Err, refl, sym, ap, subst, arith}
 use Rattle.node_image.specs.declared.node.RootRef.{RootRef}
 use Rattle.object_slots.specs.declared.fault.SlotFault.{SlotFault}
-use Rattle.object_slots.specs.Faults.{load_fault}
 use Rattle.object_slots.specs.Loads.{LoadsObject}
 use Rattle.object_slots.specs.Value.{apart, free}
 use Rattle.object_slots.proofs.LoadAnswers.{load_refused}

@@ -1,8 +1,7 @@
-use Rattle.std.proofs.Common.{◌≡◌, ◌∙◌, ℕ, Err, refl, sym, ap, subst}
+use Rattle.std.proofs.Common.{Err, refl, sym, subst}
 use Rattle.disk_model.proofs.Laws.{keeps_then}
 use Rattle.htree_file.specs.Making.{Nowhere}
 use Rattle.object_slots.specs.declared.fault.SlotFault.{SlotFault}
-use Rattle.object_slots.specs.Faults.{slot_fault}
 use Rattle.object_slots.specs.Makes.{MakesObject}
 use Rattle.object_slots.specs.Value.{apart, free}
 use Rattle.object_slots.proofs.MadeObjects.{cut_refused, is_made, make_refused}
