@@ -1,5 +1,5 @@
 -- What a slot answers for a fault of a tree, and why.
-use Rattle.std.proofs.Common.{◌≡◌, ◌∙◌, ℕ, List, Bool, true, Result, Ok, Err, IfErr, subst}
+use Rattle.std.proofs.Common.{◌≡◌, ℕ, Bool, Result, Ok, Err, IfErr, subst}
 use Rattle.disk_model.specs.Faults.{Rose}
 use Rattle.disk_model.specs.State.{FileState}
 use Rattle.disk_model.specs.Calls.{GoesOn}
@@ -13,8 +13,8 @@ use Rattle.store_model.specs.Object.{Contents}
 use Rattle.object_file.specs.Corrupt.{CorruptAnswer as TreeCorrupt}
 use Rattle.object_slots.specs.declared.fault.SlotFault.{SlotFault}
 use Rattle.object_slots.specs.declared.fault.SlotFault.TheVariants.{Corrupt, Failed, NoEntropy, NoMemory}
-use Rattle.object_slots.specs.Faults.{DrawCause, DrawFault, FaultCause, HasCause, HasCauses, IsFileFault, NotDrawn, slot_fault}
-use Rattle.object_slots.specs.Reads.{CorruptAnswer, HasBadBlock, ReadFault}
+use Rattle.object_slots.specs.Faults.{DrawFault, FaultCause, HasCause, HasCauses, IsFileFault, NotDrawn, slot_fault}
+use Rattle.object_slots.specs.Reads.{CorruptAnswer, ReadFault}
 use Rattle.object_slots.specs.Value.{HeldObject}
 
 -- the cause of a tree's fault is the slot's

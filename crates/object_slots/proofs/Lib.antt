@@ -1,7 +1,11 @@
 pub mod ContentLaws
 pub mod FaultLaws
+pub mod StepLaws
 pub mod ReadAnswers
 pub mod LoadAnswers
 pub mod MadeObjects
 pub mod StageAnswers
 pub mod SettleAnswers
+pub mod VersionLaws
+pub mod FrontLaws
+pub mod GiveLaws

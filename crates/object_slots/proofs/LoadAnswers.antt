@@ -1,8 +1,7 @@
 -- Loading that is refused.
 use Rattle.std.proofs.Common.{◌≡◌, ◌⊎◌, inl, inr, ℕ, List, Some, Err, refl}
-use Rattle.disk_model.specs.State.{FileState}
+use Rattle.disk_model.specs.State.{FileState, Sound}
 use Rattle.disk_model.specs.Calls.{Rests}
-use Rattle.htree_file.specs.declared.fault.TreeFault.{TreeFault}
 use Rattle.htree_file.specs.declared.fault.TreeFault.TheVariants.{BadHead, BadTag, Damaged as DamagedNode, Failed, NoEntropy, NoMemory, Short}
 use Rattle.htree_file.specs.Standing.{Told}
 use Rattle.store_model.specs.Object.{Damaged}
@@ -15,6 +14,7 @@ use Rattle.object_slots.specs.Faults.{FaultCause, load_fault}
 use Rattle.object_slots.specs.Loads.{IsRefusedBy, LoadFault, LoadsObject}
 use Rattle.object_slots.specs.Value.{free}
 use Rattle.object_slots.proofs.FaultLaws.{fault_cause}
+use Rattle.object_slots.proofs.StepLaws.{read_steps}
 
 inside_of : (O P : Type 0) → (O → ⊥) → O ⊎ P → P
 inside_of O P not (inl out) = absurd (not out)
@@ -51,11 +51,12 @@ module _ (old new : FileState) (tsk : List ℕ) (e : DirEntry) where
 
   pub load_refused : (A : Type 0) (fault : ObjectFault) → IsObjectFault fault → ObjectDiffers tsk new e fault
       → IsOutsideObject fault ⊎ (Told old new → fault_of tsk new.reads e ≡ Some fault) → IsOutsideObject fault ⊎ (Told old new → mounted_object tsk new.reads e ≡ Damaged e.size)
-      → Rests old new → ObjectCause old new fault → LoadsObject old new tsk e free {A = A} (Err (load_fault fault))
-  load_refused A fault kind differs stands damaged rests cause = record {
+      → Sound new → Rests old new → ObjectCause old new fault → LoadsObject old new tsk e free {A = A} (Err (load_fault fault))
+  load_refused A fault kind differs stands damaged sound rests cause = record {
     leaves = refl;
     refused = load_refusal fault kind differs stands damaged;
     rests = rests;
     cause = load_cause old new fault cause;
     three = tt;
+    steps = read_steps old new sound rests;
   }

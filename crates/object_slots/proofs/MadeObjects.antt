@@ -1,6 +1,6 @@
 -- An object that was made in a file that was cut before.
-use Rattle.std.proofs.Common.{◌≡◌, ◌∙◌, ◌+◌, ◌<◌, ℕ, List, length, Ok, Err, IsTrue, refl, sym, ap, subst, arith}
-use Rattle.disk_model.specs.State.{FileState}
+use Rattle.std.proofs.Common.{◌≡◌, ◌∙◌, ◌+◌, ◌<◌, ℕ, List, length, Ok, Err, IsTrue, refl, sym, subst, arith}
+use Rattle.disk_model.specs.State.{FileState, Sound as SoundFile}
 use Rattle.disk_model.specs.Calls.{GoesOn, Known}
 use Rattle.disk_model.specs.Keeps.{Keeps}
 use Rattle.disk_model.proofs.Goings.{then_known}
@@ -15,13 +15,15 @@ use Rattle.htree_file.specs.Opening.{IsVerified, load_of}
 use Rattle.htree_file.specs.Standing.{IsFirm}
 use Rattle.store_model.specs.Object.{Sound}
 use Rattle.crash_core.specs.MountedObject.{object_in}
-use Rattle.object_file.specs.Held.{held_in}
 use Rattle.object_file.specs.Making.{IsObjectPage}
 use Rattle.object_file.specs.Value.{ObjectValue, size_in}
 use Rattle.object_file.proofs.HeldObjects.{held-is}
-use Rattle.object_slots.specs.Faults.{IsSound, slot_fault}
+use Rattle.object_slots.specs.declared.fault.SlotFault.{SlotFault}
+use Rattle.object_slots.specs.declared.fault.SlotFault.TheVariants.{Corrupt, Failed as SlotFailed, NoEntropy as SlotNoEntropy, NoMemory as SlotNoMemory}
+use Rattle.object_slots.specs.Faults.{IsFileFault, IsSound, slot_fault}
 use Rattle.object_slots.specs.Makes.{IsMade, MakesObject, new_contents}
 use Rattle.object_slots.specs.Value.{apart, free}
+use Rattle.object_slots.proofs.StepLaws.{taker_steps}
 
 module _ {F : Type 0} (old mid new : FileState) (o : ObjectValue F) (root : RootRef) (tsk attributes bytes : List ℕ) (goes : GoesOn old mid) where
   pub is_made : root ≡ o.tree.root → root.version ≡ 0 → o.attributes ≡ attributes → o.tree.tree.head.length ≡ 4096 + length bytes → o.tree.key ≡ unwrapped_of tsk o.tree.tree.head.wrapped
@@ -60,11 +62,29 @@ make_sound (Damaged n want found) kind = absurd kind
 make_sound (BadTag k want found) kind = absurd kind
 
 -- nothing was made
-pub make_refused : (old mid new : FileState) (tsk attributes bytes : List ℕ) (fault : TreeFault) → Keeps Nowhere old mid → Keeps Nowhere mid new → IsMakeFault fault
+pub make_refused : (old mid new : FileState) (tsk attributes bytes : List ℕ) (fault : TreeFault) → SoundFile new → Keeps Nowhere old mid → Keeps Nowhere mid new → IsMakeFault fault
     → MakesObject old new tsk attributes bytes free (Err (slot_fault fault))
-make_refused old mid new tsk attributes bytes fault first second kind = record {
+make_refused old mid new tsk attributes bytes fault still first second kind = record {
   leaves = refl;
   cuts = tt;
   keeps = keeps_then Nowhere old mid new first second;
   sound = make_sound fault kind;
+  steps = taker_steps old new still (keeps_then Nowhere old mid new first second);
+}
+
+file_sound : (fault : SlotFault) → IsFileFault fault → IsSound fault
+file_sound (SlotFailed count) kind = tt
+file_sound Corrupt kind = absurd kind
+file_sound (SlotNoEntropy count) kind = absurd kind
+file_sound SlotNoMemory kind = absurd kind
+
+-- nor where the file was not cut
+pub cut_refused : (old new : FileState) (tsk attributes bytes : List ℕ) (fault : SlotFault) → SoundFile new → Keeps Nowhere old new → IsFileFault fault
+    → MakesObject old new tsk attributes bytes free (Err fault)
+cut_refused old new tsk attributes bytes fault still keeps kind = record {
+  leaves = refl;
+  cuts = tt;
+  keeps = keeps;
+  sound = file_sound fault kind;
+  steps = taker_steps old new still keeps;
 }

@@ -1,5 +1,5 @@
 -- A stage that is settled, or given up.
-use Rattle.std.proofs.Common.{◌≡◌, ◌∙◌, ◌<◌, ℕ, false, true, Option, Some, None, Result, Ok, Err, IfSome, IsSome, IsTrue, OnOk, refl, sym, ap, subst}
+use Rattle.std.proofs.Common.{◌≡◌, ◌∙◌, ◌<◌, true, Option, Some, None, Ok, Err, IfSome, IsSome, IsTrue, refl, sym, ap, subst}
 use Rattle.disk_model.specs.State.{FileState}
 use Rattle.disk_model.specs.Calls.{Known, Syncs}
 use Rattle.disk_model.specs.Keeps.{Anywhere, Keeps}
@@ -14,7 +14,7 @@ use Rattle.object_file.specs.Value.{ObjectValue}
 use Rattle.object_slots.specs.Faults.{IsFileFault, slot_fault}
 use Rattle.object_slots.specs.Inside.{IsStageKept, with_own_stage}
 use Rattle.object_slots.specs.Stages.{SettlesObject}
-use Rattle.object_slots.specs.Value.{HeldObject, Holding, IsHolding, apart, live, staged}
+use Rattle.object_slots.specs.Value.{HeldObject, IsHolding, apart, live, staged}
 use Rattle.object_slots.proofs.FaultLaws.{fault_cause}
 
 pub opened : (o : Option Staged) → IsSome o → (s : Staged) × (o ≡ Some s)

@@ -1,9 +1,9 @@
 -- A change of an object's data, from opening its stage and from settling it.
-use Rattle.std.proofs.Common.{◌≡◌, ◌∙◌, ◌+◌, ◌-◌, ◌<◌, ℕ, List, length, true, false, Option, Some, None, Result, Ok, Err, IfErr, IfSome, IsSome, IsTrue, OnErr, OnOk, inl, refl, sym, ap, subst}
+use Rattle.std.proofs.Common.{◌≡◌, ◌∙◌, ◌+◌, ◌-◌, ◌<◌, ℕ, List, length, true, false, Option, Some, None, Result, Ok, Err, IfErr, IfSome, IsTrue, OnOk, inl, refl, sym, ap, subst}
 use Rattle.disk_model.specs.State.{FileState, Sound}
-use Rattle.disk_model.specs.Calls.{GoesOn, Known, Rests, Syncs}
+use Rattle.disk_model.specs.Calls.{GoesOn, Known, Rests}
 use Rattle.disk_model.specs.Keeps.{Anywhere, Keeps}
-use Rattle.disk_model.proofs.Goings.{first_known, then_known}
+use Rattle.disk_model.proofs.Goings.{then_known}
 use Rattle.disk_model.proofs.Laws.{keeps_then}
 use Rattle.node_image.specs.declared.node.RootRef.{RootRef}
 use Rattle.node_image.specs.Layout.{greatest_of}
@@ -12,14 +12,13 @@ use Rattle.htree_file.specs.declared.fault.TreeFault.TheVariants.{BadHead, BadTa
 use Rattle.htree_file.specs.Changes.{SparesZero}
 use Rattle.htree_file.specs.Making.{IsDrawFault}
 use Rattle.htree_file.specs.Opening.{IsVerified, Loaded, load_of}
-use Rattle.htree_file.specs.Selected.{KeepsFirm, Lies}
+use Rattle.htree_file.specs.Selected.{Lies}
 use Rattle.htree_file.specs.Standing.{IsFirm, Told}
 use Rattle.htree_file.specs.Value.{Staged, TreeValue}
 use Rattle.htree_file.proofs.Firmness.{keeps_selected, stays_firm}
-use Rattle.page_bytes.specs.declared.range.ByteRange.{ByteRange}
 use Rattle.page_bytes.specs.Ranges.{needs}
 use Rattle.block_file.specs.NewPages.{IsNewPage}
-use Rattle.block_file.specs.Reads.{BlocksAnswer, IsChangeFault, IsEarlyFault, WasRead}
+use Rattle.block_file.specs.Reads.{BlocksAnswer, IsChangeFault, IsEarlyFault}
 use Rattle.block_file.specs.Stages.{LeavesBytes, SealsRange, StageAnswer}
 use Rattle.block_file.proofs.Reading.{page_first, told_first, was_first}
 use Rattle.store_model.specs.Object.{Contents}
@@ -29,12 +28,13 @@ use Rattle.object_file.specs.Held.{held_in}
 use Rattle.object_file.specs.Value.{ObjectValue, size_in}
 use Rattle.object_slots.specs.declared.fault.SlotFault.{SlotFault}
 use Rattle.object_slots.specs.declared.fault.SlotFault.TheVariants.{Corrupt, Failed, NoEntropy, NoMemory}
-use Rattle.object_slots.specs.Faults.{HasCause, IsFileFault, slot_fault}
+use Rattle.object_slots.specs.Faults.{IsFileFault, slot_fault}
 use Rattle.object_slots.specs.Reads.{CorruptAnswer}
 use Rattle.object_slots.specs.Stages.{DataChange, HoldsStage, IsStageOf, OpensStage, SettlesObject, StageFault, StagesObject}
 use Rattle.object_slots.specs.Value.{HeldObject, Holding, apart, live, staged}
 use Rattle.object_slots.proofs.FaultLaws.{corrupt_fault}
 use Rattle.object_slots.proofs.SettleAnswers.{at_some, opened}
+use Rattle.object_slots.proofs.StepLaws.{stage_steps}
 
 -- what an adopted stage holds depends on the object apart from its file alone
 module _ {F : Type 0} (old new : ObjectValue F) (key : new.tree.key ≡ old.tree.key) (own : new.attributes ≡ old.attributes) (before after : List ℕ) (change : Contents → Contents) where
@@ -114,6 +114,7 @@ module _ (o : HeldObject) (c : DataChange) (Undrawn : Type 0) where
     keeps = opens.keeps;
     firm = stays_firm old new o.tree.root o.tree.tree sound still bit opens.keeps;
     verified = opens.verified;
+    steps = stage_steps old new o still opens.keeps;
   }
 
   -- what the new nodes seal, in the course of further calls
@@ -200,6 +201,7 @@ module _ (o : HeldObject) (c : DataChange) (Undrawn : Type 0) where
         keeps = both_keep settles.keeps;
         firm = stays_firm old new o.tree.root o.tree.tree sound still bit (both_keep settles.keeps);
         verified = opens.verified;
+        steps = stage_steps old new o still (both_keep settles.keeps);
       }
 
     file_corrupt : (x : Contents) (fault : SlotFault) → IsFileFault fault → CorruptAnswer {A = RootRef} x c.asked (Err fault)
@@ -225,4 +227,5 @@ module _ (o : HeldObject) (c : DataChange) (Undrawn : Type 0) where
       keeps = both_keep settles.keeps;
       firm = stays_firm old new o.tree.root o.tree.tree sound still bit (both_keep settles.keeps);
       verified = opens.verified;
+      steps = stage_steps old new o still (both_keep settles.keeps);
     }

@@ -1,9 +1,8 @@
 -- The file of a slot, and what it holds, by the parts that the slot has.
-use Rattle.std.specs.Prelude.{◌≡◌, ℕ, [], false, Option, None, Some}
+use Rattle.std.specs.Prelude.{◌≡◌, [], false, Option, None, Some}
 use Rattle.disk_model.specs.Arms.{no_arms}
 use Rattle.disk_model.specs.State.{FileState}
 use Rattle.htree_file.specs.Value.{Staged}
-use Rattle.object_file.specs.Value.{ObjectValue}
 use Rattle.object_slots.specs.Value.{HeldObject, Holding, IsHolding, apart, free, live, made, staged}
 use Rattle.object_slots.specs.declared.content.Content.{Content}
 use Rattle.object_slots.specs.declared.content.Content.TheVariants.{Free, Made, Live, Staged as Kept}

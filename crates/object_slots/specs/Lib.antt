@@ -1,7 +1,11 @@
 pub mod Value
 pub mod Inside
 pub mod Faults
+pub mod Steps
 pub mod Reads
 pub mod Loads
 pub mod Makes
 pub mod Stages
+pub mod Versions
+pub mod Fronts
+pub mod Gives

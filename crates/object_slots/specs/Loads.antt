@@ -11,10 +11,11 @@ use Rattle.crash_core.specs.MountedObject.{mounted_object, root_of}
 use Rattle.dir_records.specs.declared.entry.DirEntry.{DirEntry}
 use Rattle.object_file.specs.declared.fault.ObjectFault.{ObjectFault}
 use Rattle.object_file.specs.Held.{held_in}
-use Rattle.object_file.specs.Loading.{IsObjectFault, IsOutsideObject, ObjectDiffers, fault_of}
+use Rattle.object_file.specs.Loading.{IsFirstRead, IsObjectFault, IsOutsideObject, ObjectDiffers, fault_of}
 use Rattle.object_slots.specs.declared.fault.SlotFault.{SlotFault}
 use Rattle.object_slots.specs.declared.fault.SlotFault.TheVariants.{Corrupt, NoEntropy}
 use Rattle.object_slots.specs.Faults.{HasCause}
+use Rattle.object_slots.specs.Steps.{ReadSteps}
 use Rattle.object_slots.specs.Value.{HeldObject, Holding, free, live}
 
 -- The object was loaded by the entry, under the application's key.
@@ -26,6 +27,7 @@ pub record IsLoadedBy (old new : FileState) (tsk : List ℕ) (e : DirEntry) (o :
   -- of any file
   pub verified : IsVerified o.tree.root o.tree.tree
   pub bytes : AreBytes o.tree.key o.tree.tree old new 0 o.attributes e.attributes
+  pub first : IsFirstRead o.tree.key o.tree.tree old new o.attributes e.attributes
   -- of one that can be followed
   pub loads : Told old new → load_of new.reads o.tree.root ≡ Ok o.tree.tree
   pub object : Told old new → mounted_object tsk new.reads e ≡ Sound (held_in o new.reads)
@@ -58,5 +60,6 @@ pub record LoadsObject (old new : FileState) (tsk : List ℕ) (e : DirEntry) (no
   pub refused : IfErr result (LoadFault old new tsk e)
   pub rests : Rests old new
   pub cause : HasCause old new result
+  pub steps : ReadSteps old new
   -- three calls of the file: a read of head and nodes, one of the length, and one of block 0
   pub three : OnOk result (IsTrue old.tells_arms → new.arms ≡ after_calls 3 old.arms)

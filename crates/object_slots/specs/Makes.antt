@@ -16,6 +16,7 @@ use Rattle.object_file.specs.Held.{held_in}
 use Rattle.object_file.specs.Making.{IsObjectPage}
 use Rattle.object_slots.specs.declared.fault.SlotFault.{SlotFault}
 use Rattle.object_slots.specs.Faults.{IsSound}
+use Rattle.object_slots.specs.Steps.{TakerSteps}
 use Rattle.object_slots.specs.Value.{HeldObject, Holding, free, made}
 
 -- a new object
@@ -60,3 +61,4 @@ pub record MakesObject (old new : FileState) (tsk attributes bytes : List ℕ) (
   pub cuts : OnOk result (CutsFirst old new)
   pub keeps : Keeps Nowhere old new
   pub sound : IfErr result IsSound
+  pub steps : TakerSteps old new

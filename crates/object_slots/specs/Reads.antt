@@ -14,6 +14,7 @@ use Rattle.object_file.specs.Value.{size_in}
 use Rattle.object_slots.specs.declared.fault.SlotFault.{SlotFault}
 use Rattle.object_slots.specs.declared.fault.SlotFault.TheVariants.{Corrupt, Failed}
 use Rattle.object_slots.specs.Faults.{HasCause}
+use Rattle.object_slots.specs.Steps.{ReadSteps}
 use Rattle.object_slots.specs.Value.{HeldObject}
 
 -- of the blocks of the tree that are asked, one is bad: the first such, with both tags, as the file reads when the call ends
@@ -52,5 +53,6 @@ pub record ReadsObject (old new : FileState) (o : HeldObject) (at : ℕ) (before
   pub verified : IsVerified o.tree.root o.tree.tree
   pub rests : Rests old new
   pub cause : HasCause old new result
+  pub steps : ReadSteps old new
   -- each block is read once
   pub once : IfOk result (λ n. IsTrue old.tells_arms → new.arms ≡ after_calls (blocks_of (read_range o.tree.tree.head.length (4096 + at) (length before))) old.arms)

@@ -1,5 +1,5 @@
 -- What a change of an object's data answers, whose stage is settled in the same call.
-use Rattle.std.specs.Prelude.{◌≡◌, ℕ, ◌+◌, ◌-◌, List, [], length, max, min, Bool, true, false, Option, Some, None, Result, Ok, Err, IfErr, IfSome, IsSome, IsTrue, OnErr, OnOk}
+use Rattle.std.specs.Prelude.{◌≡◌, ℕ, ◌+◌, ◌-◌, List, [], length, max, min, Bool, true, false, Option, None, Result, Ok, Err, IfErr, IfSome, IsSome, IsTrue, OnErr, OnOk}
 use Rattle.disk_model.specs.Bytes.{after_resize, after_write}
 use Rattle.disk_model.specs.State.{FileState}
 use Rattle.disk_model.specs.Calls.{Known, Rests, Syncs}
@@ -27,6 +27,7 @@ use Rattle.object_slots.specs.declared.fault.SlotFault.{SlotFault}
 use Rattle.object_slots.specs.declared.fault.SlotFault.TheVariants.{Corrupt, Failed, NoEntropy, NoMemory}
 use Rattle.object_slots.specs.Faults.{HasCause, IsFileFault}
 use Rattle.object_slots.specs.Reads.{CorruptAnswer, HasBadBlock}
+use Rattle.object_slots.specs.Steps.{StageSteps}
 use Rattle.object_slots.specs.Value.{HeldObject, Holding, live, staged}
 
 -- A change of an object's data: the range of the tree's bytes that it changes; the place of the bytes that are put, and these; the
@@ -114,6 +115,7 @@ pub record StagesObject (old new : FileState) (o : HeldObject) (c : DataChange) 
   pub keeps : Keeps (Lies o.tree.tree.nodes o.tree.root.version) old new
   pub firm : KeepsFirm old new o.tree.root o.tree.tree
   pub verified : IsVerified o.tree.root o.tree.tree
+  pub steps : StageSteps old new o
 
 -- What a stage answers before it is settled.
 pub record OpensStage (old new : FileState) (o : HeldObject) (c : DataChange) (stage : Option Staged) (Undrawn : Type 0) {A : Type 0} (result : Result A TreeFault) : Type 0 where

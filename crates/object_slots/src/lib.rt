@@ -8,6 +8,7 @@
 
 mod content;
 mod fault;
+pub mod laws;
 mod load;
 mod make;
 mod read;

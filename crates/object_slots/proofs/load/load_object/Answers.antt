@@ -1,10 +1,10 @@
-use Rattle.std.proofs.Common.{◌≡◌, ◌∙◌, ◌<◌, ℕ, Err, refl, sym, ap, subst, arith}
+use Rattle.std.proofs.Common.{Err, refl, sym, ap, subst, arith}
 use Rattle.node_image.specs.declared.node.RootRef.{RootRef}
 use Rattle.object_slots.specs.declared.fault.SlotFault.{SlotFault}
-use Rattle.object_slots.specs.Faults.{load_fault}
 use Rattle.object_slots.specs.Loads.{LoadsObject}
 use Rattle.object_slots.specs.Value.{apart, free}
 use Rattle.object_slots.proofs.LoadAnswers.{load_refused}
+use Rattle.object_slots.proofs.StepLaws.{read_steps}
 use Rattle.object_slots.proofs.load.load_object.Goals as goal
 
 pub returns-in-Err-clause-loads : goal.returns-in-Err-clause-loads
@@ -13,7 +13,7 @@ returns-in-Err-clause-loads g c =
     let new = g.F.StoreFile.state c.in-Err.field-0.file in
     let e = c.in-Err.ensures in
     subst (λ (f : SlotFault). LoadsObject old new c.args.tsk.now c.args.entry.now free {A = Unit {0}} (Err f)) (sym c.load_fault.ensures)
-    (load_refused old new c.args.tsk.now c.args.entry.now (Unit {0}) c.in-Err.field-0.fault e.kind e.differs e.fault e.damaged e.rests_err e.cause)
+    (load_refused old new c.args.tsk.now c.args.entry.now (Unit {0}) c.in-Err.field-0.fault e.kind e.differs e.fault e.damaged (g.met.F.StoreFile.sound c.in-Err.field-0.file) e.rests_err e.cause)
 
 pub returns-in-Ok-clause-loads : goal.returns-in-Ok-clause-loads
 returns-in-Ok-clause-loads g c =
@@ -29,6 +29,7 @@ returns-in-Ok-clause-loads g c =
           attributes = e.attributes;
           verified = e.verified;
           bytes = e.bytes;
+          first = e.first;
           loads = e.loaded;
           object = e.object;
           faultless = e.faultless;
@@ -38,6 +39,7 @@ returns-in-Ok-clause-loads g c =
       rests = e.rests;
       cause = e.passed;
       three = e.three;
+      steps = read_steps (g.F.StoreFile.state c.args.file) (g.F.StoreFile.state c.in-Ok.object.tree.file) (g.met.F.StoreFile.sound c.in-Ok.object.tree.file) e.rests;
     }
 
 pub returns-in-Ok-clause-content : goal.returns-in-Ok-clause-content

@@ -1,4 +1,4 @@
-use Rattle.std.proofs.Common.{◌≡◌, ◌+◌, ◌-◌, ℕ, List, sym, subst, arith}
+use Rattle.std.proofs.Common.{◌≡◌, ◌+◌, ℕ, sym, subst, arith}
 use Rattle.page_bytes.specs.Ranges.{needs, resize_range}
 use Rattle.block_file.specs.Reads.{BlocksAnswer}
 use Rattle.object_file.specs.Value.{size_in}

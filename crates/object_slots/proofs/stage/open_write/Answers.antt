@@ -1,6 +1,4 @@
-use Rattle.std.proofs.Common.{◌≡◌, ◌+◌, ◌-◌, ℕ, List, length, max, IfSome, OnOk, sym, subst, arith}
-use Rattle.htree_file.specs.Opening.{Loaded}
-use Rattle.page_bytes.specs.declared.range.ByteRange.{ByteRange}
+use Rattle.std.proofs.Common.{◌≡◌, ◌+◌, ℕ, List, length, max, IfSome, OnOk, sym, subst, arith}
 use Rattle.page_bytes.specs.Ranges.{needs, write_range}
 use Rattle.block_file.specs.Reads.{BlocksAnswer}
 use Rattle.block_file.specs.Stages.{SealsRange}

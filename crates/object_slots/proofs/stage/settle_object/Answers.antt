@@ -1,4 +1,4 @@
-use Rattle.std.proofs.Common.{◌≡◌, ℕ, Err, refl, sym, ap, subst}
+use Rattle.std.proofs.Common.{Err, sym, subst}
 use Rattle.object_slots.specs.declared.fault.SlotFault.{SlotFault}
 use Rattle.object_slots.specs.Stages.{SettlesObject}
 use Rattle.object_slots.specs.Value.{apart, live}

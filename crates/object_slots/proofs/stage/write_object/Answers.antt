@@ -1,12 +1,8 @@
-use Rattle.std.proofs.Common.{◌≡◌, ◌<◌, ℕ, List, Result, Ok, Err, refl, sym, ap, subst}
-use Rattle.disk_model.specs.State.{FileState, Sound}
+use Rattle.std.proofs.Common.{◌<◌, sym, ap, subst}
 use Rattle.node_image.specs.declared.node.RootRef.{RootRef}
-use Rattle.node_image.specs.Layout.{greatest_of}
 use Rattle.block_file.specs.Reads.{IsChangeFault}
-use Rattle.object_slots.specs.declared.fault.SlotFault.{SlotFault}
-use Rattle.object_slots.specs.Faults.{HasCauses}
 use Rattle.object_slots.specs.Inside.{file_in, holding_in}
-use Rattle.object_slots.specs.Stages.{SettlesObject, StagesObject, write_change}
+use Rattle.object_slots.specs.Stages.{SettlesObject, write_change}
 use Rattle.object_slots.specs.Value.{HeldObject, apart, live}
 use Rattle.object_slots.proofs.ContentLaws.{next_bit, sound_in}
 use Rattle.object_slots.proofs.FaultLaws.{causes_refused, causes_then}
