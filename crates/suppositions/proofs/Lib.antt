@@ -21,3 +21,4 @@ pub mod Rewrites
 pub mod CommitEnds
 pub mod EntryNames
 pub mod CallSteps
+pub mod CallSessions
