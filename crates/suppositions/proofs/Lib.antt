@@ -22,3 +22,5 @@ pub mod CommitEnds
 pub mod EntryNames
 pub mod CallSteps
 pub mod CallSessions
+pub mod ChangeCalls
+pub mod StagedChanges

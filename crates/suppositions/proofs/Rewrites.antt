@@ -37,7 +37,7 @@ use Rattle.suppositions.proofs.Comparing.{compare, is_some_of, meets_from, searc
 use Rattle.suppositions.proofs.Undamaged.{asked_within, damaged_sound, sound_of}
 
 -- Each asked block is good, or one is bad.
-all_good : (asked : ℕ → Bool) (sp : Spelling) → ((k : ℕ) → k < length sp.tree.nodes → asked k ≡ true → IsSome (page_spelt sp k)) ⊎ ((k : ℕ) × (asked k ≡ true) × (page_spelt sp k ≡ None))
+pub all_good : (asked : ℕ → Bool) (sp : Spelling) → ((k : ℕ) → k < length sp.tree.nodes → asked k ≡ true → IsSome (page_spelt sp k)) ⊎ ((k : ℕ) × (asked k ≡ true) × (page_spelt sp k ≡ None))
 all_good asked sp = search_all (length sp.tree.nodes) (λ k. asked k ≡ true → IsSome (page_spelt sp k)) ((k : ℕ) × (asked k ≡ true) × (page_spelt sp k ≡ None)) (λ k lt. by_page k (page_spelt sp k) refl (asked k) refl)
   where
     by_page : (k : ℕ) (o : Option (List ℕ)) → page_spelt sp k ≡ o → (b : Bool) → asked k ≡ b → (asked k ≡ true → IsSome (page_spelt sp k)) ⊎ ((k : ℕ) × (asked k ≡ true) × (page_spelt sp k ≡ None))

@@ -60,7 +60,7 @@ pub data SpeltCase (size attributes : ℕ) (sp : Spelling) : Type 0 where
   SpeltSound : sp.tree.head.length ≡ 4096 + size → (page : List ℕ) → page_spelt sp 0 ≡ Some page
       → object_of size attributes (opened_spelt sp) ≡ Sound (contents_of size attributes (pages_spelt sp) page) → SpeltCase size attributes sp
 
-spelt_case : (size attributes : ℕ) (sp : Spelling) → 0 < length sp.tree.nodes → page_at (pages_spelt sp) 0 ≡ page_spelt sp 0 → SpeltCase size attributes sp
+pub spelt_case : (size attributes : ℕ) (sp : Spelling) → 0 < length sp.tree.nodes → page_at (pages_spelt sp) 0 ≡ page_spelt sp 0 → SpeltCase size attributes sp
 spelt_case size attributes sp some first = by_length (sp.tree.head.length == 4096 + size) refl
   where
     by_page : (o : Option (List ℕ)) → page_at (pages_spelt sp) 0 ≡ o → (sp.tree.head.length == 4096 + size) ≡ true → SpeltCase size attributes sp

@@ -18,3 +18,4 @@ pub mod ReadLaws
 pub mod WriteLaws
 pub mod EntryLaws
 pub mod CallLaws
+pub mod ChangeLaws

@@ -17,7 +17,7 @@ pub use laws::{
     made_changes_keep_maps, made_sessions_stand, nothing_comes_back, one_reference_names_one_tree,
     openings_are_in_step, own_events_are_by_event, renames_keep_maps, sessions_are_applications, sessions_renew,
     suppositions_are_verified, suppositions_keep_good, suppositions_keep_sizes, suppositions_mend,
-    told_replies_are_answered, truncations_stand_or_stray, unchanged_events_keep_maps,
+    told_replies_are_answered, truncations_are_due_or_end, truncations_stand_or_stray, unchanged_events_keep_maps,
     unchanged_sessions_stand, undamaged_ends_clash, unmet_pages_stay, views_tell_sessions,
-    writes_stand_or_stray,
+    writes_are_due_or_end, writes_stand_or_stray,
 };
