@@ -1,32 +1,25 @@
 -- The tag of a call, and the session behind it.
-use Rattle.std.proofs.Common.{◌≡◌, ◌≢◌, ◌+◌, ◌<◌, ℕ, Bool, true, false, true≢false, List, [], ◌∷◌, ◌++◌, length, Option, Some, None, option_map, option_and_then, slice_index_or, refl, sym, ap, ◌∙◌, subst, inl, inr, arith}
-use Rattle.tee_types.specs.declared.call.Call.{Call}
-use Rattle.tee_types.specs.declared.reply.Reply.{Reply}
+use Rattle.std.proofs.Common.{◌≡◌, ◌+◌, ◌<◌, ℕ, Bool, true, false, List, [], ◌∷◌, ◌++◌, length, Option, Some, None, option_map, option_and_then, slice_index_or, refl, sym, ap, ◌∙◌, subst, inl, inr, arith}
 use Rattle.store_model.specs.declared.name.ObjectName.{ObjectName}
 use Rattle.store_model.specs.declared.event.Event.{Event}
 use Rattle.store_model.specs.declared.event.Event.TheVariants.{Call as CallEvent}
-use Rattle.store_model.specs.declared.event.Mark.{Mark}
-use Rattle.store_model.specs.Files.{FileMap, IsFree, file_named, makes_object, object_named}
+use Rattle.store_model.specs.Files.{IsFree, file_named}
 use Rattle.store_model.specs.History.{count_of}
-use Rattle.store_model.specs.Legal.{IsTagged, meant_by}
 use Rattle.store_model.specs.Machine.{Session}
-use Rattle.store_model.specs.Record.{events_of, fault_in_reply}
-use Rattle.store_model.specs.Standing.{Standing}
+use Rattle.store_model.specs.Record.{events_of}
 use Rattle.history_seats.specs.Records.{HistoryRecord}
 use Rattle.history_seats.specs.Mounts.{Entry}
 use Rattle.history_seats.specs.Settling.{Pending, calm, dropped, open_from, settled, settling}
 use Rattle.history_seats.specs.Known.{session_from}
 use Rattle.history_seats.specs.SessionLaws.{MayBeDropped}
-use Rattle.history_seats.specs.Views.{GateView, PassView, Sight}
+use Rattle.history_seats.specs.Views.{GateView, PassView}
 use Rattle.history_seats.specs.Changes.{pass_renewed}
 use Rattle.history_seats.specs.Rule.{PassFits}
 use Rattle.history_seats.proofs.Numbering.{count-append, count-begins, count-own}
 use Rattle.suppositions.specs.Guesses.{Guess}
-use Rattle.suppositions.specs.Stores.{Store, entries_at, entry_named, standing_at, start_under}
-use Rattle.suppositions.specs.Mapped.{IsMapped}
-use Rattle.suppositions.specs.Answered.{AreAnswered, IsFairHistory}
-use Rattle.suppositions.specs.Sessions.{Extends, IsSessionOf, SessionValue}
-use Rattle.suppositions.specs.CallLaws.{CallsExtendSessions, EntriesTagCalls, FreeFilesTagCreates, SessionGoesOn, SessionsRenew, session_renewed}
+use Rattle.suppositions.specs.Stores.{entries_at, entry_named, standing_at, start_under}
+use Rattle.suppositions.specs.Answered.{AreAnswered}
+use Rattle.suppositions.specs.CallLaws.{CallsExtendSessions, EntriesTagCalls, FreeFilesTagCreates, SessionsRenew}
 use Rattle.suppositions.proofs.Mending.{none_some, some_same}
 use Rattle.suppositions.proofs.Answers.{answered-front}
 use Rattle.suppositions.proofs.SessionSteps.{told_session}
@@ -59,8 +52,11 @@ free_tag store guess before session call reply mark file mapped free makes fault
 -- what is past a view has no call of its session
 none-past : (gate : GateView) (pass : PassView) (fits : PassFits gate pass) → count_of pass.session (events_of fits.sees.begins.rest) ≡ 0
 none-past gate pass fits =
-    omega (arith, sym (count-append pass.session pass.seen fits.sees.begins.rest) ∙ ap (λ (l : List HistoryRecord). count_of pass.session (events_of l)) fits.sees.begins.is
-    ∙ count-begins pass.session pass.seen gate.all fits.sees.begins)
+    omega (
+      arith,
+      sym (count-append pass.session pass.seen fits.sees.begins.rest) ∙ ap (λ (l : List HistoryRecord). count_of pass.session (events_of l)) fits.sees.begins.is
+          ∙ count-begins pass.session pass.seen gate.all fits.sees.begins,
+    )
 
 pub sessions_renew : SessionsRenew
 sessions_renew store s x gate fits session settles application = record {
@@ -125,5 +121,10 @@ calls_extend store s x gate fits r call reply mark event fair state application 
 
     count : s.made + 1 ≡ count_of x.pass.knows.session (events_of (gate.all ++ r ∷ []))
     count =
-        omega (arith, x.made ∙ ap (λ (n : ℕ). count_of n (events_of x.pass.knows.seen)) x.number, count-begins x.pass.knows.session x.pass.knows.seen gate.all fits.sees.begins,
-        count-append x.pass.knows.session gate.all (r ∷ []), one)
+        omega (
+          arith,
+          x.made ∙ ap (λ (n : ℕ). count_of n (events_of x.pass.knows.seen)) x.number,
+          count-begins x.pass.knows.session x.pass.knows.seen gate.all fits.sees.begins,
+          count-append x.pass.knows.session gate.all (r ∷ []),
+          one,
+        )

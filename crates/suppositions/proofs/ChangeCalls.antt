@@ -1,16 +1,15 @@
 -- What the machine does at a Write and a Truncate by a live handle, where the object is sound and the change spoils no bad block.
-use Rattle.std.proofs.Common.{◌≡◌, ◌+◌, ◌==◌, ℕ, zero, suc, Bool, true, false, true≢false, not, ◌&&◌, nat_lt, List, [], ◌∷◌, length, Option, Some, None, refl, sym, ap, ◌∙◌, subst, arith}
-use Rattle.std.proofs.lemmas.Bool.{cases_lt, lt-ltb, eq-eqb}
+use Rattle.std.proofs.Common.{◌≡◌, ◌+◌, ◌==◌, ℕ, zero, suc, true, false, true≢false, not, nat_lt, List, length, Option, Some, None, refl, ap, ◌∙◌, arith}
+use Rattle.std.proofs.lemmas.Bool.{lt-ltb}
 use Rattle.tee_types.specs.declared.call.Call.TheVariants.{Truncate, Write}
-use Rattle.tee_types.specs.declared.reply.Reply.{Reply}
 use Rattle.tee_types.specs.declared.reply.Reply.TheVariants.{Done}
 use Rattle.tee_types.specs.Limits.{most_data_bytes}
 use Rattle.tee_types.specs.Rights.{has, write_bit}
 use Rattle.store_model.specs.declared.session.Handle.{Handle}
-use Rattle.store_model.specs.Object.{Contents, Object, Sound, changed_object, object_at, size_at, size_of}
+use Rattle.store_model.specs.Object.{Contents, Object, Sound, changed_object, object_at, size_of}
 use Rattle.store_model.specs.Machine.{MachineState, Outcome, handle_at, of_sound, session_at}
 use Rattle.store_model.specs.Data.{greatest_position, range_resized, range_written, resized_contents, spoils, truncate_from, truncate_of, with_contents, with_position, write_from, write_of, written_contents}
-use Rattle.store_model.specs.Calls.{is_commit, is_commit_of, reply_of, size_before, size_by, state_after}
+use Rattle.store_model.specs.Calls.{is_commit, reply_of, size_before, size_by}
 
 -- what a call is whose reply is Done, which changes the object of the handle to these contents
 pub record IsDone (s : MachineState) (handle : Handle) (outcome : Outcome) (after : Contents) : Type 0 where

@@ -1,16 +1,13 @@
 -- The directory's entries beside those of the history.
-use Rattle.std.proofs.Common.{◌≡◌, ℕ, Bool, true, false, true≢false, cond, List, [], ◌∷◌, Option, Some, None, refl, sym, ap, ◌∙◌, subst, is_eq}
+use Rattle.std.proofs.Common.{◌≡◌, Bool, true, false, cond, List, [], ◌∷◌, Some, refl, sym, ap, ◌∙◌}
 use Rattle.store_model.specs.declared.name.ObjectName.{ObjectName}
-use Rattle.store_model.specs.Name.{name_cmp}
 use Rattle.store_model.proofs.Maps.{at}
 use Rattle.store_model.proofs.MapLaws.{alike}
-use Rattle.dir_records.specs.declared.entry.DirEntry.{DirEntry}
 use Rattle.crash_core.specs.Entries.{name_of}
-use Rattle.crash_core.specs.EntryLists.{AreSingle, entry_at}
+use Rattle.crash_core.specs.EntryLists.{entry_at}
 use Rattle.history_seats.specs.Mounts.{Entry}
 use Rattle.suppositions.specs.Stores.{entry_named}
-use Rattle.suppositions.specs.Mapped.{AreApart}
-use Rattle.suppositions.specs.Listings.{AreListed, ListedEntriesAreApart, entry_of}
+use Rattle.suppositions.specs.Listings.{ListedEntriesAreApart}
 use Rattle.suppositions.proofs.Mending.{none_some, some_same}
 
 -- an entry that a name has, has that name

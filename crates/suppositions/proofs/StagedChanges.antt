@@ -1,11 +1,9 @@
 -- A change that was staged over what was given is the machine's commit, or the promises end.
-use Rattle.std.proofs.Common.{◌≡◌, ◌⊎◌, ◌+◌, ◌==◌, ◌||◌, ◌<◌, ℕ, Bool, true, false, true≢false, not, ◌&&◌, nat_lt, List, [], length, max, min, Option, Some, None, IsSome, option_map, refl, sym, ap, ◌∙◌, subst, inl, inr, arith}
+use Rattle.std.proofs.Common.{◌≡◌, ◌⊎◌, ◌+◌, ◌==◌, ◌<◌, ℕ, Bool, true, false, true≢false, nat_lt, List, [], length, max, min, Option, Some, None, IsSome, option_map, refl, sym, ap, ◌∙◌, subst, inl, inr, arith}
 use Rattle.std.proofs.lemmas.Bool.{eq-eqb}
 use Rattle.std.specs.List.{list_any}
 use Rattle.tee_types.specs.declared.call.Call.{Call}
 use Rattle.tee_types.specs.declared.call.Call.TheVariants.{Truncate, Write}
-use Rattle.tee_types.specs.declared.reply.Reply.{Reply}
-use Rattle.tee_types.specs.declared.reply.Reply.TheVariants.{Done}
 use Rattle.tee_types.specs.Limits.{most_data_bytes}
 use Rattle.tee_types.specs.Rights.{has, write_bit}
 use Rattle.node_image.specs.declared.head.Head.{Head}
@@ -17,27 +15,26 @@ use Rattle.page_bytes.specs.Ranges.{needs, resize_range, write_range}
 use Rattle.page_bytes.proofs.Content.{length-bytes_from}
 use Rattle.store_model.specs.declared.session.Handle.{Handle}
 use Rattle.store_model.specs.declared.name.ObjectName.{ObjectName}
-use Rattle.store_model.specs.Object.{Contents, Damaged, Object, ObjectMap, Sound, changed_object, object_at}
-use Rattle.store_model.specs.Machine.{Outcome, handle_at, session_at}
+use Rattle.store_model.specs.Object.{Contents, Sound, changed_object, object_at}
+use Rattle.store_model.specs.Machine.{handle_at, session_at}
 use Rattle.store_model.specs.Calls.{is_commit, reply_of, state_after}
 use Rattle.store_model.specs.Data.{greatest_position, needs_block, range_resized, range_written, resized_contents, spoils, truncate_of, write_of, written_contents}
 use Rattle.store_model.specs.Files.{object_named}
 use Rattle.store_model.specs.Standing.{Standing}
-use Rattle.crash_core.specs.MountedObject.{bad_blocks, contents_of, object_of}
+use Rattle.crash_core.specs.MountedObject.{contents_of, object_of}
 use Rattle.crash_core.proofs.ObjectChanges.{bad-needed, resize_range-shifted, write_range-shifted}
 use Rattle.history_seats.specs.Records.{HistoryRecord, Version}
 use Rattle.history_seats.specs.Directory.{given_version}
 use Rattle.history_seats.proofs.Lists.{or_right}
 use Rattle.suppositions.specs.Spellings.{IsReal, Spelling, object_spelt, opened_spelt, page_spelt, pages_spelt}
-use Rattle.suppositions.specs.Guesses.{Guess, object_under, under}
-use Rattle.suppositions.specs.Clashes.{IsAlike, NodeClash}
+use Rattle.suppositions.specs.Guesses.{Guess, object_under}
 use Rattle.suppositions.specs.Given.{is_asked, position_by, position_of, spelling_given}
 use Rattle.suppositions.specs.Stores.{Store, standing_at}
 use Rattle.suppositions.specs.Mapped.{IsMapped}
 use Rattle.suppositions.specs.Shown.{IsGivenAt, IsPartial, IsWriteEndAt, Strays, asked_of, stands_for}
 use Rattle.suppositions.specs.WriteLaws.{IsMadeOver}
 use Rattle.suppositions.specs.ChangeLaws.{IsDueChange, TruncationsAreDueOrEnd, WritesAreDueOrEnd}
-use Rattle.suppositions.proofs.Mending.{none_some, some_same}
+use Rattle.suppositions.proofs.Mending.{some_same}
 use Rattle.suppositions.proofs.Standing.{verified_under}
 use Rattle.suppositions.proofs.SameTrees.{alike_trees}
 use Rattle.suppositions.proofs.InStep.{entry_object}
@@ -174,9 +171,9 @@ module _ (store : Store) (guess : Guess) (before : List HistoryRecord) (r : Hist
   write_or_end = elim (fine_or_end store guess before r x real mapped partial_write) [
     | inr ends ↦ inr ends
     | inl fine ↦ elim (stood fine) [
-        | inl stands ↦ inl (due_write fine stands)
-        | inr strays ↦ inr (end_by store guess before r x real mapped partial_write (subst (λ (q : ℕ → Bool). Strays (stands_for x) q (spelling_given x.gave)) (λ i k. sym (asked-is k) i) strays))
-      ]
+      | inl stands ↦ inl (due_write fine stands)
+      | inr strays ↦ inr (end_by store guess before r x real mapped partial_write (subst (λ (q : ℕ → Bool). Strays (stands_for x) q (spelling_given x.gave)) (λ i k. sym (asked-is k) i) strays))
+    ]
   ]
     where
       stood : (fine : IsFine store guess before r x real mapped partial_write)
@@ -247,9 +244,9 @@ module _ (store : Store) (guess : Guess) (before : List HistoryRecord) (r : Hist
   cut_or_end = elim (fine_or_end store guess before r x real mapped partial_cut) [
     | inr ends ↦ inr ends
     | inl fine ↦ elim (cut-stood fine) [
-        | inl stands ↦ inl (due_cut fine stands)
-        | inr strays ↦ inr (end_by store guess before r x real mapped partial_cut (subst (λ (q : ℕ → Bool). Strays (stands_for x) q (spelling_given x.gave)) (λ i k. sym (cut-asked k) i) strays))
-      ]
+      | inl stands ↦ inl (due_cut fine stands)
+      | inr strays ↦ inr (end_by store guess before r x real mapped partial_cut (subst (λ (q : ℕ → Bool). Strays (stands_for x) q (spelling_given x.gave)) (λ i k. sym (cut-asked k) i) strays))
+    ]
   ]
     where
       cut-stood : (fine : IsFine store guess before r x real mapped partial_cut)

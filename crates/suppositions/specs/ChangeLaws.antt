@@ -13,7 +13,7 @@ use Rattle.store_model.specs.Machine.{MachineState}
 use Rattle.store_model.specs.Object.{changed_object}
 use Rattle.tee_types.specs.Limits.{most_data_bytes}
 use Rattle.history_seats.specs.Records.{HistoryRecord, Version}
-use Rattle.suppositions.specs.Spellings.{IsReal, Spelling}
+use Rattle.suppositions.specs.Spellings.{IsReal}
 use Rattle.suppositions.specs.Guesses.{Guess, object_under}
 use Rattle.suppositions.specs.Given.{spelling_given}
 use Rattle.suppositions.specs.Stores.{Store, standing_at}
