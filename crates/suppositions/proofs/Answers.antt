@@ -1,14 +1,14 @@
 -- Histories whose events are answered, and what is owed of them, with one record more.
-use Rattle.std.proofs.Common.{◌≡◌, ◌⊎◌, ℕ, Bool, true, false, true≢false, List, [], ◌∷◌, ◌++◌, Option, Some, None, refl, sym, ap, ◌∙◌, subst, inl, inr, append_assoc, eq-eqb}
+use Rattle.std.proofs.Common.{◌≡◌, ℕ, true, false, true≢false, List, [], ◌∷◌, ◌++◌, Some, refl, sym, ap, ◌∙◌, append_assoc, eq-eqb}
 use Rattle.store_model.specs.Record.{concerns_file, file_of, is_file}
-use Rattle.store_model.specs.Standing.{Standing, replay, standing_after}
+use Rattle.store_model.specs.Standing.{standing_after}
 use Rattle.store_model.proofs.Sessions.{replay-append}
 use Rattle.history_seats.specs.Records.{HistoryRecord, IsUpToDate}
 use Rattle.suppositions.specs.Guesses.{Guess}
 use Rattle.suppositions.specs.Stores.{Store, standing_at, start_under}
-use Rattle.suppositions.specs.Answered.{AreAnswered, AreFair, AreOwnLegal, IsAnsweredAt, IsFairAt, IsFairHistory, IsLegalAt}
+use Rattle.suppositions.specs.Answered.{AreAnswered, AreOwnLegal, IsAnsweredAt, IsFairAt, IsFairHistory, IsLegalAt}
 use Rattle.suppositions.specs.EndLaws.{AnswersAreByEvent, FairnessIsByEvent, OwnEventsAreByEvent}
-use Rattle.suppositions.proofs.Places.{Place, Earlier, Later, each_snoc, lacks_one, not_empty, place_of}
+use Rattle.suppositions.proofs.Places.{Earlier, Later, each_snoc, lacks_one, not_empty, place_of}
 
 -- the replay of one record more
 pub standing-snoc : (store : Store) (guess : Guess) (all : List HistoryRecord) (r : HistoryRecord)

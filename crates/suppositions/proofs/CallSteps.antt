@@ -1,13 +1,12 @@
 -- The steps of a create, a rename and a delete: entries, versions and objects go in step.
-use Rattle.std.proofs.Common.{◌≡◌, ℕ, Bool, true, false, true≢false, cond, not, List, [], ◌∷◌, ◌++◌, filter, map, Option, Some, None, option_map, refl, sym, ap, ◌∙◌, subst}
-use Rattle.tee_types.specs.declared.call.Call.{Call}
+use Rattle.std.proofs.Common.{◌≡◌, ℕ, Bool, true, false, true≢false, cond, not, List, ◌∷◌, filter, Option, Some, None, option_map, refl, sym, ap, ◌∙◌, subst}
 use Rattle.tee_types.specs.declared.call.Call.TheVariants.{Create, Delete, Rename}
 use Rattle.tee_types.specs.declared.flags.Flags.{Flags}
 use Rattle.store_model.specs.declared.name.ObjectName.{ObjectName}
 use Rattle.store_model.specs.Name.{name_eq}
 use Rattle.store_model.specs.Object.{Object, ObjectMap, moved_object, object_at, without_object}
 use Rattle.store_model.specs.Calls.{state_after}
-use Rattle.store_model.specs.Files.{FileMap, files_after, moved_by, without_file}
+use Rattle.store_model.specs.Files.{files_after, moved_by, without_file}
 use Rattle.store_model.specs.Record.{Tag}
 use Rattle.store_model.specs.Standing.{Standing}
 use Rattle.store_model.proofs.Maps.{at, moved_object-held}
@@ -15,12 +14,12 @@ use Rattle.store_model.proofs.MapLaws.{alike, object_at-with, object_at-without}
 use Rattle.history_seats.specs.Records.{HistoryRecord, Version}
 use Rattle.history_seats.specs.Mounts.{Entry}
 use Rattle.history_seats.specs.Versions.{is_entry_of}
-use Rattle.history_seats.specs.Directory.{given_version, with_entry, with_name, without_entry}
+use Rattle.history_seats.specs.Directory.{given_version, with_name}
 use Rattle.suppositions.specs.Guesses.{Guess, object_under}
 use Rattle.suppositions.specs.Stores.{Store, entries_at, entry_named, standing_at}
 use Rattle.suppositions.specs.Mapped.{IsInStep, Versions, object_by}
 use Rattle.suppositions.specs.CommitLaws.{Place}
-use Rattle.suppositions.specs.EntryLaws.{CreatesKeepMaps, CreatesObject, DeletesKeepMaps, DeletesObject, HasOwnEntry, RenamesKeepMaps, RenamesObject, name_given}
+use Rattle.suppositions.specs.EntryLaws.{CreatesKeepMaps, CreatesObject, DeletesKeepMaps, HasOwnEntry, RenamesKeepMaps, RenamesObject, name_given}
 use Rattle.suppositions.proofs.InStep.{object_of, same_object}
 use Rattle.suppositions.proofs.CommitEnds.{doubtful_ends, made_ends}
 use Rattle.suppositions.proofs.EntryNames.{FindsName, finds_by_name, finds_own, named_anew, named_otherwise, named_without}

@@ -1,8 +1,8 @@
 -- Which entry a name has after one came, went, or got another name.
-use Rattle.std.proofs.Common.{◌≡◌, ◌==◌, ◌&&◌, ℕ, Bool, true, false, true≢false, cond, not, List, [], ◌∷◌, ◌++◌, map, filter, find, Option, Some, None, refl, sym, ap, ◌∙◌, subst, inl, inr, is_eq, append_assoc}
-use Rattle.std.proofs.lemmas.Bool.{cases_Bool, cond-false, cond-true, eq-eqb}
+use Rattle.std.proofs.Common.{◌≡◌, ◌==◌, ℕ, Bool, true, false, true≢false, cond, not, List, [], ◌∷◌, ◌++◌, map, filter, Option, Some, None, refl, sym, ap, ◌∙◌, subst, is_eq, append_assoc}
+use Rattle.std.proofs.lemmas.Bool.{cond-false, cond-true, eq-eqb}
 use Rattle.store_model.specs.declared.name.ObjectName.{ObjectName}
-use Rattle.store_model.specs.Name.{name_cmp, name_eq}
+use Rattle.store_model.specs.Name.{name_eq}
 use Rattle.store_model.specs.Record.{Tag}
 use Rattle.store_model.proofs.Maps.{at, name_cmp_total}
 use Rattle.store_model.proofs.MapLaws.{alike}

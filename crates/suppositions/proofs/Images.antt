@@ -1,23 +1,22 @@
 -- What an image holds under a reference is a real version.
-use Rattle.std.proofs.Common.{◌≡◌, ◌+◌, ◌<◌, ℕ, List, [], length, get_or, Option, Some, None, Result, Ok, Err, refl, sym, ap, ◌∙◌, arith}
+use Rattle.std.proofs.Common.{◌≡◌, ◌+◌, ◌<◌, ℕ, List, [], length, Option, Result, Ok, Err, refl, ap, ◌∙◌, arith}
 use Rattle.aes_block.specs.WrappedKey.{unwrapped_of}
 use Rattle.node_image.specs.declared.node.RootRef.{RootRef}
 use Rattle.node_image.specs.declared.node.NodeImage.{NodeImage}
 use Rattle.node_image.specs.declared.head.Head.{Head}
 use Rattle.node_image.specs.Tables.{at_node, block_bit}
 use Rattle.node_image.specs.Parts.Part.{block}
-use Rattle.node_image.specs.Selection.{head_in, part_in, selected_node, selected_tree}
+use Rattle.node_image.specs.Selection.{head_in, part_in, selected_node}
 use Rattle.node_image.proofs.Matching.{node_is, row_at, row_same}
 use Rattle.htree_file.specs.declared.fault.TreeFault.{TreeFault}
 use Rattle.htree_file.specs.Opening.{Loaded, load_of}
-use Rattle.htree_file.specs.Selected.{IsLoaded}
-use Rattle.htree_file.specs.Pages.{Opened, block_in, opened_in, page_in, page_of}
+use Rattle.htree_file.specs.Pages.{block_in, opened_in, page_in, page_of}
 use Rattle.htree_file.proofs.Loadings.{loaded_from}
 use Rattle.hmac_keys.specs.declared.Keys.{Keys}
 use Rattle.crash_core.specs.DeviceKeys.{object_key}
 use Rattle.crash_core.specs.MountedObject.{object_of, object_or_damaged}
 use Rattle.history_seats.specs.Records.{Version}
-use Rattle.suppositions.specs.Spellings.{IsReal, block_of, object_spelt, page_spelt, spelled, spelled_if, wrap_of}
+use Rattle.suppositions.specs.Spellings.{IsReal, block_of, object_spelt, page_spelt, spelled, spelled_if}
 use Rattle.suppositions.specs.Images.{version_of_image}
 
 module _ (keys : Keys) (image : List ℕ) (root : RootRef) (app : List ℕ) (size attributes : ℕ) where

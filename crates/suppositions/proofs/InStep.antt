@@ -1,8 +1,7 @@
 -- A map that is in step with entries and versions, after the same or after a change of one object.
-use Rattle.std.proofs.Common.{◌≡◌, ◌⊎◌, ℕ, Bool, true, false, true≢false, cond, List, [], ◌∷◌, Option, Some, None, option_map, IsSome, find, refl, sym, ap, ◌∙◌, subst, is_eq}
+use Rattle.std.proofs.Common.{◌≡◌, Bool, true, false, true≢false, cond, List, Option, Some, None, option_map, IsSome, find, refl, sym, ap, ◌∙◌, subst}
 use Rattle.hmac_keys.specs.declared.Keys.{Keys}
 use Rattle.store_model.specs.declared.name.ObjectName.{ObjectName}
-use Rattle.store_model.specs.Name.{name_cmp}
 use Rattle.store_model.specs.Object.{Object, ObjectMap, changed_object, object_at}
 use Rattle.store_model.specs.Standing.{Standing}
 use Rattle.store_model.proofs.Maps.{at}

@@ -21,3 +21,6 @@ pub mod Rewrites
 pub mod CommitEnds
 pub mod EntryNames
 pub mod CallSteps
+pub mod CallSessions
+pub mod ChangeCalls
+pub mod StagedChanges

@@ -1,18 +1,12 @@
 -- A commit that changes an object in place, made or in doubt, keeps the map in step where it gives its version the object that the machine's
 -- does.
-use Rattle.std.proofs.Common.{◌≡◌, ◌==◌, ◌&&◌, ◌||◌, ℕ, Bool, true, false, true≢false, cond, List, [], ◌∷◌, ◌++◌, Option, Some, None, IsSome, unwrap_or, slice_index_or, refl, sym, ap, ◌∙◌, subst, inl, inr, is_eq}
+use Rattle.std.proofs.Common.{◌≡◌, ◌==◌, ◌&&◌, ℕ, Bool, true, false, cond, List, [], ◌∷◌, ◌++◌, Option, Some, None, IsSome, unwrap_or, slice_index_or, refl, sym, ap, ◌∙◌, subst, inl, inr}
 use Rattle.std.proofs.lemmas.Bool.{and_parts, cases_Bool, cond-true, eq-eqb, eqb-true}
-use Rattle.std.specs.Prelude.{find}
-use Rattle.std.specs.List.{list_any}
 use Rattle.tee_types.specs.declared.call.Call.{Call}
 use Rattle.tee_types.specs.declared.call.Call.TheVariants.{Truncate, Write}
-use Rattle.tee_types.specs.declared.reply.Reply.{Reply}
 use Rattle.store_model.specs.declared.name.ObjectName.{ObjectName}
-use Rattle.store_model.specs.declared.event.Event.{Event}
-use Rattle.store_model.specs.declared.event.Event.TheVariants.{Call as CallEvent}
-use Rattle.store_model.specs.declared.event.Mark.{Mark}
-use Rattle.store_model.specs.declared.event.Mark.TheVariants.{Unchanged, Made, Doubtful}
-use Rattle.store_model.specs.Object.{ObjectMap, changed_object}
+use Rattle.store_model.specs.declared.event.Mark.TheVariants.{Made, Doubtful}
+use Rattle.store_model.specs.Object.{changed_object}
 use Rattle.store_model.specs.Machine.{MachineState}
 use Rattle.store_model.specs.Calls.{state_after}
 use Rattle.store_model.specs.Doubt.{Doubt}
@@ -21,10 +15,10 @@ use Rattle.store_model.specs.Record.{Tag}
 use Rattle.store_model.specs.Standing.{Standing, standing_after_call, standing_landed}
 use Rattle.store_model.proofs.Maps.{at}
 use Rattle.history_seats.specs.Records.{HistoryRecord, Version, is_object}
-use Rattle.history_seats.specs.Mounts.{Entry, Mounted}
+use Rattle.history_seats.specs.Mounts.{Entry}
 use Rattle.history_seats.specs.Settling.{Pending, as_landed}
 use Rattle.history_seats.specs.Versions.{is_entry_of, version_of}
-use Rattle.history_seats.specs.Directory.{directory_of, entries_committed, entries_marked, given_version, has_entry}
+use Rattle.history_seats.specs.Directory.{entries_committed, given_version, has_entry}
 use Rattle.history_seats.specs.CommitLaws.{GivesInDoubt, GivesMade}
 use Rattle.history_seats.specs.Tags.{HasRightTag}
 use Rattle.history_seats.proofs.Givens.{directory-snoc}
@@ -33,7 +27,7 @@ use Rattle.history_seats.proofs.Lists.{both_true, or_left, or_right}
 use Rattle.suppositions.specs.Guesses.{Guess, object_under}
 use Rattle.suppositions.specs.Shown.{IsPartial}
 use Rattle.suppositions.specs.Stores.{Store, entries_at, entry_named, standing_at}
-use Rattle.suppositions.specs.Mapped.{AreApart, IsInStep, IsMapped, IsMappedBoth, IsMappedLanded, landed_version}
+use Rattle.suppositions.specs.Mapped.{IsMappedBoth, landed_version}
 use Rattle.suppositions.specs.CommitLaws.{ChangesObject, changing_record}
 use Rattle.suppositions.proofs.Mending.{none_some, some_same}
 use Rattle.suppositions.proofs.Answers.{standing-snoc}

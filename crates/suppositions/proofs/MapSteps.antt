@@ -1,25 +1,22 @@
 -- Both readings of the map, over an event with mark Unchanged, over a landing, and where a doubt is dropped.
-use Rattle.std.proofs.Common.{◌≡◌, ◌≤◌, ◌==◌, ℕ, Bool, true, false, true≢false, cond, List, [], ◌∷◌, ◌++◌, Option, Some, None, unwrap_or, refl, sym, ap, ◌∙◌, subst, inl, inr, arith}
+use Rattle.std.proofs.Common.{◌≡◌, ◌≤◌, ℕ, Bool, true, false, true≢false, cond, List, [], ◌∷◌, ◌++◌, Option, Some, None, unwrap_or, refl, sym, ap, ◌∙◌, subst, inl, inr, arith}
 use Rattle.std.proofs.lemmas.Bool.{cases_Bool, cond-true, cond-false}
-use Rattle.tee_types.specs.declared.call.Call.{Call}
 use Rattle.tee_types.specs.declared.reply.Reply.{Reply}
 use Rattle.tee_types.specs.declared.reply.Reply.TheVariants.{Misuse, NotAvailable}
-use Rattle.store_model.specs.declared.name.ObjectName.{ObjectName}
 use Rattle.store_model.specs.declared.event.Event.{Event}
 use Rattle.store_model.specs.declared.event.Event.TheVariants.{Call as CallEvent, Landed}
 use Rattle.store_model.specs.declared.event.Mark.{Mark}
 use Rattle.store_model.specs.declared.event.Mark.TheVariants.{Unchanged, Made, Doubtful}
-use Rattle.store_model.specs.Object.{ObjectMap}
 use Rattle.store_model.specs.Machine.{MachineState}
 use Rattle.store_model.specs.Calls.{state_after}
 use Rattle.store_model.specs.Doubt.{Doubt, state_landed}
 use Rattle.store_model.specs.Record.{Tag, file_of}
-use Rattle.store_model.specs.Standing.{Standing, doubt_after, is_of_card, is_undone, keeps_doubt, standing_after, standing_after_call, standing_landed, state_unless_undone}
+use Rattle.store_model.specs.Standing.{Standing, doubt_after, is_undone, keeps_doubt, standing_after, standing_landed, state_unless_undone}
 use Rattle.history_seats.specs.Records.{HistoryRecord, Version, concerns_object}
-use Rattle.history_seats.specs.Mounts.{Entry, Mounted}
+use Rattle.history_seats.specs.Mounts.{Entry}
 use Rattle.history_seats.specs.Settling.{HasMark, IsOpenDoubt, Pending, as_landed, settled_by}
-use Rattle.history_seats.specs.Versions.{is_entry_of, version_after, version_of}
-use Rattle.history_seats.specs.Directory.{directory_of, given_version, has_entry}
+use Rattle.history_seats.specs.Versions.{version_after, version_of}
+use Rattle.history_seats.specs.Directory.{given_version, has_entry}
 use Rattle.history_seats.specs.Changes.{landing_of}
 use Rattle.history_seats.specs.EntryLaws.{IsLeft}
 use Rattle.history_seats.specs.Tags.{HasRightTag}
@@ -28,10 +25,10 @@ use Rattle.history_seats.proofs.GivenStays.{given-there, landing-gives, unchange
 use Rattle.history_seats.proofs.DoubtedEntries.{landed_entry}
 use Rattle.history_seats.proofs.OpenDoubts.{doubt-was-open}
 use Rattle.suppositions.specs.Guesses.{Guess}
-use Rattle.suppositions.specs.Stores.{Store, entries_at, entry_named, standing_at}
-use Rattle.suppositions.specs.Mapped.{IsInStep, IsMapped, IsMappedBoth, IsMappedLanded, landed_version}
+use Rattle.suppositions.specs.Stores.{Store, entries_at, standing_at}
+use Rattle.suppositions.specs.Mapped.{IsMappedBoth, landed_version}
 use Rattle.suppositions.specs.MapLaws.{DropsKeepMaps, LandingsKeepMaps}
-use Rattle.suppositions.proofs.Mending.{none_some, some_same}
+use Rattle.suppositions.proofs.Mending.{none_some}
 use Rattle.suppositions.proofs.Answers.{standing-snoc}
 use Rattle.suppositions.proofs.InStep.{in_step_same}
 

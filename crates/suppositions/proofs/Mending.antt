@@ -1,21 +1,19 @@
 -- What a supposition leaves of a version: it has less damage, or the same.
-use Rattle.std.proofs.Common.{◌≡◌, ◌⊎◌, ◌+◌, ◌-◌, ◌*◌, ◌/◌, ◌%◌, ◌==◌, ◌<◌, ◌≤◌, ℕ, Bool, true, false, true≢false, cond, List, length, get_or, take, map, Option, Some, None, option_map, IsSome, Result, Ok, Err, Contains, refl, sym, ap, ◌∙◌, subst, inl, inr, arith}
+use Rattle.std.proofs.Common.{◌≡◌, ◌⊎◌, ◌+◌, ◌-◌, ◌*◌, ◌/◌, ◌%◌, ◌==◌, ◌<◌, ◌≤◌, ℕ, Bool, true, false, true≢false, cond, List, length, get_or, take, Option, Some, None, option_map, IsSome, Result, Ok, Err, Contains, refl, sym, ap, ◌∙◌, subst, inl, inr, arith}
 use Rattle.std.specs.List.{list_any}
-use Rattle.std.specs.Prelude.{nat_eq, unwrap_or}
+use Rattle.std.specs.Prelude.{nat_eq}
 use Rattle.std.proofs.lemmas.Bool.{cases_lt, eq-eqb, eqb-true}
 use Rattle.std.proofs.lemmas.Cmp.{nat_eq_equiv}
 use Rattle.std.proofs.lemmas.List.{get_or_past}
 use Rattle.std.proofs.lemmas.Map.Views.{Contains-from_any, list_any-from_Contains}
-use Rattle.node_image.specs.declared.node.RootRef.{RootRef}
 use Rattle.node_image.specs.Tables.{at_node}
-use Rattle.node_image.specs.Selection.{row}
 use Rattle.node_image.proofs.Matching.{length-row, row_at}
 use Rattle.htree_file.specs.declared.fault.TreeFault.{TreeFault}
 use Rattle.htree_file.specs.Opening.{Loaded}
 use Rattle.htree_file.specs.Pages.{Opened, page_of}
 use Rattle.page_bytes.specs.Pages.{bytes_from, byte_at, byte_in, page_at}
 use Rattle.page_bytes.proofs.Content.{get_or-bytes_from, length-bytes_from}
-use Rattle.store_model.specs.Object.{Contents, Damaged, Object, Sound, size_of}
+use Rattle.store_model.specs.Object.{Damaged, Object, Sound, size_of}
 use Rattle.store_model.specs.Damage.{HasFewerBad, HasLessDamage}
 use Rattle.store_model.specs.Data.{meets_block}
 use Rattle.hmac_keys.specs.declared.Keys.{Keys}

@@ -1,14 +1,13 @@
 -- From a fair history to one whose events are answered, and to a legal one.
-use Rattle.std.proofs.Common.{◌≡◌, ◌⊎◌, ℕ, List, [], ◌∷◌, ◌++◌, Option, Some, None, Contains, refl, sym, ap, ◌∙◌, subst, inl, inr, append_assoc, append-nil}
+use Rattle.std.proofs.Common.{◌≡◌, ◌⊎◌, ℕ, List, [], ◌∷◌, ◌++◌, Option, Some, None, Contains, refl, sym, ◌∙◌, subst, inl, inr, append_assoc, append-nil}
 use Rattle.store_model.specs.Record.{file_of}
 use Rattle.store_model.specs.Legal.{IsLegalFrom}
-use Rattle.store_model.specs.Standing.{Standing, standing_after}
+use Rattle.store_model.specs.Standing.{Standing}
 use Rattle.history_seats.specs.Records.{HistoryRecord}
-use Rattle.history_seats.specs.SessionLaws.{AreLandingsDue}
 use Rattle.suppositions.specs.Guesses.{Guess}
 use Rattle.suppositions.specs.Stores.{Store, standing_at, start_under}
 use Rattle.suppositions.specs.Answered.{AreAnswered, AreFair, AreOwnLegal, HasNoClash, IsAnsweredAt, IsEnded}
-use Rattle.suppositions.specs.Shown.{IsClashedAt, IsEndAt}
+use Rattle.suppositions.specs.Shown.{IsEndAt}
 use Rattle.suppositions.proofs.Mending.{none_some, some_same}
 use Rattle.suppositions.proofs.Answers.{answered-snoc, nothing-answered, standing-snoc}
 

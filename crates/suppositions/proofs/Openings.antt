@@ -1,20 +1,17 @@
 -- A phase opens with a map that is in step with the mount, under each supposition; and it is the mount's map altered back.
-use Rattle.std.proofs.Common.{◌≡◌, ◌⊎◌, ◌==◌, ◌&&◌, ℕ, Bool, true, false, true≢false, cond, List, [], ◌∷◌, map, find, Option, Some, None, option_map, refl, sym, ap, ◌∙◌, subst, inl, inr, is_eq, All, Contains}
-use Rattle.std.proofs.lemmas.Bool.{and_parts, cases_Bool, cond-false, cond-true, eq-eqb, eqb-true}
-use Rattle.std.specs.Map.{lookup}
-use Rattle.hmac_keys.specs.declared.Keys.{Keys}
+use Rattle.std.proofs.Common.{◌≡◌, ◌==◌, ◌&&◌, ℕ, Bool, true, false, cond, List, [], ◌∷◌, map, find, Option, Some, None, option_map, refl, sym, ap, ◌∙◌, is_eq}
+use Rattle.std.proofs.lemmas.Bool.{cond-false, cond-true, eq-eqb}
 use Rattle.store_model.specs.declared.name.ObjectName.{ObjectName}
 use Rattle.store_model.specs.Name.{name_cmp}
 use Rattle.store_model.specs.Object.{Object, ObjectMap, object_at}
 use Rattle.store_model.proofs.Maps.{at}
 use Rattle.store_model.proofs.MapLaws.{alike}
-use Rattle.history_seats.specs.Records.{HistoryRecord, Version}
-use Rattle.history_seats.specs.Mounts.{Entry, Mounted, MountedEntry}
+use Rattle.history_seats.specs.Mounts.{Entry, MountedEntry}
 use Rattle.history_seats.specs.Versions.{is_entry_of, version_among}
 use Rattle.history_seats.specs.Directory.{given_version, has_entry}
 use Rattle.suppositions.specs.Guesses.{Guess, object_under}
-use Rattle.suppositions.specs.Stores.{OpensMounted, Store, entry_named, mounted_named, object_for, objects_under, standing_at}
-use Rattle.suppositions.specs.Mapped.{IsMapped, IsMappedBoth, object_by}
+use Rattle.suppositions.specs.Stores.{OpensMounted, Store, entry_named, mounted_named, object_for, objects_under}
+use Rattle.suppositions.specs.Mapped.{IsMappedBoth, object_by}
 use Rattle.suppositions.specs.MapLaws.{AreMountedApart}
 use Rattle.suppositions.proofs.Mending.{none_some, some_same}
 use Rattle.suppositions.proofs.MapCommits.{has_named}

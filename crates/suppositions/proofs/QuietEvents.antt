@@ -1,26 +1,25 @@
 -- An answered event that commits nothing leaves the objects.
-use Rattle.std.proofs.Common.{◌≡◌, ℕ, Bool, true, false, List, [], ◌∷◌, ◌++◌, Option, Some, None, refl, sym, ap, ◌∙◌, subst, inl, inr}
+use Rattle.std.proofs.Common.{◌≡◌, ℕ, Bool, true, false, List, [], ◌∷◌, ◌++◌, Option, refl, sym, ap, ◌∙◌, subst, inl, inr}
 use Rattle.tee_types.specs.declared.call.Call.{Call}
 use Rattle.tee_types.specs.declared.call.Call.TheVariants.{Info, Open, Read}
 use Rattle.tee_types.specs.declared.reply.Reply.{Reply}
-use Rattle.tee_types.specs.declared.reply.Reply.TheVariants.{Content, Handle as HandleReply, Info as InfoReply}
+use Rattle.tee_types.specs.declared.reply.Reply.TheVariants.{Handle as HandleReply}
 use Rattle.store_model.specs.declared.event.Event.{Event}
 use Rattle.store_model.specs.declared.event.Event.TheVariants.{Call as CallEvent, Landed}
 use Rattle.store_model.specs.declared.event.Mark.{Mark}
 use Rattle.store_model.specs.declared.event.Mark.TheVariants.{Unchanged}
-use Rattle.store_model.specs.Object.{ObjectMap}
 use Rattle.store_model.specs.Machine.{MachineState}
 use Rattle.store_model.specs.Calls.{is_commit, reply_of, state_after}
 use Rattle.store_model.specs.Legal.{IsLegalCall, IsLegalEvent}
 use Rattle.store_model.specs.Record.{file_of}
-use Rattle.store_model.specs.Standing.{Standing, is_undone, standing_after, standing_after_call, state_unless_undone}
+use Rattle.store_model.specs.Standing.{Standing, is_undone, standing_after, standing_after_call}
 use Rattle.store_model.proofs.QuietCalls.{others_keep_maps, unchanged_maps_stay}
 use Rattle.history_seats.specs.Records.{HistoryRecord}
 use Rattle.history_seats.specs.Settling.{HasMark}
 use Rattle.suppositions.specs.Spellings.{Spelling}
 use Rattle.suppositions.specs.Given.{DiffersInBytes, Tells, spelling_given}
 use Rattle.suppositions.specs.Guesses.{Guess}
-use Rattle.suppositions.specs.Shown.{IsClashedAt, IsGivenAt, IsToldAt, meant_at}
+use Rattle.suppositions.specs.Shown.{IsClashedAt, meant_at}
 use Rattle.suppositions.specs.Stores.{Store, standing_at}
 use Rattle.suppositions.specs.Answered.{IsAnsweredAt}
 use Rattle.suppositions.specs.MapLaws.{UnchangedEventsKeepMaps}

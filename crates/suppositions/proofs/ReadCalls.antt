@@ -1,8 +1,7 @@
 -- What the machine answers to a Read and an Info by a live handle.
-use Rattle.std.proofs.Common.{◌≡◌, ◌+◌, ℕ, Bool, true, false, List, [], ◌∷◌, length, Option, Some, None, refl, sym, ap, ◌∙◌, subst}
+use Rattle.std.proofs.Common.{◌≡◌, ◌+◌, ℕ, Bool, true, false, List, [], ◌∷◌, length, Option, Some, refl, sym, ap, ◌∙◌}
 use Rattle.std.specs.List.{list_any}
 use Rattle.tee_types.specs.declared.call.Call.TheVariants.{Info, Open, Read}
-use Rattle.tee_types.specs.declared.reply.Reply.{Reply}
 use Rattle.tee_types.specs.declared.reply.Reply.TheVariants.{Content, Corrupt, Handle as HandleReply, Info as InfoReply}
 use Rattle.tee_types.specs.declared.flags.Flags.{Flags}
 use Rattle.tee_types.specs.Rights.{has, read_bit}

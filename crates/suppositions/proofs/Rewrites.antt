@@ -1,6 +1,6 @@
 -- A change over what was given leaves what the machine's does, or what was given strays.
-use Rattle.std.proofs.Common.{◌≡◌, ◌⊎◌, ◌+◌, ◌-◌, ◌*◌, ◌/◌, ◌==◌, ◌||◌, ◌<◌, ◌≤◌, ℕ, Bool, true, false, true≢false, List, [], length, max, min, Option, Some, None, IsSome, Ok, refl, sym, ap, ◌∙◌, subst, inl, inr, arith}
-use Rattle.std.proofs.lemmas.Bool.{cases_Bool, cases_lt}
+use Rattle.std.proofs.Common.{◌≡◌, ◌⊎◌, ◌+◌, ◌*◌, ◌==◌, ◌<◌, ◌≤◌, ℕ, Bool, true, false, true≢false, List, [], length, max, min, Option, Some, None, IsSome, refl, sym, ap, ◌∙◌, subst, inl, inr, arith}
+use Rattle.std.proofs.lemmas.Bool.{cases_lt}
 use Rattle.tee_types.specs.declared.call.Call.TheVariants.{Truncate, Write}
 use Rattle.node_image.specs.Layout.{greatest_of}
 use Rattle.node_image.specs.Tables.{at_node}
@@ -17,27 +17,26 @@ use Rattle.disk_model.specs.Bytes.{after_resize, after_write}
 use Rattle.page_bytes.specs.Pages.{bytes_from, page_at}
 use Rattle.page_bytes.specs.Ranges.{meets, needs, resize_range, write_range}
 use Rattle.page_bytes.proofs.Content.{bytes-resized, bytes-written}
-use Rattle.store_model.specs.Object.{Contents, Damaged, Object, Sound}
+use Rattle.store_model.specs.Object.{Contents, Sound}
 use Rattle.store_model.specs.Data.{resized_contents, written_contents}
 use Rattle.crash_core.specs.MountedObject.{object_of}
 use Rattle.crash_core.proofs.ObjectChanges.{object_of-resized, object_of-written}
 use Rattle.history_seats.specs.Records.{Version}
 use Rattle.history_seats.proofs.Lists.{or_right}
-use Rattle.suppositions.specs.Spellings.{IsReal, Spelling, block_of, object_spelt, opened_spelt, page_spelt, pages_spelt, spelled_if, spelling_of, wrap_of}
+use Rattle.suppositions.specs.Spellings.{IsReal, Spelling, block_of, object_spelt, opened_spelt, page_spelt, pages_spelt, spelled_if, wrap_of}
 use Rattle.suppositions.specs.Guesses.{Guess, object_under, under}
-use Rattle.suppositions.specs.Clashes.{Clash, IsAlike, NodeClash}
+use Rattle.suppositions.specs.Clashes.{IsAlike}
 use Rattle.suppositions.specs.Given.{Gave, is_asked, spelling_given}
 use Rattle.suppositions.specs.Shown.{Strays}
 use Rattle.suppositions.specs.TreeLaws.{KeepsGood}
 use Rattle.suppositions.specs.WriteLaws.{IsMadeOver, TruncationsStandOrStray, WritesStandOrStray, spelled_next}
-use Rattle.suppositions.proofs.Mending.{none_some}
 use Rattle.suppositions.proofs.Standing.{keeps_own, key_under, unmet_page, verified_under}
 use Rattle.suppositions.proofs.SameTrees.{alike_trees}
 use Rattle.suppositions.proofs.Comparing.{compare, is_some_of, meets_from, search_all}
 use Rattle.suppositions.proofs.Undamaged.{asked_within, damaged_sound, sound_of}
 
 -- Each asked block is good, or one is bad.
-all_good : (asked : ℕ → Bool) (sp : Spelling) → ((k : ℕ) → k < length sp.tree.nodes → asked k ≡ true → IsSome (page_spelt sp k)) ⊎ ((k : ℕ) × (asked k ≡ true) × (page_spelt sp k ≡ None))
+pub all_good : (asked : ℕ → Bool) (sp : Spelling) → ((k : ℕ) → k < length sp.tree.nodes → asked k ≡ true → IsSome (page_spelt sp k)) ⊎ ((k : ℕ) × (asked k ≡ true) × (page_spelt sp k ≡ None))
 all_good asked sp = search_all (length sp.tree.nodes) (λ k. asked k ≡ true → IsSome (page_spelt sp k)) ((k : ℕ) × (asked k ≡ true) × (page_spelt sp k ≡ None)) (λ k lt. by_page k (page_spelt sp k) refl (asked k) refl)
   where
     by_page : (k : ℕ) (o : Option (List ℕ)) → page_spelt sp k ≡ o → (b : Bool) → asked k ≡ b → (asked k ≡ true → IsSome (page_spelt sp k)) ⊎ ((k : ℕ) × (asked k ≡ true) × (page_spelt sp k ≡ None))

@@ -1,12 +1,10 @@
 -- Two trees that are verified under one reference are alike, or two of their nodes clash.
-use Rattle.std.proofs.Common.{◌≡◌, ◌≢◌, ◌⊎◌, ◌+◌, ◌-◌, ◌*◌, ◌/◌, ◌<◌, ◌≤◌, ◌^◌, ◌==◌, ℕ, zero, suc, Bool, true, false, cond, List, ◌++◌, length, get_or, Option, Some, None, refl, sym, ap, ◌∙◌, inl, inr, arith, leb, subst, ext_get_or}
+use Rattle.std.proofs.Common.{◌≡◌, ◌⊎◌, ◌+◌, ◌-◌, ◌*◌, ◌/◌, ◌<◌, ◌≤◌, ◌==◌, ℕ, zero, suc, Bool, true, false, cond, List, ◌++◌, length, get_or, Option, Some, None, refl, sym, ap, ◌∙◌, inl, inr, arith, leb, subst, ext_get_or}
 use Rattle.std.proofs.lemmas.Bool.{cases_lt, cond-true, le-leb, leb-true, and_parts}
-use Rattle.std.specs.Int.{w16, from_be_bytes, to_be_bytes}
+use Rattle.std.specs.Int.{w16, from_be_bytes}
 use Rattle.std.proofs.lemmas.Nat.{from_be_bytes-to_be_bytes_2}
 use Rattle.std.specs.Str.{bytes_eq}
-use Rattle.sha2.specs.Sha256.{sha256}
 use Rattle.sha2.proofs.Facts256.{length-sha256}
-use Rattle.node_image.specs.declared.node.NodeImage.{NodeImage}
 use Rattle.node_image.specs.declared.node.RootRef.{RootRef}
 use Rattle.node_image.specs.declared.head.Head.{Head}
 use Rattle.node_image.specs.Layout.{greatest_of, is_sized}
@@ -14,7 +12,7 @@ use Rattle.node_image.specs.Tables.{at_node, no_node, stored_hash}
 use Rattle.node_image.specs.Hashes.{child_input, head_input}
 use Rattle.htree_file.specs.Opening.{IsVerified, Loaded}
 use Rattle.htree_file.proofs.SameBytes.{not_same, same_is}
-use Rattle.htree_file.proofs.Sizes.{sized_few, sized_greatest}
+use Rattle.htree_file.proofs.Sizes.{sized_few}
 use Rattle.suppositions.specs.Clashes.{HaveFlags, IsAlike, IsAlikeNode, NodeClash, input_at}
 use Rattle.suppositions.proofs.HashInputs.{SameFields, same_fields, same_heads, split}
 

@@ -1,5 +1,5 @@
 -- What a view tells of its session after the whole history, where that is answered, and what an event of its own leaves.
-use Rattle.std.proofs.Common.{◌≡◌, ◌<◌, ◌≤◌, ◌==◌, ℕ, Bool, true, false, true≢false, cond, List, [], ◌∷◌, ◌++◌, length, map, drop, Option, Some, None, is_some, refl, sym, ap, ◌∙◌, subst, inl, inr, arith, append_assoc, eq-eqb}
+use Rattle.std.proofs.Common.{◌≡◌, ◌<◌, ◌≤◌, ◌==◌, ℕ, Bool, true, false, true≢false, cond, List, [], ◌∷◌, ◌++◌, length, drop, Option, Some, None, is_some, refl, sym, ap, ◌∙◌, subst, inl, inr, arith, append_assoc, eq-eqb}
 use Rattle.std.proofs.lemmas.List.{length-map}
 use Rattle.store_model.specs.declared.event.Event.{Event}
 use Rattle.store_model.specs.declared.event.Event.TheVariants.{Call as CallEvent, Landed}
@@ -10,10 +10,10 @@ use Rattle.tee_types.specs.declared.reply.Reply.{Reply}
 use Rattle.store_model.specs.Machine.{MachineState, Session, new_session, session_at}
 use Rattle.store_model.specs.Doubt.{Doubt, session_landed}
 use Rattle.store_model.specs.Record.{Tag, file_of}
-use Rattle.store_model.specs.Standing.{Standing, doubt_after, keeps_doubt, standing_after}
+use Rattle.store_model.specs.Standing.{Standing, keeps_doubt, standing_after}
 use Rattle.store_model.proofs.Sessions.{length-replay}
-use Rattle.history_seats.specs.Records.{HistoryRecord, Version, is_of_session}
-use Rattle.history_seats.specs.Settling.{HasMark, Pending, calm, dropped, is_landing, open_from, settled, settles, settling}
+use Rattle.history_seats.specs.Records.{HistoryRecord, Version}
+use Rattle.history_seats.specs.Settling.{HasMark, Pending, calm, dropped, is_landing, open_from, settled, settling}
 use Rattle.history_seats.specs.Sessions.{session_if_landed, session_of}
 use Rattle.history_seats.specs.SessionLaws.{AreLandingsDue, MayBeDropped}
 use Rattle.history_seats.specs.Known.{session_from}
@@ -26,7 +26,7 @@ use Rattle.suppositions.specs.Guesses.{Guess}
 use Rattle.suppositions.specs.Stores.{Store, standing_at, start_under}
 use Rattle.suppositions.specs.Answered.{AreAnswered, IsAnsweredAt}
 use Rattle.suppositions.specs.SessionLaws.{DoubtfulSessionsStand, MadeSessionsStand, UnchangedSessionsStand}
-use Rattle.suppositions.proofs.Answers.{answered-front, standing-snoc}
+use Rattle.suppositions.proofs.Answers.{standing-snoc}
 
 module _ (store : Store) (guess : Guess) where
   -- a phase has a session for each application

@@ -6,7 +6,6 @@ use Rattle.aes_block.specs.Cipher.{cipher}
 use Rattle.aes_block.specs.WrappedKey.{unwrapped_of}
 use Rattle.gcm_mode.specs.Gcm.{gcm_tag, gcm_text}
 use Rattle.node_image.specs.declared.node.NodeImage.{NodeImage}
-use Rattle.node_image.specs.declared.node.RootRef.{RootRef}
 use Rattle.node_image.specs.declared.head.Head.{Head}
 use Rattle.node_image.specs.Tables.{at_node}
 use Rattle.htree_file.specs.declared.fault.TreeFault.{TreeFault}

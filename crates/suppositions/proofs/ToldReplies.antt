@@ -1,5 +1,5 @@
 -- A reply that tells what an object's file gave is legal, or shows a clash, or the promises end there.
-use Rattle.std.proofs.Common.{◌≡◌, ◌⊎◌, ◌+◌, ◌-◌, ◌*◌, ◌==◌, ◌||◌, ◌<◌, ◌≤◌, ◌^◌, ℕ, Bool, true, false, true≢false, cond, List, [], ◌∷◌, length, min, take, Option, Some, None, IsSome, option_map, refl, sym, ap, ◌∙◌, subst, inl, inr, arith}
+use Rattle.std.proofs.Common.{◌≡◌, ◌⊎◌, ◌+◌, ◌-◌, ◌==◌, ◌<◌, ◌^◌, ℕ, Bool, true, false, true≢false, cond, List, length, min, take, Option, Some, None, IsSome, option_map, refl, sym, ap, ◌∙◌, subst, inl, inr, arith}
 use Rattle.std.specs.Option.{option_and_then}
 use Rattle.std.proofs.lemmas.Bool.{cases_Bool, eq-eqb, eqb-true}
 use Rattle.tee_types.specs.declared.call.Call.{Call}
@@ -12,22 +12,20 @@ use Rattle.aes_block.specs.WrappedKey.{unwrapped_of}
 use Rattle.node_image.specs.declared.head.Head.{Head}
 use Rattle.node_image.proofs.Matching.{row_at}
 use Rattle.htree_file.proofs.Sizes.{sized_few}
-use Rattle.htree_file.specs.Opening.{IsVerified, Loaded}
+use Rattle.htree_file.specs.Opening.{IsVerified}
 use Rattle.page_bytes.specs.Pages.{bytes_from, page_at}
 use Rattle.page_bytes.specs.Ranges.{meets}
 use Rattle.page_bytes.proofs.Content.{length-bytes_from}
 use Rattle.store_model.specs.declared.session.Handle.{Handle}
 use Rattle.store_model.specs.declared.event.Event.{Event}
 use Rattle.store_model.specs.declared.event.Event.TheVariants.{Call as CallEvent}
-use Rattle.store_model.specs.declared.event.Mark.{Mark}
 use Rattle.store_model.specs.declared.event.Mark.TheVariants.{Unchanged}
-use Rattle.store_model.specs.declared.name.ObjectName.{ObjectName}
 use Rattle.store_model.specs.Object.{Contents, Damaged, Object, Sound, object_at}
 use Rattle.store_model.specs.Machine.{handle_at, name_in, session_at}
 use Rattle.store_model.specs.Calls.{is_commit, reply_of}
 use Rattle.store_model.specs.Data.{bytes_at}
-use Rattle.store_model.specs.Files.{FileMap, IsFree, file_named, makes_object, object_named}
-use Rattle.store_model.specs.Legal.{Answered, IsFileOf, IsLegalEvent, IsTagged, counter_after, is_commit_due, mark_of, meant_by}
+use Rattle.store_model.specs.Files.{IsFree, file_named, makes_object, object_named}
+use Rattle.store_model.specs.Legal.{Answered, IsLegalEvent, IsTagged, counter_after, mark_of}
 use Rattle.store_model.specs.Record.{Tag, fault_in_reply, file_of}
 use Rattle.store_model.specs.Standing.{Standing}
 use Rattle.crash_core.specs.MountedObject.{contents_of, object_of, object_with}
@@ -37,20 +35,20 @@ use Rattle.history_seats.specs.Settling.{commits}
 use Rattle.history_seats.specs.Directory.{given_version}
 use Rattle.history_seats.proofs.Lists.{or_right, or_second}
 use Rattle.suppositions.specs.Spellings.{IsReal, Spelling, object_spelt, opened_spelt, page_spelt, pages_spelt, wrap_of}
-use Rattle.suppositions.specs.Guesses.{Guess, object_under, under}
-use Rattle.suppositions.specs.Clashes.{BlocksClash, Clash, IsAlike, NodeClash}
-use Rattle.suppositions.specs.Stores.{Store, entries_at, entry_named, standing_at}
+use Rattle.suppositions.specs.Guesses.{Guess, object_under}
+use Rattle.suppositions.specs.Clashes.{Clash, IsAlike, NodeClash}
+use Rattle.suppositions.specs.Stores.{Store, standing_at}
 use Rattle.suppositions.specs.Mapped.{IsMapped}
 use Rattle.suppositions.specs.Given.{DiffersInBytes, Tells, is_asked, position_by, position_of, spelling_given}
-use Rattle.suppositions.specs.Shown.{IsClashedAt, IsEndAt, IsGivenAt, IsLackingAt, IsToldAt, Lacks, asked_of, meant_at, stands_for}
-use Rattle.suppositions.specs.Answered.{IsAnsweredAt, IsLegalAt}
+use Rattle.suppositions.specs.Shown.{IsEndAt, IsGivenAt, IsToldAt, Lacks, asked_of, meant_at, stands_for}
+use Rattle.suppositions.specs.Answered.{IsAnsweredAt}
 use Rattle.suppositions.specs.ReadLaws.{IsAdmitted, IsOpening, ToldRepliesAreAnswered}
 use Rattle.suppositions.proofs.Mending.{none_some, some_same}
 use Rattle.suppositions.proofs.Standing.{key_under, verified_under}
 use Rattle.suppositions.proofs.SameTrees.{alike_trees}
 use Rattle.suppositions.proofs.InStep.{entry_object}
 use Rattle.suppositions.proofs.SessionSteps.{sessions_at}
-use Rattle.suppositions.proofs.Comparing.{at-pages, bad-at, compare, count-is, good-met, is_some_of, met-low, same-bytes, within}
+use Rattle.suppositions.proofs.Comparing.{bad-at, compare, count-is, good-met, is_some_of, met-low, same-bytes, within}
 use Rattle.suppositions.proofs.ReadCalls.{info-damaged, info-good, meets_bad, open-damaged, open-good, read-bad, read-damaged, read-good}
 
 -- what an object that is spelled out is, by the length of its tree and its first page
@@ -60,7 +58,7 @@ pub data SpeltCase (size attributes : ℕ) (sp : Spelling) : Type 0 where
   SpeltSound : sp.tree.head.length ≡ 4096 + size → (page : List ℕ) → page_spelt sp 0 ≡ Some page
       → object_of size attributes (opened_spelt sp) ≡ Sound (contents_of size attributes (pages_spelt sp) page) → SpeltCase size attributes sp
 
-spelt_case : (size attributes : ℕ) (sp : Spelling) → 0 < length sp.tree.nodes → page_at (pages_spelt sp) 0 ≡ page_spelt sp 0 → SpeltCase size attributes sp
+pub spelt_case : (size attributes : ℕ) (sp : Spelling) → 0 < length sp.tree.nodes → page_at (pages_spelt sp) 0 ≡ page_spelt sp 0 → SpeltCase size attributes sp
 spelt_case size attributes sp some first = by_length (sp.tree.head.length == 4096 + size) refl
   where
     by_page : (o : Option (List ℕ)) → page_at (pages_spelt sp) 0 ≡ o → (sp.tree.head.length == 4096 + size) ≡ true → SpeltCase size attributes sp

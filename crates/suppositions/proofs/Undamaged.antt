@@ -1,5 +1,5 @@
 -- Where nothing of a version is damaged, the promises end only at a clash.
-use Rattle.std.proofs.Common.{◌≡◌, ◌⊎◌, ◌+◌, ◌-◌, ◌*◌, ◌==◌, ◌||◌, ◌<◌, ◌≤◌, ℕ, zero, suc, Bool, true, false, true≢false, cond, List, [], ◌∷◌, length, Option, Some, None, Result, Ok, Err, refl, sym, ap, ◌∙◌, subst, inl, inr, arith}
+use Rattle.std.proofs.Common.{◌≡◌, ◌+◌, ◌*◌, ◌==◌, ◌||◌, ◌<◌, ℕ, zero, suc, Bool, true, false, true≢false, cond, List, [], length, Option, Some, None, Result, Ok, Err, refl, sym, ap, ◌∙◌, subst, inl, inr, arith}
 use Rattle.std.specs.List.{list_any}
 use Rattle.std.specs.Prelude.{nat_eq}
 use Rattle.std.proofs.lemmas.Bool.{cases_Bool, eq-eqb, eqb-true}
@@ -9,21 +9,20 @@ use Rattle.node_image.proofs.Matching.{length-row, row_at}
 use Rattle.htree_file.specs.declared.fault.TreeFault.{TreeFault}
 use Rattle.htree_file.specs.Opening.{IsVerified, Loaded}
 use Rattle.htree_file.specs.Pages.{Opened}
-use Rattle.htree_file.proofs.Sizes.{sized_few, sized_greatest}
+use Rattle.htree_file.proofs.Sizes.{sized_greatest}
 use Rattle.node_image.specs.Layout.{greatest_of}
 use Rattle.page_bytes.specs.Pages.{page_at}
-use Rattle.page_bytes.specs.Ranges.{meets, needs, resize_range, write_range}
-use Rattle.store_model.specs.Object.{Contents, Damaged, Object, Sound}
+use Rattle.store_model.specs.Object.{Contents, Damaged, Sound}
 use Rattle.hmac_keys.specs.declared.Keys.{Keys}
 use Rattle.crash_core.specs.MountedObject.{bad_blocks, contents_of, object_of, object_with}
 use Rattle.crash_core.proofs.BadBlocks.{list_any-bad-true}
 use Rattle.history_seats.specs.Records.{HistoryRecord, Version}
 use Rattle.suppositions.specs.Spellings.{IsReal, Spelling, block_of, object_spelt, opened_spelt, page_spelt, pages_spelt, spelled, spelled_if, spelling_of, wrap_of}
 use Rattle.suppositions.specs.Guesses.{Guess, under}
-use Rattle.suppositions.specs.Clashes.{Clash, NodeClash}
+use Rattle.suppositions.specs.Clashes.{Clash}
 use Rattle.suppositions.specs.Stores.{Store}
 use Rattle.suppositions.specs.Given.{is_asked, is_data_asked, spelling_given}
-use Rattle.suppositions.specs.Shown.{IsEndAt, IsGivenAt, IsLackingAt, IsWriteEndAt, Lacks, Strays, asked_of, stands_for}
+use Rattle.suppositions.specs.Shown.{IsEndAt, IsGivenAt, Lacks, Strays, asked_of, stands_for}
 use Rattle.suppositions.specs.EndLaws.{given_at}
 use Rattle.suppositions.proofs.Mending.{none_some, some_same}
 use Rattle.suppositions.proofs.Standing.{keeps_own}

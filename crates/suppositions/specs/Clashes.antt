@@ -1,6 +1,6 @@
 -- Two trees that are verified under one reference, with the ciphertexts that were read of them, and yet differ: a collision of SHA-256, or
 -- a forgery of AES-GCM.
-use Rattle.std.specs.Prelude.{◌≡◌, ◌≢◌, ◌⊎◌, ℕ, ◌+◌, ◌*◌, ◌==◌, ◌≤◌, ◌<◌, ◌^◌, List, length, cond, Bool, true, Option, Some, None}
+use Rattle.std.specs.Prelude.{◌≡◌, ◌≢◌, ◌⊎◌, ℕ, ◌+◌, ◌*◌, ◌==◌, ◌≤◌, ◌<◌, ◌^◌, List, length, cond, Bool, true, Some, None}
 use Rattle.std.specs.Int.{w16, to_be_bytes}
 use Rattle.sha2.specs.Sha256.{sha256}
 use Rattle.node_image.specs.declared.node.NodeImage.{NodeImage}

@@ -8,7 +8,6 @@ use Rattle.store_model.specs.declared.event.Mark.{Mark}
 use Rattle.store_model.specs.declared.event.Mark.TheVariants.{Made, Doubtful}
 use Rattle.store_model.specs.Object.{changed_object}
 use Rattle.store_model.specs.Calls.{state_after}
-use Rattle.store_model.specs.Record.{Tag}
 use Rattle.history_seats.specs.Records.{HistoryRecord, Version}
 use Rattle.history_seats.specs.Mounts.{Entry}
 use Rattle.history_seats.specs.Directory.{given_version}

@@ -13,7 +13,6 @@ use Rattle.store_model.specs.Object.{moved_object, with_object, without_object}
 use Rattle.store_model.specs.Machine.{name_in}
 use Rattle.store_model.specs.Calls.{state_after}
 use Rattle.store_model.specs.Files.{name_by}
-use Rattle.store_model.specs.Standing.{Standing}
 use Rattle.history_seats.specs.Records.{HistoryRecord, Version}
 use Rattle.history_seats.specs.Mounts.{Entry}
 use Rattle.history_seats.specs.Directory.{given_version}

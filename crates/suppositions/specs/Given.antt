@@ -1,5 +1,5 @@
 -- What a file gave for a call, whatever the file is: a tree that is verified under the version's reference, and good ciphertexts.
-use Rattle.std.specs.Prelude.{◌≡◌, ℕ, ◌+◌, ◌-◌, ◌==◌, ◌||◌, List, [], length, take, min, Bool, true, false, Option, Some, None, IsSome, ⊤}
+use Rattle.std.specs.Prelude.{◌≡◌, ℕ, ◌+◌, ◌-◌, ◌==◌, ◌||◌, List, length, take, min, Bool, true, false, Option, Some, None, IsSome, ⊤}
 use Rattle.tee_types.specs.declared.call.Call.{Call}
 use Rattle.tee_types.specs.declared.call.Call.TheVariants.{Info, Open, Read, Truncate, Write}
 use Rattle.tee_types.specs.declared.reply.Reply.{Reply}

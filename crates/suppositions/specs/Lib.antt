@@ -17,3 +17,5 @@ pub mod SessionLaws
 pub mod ReadLaws
 pub mod WriteLaws
 pub mod EntryLaws
+pub mod CallLaws
+pub mod ChangeLaws

@@ -1,6 +1,6 @@
 -- The map of objects is in step with the directory and with what stands for the versions: as it stands, and as it is once the commit in
 -- doubt landed.
-use Rattle.std.specs.Prelude.{◌≡◌, ◌≢◌, ℕ, List, Option, Some, None, if◌then◌else◌, option_map, true}
+use Rattle.std.specs.Prelude.{◌≡◌, ℕ, List, Option, Some, None, if◌then◌else◌, option_map, true}
 use Rattle.std.specs.Ordering.{is_eq}
 use Rattle.hmac_keys.specs.declared.Keys.{Keys}
 use Rattle.store_model.specs.declared.name.ObjectName.{ObjectName}

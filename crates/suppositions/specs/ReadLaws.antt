@@ -1,5 +1,5 @@
 -- Freshness in a history: a reply that tells what an object's file gave is answered, or the promises end there.
-use Rattle.std.specs.Prelude.{◌≡◌, ◌⊎◌, ◌<◌, ◌^◌, ℕ, Bool, true, false, not, ◌||◌, List, length, Option, Some}
+use Rattle.std.specs.Prelude.{◌≡◌, ◌⊎◌, ◌<◌, ◌^◌, ℕ, true, false, not, ◌||◌, List, length, Some}
 use Rattle.tee_types.specs.declared.call.Call.{Call}
 use Rattle.tee_types.specs.declared.call.Call.TheVariants.{Info, Open, Read}
 use Rattle.tee_types.specs.declared.reply.Reply.{Reply}

@@ -1,5 +1,5 @@
 -- What an event shows of its object's file beside what a supposition has of it: a clash, or an end of the promises under the supposition.
-use Rattle.std.specs.Prelude.{◌≡◌, ◌⊎◌, ◌≢◌, ℕ, ◌+◌, List, Bool, true, Option, Some, None, ⊤}
+use Rattle.std.specs.Prelude.{◌≡◌, ◌⊎◌, ℕ, List, Bool, true, Option, Some, None, ⊤}
 use Rattle.tee_types.specs.declared.call.Call.{Call}
 use Rattle.tee_types.specs.declared.call.Call.TheVariants.{Truncate, Write}
 use Rattle.tee_types.specs.declared.reply.Reply.{Reply}
@@ -12,7 +12,6 @@ use Rattle.store_model.specs.declared.event.Mark.TheVariants.{Unchanged}
 use Rattle.store_model.specs.Files.{object_named}
 use Rattle.store_model.specs.Legal.{meant_by}
 use Rattle.store_model.specs.Record.{Tag}
-use Rattle.store_model.specs.Standing.{Standing}
 use Rattle.history_seats.specs.Records.{HistoryRecord, Version}
 use Rattle.history_seats.specs.Mounts.{Entry}
 use Rattle.history_seats.specs.Directory.{given_version}

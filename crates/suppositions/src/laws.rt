@@ -8,6 +8,8 @@ ghost use Rattle.suppositions.specs.Listings.{ListedEntriesAreApart, ListedEntri
 ghost use Rattle.suppositions.specs.ReadLaws.{ToldRepliesAreAnswered};
 ghost use Rattle.suppositions.specs.WriteLaws.{TruncationsStandOrStray, WritesStandOrStray};
 ghost use Rattle.suppositions.specs.EntryLaws.{CreatesKeepMaps, DeletesKeepMaps, RenamesKeepMaps};
+ghost use Rattle.suppositions.specs.CallLaws.{CallsExtendSessions, EntriesTagCalls, FreeFilesTagCreates, SessionsRenew};
+ghost use Rattle.suppositions.specs.ChangeLaws.{TruncationsAreDueOrEnd, WritesAreDueOrEnd};
 ghost use Rattle.suppositions.specs.SessionLaws.{SessionsAreApplications, ViewsTellSessions, CalmSessionsStand, UnchangedSessionsStand, MadeSessionsStand, DoubtfulSessionsStand};
 
 /// Two trees that are verified under one reference have one head and nodes that hash alike, or two of their nodes clash.
@@ -218,4 +220,35 @@ pub fn truncations_stand_or_stray()
 /// there under the supposition.
 pub fn told_replies_are_answered()
     ensures { ToldRepliesAreAnswered }
+{}
+
+/// The file of an object's entry is the right tag of a call on it that makes no object.
+pub fn entries_tag_calls()
+    ensures { EntriesTagCalls }
+{}
+
+/// A file that no entry has is the right tag of a call that makes an object.
+pub fn free_files_tag_creates()
+    ensures { FreeFilesTagCreates }
+{}
+
+/// A session that sees the whole history is the store's, as what is past its view settles it.
+pub fn sessions_renew()
+    ensures { SessionsRenew }
+{}
+
+/// Behind a call of its own a session is the store's, and its view extends the one before.
+pub fn calls_extend_sessions()
+    ensures { CallsExtendSessions }
+{}
+
+/// A write that was staged over what its object's file gave is the machine's commit, and its next version is what the machine leaves; or
+/// the promises end there under the supposition.
+pub fn writes_are_due_or_end()
+    ensures { WritesAreDueOrEnd }
+{}
+
+/// So is a truncation.
+pub fn truncations_are_due_or_end()
+    ensures { TruncationsAreDueOrEnd }
 {}
