@@ -29,17 +29,17 @@ pub fn made_are_versions()
     ensures { MadeAreVersions }
 {}
 
-/// Whatever the file is, the node of block 0 seals the attributes: of an object that is loaded,
+/// Whatever the file is, the node of block 0 of an object that is loaded seals its attributes.
 pub fn loaded_have_fronts()
     ensures { LoadedHaveFronts }
 {}
 
-/// of one that is made,
+/// So does that of an object that is made.
 pub fn made_have_fronts()
     ensures { MadeHaveFronts }
 {}
 
-/// and of one whose change is adopted.
+/// It does still once a change of the data is adopted.
 pub fn stages_keep_fronts()
     ensures { StagesKeepFronts }
 {}

@@ -1,5 +1,6 @@
 // Slots.
 ghost use Rattle.std.specs.Prelude.{◌≡◌, ◌⊎◌, ◌+◌, ◌≤◌, length, IfSome, IsSome, None, Some};
+ghost use Rattle.disk_model.specs.State.{Sound};
 ghost use Rattle.htree_file.specs.Opening.{IsVerified};
 ghost use Rattle.dir_records.specs.Form.{HasForm};
 ghost use Rattle.object_file.specs.Value.{size_in};
@@ -83,6 +84,7 @@ impl<F: StoreFile + Drop> Slot<F> {
         // What always holds of a slot.
         ensures own { IfSome self.now.seat (λ seat. seat.knows.file ≡ self.now.number) }
         ensures holding { IsHolding self.now.holds }
+        ensures sound { Sound self.now.file }
     {
         self.number
     }
