@@ -20,11 +20,13 @@ fn fills_with_zero(alloc: Global) -> anyhow::Result<bool> {
     let read = file.read_at(1, &mut into) == Ok(4);
     let sized = file.set_len(4) == Ok(()) && file.set_len(6) == Ok(());
     let bytes = file.save()?;
-    Ok(written
-        && read
-        && into == [0, 0, b'a', b'b', 9, 9, 9, 9]
-        && sized
-        && bytes.bytes() == [0, 0, 0, b'a', 0, 0].as_slice())
+    Ok(
+        written
+            && read
+            && into == [0, 0, b'a', b'b', 9, 9, 9, 9]
+            && sized
+            && bytes.bytes() == [0, 0, 0, b'a', 0, 0].as_slice(),
+    )
 }
 
 // What a crash leaves of 40 bytes that were written over and not settled, in the file of that number.

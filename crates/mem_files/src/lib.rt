@@ -8,4 +8,3 @@ mod memory;
 mod taint;
 
 pub use memory::MemFile;
-
