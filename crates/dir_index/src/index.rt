@@ -45,15 +45,15 @@ impl DirIndex {
         }
     }
 
-    /// Makes room for one more name, which takes memory only where there is none. The names stay as they are, and room
+    /// Makes room for so many names more, which takes memory only where there is none. The names stay as they are, and room
     /// that was there stays, also where there is no memory.
-    pub fn reserve(&mut self) -> Result<(), NoMemory>
-        ensures room { OnOk result (1 ≤ self.new.spare) }
-        ensures succeeds { 1 ≤ self.old.spare → IsOk result }
+    pub fn reserve(&mut self, count: usize) -> Result<(), NoMemory>
+        ensures room { OnOk result (count ≤ self.new.spare) }
+        ensures succeeds { count ≤ self.old.spare → IsOk result }
         ensures entries { self.new.entries ≡ self.old.entries }
         ensures spare { self.old.spare ≤ self.new.spare }
     {
-        self.entries.reserve(1)
+        self.entries.reserve(count)
     }
 
     /// How many names there are.

@@ -13,7 +13,7 @@ fn id(bytes: &[u8]) -> Result<ObjectId, Fail> {
 
 fn add(index: &mut DirIndex, app: AppId, bytes: &[u8], record: u16) -> Result<(), Fail> {
     let id = id(bytes)?;
-    index.reserve()?;
+    index.reserve(1)?;
     if index.find(app, id).is_none() {
         index.insert(app, id, record);
     }

@@ -16,7 +16,7 @@ use Rattle.tee_types.specs.declared.reply.Cause.TheVariants.{Fault, Frame, CardR
 use Rattle.tee_types.specs.declared.reply.Device.TheVariants.{Dir, File, Card, Entropy}
 use Rattle.store_commit.specs.declared.change.CardEnd.{CardEnd}
 use Rattle.store_commit.specs.declared.change.CardEnd.TheVariants.{Landed, Lost, Unknown}
-use Rattle.store_commit.specs.CardCauses.{AskCalm, AskCause, CardCalm, FaultIs, IsCardFault, IsOfFrame, PortCause}
+use Rattle.store_commit.specs.CardCauses.{AskCalm, AskCause, CardCalm, CardCounts, FaultIs, IsCardFault, IsOfFrame, PortCause}
 use Rattle.store_commit.specs.Causes.{IsDrawn, NoCard, NotDrawn, NotOfCard, StaysCalm}
 use Rattle.store_commit.specs.Prepared.{SideCause}
 use Rattle.store_commit.proofs.CardWrites.{next_card, write_done}
@@ -106,6 +106,28 @@ module _ (key : List ℕ) (counter : ℕ) (root : RootRef) (old mid new : PortSt
       of_frame (Fault device count) f = absurd f
       of_frame (Frame f) g = gone
       of_frame (CardResult f) g = gone
+
+-- the port's count at the end
+lost_count : (old mid new : PortState) (fault : HostFault) (cause : Cause) → FaultIs fault cause → FaultCounts old mid fault → new.faults ≡ mid.faults → CardCounts old new (Lost cause)
+lost_count old mid new (Failed count) cause is c same =
+    subst (λ (w : Cause). CardCounts old new (Lost w)) (sym is) (subst (λ (n : ℕ). Rose old.faults n) (sym same) c.0, c.1 ∙ sym same)
+lost_count old mid new (BadFrame f) cause is c same = subst (λ (w : Cause). CardCounts old new (Lost w)) (sym is) (same ∙ c)
+lost_count old mid new (RefusedBy r) cause is c same = subst (λ (w : Cause). CardCounts old new (Lost w)) (sym is) (same ∙ c)
+lost_count old mid new Spent cause is c same = absurd is
+
+frame_count : (old new : PortState) (why : Cause) → IsOfFrame why → old.faults ≤ new.faults → CardCounts old new (Unknown why)
+frame_count old new (Fault device count) of counted = absurd of
+frame_count old new (Frame f) of counted = counted
+frame_count old new (CardResult r) of counted = counted
+
+pub write_counts : (key : List ℕ) (counter : ℕ) (old mid new : PortState) (fault : HostFault) (cause : Cause) (end : CardEnd) → FaultIs fault cause → FaultCounts old mid fault
+    → old.faults ≤ mid.faults → mid.faults ≤ new.faults → AskCause key counter mid new cause end → CardCounts old new end
+write_counts key counter old mid new fault cause Landed is c first second asked = omega (arith, first, second)
+write_counts key counter old mid new fault cause (Lost why) is c first second asked =
+    subst (λ (w : Cause). CardCounts old new (Lost w)) (sym asked.1) (lost_count old mid new fault cause is c asked.0)
+write_counts key counter old mid new fault cause (Unknown why) is c first second (inl failed) =
+    subst (λ (w : Cause). CardCounts old new (Unknown w)) (sym failed.1) (then_rose old.faults mid.faults new.faults first failed.0, refl)
+write_counts key counter old mid new fault cause (Unknown why) is c first second (inr (none, of)) = frame_count old new why of (omega (arith, first, second))
 
 -- a cause of the port is no draw
 pub port_not_drawn : (key : List ℕ) (counter : ℕ) (old new : PortState) (cause : Cause) → PortCause key counter old new cause → NotDrawn cause

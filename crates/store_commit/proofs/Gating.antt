@@ -1,19 +1,21 @@
 -- The invariant of a gate, as a commit is made.
-use Rattle.std.proofs.Common.{◌≤◌, arith, ◌≡◌, ℕ, List, length, Option, None, sym, subst}
+use Rattle.std.proofs.Common.{◌≤◌, ◌+◌, ◌-◌, ◌∙◌, arith, ◌≡◌, ℕ, List, length, Option, Some, None, sym, ap, subst}
 use Rattle.dir_records.specs.declared.entry.DirEntry.{DirEntry}
-use Rattle.crash_core.specs.EntryChanges.{index_of}
+use Rattle.crash_core.specs.EntryChanges.{file_put, index_of}
 use Rattle.crash_core.specs.EntryLists.{entry_at}
 use Rattle.dir_index.specs.Index.{IndexState}
 use Rattle.store_commit.specs.declared.change.EntryChange.{EntryChange}
 use Rattle.store_commit.specs.declared.change.EntryChange.TheVariants.{Put, Clear}
 use Rattle.store_commit.specs.declared.gate.Doubted.{Doubted}
 use Rattle.store_commit.specs.Changes.{FitsIn, change_of, entries_after}
-use Rattle.store_commit.specs.Ends.{IsMade}
-use Rattle.store_commit.specs.Gates.{DoubtStands, IsGate, names_due}
-use Rattle.store_commit.specs.Holds.{AreHolds, EndsHoldOf}
+use Rattle.dir_file.specs.View.{DirView}
+use Rattle.store_commit.specs.Ends.{IsDoubted, IsMade}
+use Rattle.store_commit.specs.Gates.{DoubtStands, IsGate, file_in_doubt, names_due, room_left}
+use Rattle.store_commit.specs.Holds.{AreHolds, EndsHoldOf, IsTaken}
 use Rattle.store_commit.specs.NameIndex.{ChangesNames, IsIndexOf}
 use Rattle.store_commit.specs.Sides.{IsSettled, Sides}
 use Rattle.store_commit.proofs.HoldLists.{holds_after}
+use Rattle.store_commit.proofs.NameIndexes.{changed_most}
 
 -- the index after a change
 pub names_after : (entries : List (Option DirEntry)) (s t : IndexState) (before : Option DirEntry) (change : EntryChange) → length entries ≡ 256 → FitsIn entries change
@@ -25,8 +27,9 @@ names_after entries s t before (Clear index) whole fits at changes is = changes 
 pub changed_gate : (g h : Sides) (change : EntryChange) (d e : Option Doubted) (s t : IndexState) (old new : List (Option ℕ)) (before : Option DirEntry)
     → length g.dir.entries ≡ 256 → h.dir.entries ≡ entries_after g.dir.entries change → FitsIn g.dir.entries change
     → entry_at g.dir.entries (index_of (change_of change)) ≡ before → ChangesNames s t before change → EndsHoldOf change old new
-    → IsGate g d s old → DoubtStands h e → names_due t e ≤ t.spare → IsGate h e t new
-changed_gate g h change d e s t old new before whole entries fits at changes ends gate stands due = record {
+    → IsGate g d s old → DoubtStands h e → names_due t e ≤ t.spare → IsTaken h.dir.entries new (file_in_doubt e) → IsGate h e t new
+changed_gate g h change d e s t old new before whole entries fits at changes ends gate stands due taken = record {
+  taken = taken;
   stands = stands;
   due = due;
   names = subst (IsIndexOf t) (sym entries) (names_after g.dir.entries s t before change whole fits at changes gate.names);
@@ -43,3 +46,25 @@ made_gate g h change n d s t old new before none made fits at changes ends gate 
     changed_gate g h change d d s t old new before (settled_gate g d none gate.stands).entries.whole made.entries fits at changes ends gate
     (subst (DoubtStands h) (sym none) made.settled)
     (subst (λ (o : Option Doubted). names_due t o ≤ t.spare) (sym none) (omega arith))
+    (subst (λ (o : Option Doubted). IsTaken h.dir.entries new (file_in_doubt o)) (sym none) tt)
+
+-- a commit that is in doubt
+pub doubted_gate : (g h : Sides) (change : EntryChange) (n : ℕ) (o : Option Doubted) (s : IndexState) (holds : List (Option ℕ)) → o ≡ None → IsDoubted g h change n → FitsIn g.dir.entries change
+    → IsTaken g.dir.entries holds (file_put (change_of change)) → 1 ≤ room_left s o → IsGate g o s holds → IsGate h (Some (record { number = n; change = change })) s holds
+doubted_gate g h change n o s holds none doubted fits taken room gate =
+    let entries : h.dir.entries ≡ g.dir.entries = ap (λ (v : DirView). v.entries) doubted.same in
+    let left : 1 ≤ s.spare - 0 = subst (λ (x : Option Doubted). 1 ≤ room_left s x) none room in
+    let spare : 1 ≤ s.spare = omega (arith, left) in
+    record {
+      stands = record {
+        next = doubted.next;
+        stands = doubted.doubt;
+        entries = doubted.entries ∙ ap (λ (l : List (Option DirEntry)). entries_after l change) (sym entries);
+        fits = subst (λ (l : List (Option DirEntry)). FitsIn l change) (sym entries) fits;
+        number = doubted.number ∙ ap (λ (k : ℕ). k + 1) (sym doubted.counted);
+      };
+      names = subst (IsIndexOf s) (sym entries) gate.names;
+      due = let most = changed_most s change in omega (arith, most, spare);
+      held = subst (λ (l : List (Option DirEntry)). AreHolds l holds) (sym entries) gate.held;
+      taken = subst (λ (l : List (Option DirEntry)). IsTaken l holds (file_put (change_of change))) (sym entries) taken;
+    }

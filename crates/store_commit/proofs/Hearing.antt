@@ -40,7 +40,7 @@ last_stays old new frame (Ok answer) x k last =
     }
 
 -- what the host answers of a frame it made by the verdict
-told_err : {A : Type 0} (field : Frame → A) (r : Result Frame HostFault) (fault : HostFault) → (let x : Result A HostFault = Err fault in x ≡ told field r) → r ≡ Err fault
+pub told_err : {A : Type 0} (field : Frame → A) (r : Result Frame HostFault) (fault : HostFault) → (let x : Result A HostFault = Err fault in x ≡ told field r) → r ≡ Err fault
 told_err field (Ok f) fault is = absurd (cc (is))
 told_err field (Err e) fault is = let same : fault ≡ e = cc (is) in ap (λ (x : HostFault). let r : Result Frame HostFault = Err x in r) (sym same)
 

@@ -2,6 +2,7 @@
 use Rattle.std.proofs.Common.{◌≡◌, ◌≢◌, ◌⊎◌, ◌∙◌, ◌==◌, ◌<◌, ◌≤◌, ◌+◌, ℕ, zero, suc, replicate, Bool, true, false, List, length, Option, Some, None, if◌then◌else◌, refl, sym, ap, subst, inl, inr, arith}
 use Rattle.std.specs.Prelude.{slice_set}
 use Rattle.std.proofs.lemmas.Bool.{cases_eq, cases_lt, eq-eqb}
+use Rattle.std.proofs.Math.ListN.{length-set}
 use Rattle.std.proofs.lemmas.List.{get_or-set_other, get_or-set_same, get_or_past}
 use Rattle.dir_records.specs.declared.entry.DirEntry.{DirEntry}
 use Rattle.crash_core.specs.EntryLists.{IsUnnamed, entry_at}
@@ -9,7 +10,7 @@ use Rattle.crash_core.proofs.Lists.{set_at}
 use Rattle.store_commit.specs.declared.change.EntryChange.{EntryChange}
 use Rattle.store_commit.specs.declared.change.EntryChange.TheVariants.{Put, Clear}
 use Rattle.store_commit.specs.Changes.{entries_after}
-use Rattle.store_commit.specs.Holds.{AreHolds, EndsHoldOf, HoldsWithout, file_held, unless_file}
+use Rattle.store_commit.specs.Holds.{AreApart, AreHolds, EndsHoldOf, HoldsWithout, IsFreeFile, IsTaken, file_held, unless_file}
 
 -- what is held still was held, and is another file
 pub unless_was : (file other : ℕ) (o : Option ℕ) → unless_file file o ≡ Some other → (o ≡ Some other) × (other ≢ file)
@@ -91,3 +92,81 @@ no_holds entries n = record {
   unnamed = λ session file held. absurd (none_held n session file held);
   single = λ a b file x y. absurd (none_held n a file x);
 }
+
+-- who holds a file after a session's hold was set
+set_hold : (holds : List (Option ℕ)) (session s : ℕ) (more : Option ℕ) (file : ℕ) → file_held (slice_set holds session more) s ≡ Some file
+    → ((s ≡ session) × (more ≡ Some file)) ⊎ (file_held holds s ≡ Some file)
+set_hold holds session s more file is = elim (cases_eq s session) [
+  | inl same ↦ inl (same, at_session (cases_lt session (length holds)) (ap (file_held (slice_set holds session more)) (sym same) ∙ is))
+  | inr other ↦ inr (sym (get_or-set_other holds session s more None other) ∙ is)
+]
+  where
+    at_session : (session < length holds) ⊎ (length holds ≤ session) → file_held (slice_set holds session more) session ≡ Some file → more ≡ Some file
+    at_session (inl low) at = sym (get_or-set_same holds session more None low) ∙ at
+    at_session (inr high) at =
+        absurd (cc (sym (get_or_past (slice_set holds session more) session None (omega (arith, high, length-set holds session more))) ∙ at))
+
+-- a session holds no file any more
+pub released : (entries : List (Option DirEntry)) (holds : List (Option ℕ)) (session : ℕ) → AreHolds entries holds → AreHolds entries (slice_set holds session None)
+released entries holds session are = record {
+  within = λ s file held. are.within s file (was s file held);
+  unnamed = λ s file held. are.unnamed s file (was s file held);
+  single = λ a b file x y. are.single a b file (was a file x) (was b file y);
+}
+  where
+    was : (s file : ℕ) → file_held (slice_set holds session None) s ≡ Some file → file_held holds s ≡ Some file
+    was s file held = by_way (set_hold holds session s None file held)
+      where
+        by_way : ((s ≡ session) × (let none : Option ℕ = None in none ≡ Some file)) ⊎ (file_held holds s ≡ Some file) → file_held holds s ≡ Some file
+        by_way (inl own) = absurd (cc (own.1))
+        by_way (inr old) = old
+
+-- a session holds a free file besides
+pub reserved : (entries : List (Option DirEntry)) (holds : List (Option ℕ)) (session file : ℕ) → IsFreeFile entries holds file → AreHolds entries holds
+    → AreHolds entries (slice_set holds session (Some file))
+reserved entries holds session file free are = record {
+  within = λ s f held. within s f (set_hold holds session s (Some file) f held);
+  unnamed = λ s f held. unnamed s f (set_hold holds session s (Some file) f held);
+  single = λ a b f x y. single a b f (set_hold holds session a (Some file) f x) (set_hold holds session b (Some file) f y);
+}
+  where
+    within : (s f : ℕ) → ((s ≡ session) × (let some : Option ℕ = Some file in some ≡ Some f)) ⊎ (file_held holds s ≡ Some f) → f < 273
+    within s f (inl own) = let same : file ≡ f = cc (own.1) in subst (λ (n : ℕ). n < 273) same free.below
+    within s f (inr old) = are.within s f old
+
+    unnamed : (s f : ℕ) → ((s ≡ session) × (let some : Option ℕ = Some file in some ≡ Some f)) ⊎ (file_held holds s ≡ Some f) → IsUnnamed entries f
+    unnamed s f (inl own) = let same : file ≡ f = cc (own.1) in subst (IsUnnamed entries) same free.unnamed
+    unnamed s f (inr old) = are.unnamed s f old
+
+    single : (a b f : ℕ) → ((a ≡ session) × (let some : Option ℕ = Some file in some ≡ Some f)) ⊎ (file_held holds a ≡ Some f) → ((b ≡ session) × (let some : Option ℕ = Some file in some ≡ Some f)) ⊎ (file_held holds b ≡ Some f) → a ≡ b
+    single a b f (inl x) (inl y) = x.0 ∙ sym y.0
+    single a b f (inl x) (inr y) = let same : file ≡ f = cc (x.1) in absurd (free.unheld b (y ∙ ap (λ (n : ℕ). let o : Option ℕ = Some n in o) (sym same)))
+    single a b f (inr x) (inl y) = let same : file ≡ f = cc (y.1) in absurd (free.unheld a (x ∙ ap (λ (n : ℕ). let o : Option ℕ = Some n in o) (sym same)))
+    single a b f (inr x) (inr y) = are.single a b f x y
+
+-- what is taken stays so as a session holds a file more
+pub taken_more : (entries : List (Option DirEntry)) (holds : List (Option ℕ)) (session : ℕ) (more o : Option ℕ) → file_held holds session ≡ None
+    → IsTaken entries holds o → IsTaken entries (slice_set holds session more) o
+taken_more entries holds session more None free is = tt
+taken_more entries holds session more (Some file) free (inl named) = inl named
+taken_more entries holds session more (Some file) free (inr (other, held)) = inr (other, get_or-set_other holds session other more None apart ∙ held)
+  where
+    apart : other ≢ session
+    apart same = absurd (cc (sym held ∙ ap (file_held holds) same ∙ free))
+
+-- and as it holds no more a file that is another
+pub taken_fewer : (entries : List (Option DirEntry)) (holds : List (Option ℕ)) (session : ℕ) (o : Option ℕ) → AreApart (file_held holds session) o
+    → IsTaken entries holds o → IsTaken entries (slice_set holds session None) o
+taken_fewer entries holds session None apart is = tt
+taken_fewer entries holds session (Some file) apart (inl named) = inl named
+taken_fewer entries holds session (Some file) apart (inr (other, held)) = inr (other, get_or-set_other holds session other None None differ ∙ held)
+  where
+    differ : other ≢ session
+    differ same = let h : file_held holds session ≡ Some file = ap (file_held holds) (sym same) ∙ held in subst (λ (o : Option ℕ). AreApart o (Some file)) h apart refl
+
+-- a free file is not one that is taken
+pub free_apart : (entries : List (Option DirEntry)) (holds : List (Option ℕ)) (file : ℕ) (o : Option ℕ) → IsFreeFile entries holds file → IsTaken entries holds o → AreApart (Some file) o
+free_apart entries holds file None free taken is = absurd (cc (is))
+free_apart entries holds file (Some other) free (inl (index, e, at, same)) is =
+    let equal : other ≡ file = cc (is) in free.unnamed index e at (sym equal ∙ sym same)
+free_apart entries holds file (Some other) free (inr (session, held)) is = free.unheld session (held ∙ is)

@@ -14,6 +14,9 @@ pub mod Syncing
 pub mod Cards
 pub mod Mounted
 pub mod Formatting
+pub mod Counting
+pub mod Fitting
+pub mod Readings
 pub mod Indexing
 pub mod Marking
 pub mod Rearming

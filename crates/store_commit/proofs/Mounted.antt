@@ -1,7 +1,7 @@
 -- A gate that is mounted, and why one is not.
-use Rattle.std.proofs.Common.{◌≡◌, ◌⊎◌, ◌∙◌, ◌==◌, ℕ, Bool, true, false, List, Option, Some, None, Result, Ok, Err, IsTrue, refl, sym, ap, subst, inl, inr}
+use Rattle.std.proofs.Common.{◌≡◌, ◌⊎◌, ◌∙◌, ◌==◌, ℕ, Bool, true, false, List, [], Option, Some, None, Result, Ok, Err, IsTrue, refl, sym, ap, subst, inl, inr}
 use Rattle.std.specs.List.{list_all}
-use Rattle.disk_model.specs.State.{FileState}
+use Rattle.disk_model.specs.State.{FileState, pending}
 use Rattle.disk_model.specs.Calls.{Known}
 use Rattle.disk_model.specs.Keeps.{Anywhere, Keeps}
 use Rattle.node_image.specs.declared.node.RootRef.{RootRef}
@@ -35,6 +35,7 @@ use Rattle.dir_file.specs.Refusals.{DirDiffers}
 use Rattle.store_commit.specs.declared.fault.MountFault.{MountFault}
 use Rattle.store_commit.specs.declared.fault.MountFault.TheVariants.{NoStore, CardBlock, Directory, Frame, CardResult, Failed, Spent, NoMemory}
 use Rattle.store_commit.specs.Blocks.{block_answer, picture_of}
+use Rattle.store_commit.specs.Reads.{IsRootRead}
 use Rattle.store_commit.specs.Mounts.{CardRefused, MountDiffers, MountRefused, OpensGate, Tells, directory_answer}
 use Rattle.store_commit.specs.Sides.{IsSettled, Sides, sides}
 use Rattle.store_commit.proofs.Cards.{has_still}
@@ -42,7 +43,7 @@ use Rattle.store_commit.proofs.Outside.{root_other, root_zero}
 use Rattle.store_commit.proofs.Ending.{settled_pictures}
 
 -- what a block names that is answered as a root
-answer_root : (r : Result RootRef Refusal) (root : RootRef) → Ok root ≡ block_answer r → r ≡ Ok root
+pub answer_root : (r : Result RootRef Refusal) (root : RootRef) → Ok root ≡ block_answer r → r ≡ Ok root
 answer_root (Ok found) root is = let e : root ≡ found = cc (is) in ap (λ (x : RootRef). let r : Result RootRef Refusal = Ok x in r) (sym e)
 answer_root (Err refusal) root is = absurd (cc (is))
 
@@ -185,9 +186,11 @@ module _ (old : FileState) (p0 p1 : PortState) (keys : Keys) (k : List ℕ) (cou
         };
   }
 
-  pub gate_opens : Keeps Anywhere old s → (Known old s → s.reads ≡ old.reads) → IsSynced s → IsVerified root dir.tree → IsReadDirectory (directory_key keys) dir.tree (Ok dir.entries)
+  pub gate_opens : Keeps Anywhere old s → (Known old s → s.reads ≡ old.reads) → IsSynced s → pending s ≡ [] → IsRootRead (rpmb_key keys.huk) p0 p1 counter root → IsVerified root dir.tree → IsReadDirectory (directory_key keys) dir.tree (Ok dir.entries)
       → (Told old s → directory_of (directory_key keys) s.reads root ≡ Ok dir.entries) → OpensGate old p0 keys g
-  gate_opens keeps reads synced verified pages directory = record {
+  gate_opens keeps reads synced unwritten heard verified pages directory = record {
+    unwritten = unwritten;
+    heard = subst (λ (r : RootRef). IsRootRead (rpmb_key keys.huk) p0 p1 counter r) (sym root_is) heard;
     devices = record { keeps = keeps; reads = reads; card = stays };
     tsk_is = tsk_is;
     key_is = same_key;

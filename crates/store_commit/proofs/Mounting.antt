@@ -12,10 +12,14 @@ use Rattle.dir_records.specs.declared.entry.DirEntry.{DirEntry}
 use Rattle.crash_core.specs.Directory.{directory_of}
 use Rattle.dir_file.specs.Held.{IsHeld}
 
--- after a sync, calls that change nothing leave the file synced
+-- after a sync, calls that change nothing leave nothing pending
+pub rests_pending : (a b c : FileState) → Syncs a b → Rests b c → pending c ≡ []
+rests_pending a b c syncs rests = (λ i. spans_of (drop (rests.pending_from i) (rests.trail i))) ∙ synced_pending a b syncs
+
+-- and leave the file synced
 pub synced_rests : (a b c : FileState) → Syncs a b → Rests b c → IsSynced c
 synced_rests a b c syncs rests honest image left =
-    let none : pending c ≡ [] = (λ i. spans_of (drop (rests.pending_from i) (rests.trail i))) ∙ synced_pending a b syncs in
+    let none : pending c ≡ [] = rests_pending a b c syncs rests in
     let before : IsTrue b.honest = rests.goes_on.honest honest in
     (left honest).exact none ∙ rests.settled honest ∙ syncs.settled before ∙ sym (rests.reads (inl honest))
 

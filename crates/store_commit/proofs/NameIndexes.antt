@@ -1,5 +1,5 @@
 -- The index of names, as entries change.
-use Rattle.std.proofs.Common.{◌≡◌, ◌≢◌, ◌∙◌, ◌+◌, ◌<◌, ◌≤◌, ◌||◌, ◌==◌, ℕ, Bool, true, false, not, List, length, Option, Some, None, IsSome, is_none, is_some, Result, Ok, Err, OnOk, if◌then◌else◌, is_eq, refl, sym, ap, subst, inl, inr, arith}
+use Rattle.std.proofs.Common.{◌≡◌, ◌≢◌, ◌∙◌, ◌+◌, ◌<◌, ◌≤◌, ◌||◌, ◌==◌, ℕ, Bool, true, false, not, List, length, Option, Some, None, IsSome, is_none, if◌then◌else◌, is_eq, refl, sym, ap, subst, inl, inr, arith}
 use Rattle.std.specs.Prelude.{slice_set}
 use Rattle.std.proofs.lemmas.Bool.{and_parts, cases_eq, cases_lt}
 use Rattle.std.proofs.lemmas.List.{get_or_past, set-get_or, set-set}
@@ -26,14 +26,6 @@ room_kept (Some n) a b some none = let e = some refl in omega arith
 pub not_true : (b : Bool) → true ≡ not b → b ≡ false
 not_true true is = absurd (cc (is))
 not_true false is = refl
-
-pub none_of : (o : Option ℕ) → false ≡ is_some o → o ≡ None
-none_of None is = refl
-none_of (Some n) is = absurd (cc (is))
-
-pub ok_then : {A B : Type 0} (r : Result A B) (P Q : Type 0) → (P → Q) → OnOk r P → OnOk r Q
-ok_then (Ok x) P Q step holds = step holds
-ok_then (Err e) P Q step holds = tt
 
 pub not_not : (b : Bool) → false ≡ not b → b ≡ true
 not_not true is = refl
@@ -260,17 +252,3 @@ same_index s t entries same is = record {
   found = λ name i held. is.found name i (sym (same name) ∙ held);
   held = λ i e at. same (name_of e) ∙ is.held i e at;
 }
-
--- a name that was put in and taken out again
-pub in_and_out : (s m t : IndexState) (name : ObjectName) (index : ℕ) → index_at s name ≡ None
-    → ((other : ObjectName) → index_at m other ≡ (if is_eq (name_cmp other name) then Some index else index_at s other))
-    → ((other : ObjectName) → index_at t other ≡ (if is_eq (name_cmp other name) then None else index_at m other)) → HasSameNames s t
-in_and_out s m t name index none comes goes other = by_test (is_eq (name_cmp other name)) refl
-  where
-    by_test : (b : Bool) → is_eq (name_cmp other name) ≡ b → index_at t other ≡ index_at s other
-    by_test true alike =
-        goes other ∙ ap (λ (b : Bool). let o : Option ℕ = if b then None else index_at m other in o) alike
-        ∙ sym none ∙ ap (index_at s) (sym (alike_is other name alike))
-    by_test false alike =
-        goes other ∙ ap (λ (b : Bool). let o : Option ℕ = if b then None else index_at m other in o) alike
-        ∙ comes other ∙ ap (λ (b : Bool). let o : Option ℕ = if b then Some index else index_at s other in o) alike

@@ -81,7 +81,7 @@ module _ (f : FileState) (d : DirView) (p : PortState) (key : List ℕ) (counter
   stands (Some x) is = record { next = is.next; stands = in_doubt is.next is.stands; entries = is.entries; fits = is.fits; number = is.number }
 
   armed_gate : (o : Option Doubted) (index : IndexState) (holds : List (Option ℕ)) → IsGate g o index holds → IsGate h o index holds
-  armed_gate o index holds is = record { stands = stands o is.stands; names = is.names; due = is.due; held = is.held }
+  armed_gate o index holds is = record { stands = stands o is.stands; names = is.names; due = is.due; held = is.held; taken = is.taken }
 
 -- the gate of the new file and port
 pub rearmed_gate : (f f1 : FileState) (d d1 : DirView) (p p1 : PortState) (k k1 : List ℕ) (counter : ℕ) (o : Option Doubted) (index : IndexState) (holds : List (Option ℕ))

@@ -137,6 +137,7 @@ pub undone_gate : (g h : Sides) (o : Option Doubted) (d : Doubted) (n : ℕ) (in
 undone_gate g h o d n index old new gate undone ends =
     let entries : h.dir.entries ≡ g.dir.entries = ap (λ (v : DirView). v.entries) undone.same in
     record {
+      taken = tt;
       stands = undone.settled;
       due = omega arith;
       names = subst (IsIndexOf index) (sym entries) gate.names;

@@ -1,5 +1,5 @@
 -- The causes that the card's part of a commit gives.
-use Rattle.std.specs.Prelude.{◌≡◌, ◌⊎◌, ℕ, ◌+◌, List}
+use Rattle.std.specs.Prelude.{◌≡◌, ◌⊎◌, ◌≤◌, ℕ, ◌+◌, List}
 use Rattle.disk_model.specs.Faults.{Rose}
 use Rattle.rpmb_card.specs.Card.{CardState}
 use Rattle.rpmb_card.specs.Port.{PortState}
@@ -48,6 +48,14 @@ AskCause key counter old new cause (Lost why) = (new.faults ≡ old.faults) × (
 AskCause key counter old new cause (Unknown why) =
     (Rose old.faults new.faults × (why ≡ Fault Card new.faults))
     ⊎ (((card : CardState) → HasCard old key card → (card.counter ≡ counter) ⊎ (card.counter ≡ counter + 1) → ⊥) × IsOfFrame why)
+
+-- the port's count: a failure raised it and is carried; no other answer that was given up did
+abbrev pub CardCounts : (old new : PortState) → CardEnd → Type 0
+CardCounts old new Landed = old.faults ≤ new.faults
+CardCounts old new (Lost (Fault device count)) = Rose old.faults new.faults × (count ≡ new.faults)
+CardCounts old new (Lost cause) = new.faults ≡ old.faults
+CardCounts old new (Unknown (Fault device count)) = Rose old.faults new.faults × (count ≡ new.faults)
+CardCounts old new (Unknown cause) = old.faults ≤ new.faults
 
 -- over a calm port no count is a cause, and the counter read leaves the write's
 abbrev pub AskCalm : Cause → CardEnd → Type 0

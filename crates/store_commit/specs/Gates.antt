@@ -5,13 +5,14 @@ use Rattle.rpmb_card.specs.Port.{PortState}
 use Rattle.rpmb_host.specs.Calls.{HostState}
 use Rattle.open_table.specs.Table.{TableState}
 use Rattle.dir_index.specs.Index.{IndexState}
+use Rattle.crash_core.specs.EntryChanges.{file_put}
 use Rattle.dir_file.specs.View.{DirValue, StagedDirectory}
 use Rattle.store_commit.specs.declared.gate.Doubted.{Doubted}
 use Rattle.store_commit.specs.declared.change.CommitEnd.{CommitEnd}
 use Rattle.store_commit.specs.declared.change.CommitEnd.TheVariants.{Made, Dropped, Doubtful, Spent}
 use Rattle.store_commit.specs.declared.change.EntryChange.{EntryChange}
-use Rattle.store_commit.specs.Changes.{FitsIn, entries_after}
-use Rattle.store_commit.specs.Holds.{AreHolds, EndsHoldOf}
+use Rattle.store_commit.specs.Changes.{FitsIn, change_of, entries_after}
+use Rattle.store_commit.specs.Holds.{AreHolds, EndsHoldOf, IsTaken}
 use Rattle.store_commit.specs.NameIndex.{IsIndexOf, names_added}
 use Rattle.store_commit.specs.Sides.{IsInDoubt, IsSettled, Sides, sides}
 
@@ -43,6 +44,11 @@ abbrev pub DoubtStands : Sides → Option Doubted → Type 0
 DoubtStands g None = IsSettled g
 DoubtStands g (Some d) = IsDoubtOf g d
 
+-- the file that the commit in doubt puts, if one is and puts one
+abbrev pub file_in_doubt : Option Doubted → Option ℕ
+file_in_doubt None = None
+file_in_doubt (Some d) = file_put (change_of d.change)
+
 -- how many names the commit in doubt may bring
 abbrev pub names_due : IndexState → Option Doubted → ℕ
 names_due s None = 0
@@ -56,6 +62,8 @@ pub record IsGate (g : Sides) (doubt : Option Doubted) (index : IndexState) (hol
   pub names : IsIndexOf index g.dir.entries
   pub due : names_due index doubt ≤ index.spare
   pub held : AreHolds g.dir.entries holds
+  -- the file that the commit in doubt puts is an entry's, or held
+  pub taken : IsTaken g.dir.entries holds (file_in_doubt doubt)
 
 -- the doubt that a commit leaves
 abbrev pub doubt_left : EntryChange → CommitEnd → Option Doubted

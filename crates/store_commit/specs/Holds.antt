@@ -1,7 +1,7 @@
 -- The files that sessions hold: each session at most one, before an entry names it.
-use Rattle.std.specs.Prelude.{◌≡◌, ◌≢◌, ◌<◌, ◌≤◌, ◌==◌, if◌then◌else◌, ℕ, List, Option, Some, None, get_or}
+use Rattle.std.specs.Prelude.{◌≡◌, ◌≢◌, ◌⊎◌, ◌<◌, ◌≤◌, ◌==◌, if◌then◌else◌, ℕ, List, Option, Some, None, get_or}
 use Rattle.dir_records.specs.declared.entry.DirEntry.{DirEntry}
-use Rattle.crash_core.specs.EntryLists.{IsUnnamed}
+use Rattle.crash_core.specs.EntryLists.{IsUnnamed, entry_at}
 use Rattle.crash_core.specs.EntryChanges.{file_put}
 use Rattle.store_commit.specs.declared.change.EntryChange.{EntryChange}
 use Rattle.store_commit.specs.Changes.{change_of}
@@ -28,6 +28,21 @@ unless_file file (Some held) = if held == file then None else Some held
 -- all holds but those on that file
 abbrev pub HoldsWithout : (file : ℕ) → (old new : List (Option ℕ)) → Type 0
 HoldsWithout file old new = (session : ℕ) → file_held new session ≡ unless_file file (file_held old session)
+
+-- an entry names the file, or a session holds it
+abbrev pub IsFileTaken : (entries : List (Option DirEntry)) → (holds : List (Option ℕ)) → (file : ℕ) → Type 0
+IsFileTaken entries holds file =
+    ((index : ℕ) × (e : DirEntry) × (entry_at entries index ≡ Some e) × (e.file ≡ file)) ⊎ ((session : ℕ) × (file_held holds session ≡ Some file))
+
+-- the same of a file that may be none
+abbrev pub IsTaken : (entries : List (Option DirEntry)) → (holds : List (Option ℕ)) → Option ℕ → Type 0
+IsTaken entries holds None = Unit {0}
+IsTaken entries holds (Some file) = IsFileTaken entries holds file
+
+-- two files, each of which may be none, are not one file
+abbrev pub AreApart : Option ℕ → Option ℕ → Type 0
+AreApart None other = Unit {0}
+AreApart (Some file) other = other ≢ Some file
 
 -- the hold on the file that a change puts ends
 abbrev pub EndsHold : Option ℕ → (old new : List (Option ℕ)) → Type 0

@@ -13,6 +13,8 @@ pub mod Gates
 pub mod Resolving
 pub mod Noting
 pub mod Blocks
+pub mod Reads
+pub mod Counts
 pub mod Mounts
 pub mod Formats
 pub mod Marks

@@ -1,7 +1,7 @@
 -- What mounting a gate answers, of the directory's file and the card.
-use Rattle.std.specs.Prelude.{◌≡◌, ℕ, List, Ok, Err}
+use Rattle.std.specs.Prelude.{◌≡◌, ℕ, List, [], Ok, Err}
 use Rattle.disk_model.specs.Faults.{Rose}
-use Rattle.disk_model.specs.State.{FileState}
+use Rattle.disk_model.specs.State.{FileState, pending}
 use Rattle.disk_model.specs.Calls.{Known}
 use Rattle.disk_model.specs.Keeps.{Anywhere, Keeps}
 use Rattle.node_image.specs.declared.node.RootRef.{RootRef}
@@ -21,7 +21,7 @@ use Rattle.tee_types.specs.declared.reply.Cause.TheVariants.{Fault}
 use Rattle.tee_types.specs.declared.reply.Device.TheVariants.{Dir, Card, Entropy}
 use Rattle.crash_core.specs.declared.fault.DirFault.{DirFault}
 use Rattle.crash_core.specs.declared.fault.DirFault.TheVariants.{Tree}
-use Rattle.crash_core.specs.Refusal.{NoStore as BlankBlock, CardBlock as BadBlock, NoDirectory}
+use Rattle.crash_core.specs.Refusal.{Refusal, NoStore as BlankBlock, CardBlock as BadBlock, NoDirectory}
 use Rattle.crash_core.specs.CardBlock.{root_in}
 use Rattle.crash_core.specs.DeviceKeys.{directory_key}
 use Rattle.crash_core.specs.Mounting.{mounted_directory}
@@ -29,6 +29,7 @@ use Rattle.crash_core.specs.Pictures.{block_zero}
 use Rattle.store_commit.specs.declared.fault.MountFault.{MountFault}
 use Rattle.store_commit.specs.declared.fault.MountFault.TheVariants.{NoStore, CardBlock, Directory, Frame, CardResult, Failed, Spent, NoMemory}
 use Rattle.store_commit.specs.Blocks.{picture_of}
+use Rattle.store_commit.specs.Reads.{IsCardRead, IsReadRefused, IsRootRead}
 use Rattle.dir_file.specs.Loading.{IsReadDirectory}
 use Rattle.dir_file.specs.Refusals.{DirDiffers}
 use Rattle.store_commit.specs.Sides.{EachPicture, IsSettled, Sides}
@@ -87,6 +88,38 @@ abbrev pub MountDiffers : FileState → PortState → Keys → MountFault → Ty
 MountDiffers file p0 keys (Directory fault) = DiffersThere file p0 keys fault
 MountDiffers file p0 keys fault = Unit {0}
 
+-- What was heard of the card where a mount is refused, whatever the card is: the frame that was refused, or block 0 and why it is.
+pub record IsBlockRefused (key : List ℕ) (p0 p1 : PortState) (refusal : Refusal) : Type 0 where
+  pub counter : ℕ
+  pub block : List ℕ
+  pub read : IsCardRead key p0 p1 counter block
+  pub refused : root_in block ≡ Err refusal
+
+-- block 0 named a reference
+pub record HasRootRead (key : List ℕ) (p0 p1 : PortState) : Type 0 where
+  pub counter : ℕ
+  pub root : RootRef
+  pub read : IsRootRead key p0 p1 counter root
+
+-- and the directory of that reference is refused, by what the file reads as or by what a tree holds that is verified under it
+pub record IsDirectoryRefused (file : FileState) (p0 p1 : PortState) (keys : Keys) (fault : DirFault) : Type 0 where
+  pub counter : ℕ
+  pub root : RootRef
+  pub read : IsRootRead (rpmb_key keys.huk) p0 p1 counter root
+  pub differs : DirDiffers (directory_key keys) file root fault
+
+abbrev pub MountHeard : FileState → (p0 p1 : PortState) → Keys → MountFault → Type 0
+MountHeard file p0 p1 keys NoStore = IsBlockRefused (rpmb_key keys.huk) p0 p1 BlankBlock
+MountHeard file p0 p1 keys (CardBlock offset) = IsBlockRefused (rpmb_key keys.huk) p0 p1 (BadBlock offset)
+MountHeard file p0 p1 keys (Directory fault) = IsDirectoryRefused file p0 p1 keys fault
+MountHeard file p0 p1 keys (Frame fault) = IsReadRefused (rpmb_key keys.huk) p0 p1 (BadFrame fault)
+MountHeard file p0 p1 keys (CardResult result) = IsReadRefused (rpmb_key keys.huk) p0 p1 (RefusedBy result)
+MountHeard file p0 p1 keys (Failed (Fault Card count)) = IsReadRefused (rpmb_key keys.huk) p0 p1 (NoAnswer count)
+MountHeard file p0 p1 keys (Failed (Fault Dir count)) = HasRootRead (rpmb_key keys.huk) p0 p1
+MountHeard file p0 p1 keys (Failed cause) = Unit {0}
+MountHeard file p0 p1 keys Spent = ⊥
+MountHeard file p0 p1 keys NoMemory = HasRootRead (rpmb_key keys.huk) p0 p1
+
 -- What stands after a mount, refused or not: the card is as it was, and the calls of the directory's file were reads and at most one sync.
 pub record LeavesDevices (old new : FileState) (p0 p1 : PortState) : Type 0 where
   pub keeps : Keeps Anywhere old new
@@ -100,6 +133,10 @@ pub record OpensGate (old : FileState) (p0 : PortState) (keys : Keys) (g : Sides
   pub key_is : g.key ≡ rpmb_key keys.huk
   pub settled : IsSettled g
   pub synced : IsSynced g.file
+  -- of any file
+  pub unwritten : pending g.file ≡ []
+  -- what was heard of the card, whatever it is
+  pub heard : IsRootRead (rpmb_key keys.huk) p0 g.port g.counter g.dir.root
   pub verified : IsVerified g.dir.root g.dir.tree
   -- of any file: the entries are those of pages that the tree's nodes seal
   pub pages : IsReadDirectory (directory_key keys) g.dir.tree (Ok g.dir.entries)

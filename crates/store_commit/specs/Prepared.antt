@@ -58,10 +58,10 @@ pub record Prepares (settled : Bool) (old new : FileState) (was now : DirView) (
   pub synced : OnOk result (IsSyncedBehind settled old new was)
   pub stands : OnOk result (IsTrue new.honest → IsHeld old was.tsk was.root was.tree was.entries → IfSome now.stage (StageStands settled new was.tsk))
 
--- a count rose
+-- a count rose, and no other
 abbrev pub SideCause : (old new : FileState) → (drew draws : ℕ) → Cause → Type 0
-SideCause old new drew draws (Fault Dir count) = FileFailed old new count
-SideCause old new drew draws (Fault Entropy count) = Rose drew draws × (count ≡ draws)
+SideCause old new drew draws (Fault Dir count) = FileFailed old new count × (draws ≡ drew)
+SideCause old new drew draws (Fault Entropy count) = Rose drew draws × (count ≡ draws) × FilePassed old new
 SideCause old new drew draws (Fault Card count) = ⊥
 SideCause old new drew draws (Fault (File n) count) = ⊥
 SideCause old new drew draws (Frame fault) = ⊥

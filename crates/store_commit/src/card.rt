@@ -1,6 +1,6 @@
 //! The card's part of a commit.
 
-ghost use Rattle.std.specs.Prelude.{◌≡◌, ◌≢◌, IsTrue};
+ghost use Rattle.std.specs.Prelude.{◌≡◌, ◌≢◌, ◌≤◌, IsTrue};
 ghost use Rattle.rpmb_card.specs.Card.{CardState};
 ghost use Rattle.rpmb_card.specs.Protocol.{last_counter};
 ghost use Rattle.rpmb_host.specs.Honest.{HadCard, HasCard};
@@ -8,7 +8,7 @@ ghost use Rattle.rpmb_host.specs.declared.fault.HostFault.TheVariants.{Spent};
 ghost use Rattle.crash_core.specs.CardBlock.{root_block};
 ghost use Rattle.store_commit.specs.Causes.{StaysCalm};
 ghost use Rattle.store_commit.specs.CardEnds.{AskLeft, CardLeft};
-ghost use Rattle.store_commit.specs.CardCauses.{AskCalm, AskCause, CardCalm, FaultIs, IsCardFault};
+ghost use Rattle.store_commit.specs.CardCauses.{AskCalm, AskCause, CardCalm, CardCounts, FaultIs, IsCardFault};
 ghost use Rattle.store_commit.specs.Heard.{AskHeard, CardHeard, LastStays};
 
 use crate::change::CardEnd;
@@ -54,6 +54,7 @@ fn ask<R: RpmbPort>(host: &mut Host<R>, counter: u32, nonce: &[u8; 16], cause: C
     ensures heard { AskHeard host.old.key counter (R.state host.new.port) cause result }
     ensures calm { IsTrue (R.state host.old.port).calm → StaysCalm (R.state host.old.port) (R.state host.new.port) × AskCalm cause result }
     ensures stays { LastStays (R.state host.old.port) (R.state host.new.port) }
+    ensures counted { (R.state host.old.port).faults ≤ (R.state host.new.port).faults }
     ensures cause { AskCause host.old.key counter (R.state host.old.port) (R.state host.new.port) cause result }
 {
     match host.read_counter(nonce) {
@@ -90,6 +91,7 @@ pub fn write_root<R: RpmbPort>(
         HadCard (R.state host.old.port) host.old.key }
     ensures calm { IsTrue (R.state host.old.port).calm → StaysCalm (R.state host.old.port) (R.state host.new.port) × CardCalm result }
     ensures heard { CardHeard host.old.key counter (R.state host.new.port) result }
+    ensures counts { CardCounts (R.state host.old.port) (R.state host.new.port) result }
     ensures cause { IsCardFault host.old.key counter (R.state host.old.port) (R.state host.new.port) result }
 {
     let block = root_block(root);

@@ -7,6 +7,7 @@ ghost use Rattle.store_commit.specs.Sides.{IsSettled, sides};
 ghost use Rattle.store_commit.specs.Ends.{Leaves, Throughout};
 ghost use Rattle.store_commit.specs.Steps.{Steps};
 ghost use Rattle.store_commit.specs.Causes.{EndCause, EndIsDrawn, EndNotDrawn, EndNotOfCard, StaysCalm, counts};
+ghost use Rattle.store_commit.specs.Counts.{EndCounts};
 ghost use Rattle.store_commit.specs.Heard.{EndHeard};
 ghost use Rattle.store_commit.specs.Prepared.{DrawnCause};
 ghost use Rattle.store_commit.specs.declared.change.CommitEnd.TheVariants.{Spent};
@@ -66,6 +67,9 @@ pub fn commit_parts<F: StoreFile, R: RpmbPort, E: Entropy>(
     ensures untouched { EndIsDrawn result → (dir.new ≡ dir.old) × (host.new ≡ host.old) }
     ensures calm { IsTrue (R.state host.old.port).calm → StaysCalm (R.state host.old.port) (R.state host.new.port) × EndNotOfCard result }
     ensures heard { EndHeard host.old.key counter.old (R.state host.new.port) result }
+    ensures counts { EndCounts
+        (counts (F.state dir.old.file) (R.state host.old.port) (E.faults entropy.old))
+        (counts (F.state dir.new.file) (R.state host.new.port) (E.faults entropy.new)) result }
     ensures cause { EndCause host.old.key counter.old
         (counts (F.state dir.old.file) (R.state host.old.port) (E.faults entropy.old))
         (counts (F.state dir.new.file) (R.state host.new.port) (E.faults entropy.new)) result }

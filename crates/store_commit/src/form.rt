@@ -1,7 +1,9 @@
 //! Formatting a store.
 
-ghost use Rattle.std.specs.Prelude.{◌≡◌, IfErr, IfOk};
-ghost use Rattle.store_commit.specs.Formats.{FormatRefused, Formats, LeavesFormat, make_answer};
+ghost use Rattle.std.specs.Prelude.{◌≡◌, IfErr, IfOk, IsTrue};
+ghost use Rattle.store_commit.specs.Causes.{counts};
+ghost use Rattle.store_commit.specs.Counts.{NoneRose, RefusalCounts, RefusalNotDrawn, RefusalNotOfCard};
+ghost use Rattle.store_commit.specs.Formats.{FormatHeard, FormatRefused, Formats, IsFormatWritten, LeavesFormat, make_answer};
 
 use crate::card::root_block;
 use crate::fault::{GateBroken, MountFault};
@@ -50,6 +52,17 @@ pub fn format_parts<F: StoreFile + Drop, R: RpmbPort + Drop, E: Entropy>(
     ensures left { IfErr result (λ b. LeavesFormat (F.state b.dir) (R.state card) (R.state b.card) keys.now) }
     ensures refused { IfErr result (λ b. FormatRefused (F.state dir) (F.state b.dir) (R.state card) (R.state b.card) keys.now
         (E.faults entropy.old) (E.faults entropy.new) b.fault) }
+    // Whatever the card is.
+    ensures written { IfOk result (λ m. IsFormatWritten (F.state m.0) (R.state card) (R.state m.1) keys.now) }
+    ensures heard { IfErr result (λ b. FormatHeard (F.state dir) (F.state b.dir) (R.state card) (R.state b.card) keys.now b.fault) }
+    // A refusal that carries a count is of the one that rose; after another, and after a format, none did.
+    ensures passed { IfOk result (λ m. NoneRose (counts (F.state dir) (R.state card) (E.faults entropy.old))
+        (counts (F.state m.0) (R.state m.1) (E.faults entropy.new))) }
+    ensures counts { IfErr result (λ b. RefusalCounts (counts (F.state dir) (R.state card) (E.faults entropy.old))
+        (counts (F.state b.dir) (R.state b.card) (E.faults entropy.new)) b.fault) }
+    ensures calm { IsTrue (R.state card).calm → IfOk result (λ m. IsTrue (R.state m.1).calm) }
+    ensures calm_err { IsTrue (R.state card).calm → IfErr result (λ b. IsTrue (R.state b.card).calm × RefusalNotOfCard b.fault) }
+    ensures drawn { E.is_reliable entropy.old → IfErr result (λ b. RefusalNotDrawn b.fault) }
     ensures reliable { E.is_reliable entropy.old → E.is_reliable entropy.new }
 {
     let mut host = Host::new(card, rpmb_key(keys));

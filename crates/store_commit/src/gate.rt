@@ -4,15 +4,16 @@ ghost use Rattle.std.specs.Prelude.{◌≡◌, ◌≤◌, ◌+◌, ◌↔◌, ge
 ghost use Rattle.std.specs.Option.{option_map};
 ghost use Rattle.rpmb_card.specs.Protocol.{last_counter};
 ghost use Rattle.open_table.specs.Table.{allows_on_file, is_file_open};
-ghost use Rattle.crash_core.specs.EntryChanges.{index_of};
+ghost use Rattle.crash_core.specs.EntryChanges.{file_put, index_of};
 ghost use Rattle.store_commit.specs.Changes.{FitsIn, change_of};
 ghost use Rattle.store_commit.specs.Sides.{IsSettled};
 ghost use Rattle.store_commit.specs.Ends.{Leaves, Throughout};
 ghost use Rattle.store_commit.specs.Steps.{Steps};
 ghost use Rattle.store_commit.specs.Causes.{EndCause, EndIsDrawn, EndNotDrawn, EndNotOfCard, StaysCalm, counts};
+ghost use Rattle.store_commit.specs.Counts.{EndCounts};
 ghost use Rattle.store_commit.specs.Heard.{EndHeard};
-ghost use Rattle.store_commit.specs.Gates.{DoubtStands, LeavesHolds, doubt_left, gate_sides};
-ghost use Rattle.store_commit.specs.Holds.{AreHolds};
+ghost use Rattle.store_commit.specs.Gates.{DoubtStands, LeavesHolds, doubt_left, file_in_doubt, gate_sides};
+ghost use Rattle.store_commit.specs.Holds.{AreHolds, IsTaken};
 ghost use Rattle.store_commit.specs.declared.change.CommitEnd.TheVariants.{Spent};
 
 use crate::change::{CommitEnd, EntryChange};
@@ -112,9 +113,11 @@ impl<F: StoreFile + Drop, R: RpmbPort + Drop> Gate<F, R> {
     /// The number of the commit in doubt, if one is.
     pub fn doubt(&self) -> Option<u32>
         ensures number { result ≡ option_map (λ d. d.number) self.now.doubt }
-        // What always holds of a gate: its directory and its card stand to each other, and each hold is on a file that no entry names.
+        // What always holds of a gate: its directory and its card stand to each other, each hold is on a file that no entry names, and the
+        // file that the commit in doubt puts is an entry's, or held.
         ensures stands { DoubtStands (gate_sides F.state R.state self.now) self.now.doubt }
         ensures held { AreHolds self.now.dir.dir.entries self.now.holds }
+        ensures taken { IsTaken self.now.dir.dir.entries self.now.holds (file_in_doubt self.now.doubt) }
     {
         match self.doubt {
             Some(doubted) => Some(doubted.number),
@@ -136,13 +139,15 @@ impl<F: StoreFile + Drop, R: RpmbPort + Drop> Gate<F, R> {
         self.handles.any(file)
     }
 
-    /// Commits one change of the directory, as `commit_parts` does. It takes no memory.
+    /// Commits one change of the directory, as `commit_parts` does. It takes no memory. A file that the change puts is that of an entry, or
+    /// one that a session holds.
     ///
     /// At `Made` the index of names follows, and the file that the change puts is no longer held by a session. At `Doubtful` the commit is
-    /// in doubt until `resolve` answers.
+    /// in doubt until `resolve` answers, and a file that was held stays held until then.
     pub fn commit<E: Entropy>(&mut self, change: EntryChange, entropy: &mut E) -> CommitEnd
         requires idle { self.old.doubt ≡ None }
         requires fits { FitsIn self.old.dir.dir.entries change }
+        requires taken { IsTaken self.old.dir.dir.entries self.old.holds (file_put (change_of change)) }
         requires room { 1 ≤ self.old.room }
         ensures leaves { Leaves (gate_sides F.state R.state self.old) (gate_sides F.state R.state self.new) change result }
         ensures doubt { self.new.doubt ≡ doubt_left change result }
@@ -158,6 +163,9 @@ impl<F: StoreFile + Drop, R: RpmbPort + Drop> Gate<F, R> {
         ensures calm { IsTrue (R.state self.old.host.port).calm
             → StaysCalm (R.state self.old.host.port) (R.state self.new.host.port) × EndNotOfCard result }
         ensures heard { EndHeard self.old.host.key self.old.counter (R.state self.new.host.port) result }
+        ensures counts { EndCounts
+            (counts (F.state self.old.dir.file) (R.state self.old.host.port) (E.faults entropy.old))
+            (counts (F.state self.new.dir.file) (R.state self.new.host.port) (E.faults entropy.new)) result }
         ensures cause { EndCause self.old.host.key self.old.counter
             (counts (F.state self.old.dir.file) (R.state self.old.host.port) (E.faults entropy.old))
             (counts (F.state self.new.dir.file) (R.state self.new.host.port) (E.faults entropy.new)) result }

@@ -2,7 +2,8 @@
 
 ghost use Rattle.std.specs.Prelude.{◌≡◌, ◌<◌, None, Some, slice_set};
 ghost use Rattle.dir_file.specs.EntryForms.{AreEntriesOf};
-ghost use Rattle.store_commit.specs.Holds.{AreHolds, EndsHoldOf, HoldsWithout, IsLeastFreeFile, file_held, unless_file};
+ghost use Rattle.store_commit.specs.Gates.{file_in_doubt};
+ghost use Rattle.store_commit.specs.Holds.{AreApart, AreHolds, EndsHoldOf, HoldsWithout, IsLeastFreeFile, file_held, unless_file};
 
 use crate::change::EntryChange;
 use crate::gate::Gate;
@@ -58,10 +59,12 @@ fn free_file(entries: &[Option<DirEntry>], holds: &[Option<u16>; SESSIONS], sess
 
 impl<F: StoreFile + Drop, R: RpmbPort + Drop> Gate<F, R> {
     /// Lets a session that holds no file hold the least one that no entry names and no session holds. There is always one: entries name
-    /// at most 256 of the 272 files, and other sessions hold at most 15.
+    /// at most 256 of the 272 files, and other sessions hold at most 15. It is never the file that a commit in doubt puts.
     pub fn reserve_file(&mut self, session: u32) -> u16
         requires idle { (session < 16) × (file_held self.old.holds session ≡ None) }
         ensures free { IsLeastFreeFile self.old.dir.dir.entries self.old.holds result }
+        ensures held { file_held self.new.holds session ≡ Some result }
+        ensures undoubted { AreApart (Some result) (file_in_doubt self.old.doubt) }
         ensures same { self.new ≡ record self.old { holds = slice_set self.old.holds session (Some result) } }
     {
         let file = free_file(self.dir.entries(), &self.holds, session);
@@ -69,9 +72,10 @@ impl<F: StoreFile + Drop, R: RpmbPort + Drop> Gate<F, R> {
         file
     }
 
-    /// Ends a session's hold, if it has one.
+    /// Ends a session's hold, if it has one. The hold on the file that a commit in doubt puts ends by `resolve` alone.
     pub fn release_file(&mut self, session: u32)
-        requires { session < 16 }
+        requires session { session < 16 }
+        requires undoubted { AreApart (file_held self.old.holds session) (file_in_doubt self.old.doubt) }
         ensures { self.new ≡ record self.old { holds = slice_set self.old.holds session None } }
     {
         self.holds[session as usize] = None;

@@ -33,5 +33,6 @@ pub use form::format_parts;
 pub use gate::{Doubted, Gate};
 pub use holds::SESSIONS;
 pub use look::Held;
+pub use reading::read_block;
 pub use resolve::Resolved;
 pub use staging::prepare;

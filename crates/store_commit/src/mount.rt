@@ -1,10 +1,12 @@
 //! Mounting a gate.
 
-ghost use Rattle.std.specs.Prelude.{◌≡◌, ◌<◌, [], length, get_or, None, IfErr, IfOk, OnOk};
+ghost use Rattle.std.specs.Prelude.{◌≡◌, ◌<◌, [], length, get_or, None, IfErr, IfOk, IsTrue, OnOk};
 ghost use Rattle.dir_file.specs.EntryForms.{AreEntriesOf};
 ghost use Rattle.store_commit.specs.Gates.{gate_sides};
 ghost use Rattle.store_commit.specs.Holds.{file_held};
-ghost use Rattle.store_commit.specs.Mounts.{LeavesDevices, MountDiffers, MountRefused, OpensGate, directory_answer};
+ghost use Rattle.store_commit.specs.Causes.{counts};
+ghost use Rattle.store_commit.specs.Counts.{NoneRose, RefusalCounts, RefusalNotDrawn, RefusalNotOfCard};
+ghost use Rattle.store_commit.specs.Mounts.{LeavesDevices, MountDiffers, MountHeard, MountRefused, OpensGate, directory_answer};
 ghost use Rattle.store_commit.specs.NameIndex.{IndexesEntry, IsIndexOf};
 ghost use Rattle.store_commit.specs.Sides.{IsSettled, sides};
 ghost use Rattle.store_commit.specs.declared.fault.MountFault.TheVariants.{NoMemory};
@@ -49,7 +51,7 @@ fn index_entry(index: &mut DirIndex, entry: &Option<DirEntry>, place: u16) -> Re
 {
     match entry {
         Some(entry) => {
-            index.reserve()?;
+            index.reserve(1)?;
             add_name(index, entry, place);
             Ok(())
         }
@@ -124,7 +126,17 @@ impl<F: StoreFile + Drop, R: RpmbPort + Drop> Gate<F, R> {
             (E.faults entropy.old) (E.faults entropy.new) b.fault) }
         // Of any file.
         ensures differs { IfErr result (λ b. MountDiffers (F.state b.dir) (R.state card) keys.now b.fault) }
+        // Whatever the card is.
+        ensures heard { IfErr result (λ b. MountHeard (F.state b.dir) (R.state card) (R.state b.card) keys.now b.fault) }
         ensures leaves { IfErr result (λ b. LeavesDevices (F.state dir) (F.state b.dir) (R.state card) (R.state b.card)) }
+        // A refusal that carries a count is of the one that rose; after another, and after a mount, none did.
+        ensures passed { IfOk result (λ g. NoneRose (counts (F.state dir) (R.state card) (E.faults entropy.old))
+            (counts (F.state g.dir.file) (R.state g.host.port) (E.faults entropy.new))) }
+        ensures counts { IfErr result (λ b. RefusalCounts (counts (F.state dir) (R.state card) (E.faults entropy.old))
+            (counts (F.state b.dir) (R.state b.card) (E.faults entropy.new)) b.fault) }
+        ensures calm { IsTrue (R.state card).calm → IfOk result (λ g. IsTrue (R.state g.host.port).calm) }
+        ensures calm_err { IsTrue (R.state card).calm → IfErr result (λ b. IsTrue (R.state b.card).calm × RefusalNotOfCard b.fault) }
+        ensures drawn { E.is_reliable entropy.old → IfErr result (λ b. RefusalNotDrawn b.fault) }
         ensures reliable { E.is_reliable entropy.old → E.is_reliable entropy.new }
     {
         let mut host = Host::new(card, rpmb_key(keys));

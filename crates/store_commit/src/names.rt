@@ -1,18 +1,17 @@
 //! The index of names beside the directory's entries.
 
-ghost use Rattle.std.specs.Prelude.{◌≡◌, ◌≤◌, ◌+◌, if◌then◌else◌, None, OnOk};
+ghost use Rattle.std.specs.Prelude.{◌≡◌, ◌≤◌, ◌+◌, if◌then◌else◌, None};
 ghost use Rattle.std.specs.Ordering.{is_eq};
 ghost use Rattle.store_model.specs.declared.name.ObjectName.{ObjectName};
 ghost use Rattle.store_model.specs.Name.{name_cmp};
 ghost use Rattle.crash_core.specs.Entries.{name_of};
 ghost use Rattle.dir_index.specs.Index.{index_at};
-ghost use Rattle.store_commit.specs.NameIndex.{AddsName, ChangesNames, HasSameNames, PutsName, name_added, names_added};
+ghost use Rattle.store_commit.specs.NameIndex.{AddsName, ChangesNames, PutsName, name_added, names_added};
 
 use crate::change::EntryChange;
 use dir_index::{DirIndex, changes_concern_one_name};
 use dir_records::DirEntry;
 use store_model::ObjectName;
-use tee_types::NoMemory;
 
 // The name of an entry's object.
 fn name_of(entry: &DirEntry) -> ObjectName
@@ -82,23 +81,4 @@ pub(crate) fn change_names(index: &mut DirIndex, before: &Option<DirEntry>, chan
         (EntryChange::Clear { .. }, Some(old)) => forget_name(index, old),
         (EntryChange::Clear { .. }, None) => {}
     }
-}
-
-/// Makes room for one name beside that of an entry, whether this one is held or not.
-pub(crate) fn reserve_beside(index: &mut DirIndex, entry: &DirEntry) -> Result<(), NoMemory>
-    requires room { name_added index.old entry.now ≤ index.old.spare }
-    ensures names { HasSameNames index.old index.new }
-    ensures room { OnOk result (1 + name_added index.new entry.now ≤ index.new.spare) }
-    ensures spare { index.old.spare ≤ index.new.spare }
-{
-    changes_concern_one_name();
-    if index.find(entry.app, entry.id).is_some() {
-        return index.reserve();
-    }
-    // The name is put in, and taken out again.
-    index.insert(entry.app, entry.id, 0);
-    let reserved = index.reserve();
-    let _names = index.len();
-    index.remove(entry.app, entry.id);
-    reserved
 }

@@ -7,7 +7,6 @@ ghost use Rattle.store_commit.specs.Noting.{DropsHandle, Notes, NotesReply};
 
 use crate::change::EntryChange;
 use crate::gate::{Doubted, Gate};
-use crate::names::reserve_beside;
 use dir_index::DirIndex;
 use open_table::OpenTable;
 use rpmb_card::RpmbPort;
@@ -52,17 +51,16 @@ fn reserve_name(index: &mut DirIndex, doubt: &Option<Doubted>) -> Result<(), NoM
     match doubt {
         Some(
             Doubted {
-                change: EntryChange::Put { entry, .. },
+                change: EntryChange::Put { .. },
                 ..
             },
-        ) => reserve_beside(index, entry),
-        _ => index.reserve(),
+        ) => index.reserve(2),
+        _ => index.reserve(1),
     }
 }
 
 impl<F: StoreFile + Drop, R: RpmbPort + Drop> Gate<F, R> {
-    /// Makes room for one commit and for one handle more, beside what the commit in doubt needs if it lands. It takes memory only where
-    /// there is no room.
+    /// Makes room for one commit and for one handle more, beside what the commit in doubt may need if it lands.
     ///
     /// # Errors
     ///

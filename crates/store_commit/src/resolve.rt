@@ -1,6 +1,6 @@
 //! How a commit in doubt is resolved.
 
-ghost use Rattle.std.specs.Prelude.{◌≡◌, ◌≤◌, ◌+◌, IfErr, IfSome, IsSome, IsTrue, Some};
+ghost use Rattle.std.specs.Prelude.{◌≡◌, ◌≤◌, ◌+◌, IfErr, IfSome, IsSome, IsTrue, OnOk, Some};
 ghost use Rattle.store_commit.specs.CardCauses.{IsOfFrame};
 ghost use Rattle.store_commit.specs.Causes.{StaysCalm};
 ghost use Rattle.store_commit.specs.Gates.{gate_sides};
@@ -38,6 +38,7 @@ fn ask_doubt<R: RpmbPort>(
     ensures counter { TellsCounter host.old.key counter (R.state host.old.port) result }
     ensures calm { IsTrue (R.state host.old.port).calm
         → StaysCalm (R.state host.old.port) (R.state host.new.port) × IfErr result IsOfFrame }
+    ensures passed { OnOk result ((R.state host.new.port).faults ≡ (R.state host.old.port).faults) }
     ensures cause { IfErr result (StaysDoubted host.old.key counter (R.state host.old.port) (R.state host.new.port)) }
 {
     match host.read_counter(nonce) {
@@ -73,7 +74,8 @@ impl<F: StoreFile + Drop, R: RpmbPort + Drop> Gate<F, R> {
     /// directory's file.
     ///
     /// Where the verified counter is the commit's number it landed: the stage is adopted, and the index of names follows. Where it is one
-    /// less the commit did not land, and the stage is given up. Both end the hold on the file that the change puts.
+    /// less the commit did not land, and the stage is given up. Both end the hold on the file that the change puts; until then it stays
+    /// held.
     ///
     /// # Errors
     ///
@@ -92,6 +94,7 @@ impl<F: StoreFile + Drop, R: RpmbPort + Drop> Gate<F, R> {
         ensures answered { IsAnswered self.old.host.key self.old.counter nonce.now (R.state self.old.host.port) (R.state self.new.host.port) result }
         ensures calm { IsTrue (R.state self.old.host.port).calm
             → StaysCalm (R.state self.old.host.port) (R.state self.new.host.port) × IfErr result IsOfFrame }
+        ensures passed { OnOk result ((R.state self.new.host.port).faults ≡ (R.state self.old.host.port).faults) }
         ensures cause { IfErr result (StaysDoubted self.old.host.key self.old.counter (R.state self.old.host.port) (R.state self.new.host.port)) }
     {
         let doubted = doubted_of(&self.doubt);

@@ -1,6 +1,7 @@
 //! Opening the directory's file.
 
-ghost use Rattle.std.specs.Prelude.{◌≡◌, ◌⊎◌, ◌<◌, None, IfErr, IfOk, IsTrue, Result};
+ghost use Rattle.std.specs.Prelude.{◌≡◌, ◌⊎◌, ◌<◌, [], None, IfErr, IfOk, IsTrue, Result};
+ghost use Rattle.disk_model.specs.State.{pending};
 ghost use Rattle.disk_model.specs.Calls.{Known};
 ghost use Rattle.disk_model.specs.Keeps.{Anywhere, Keeps};
 ghost use Rattle.htree_file.specs.Answers.{FilePassed};
@@ -39,6 +40,7 @@ pub(crate) fn open_directory<F: StoreFile>(
     ensures verified { IfOk result (λ d. IsVerified root d.dir.tree) }
     ensures entries { IfOk result (λ d. AreEntriesOf d.dir.entries) }
     ensures synced { IfOk result (λ d. IsSynced (F.state d.file)) }
+    ensures unwritten { IfOk result (λ d. pending (F.state d.file) ≡ []) }
     ensures held { IfOk result (λ d. IsTrue (F.state d.file).honest →
         IsHeld (F.state d.file) tsk.now root d.dir.tree d.dir.entries) }
     ensures directory { IfOk result (λ d. Told (F.state file) (F.state d.file) →

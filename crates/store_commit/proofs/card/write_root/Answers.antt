@@ -5,7 +5,7 @@ use Rattle.store_commit.specs.CardEnds.{CardLeft}
 use Rattle.store_commit.specs.CardCauses.{AskCause}
 use Rattle.store_commit.specs.Heard.{AskHeard}
 use Rattle.store_commit.proofs.CardWrites.{asked, next_card}
-use Rattle.store_commit.proofs.CardCauses.{calm_end, calm_then, not_failed, same_faults, write_cause}
+use Rattle.store_commit.proofs.CardCauses.{calm_end, calm_then, not_failed, same_faults, write_cause, write_counts}
 use Rattle.store_commit.proofs.Hearing.{card_heard, refused_write, some_written}
 use Rattle.store_commit.proofs.card.write_root.Goals as goal
 
@@ -70,3 +70,8 @@ returns-in-Err-clause-calm g c calm =
       calm_then old mid new (record { calm = stays.1; faults = same_faults old mid c.in-Err.fault c.in-Err.ensures.counts stays.0 }) asked.0,
       calm_end c.cause_of-cause.result c.ask.result (not_failed c.in-Err.fault c.cause_of-cause.result c.cause_of-cause.ensures stays.0) asked.1,
     )
+
+pub returns-in-Err-clause-counts : goal.returns-in-Err-clause-counts
+returns-in-Err-clause-counts g c =
+    write_counts c.write_block.new.self.key c.args.counter (g.R.RpmbPort.state c.args.host.now.port) (g.R.RpmbPort.state c.write_block.new.self.port) (g.R.RpmbPort.state c.ask.new.host.port)
+    c.in-Err.fault c.cause_of-cause.result c.ask.result c.cause_of-cause.ensures c.in-Err.ensures.counts c.in-Err.ensures.counted c.ask.ensures.counted c.ask.ensures.cause

@@ -8,7 +8,10 @@ use Rattle.store_commit.specs.Causes.{NotOfCard}
 use Rattle.store_commit.specs.Sides.{sides}
 use Rattle.store_commit.proofs.Ending.{doubted, doubted_steps, dropped, landed_names, lost_names, lost_steps, made, root_form, sealed_steps, spent, throughout, unknown_names}
 use Rattle.store_commit.proofs.Preparing.{adopted_dir, adopted_file}
+use Rattle.htree_file.specs.Answers.{FilePassed}
+use Rattle.store_commit.specs.Causes.{counts}
 use Rattle.store_commit.proofs.CardCauses.{frame_not_card, not_both, port_not_drawn, side_not_card}
+use Rattle.store_commit.proofs.Counting.{doubt_counts, drawn_counts, lost_counts, side_counts}
 use Rattle.store_commit.proofs.commit.commit_parts.Goals as goal
 
 pub returns-then-at-clause-leaves : goal.returns-then-at-clause-leaves
@@ -160,3 +163,39 @@ returns-in-Lost-clause-calm g c calm =
 pub returns-in-Unknown-clause-calm : goal.returns-in-Unknown-clause-calm
 returns-in-Unknown-clause-calm g c calm =
     let asked = c.in-Unknown.ensures.calm calm in (asked.0, frame_not_card c.in-Unknown.cause asked.1)
+
+pub returns-in-Err-clause-counts : goal.returns-in-Err-clause-counts
+returns-in-Err-clause-counts g c =
+    drawn_counts (g.F.StoreFile.state c.args.dir.now.file) (g.R.RpmbPort.state c.args.host.now.port) (g.E.Entropy.faults c.args.entropy.now) (g.E.Entropy.faults c.draw_nonce.new.entropy) c.in-Err.cause c.in-Err.ensures.cause
+
+pub returns-in-Err-prepare-clause-counts : goal.returns-in-Err-prepare-clause-counts
+returns-in-Err-prepare-clause-counts g c =
+    side_counts (g.F.StoreFile.state c.args.dir.now.file) (g.F.StoreFile.state c.prepare.new.dir.file) (g.R.RpmbPort.state c.args.host.now.port)
+    (g.E.Entropy.faults c.args.entropy.now) (g.E.Entropy.faults c.draw_nonce.new.entropy) (g.E.Entropy.faults c.prepare.new.entropy) c.in-Err-prepare.failed c.in-Ok.ensures.cause c.in-Err-prepare.ensures.cause
+
+pub returns-in-Landed-clause-counts : goal.returns-in-Landed-clause-counts
+returns-in-Landed-clause-counts g c =
+    let d = c.args.dir.now in
+    let e = c.prepare.new.dir in
+    record {
+      file = subst (λ (s : FileState). FilePassed (g.F.StoreFile.state d.file) s) (sym (ap (λ f. g.F.StoreFile.state f) (adopted_file e c.adopt.new.self c.in-Ok-prepare.ensures.answer.opens c.adopt.ensures.committed))) c.in-Ok-prepare.ensures.cause.0;
+      card = c.in-Landed.ensures.counts;
+      draws = c.in-Ok-prepare.ensures.cause.1 ∙ c.in-Ok.ensures.cause;
+    }
+
+pub returns-in-Lost-clause-counts : goal.returns-in-Lost-clause-counts
+returns-in-Lost-clause-counts g c =
+    let d = c.args.dir.now in
+    lost_counts (counts (g.F.StoreFile.state d.file) (g.R.RpmbPort.state c.args.host.now.port) (g.E.Entropy.faults c.args.entropy.now))
+    (counts (g.F.StoreFile.state c.drop_stage.new.self.file) (g.R.RpmbPort.state c.write_root.new.host.port) (g.E.Entropy.faults c.prepare.new.entropy))
+    c.args.host.now.key c.args.counter.now
+    (subst (λ (s : FileState). FilePassed (g.F.StoreFile.state d.file) s) (sym (ap (λ x. g.F.StoreFile.state x.file) c.drop_stage.ensures.same)) c.in-Ok-prepare.ensures.cause.0)
+    (c.in-Ok-prepare.ensures.cause.1 ∙ c.in-Ok.ensures.cause) c.in-Lost.cause c.in-Lost.ensures.cause c.in-Lost.ensures.counts
+
+pub returns-in-Unknown-clause-counts : goal.returns-in-Unknown-clause-counts
+returns-in-Unknown-clause-counts g c =
+    let d = c.args.dir.now in
+    doubt_counts (counts (g.F.StoreFile.state d.file) (g.R.RpmbPort.state c.args.host.now.port) (g.E.Entropy.faults c.args.entropy.now))
+    (counts (g.F.StoreFile.state c.prepare.new.dir.file) (g.R.RpmbPort.state c.write_root.new.host.port) (g.E.Entropy.faults c.prepare.new.entropy))
+    c.args.host.now.key c.args.counter.now c.in-Ok-prepare.ensures.cause.0
+    (c.in-Ok-prepare.ensures.cause.1 ∙ c.in-Ok.ensures.cause) c.in-Unknown.cause c.in-Unknown.ensures.cause.0 c.in-Unknown.ensures.counts

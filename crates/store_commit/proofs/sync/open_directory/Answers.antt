@@ -1,6 +1,9 @@
+use Rattle.std.proofs.Common.{◌≡◌, []}
+use Rattle.disk_model.specs.State.{pending}
 use Rattle.disk_model.specs.Calls.{Rests}
 use Rattle.disk_model.specs.Keeps.{Anywhere, Keeps}
 use Rattle.disk_model.proofs.Laws.{rest_keeps}
+use Rattle.store_commit.proofs.Mounting.{rests_pending}
 use Rattle.store_commit.proofs.Syncing.{err_map, keeps_after, ok_map}
 use Rattle.store_commit.proofs.sync.open_directory.Goals as goal
 
@@ -23,3 +26,10 @@ returns-in-Ok-clause-keeps_err g c =
 pub returns-in-Err-clause-keeps_err : goal.returns-in-Err-clause-keeps_err
 returns-in-Err-clause-keeps_err g c =
     rest_keeps (g.F.StoreFile.state c.args.file) (g.F.StoreFile.state c.sync.new.self) (g.met.F.StoreFile.sound c.args.file) c.in-Err.ensures.unsettled
+
+pub returns-in-Ok-clause-unwritten : goal.returns-in-Ok-clause-unwritten
+returns-in-Ok-clause-unwritten g c =
+    let state = g.F.StoreFile.state in
+    let a = state c.args.file in
+    let b = state c.sync.new.self in
+    ok_map c.load.result (λ d. Rests b (state d.file)) (λ d. pending (state d.file) ≡ []) (λ d rests. rests_pending a b (state d.file) c.in-Ok.ensures.synced rests) c.load.ensures.rests

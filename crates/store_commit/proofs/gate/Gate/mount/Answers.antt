@@ -3,17 +3,25 @@ use Rattle.hmac_keys.specs.KeyTable.{dir_tsk, rpmb_key}
 use Rattle.rpmb_card.specs.Card.{CardState}
 use Rattle.rpmb_host.specs.Honest.{HasCard}
 use Rattle.htree_file.specs.Standing.{Told}
+use Rattle.rpmb_host.specs.declared.fault.HostFault.{HostFault}
+use Rattle.crash_core.specs.CardBlock.{root_in}
 use Rattle.crash_core.specs.DeviceKeys.{directory_key}
 use Rattle.crash_core.specs.Directory.{directory_of}
 use Rattle.dir_file.specs.Held.{IsHeld}
 use Rattle.dir_file.specs.Loading.{IsOutsideDir, IsReadDirectory}
 use Rattle.dir_file.specs.Refusals.{DirDiffers}
+use Rattle.store_commit.specs.declared.fault.MountFault.TheVariants.{NoMemory}
 use Rattle.store_commit.specs.Gates.{gate_sides}
-use Rattle.store_commit.specs.Mounts.{MountDiffers, MountRefused, OpensGate, Tells}
+use Rattle.store_commit.specs.Causes.{Counted, counts}
+use Rattle.store_commit.specs.Counts.{NoneRose, RefusalCounts, RefusalNotDrawn, RefusalNotOfCard}
+use Rattle.store_commit.specs.Mounts.{CardRefused, HasRootRead, LeavesDevices, MountDiffers, MountHeard, MountRefused, OpensGate, Tells}
+use Rattle.store_commit.specs.Reads.{IsCardRead, IsReadRefused, OfHost}
 use Rattle.store_commit.specs.Sides.{sides}
 use Rattle.store_commit.proofs.Cards.{has_still}
-use Rattle.store_commit.proofs.Mounted.{block_differs, card_names, directory_differs, directory_refuses, gate_opens, gate_settled}
-use Rattle.store_commit.proofs.Syncing.{ok_map}
+use Rattle.store_commit.proofs.Counting.{block_counts, block_not_card, counts_after, directory_counts, directory_not_card, file_same}
+use Rattle.store_commit.proofs.Mounted.{answer_root, block_differs, block_refuses, card_refuses, card_names, directory_differs, directory_refuses, gate_opens, gate_settled}
+use Rattle.store_commit.proofs.Readings.{block_heard, card_heard_so, directory_heard, root_read}
+use Rattle.store_commit.proofs.Syncing.{err_map, ok_map}
 use Rattle.store_commit.proofs.gate.Gate.mount.Goals as goal
 
 pub new-requires : goal.new-requires
@@ -55,9 +63,12 @@ returns-in-Ok-open_directory-clause-opens g c =
     subst (λ (t : List ℕ). IsTrue (state d.file).honest → IsHeld (state d.file) t c.in-Ok-root_in.root d.dir.tree d.dir.entries) tsk_is o.held in
     let directory : Told (state c.args.dir) (state d.file) → directory_of (directory_key keys) (state d.file).reads c.in-Ok-root_in.root ≡ Ok d.dir.entries =
     subst (λ (t : List ℕ). Told (state c.args.dir) (state d.file) → directory_of t (state d.file).reads c.in-Ok-root_in.root ≡ Ok d.dir.entries) tsk_is o.directory in
+    let read : IsCardRead key (port c.args.card) (port c.read_card.new.host.port) c.in-Ok.read.counter c.in-Ok.read.block =
+    subst (λ (k : List ℕ). IsCardRead k (port c.args.card) (port c.read_card.new.host.port) c.in-Ok.read.counter c.in-Ok.read.block) c.rpmb_key.ensures
+    (subst (λ h. IsCardRead h.key (port h.port) (port c.read_card.new.host.port) c.in-Ok.read.counter c.in-Ok.read.block) c.new-host.ensures c.in-Ok.ensures.heard) in
     let opens = gate_opens (state c.args.dir) (port c.args.card) (port c.read_card.new.host.port) keys c.read_card.new.host.key c.in-Ok.read.counter c.in-Ok.read.block c.in-Ok-root_in.root
     (state d.file) d.dir stays key_is tells c.in-Ok-root_in.ensures.answer c.in-Ok-root_in.ensures.form o.root o.idle (o.tsk ∙ tsk_is) o.entries held
-    o.keeps o.reads o.synced o.verified (subst (λ (t : List ℕ). IsReadDirectory t d.dir.tree (Ok d.dir.entries)) tsk_is o.pages) directory in
+    o.keeps o.reads o.synced o.unwritten (record { block = c.in-Ok.read.block; read = read; named = answer_root (root_in c.in-Ok.read.block) c.in-Ok-root_in.root c.in-Ok-root_in.ensures.answer }) o.verified (subst (λ (t : List ℕ). IsReadDirectory t d.dir.tree (Ok d.dir.entries)) tsk_is o.pages) directory in
     ok_map c.new.result (λ v. (v.dir ≡ d) × (v.host ≡ c.read_card.new.host) × (v.counter ≡ c.in-Ok.read.counter))
     (λ v. OpensGate (state c.args.dir) (port c.args.card) keys (gate_sides state port v))
     (λ v made. subst (OpensGate (state c.args.dir) (port c.args.card) keys)
@@ -106,3 +117,246 @@ returns-in-Err-open_directory-clause-refused g c =
     (directory_refuses old new p q keys drew draws c.in-Ok.read.counter c.in-Ok.read.block tells c.in-Ok-root_in.root c.in-Ok-root_in.ensures.answer b.fault
     (subst (λ (t : List ℕ). IsOutsideDir b.fault ⊎ (Told old new → directory_of t new.reads c.in-Ok-root_in.root ≡ Err b.fault)) tsk_is c.in-Err-open_directory.ensures.fault)
     c.in-Err-open_directory.ensures.cause)
+
+-- the card refuses
+pub returns-in-Err-clause-heard : goal.returns-in-Err-clause-heard
+returns-in-Err-clause-heard g c =
+    let state = g.F.StoreFile.state in
+    let port = g.R.RpmbPort.state in
+    let keys = c.args.keys.now in
+    let key : List ℕ = rpmb_key keys.huk in
+    let p0 = port c.args.card in
+    let p1 = port c.read_card.new.host.port in
+    let drew : ℕ = g.E.Entropy.faults c.args.entropy.now in
+    let draws : ℕ = g.E.Entropy.faults c.read_card.new.entropy in
+    let refused : CardRefused p0 p1 key drew draws c.in-Err.fault =
+    subst (λ (k : List ℕ). CardRefused p0 p1 k drew draws c.in-Err.fault) c.rpmb_key.ensures
+    (subst (λ h. CardRefused (port h.port) p1 h.key drew draws c.in-Err.fault) c.new-host.ensures c.in-Err.ensures.fault) in
+    let heard : OfHost (IsReadRefused key p0 p1) c.in-Err.fault =
+    subst (λ (k : List ℕ). OfHost (IsReadRefused k p0 p1) c.in-Err.fault) c.rpmb_key.ensures
+    (subst (λ h. OfHost (IsReadRefused h.key (port h.port) p1) c.in-Err.fault) c.new-host.ensures c.in-Err.ensures.refused) in
+    subst (λ r. MountHeard (state c.args.dir) p0 (port r) keys c.in-Err.fault) (sym c.into_port-card.ensures)
+    (card_heard_so (state c.args.dir) p0 p1 keys drew draws c.in-Err.fault refused heard)
+
+pub returns-in-Err-clause-counts : goal.returns-in-Err-clause-counts
+returns-in-Err-clause-counts g c =
+    let state = g.F.StoreFile.state in
+    let port = g.R.RpmbPort.state in
+    let keys = c.args.keys.now in
+    let key : List ℕ = rpmb_key keys.huk in
+    let p0 = port c.args.card in
+    let p1 = port c.read_card.new.host.port in
+    let drew : ℕ = g.E.Entropy.faults c.args.entropy.now in
+    let draws : ℕ = g.E.Entropy.faults c.read_card.new.entropy in
+    subst (λ r. RefusalCounts (counts (state c.args.dir) p0 drew) (counts (state c.args.dir) (port r) draws) c.in-Err.fault) (sym c.into_port-card.ensures)
+    (subst (λ h. RefusalCounts (counts (state c.args.dir) (port h.port) drew) (counts (state c.args.dir) p1 draws) c.in-Err.fault) c.new-host.ensures (c.in-Err.ensures.counts (state c.args.dir)))
+
+pub returns-in-Err-clause-calm_err : goal.returns-in-Err-clause-calm_err
+returns-in-Err-clause-calm_err g c calm =
+    let port = g.R.RpmbPort.state in
+    let is = subst (λ h. IsTrue (port h.port).calm → IsTrue (port c.read_card.new.host.port).calm × RefusalNotOfCard c.in-Err.fault) c.new-host.ensures c.in-Err.ensures.calm calm in
+    (subst (λ r. IsTrue (port r).calm) (sym c.into_port-card.ensures) is.0, is.1)
+
+-- its block 0 refuses
+pub returns-in-Err-root_in-clause-heard : goal.returns-in-Err-root_in-clause-heard
+returns-in-Err-root_in-clause-heard g c =
+    let state = g.F.StoreFile.state in
+    let port = g.R.RpmbPort.state in
+    let keys = c.args.keys.now in
+    let key : List ℕ = rpmb_key keys.huk in
+    let p0 = port c.args.card in
+    let p1 = port c.read_card.new.host.port in
+    let read : IsCardRead key (port c.args.card) (port c.read_card.new.host.port) c.in-Ok.read.counter c.in-Ok.read.block =
+    subst (λ (k : List ℕ). IsCardRead k (port c.args.card) (port c.read_card.new.host.port) c.in-Ok.read.counter c.in-Ok.read.block) c.rpmb_key.ensures
+    (subst (λ h. IsCardRead h.key (port h.port) (port c.read_card.new.host.port) c.in-Ok.read.counter c.in-Ok.read.block) c.new-host.ensures c.in-Ok.ensures.heard) in
+    subst (λ r. MountHeard (state c.args.dir) p0 (port r) keys c.in-Err-root_in.fault) (sym c.into_port-card-in-Err-root_in.ensures)
+    (block_heard (state c.args.dir) p0 p1 keys c.in-Ok.read.counter c.in-Ok.read.block read c.in-Err-root_in.fault c.in-Err-root_in.ensures.answer)
+
+pub returns-in-Err-root_in-clause-counts : goal.returns-in-Err-root_in-clause-counts
+returns-in-Err-root_in-clause-counts g c =
+    let state = g.F.StoreFile.state in
+    let port = g.R.RpmbPort.state in
+    let keys = c.args.keys.now in
+    let key : List ℕ = rpmb_key keys.huk in
+    let p0 = port c.args.card in
+    let p1 = port c.read_card.new.host.port in
+    let drew : ℕ = g.E.Entropy.faults c.args.entropy.now in
+    let draws : ℕ = g.E.Entropy.faults c.read_card.new.entropy in
+    let passed = subst (λ h. (p1.faults ≡ (port h.port).faults) × (draws ≡ drew)) c.new-host.ensures c.in-Ok.ensures.passed in
+    let q = c.into_port-card-in-Err-root_in.result in
+    let stays : (port q).faults ≡ p0.faults = ap (λ r. (port r).faults) c.into_port-card-in-Err-root_in.ensures ∙ passed.0 in
+    block_counts (counts (state c.args.dir) p0 drew) (counts (state c.args.dir) (port q) draws) (root_in c.in-Ok.read.block) c.in-Err-root_in.fault c.in-Err-root_in.ensures.answer
+    (record { file = file_same (state c.args.dir); card = stays; draws = passed.1 })
+
+pub returns-in-Err-root_in-clause-calm_err : goal.returns-in-Err-root_in-clause-calm_err
+returns-in-Err-root_in-clause-calm_err g c calm =
+    let port = g.R.RpmbPort.state in
+    let is = subst (λ h. IsTrue (port h.port).calm → IsTrue (port c.read_card.new.host.port).calm) c.new-host.ensures (λ x. (c.in-Ok.ensures.calm x).0) calm in
+    (subst (λ r. IsTrue (port r).calm) (sym c.into_port-card-in-Err-root_in.ensures) is, (block_not_card (root_in c.in-Ok.read.block) c.in-Err-root_in.fault c.in-Err-root_in.ensures.answer).0)
+
+pub returns-in-Err-root_in-clause-drawn : goal.returns-in-Err-root_in-clause-drawn
+returns-in-Err-root_in-clause-drawn g c reliable = (block_not_card (root_in c.in-Ok.read.block) c.in-Err-root_in.fault c.in-Err-root_in.ensures.answer).1
+
+-- the directory refuses
+pub returns-in-Err-open_directory-clause-heard : goal.returns-in-Err-open_directory-clause-heard
+returns-in-Err-open_directory-clause-heard g c =
+    let state = g.F.StoreFile.state in
+    let port = g.R.RpmbPort.state in
+    let keys = c.args.keys.now in
+    let key : List ℕ = rpmb_key keys.huk in
+    let p0 = port c.args.card in
+    let p1 = port c.read_card.new.host.port in
+    let read : IsCardRead key (port c.args.card) (port c.read_card.new.host.port) c.in-Ok.read.counter c.in-Ok.read.block =
+    subst (λ (k : List ℕ). IsCardRead k (port c.args.card) (port c.read_card.new.host.port) c.in-Ok.read.counter c.in-Ok.read.block) c.rpmb_key.ensures
+    (subst (λ h. IsCardRead h.key (port h.port) (port c.read_card.new.host.port) c.in-Ok.read.counter c.in-Ok.read.block) c.new-host.ensures c.in-Ok.ensures.heard) in
+    let b = c.in-Err-open_directory.field-0 in
+    let tsk_is : c.dir_tsk-tsk.result ≡ directory_key keys = c.dir_tsk-tsk.ensures ∙ ap dir_tsk c.ssk.ensures in
+    subst (λ r. MountHeard (state b.file) p0 (port r) keys c.directory_answer-fault.result) (sym c.into_port-card-in-Err-open_directory.ensures)
+    (subst (MountHeard (state b.file) p0 p1 keys) (sym c.directory_answer-fault.ensures)
+    (directory_heard (state b.file) p0 p1 keys c.in-Ok.read.counter c.in-Ok-root_in.root
+    (root_read (state b.file) p0 p1 keys c.in-Ok.read.counter c.in-Ok.read.block read c.in-Ok-root_in.root c.in-Ok-root_in.ensures.answer) b.fault
+    (subst (λ (t : List ℕ). DirDiffers t (state b.file) c.in-Ok-root_in.root b.fault) tsk_is c.in-Err-open_directory.ensures.differs)))
+
+pub returns-in-Err-open_directory-clause-counts : goal.returns-in-Err-open_directory-clause-counts
+returns-in-Err-open_directory-clause-counts g c =
+    let state = g.F.StoreFile.state in
+    let port = g.R.RpmbPort.state in
+    let keys = c.args.keys.now in
+    let key : List ℕ = rpmb_key keys.huk in
+    let p0 = port c.args.card in
+    let p1 = port c.read_card.new.host.port in
+    let b = c.in-Err-open_directory.field-0 in
+    let drew : ℕ = g.E.Entropy.faults c.args.entropy.now in
+    let draws : ℕ = g.E.Entropy.faults c.read_card.new.entropy in
+    let passed = subst (λ h. (p1.faults ≡ (port h.port).faults) × (draws ≡ drew)) c.new-host.ensures c.in-Ok.ensures.passed in
+    let q = c.into_port-card-in-Err-open_directory.result in
+    let stays : (port q).faults ≡ p0.faults = ap (λ r. (port r).faults) c.into_port-card-in-Err-open_directory.ensures ∙ passed.0 in
+    subst (RefusalCounts (counts (state c.args.dir) p0 drew) (counts (state b.file) (port q) draws)) (sym c.directory_answer-fault.ensures)
+    (directory_counts (counts (state c.args.dir) p0 drew) (counts (state b.file) (port q) draws) stays passed.1 b.fault c.in-Err-open_directory.ensures.cause)
+
+pub returns-in-Err-open_directory-clause-calm_err : goal.returns-in-Err-open_directory-clause-calm_err
+returns-in-Err-open_directory-clause-calm_err g c calm =
+    let port = g.R.RpmbPort.state in
+    let is = subst (λ h. IsTrue (port h.port).calm → IsTrue (port c.read_card.new.host.port).calm) c.new-host.ensures (λ x. (c.in-Ok.ensures.calm x).0) calm in
+    (subst (λ r. IsTrue (port r).calm) (sym c.into_port-card-in-Err-open_directory.ensures) is, subst RefusalNotOfCard (sym c.directory_answer-fault.ensures) (directory_not_card c.in-Err-open_directory.field-0.fault).0)
+
+pub returns-in-Err-open_directory-clause-drawn : goal.returns-in-Err-open_directory-clause-drawn
+returns-in-Err-open_directory-clause-drawn g c reliable = subst RefusalNotDrawn (sym c.directory_answer-fault.ensures) (directory_not_card c.in-Err-open_directory.field-0.fault).1
+
+-- the gate
+pub returns-in-Ok-open_directory-clause-heard : goal.returns-in-Ok-open_directory-clause-heard
+returns-in-Ok-open_directory-clause-heard g c =
+    let state = g.F.StoreFile.state in
+    let port = g.R.RpmbPort.state in
+    let keys = c.args.keys.now in
+    let key : List ℕ = rpmb_key keys.huk in
+    let p0 = port c.args.card in
+    let p1 = port c.read_card.new.host.port in
+    let read : IsCardRead key (port c.args.card) (port c.read_card.new.host.port) c.in-Ok.read.counter c.in-Ok.read.block =
+    subst (λ (k : List ℕ). IsCardRead k (port c.args.card) (port c.read_card.new.host.port) c.in-Ok.read.counter c.in-Ok.read.block) c.rpmb_key.ensures
+    (subst (λ h. IsCardRead h.key (port h.port) (port c.read_card.new.host.port) c.in-Ok.read.counter c.in-Ok.read.block) c.new-host.ensures c.in-Ok.ensures.heard) in
+    let d = c.in-Ok-open_directory.dir in
+    err_map c.new.result (λ b. (b.dir ≡ d.file) × (b.card ≡ c.read_card.new.host.port) × (b.fault ≡ NoMemory)) (λ b. MountHeard (state b.dir) p0 (port b.card) keys b.fault)
+    (λ b is. subst (MountHeard (state b.dir) p0 (port b.card) keys) (sym is.2)
+    (subst (λ r. HasRootRead key p0 (port r)) (sym is.1)
+    (record { counter = c.in-Ok.read.counter; root = c.in-Ok-root_in.root; read = root_read (state d.file) p0 p1 keys c.in-Ok.read.counter c.in-Ok.read.block read c.in-Ok-root_in.root c.in-Ok-root_in.ensures.answer }))) c.new.ensures.broken
+
+pub returns-in-Ok-open_directory-clause-counts : goal.returns-in-Ok-open_directory-clause-counts
+returns-in-Ok-open_directory-clause-counts g c =
+    let state = g.F.StoreFile.state in
+    let port = g.R.RpmbPort.state in
+    let keys = c.args.keys.now in
+    let key : List ℕ = rpmb_key keys.huk in
+    let p0 = port c.args.card in
+    let p1 = port c.read_card.new.host.port in
+    let d = c.in-Ok-open_directory.dir in
+    let drew : ℕ = g.E.Entropy.faults c.args.entropy.now in
+    let draws : ℕ = g.E.Entropy.faults c.read_card.new.entropy in
+    let passed = subst (λ h. (p1.faults ≡ (port h.port).faults) × (draws ≡ drew)) c.new-host.ensures c.in-Ok.ensures.passed in
+    let none : NoneRose (counts (state c.args.dir) p0 drew) (counts (state d.file) p1 draws) = record { file = c.in-Ok-open_directory.ensures.passed; card = passed.0; draws = passed.1 } in
+    err_map c.new.result (λ b. (b.dir ≡ d.file) × (b.card ≡ c.read_card.new.host.port) × (b.fault ≡ NoMemory)) (λ b. RefusalCounts (counts (state c.args.dir) p0 drew) (counts (state b.dir) (port b.card) draws) b.fault)
+    (λ b is. subst (RefusalCounts (counts (state c.args.dir) p0 drew) (counts (state b.dir) (port b.card) draws)) (sym is.2)
+    (subst (NoneRose (counts (state c.args.dir) p0 drew)) (λ i. counts (state (sym is.0 i)) (port (sym is.1 i)) draws) none)) c.new.ensures.broken
+
+pub returns-in-Ok-open_directory-clause-passed : goal.returns-in-Ok-open_directory-clause-passed
+returns-in-Ok-open_directory-clause-passed g c =
+    let state = g.F.StoreFile.state in
+    let port = g.R.RpmbPort.state in
+    let keys = c.args.keys.now in
+    let key : List ℕ = rpmb_key keys.huk in
+    let p0 = port c.args.card in
+    let p1 = port c.read_card.new.host.port in
+    let d = c.in-Ok-open_directory.dir in
+    let drew : ℕ = g.E.Entropy.faults c.args.entropy.now in
+    let draws : ℕ = g.E.Entropy.faults c.read_card.new.entropy in
+    let passed = subst (λ h. (p1.faults ≡ (port h.port).faults) × (draws ≡ drew)) c.new-host.ensures c.in-Ok.ensures.passed in
+    let none : NoneRose (counts (state c.args.dir) p0 drew) (counts (state d.file) p1 draws) = record { file = c.in-Ok-open_directory.ensures.passed; card = passed.0; draws = passed.1 } in
+    ok_map c.new.result (λ v. (v.dir ≡ d) × (v.host ≡ c.read_card.new.host) × (v.counter ≡ c.in-Ok.read.counter)) (λ v. NoneRose (counts (state c.args.dir) p0 drew) (counts (state v.dir.file) (port v.host.port) draws))
+    (λ v made. subst (NoneRose (counts (state c.args.dir) p0 drew)) (λ i. counts (state (sym made.0 i).file) (port (sym made.1 i).port) draws) none) c.new.ensures.made
+
+pub returns-in-Ok-open_directory-clause-calm : goal.returns-in-Ok-open_directory-clause-calm
+returns-in-Ok-open_directory-clause-calm g c calm =
+    let port = g.R.RpmbPort.state in
+    let d = c.in-Ok-open_directory.dir in
+    let is = subst (λ h. IsTrue (port h.port).calm → IsTrue (port c.read_card.new.host.port).calm) c.new-host.ensures (λ x. (c.in-Ok.ensures.calm x).0) calm in
+    ok_map c.new.result (λ v. (v.dir ≡ d) × (v.host ≡ c.read_card.new.host) × (v.counter ≡ c.in-Ok.read.counter)) (λ v. IsTrue (port v.host.port).calm)
+    (λ v made. subst (λ h. IsTrue (port h.port).calm) (sym made.1) is) c.new.ensures.made
+
+pub returns-in-Ok-open_directory-clause-calm_err : goal.returns-in-Ok-open_directory-clause-calm_err
+returns-in-Ok-open_directory-clause-calm_err g c calm =
+    let port = g.R.RpmbPort.state in
+    let d = c.in-Ok-open_directory.dir in
+    let is = subst (λ h. IsTrue (port h.port).calm → IsTrue (port c.read_card.new.host.port).calm) c.new-host.ensures (λ x. (c.in-Ok.ensures.calm x).0) calm in
+    err_map c.new.result (λ b. (b.dir ≡ d.file) × (b.card ≡ c.read_card.new.host.port) × (b.fault ≡ NoMemory)) (λ b. IsTrue (port b.card).calm × RefusalNotOfCard b.fault)
+    (λ b broken. (subst (λ r. IsTrue (port r).calm) (sym broken.1) is, subst RefusalNotOfCard (sym broken.2) tt)) c.new.ensures.broken
+
+pub returns-in-Ok-open_directory-clause-drawn : goal.returns-in-Ok-open_directory-clause-drawn
+returns-in-Ok-open_directory-clause-drawn g c reliable =
+    let d = c.in-Ok-open_directory.dir in
+    err_map c.new.result (λ b. (b.dir ≡ d.file) × (b.card ≡ c.read_card.new.host.port) × (b.fault ≡ NoMemory)) (λ b. RefusalNotDrawn b.fault)
+    (λ b broken. subst RefusalNotDrawn (sym broken.2) tt) c.new.ensures.broken
+
+pub returns-in-Err-clause-refused : goal.returns-in-Err-clause-refused
+returns-in-Err-clause-refused g c =
+    let state = g.F.StoreFile.state in
+    let port = g.R.RpmbPort.state in
+    let keys = c.args.keys.now in
+    let key : List ℕ = rpmb_key keys.huk in
+    let p0 = port c.args.card in
+    let p1 = port c.read_card.new.host.port in
+    let drew : ℕ = g.E.Entropy.faults c.args.entropy.now in
+    let draws : ℕ = g.E.Entropy.faults c.read_card.new.entropy in
+    let refused : CardRefused p0 p1 key drew draws c.in-Err.fault =
+    subst (λ (k : List ℕ). CardRefused p0 p1 k drew draws c.in-Err.fault) c.rpmb_key.ensures
+    (subst (λ h. CardRefused (port h.port) p1 h.key drew draws c.in-Err.fault) c.new-host.ensures c.in-Err.ensures.fault) in
+    subst (λ r. MountRefused (state c.args.dir) (state c.args.dir) p0 (port r) keys drew draws c.in-Err.fault) (sym c.into_port-card.ensures)
+    (card_refuses (state c.args.dir) (state c.args.dir) p0 p1 keys drew draws c.in-Err.fault refused)
+
+pub returns-in-Err-root_in-clause-refused : goal.returns-in-Err-root_in-clause-refused
+returns-in-Err-root_in-clause-refused g c =
+    let state = g.F.StoreFile.state in
+    let port = g.R.RpmbPort.state in
+    let keys = c.args.keys.now in
+    let key : List ℕ = rpmb_key keys.huk in
+    let p0 = port c.args.card in
+    let p1 = port c.read_card.new.host.port in
+    let drew : ℕ = g.E.Entropy.faults c.args.entropy.now in
+    let draws : ℕ = g.E.Entropy.faults c.read_card.new.entropy in
+    let tells : (card : CardState) → HasCard p0 key card → Tells card c.in-Ok.read.counter c.in-Ok.read.block =
+    λ card has. subst (λ h. (x : CardState) → HasCard (port h.port) h.key x → Tells x c.in-Ok.read.counter c.in-Ok.read.block) c.new-host.ensures c.in-Ok.ensures.told card
+    (has_still p0 p0 key c.rpmb_key.result card refl c.rpmb_key.ensures has) in
+    let q = port c.into_port-card-in-Err-root_in.result in
+    block_refuses (state c.args.dir) (state c.args.dir) p0 q keys drew draws c.in-Ok.read.counter c.in-Ok.read.block tells c.in-Err-root_in.fault c.in-Err-root_in.ensures.answer
+
+pub returns-in-Ok-open_directory-clause-leaves : goal.returns-in-Ok-open_directory-clause-leaves
+returns-in-Ok-open_directory-clause-leaves g c =
+    let state = g.F.StoreFile.state in
+    let port = g.R.RpmbPort.state in
+    let p0 = port c.args.card in
+    let p1 = port c.read_card.new.host.port in
+    let d = c.in-Ok-open_directory.dir in
+    let o = c.in-Ok-open_directory.ensures in
+    let stays : p1.card ≡ p0.card = c.in-Ok.ensures.stays ∙ ap (λ h. (port h.port).card) c.new-host.ensures in
+    let devices : LeavesDevices (state c.args.dir) (state d.file) p0 p1 = record { keeps = o.keeps; reads = o.reads; card = stays } in
+    err_map c.new.result (λ b. (b.dir ≡ d.file) × (b.card ≡ c.read_card.new.host.port) × (b.fault ≡ NoMemory)) (λ b. LeavesDevices (state c.args.dir) (state b.dir) p0 (port b.card))
+    (λ b is. subst (λ f. LeavesDevices (state c.args.dir) (state f) p0 (port b.card)) (sym is.0) (subst (λ r. LeavesDevices (state c.args.dir) (state d.file) p0 (port r)) (sym is.1) devices)) c.new.ensures.broken

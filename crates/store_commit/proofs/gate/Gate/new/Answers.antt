@@ -7,6 +7,7 @@ pub invariant_of-result : goal.invariant_of-result
 invariant_of-result g c = record {
   stands = c.requires.settled;
   due = omega arith;
+  taken = tt;
   names = subst (IsIndexOf c.in-Ok.index) c.entries.ensures.entries c.in-Ok.ensures;
   held = no_holds c.args.dir.dir.entries 16;
 }

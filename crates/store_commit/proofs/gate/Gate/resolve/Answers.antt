@@ -23,7 +23,7 @@ invariant_of-self g c =
     (sides (state c.adopt.new.self.file) c.adopt.new.self.dir (port h.port) h.key c.in-Ok-Landed.number)
     d.change i.doubt None i.index c.change_names.new.index i.holds c.end_hold.new.holds c.entry_of-before.result
     is.stands.entries.whole done.entries is.fits (ap (λ k. get_or i.dir.dir.entries k None) (sym c.index_of.ensures) ∙ sym c.entry_of-before.ensures)
-    c.change_names.ensures.names c.end_hold.ensures c.self.invariant done.settled (omega arith)
+    c.change_names.ensures.names c.end_hold.ensures c.self.invariant done.settled (omega arith) tt
 
 pub invariant_of-self-in-Ok-Dropped : goal.invariant_of-self-in-Ok-Dropped
 invariant_of-self-in-Ok-Dropped g c =
