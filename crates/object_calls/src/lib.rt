@@ -16,8 +16,6 @@ mod opening;
 mod reading;
 mod shown;
 mod syncing;
-#[cfg(test)]
-mod tests;
 
 pub use bench::{Bench, BlockRead, FILES, Halted};
 pub use forming::format;
