@@ -1,0 +1,18 @@
+-- Entries of a directory: their forms, and that their names differ.
+use Rattle.std.proofs.Common.{◌≡◌, ◌∙◌, ◌≤◌, ℕ, List, Option, Some, None, ap, subst}
+use Rattle.std.specs.Prelude.{IfSome}
+use Rattle.dir_records.specs.declared.entry.DirEntry.{DirEntry}
+use Rattle.dir_records.specs.Form.{HasForm}
+use Rattle.crash_core.specs.Entries.{first_double}
+use Rattle.crash_core.specs.EntryLists.{AreDistinct, entry_at}
+use Rattle.crash_core.proofs.Doubles.{below, names_distinct}
+use Rattle.dir_file.specs.EntryForms.{AreEntriesOf}
+
+pub form_at : (entries : List (Option DirEntry)) → AreEntriesOf entries → (index : ℕ) (e : DirEntry) → entry_at entries index ≡ Some e → HasForm e
+form_at entries are index e at = subst (λ (o : Option DirEntry). IfSome o HasForm) at (are.forms index (below entries index e at))
+
+pub file_from_one : (entries : List (Option DirEntry)) → AreEntriesOf entries → (index : ℕ) (e : DirEntry) → entry_at entries index ≡ Some e → 1 ≤ e.file
+file_from_one entries are index e at = (form_at entries are index e at).file.0
+
+pub distinct_names : (entries : List (Option DirEntry)) → AreEntriesOf entries → AreDistinct entries
+distinct_names entries are = names_distinct entries (ap (λ (n : ℕ). first_double entries 0 n) are.whole ∙ are.apart)

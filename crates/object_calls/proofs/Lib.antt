@@ -1,0 +1,14 @@
+pub mod Files
+pub mod EntriesOf
+pub mod Syncs
+pub mod Openings
+pub mod Counting
+pub mod NextEntries
+pub mod Blocks
+pub mod Showing
+pub mod Loading
+pub mod Rearming
+pub mod Nexts
+pub mod MapStays
+pub mod FormedBench
+pub mod Mounts

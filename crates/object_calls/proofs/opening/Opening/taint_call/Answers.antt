@@ -1,0 +1,26 @@
+use Rattle.std.proofs.Common.{◌≡◌, ◌∙◌, ◌∷◌, ℕ, List, length, sym, subst}
+use Rattle.disk_model.specs.State.{pending}
+use Rattle.object_calls.specs.Files.{files_of}
+use Rattle.object_calls.specs.Opening.{IsOpening}
+use Rattle.object_calls.proofs.Files.{refilled}
+use Rattle.object_calls.proofs.Rearming.{stays_open, taints_pending}
+use Rattle.object_calls.proofs.opening.Opening.taint_call.Goals as goal
+
+pub invariant_of-self : goal.invariant_of-self
+invariant_of-self g c =
+    let state = g.F.StoreFile.state in
+    let port = g.R.RpmbPort.state in
+    let i = c.self.inside in
+    let n = c.taint_device.new in
+    let e = c.taint_device.ensures in
+    let was : List g.row.F.Denot = c.deref_mut.result.now in
+    let held : was ≡ i.files.items = c.deref_mut.ensures.value in
+    let long : length i.files.items ≡ i.files.len = sym i.files.ok.0 in
+    let many : length n.files ≡ i.files.len = c.taint_device.auto.files ∙ c.deref_mut.ensures.len in
+    let still : (k : ℕ) → pending (files_of state (n.gate.dir.file ∷ n.files) k) ≡ pending (files_of state (i.gate.dir.file ∷ i.files.items) k) =
+    subst (λ (l : List g.row.F.Denot). (k : ℕ) → pending (files_of state (n.gate.dir.file ∷ n.files) k) ≡ pending (files_of state (i.gate.dir.file ∷ l) k)) held
+    (taints_pending c.taint_device.result c.args.device (record { call = c.args.call; at = c.args.at; mask = c.args.mask.now }) (files_of state (i.gate.dir.file ∷ was)) (files_of state (n.gate.dir.file ∷ n.files)) (port i.gate.host.port) (port n.gate.host.port) e.taints e.refused) in (
+      subst (λ (l : List g.row.F.Denot). IsOpening state n.gate l i.storage_key) (sym (refilled i.files.len i.files.items n.files long many))
+          (stays_open state i.gate i.files.items i.storage_key c.self.invariant.0 n.gate n.files e.gate (many ∙ sym long) still),
+      c.self.invariant.1,
+    )

@@ -1,0 +1,6 @@
+use Rattle.std.proofs.Common.{◌∙◌, is_some, ap, sym, arith}
+use Rattle.object_calls.proofs.Counting.{count_next, count_none, count_whole}
+use Rattle.object_calls.proofs.opening.count_entries.Goals as goal
+
+pub loop-index-init : goal.loop-index-init
+loop-index-init g c = count_none c.args.gate.now.dir.dir.entries

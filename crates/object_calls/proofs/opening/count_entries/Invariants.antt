@@ -1,0 +1,7 @@
+use Rattle.std.proofs.Common.{◌≡◌, ◌≤◌, take, is_some}
+use Rattle.std.specs.Prelude.{count_by}
+use Rattle.object_calls.proofs.Counting.{IsCount}
+use Rattle.object_calls.proofs.opening.count_entries.Given as goal
+
+abbrev pub invariant-loop-index : goal.invariant-loop-index
+invariant-loop-index g l = IsCount l.gate.dir.dir.entries l.index l.count

@@ -1,0 +1,11 @@
+pub mod Files
+pub mod Syncing
+pub mod Opening
+pub mod Begins
+pub mod Formed
+pub mod Entries
+pub mod Shown
+pub mod Reads
+pub mod Next
+pub mod Arming
+pub mod Refusals

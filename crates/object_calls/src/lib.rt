@@ -1,0 +1,25 @@
+//! The store on its devices, from the bench to the opening: the card's block is read, a store is formatted and mounted, and its objects
+//! are shown.
+//!
+//! A mount reads the card's counter and its block 0, syncs and loads the directory, and syncs each file that the directory names. From
+//! then on every picture that a crash may leave mounts to the objects that were found. One object at a time is loaded, and none is
+//! copied.
+#![tactic(auto)]
+
+mod arms;
+mod bench;
+mod data;
+mod forming;
+mod mounting;
+mod next;
+mod opening;
+mod reading;
+mod shown;
+mod syncing;
+
+pub use bench::{Bench, BlockRead, FILES, Halted};
+pub use forming::format;
+pub use mounting::mount;
+pub use opening::Opening;
+pub use reading::card_block;
+pub use shown::{Shown, ShownObject};

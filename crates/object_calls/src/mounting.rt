@@ -1,0 +1,67 @@
+//! Mounting a store.
+
+ghost use Rattle.std.specs.Prelude.{◌≡◌, vec_len, IfErr, IfOk};
+ghost use Rattle.store_commit.specs.Gates.{gate_sides};
+ghost use Rattle.store_commit.specs.Mounts.{LeavesDevices, OpensGate};
+ghost use Rattle.object_calls.specs.Begins.{IsWholeOpening, MountsAsRead};
+ghost use Rattle.object_calls.specs.Files.{files_of};
+ghost use Rattle.object_calls.specs.Opening.{IsKeyed, bench_files, entries_in};
+ghost use Rattle.object_calls.specs.Refusals.{BenchRefused};
+ghost use Rattle.object_calls.specs.Syncing.{SyncsNamed};
+
+use crate::bench::{Bench, Halted, take_dir, with_dir};
+use crate::opening::Opening;
+use crate::syncing::sync_named;
+use hmac_keys::{Keys, ssk};
+use rpmb_card::RpmbPort;
+use std::alloc::Global;
+use store_commit::{Gate, GateBroken, MountFault};
+use tee_ports::{Entropy, StoreFile};
+
+/// Mounts a store: reads the card's counter and its block 0, each with a nonce that is drawn, syncs and loads the directory, and syncs
+/// each file that the directory names. No object is loaded.
+///
+/// # Errors
+///
+/// `NoStore` and `CardBlock` by block 0; `Directory` where the directory's image is refused; `Frame` and `CardResult` as the host says;
+/// `Failed` where a call of a device failed; `NoMemory`. The card is as it was, and each file too, but for the syncs.
+pub fn mount<F: StoreFile + Drop, R: RpmbPort + Drop, E: Entropy>(
+    alloc: Global,
+    bench: Bench<F, R>,
+    keys: &Keys,
+    entropy: &mut E,
+) -> Result<Opening<F, R>, Halted<F, R>>
+    requires { vec_len bench.files ≡ 273 }
+    ensures gate { IfOk result (λ o. OpensGate (files_of F.state bench.files.items 0) (R.state bench.card) keys.now (gate_sides F.state R.state o.gate)) }
+    ensures files { IfOk result (λ o. SyncsNamed (entries_in o) 256 (files_of F.state bench.files.items) (bench_files F.state o)) }
+    ensures keyed { IfOk result (λ o. IsKeyed keys.now o) }
+    ensures mounted { IfOk result (λ o. MountsAsRead F.state (files_of F.state bench.files.items 0) (R.state bench.card) keys.now o) }
+    ensures opens { IfOk result (λ o. IsWholeOpening F.state R.state o) }
+    ensures refused { IfErr result (λ h. BenchRefused F.state bench.files.items h.bench.files.items (R.state bench.card) (R.state h.bench.card) keys.now
+        (E.faults entropy.old) (E.faults entropy.new) h.fault) }
+    ensures leaves { IfErr result (λ h. LeavesDevices (files_of F.state bench.files.items 0) (files_of F.state h.bench.files.items 0)
+        (R.state bench.card) (R.state h.bench.card)) }
+    ensures whole { IfErr result (λ h. vec_len h.bench.files ≡ 273) }
+    ensures reliable { E.is_reliable entropy.old → E.is_reliable entropy.new }
+{
+    let Bench { files, card } = bench;
+    let (dir, mut others) = take_dir(files);
+    let gate = match Gate::mount(alloc, dir, card, keys, entropy) {
+        Ok(gate) => gate,
+        Err(GateBroken { dir, card, fault }) => {
+            let files = with_dir(dir, others);
+            let bench = Bench { files, card };
+            return Err(Halted { bench, fault });
+        }
+    };
+    match sync_named(&mut others, &gate) {
+        Ok(()) => Ok(Opening::new(alloc, gate, others, ssk(keys))),
+        Err(cause) => {
+            let (dir, card) = gate.close();
+            let files = with_dir(dir, others);
+            let bench = Bench { files, card };
+            let fault = MountFault::Failed(cause);
+            Err(Halted { bench, fault })
+        }
+    }
+}

@@ -1,0 +1,101 @@
+//! A store that is mounted.
+
+ghost use Rattle.std.specs.Prelude.{◌≡◌, ◌<◌, ◌∷◌, ℕ, length, vec_len, is_some, count_by};
+ghost use Rattle.std.specs.Vec.{vec_capacity};
+ghost use Rattle.hmac_keys.specs.declared.Keys.{Keys};
+ghost use Rattle.crash_core.specs.Opening.{opening_map};
+ghost use Rattle.object_calls.specs.Begins.{IsWholeOpening};
+ghost use Rattle.object_calls.specs.Opening.{IsOpening, bench_files, entries_in};
+
+use crate::bench::{Bench, with_dir};
+use rpmb_card::RpmbPort;
+use std::alloc::Global;
+use std::marker::Model;
+use store_commit::Gate;
+use tee_ports::StoreFile;
+
+/// A store that is mounted, on one thread and without locks. No handle is open.
+///
+/// Nothing is pending on the directory's file, nor on a file that an entry of the directory names.
+#[derive(Drop)]
+pub struct Opening<F: StoreFile + Drop, R: RpmbPort + Drop> {
+    pub(crate) gate: Gate<F, R>,
+    // The files of objects, file 1 first. There is room for the directory's file.
+    pub(crate) files: Vec<F>,
+    // The key that the applications' keys come from.
+    pub(crate) storage_key: [u8; 32],
+    pub(crate) alloc: Global,
+}
+
+impl<F: StoreFile + Drop, R: RpmbPort + Drop> Model for Opening<F, R> {
+    ghost use Rattle.std.specs.Prelude.{◌<◌, vec_len};
+    ghost use Rattle.std.specs.Vec.{vec_capacity};
+    ghost use Rattle.object_calls.specs.Opening.{IsOpening, OpeningValue};
+
+    ghost Value = { OpeningValue F R };
+
+    ghost view = { λ o. record { gate = o.gate; files = o.files.items; storage_key = o.storage_key } };
+
+    ghost invariant = { λ o. IsOpening F.state o.gate o.files.items o.storage_key × (vec_len o.files < vec_capacity o.files) };
+}
+
+// How many of the 256 entries of a gate's directory are not free.
+fn count_entries<F: StoreFile + Drop, R: RpmbPort + Drop>(gate: &Gate<F, R>) -> u16
+    requires { length gate.now.dir.dir.entries ≡ 256 }
+    ensures { result ≡ count_by is_some gate.now.dir.dir.entries }
+{
+    let mut count = 0u16;
+    for index in 0..256u16 {
+        count += u16::from(gate.entry(index).is_some());
+    }
+    count
+}
+
+impl<F: StoreFile + Drop, R: RpmbPort + Drop> Opening<F, R> {
+    // The opening of a gate that was mounted, and of the files that were synced.
+    pub(crate) fn new(
+        alloc: Global,
+        gate: Gate<F, R>,
+        files: Vec<F>,
+        storage_key: [u8; 32],
+    ) -> Opening<F, R>
+        requires opening { IsOpening F.state gate files.items storage_key }
+        requires room { vec_len files < vec_capacity files }
+        ensures { result ≡ record { gate = gate; files = files.items; storage_key = storage_key } }
+    {
+        Opening {
+            gate,
+            files,
+            storage_key,
+            alloc,
+        }
+    }
+
+    /// How many objects there are.
+    pub fn objects(&self) -> u16
+        ensures entries { result ≡ count_by is_some (entries_in self.now) }
+        ensures objects { (keys : Keys) → length (opening_map keys (bench_files F.state self.now) (entries_in self.now)) ≡ result }
+        // What always holds of an opening.
+        ensures opening { IsOpening F.state self.now.gate self.now.files self.now.storage_key }
+    {
+        count_entries(&self.gate)
+    }
+
+    /// Gives the bench back. Every picture of it mounts to the objects that were found. No device is called, and no memory is taken.
+    pub fn close(self) -> Bench<F, R>
+        ensures files { result.files.items ≡ self.gate.dir.file ∷ self.files }
+        ensures card { result.card ≡ self.gate.host.port }
+        ensures whole { vec_len result.files ≡ 273 }
+        ensures opens { IsWholeOpening F.state R.state self }
+    {
+        let Opening {
+            gate,
+            files,
+            storage_key: _,
+            alloc: _,
+        } = self;
+        let (dir, card) = gate.close();
+        let files = with_dir(dir, files);
+        Bench { files, card }
+    }
+}
