@@ -60,9 +60,9 @@ fn base(alloc: Global) -> anyhow::Result<Devices> {
     let devices = formatted(alloc, Devices::new(alloc), &mut entropy)
         .ok()
         .context("not formatted")?;
-    let mut gate = mounted(alloc, devices, &mut entropy)
-        .ok()
-        .context("not mounted")?;
+    let Ok(mut gate) = mounted(alloc, devices, &mut entropy) else {
+        bail!("not mounted");
+    };
     if !stores::put(&mut gate, first_name(), &mut entropy)?.is_made {
         bail!("not committed");
     }
@@ -168,9 +168,9 @@ fn try_change(
     seed: u64,
 ) -> anyhow::Result<(bool, Outcome)> {
     let devices = base(alloc)?;
-    let mut gate = mounted(alloc, devices, &mut Mishap::NONE.entropy())
-        .ok()
-        .context("not mounted")?;
+    let Ok(mut gate) = mounted(alloc, devices, &mut Mishap::NONE.entropy()) else {
+        bail!("not mounted");
+    };
     mishap.set_gate(&mut gate)?;
     let ending = match act {
         Act::Put => stores::put(&mut gate, second_name(), &mut mishap.entropy())?,
