@@ -1,4 +1,4 @@
-//! Tries what may go wrong with objects and the trees that hold them: calls that fail, stops, crashes, altered bytes. Prints a
+//! Tries what may go wrong with objects, the trees that hold them, and a store's directory and card: calls that fail, stops, crashes, altered bytes. Prints a
 //! line for each scenario with what then stands, how many bytes some changes write, and how often something was lost.
 //!
 //! A scenario is run once for each call that may fail, in each way and with each seed of a crash. What stands then is the bytes
@@ -15,8 +15,10 @@ mod base;
 mod blocks;
 mod budget;
 mod change;
+mod commits;
 mod files;
 mod masks;
+mod mishaps;
 mod named;
 mod objects;
 mod outcome;
@@ -25,6 +27,7 @@ mod ranges;
 mod roots;
 mod scenarios;
 mod single_calls;
+mod stores;
 mod told;
 mod trees;
 mod trials;
