@@ -12,4 +12,5 @@ mod state;
 pub use event::{Event, Mark};
 pub use history::History;
 pub use name::ObjectName;
+pub use session::{Handle, Session};
 pub use state::State;

@@ -1,5 +1,5 @@
 -- The store of one phase, and where the replay of its history stands under a supposition.
-use Rattle.std.specs.Prelude.{◌≡◌, ℕ, List, map, find, Option, Some, None, option_map}
+use Rattle.std.specs.Prelude.{◌≡◌, ℕ, List, [], map, find, Option, Some, None, option_map}
 use Rattle.std.specs.Ordering.{is_eq}
 use Rattle.atomic_table.specs.Seated.{TableId}
 use Rattle.hmac_keys.specs.declared.Keys.{Keys}
@@ -13,6 +13,7 @@ use Rattle.history_seats.specs.Records.{HistoryRecord}
 use Rattle.history_seats.specs.Mounts.{Entry, Mounted, MountedEntry, Served}
 use Rattle.history_seats.specs.Settling.{Pending}
 use Rattle.history_seats.specs.Directory.{directory_of}
+use Rattle.history_seats.specs.Views.{no_mount, no_devices}
 use Rattle.suppositions.specs.Guesses.{Guess, object_under}
 
 -- What one phase is fixed by: the table of its history, the device's keys, the mount, the devices as they are served, the objects that it
@@ -24,6 +25,17 @@ pub record Store : Type 0 where
   pub served : Served
   pub objects : ObjectMap
   pub counter : ℕ
+
+-- no store
+abbrev pub no_store : Store
+no_store = record {
+  table = record { words = 0; slots = 0; views_name = 0; atom = 0; block = 0; offset = 0; slot_names = [] };
+  keys = record { huk = []; chip = [] };
+  mounted = no_mount;
+  served = no_devices;
+  objects = [];
+  counter = 0;
+}
 
 -- the entry of that name
 abbrev pub entry_named : ObjectName → List Entry → Option Entry

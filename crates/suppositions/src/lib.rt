@@ -4,10 +4,11 @@
 //! of its sessions is said under each supposition: which files are not honest, and what stands in the place of damage in them. At the
 //! end one supposition is chosen.
 //!
-//! It has definitions and laws alone.
+//! It has definitions and laws, and the trait by whose types a store is named.
 #![tactic(auto)]
 
 mod laws;
+mod name;
 
 pub use laws::{
     alike_trees_are_same, answered_histories_are_legal, answered_landings_are_due,
@@ -23,3 +24,4 @@ pub use laws::{
     unchanged_events_keep_maps, unchanged_sessions_stand, undamaged_ends_clash, unmet_pages_stay,
     views_tell_sessions, writes_are_due_or_end, writes_stand_or_stray,
 };
+pub use name::StoreName;
