@@ -1,0 +1,5 @@
+pub mod Phases
+pub mod Parts
+pub mod Readings
+pub mod Resting
+pub mod Ended

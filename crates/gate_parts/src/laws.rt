@@ -1,0 +1,25 @@
+//! Laws of the gate's part. Each function does nothing: its contract is the law.
+
+ghost use Rattle.gate_parts.specs.Ended.{EndedStoresMount, EndsAreSupposed, HonestStoresMount};
+ghost use Rattle.gate_parts.specs.Resting.{RestingGatesHold};
+
+/// Between two calls a gate that is tied to its history is a part of the core machine, at rest.
+pub fn resting_gates_hold()
+    ensures { RestingGatesHold }
+{}
+
+/// Once a phase has ended, every picture of the store mounts to the map that its history leaves, or to that with the commit in doubt.
+/// Nothing is said of objects in files that are not honest, nor where the directory's file is not.
+pub fn ended_stores_mount()
+    ensures { EndedStoresMount }
+{}
+
+/// Where every file is honest, it mounts to that map itself.
+pub fn honest_stores_mount()
+    ensures { HonestStoresMount }
+{}
+
+/// The supposition that has exactly the files as not honest that are not, has them all.
+pub fn ends_are_supposed()
+    ensures { EndsAreSupposed }
+{}
