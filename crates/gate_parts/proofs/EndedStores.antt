@@ -66,11 +66,11 @@ module _ (store : Store) (guess : Guess) (g : Sides) (doubt : Option Doubted) (h
     | inr within ↦ e.dishonest file (omega (arith, within)) trusted
   ]
 
-  rests : Rests store guess g doubt holds card view
+  rests : Rests (phase_under store guess) (resting_part store guess g doubt holds card view)
   rests = resting_gates_hold store guess g doubt holds card view e.gate e.tied (files_honest 0)
 
   abbrev parts : Parts
-  parts = record { gate = resting_part store guess g doubt holds card view rests.sealed; slots = slots_of slots }
+  parts = record { gate = resting_part store guess g doubt holds card view; slots = slots_of slots }
 
   parts_hold : PartsHold (phase_under store guess) parts
   parts_hold = record {

@@ -1,7 +1,8 @@
 -- Between two calls the gate's part has its fact, and is at rest.
 use Rattle.std.proofs.Common.{◌≡◌, ◌⊎◌, ℕ, suc, ◌+◌, ◌<◌, true, true≢false, List, [], ◌∷◌, get_or, inl, inr, IsTrue, Option, Some, None, refl, sym, ap, ◌∙◌, subst, arith}
-use Rattle.std.specs.Prelude.{unwrap_or}
-use Rattle.std.proofs.lemmas.Bool.{cases_Bool, cond-true, cond-false, eqb-true}
+use Rattle.std.specs.Prelude.{◌==◌, unwrap_or}
+use Rattle.std.specs.Option.{option_map}
+use Rattle.std.proofs.lemmas.Bool.{cases_Bool, cond-true, cond-false, eq-eqb, eqb-true, ne_eqb}
 use Rattle.node_image.specs.declared.node.RootRef.{RootRef}
 use Rattle.rpmb_card.specs.Card.{CardState}
 use Rattle.htree_file.specs.Opening.{Loaded}
@@ -26,6 +27,7 @@ use Rattle.core_parts.specs.GateParts.{DirectoryReads, GateDirectory, GateHolds,
 use Rattle.core_parts.specs.Finished.{IsAtRest}
 use Rattle.dir_file.specs.EntryForms.{AreEntriesOf}
 use Rattle.dir_file.specs.Held.{IsHeld}
+use Rattle.dir_file.specs.View.{StagedDirectory}
 use Rattle.suppositions.specs.Guesses.{Guess}
 use Rattle.suppositions.specs.Mapped.{landed_version}
 use Rattle.suppositions.specs.Stores.{Store, entries_at, standing_at}
@@ -38,9 +40,9 @@ use Rattle.store_commit.specs.Sides.{IsSettled, Names, Sides}
 use Rattle.store_commit.specs.declared.change.EntryChange.{EntryChange as Change}
 use Rattle.store_commit.specs.declared.change.EntryChange.TheVariants.{Put, Clear}
 use Rattle.gate_parts.specs.Phases.{phase_under}
-use Rattle.gate_parts.specs.Parts.{IsCardOf, gate_part, holder_from, is_hold_on, pending_of, takes_of}
+use Rattle.gate_parts.specs.Parts.{IsCardOf, gate_part, holder_from, is_hold_on, pending_of, sealed_in, takes_of}
 use Rattle.gate_parts.specs.Readings.{IsDoubtRead, IsTiedUnder}
-use Rattle.gate_parts.specs.Resting.{IsGateOf, Rests, RestingGatesHold}
+use Rattle.gate_parts.specs.Resting.{IsGateOf, Rests, RestingGatesHold, resting_part}
 use Rattle.gate_parts.proofs.HeldDirectories.{held_reads}
 use Rattle.gate_parts.proofs.LandedEntries.{landed_is_known}
 use Rattle.gate_parts.proofs.ReadDirectories.{reading_stands}
@@ -122,9 +124,8 @@ module _ (store : Store) (guess : Guess) (g : Sides) (doubt : Option Doubted) (h
   names_still : (root : RootRef) (counter : ℕ) → at_now.counter ≡ counter → Names (gate.told).own root counter → CardNames card root at_now.counter
   names_still root counter is names = card_names g card gate.told root at_now.counter (subst (Names (gate.told).own root) (sym is) names)
 
-  settled_rests : IsSettled g → doubt ≡ None → Rests store guess g None holds card view
-  settled_rests settled none = record {
-    sealed = None;
+  settled_rests : IsSettled g → Rests (phase_under store guess) (resting_part store guess g None holds card view)
+  settled_rests settled = record {
     fact = record {
       sound = gate.sound;
       committed = committed_stands store guess g view tied.mounted doubt tied settled.entries (own_reads g.dir.root g.dir.tree g.dir.entries settled.form settled.held);
@@ -170,24 +171,37 @@ module _ (store : Store) (guess : Guess) (g : Sides) (doubt : Option Doubted) (h
       taken = taken_unnamed g.dir.entries holds gate.held;
     }
 
-    rests_with : (sealed : Option RootRef) → GateSealed (phase_under store guess) (part_with (Some read.doubt) sealed) (commit_with sealed) sealed → Rests store guess g (Some d) holds card view
+    rests_with : (sealed : Option RootRef) → GateSealed (phase_under store guess) (part_with (Some read.doubt) sealed) (commit_with sealed) sealed → Rests (phase_under store guess) (part_with at_now.doubt sealed)
     rests_with sealed names = record {
-      sealed = sealed;
       fact = subst (λ (o : Option Doubt). GateHolds (phase_under store guess) (part_with o sealed)) (sym read.is_open) (holds_with sealed names);
       at_rest = doubted_rests at_now.doubt refl read.is_open sealed;
     }
 
-    doubt_rests : Rests store guess g (Some d) holds card view
+    -- the card's counter tells which directory the card names
+    unsealed : Names (gate.told).own g.dir.root g.counter → sealed_in g card ≡ None
+    unsealed names =
+        cond-true (card.counter == g.counter) None (option_map (λ (next : StagedDirectory). next.root) g.dir.stage)
+        (eq-eqb card.counter g.counter ((gate.told).same.counter ∙ names.counted))
+
+    is_sealed : Names (gate.told).own (of.next).root (g.counter + 1) → sealed_in g card ≡ Some (of.next).root
+    is_sealed names =
+        cond-false (card.counter == g.counter) None (option_map (λ (next : StagedDirectory). next.root) g.dir.stage)
+        (ne_eqb card.counter g.counter (λ same. let more : card.counter ≡ g.counter + 1 = (gate.told).same.counter ∙ names.counted in omega (arith, same, more)))
+        ∙ ap (option_map (λ (next : StagedDirectory). next.root)) (of.stands).is_open
+
+    doubt_rests : Rests (phase_under store guess) (resting_part store guess g (Some d) holds card view)
     doubt_rests = elim ((of.stands).named (gate.told).own (gate.told).has) [
-      | inl old ↦ rests_with None (names_still g.dir.root g.counter tied.counted old)
-      | inr new ↦ rests_with (Some (of.next).root) (record {
+      | inl old ↦
+          subst (λ (x : Option RootRef). Rests (phase_under store guess) (part_with at_now.doubt x)) (sym (unsealed old))
+          (rests_with None (names_still g.dir.root g.counter tied.counted old))
+      | inr new ↦ subst (λ (x : Option RootRef). Rests (phase_under store guess) (part_with at_now.doubt x)) (sym (is_sealed new)) (rests_with (Some (of.next).root) (record {
         names = names_now (of.next).root 1 g.counter tied.counted new;
         place = subst (λ (n : ℕ). index_of (change_of d.change) < n) (sym ((of.stands).entries).whole) (change_within g.dir.entries d.change of.fits);
         directory = landed_stands;
-      })
+      }))
     ]
 
 -- Each gate that is tied to its history rests.
 pub resting_gates_hold : RestingGatesHold
-resting_gates_hold store guess g None holds card view gate tied honest = settled_rests store guess g None holds card view gate tied honest gate.stands refl
+resting_gates_hold store guess g None holds card view gate tied honest = settled_rests store guess g None holds card view gate tied honest gate.stands
 resting_gates_hold store guess g (Some d) holds card view gate tied honest = doubt_rests store guess g (Some d) holds card view gate tied honest d gate.stands tied.doubts

@@ -1,5 +1,6 @@
 -- The gate of a store as the gate's part of the core machine, over a port that tells its card.
 use Rattle.std.specs.Prelude.{◌==◌, ◌+◌, ℕ, Bool, false, if◌then◌else◌, List, [], ◌∷◌, Option, Some, None}
+use Rattle.std.specs.Option.{option_map}
 use Rattle.node_image.specs.declared.node.RootRef.{RootRef}
 use Rattle.rpmb_card.specs.Card.{CardState}
 use Rattle.rpmb_host.specs.Honest.{HasCard}
@@ -37,6 +38,10 @@ abbrev pub pending_of : Option Doubted → Option Doubt → (sealed : Option Roo
 pending_of None doubt sealed = None
 pending_of (Some d) None sealed = None
 pending_of (Some d) (Some doubt) sealed = Some (record { session = doubt.session; call = doubt.call; change = change_of d.change; sealed = sealed })
+
+-- the reference of the open stage, where the card's counter tells that the card names it
+abbrev pub sealed_in : Sides → CardState → Option RootRef
+sealed_in g card = if card.counter == g.counter then None else option_map (λ next. next.root) g.dir.stage
 
 abbrev pub gate_part : Sides → CardState → (takes : ℕ → Option ℕ) → Option PendingCommit → (putting : Option Held) → GateView → GatePart
 gate_part g card takes pending putting view = record {
