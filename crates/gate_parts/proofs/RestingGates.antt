@@ -35,15 +35,16 @@ use Rattle.suppositions.proofs.Mending.{none_some, some_same}
 use Rattle.store_commit.specs.declared.gate.Doubted.{Doubted}
 use Rattle.store_commit.specs.Changes.{FitsIn, change_of, entries_after}
 use Rattle.store_commit.specs.Gates.{IsDoubtOf}
-use Rattle.store_commit.specs.Holds.{AreHolds, file_held}
+use Rattle.store_commit.specs.Holds.{AreHolds}
 use Rattle.store_commit.specs.Sides.{IsSettled, Names, Sides}
 use Rattle.store_commit.specs.declared.change.EntryChange.{EntryChange as Change}
 use Rattle.store_commit.specs.declared.change.EntryChange.TheVariants.{Put, Clear}
 use Rattle.gate_parts.specs.Phases.{phase_under}
-use Rattle.gate_parts.specs.Parts.{IsCardOf, gate_part, holder_from, is_hold_on, pending_of, sealed_in, takes_of}
+use Rattle.gate_parts.specs.Parts.{IsCardOf, gate_part, pending_of, sealed_in, takes_of}
 use Rattle.gate_parts.specs.Readings.{IsDoubtRead, IsTiedUnder}
 use Rattle.gate_parts.specs.Resting.{IsGateOf, Rests, RestingGatesHold, resting_part}
 use Rattle.gate_parts.proofs.HeldDirectories.{held_reads}
+use Rattle.gate_parts.proofs.Holders.{holder_holds}
 use Rattle.gate_parts.proofs.LandedEntries.{landed_is_known}
 use Rattle.gate_parts.proofs.ReadDirectories.{reading_stands}
 
@@ -57,22 +58,6 @@ card_names g card is root counter names = record {
   names = ap (λ (blocks : List (List ℕ)). root_in (get_or blocks 0 [])) (is.same).blocks ∙ names.block;
   counted = (is.same).counter ∙ names.counted;
 }
-
--- who holds a file holds it
-hold_is : (file : ℕ) (hold : Option ℕ) → is_hold_on file hold ≡ true → hold ≡ Some file
-hold_is file None is = absurd (true≢false (sym is))
-hold_is file (Some held) is = ap (λ (n : ℕ). Some n) (eqb-true held file is)
-
-holder_holds : (holds : List (Option ℕ)) (first file actor : ℕ) → holder_from first holds file ≡ Some actor → (k : ℕ) × (first + k ≡ actor) × (file_held holds k ≡ Some file)
-holder_holds [] first file actor is = absurd (none_some actor is)
-holder_holds (hold ∷ holds) first file actor is = elim (cases_Bool (is_hold_on file hold)) [
-  | inl here ↦
-      let same : first ≡ actor = some_same first actor (sym (cond-true (is_hold_on file hold) (Some first) (holder_from (first + 1) holds file) here) ∙ is) in
-      (0, omega (arith, same), hold_is file hold here)
-  | inr other ↦
-      let rest = holder_holds holds (first + 1) file actor (sym (cond-false (is_hold_on file hold) (Some first) (holder_from (first + 1) holds file) other) ∙ is) in
-      (suc rest.0, omega (arith, rest.1), rest.2)
-]
 
 -- no entry names a file that is taken
 pub taken_unnamed : (entries : List (Option DirEntry)) (holds : List (Option ℕ)) → AreHolds entries holds → (file actor : ℕ) → takes_of holds file ≡ Some actor → IsUnnamed entries file

@@ -3,3 +3,4 @@ pub mod Parts
 pub mod Readings
 pub mod Resting
 pub mod Ended
+pub mod Commits

@@ -1,5 +1,6 @@
 //! Laws of the gate's part. Each function does nothing: its contract is the law.
 
+ghost use Rattle.gate_parts.specs.Commits.{CommitsAreSteps};
 ghost use Rattle.gate_parts.specs.Ended.{EndedStoresMount, EndsAreSupposed, HonestStoresMount};
 ghost use Rattle.gate_parts.specs.Resting.{RestingGatesHold};
 
@@ -22,4 +23,9 @@ pub fn honest_stores_mount()
 /// The supposition that has exactly the files as not honest that are not, has them all.
 pub fn ends_are_supposed()
     ensures { EndsAreSupposed }
+{}
+
+/// A commit of the gate, however it ends, is with its event a list of steps of the core machine, from one part at rest to the next.
+pub fn commits_are_steps()
+    ensures { CommitsAreSteps }
 {}

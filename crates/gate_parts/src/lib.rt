@@ -10,5 +10,5 @@
 mod laws;
 
 pub use laws::{
-    ended_stores_mount, ends_are_supposed, honest_stores_mount, resting_gates_hold,
+    commits_are_steps, ended_stores_mount, ends_are_supposed, honest_stores_mount, resting_gates_hold,
 };
