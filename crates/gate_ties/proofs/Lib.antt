@@ -4,3 +4,6 @@ pub mod Listing
 pub mod Matching
 pub mod Opening
 pub mod QuietTies
+pub mod Facts
+pub mod Making
+pub mod CommitTies

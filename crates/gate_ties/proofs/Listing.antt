@@ -25,7 +25,7 @@ use Rattle.core_parts.proofs.ListedEntries.{commits_keep_listed}
 use Rattle.suppositions.proofs.EntryNames.{at_itself}
 use Rattle.gate_ties.specs.CallChanges.{IsCallChange}
 
-resized_long : (old : List ℕ) (size : ℕ) → length (resized old size) ≡ size
+pub resized_long : (old : List ℕ) (size : ℕ) → length (resized old size) ≡ size
 resized_long old size = simp (length-append, length-take, length-replicate) (omega arith)
 
 -- A machine of one object under that name, and one session with a handle on it: what is known of the entries after a commit is said of a

@@ -132,7 +132,7 @@ same_doubt s (CallEvent session number call reply mark) file d is keeps =
     ∙ ap (λ (b : Bool). elim b as (λ _. Option Doubt) [ true ↦ s.doubt | false ↦ None ]) keeps
 
 -- what is said of a machine's change, by its state and counter alone
-makes_same : (s t : Standing) (session : ℕ) (call : Call) (entries : List (Option DirEntry)) (change : EntryChange) → t.state ≡ s.state → t.counter ≡ s.counter
+pub makes_same : (s t : Standing) (session : ℕ) (call : Call) (entries : List (Option DirEntry)) (change : EntryChange) → t.state ≡ s.state → t.counter ≡ s.counter
     → MakesEntries s session call entries change → MakesEntries t session call entries change
 makes_same s t session call entries change state counter makes = record {
   made = makes.made;
