@@ -48,6 +48,7 @@ module _ (keys : Keys) (guess : Guess) (versions : Versions) (listed : List Entr
 pub matched_tell : MatchedEntriesTell
 matched_tell keys guess versions listed s entries m distinct single step = record {
   each = entry_fact keys guess versions listed s entries m distinct step;
+  sizes = λ index e at_. let f = entry_fact keys guess versions listed s entries m distinct step index e at_ in (object_under keys guess e.file e.generation f.version, f.object, f.size);
   back = entry_named_by keys guess versions listed s entries m distinct step;
   apart = listed_apart entries listed m.listed single;
 }

@@ -7,3 +7,6 @@ pub mod QuietTies
 pub mod Facts
 pub mod Making
 pub mod CommitTies
+pub mod Applications
+pub mod RightTags
+pub mod Told

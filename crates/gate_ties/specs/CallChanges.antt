@@ -1,5 +1,5 @@
 -- The change of the entries that the commit of a call makes, in the words of the directory alone.
-use Rattle.std.specs.Prelude.{◌≡◌, ◌<◌, ℕ, false, List, [], Option, Some, length, slice_index_or}
+use Rattle.std.specs.Prelude.{◌≡◌, ◌<◌, ℕ, false, List, [], Option, Some, None, length, slice_index_or}
 use Rattle.std.specs.Ordering.{is_eq}
 use Rattle.hmac_keys.specs.declared.Keys.{Keys}
 use Rattle.tee_types.specs.declared.call.Call.{Call}
@@ -38,10 +38,10 @@ IsCallChange application (Rename handle id) entries counter (Put index e) = IsRe
 IsCallChange application (Delete handle) entries counter (Clear index) = (name : ObjectName) × IsEntryOf entries index name
 IsCallChange application _ entries counter _ = ⊥
 
--- what the change leaves under its tag: the version of the entry that it puts
+-- what the change leaves under its tag: the version of the entry that it puts, or none
 abbrev pub LeavesVersion : Keys → EntryChange → Option Version → Type 0
 LeavesVersion keys (Put index e) left = (v : Version) × (left ≡ Some v) × IsVersionOf e v × IsReal keys v
-LeavesVersion keys (Clear index) left = Unit {0}
+LeavesVersion keys (Clear index) left = left ≡ None
 
 -- The commit of a session's call changes the entries so, under that tag, and leaves that version.
 pub record IsEntryCommit (store : Store) (entries : List (Option DirEntry)) (counter session : ℕ) (call : Call) (change : EntryChange) (tag : Tag Version) (left : Option Version) : Type 0 where

@@ -18,6 +18,7 @@ use Rattle.suppositions.specs.Spellings.{IsReal}
 use Rattle.suppositions.specs.Stores.{entry_named}
 use Rattle.suppositions.specs.Mapped.{AreApart, IsInStep, Versions}
 use Rattle.gate_ties.specs.Matched.{AreMatched}
+use Rattle.gate_ties.specs.MachineChanges.{HaveSizes}
 
 -- The history's entry of its name is this entry, its version is real, and the object of its name is what stands for the version, with the
 -- size that the entry tells.
@@ -41,6 +42,7 @@ pub record HasEntryNamed (entries : List (Option DirEntry)) (name : ObjectName) 
 -- name.
 pub record AreEntryFacts (keys : Keys) (guess : Guess) (versions : Versions) (listed : List Entry) (s : Standing) (entries : List (Option DirEntry)) : Type 0 where
   pub each : (index : ℕ) (e : DirEntry) → entry_at entries index ≡ Some e → IsEntryFact keys guess versions listed s e
+  pub sizes : HaveSizes entries s.state.objects
   pub back : (name : ObjectName) (object : Object) → object_at s.state.objects name ≡ Some object → HasEntryNamed entries name
   pub apart : AreApart listed
 

@@ -4,3 +4,5 @@ pub mod Ties
 pub mod MachineChanges
 pub mod TieLaws
 pub mod EntryFacts
+pub mod TagLaws
+pub mod OwnEntries

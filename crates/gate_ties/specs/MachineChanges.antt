@@ -1,5 +1,5 @@
 -- That the entries change as the machine's map does, by a call that is a commit.
-use Rattle.std.specs.Prelude.{◌≡◌, ◌+◌, ◌<◌, ℕ, true, List, Option, Some, length, max}
+use Rattle.std.specs.Prelude.{◌≡◌, ◌+◌, ◌<◌, ℕ, true, List, [], Option, Some, length, max, slice_index_or}
 use Rattle.tee_types.specs.declared.call.Call.{Call}
 use Rattle.tee_types.specs.declared.call.Call.TheVariants.{Create, Delete, Rename, Truncate, Write}
 use Rattle.store_model.specs.declared.session.Handle.{Handle}
@@ -11,6 +11,9 @@ use Rattle.dir_records.specs.declared.entry.DirEntry.{DirEntry}
 use Rattle.crash_core.specs.Entries.{name_of}
 use Rattle.crash_core.specs.EntryLists.{entry_at}
 use Rattle.crash_core.specs.EntryChanges.{Clear, EntryChange, Put, index_of}
+use Rattle.history_seats.specs.Records.{HistoryRecord}
+use Rattle.suppositions.specs.Guesses.{Guess}
+use Rattle.suppositions.specs.Stores.{Store, standing_at}
 use Rattle.gate_ties.specs.CallChanges.{IsCallChange}
 use Rattle.gate_ties.specs.Ties.{MakesEntries}
 
@@ -42,3 +45,9 @@ CommitsMakeEntries =
     (s : Standing) (session : ℕ) (call : Call) (entries : List (Option DirEntry)) (change : EntryChange) → HaveSizes entries s.state.objects
     → is_commit_due s session call ≡ true → IsCallChange (session_at s.state session).application call entries s.counter change → index_of change < length entries
     → IsCallOn s.state session call entries change → MakesEntries s session call entries change
+
+-- Whatever happens, a session stays of the application that the mount tells.
+abbrev pub ApplicationsStay : Type 0
+ApplicationsStay =
+    (store : Store) (guess : Guess) (records : List HistoryRecord) (session : ℕ)
+    → (session_at (standing_at store guess records).state session).application ≡ slice_index_or store.mounted.applications session []

@@ -1,7 +1,9 @@
 //! Laws of the ties. Each function does nothing: its contract is the law.
 
 ghost use Rattle.gate_ties.specs.TieLaws.{DoubtfulCommitsKeepTies, DropsKeepTies, LandingsKeepTies, MadeCommitsKeepTies, OpeningsAreTied, ReplaysRise, UnchangedEventsKeepTies};
-ghost use Rattle.gate_ties.specs.MachineChanges.{CommitsMakeEntries};
+ghost use Rattle.gate_ties.specs.MachineChanges.{ApplicationsStay, CommitsMakeEntries};
+ghost use Rattle.gate_ties.specs.TagLaws.{CommitTagsAreRight, UnchangedTagsAreRight};
+ghost use Rattle.gate_ties.specs.OwnEntries.{TiedEntriesTell};
 ghost use Rattle.gate_ties.specs.EntryFacts.{MatchedEntriesTell};
 
 /// Along every replay the names of the machine's objects rise, if they do where it begins.
@@ -51,4 +53,26 @@ pub fn matched_entries_tell()
 #[tactic(auto, using(crate::proofs::Making::commits_make))]
 pub fn commits_make_entries()
     ensures { CommitsMakeEntries }
+{}
+
+/// Whatever happens, a session of the machine stays of the application that the mount tells.
+#[tactic(auto, using(crate::proofs::Applications::applications_stay))]
+pub fn applications_stay()
+    ensures { ApplicationsStay }
+{}
+
+/// Of an event that commits nothing the tag is right that names what is given.
+pub fn unchanged_tags_are_right()
+    ensures { UnchangedTagsAreRight }
+{}
+
+/// Of a commit that changes the gate's entries the tag is right that names what it leaves.
+pub fn commit_tags_are_right()
+    ensures { CommitTagsAreRight }
+{}
+
+/// The gate's entries tell of the machine's objects: of those that are there, of what is lacked, and of the one for which a live handle
+/// stands.
+pub fn tied_entries_tell()
+    ensures { TiedEntriesTell }
 {}
