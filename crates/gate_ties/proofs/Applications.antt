@@ -1,5 +1,5 @@
 -- A session stays of its application.
-use Rattle.std.proofs.Common.{◌≡◌, ℕ, zero, suc, Bool, true, false, List, [], ◌∷◌, map, length, slice_set, slice_index_or, Option, Some, None, refl, sym, ap, ◌∙◌}
+use Rattle.std.proofs.Common.{◌≡◌, ℕ, zero, suc, Bool, true, false, List, [], ◌∷◌, map, slice_set, slice_index_or, Option, Some, None, refl, ap, ◌∙◌}
 use Rattle.tee_types.specs.declared.call.Call.{Call}
 use Rattle.tee_types.specs.declared.call.Call.TheVariants.{Delete, Rename}
 use Rattle.store_model.specs.declared.event.Event.{Event}
@@ -13,8 +13,7 @@ use Rattle.store_model.specs.Record.{file_of}
 use Rattle.store_model.specs.Standing.{Standing, is_undone, replay, standing_after, standing_landed}
 use Rattle.store_model.proofs.Sessions.{applications-sessions}
 use Rattle.history_seats.specs.Records.{HistoryRecord}
-use Rattle.suppositions.specs.Guesses.{Guess}
-use Rattle.suppositions.specs.Stores.{Store, start_under}
+use Rattle.suppositions.specs.Stores.{start_under}
 use Rattle.gate_ties.specs.MachineChanges.{ApplicationsStay}
 
 set-session : (sessions : List Session) (i : ℕ) (session : Session) → session.application ≡ (slice_index_or sessions i (new_session [])).application → applications (slice_set sessions i session) ≡ applications sessions

@@ -1,15 +1,14 @@
 -- What an entry that matches the history tells of the machine's objects.
-use Rattle.std.proofs.Common.{◌≡◌, ℕ, Bool, true, List, Option, Some, None, option_map, refl, sym, ap, ◌∙◌, subst}
+use Rattle.std.proofs.Common.{◌≡◌, ℕ, List, Option, Some, None, refl, sym, ap, ◌∙◌}
 use Rattle.hmac_keys.specs.declared.Keys.{Keys}
 use Rattle.store_model.specs.declared.name.ObjectName.{ObjectName}
-use Rattle.store_model.specs.Object.{Object, object_at, size_of}
+use Rattle.store_model.specs.Object.{Object, object_at}
 use Rattle.store_model.specs.Standing.{Standing}
 use Rattle.store_model.proofs.Maps.{at}
 use Rattle.dir_records.specs.declared.entry.DirEntry.{DirEntry}
-use Rattle.history_seats.specs.Records.{Version}
 use Rattle.history_seats.specs.Mounts.{Entry}
 use Rattle.crash_core.specs.Entries.{name_of}
-use Rattle.crash_core.specs.EntryLists.{AreDistinct, AreSingle, entry_at}
+use Rattle.crash_core.specs.EntryLists.{AreDistinct, entry_at}
 use Rattle.core_parts.specs.Listed.{IsInDirectory, history_entry}
 use Rattle.suppositions.specs.Guesses.{Guess, object_under}
 use Rattle.suppositions.specs.Stores.{entry_named}

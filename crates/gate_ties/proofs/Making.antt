@@ -1,25 +1,24 @@
 -- A commit of the machine changes its map as the call changes the entries.
-use Rattle.std.proofs.Common.{◌≡◌, ◌+◌, ◌<◌, ℕ, Bool, true, false, List, ◌++◌, length, take, drop, replicate, max, Option, Some, None, refl, sym, ap, ◌∙◌, subst, arith, length-append, length-drop}
+use Rattle.std.proofs.Common.{◌≡◌, ◌+◌, ◌<◌, ℕ, List, length, max, Option, Some, refl, sym, ap, ◌∙◌, subst, arith, length-append, length-drop}
 use Rattle.std.proofs.lemmas.List.{length-replicate, length-take}
 use Rattle.tee_types.specs.declared.call.Call.{Call}
 use Rattle.tee_types.specs.declared.call.Call.TheVariants.{Create, Delete, Rename, Truncate, Write}
 use Rattle.tee_types.specs.declared.flags.Flags.{Flags}
 use Rattle.store_model.specs.declared.session.Handle.{Handle}
 use Rattle.store_model.specs.declared.name.ObjectName.{ObjectName}
-use Rattle.store_model.specs.Object.{Contents, Object, Sound, object_at, size_of}
-use Rattle.store_model.specs.Machine.{MachineState, handle_at, name_in, session_at}
-use Rattle.store_model.specs.Data.{resized, resized_contents, written, written_contents}
-use Rattle.store_model.specs.Makes.{Change, HasContents, IsNamedBy, MakesChange, MapChange, Move, Remove}
+use Rattle.store_model.specs.Object.{Object, Sound, object_at, size_of}
+use Rattle.store_model.specs.Machine.{MachineState, handle_at, session_at}
+use Rattle.store_model.specs.Data.{written}
+use Rattle.store_model.specs.Makes.{Change, IsNamedBy, MakesChange, MapChange, Move, Remove}
 use Rattle.store_model.specs.Makes.{Put as PutObject}
 use Rattle.store_model.specs.Standing.{Standing}
-use Rattle.store_model.specs.Legal.{is_commit_due}
 use Rattle.store_model.proofs.MadeChanges.{commits_make_changes}
 use Rattle.dir_records.specs.declared.entry.DirEntry.{DirEntry}
 use Rattle.crash_core.specs.Entries.{name_of}
 use Rattle.crash_core.specs.EntryLists.{entry_at}
 use Rattle.crash_core.specs.EntryChanges.{Clear, EntryChange, IsEntryOf, IsNewEntry, IsNextEntry, Put, index_of}
 use Rattle.suppositions.proofs.Mending.{some_same}
-use Rattle.gate_ties.specs.CallChanges.{IsCallChange, IsRenamedEntry}
+use Rattle.gate_ties.specs.CallChanges.{IsCallChange}
 use Rattle.gate_ties.specs.Ties.{MakesEntries}
 use Rattle.gate_ties.specs.MachineChanges.{CommitsMakeEntries, HaveSizes, IsAtHand, IsCallOn}
 use Rattle.gate_ties.proofs.Listing.{resized_long}

@@ -1,5 +1,5 @@
 -- Entries that match the history, each with its version, match it after a commit.
-use Rattle.std.proofs.Common.{◌≡◌, ◌≢◌, ◌==◌, ◌<◌, ℕ, Bool, true, false, ◌||◌, List, [], ◌∷◌, length, Option, Some, None, inl, inr, refl, sym, ap, ◌∙◌, subst, eq-eqb}
+use Rattle.std.proofs.Common.{◌≡◌, ◌≢◌, ◌==◌, ℕ, true, false, List, [], ◌∷◌, Option, Some, None, inl, inr, sym, ap, ◌∙◌, subst, eq-eqb}
 use Rattle.std.specs.Prelude.{Contains, slice_index_or}
 use Rattle.std.proofs.lemmas.Bool.{cases_eq}
 use Rattle.tee_types.specs.declared.call.Call.{Call}
@@ -15,7 +15,7 @@ use Rattle.crash_core.specs.EntryLists.{entry_at}
 use Rattle.crash_core.specs.EntryChanges.{Clear, EntryChange, Put, changed, index_of}
 use Rattle.crash_core.proofs.Lists.{set_else, set_here}
 use Rattle.core_parts.specs.GateParts.{IsVersionOf}
-use Rattle.core_parts.specs.Listed.{AreListed, IsTagOfChange, history_entry}
+use Rattle.core_parts.specs.Listed.{AreListed, history_entry}
 use Rattle.core_parts.proofs.Contained.{contains_cases, contains_none}
 use Rattle.suppositions.specs.Spellings.{IsReal}
 use Rattle.suppositions.specs.Stores.{Store}
@@ -23,7 +23,7 @@ use Rattle.suppositions.specs.Mapped.{Versions}
 use Rattle.suppositions.proofs.Mending.{none_some, some_same}
 use Rattle.suppositions.proofs.MapCommits.{not_object}
 use Rattle.gate_ties.specs.Matched.{AreMatched}
-use Rattle.gate_ties.specs.CallChanges.{IsCallChange, IsEntryCommit, LeavesVersion}
+use Rattle.gate_ties.specs.CallChanges.{IsCallChange, IsEntryCommit}
 use Rattle.gate_ties.proofs.Uniqueness.{unique_committed}
 use Rattle.gate_ties.proofs.Listing.{listed_committed}
 

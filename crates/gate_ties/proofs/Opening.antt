@@ -1,5 +1,5 @@
 -- The ties hold before the first event.
-use Rattle.std.proofs.Common.{◌≡◌, ◌==◌, ℕ, Bool, true, false, true≢false, ◌&&◌, cond, List, [], ◌∷◌, ◌++◌, map, find, Option, Some, None, option_map, inl, inr, refl, sym, ap, ◌∙◌, subst, is_eq, eq-eqb, arith}
+use Rattle.std.proofs.Common.{◌≡◌, ◌==◌, ℕ, Bool, true, false, true≢false, ◌&&◌, cond, List, [], ◌∷◌, ◌++◌, map, find, Option, Some, None, option_map, inl, inr, refl, sym, ap, ◌∙◌, subst, is_eq, eq-eqb}
 use Rattle.std.specs.Prelude.{Contains}
 use Rattle.std.proofs.lemmas.Bool.{cases_Bool, cases_eq, cond-true, cond-false, eqb-true, and_parts}
 use Rattle.disk_model.specs.State.{FileState}
@@ -16,10 +16,9 @@ use Rattle.history_seats.specs.Directory.{directory_of, given_version, has_entry
 use Rattle.crash_core.specs.Entries.{name_of}
 use Rattle.crash_core.specs.EntryLists.{entry_at}
 use Rattle.core_parts.specs.GateParts.{IsVersionOf}
-use Rattle.core_parts.specs.Listed.{AreListed, IsInDirectory, history_entry}
+use Rattle.core_parts.specs.Listed.{AreListed, history_entry}
 use Rattle.core_parts.specs.Opened.{HasMounted, IsMountOf}
 use Rattle.core_parts.proofs.Contained.{contains_cases, contains_first, contains_later, contains_mapped, contains_none, mapped_contains}
-use Rattle.suppositions.specs.Guesses.{Guess}
 use Rattle.suppositions.specs.Spellings.{IsReal}
 use Rattle.suppositions.specs.Stores.{Store, entry_named, standing_at}
 use Rattle.suppositions.specs.EntryLaws.{AreUnique}
@@ -27,8 +26,7 @@ use Rattle.suppositions.specs.MapLaws.{AreMountedApart}
 use Rattle.suppositions.specs.Listings.{HaveListedVersions}
 use Rattle.suppositions.proofs.Mending.{none_some, some_same}
 use Rattle.suppositions.proofs.Places.{not_empty}
-use Rattle.gate_ties.specs.Matched.{AreMatched, AreReal}
-use Rattle.gate_ties.specs.Ties.{IsTied}
+use Rattle.gate_ties.specs.Matched.{AreReal}
 use Rattle.gate_ties.specs.TieLaws.{OpeningsAreTied}
 use Rattle.gate_ties.proofs.Rising.{standing-rises}
 use Rattle.gate_ties.proofs.Matching.{contains_has}
@@ -42,9 +40,12 @@ version_from : (file generation : ℕ) (entries : List MountedEntry) (v : Versio
     → (m : MountedEntry) × Contains entries m × (is_entry_of file generation m.entry ≡ true) × (m.version ≡ v)
 version_from file generation [] v is = absurd (none_some v is)
 version_from file generation (e ∷ entries) v is = elim (cases_Bool (is_entry_of file generation e.entry)) [
-  | inl own ↦
-      (e, contains_first e e entries refl, own,
-      some_same e.version v (sym (cond-true (is_entry_of file generation e.entry) (Some e.version) (version_among file generation entries) own) ∙ is))
+  | inl own ↦ (
+    e,
+    contains_first e e entries refl,
+    own,
+    some_same e.version v (sym (cond-true (is_entry_of file generation e.entry) (Some e.version) (version_among file generation entries) own) ∙ is),
+  )
   | inr other ↦
       let rest = version_from file generation entries v (sym (cond-false (is_entry_of file generation e.entry) (Some e.version) (version_among file generation entries) other) ∙ is) in
       (rest.0, contains_later e rest.0 entries rest.1, rest.2, rest.3)

@@ -1,9 +1,8 @@
 -- The ties over an event that commits nothing, and where a doubt is dropped.
-use Rattle.std.proofs.Common.{◌≡◌, ◌≤◌, ◌+◌, ℕ, Bool, true, false, true≢false, List, [], ◌∷◌, ◌++◌, length, Option, Some, None, unwrap_or, cond, inl, inr, refl, sym, ap, ◌∙◌, subst, arith, length-append}
-use Rattle.std.proofs.lemmas.Bool.{cases_Bool, cond-true, cond-false}
+use Rattle.std.proofs.Common.{◌≡◌, ◌+◌, ℕ, Bool, true, false, List, [], ◌∷◌, ◌++◌, length, Option, Some, None, unwrap_or, cond, refl, sym, ap, ◌∙◌, subst, arith, length-append}
+use Rattle.std.proofs.lemmas.Bool.{cond-true, cond-false}
 use Rattle.hmac_keys.specs.declared.Keys.{Keys}
 use Rattle.tee_types.specs.declared.call.Call.{Call}
-use Rattle.tee_types.specs.declared.reply.Reply.{Reply}
 use Rattle.store_model.specs.declared.event.Event.{Event}
 use Rattle.store_model.specs.declared.event.Event.TheVariants.{Call as CallEvent, Landed}
 use Rattle.store_model.specs.declared.event.Mark.{Mark}
@@ -12,7 +11,7 @@ use Rattle.store_model.specs.Machine.{MachineState}
 use Rattle.store_model.specs.Makes.{MakesChange}
 use Rattle.store_model.specs.Doubt.{Doubt}
 use Rattle.store_model.specs.Record.{Tag, file_of}
-use Rattle.store_model.specs.Standing.{Standing, keeps_doubt, standing_after}
+use Rattle.store_model.specs.Standing.{Standing, standing_after}
 use Rattle.dir_records.specs.declared.entry.DirEntry.{DirEntry}
 use Rattle.history_seats.specs.Records.{HistoryRecord, Version, concerns_object}
 use Rattle.history_seats.specs.Mounts.{Entry, Mounted}
@@ -21,7 +20,7 @@ use Rattle.history_seats.specs.Versions.{version_after, version_of}
 use Rattle.history_seats.specs.Directory.{directory_of, given_version, has_entry}
 use Rattle.history_seats.specs.Tags.{HasRightTag}
 use Rattle.history_seats.specs.Views.{GateView}
-use Rattle.history_seats.specs.Changes.{doubt_dropped, with_record}
+use Rattle.history_seats.specs.Changes.{with_record}
 use Rattle.history_seats.specs.EntryLaws.{IsLeft}
 use Rattle.history_seats.proofs.DoubtedEntries.{landed_entry}
 use Rattle.history_seats.proofs.GivenStays.{given-there, unchanged-leaves}
@@ -32,13 +31,11 @@ use Rattle.core_parts.specs.Listed.{AreListed}
 use Rattle.suppositions.specs.Guesses.{Guess}
 use Rattle.suppositions.specs.Stores.{Store, entries_at, standing_at}
 use Rattle.suppositions.specs.Mapped.{Versions, landed_version}
-use Rattle.suppositions.specs.Listings.{HaveListedVersions}
 use Rattle.suppositions.specs.EntryLaws.{AreUnique}
-use Rattle.suppositions.specs.Answered.{AreAnswered}
 use Rattle.suppositions.proofs.Answers.{answered-front, standing-snoc}
 use Rattle.suppositions.proofs.MapSteps.{quiet_after}
 use Rattle.gate_ties.specs.Matched.{AreMatched}
-use Rattle.gate_ties.specs.Ties.{DoubtedChange, IsDoubtTied, IsStandingDoubt, IsTied, IsTiedDoubt, MakesEntries}
+use Rattle.gate_ties.specs.Ties.{DoubtedChange, IsDoubtTied, IsStandingDoubt, IsTied, MakesEntries}
 use Rattle.gate_ties.specs.TieLaws.{AreRising, DropsKeepTies, KeepsDoubt, UnchangedEventsKeepTies}
 use Rattle.gate_ties.proofs.Rising.{risen}
 

@@ -5,11 +5,10 @@ use Rattle.tee_types.specs.declared.call.Call.TheVariants.{Delete}
 use Rattle.tee_types.specs.declared.reply.Reply.{Reply}
 use Rattle.store_model.specs.declared.event.Event.{Event}
 use Rattle.store_model.specs.declared.event.Event.TheVariants.{Call as CallEvent, Landed}
-use Rattle.store_model.specs.declared.event.Mark.{Mark}
 use Rattle.store_model.specs.declared.event.Mark.TheVariants.{Unchanged, Made, Doubtful}
 use Rattle.store_model.specs.Record.{Tag}
 use Rattle.dir_records.specs.declared.entry.DirEntry.{DirEntry}
-use Rattle.history_seats.specs.Records.{HistoryRecord, Version}
+use Rattle.history_seats.specs.Records.{Version}
 use Rattle.history_seats.specs.Mounts.{Entry}
 use Rattle.history_seats.specs.Settling.{HasMark, Pending, as_landed, is_doubtful, is_doubtful_mark, is_landing, is_made, is_made_mark}
 use Rattle.history_seats.specs.Directory.{directory_of, entries_committed, given_version, has_entry}
@@ -23,9 +22,8 @@ use Rattle.core_parts.specs.Listed.{AreListed, history_entry}
 use Rattle.suppositions.specs.Stores.{Store, entries_at}
 use Rattle.suppositions.proofs.Mending.{some_same}
 use Rattle.gate_ties.specs.CallChanges.{IsCallChange, IsEntryCommit}
-use Rattle.gate_ties.specs.Ties.{DoubtedChange, IsTied}
 use Rattle.gate_ties.specs.TieLaws.{record_of_commit}
-use Rattle.gate_ties.specs.TagLaws.{AreCommitTagsRight, CommitTagsAreRight, UnchangedTagsAreRight}
+use Rattle.gate_ties.specs.TagLaws.{CommitTagsAreRight, UnchangedTagsAreRight}
 use Rattle.gate_ties.proofs.Listing.{listed_committed}
 use Rattle.gate_ties.proofs.Matching.{contains_has}
 

@@ -11,12 +11,12 @@ use Rattle.store_model.specs.Object.{Object, ObjectMap}
 use Rattle.store_model.specs.Machine.{MachineState}
 use Rattle.store_model.specs.Calls.{state_after}
 use Rattle.store_model.specs.Doubt.{Doubt}
-use Rattle.store_model.specs.Record.{Record, file_of}
-use Rattle.store_model.specs.Standing.{Standing, is_undone, replay, standing_after, standing_landed}
+use Rattle.store_model.specs.Record.{file_of}
+use Rattle.store_model.specs.Standing.{Standing, is_undone, standing_after, standing_landed}
 use Rattle.store_model.proofs.CloseCommits.{rising-after}
 use Rattle.history_seats.specs.Records.{HistoryRecord}
 use Rattle.suppositions.specs.Guesses.{Guess}
-use Rattle.suppositions.specs.Stores.{Store, mounted_named, object_for, objects_under, standing_at, start_under}
+use Rattle.suppositions.specs.Stores.{Store, mounted_named, object_for, standing_at, start_under}
 use Rattle.gate_ties.specs.TieLaws.{AreRising, ReplaysRise}
 
 landed : (s : Standing) (o : Option Doubt) → AreRising s.state.objects → AreRising (standing_landed s o).state.objects

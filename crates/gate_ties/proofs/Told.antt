@@ -1,25 +1,23 @@
 -- What the gate's ties tell of its entries and of what it lacks.
-use Rattle.std.proofs.Common.{◌≡◌, ◌≢◌, ℕ, Bool, false, List, Option, Some, None, is_some, refl, sym, ap, ◌∙◌}
+use Rattle.std.proofs.Common.{◌≡◌, ◌≢◌, ℕ, List, Option, Some, is_some, refl, sym, ap, ◌∙◌, subst}
 use Rattle.store_model.specs.declared.name.ObjectName.{ObjectName}
-use Rattle.store_model.specs.Object.{Object, holds}
-use Rattle.store_model.specs.Files.{name_by}
 use Rattle.store_model.specs.Standing.{Standing}
 use Rattle.dir_records.specs.declared.entry.DirEntry.{DirEntry}
 use Rattle.history_seats.specs.Mounts.{Entry}
 use Rattle.history_seats.specs.Directory.{given_version}
-use Rattle.history_seats.specs.Views.{GateView}
-use Rattle.crash_core.specs.EntryLists.{IsUnnamed, entry_at}
-use Rattle.core_parts.specs.Listed.{AreListed, IsInDirectory, history_entry}
-use Rattle.suppositions.specs.Guesses.{Guess}
-use Rattle.suppositions.specs.Stores.{Store, entries_at, entry_named, standing_at}
-use Rattle.suppositions.specs.Mapped.{IsInStep, object_by}
+use Rattle.crash_core.specs.EntryLists.{IsUnnamed}
+use Rattle.core_parts.specs.Listed.{AreListed, IsInDirectory}
+use Rattle.suppositions.specs.Stores.{entries_at, entry_named, standing_at}
+use Rattle.suppositions.specs.Mapped.{object_by}
 use Rattle.suppositions.proofs.Listed.{named_there}
-use Rattle.gate_ties.specs.CallChanges.{LacksName}
-use Rattle.gate_ties.specs.OwnEntries.{AreLacked, TiedEntriesTell}
+use Rattle.gate_ties.specs.CallChanges.{IsCallChange}
+use Rattle.gate_ties.specs.OwnEntries.{TiedCommitsMakeEntries, TiedEntriesTell}
 use Rattle.gate_ties.specs.EntryFacts.{AreEntryFacts}
 use Rattle.gate_ties.proofs.Uniqueness.{lacks_named}
 use Rattle.gate_ties.proofs.QuietTies.{matched_now}
 use Rattle.gate_ties.proofs.Facts.{matched_tell}
+use Rattle.gate_ties.proofs.Applications.{applications_stay}
+use Rattle.gate_ties.proofs.Making.{commits_make}
 
 lacks_file : (entries : List (Option DirEntry)) (listed : List Entry) → AreListed entries listed → (file : ℕ) → IsUnnamed entries file → (name : ObjectName) (x : Entry) → entry_named name listed ≡ Some x → x.file ≢ file
 lacks_file entries listed l file unnamed name x is same =
@@ -53,3 +51,10 @@ tied_tell store guess view entries counter doubt tied are answered mapped = reco
     facts =
         matched_tell store.keys guess (given_version store.mounted view.all) (entries_at store view.all).now (standing_at store guess view.all) entries
         (matched_now store view entries counter doubt tied) are.distinct are.single mapped
+
+pub tied_make : TiedCommitsMakeEntries
+tied_make store guess view entries counter doubt tied answered mapped session call change tag left c on due =
+    let s : Standing = standing_at store guess view.all in
+    let told = matched_tell store.keys guess (given_version store.mounted view.all) (entries_at store view.all).now s entries (matched_now store view entries counter doubt tied) c.before.distinct c.before.single mapped in
+    commits_make s session call entries change told.sizes due
+    (subst (λ (p : List ℕ × ℕ). IsCallChange p.0 call entries p.1 change) (λ i. (sym (applications_stay store guess view.all session) i, sym (tied.counter guess answered) i)) c.makes) c.place on

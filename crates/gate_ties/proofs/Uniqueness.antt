@@ -1,5 +1,5 @@
 -- Entries of the history, no two of one name, after a commit.
-use Rattle.std.proofs.Common.{◌≡◌, ◌⊎◌, ℕ, Bool, true, false, true≢false, cond, not, List, [], ◌∷◌, map, filter, Option, Some, None, inl, inr, refl, sym, ap, ◌∙◌, subst}
+use Rattle.std.proofs.Common.{◌≡◌, ◌⊎◌, ℕ, Bool, true, false, true≢false, cond, not, List, [], ◌∷◌, map, filter, Option, Some, None, inl, inr, refl, sym, ap, ◌∙◌}
 use Rattle.std.proofs.lemmas.Bool.{cases_Bool, cond-false, cond-true}
 use Rattle.tee_types.specs.declared.call.Call.{Call}
 use Rattle.tee_types.specs.declared.call.Call.TheVariants.{Create, Delete, Rename, Truncate, Write}
@@ -11,8 +11,7 @@ use Rattle.dir_records.specs.declared.entry.DirEntry.{DirEntry}
 use Rattle.history_seats.specs.Records.{Version}
 use Rattle.history_seats.specs.Mounts.{Entry}
 use Rattle.history_seats.specs.Versions.{is_entry_of}
-use Rattle.history_seats.specs.Directory.{entries_committed, renamed, with_name}
-use Rattle.crash_core.specs.Entries.{name_of}
+use Rattle.history_seats.specs.Directory.{entries_committed, renamed}
 use Rattle.crash_core.specs.EntryChanges.{Clear, EntryChange, Put}
 use Rattle.crash_core.specs.DirectoryLaws.{AreEntries}
 use Rattle.core_parts.specs.Listed.{AreListed, IsInDirectory, IsTagOfChange, history_entry}

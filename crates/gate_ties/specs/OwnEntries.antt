@@ -1,14 +1,19 @@
 -- What the gate's ties tell of its entries and of what it lacks, in the words of the laws on the map of objects.
-use Rattle.std.specs.Prelude.{◌≡◌, ◌≢◌, ℕ, false, List, Option, Some, None}
+use Rattle.std.specs.Prelude.{◌≡◌, ◌≢◌, ℕ, true, false, List, Option, Some, None}
+use Rattle.tee_types.specs.declared.call.Call.{Call}
 use Rattle.store_model.specs.declared.name.ObjectName.{ObjectName}
 use Rattle.store_model.specs.Object.{holds}
 use Rattle.store_model.specs.Files.{name_by}
+use Rattle.store_model.specs.Legal.{is_commit_due}
+use Rattle.store_model.specs.Record.{Tag}
 use Rattle.store_model.specs.Standing.{Standing}
 use Rattle.dir_records.specs.declared.entry.DirEntry.{DirEntry}
+use Rattle.history_seats.specs.Records.{Version}
 use Rattle.history_seats.specs.Mounts.{Entry}
 use Rattle.history_seats.specs.Directory.{given_version}
 use Rattle.history_seats.specs.Views.{GateView}
 use Rattle.crash_core.specs.Entries.{name_of}
+use Rattle.crash_core.specs.EntryChanges.{EntryChange}
 use Rattle.crash_core.specs.EntryLists.{IsUnnamed, entry_at}
 use Rattle.crash_core.specs.DirectoryLaws.{AreEntries}
 use Rattle.core_parts.specs.Listed.{history_entry}
@@ -17,8 +22,9 @@ use Rattle.suppositions.specs.Stores.{Store, entries_at, entry_named, standing_a
 use Rattle.suppositions.specs.Mapped.{IsMapped}
 use Rattle.suppositions.specs.EntryLaws.{HasOwnEntry}
 use Rattle.suppositions.specs.Answered.{AreAnswered}
-use Rattle.gate_ties.specs.CallChanges.{LacksName}
-use Rattle.gate_ties.specs.Ties.{DoubtedChange, IsTied}
+use Rattle.gate_ties.specs.CallChanges.{IsEntryCommit, LacksName}
+use Rattle.gate_ties.specs.Ties.{DoubtedChange, IsTied, MakesEntries}
+use Rattle.gate_ties.specs.MachineChanges.{IsCallOn}
 use Rattle.gate_ties.specs.EntryFacts.{AreEntryFacts}
 
 -- A file or a name that no entry of the gate has, none of the history's has, and the machine holds no object of that name.
@@ -39,3 +45,11 @@ abbrev pub TiedEntriesTell : Type 0
 TiedEntriesTell =
     (store : Store) (guess : Guess) (view : GateView) (entries : List (Option DirEntry)) (counter : ℕ) (doubt : Option DoubtedChange) → IsTied store view entries counter doubt
     → AreEntries entries → AreAnswered store guess view.all → IsMapped store guess view.all → AreTold store guess view entries
+
+-- A commit of the gate's entries is the machine's, where its call is one.
+abbrev pub TiedCommitsMakeEntries : Type 0
+TiedCommitsMakeEntries =
+    (store : Store) (guess : Guess) (view : GateView) (entries : List (Option DirEntry)) (counter : ℕ) (doubt : Option DoubtedChange) → IsTied store view entries counter doubt
+    → AreAnswered store guess view.all → IsMapped store guess view.all → (session : ℕ) (call : Call) (change : EntryChange) (tag : Tag Version) (left : Option Version)
+    → IsEntryCommit store entries counter session call change tag left → IsCallOn (standing_at store guess view.all).state session call entries change
+    → is_commit_due (standing_at store guess view.all) session call ≡ true → MakesEntries (standing_at store guess view.all) session call entries change

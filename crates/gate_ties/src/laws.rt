@@ -3,7 +3,7 @@
 ghost use Rattle.gate_ties.specs.TieLaws.{DoubtfulCommitsKeepTies, DropsKeepTies, LandingsKeepTies, MadeCommitsKeepTies, OpeningsAreTied, ReplaysRise, UnchangedEventsKeepTies};
 ghost use Rattle.gate_ties.specs.MachineChanges.{ApplicationsStay, CommitsMakeEntries};
 ghost use Rattle.gate_ties.specs.TagLaws.{CommitTagsAreRight, UnchangedTagsAreRight};
-ghost use Rattle.gate_ties.specs.OwnEntries.{TiedEntriesTell};
+ghost use Rattle.gate_ties.specs.OwnEntries.{TiedCommitsMakeEntries, TiedEntriesTell};
 ghost use Rattle.gate_ties.specs.EntryFacts.{MatchedEntriesTell};
 
 /// Along every replay the names of the machine's objects rise, if they do where it begins.
@@ -75,4 +75,9 @@ pub fn commit_tags_are_right()
 /// stands.
 pub fn tied_entries_tell()
     ensures { TiedEntriesTell }
+{}
+
+/// A commit of the gate's entries is the machine's, where its call is one.
+pub fn tied_commits_make_entries()
+    ensures { TiedCommitsMakeEntries }
 {}
