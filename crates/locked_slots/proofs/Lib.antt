@@ -7,3 +7,5 @@ pub mod Stays
 pub mod Contents
 pub mod ReadVersions
 pub mod Filled
+pub mod KnownOnes
+pub mod Staged

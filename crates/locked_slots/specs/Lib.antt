@@ -6,3 +6,4 @@ pub mod Learning
 pub mod OwnEvents
 pub mod Reads
 pub mod Fills
+pub mod Stages
