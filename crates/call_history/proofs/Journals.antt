@@ -1,5 +1,7 @@
 -- What always holds of a journal's history, over each of its calls.
 use Rattle.std.proofs.Common.{◌≡◌, ◌+◌, ◌<◌, ◌≤◌, ℕ, Bool, true, false, true≢false, List, [], ◌∷◌, ◌++◌, length, Option, Some, None, unwrap_or, refl, sym, ap, ◌∙◌, subst, inl, inr, arith, length-append, append-nil}
+use Rattle.std.proofs.lemmas.Bool.{cases_Bool}
+use Rattle.std.proofs.lemmas.List.{map-append}
 use Rattle.atomic_table.specs.Seated.{TableId}
 use Rattle.store_model.specs.declared.event.Event.{Event}
 use Rattle.store_model.specs.declared.event.Event.TheVariants.{Call as CallEvent, Landed}
@@ -35,10 +37,6 @@ unchanged_or (Landed commit) call quiet = absurd (true≢false call)
 unchanged_or (CallEvent session number call reply Unchanged) is quiet = refl
 unchanged_or (CallEvent session number call reply (Made commit)) is quiet = absurd (true≢false quiet)
 unchanged_or (CallEvent session number call reply (Doubtful commit)) is quiet = absurd (true≢false quiet)
-
-by_bool : {P : Type 0} (b : Bool) → (b ≡ true → P) → (b ≡ false → P) → P
-by_bool true yes no = yes refl
-by_bool false yes no = no refl
 
 pub calls_next : (pass : PassView) (event : Event) → IsNextOf pass event → is_landing event ≡ false
 calls_next pass (CallEvent session number call reply mark) next = refl
@@ -82,7 +80,7 @@ module _ (store : Store) (gate : GateView) (journal : IsJournal store gate) wher
     -- an answered event of a call keeps the map in step
     kept-step : (guess : Guess) → is_landing r.event ≡ false → IsFitting gate r → IsAnsweredAt store guess gate.all r → IsMappedBoth store guess gate.decided gate.all
         → IsMappedBoth store guess gate.decided (gate.all ++ r ∷ [])
-    kept-step guess call fitting answered both = by_bool (commits r.event) (λ commits_. by_answer commits_ answered) (λ quiet. left (unchanged_or r.event call quiet))
+    kept-step guess call fitting answered both = elim (cases_Bool (commits r.event)) [ inl commits_ ↦ by_answer commits_ answered | inr quiet ↦ left (unchanged_or r.event call quiet) ]
       where
         left : HasMark Unchanged r.event → IsMappedBoth store guess gate.decided (gate.all ++ r ∷ [])
         left unchanged = unchanged_keeps store guess gate.decided gate.all r unchanged (fitting.right store.mounted journal.mounted) answered both
@@ -122,6 +120,21 @@ module _ (store : Store) (gate : GateView) (journal : IsJournal store gate) wher
           (landing-both store guess gate.all gate.decided gate.decided doubt.0 (journal.in_step guess before) doubt.1
               (subst (λ (n : ℕ). IsOpenDoubt n gate.decided gate.all) (sym doubt.2) open_));
     }
+
+-- the parts of a journal, with another view in its seat
+pub renewed-parts : (store : Store) (table : TableId) (seat : Sight GateView) (events : List Event) (decided : ℕ) → IsJournalOf store table seat events decided
+    → (knows : GateView) (events_after : List Event) (decided_after : ℕ) (seat_after : Sight GateView) → events_after ≡ events_of knows.all → decided_after ≡ knows.decided
+    → IsJournal store knows → seat_after ≡ record seat { knows = knows } → IsJournalOf store table seat_after events_after decided_after
+renewed-parts store table seat events decided was knows events_after decided_after seat_after events_are decided_is kept is =
+    subst (λ (x : Sight GateView). IsJournalOf store table x events_after decided_after) (sym is)
+    (record { table_is = was.table_is; seat_is = was.seat_is; events_are = events_are; decided_is = decided_is; kept = kept })
+
+-- the events of a journal with one record more
+pub more-events : (records : List HistoryRecord) (r : HistoryRecord) (event : Event) (events events_after : List Event) → events ≡ events_of records → r.event ≡ event
+    → events_after ≡ events ++ event ∷ [] → events_after ≡ events_of (records ++ r ∷ [])
+more-events records r event events events_after were is after =
+    after ∙ ap (λ (l : List Event). l ++ event ∷ []) were ∙ ap (λ (e : Event). events_of records ++ e ∷ []) (sym is)
+    ∙ sym (map-append (λ (x : HistoryRecord). x.event) records (r ∷ []))
 
 -- without events
 pub openings : OpeningsAreJournals

@@ -16,10 +16,10 @@ use Rattle.call_history.specs.declared.own_doubt.Landing.TheVariants.{Nothing, C
 use Rattle.call_history.specs.declared.own_doubt.OwnDoubt.{OwnDoubt}
 
 -- what the landing of a call's commit does to its session
-abbrev pub landing_of : Call → Landing
-landing_of (Delete handle) = Closes handle
-landing_of (Rename handle id) = Renames handle id
-landing_of _ = Nothing
+abbrev pub landing_of_call : Call → Landing
+landing_of_call (Delete handle) = Closes handle
+landing_of_call (Rename handle id) = Renames handle id
+landing_of_call _ = Nothing
 
 -- the live handle of that number stands for the object of that identifier
 abbrev pub renamed : Session → (number : ℕ) → (id : List ℕ) → Option Handle → Session
@@ -47,19 +47,24 @@ pub record CallerSession (E : Type 0) : Type 0 where
 abbrev pub session_value : {E : Type 0} → CallerSession E → SessionValue
 session_value s = record { pass = s.pass; number = s.number; made = s.made; state = pending_of s.state s.doubt }
 
--- The event at that place of the view is a commit of the session in doubt, and the view has nothing behind it that settles it.
-pub record IsOwnDoubt (number : ℕ) (view : PassView) (place : ℕ) : Type 0 where
+-- Of these records, whose doubts below that place are decided, the one there is a commit of the session in doubt, and nothing behind it
+-- settles it.
+pub record IsOwnDoubt (number : ℕ) (seen : List HistoryRecord) (decided place : ℕ) : Type 0 where
   pub front : List HistoryRecord
   pub doubted : HistoryRecord
   pub back : List HistoryRecord
-  pub is : front ++ doubted ∷ back ≡ view.seen
+  pub is : front ++ doubted ∷ back ≡ seen
   pub at : length front ≡ place
   pub own : is_of_session number doubted ≡ true
   pub doubtful : is_doubtful doubted.event ≡ true
   pub last : list_any settles (events_of back) ≡ false
-  pub late : view.decided ≤ place
+  pub late : decided ≤ place
+
+-- so of the session's commit in doubt, if it has one
+abbrev pub HasOwnDoubt : {E : Type 0} → CallerSession E → (seen : List HistoryRecord) → (decided : ℕ) → Type 0
+HasOwnDoubt s seen decided = (doubt : OwnDoubt) → s.doubt ≡ Some doubt → IsOwnDoubt s.number seen decided doubt.place
 
 -- The session is one of the store's, and so is its commit in doubt.
 pub record IsCallerOf {E : Type 0} (store : Store) (s : CallerSession E) : Type 0 where
   pub session : IsSessionOf store (session_value s)
-  pub doubt : (doubt : OwnDoubt) → s.doubt ≡ Some doubt → IsOwnDoubt s.number session.pass.knows doubt.place
+  pub doubt : (pass : Sight PassView) → s.pass ≡ Some pass → HasOwnDoubt s pass.knows.seen pass.knows.decided

@@ -1,5 +1,5 @@
 -- A session that sees the whole history, and has learnt what became of its commit in doubt.
-use Rattle.std.specs.Prelude.{◌≡◌, ℕ, Option, Some, None, option_map}
+use Rattle.std.specs.Prelude.{◌≡◌, ℕ, Option, Some, None}
 use Rattle.store_model.specs.declared.event.Event.{Event}
 use Rattle.store_model.specs.Machine.{Session}
 use Rattle.history_seats.specs.Views.{GateView, PassView, Sight}
@@ -15,7 +15,8 @@ use Rattle.call_history.specs.Sessions.{CallerSession, landed_by}
 
 -- a seat once it sees the whole history
 abbrev pub pass_shown : GateView → Option (Sight PassView) → Option (Sight PassView)
-pass_shown gate pass = option_map (λ p. record p { knows = pass_renewed gate p.knows }) pass
+pass_shown gate None = None
+pass_shown gate (Some pass) = Some (record pass { knows = pass_renewed gate pass.knows })
 
 abbrev pub state_by : Settled → Session → OwnDoubt → Session
 state_by Open s doubt = s

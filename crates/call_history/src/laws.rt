@@ -3,7 +3,6 @@
 ghost use Rattle.call_history.specs.Openings.{OpeningsAreJournals};
 
 /// A phase opens with a journal.
-#[tactic(auto, using(crate::proofs::Journals::openings))]
 pub fn openings_are_journals()
     ensures { OpeningsAreJournals }
 {}

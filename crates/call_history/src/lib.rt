@@ -8,10 +8,12 @@ mod journal;
 mod laws;
 mod name;
 mod own_doubt;
+mod session;
 mod settled;
 
 pub use journal::Journal;
 pub use laws::openings_are_journals;
 pub use name::VersionsName;
 pub use own_doubt::{Landing, OwnDoubt};
+pub use session::Session;
 pub use settled::Settled;

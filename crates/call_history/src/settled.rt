@@ -36,6 +36,7 @@ fn landing(event: &Event) -> Option<bool>
     }
 }
 
+#[tactic(auto, using(crate::proofs::Landings::find_step, crate::proofs::Landings::find_hit, crate::proofs::Landings::find_end))]
 /// Whether the first event from that place on that settles a doubt is a landing.
 pub(crate) fn first_landing(history: &History, from: u64) -> Option<bool>
     ensures { result ≡ option_map is_landing (find settles (drop from history.now.events)) }
