@@ -1,5 +1,5 @@
 -- What became of a commit in doubt.
-use Rattle.std.specs.Prelude.{◌+◌, ℕ, Bool, if◌then◌else◌, nat_lt, drop, Option, Some, None}
+use Rattle.std.specs.Prelude.{◌+◌, ℕ, Bool, if◌then◌else◌, nat_lt, drop, Option, Some, None, option_map}
 use Rattle.store_model.specs.declared.event.Event.{Event}
 use Rattle.history_seats.specs.Settling.{is_landing, settles, settling}
 use Rattle.history_seats.specs.Views.{GateView}
@@ -10,10 +10,14 @@ use Rattle.call_history.specs.declared.settled.Settled.TheVariants.{Open, Landed
 abbrev pub landing_in : Event → Option Bool
 landing_in event = if settles event then Some (is_landing event) else None
 
--- by the event that settles it, if there is one, and else by whether it stands below the place where each doubt is decided
+-- by whether the event that settles it is a landing, if there is one, and else by whether it stands below the place where each doubt is
+-- decided
+abbrev pub settled_by_landing : Option Bool → (below : Bool) → Settled
+settled_by_landing (Some landed) below = if landed then Landed else Dropped
+settled_by_landing None below = if below then Dropped else Open
+
 abbrev pub settled_as : Option Event → (below : Bool) → Settled
-settled_as (Some event) below = if is_landing event then Landed else Dropped
-settled_as None below = if below then Dropped else Open
+settled_as event below = settled_by_landing (option_map is_landing event) below
 
 -- what became of the doubt of the event at that place
 abbrev pub outcome_at : GateView → (place : ℕ) → Settled

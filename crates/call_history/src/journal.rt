@@ -12,7 +12,7 @@ ghost use Rattle.call_history.specs.Journals.{IsDoubtOf, IsJournal, IsJournalOf,
 ghost use Rattle.call_history.specs.Outcomes.{outcome_at};
 
 use crate::name::VersionsName;
-use crate::settled::{Settled, first_landing};
+use crate::settled::{Settled, first_landing, settled_by};
 use history_seats::{Appended, GateSeat, HistoryTable, PassSeat, Refreshed, SlotSeat};
 use std::marker::{Model, PhantomData};
 use store_model::{Event, History};
@@ -179,12 +179,7 @@ impl<L: StoreName> Journal<L> {
         requires { place < length self.now.knows.all }
         ensures { result ≡ outcome_at self.now.knows place }
     {
-        match first_landing(&self.history, place + 1) {
-            Some(true) => Settled::Landed,
-            Some(false) => Settled::Dropped,
-            None if place < self.decided => Settled::Dropped,
-            None => Settled::Open,
-        }
+        settled_by(first_landing(&self.history, place), place < self.decided)
     }
 
     /// The history, once no seat is out any more.

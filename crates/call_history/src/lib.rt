@@ -4,6 +4,7 @@
 //! not honest. A session belongs to one caller; it learns what became of its own commit in doubt as it is shown the history.
 #![tactic(auto)]
 
+mod calls;
 mod journal;
 mod laws;
 mod name;
@@ -11,6 +12,7 @@ mod own_doubt;
 mod session;
 mod settled;
 
+pub use calls::{AppendedCall, answer, append_call, show};
 pub use journal::Journal;
 pub use laws::openings_are_journals;
 pub use name::VersionsName;

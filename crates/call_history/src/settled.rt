@@ -1,8 +1,8 @@
 //! What became of a commit in doubt.
 
-ghost use Rattle.std.specs.Prelude.{◌≡◌, drop, find, option_map};
+ghost use Rattle.std.specs.Prelude.{◌≡◌, ◌<◌, ◌+◌, drop, find, length, option_and_then, option_map, slice_get};
 ghost use Rattle.history_seats.specs.Settling.{is_landing, settles};
-ghost use Rattle.call_history.specs.Outcomes.{landing_in};
+ghost use Rattle.call_history.specs.Outcomes.{landing_in, settled_by_landing};
 
 use store_model::{Event, History, Mark};
 
@@ -36,16 +36,36 @@ fn landing(event: &Event) -> Option<bool>
     }
 }
 
-#[tactic(auto, using(crate::proofs::Landings::find_step, crate::proofs::Landings::find_hit, crate::proofs::Landings::find_end))]
-/// Whether the first event from that place on that settles a doubt is a landing.
-pub(crate) fn first_landing(history: &History, from: u64) -> Option<bool>
-    ensures { result ≡ option_map is_landing (find settles (drop from history.now.events)) }
+// The same of the event at that place.
+fn landing_at(history: &History, place: u64) -> Option<bool>
+    ensures { result ≡ option_and_then landing_in (slice_get history.now.events place) }
 {
-    for place in from..history.len() {
-        if let Some(event) = history.get(place) {
-            if let Some(landed) = landing(event) {
-                return Some(landed);
-            }
+    let event = history.get(place)?;
+    landing(event)
+}
+
+// What became of a doubt, by whether the event that settles it is a landing, and whether it stands below the place where each is decided.
+pub(crate) fn settled_by(landed: Option<bool>, below: bool) -> Settled
+    ensures { result ≡ settled_by_landing landed below }
+{
+    match landed {
+        Some(true) => Settled::Landed,
+        Some(false) => Settled::Dropped,
+        None if below => Settled::Dropped,
+        None => Settled::Open,
+    }
+}
+
+// Whether the first event behind that place that settles a doubt is a landing.
+#[tactic(auto, using(crate::proofs::Landings::find_step, crate::proofs::Landings::find_hit, crate::proofs::Landings::find_end))]
+pub(crate) fn first_landing(history: &History, place: u64) -> Option<bool>
+    requires { place < length history.now.events }
+    ensures { result ≡ option_map is_landing (find settles (drop (place + 1) history.now.events)) }
+{
+    let length = history.len();
+    for next in place + 1..length {
+        if let Some(landed) = landing_at(history, next) {
+            return Some(landed);
         }
     }
     None
