@@ -1,0 +1,6 @@
+pub mod Journals
+pub mod Outcomes
+pub mod Openings
+pub mod Sessions
+pub mod Shown
+pub mod Calls
