@@ -1,0 +1,4 @@
+pub mod Shapes
+pub mod ShapeLaws
+pub mod OpenHandles
+pub mod WellOpened

@@ -1,0 +1,9 @@
+//! What the store's directory and its table of open handles tell of the machine, whatever the objects' files are.
+//!
+//! The map of objects has the names and the sizes of the directory's entries, and the table has the open handles of the machine's
+//! sessions. So a call that needs no object's file is answered from them alone. It has definitions and laws alone.
+#![tactic(auto)]
+
+mod laws;
+
+pub use laws::shapes::mapped_entries_have_shape;
