@@ -6,4 +6,9 @@
 
 mod laws;
 
-pub use laws::shapes::mapped_entries_have_shape;
+pub use laws::shapes::{
+    applications_have_entries, applications_have_none, changes_keep_shape, free_entries_give_room,
+    full_directories_lack_room, held_names_are_listed, landed_entries_have_shape,
+    least_entries_are_next, listed_names_are_held, mapped_entries_have_shape, no_entry_is_next,
+    objects_are_entries, objects_fit_entries, unlisted_names_are_free,
+};
