@@ -1,0 +1,7 @@
+pub mod MappedShapes
+pub mod ChangedShapes
+pub mod MadeShapes
+pub mod CountedShapes
+pub mod Rooms
+pub mod ShownNames
+pub mod NextObjects

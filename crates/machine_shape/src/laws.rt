@@ -1,0 +1,3 @@
+//! Laws of the machine's shape. Each function does nothing: its contract is the law.
+
+pub mod shapes;

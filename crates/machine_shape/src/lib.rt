@@ -1,0 +1,14 @@
+//! What the store's directory and its table of open handles tell of the machine, whatever the objects' files are.
+//!
+//! The map of objects has the names and the sizes of the directory's entries, and the table has the open handles of the machine's
+//! sessions. So a call that needs no object's file is answered from them alone. It has definitions and laws alone.
+#![tactic(auto)]
+
+mod laws;
+
+pub use laws::shapes::{
+    applications_have_entries, applications_have_none, changes_keep_shape, free_entries_give_room,
+    full_directories_lack_room, held_names_are_listed, landed_entries_have_shape,
+    least_entries_are_next, listed_names_are_held, mapped_entries_have_shape, no_entry_is_next,
+    objects_are_entries, objects_fit_entries, unlisted_names_are_free,
+};
