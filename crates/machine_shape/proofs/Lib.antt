@@ -1,1 +1,12 @@
 pub mod MappedShapes
+pub mod EntryLists
+pub mod Sharing
+pub mod SessionLists
+pub mod HandleSteps
+pub mod QuietSteps
+pub mod NewHandles
+pub mod AloneHandles
+pub mod CallHandles
+pub mod LandedHandles
+pub mod StandingHandles
+pub mod HandleLaws

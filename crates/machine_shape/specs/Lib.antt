@@ -1,4 +1,6 @@
 pub mod Shapes
 pub mod ShapeLaws
+pub mod Numbers
 pub mod OpenHandles
 pub mod WellOpened
+pub mod HandleLaws

@@ -7,3 +7,4 @@
 mod laws;
 
 pub use laws::shapes::mapped_entries_have_shape;
+pub use laws::handles::{answered_handles_are_well_opened, calls_keep_well_opened, landings_keep_well_opened, legal_doubts_are_due, openings_are_well_opened, replays_keep_well_opened};
