@@ -5,3 +5,14 @@ pub mod CountedShapes
 pub mod Rooms
 pub mod ShownNames
 pub mod NextObjects
+pub mod EntryLists
+pub mod Sharing
+pub mod SessionLists
+pub mod HandleSteps
+pub mod QuietSteps
+pub mod NewHandles
+pub mod AloneHandles
+pub mod CallHandles
+pub mod LandedHandles
+pub mod StandingHandles
+pub mod HandleLaws

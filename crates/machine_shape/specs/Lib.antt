@@ -4,5 +4,7 @@ pub mod ShapeLaws
 pub mod RoomLaws
 pub mod NextLaws
 pub mod ChangeLaws
+pub mod Numbers
 pub mod OpenHandles
 pub mod WellOpened
+pub mod HandleLaws

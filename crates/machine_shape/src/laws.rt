@@ -1,3 +1,4 @@
 //! Laws of the machine's shape. Each function does nothing: its contract is the law.
 
+pub mod handles;
 pub mod shapes;

@@ -6,6 +6,10 @@
 
 mod laws;
 
+pub use laws::handles::{
+    answered_handles_are_well_opened, calls_keep_well_opened, landings_keep_well_opened,
+    legal_doubts_are_due, openings_are_well_opened, replays_keep_well_opened,
+};
 pub use laws::shapes::{
     applications_have_entries, applications_have_none, changes_keep_shape, free_entries_give_room,
     full_directories_lack_room, held_names_are_listed, landed_entries_have_shape,
