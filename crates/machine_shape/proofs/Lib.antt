@@ -5,3 +5,4 @@ pub mod CountedShapes
 pub mod Rooms
 pub mod ShownNames
 pub mod NextObjects
+pub mod LookedUp
