@@ -16,3 +16,4 @@ pub mod CallHandles
 pub mod LandedHandles
 pub mod StandingHandles
 pub mod HandleLaws
+pub mod LookedUp

@@ -11,8 +11,7 @@ pub use laws::handles::{
     legal_doubts_are_due, openings_are_well_opened, replays_keep_well_opened,
 };
 pub use laws::shapes::{
-    applications_have_entries, applications_have_none, changes_keep_shape, free_entries_give_room,
-    full_directories_lack_room, held_names_are_listed, landed_entries_have_shape,
-    least_entries_are_next, listed_names_are_held, mapped_entries_have_shape, no_entry_is_next,
-    objects_are_entries, objects_fit_entries, unlisted_names_are_free,
+    applications_are_listed, changes_keep_shape, free_places_are_room, held_names_are_listed,
+    landed_entries_have_shape, mapped_entries_have_shape, named_entries_are_objects,
+    next_entries_are_next_objects, objects_are_entries, objects_fit_entries,
 };
