@@ -118,7 +118,7 @@ module _ (store : Store) (gate : GateView) (journal : IsJournal store gate) wher
           let doubt = held guess before in
           subst (λ (n : ℕ). IsMappedBoth store guess gate.decided (gate.all ++ landing_of n ∷ [])) doubt.2
           (landing-both store guess gate.all gate.decided gate.decided doubt.0 (journal.in_step guess before) doubt.1
-              (subst (λ (n : ℕ). IsOpenDoubt n gate.decided gate.all) (sym doubt.2) open_));
+          (subst (λ (n : ℕ). IsOpenDoubt n gate.decided gate.all) (sym doubt.2) open_));
     }
 
 -- the parts of a journal, with another view in its seat

@@ -3,3 +3,5 @@ pub mod Landings
 pub mod Closings
 pub mod OwnDoubts
 pub mod Showing
+pub mod CallMoves
+pub mod ShownViews

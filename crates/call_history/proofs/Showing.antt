@@ -67,7 +67,7 @@ module _ (store : Store) (gate : GateView) (s : SessionValue) (x : IsSessionOf s
       ∙ x.state guess (answered-front store guess pass.seen fits.sees.begins.rest (subst (AreAnswered store guess) (sym fits.sees.begins.is) answered)) in
       subst (λ (n : ℕ). MayBeDropped (session_from gate.decided n start gate.all) told_state) (sym x.number)
       (subst (λ (p : Pending Session). MayBeDropped (session_from gate.decided pass.session start gate.all) (open_from gate.decided gate.all (settled (settling fits.sees.begins.rest) p))) own
-          (told_session store guess gate pass fits (subst (λ (n : ℕ). n < length store.mounted.applications) x.number x.known) answered))
+      (told_session store guess gate pass fits (subst (λ (n : ℕ). n < length store.mounted.applications) x.number x.known) answered))
 
   -- the session with a view of the whole history, in the state that it then has
   pub renewed : (pass : Option (Sight PassView)) → pass ≡ Some (record { table = x.pass.table; knows = pass_renewed gate x.pass.knows }) → (state : Pending Session)
@@ -165,8 +165,8 @@ module _ {E : Type 0} (store : Store) (gate : GateView) (s : CallerSession E) (x
           nothing = elim (cases_Bool (any_settles (drop gate.decided gate.all))) [
             | inl some_ ↦
                 absurd (true≢false (
-                  sym (any-past gate.decided own.front own.doubted (own.back ++ past) lt (ap (λ (l : List HistoryRecord). any_settles (drop gate.decided l)) whole ∙ some_))
-                  ∙ none-behind
+                sym (any-past gate.decided own.front own.doubted (own.back ++ past) lt (ap (λ (l : List HistoryRecord). any_settles (drop gate.decided l)) whole ∙ some_))
+                ∙ none-behind
                 ))
             | inr e ↦ e
           ]
@@ -211,9 +211,9 @@ module _ {E : Type 0} (store : Store) (gate : GateView) (s : CallerSession E) (x
               let left : session_if_landed s.number here.state here.doubt ≡ None =
               ap (λ (p : Pending Session). p.if_landed) (sym (cond-true (any_settles (drop gate.decided gate.all)) (session_of s.number here) (dropped (session_of s.number here)) open_) ∙ gone) in
               some_none (session_landed here.state s.number doubt.0.call) (
-                sym (cond-true (doubt.0.session == s.number) (Some (session_landed here.state s.number doubt.0.call)) None mine)
-                ∙ ap (session_if_landed s.number here.state) (sym doubt.1)
-                ∙ left
+              sym (cond-true (doubt.0.session == s.number) (Some (session_landed here.state s.number doubt.0.call)) None mine)
+              ∙ ap (session_if_landed s.number here.state) (sym doubt.1)
+              ∙ left
               )
 
           by_told : (guess : Guess) → AreAnswered store guess gate.all → MayBeDropped (session_from gate.decided s.number (start_under store guess) gate.all) tells
@@ -230,8 +230,8 @@ module _ {E : Type 0} (store : Store) (gate : GateView) (s : CallerSession E) (x
   by_doubt None has =
       calm-shown s.state refl
       (ap (λ (o : Option OwnDoubt). open_from gate.decided gate.all (settled (settling past) (pending_of s.state o))) has
-          ∙ ap (λ (p : Pending Session). open_from gate.decided gate.all p) (settled-calm (settling past) s.state)
-          ∙ open-calm gate.decided gate.all s.state)
+      ∙ ap (λ (p : Pending Session). open_from gate.decided gate.all p) (settled-calm (settling past) s.state)
+      ∙ open-calm gate.decided gate.all s.state)
   by_doubt (Some d) has =
       subst (Learns d has) (sym (ap (λ (o : Option Event). settled_as o (nat_lt d.place gate.decided)) (behind d has)))
       (by_event d has (settling past) refl (nat_lt d.place gate.decided) refl)

@@ -14,7 +14,10 @@ mod settled;
 
 pub use calls::{AppendedCall, answer, append_call, show};
 pub use journal::Journal;
-pub use laws::openings_are_journals;
+pub use laws::{
+    doubtful_calls_move, fresh_sessions_are_callers, made_calls_move, openings_are_journals,
+    shown_sessions_extend, unchanged_calls_move,
+};
 pub use name::VersionsName;
 pub use own_doubt::{Landing, OwnDoubt};
 pub use session::Session;

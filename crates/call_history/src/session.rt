@@ -3,8 +3,9 @@
 ghost use Rattle.std.specs.Prelude.{◌≡◌, ◌≤◌, ◌<◌, ◌^◌, ◌+◌, ◌++◌, ◌∷◌, [], ℕ, false, None, Some, IfOk, IfErr, IfSome, IsOk, IsSome, OnErr, OnOk, if◌then◌else◌};
 ghost use Rattle.disk_model.specs.Faults.{Rose};
 ghost use Rattle.enumerators.specs.Enumeration.{IsLive, IsStarted, advanced, allocated, cursor_at, freed, has_all, reset, started};
-ghost use Rattle.store_model.specs.Machine.{handle_at, has_all_handles, new_session, with_handle, without_handle};
+ghost use Rattle.store_model.specs.Machine.{handle_at, has_all_handles, with_handle, without_handle};
 ghost use Rattle.history_seats.specs.Views.{PassView, Sight};
+ghost use Rattle.call_history.specs.Beginnings.{fresh};
 ghost use Rattle.call_history.specs.Sessions.{landed_by, landing_of_call, renamed};
 
 use crate::own_doubt::{Landing, OwnDoubt, landing_of};
@@ -31,6 +32,7 @@ pub struct Session<E: Entropy> {
 }
 
 impl<E: Entropy> Model for Session<E> {
+    ghost use Rattle.call_history.specs.Beginnings.{fresh};
     ghost use Rattle.call_history.specs.Sessions.{CallerSession};
 
     ghost Value = { CallerSession E };
@@ -53,14 +55,7 @@ impl<E: Entropy> Session<E> {
         app: AppId,
         entropy: E,
     ) -> Result<Session<E>, NoMemory>
-        ensures { IfOk result (λ session. session ≡ record {
-          pass = Some pass;
-          number = pass.knows.session;
-          made = 0;
-          state = new_session app;
-          doubt = None;
-          entropy = entropy;
-        }) }
+        ensures { IfOk result (λ session. session ≡ fresh pass app entropy) }
     {
         let number = pass.session();
         let state = SessionState::new(alloc, app)?;
@@ -177,10 +172,12 @@ impl<E: Entropy> Session<E> {
     pub fn open(&mut self, name: ObjectName, flags: Flags) -> u32
         requires { has_all_handles self.old.state ≡ false }
         ensures number { result ≡ self.old.state.next_handle }
-        ensures opened { self.new ≡ record self.old { state = record self.old.state {
-          handles = self.old.state.handles ++ (self.old.state.next_handle, record { name = name; flags = flags; position = 0 }) ∷ [];
-          next_handle = self.old.state.next_handle + 1;
-        } } }
+        ensures opened { self.new ≡ record self.old {
+          state = record self.old.state {
+            handles = self.old.state.handles ++ (self.old.state.next_handle, record { name = name; flags = flags; position = 0 }) ∷ [];
+            next_handle = self.old.state.next_handle + 1;
+          };
+        } }
     {
         self.state.open(name, flags)
     }
@@ -266,7 +263,9 @@ impl<E: Entropy> Session<E> {
         requires { IsSome self.old.doubt }
         ensures { IfSome self.old.doubt (λ doubt. self.new ≡ record self.old { state = landed_by self.old.state doubt.landing; doubt = None }) }
     {
-        let Some(doubt) = self.doubt.take() else { return };
+        let Some(doubt) = self.doubt.take() else {
+            return
+        };
         land_state(&mut self.state, doubt.landing);
     }
 

@@ -23,8 +23,8 @@ invariant_of-self g c =
     (more-events knows.all r c.args.event inside.history.events c.append.new.history.events c.self.invariant.events_are is c.append.ensures.history)
     c.self.invariant.decided_is
     (next-journal store knows c.self.invariant.kept r (calls_next c.args.pass.knows r.event (subst (IsNextOf c.args.pass.knows) (sym is) c.requires.next))
-        (subst (λ (v : GateView). IsFitting v r) (sym same) c.requires.fitting)
-        (λ guess. subst (λ (v : GateView). IsFairAt store guess v.all r) (sym same) (c.requires.fair guess)))
+    (subst (λ (v : GateView). IsFitting v r) (sym same) c.requires.fitting)
+    (λ guess. subst (λ (v : GateView). IsFairAt store guess v.all r) (sym same) (c.requires.fair guess)))
     c.append.ensures.gate
 
 pub returns-clause-kept : goal.returns-clause-kept

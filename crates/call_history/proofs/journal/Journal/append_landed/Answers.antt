@@ -20,7 +20,7 @@ invariant_of-self g c =
     (more-events knows.all (landing_of commit) (Landed commit) inside.history.events c.append_landed.new.history.events c.self.invariant.events_are refl c.append_landed.ensures.history)
     c.self.invariant.decided_is
     (landed-journal store knows c.self.invariant.kept commit (subst (λ (v : GateView). IsOpenDoubt commit v.decided v.all) (sym same) c.requires.open)
-        (subst (λ (v : GateView). IsDoubtOf store v commit) (sym same) c.requires.held))
+    (subst (λ (v : GateView). IsDoubtOf store v commit) (sym same) c.requires.held))
     c.append_landed.ensures.gate
 
 pub returns-clause-kept : goal.returns-clause-kept
