@@ -9,3 +9,5 @@ pub mod ReadVersions
 pub mod Filled
 pub mod KnownOnes
 pub mod Staged
+pub mod NextVersions
+pub mod StagedSlots
