@@ -11,3 +11,4 @@ pub mod KnownOnes
 pub mod Staged
 pub mod NextVersions
 pub mod StagedSlots
+pub mod ChangeAnswers
