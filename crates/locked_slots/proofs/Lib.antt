@@ -9,3 +9,6 @@ pub mod ReadVersions
 pub mod Filled
 pub mod KnownOnes
 pub mod Staged
+pub mod NextVersions
+pub mod StagedSlots
+pub mod ChangeAnswers

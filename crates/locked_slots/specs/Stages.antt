@@ -27,18 +27,20 @@ pub record VersionChange : Type 0 where
   pub contents : Contents → Contents
   pub asked : ℕ → Bool
 
-abbrev pub write_of : Version → (at : ℕ) → (bytes : List ℕ) → VersionChange
-write_of v at bytes = record {
-  size = max v.size (at + length bytes);
+-- of a write to data of that size
+abbrev pub write_of : (size at : ℕ) → (bytes : List ℕ) → VersionChange
+write_of size at bytes = record {
+  size = max size (at + length bytes);
   contents = λ c. written_contents c at bytes;
-  asked = needs_block v.size (min at v.size) (at + length bytes);
+  asked = needs_block size (min at size) (at + length bytes);
 }
 
-abbrev pub resize_of : Version → (size : ℕ) → VersionChange
-resize_of v size = record {
-  size = size;
-  contents = λ c. resized_contents c size;
-  asked = needs_block v.size (min size v.size) (max size v.size);
+-- of another size
+abbrev pub resize_of : (size to : ℕ) → VersionChange
+resize_of size to = record {
+  size = to;
+  contents = λ c. resized_contents c to;
+  asked = needs_block size (min to size) (max to size);
 }
 
 -- The next version is the one that the reference names, of the same application; in a file that is honest now its object is the changed one.

@@ -9,7 +9,9 @@ mod filling;
 pub mod laws;
 mod locked;
 mod reading;
+mod staging;
 
 pub use filling::fill;
 pub use locked::LockedSlot;
 pub use reading::read;
+pub use staging::{stage_truncate, stage_write};
