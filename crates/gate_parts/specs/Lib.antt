@@ -4,3 +4,5 @@ pub mod Readings
 pub mod Resting
 pub mod Ended
 pub mod Commits
+pub mod Resolves
+pub mod Events

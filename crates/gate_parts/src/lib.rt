@@ -10,5 +10,6 @@
 mod laws;
 
 pub use laws::{
-    commits_are_steps, ended_stores_mount, ends_are_supposed, honest_stores_mount, resting_gates_hold,
+    commits_are_steps, ended_stores_mount, ends_are_supposed, honest_stores_mount,
+    resolves_are_steps, resting_gates_hold, unchanged_events_are_steps,
 };
