@@ -3,8 +3,8 @@ use Rattle.std.proofs.Common.{◌≡◌, ℕ, ◌+◌, List, [], ◌∷◌, inl,
 use Rattle.std.specs.Prelude.{◌==◌, get_or, slice_set}
 use Rattle.std.specs.Option.{option_map}
 use Rattle.std.proofs.lemmas.Bool.{cond-true, cond-false, eq-eqb, ne_eqb}
-use Rattle.disk_model.specs.State.{FileState, Sound, pending}
-use Rattle.disk_model.specs.Keeps.{Keeps, Runs, Writes, write}
+use Rattle.disk_model.specs.State.{FileState, Sound}
+use Rattle.disk_model.specs.Keeps.{Keeps, Writes}
 use Rattle.disk_model.proofs.Goings.{goes_on_none}
 use Rattle.disk_model.proofs.ImageLaws.{reads_left}
 use Rattle.node_image.specs.declared.node.RootRef.{RootRef}
@@ -30,7 +30,6 @@ use Rattle.crash_core.specs.Appends.{freed}
 use Rattle.crash_core.specs.CardBlock.{root_block, root_in}
 use Rattle.crash_core.specs.Directory.{directory_of}
 use Rattle.crash_core.specs.EntryChanges.{IsChange, changed}
-use Rattle.crash_core.specs.Pictures.{SameCard, block_zero}
 use Rattle.crash_core.specs.Seals.{sealed_card}
 use Rattle.crash_core.specs.Sights.{Misses}
 use Rattle.crash_core.specs.CoreState.{IsTrusted, PendingCommit, Phase}
@@ -46,12 +45,10 @@ use Rattle.suppositions.specs.Stores.{Store, standing_at}
 use Rattle.suppositions.proofs.Answers.{standing-snoc}
 use Rattle.dir_file.specs.View.{DirView, StagedDirectory}
 use Rattle.store_commit.specs.declared.change.EntryChange.{EntryChange}
-use Rattle.store_commit.specs.declared.change.CommitEnd.{CommitEnd}
 use Rattle.store_commit.specs.declared.change.CommitEnd.TheVariants.{Made, Dropped, Doubtful, Spent}
 use Rattle.store_commit.specs.CardEnds.{IsSealedCard}
 use Rattle.store_commit.specs.Changes.{change_of}
-use Rattle.store_commit.specs.Ends.{IsDoubted}
-use Rattle.store_commit.specs.Sides.{Names, Sides}
+use Rattle.store_commit.specs.Sides.{Sides}
 use Rattle.store_commit.specs.Steps.{IsReady}
 use Rattle.gate_parts.specs.Phases.{phase_under}
 use Rattle.gate_parts.specs.Parts.{IsCardOf, pending_of, sealed_in, takes_of}

@@ -8,3 +8,4 @@ pub mod EndedStores
 pub mod CommitSteps
 pub mod ResolveSteps
 pub mod EventSteps
+pub mod RestingMoves

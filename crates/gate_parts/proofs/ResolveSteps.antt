@@ -1,5 +1,5 @@
 -- Each way in which a doubt is resolved is a list of steps of the core machine.
-use Rattle.std.proofs.Common.{◌≡◌, ℕ, ◌+◌, List, [], inl, inr, Option, Some, None, Result, Ok, Err, refl, sym, ap, ◌∙◌, subst, arith}
+use Rattle.std.proofs.Common.{◌≡◌, ℕ, ◌+◌, List, [], inl, inr, Option, Some, None, Ok, Err, refl, sym, ap, ◌∙◌, subst, arith}
 use Rattle.std.specs.Prelude.{◌==◌}
 use Rattle.std.specs.Option.{option_map}
 use Rattle.std.proofs.lemmas.Bool.{cond-true, cond-false, eq-eqb, ne_eqb}
@@ -24,10 +24,8 @@ use Rattle.suppositions.specs.Stores.{Store, standing_at}
 use Rattle.suppositions.proofs.Mending.{none_some}
 use Rattle.dir_file.specs.View.{DirView, StagedDirectory}
 use Rattle.store_commit.specs.declared.gate.Doubted.{Doubted}
-use Rattle.store_commit.specs.declared.resolve.Resolved.{Resolved}
 use Rattle.store_commit.specs.declared.resolve.Resolved.TheVariants.{Landed, Dropped}
 use Rattle.store_commit.specs.Changes.{change_of}
-use Rattle.store_commit.specs.Gates.{IsDoubtOf}
 use Rattle.store_commit.specs.Sides.{Names, Sides}
 use Rattle.gate_parts.specs.Phases.{phase_under}
 use Rattle.gate_parts.specs.Parts.{IsCardOf, pending_of, sealed_in, takes_of}

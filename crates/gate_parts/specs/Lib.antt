@@ -6,3 +6,4 @@ pub mod Ended
 pub mod Commits
 pub mod Resolves
 pub mod Events
+pub mod Moves

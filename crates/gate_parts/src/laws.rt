@@ -3,6 +3,7 @@
 ghost use Rattle.gate_parts.specs.Commits.{CommitsAreSteps};
 ghost use Rattle.gate_parts.specs.Ended.{EndedStoresMount, EndsAreSupposed, HonestStoresMount};
 ghost use Rattle.gate_parts.specs.Events.{UnchangedEventsAreSteps};
+ghost use Rattle.gate_parts.specs.Moves.{RestingGatesMove};
 ghost use Rattle.gate_parts.specs.Resolves.{ResolvesAreSteps};
 ghost use Rattle.gate_parts.specs.Resting.{RestingGatesHold};
 
@@ -40,4 +41,9 @@ pub fn resolves_are_steps()
 /// So is an event that changes nothing.
 pub fn unchanged_events_are_steps()
     ensures { UnchangedEventsAreSteps }
+{}
+
+/// Such steps are a move of the gate, which keeps its fact; and moves of gate and slots in any order are one run of the core machine.
+pub fn resting_gates_move()
+    ensures { RestingGatesMove }
 {}
