@@ -9,3 +9,4 @@ pub mod CommitSteps
 pub mod ResolveSteps
 pub mod EventSteps
 pub mod RestingMoves
+pub mod ReserveSteps

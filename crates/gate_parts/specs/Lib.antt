@@ -7,3 +7,4 @@ pub mod Commits
 pub mod Resolves
 pub mod Events
 pub mod Moves
+pub mod Reserving

@@ -4,6 +4,7 @@ ghost use Rattle.gate_parts.specs.Commits.{CommitsAreSteps};
 ghost use Rattle.gate_parts.specs.Ended.{EndedStoresMount, EndsAreSupposed, HonestStoresMount};
 ghost use Rattle.gate_parts.specs.Events.{UnchangedEventsAreSteps};
 ghost use Rattle.gate_parts.specs.Moves.{RestingGatesMove};
+ghost use Rattle.gate_parts.specs.Reserving.{ReleasesAreSteps, ReservesAreSteps};
 ghost use Rattle.gate_parts.specs.Resolves.{ResolvesAreSteps};
 ghost use Rattle.gate_parts.specs.Resting.{RestingGatesHold};
 
@@ -41,6 +42,16 @@ pub fn resolves_are_steps()
 /// So is an event that changes nothing.
 pub fn unchanged_events_are_steps()
     ensures { UnchangedEventsAreSteps }
+{}
+
+/// So is the reserving of a free file for a session.
+pub fn reserves_are_steps()
+    ensures { ReservesAreSteps }
+{}
+
+/// So is the release of a session's file.
+pub fn releases_are_steps()
+    ensures { ReleasesAreSteps }
 {}
 
 /// Such steps are a move of the gate, which keeps its fact; and moves of gate and slots in any order are one run of the core machine.
