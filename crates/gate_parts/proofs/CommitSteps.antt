@@ -3,8 +3,8 @@ use Rattle.std.proofs.Common.{◌≡◌, ℕ, ◌+◌, List, [], ◌∷◌, inl,
 use Rattle.std.specs.Prelude.{◌==◌, get_or, slice_set}
 use Rattle.std.specs.Option.{option_map}
 use Rattle.std.proofs.lemmas.Bool.{cond-true, cond-false, eq-eqb, ne_eqb}
-use Rattle.disk_model.specs.State.{FileState, Sound, pending}
-use Rattle.disk_model.specs.Keeps.{Keeps, Runs, Writes, write}
+use Rattle.disk_model.specs.State.{FileState, Sound}
+use Rattle.disk_model.specs.Keeps.{Keeps, Writes}
 use Rattle.disk_model.proofs.Goings.{goes_on_none}
 use Rattle.disk_model.proofs.ImageLaws.{reads_left}
 use Rattle.node_image.specs.declared.node.RootRef.{RootRef}
@@ -30,7 +30,6 @@ use Rattle.crash_core.specs.Appends.{freed}
 use Rattle.crash_core.specs.CardBlock.{root_block, root_in}
 use Rattle.crash_core.specs.Directory.{directory_of}
 use Rattle.crash_core.specs.EntryChanges.{IsChange, changed}
-use Rattle.crash_core.specs.Pictures.{SameCard, block_zero}
 use Rattle.crash_core.specs.Seals.{sealed_card}
 use Rattle.crash_core.specs.Sights.{Misses}
 use Rattle.crash_core.specs.CoreState.{IsTrusted, PendingCommit, Phase}
@@ -46,17 +45,15 @@ use Rattle.suppositions.specs.Stores.{Store, standing_at}
 use Rattle.suppositions.proofs.Answers.{standing-snoc}
 use Rattle.dir_file.specs.View.{DirView, StagedDirectory}
 use Rattle.store_commit.specs.declared.change.EntryChange.{EntryChange}
-use Rattle.store_commit.specs.declared.change.CommitEnd.{CommitEnd}
 use Rattle.store_commit.specs.declared.change.CommitEnd.TheVariants.{Made, Dropped, Doubtful, Spent}
 use Rattle.store_commit.specs.CardEnds.{IsSealedCard}
 use Rattle.store_commit.specs.Changes.{change_of}
-use Rattle.store_commit.specs.Ends.{IsDoubted}
-use Rattle.store_commit.specs.Sides.{Names, Sides}
+use Rattle.store_commit.specs.Sides.{Sides}
 use Rattle.store_commit.specs.Steps.{IsReady}
 use Rattle.gate_parts.specs.Phases.{phase_under}
 use Rattle.gate_parts.specs.Parts.{IsCardOf, pending_of, sealed_in, takes_of}
-use Rattle.gate_parts.specs.Resting.{IsGateOf, resting_part}
-use Rattle.gate_parts.specs.Commits.{CommitsAreSteps, IsCommitted, IsForCall, StepsTo, commit_event, mark_of}
+use Rattle.gate_parts.specs.Resting.{IsGateOf, StepsTo}
+use Rattle.gate_parts.specs.Commits.{CommitsAreSteps, IsCommitted, IsForCall}
 use Rattle.gate_parts.proofs.Holders.{takes_freed}
 
 -- a write of nothing
@@ -176,7 +173,7 @@ module _ (store : Store) (guess : Guess) (handed : Option Handed) (old new : Sid
       }
 
       -- MADE
-      made_steps : (n : ℕ) → IsCommitted old new change (Made n) before after → Legal (MadeMark n) → StepsTo store guess handed old new change (Made n) before after card view (event (MadeMark n))
+      made_steps : (n : ℕ) → IsCommitted old new change (Made n) before after → Legal (MadeMark n) → StepsTo store guess handed start new None after (with_record (event (MadeMark n)) view)
       made_steps n c legal =
           let root : RootRef = new.dir.root in
           let left : GatePart = made_of new.file (sealed_card card root) root (changed old.dir.entries (change_of change)) (freed (change_of change) (takes_of before)) None (with_record (event (MadeMark n)) view) in
@@ -187,7 +184,7 @@ module _ (store : Store) (guess : Guess) (handed : Option Handed) (old new : Sid
           let entries : changed old.dir.entries (change_of change) ≡ new.dir.entries = sym c.leaves.entries in
           let takes : freed (change_of change) (takes_of before) ≡ takes_of after = sym (takes_freed old.dir.entries new.dir.entries before after gate.held c.held change c.ends) in
           record {
-            next = sealed_card card root;
+            card = sealed_card card root;
             told = sealed_told root (c.steps.1 own (gate.told).has);
             steps = subst (GateSteps phase handed start) (λ j. made_of new.file (sealed_card card root) root (entries j) (takes j) None (with_record (event (MadeMark n)) view)) done;
           }
@@ -196,7 +193,7 @@ module _ (store : Store) (guess : Guess) (handed : Option Handed) (old new : Sid
       abbrev appended : GateView
       appended = with_record (event Unchanged) view
 
-      dropped_steps : (cause : Cause) → IsCommitted old new change (Dropped cause) before after → Legal Unchanged → StepsTo store guess handed old new change (Dropped cause) before after card view (event Unchanged)
+      dropped_steps : (cause : Cause) → IsCommitted old new change (Dropped cause) before after → Legal Unchanged → StepsTo store guess handed start new None after appended
       dropped_steps cause c legal =
           let given_up : GatePart = made_of new.file card old.dir.root old.dir.entries (takes_of before) None view in
           let left : GatePart = made_of new.file card old.dir.root old.dir.entries (takes_of before) None appended in
@@ -209,7 +206,7 @@ module _ (store : Store) (guess : Guess) (handed : Option Handed) (old new : Sid
           let dir : old.dir ≡ new.dir = sym c.leaves.same in
           let takes : takes_of before ≡ takes_of after = ap takes_of (sym c.ends) in
           record {
-            next = card;
+            card = card;
             told = record { own = own; has = c.steps.1 own (gate.told).has; same = (gate.told).same };
             steps = subst (GateSteps phase handed start) (λ j. made_of new.file card (dir j).root (dir j).entries (takes j) None appended) done;
           }
@@ -244,7 +241,7 @@ module _ (store : Store) (guess : Guess) (handed : Option Handed) (old new : Sid
             cond-true (card.counter == new.counter) None (option_map (λ (next : StagedDirectory). next.root) new.dir.stage)
             (eq-eqb card.counter new.counter (counted ∙ sym c.leaves.counted))
 
-        unsealed_steps : HasCard new.port new.key own → StepsTo store guess handed old new change (Doubtful n cause) before after card view (event (DoubtfulMark n))
+        unsealed_steps : HasCard new.port new.key own → StepsTo store guess handed start new (Some (record { number = n; change = change })) after doubted_view
         unsealed_steps has =
             let left : GatePart = made_of new.file card old.dir.root old.dir.entries (takes_of before) (Some commit) doubted_view in
             let done : GateSteps phase handed start left =
@@ -253,7 +250,7 @@ module _ (store : Store) (guess : Guess) (handed : Option Handed) (old new : Sid
             (append_doubtful_is_step phase handed prepared session number call reply n tag commit None refl refl refl legal)) in
             let pends = waits None card unsealed_in in
             record {
-              next = card;
+              card = card;
               told = record { own = own; has = has; same = (gate.told).same };
               steps = subst (GateSteps phase handed start) (λ j. made_of new.file card (root_is j) (entries_are j) (takes_are j) (pends j) doubted_view) done;
             }
@@ -280,7 +277,7 @@ module _ (store : Store) (guess : Guess) (handed : Option Handed) (old new : Sid
               ∙ ap (option_map (λ (next : StagedDirectory). next.root)) c.leaves.doubt.is_open
               ∙ ap (λ (r : RootRef). Some r) staged_root
 
-          sealed_steps : StepsTo store guess handed old new change (Doubtful n cause) before after card view (event (DoubtfulMark n))
+          sealed_steps : StepsTo store guess handed start new (Some (record { number = n; change = change })) after doubted_view
           sealed_steps =
               let left : GatePart = made_of new.file (sealed_card card root) old.dir.root old.dir.entries (takes_of before) (Some (sealed_commit root)) doubted_view in
               let done : GateSteps phase handed start left =
@@ -289,27 +286,27 @@ module _ (store : Store) (guess : Guess) (handed : Option Handed) (old new : Sid
               (append_doubtful_is_step phase handed (sealed_part root) session number call reply n tag (sealed_commit root) None refl refl refl legal)) in
               let pends = waits (Some root) (sealed_card card root) sealed_in_new in
               record {
-                next = sealed_card card root;
+                card = sealed_card card root;
                 told = sealed_told root sealed;
                 steps = subst (GateSteps phase handed start) (λ j. made_of new.file (sealed_card card root) (root_is j) (entries_are j) (takes_are j) (pends j) doubted_view) done;
               }
 
-        doubtful_steps : StepsTo store guess handed old new change (Doubtful n cause) before after card view (event (DoubtfulMark n))
+        doubtful_steps : StepsTo store guess handed start new (Some (record { number = n; change = change })) after doubted_view
         doubtful_steps = elim (c.steps.2 own (gate.told).has) [
           | inl has ↦ unsealed_steps has
           | inr sealed ↦ sealed_steps c.steps.0 c.steps.1 sealed
         ]
 
   -- SPENT
-  spent_steps : IsCommitted old new change Spent before after → Legal Unchanged → StepsTo store guess handed old new change Spent before after card view (event Unchanged)
+  spent_steps : IsCommitted old new change Spent before after → Legal Unchanged → StepsTo store guess handed start new None after (with_record (event Unchanged) view)
   spent_steps c legal =
       let left : GatePart = made_of old.file card old.dir.root old.dir.entries (takes_of before) None (with_record (event Unchanged) view) in
       let done : GateSteps phase handed start left =
       one_step phase handed start (Append (event Unchanged)) left (append_unchanged_is_step phase handed start session number call reply tag legal (inl refl)) in
       let takes : takes_of before ≡ takes_of after = ap takes_of (sym c.ends) in
-      subst (λ (g : Sides). StepsTo store guess handed old g change Spent before after card view (event Unchanged)) (sym c.leaves.same)
+      subst (λ (g : Sides). StepsTo store guess handed start g None after (with_record (event Unchanged) view)) (sym c.leaves.same)
       (record {
-        next = card;
+        card = card;
         told = gate.told;
         steps = subst (GateSteps phase handed start) (λ j. made_of old.file card old.dir.root old.dir.entries (takes j) None (with_record (event Unchanged) view)) done;
       })

@@ -9,11 +9,10 @@ use Rattle.history_seats.specs.Records.{Version}
 use Rattle.history_seats.specs.Rule.{SlotFits}
 use Rattle.history_seats.specs.Views.{GateView}
 use Rattle.crash_core.specs.Pictures.{IsPictureOf, Picture}
-use Rattle.crash_core.specs.Mounting.{Held}
 use Rattle.crash_core.specs.CoreState.{IsTrusted}
-use Rattle.core_parts.specs.SlotParts.{Knows, SlotHolds, SlotPart, VersionStands}
+use Rattle.core_parts.specs.SlotParts.{Knows, SlotHolds, SlotPart}
 use Rattle.core_parts.specs.Finished.{IsMapAfter, MountsAfter}
-use Rattle.core_parts.specs.Joined.{IsObjectFile, Parts, PartsFit, PartsHold}
+use Rattle.core_parts.specs.Joined.{IsObjectFile, Parts, PartsHold}
 use Rattle.core_parts.proofs.Contained.{contains_first, contains_later}
 use Rattle.core_parts.proofs.FinishedParts.{finish_mounts, honest_finish_mounts}
 use Rattle.suppositions.specs.Guesses.{Guess}
@@ -23,7 +22,7 @@ use Rattle.store_commit.specs.declared.gate.Doubted.{Doubted}
 use Rattle.store_commit.specs.Sides.{Sides}
 use Rattle.gate_parts.specs.Phases.{phase_under}
 use Rattle.gate_parts.specs.Resting.{Rests, resting_part}
-use Rattle.gate_parts.specs.Ended.{AreSlotsOf, EndedStoresMount, EndsAreSupposed, HasEnded, HonestStoresMount, SupposesDishonest, dishonest_below, no_file, no_slot, slots_of, store_files}
+use Rattle.gate_parts.specs.Ended.{EndedStoresMount, EndsAreSupposed, HasEnded, HonestStoresMount, dishonest_below, no_file, no_slot, slots_of, store_files}
 use Rattle.gate_parts.proofs.RestingGates.{resting_gates_hold}
 
 -- the slot of an object file, and of another number

@@ -1,5 +1,5 @@
 -- Who has taken a file is the session that holds it, also once a commit ends the hold on the file that it puts.
-use Rattle.std.proofs.Common.{◌≡◌, ◌≢◌, ℕ, zero, suc, ◌+◌, Bool, true, false, true≢false, eqb, List, [], ◌∷◌, inl, inr, Option, Some, None, refl, sym, ap, ◌∙◌, subst, arith, eq-eqb, ne_eqb}
+use Rattle.std.proofs.Common.{◌≡◌, ◌≢◌, ℕ, zero, suc, ◌+◌, true, true≢false, eqb, List, [], ◌∷◌, inl, inr, Option, Some, None, refl, sym, ap, ◌∙◌, subst, arith, eq-eqb, ne_eqb}
 use Rattle.std.proofs.lemmas.Bool.{cases_Bool, cases_eq, cond-true, cond-false, eqb-true}
 use Rattle.dir_records.specs.declared.entry.DirEntry.{DirEntry}
 use Rattle.crash_core.specs.Appends.{freed}
@@ -68,12 +68,12 @@ unless_was file n (Some held) is = elim (cases_Bool (eqb held file)) [
 unless_stays : (file n : ℕ) → n ≢ file → unless_file file (Some n) ≡ Some n
 unless_stays file n other = cond-false (eqb n file) None (Some n) (ne_eqb n file other)
 
-same_option : (a b : Option ℕ) → ((k : ℕ) → a ≡ Some k → b ≡ Some k) → ((k : ℕ) → b ≡ Some k → a ≡ Some k) → a ≡ b
+pub same_option : (a b : Option ℕ) → ((k : ℕ) → a ≡ Some k → b ≡ Some k) → ((k : ℕ) → b ≡ Some k → a ≡ Some k) → a ≡ b
 same_option None None to from = refl
 same_option None (Some k) to from = from k refl
 same_option (Some k) b to from = sym (to k refl)
 
-no_option : (a : Option ℕ) → ((k : ℕ) → a ≡ Some k → ⊥) → a ≡ None
+pub no_option : (a : Option ℕ) → ((k : ℕ) → a ≡ Some k → ⊥) → a ≡ None
 no_option None none = refl
 no_option (Some k) none = absurd (none k refl)
 

@@ -6,3 +6,7 @@ pub mod Holders
 pub mod RestingGates
 pub mod EndedStores
 pub mod CommitSteps
+pub mod ResolveSteps
+pub mod EventSteps
+pub mod RestingMoves
+pub mod ReserveSteps

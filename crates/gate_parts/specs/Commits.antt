@@ -17,7 +17,7 @@ use Rattle.history_seats.specs.Changes.{with_record}
 use Rattle.crash_core.specs.EntryChanges.{IsChange}
 use Rattle.crash_core.specs.CoreState.{IsTrusted}
 use Rattle.core_parts.specs.GateLaws.{HandedShows}
-use Rattle.core_parts.specs.GateSteps.{GateSteps, Handed}
+use Rattle.core_parts.specs.GateSteps.{Handed}
 use Rattle.suppositions.specs.Guesses.{Guess}
 use Rattle.suppositions.specs.Stores.{Store, standing_at}
 use Rattle.store_commit.specs.declared.change.CommitEnd.{CommitEnd}
@@ -30,8 +30,7 @@ use Rattle.store_commit.specs.Holds.{AreHolds}
 use Rattle.store_commit.specs.Sides.{Sides}
 use Rattle.store_commit.specs.Steps.{Steps}
 use Rattle.gate_parts.specs.Phases.{phase_under}
-use Rattle.gate_parts.specs.Parts.{IsCardOf}
-use Rattle.gate_parts.specs.Resting.{IsGateOf, resting_part}
+use Rattle.gate_parts.specs.Resting.{IsGateOf, StepsTo, resting_part}
 
 -- the mark of the event that a commit leaves, by its end
 abbrev pub mark_of : CommitEnd → Mark
@@ -62,19 +61,11 @@ pub record IsCommitted (old new : Sides) (change : EntryChange) (end : CommitEnd
   pub held : AreHolds new.dir.entries after
   pub sound : Sound new.file
 
--- The gate's part at rest moves by steps of the core machine to its next part at rest, whose history has one record more.
-pub record StepsTo (store : Store) (guess : Guess) (handed : Option Handed) (old new : Sides) (change : EntryChange) (end : CommitEnd) (before after : List (Option ℕ))
-    (card : CardState) (view : GateView) (r : HistoryRecord) : Type 0 where
-  pub next : CardState
-  pub told : IsCardOf new next
-  pub steps : GateSteps (phase_under store guess) handed (resting_part store guess old None before card view)
-      (resting_part store guess new (doubt_left change end) after next (with_record r view))
-
--- So does every commit, however it ends, with its event, where that is legal.
+-- From one part at rest a commit leads to the next, however it ends, with its event, where that is legal.
 abbrev pub CommitsAreSteps : Type 0
 CommitsAreSteps =
     (store : Store) (guess : Guess) (handed : Option Handed) (old new : Sides) (change : EntryChange) (end : CommitEnd) (before after : List (Option ℕ)) (card : CardState) (view : GateView)
     (session number : ℕ) (call : Call) (reply : Reply) (tag : Option (Tag Version)) → let r = commit_event session number call reply end tag in
     IsGateOf store old None before card → IsCommitted old new change end before after → IsForCall store guess handed old view change session call
     → (IsTrusted (phase_under store guess) 0 → IsTrue new.file.honest) → IsLegalEvent guess.dishonest (standing_at store guess view.all) r.event (file_of r)
-    → StepsTo store guess handed old new change end before after card view r
+    → StepsTo store guess handed (resting_part store guess old None before card view) new (doubt_left change end) after (with_record r view)

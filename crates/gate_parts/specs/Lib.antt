@@ -4,3 +4,7 @@ pub mod Readings
 pub mod Resting
 pub mod Ended
 pub mod Commits
+pub mod Resolves
+pub mod Events
+pub mod Moves
+pub mod Reserving

@@ -32,6 +32,7 @@ pub record IsReading (store : Store) (guess : Guess) (entries : List (Option Dir
 pub record IsDoubtRead (store : Store) (guess : Guess) (view : GateView) (entries : List (Option DirEntry)) (d : Doubted) : Type 0 where
   pub doubt : Doubt
   pub is_open : (standing_at store guess view.all).doubt ≡ Some doubt
+  pub number : doubt.commit ≡ d.number
   pub late : IsOpenDoubt d.number view.decided view.all
   pub landed : IsReading store guess (entries_after entries d.change) (as_landed (entries_at store view.all)).now (landed_version store.mounted view.all)
       (standing_landed (standing_at store guess view.all) (Some doubt))

@@ -6,6 +6,7 @@ use Rattle.history_seats.specs.Views.{GateView}
 use Rattle.crash_core.specs.DeviceKeys.{directory_key}
 use Rattle.crash_core.specs.CoreState.{IsTrusted, Phase}
 use Rattle.core_parts.specs.GateParts.{GateHolds, GatePart}
+use Rattle.core_parts.specs.GateSteps.{GateSteps, Handed}
 use Rattle.core_parts.specs.Finished.{IsAtRest}
 use Rattle.suppositions.specs.Guesses.{Guess}
 use Rattle.suppositions.specs.Stores.{Store, standing_at}
@@ -29,6 +30,12 @@ pub record IsGateOf (store : Store) (g : Sides) (doubt : Option Doubted) (holds 
 abbrev pub resting_part : Store → Guess → Sides → Option Doubted → (holds : List (Option ℕ)) → CardState → GateView → GatePart
 resting_part store guess g doubt holds card view =
     gate_part g card (takes_of holds) (pending_of doubt (standing_at store guess view.all).doubt (sealed_in g card)) None view
+
+-- Steps of the core machine lead from a part of the gate to its part at rest, of which the port tells the card.
+pub record StepsTo (store : Store) (guess : Guess) (handed : Option Handed) (from : GatePart) (g : Sides) (doubt : Option Doubted) (holds : List (Option ℕ)) (view : GateView) : Type 0 where
+  pub card : CardState
+  pub told : IsCardOf g card
+  pub steps : GateSteps (phase_under store guess) handed from (resting_part store guess g doubt holds card view)
 
 -- The part has its fact, and no call is under way.
 pub record Rests (phase : Phase) (g : GatePart) : Type 0 where

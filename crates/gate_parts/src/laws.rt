@@ -2,6 +2,10 @@
 
 ghost use Rattle.gate_parts.specs.Commits.{CommitsAreSteps};
 ghost use Rattle.gate_parts.specs.Ended.{EndedStoresMount, EndsAreSupposed, HonestStoresMount};
+ghost use Rattle.gate_parts.specs.Events.{UnchangedEventsAreSteps};
+ghost use Rattle.gate_parts.specs.Moves.{RestingGatesMove};
+ghost use Rattle.gate_parts.specs.Reserving.{ReleasesAreSteps, ReservesAreSteps};
+ghost use Rattle.gate_parts.specs.Resolves.{ResolvesAreSteps};
 ghost use Rattle.gate_parts.specs.Resting.{RestingGatesHold};
 
 /// Between two calls a gate that is tied to its history is a part of the core machine, at rest.
@@ -28,4 +32,29 @@ pub fn ends_are_supposed()
 /// A commit of the gate, however it ends, is with its event a list of steps of the core machine, from one part at rest to the next.
 pub fn commits_are_steps()
     ensures { CommitsAreSteps }
+{}
+
+/// So is the resolving of a doubt, whichever answer it finds.
+pub fn resolves_are_steps()
+    ensures { ResolvesAreSteps }
+{}
+
+/// So is an event that changes nothing.
+pub fn unchanged_events_are_steps()
+    ensures { UnchangedEventsAreSteps }
+{}
+
+/// So is the reserving of a free file for a session.
+pub fn reserves_are_steps()
+    ensures { ReservesAreSteps }
+{}
+
+/// So is the release of a session's file.
+pub fn releases_are_steps()
+    ensures { ReleasesAreSteps }
+{}
+
+/// Such steps are a move of the gate, which keeps its fact; and moves of gate and slots in any order are one run of the core machine.
+pub fn resting_gates_move()
+    ensures { RestingGatesMove }
 {}
