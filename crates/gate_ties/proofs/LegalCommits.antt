@@ -10,7 +10,7 @@ use Rattle.store_model.specs.declared.event.Mark.{Mark}
 use Rattle.store_model.specs.declared.event.Mark.TheVariants.{Made, Doubtful}
 use Rattle.store_model.specs.Calls.{is_commit_of, size_before}
 use Rattle.store_model.specs.Files.{makes_object, name_by, object_named}
-use Rattle.store_model.specs.Legal.{Answered, Doubted, IsLegalCall, IsTagged, counter_after, is_commit_due, mark_of, meant_by}
+use Rattle.store_model.specs.Legal.{Answered, Doubted, IsTagged, counter_after, mark_of, meant_by}
 use Rattle.store_model.specs.Record.{Tag, fault_in_reply, file_at_fault}
 use Rattle.store_model.specs.Standing.{Standing}
 use Rattle.dir_records.specs.declared.entry.DirEntry.{DirEntry}
@@ -23,7 +23,7 @@ use Rattle.crash_core.specs.EntryChanges.{Clear, EntryChange, Put}
 use Rattle.core_parts.specs.Listed.{history_entry}
 use Rattle.suppositions.specs.Guesses.{Guess}
 use Rattle.suppositions.specs.Stores.{Store, standing_at}
-use Rattle.suppositions.specs.Mapped.{IsMapped, IsMappedBoth}
+use Rattle.suppositions.specs.Mapped.{IsMappedBoth}
 use Rattle.suppositions.specs.CommitLaws.{commit_record}
 use Rattle.suppositions.specs.EntryLaws.{EndsKeepMaps}
 use Rattle.suppositions.specs.Answered.{AreAnswered, IsLegalAt}

@@ -1,27 +1,23 @@
 -- A commit that changes the gate's entries as its call does keeps the map of objects in step.
-use Rattle.std.proofs.Common.{◌≡◌, ℕ, true, List, [], Option, Some, None, option_map, IsSome, slice_index_or, refl, sym, ap, ◌∙◌, subst}
+use Rattle.std.proofs.Common.{◌≡◌, ℕ, List, [], Option, Some, None, option_map, IsSome, refl, sym, ap, ◌∙◌, subst}
 use Rattle.tee_types.specs.declared.call.Call.{Call}
 use Rattle.tee_types.specs.declared.call.Call.TheVariants.{Create, Delete, Rename, Truncate, Write}
 use Rattle.tee_types.specs.declared.flags.Flags.{Flags}
 use Rattle.tee_types.specs.declared.reply.Reply.{Reply}
 use Rattle.store_model.specs.declared.name.ObjectName.{ObjectName}
 use Rattle.store_model.specs.declared.session.Handle.{Handle}
-use Rattle.store_model.specs.Object.{Object, Sound, changed_object, moved_object, with_object, without_object}
+use Rattle.store_model.specs.Object.{Sound, changed_object, moved_object, with_object, without_object}
 use Rattle.store_model.specs.Machine.{MachineState, handle_at, name_in, session_at}
 use Rattle.store_model.specs.Calls.{state_after}
 use Rattle.store_model.specs.Files.{name_by}
-use Rattle.store_model.specs.Legal.{is_commit_due}
 use Rattle.store_model.specs.Record.{Tag}
-use Rattle.store_model.specs.Standing.{Standing}
 use Rattle.store_model.proofs.CloseCommits.{MovedBy, RemovedBy, delete-left, put-left, rename-left}
 use Rattle.dir_records.specs.declared.entry.DirEntry.{DirEntry}
 use Rattle.history_seats.specs.Records.{HistoryRecord, Version}
-use Rattle.history_seats.specs.Mounts.{Entry}
 use Rattle.history_seats.specs.Directory.{given_version}
 use Rattle.history_seats.specs.Views.{GateView}
 use Rattle.crash_core.specs.Entries.{name_of}
-use Rattle.crash_core.specs.EntryLists.{entry_at}
-use Rattle.crash_core.specs.EntryChanges.{Clear, EntryChange, IsEntryOf, IsNextEntry, Put}
+use Rattle.crash_core.specs.EntryChanges.{Clear, EntryChange, IsNextEntry, Put}
 use Rattle.core_parts.specs.Listed.{history_entry}
 use Rattle.suppositions.specs.Guesses.{Guess, object_under}
 use Rattle.suppositions.specs.Shown.{IsPartial}
@@ -31,10 +27,8 @@ use Rattle.suppositions.specs.EntryLaws.{EndsKeepMaps, HasOwnEntry, name_given}
 use Rattle.suppositions.proofs.Mending.{some_same}
 use Rattle.suppositions.proofs.MapCommits.{doubtful_both, made_both}
 use Rattle.suppositions.proofs.CallSteps.{creates_keep, deletes_keep, renames_keep}
-use Rattle.gate_ties.specs.CallChanges.{IsEntryCommit}
 use Rattle.gate_ties.specs.MachineChanges.{IsAtHand}
 use Rattle.gate_ties.specs.OwnEntries.{AreTold}
-use Rattle.gate_ties.specs.Ties.{DoubtedChange, IsTied}
 use Rattle.gate_ties.specs.CommitMaps.{CommitsKeepMaps, IsCommitUnder, place_of}
 use Rattle.gate_ties.proofs.Applications.{applications_stay}
 use Rattle.gate_ties.proofs.Told.{tied_tell}

@@ -1,9 +1,9 @@
 -- A commit that changes the gate's entries as its call does keeps the map of objects in step, made or in doubt.
 use Rattle.std.specs.Prelude.{◌≡◌, ℕ, true, List, [], Option, Some}
 use Rattle.tee_types.specs.declared.call.Call.{Call}
-use Rattle.tee_types.specs.declared.call.Call.TheVariants.{Create, Delete, Rename, Truncate, Write}
+use Rattle.tee_types.specs.declared.call.Call.TheVariants.{Create, Rename, Truncate, Write}
 use Rattle.tee_types.specs.declared.reply.Reply.{Reply}
-use Rattle.store_model.specs.Object.{Object, Sound, changed_object}
+use Rattle.store_model.specs.Object.{Sound, changed_object}
 use Rattle.store_model.specs.Calls.{state_after}
 use Rattle.store_model.specs.Legal.{is_commit_due}
 use Rattle.store_model.specs.Record.{Tag}
@@ -12,7 +12,7 @@ use Rattle.history_seats.specs.Records.{HistoryRecord, Version}
 use Rattle.history_seats.specs.Directory.{given_version}
 use Rattle.history_seats.specs.Views.{GateView}
 use Rattle.crash_core.specs.Entries.{name_of}
-use Rattle.crash_core.specs.EntryChanges.{Clear, EntryChange, Put}
+use Rattle.crash_core.specs.EntryChanges.{EntryChange, Put}
 use Rattle.suppositions.specs.Guesses.{Guess, object_under}
 use Rattle.suppositions.specs.Stores.{Store, standing_at}
 use Rattle.suppositions.specs.Mapped.{IsMapped}
