@@ -10,3 +10,5 @@ pub mod CommitTies
 pub mod Applications
 pub mod RightTags
 pub mod Told
+pub mod MapsKept
+pub mod LegalCommits

@@ -62,7 +62,7 @@ module _ (application : List ℕ) (entries : List (Option DirEntry)) (counter : 
       let name : ObjectName = record { app = application; id = id } in
       let object : Object = Sound (contents application name e.size) in
       commits_keep_listed (one_object application name e.size) 0 (Create id flags [] (replicate e.size 0)) (PutObject name object) entries counter (Put index e) object tag listed
-      (refl, refl) (record { enters = (makes, refl); place = place; sized = long application name e.size }) tagged after.distinct before.single l
+      (refl, refl) (record { enters = (makes.entry, refl); place = place; sized = long application name e.size }) tagged after.distinct before.single l
   listed_committed (Write handle bytes) (Put index e) place makes tagged after = in_place index e place makes tagged after
   listed_committed (Truncate handle size) (Put index e) place makes tagged after = in_place index e place makes tagged after
   listed_committed (Rename handle id) (Put index e) place makes tagged after =

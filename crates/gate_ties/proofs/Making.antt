@@ -57,7 +57,7 @@ module _ (s : Standing) (session : ℕ) (entries : List (Option DirEntry)) (size
     made = PutObject name object;
     makes = makes;
     object = object;
-    enters = record { enters = (subst (IsNewEntry entries s.counter index e) (sym makes.0) new, refl); place = place; sized = on ∙ ap size_of (sym makes.1) };
+    enters = record { enters = (subst (IsNewEntry entries s.counter index e) (sym makes.0) new.entry, refl); place = place; sized = on ∙ ap size_of (sym makes.1) };
   }
   by_create id flags attributes bytes (Put index e) made makes new place on = absurd makes
   by_create id flags attributes bytes (Clear index) made makes new place on = absurd new

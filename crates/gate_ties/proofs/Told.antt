@@ -26,6 +26,7 @@ lacks_file entries listed l file unnamed name x is same =
 
 pub tied_tell : TiedEntriesTell
 tied_tell store guess view entries counter doubt tied are answered mapped = record {
+  mapped = mapped;
   facts = facts;
   lacked = record {
     file = lacks_file entries (entries_at store view.all).now tied.listed;

@@ -10,7 +10,7 @@ use Rattle.store_model.specs.Record.{Tag}
 use Rattle.dir_records.specs.declared.entry.DirEntry.{DirEntry}
 use Rattle.history_seats.specs.Records.{Version}
 use Rattle.crash_core.specs.Entries.{name_of}
-use Rattle.crash_core.specs.EntryLists.{entry_at}
+use Rattle.crash_core.specs.EntryLists.{IsUnnamed, entry_at}
 use Rattle.crash_core.specs.EntryChanges.{Clear, EntryChange, IsEntryOf, IsNewEntry, IsNextEntry, Put, changed, index_of}
 use Rattle.crash_core.specs.DirectoryLaws.{AreEntries}
 use Rattle.core_parts.specs.GateParts.{IsVersionOf}
@@ -22,6 +22,11 @@ use Rattle.suppositions.specs.Stores.{Store}
 abbrev pub LacksName : List (Option DirEntry) → ObjectName → Type 0
 LacksName entries name = (index : ℕ) (e : DirEntry) → entry_at entries index ≡ Some e → is_eq (name_cmp name (name_of e)) ≡ false
 
+-- The entry of a new object: in its file there is no other.
+pub record IsCreatedEntry (entries : List (Option DirEntry)) (counter index : ℕ) (e : DirEntry) (name : ObjectName) : Type 0 where
+  pub entry : IsNewEntry entries counter index e name
+  pub fresh : IsUnnamed entries e.file
+
 -- The entry of a renamed object: in its own place, with a name that no entry had.
 pub record IsRenamedEntry (entries : List (Option DirEntry)) (index : ℕ) (e : DirEntry) (new : ObjectName) : Type 0 where
   pub old : ObjectName
@@ -31,7 +36,7 @@ pub record IsRenamedEntry (entries : List (Option DirEntry)) (index : ℕ) (e : 
 -- By a call of that application: a create puts a new entry, a write and a truncate put their object's own with its name, a rename with
 -- another, and a delete clears it.
 abbrev pub IsCallChange : (application : List ℕ) → Call → List (Option DirEntry) → (counter : ℕ) → EntryChange → Type 0
-IsCallChange application (Create id flags attributes bytes) entries counter (Put index e) = IsNewEntry entries counter index e (record { app = application; id = id })
+IsCallChange application (Create id flags attributes bytes) entries counter (Put index e) = IsCreatedEntry entries counter index e (record { app = application; id = id })
 IsCallChange application (Write handle bytes) entries counter (Put index e) = IsNextEntry entries index e (name_of e) (name_of e)
 IsCallChange application (Truncate handle size) entries counter (Put index e) = IsNextEntry entries index e (name_of e) (name_of e)
 IsCallChange application (Rename handle id) entries counter (Put index e) = IsRenamedEntry entries index e (record { app = application; id = id })

@@ -6,3 +6,5 @@ pub mod TieLaws
 pub mod EntryFacts
 pub mod TagLaws
 pub mod OwnEntries
+pub mod CommitMaps
+pub mod CommitAnswers

@@ -36,6 +36,7 @@ pub record AreLacked (entries : List (Option DirEntry)) (listed : List Entry) (s
 -- Where the map is in step, the gate's entries tell of the machine's objects: of those that are there, of what is lacked, and of the one for
 -- which a session's live handle stands.
 pub record AreTold (store : Store) (guess : Guess) (view : GateView) (entries : List (Option DirEntry)) : Type 0 where
+  pub mapped : IsMapped store guess view.all
   pub facts : AreEntryFacts store.keys guess (given_version store.mounted view.all) (entries_at store view.all).now (standing_at store guess view.all) entries
   pub lacked : AreLacked entries (entries_at store view.all).now (standing_at store guess view.all)
   pub own : (session handle index : ℕ) (e : DirEntry) → entry_at entries index ≡ Some e → name_by (standing_at store guess view.all).state session handle ≡ Some (name_of e)

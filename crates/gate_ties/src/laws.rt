@@ -4,6 +4,8 @@ ghost use Rattle.gate_ties.specs.TieLaws.{DoubtfulCommitsKeepTies, DropsKeepTies
 ghost use Rattle.gate_ties.specs.MachineChanges.{ApplicationsStay, CommitsMakeEntries};
 ghost use Rattle.gate_ties.specs.TagLaws.{CommitTagsAreRight, UnchangedTagsAreRight};
 ghost use Rattle.gate_ties.specs.OwnEntries.{TiedCommitsMakeEntries, TiedEntriesTell};
+ghost use Rattle.gate_ties.specs.CommitMaps.{CommitsKeepMaps};
+ghost use Rattle.gate_ties.specs.CommitAnswers.{CommitsAreLegal};
 ghost use Rattle.gate_ties.specs.EntryFacts.{MatchedEntriesTell};
 
 /// Along every replay the names of the machine's objects rise, if they do where it begins.
@@ -80,4 +82,14 @@ pub fn tied_entries_tell()
 /// A commit of the gate's entries is the machine's, where its call is one.
 pub fn tied_commits_make_entries()
     ensures { TiedCommitsMakeEntries }
+{}
+
+/// Such a commit keeps the map of objects in step, made or in doubt, where what stands for its version is the machine's object.
+pub fn commits_keep_maps()
+    ensures { CommitsKeepMaps }
+{}
+
+/// Such a commit is legal under the supposition, made or in doubt, and keeps the map in step.
+pub fn commits_are_legal()
+    ensures { CommitsAreLegal }
 {}
