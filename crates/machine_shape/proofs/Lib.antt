@@ -10,3 +10,10 @@ pub mod CallHandles
 pub mod LandedHandles
 pub mod StandingHandles
 pub mod HandleLaws
+pub mod EntryTests
+pub mod EntryInserts
+pub mod SharedFiles
+pub mod OpenSteps
+pub mod DroppedHandles
+pub mod Rights
+pub mod OpenCalls
