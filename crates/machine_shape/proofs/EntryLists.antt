@@ -21,10 +21,10 @@ module _ {X : Type 0} where
   taken_at entries m = remove_entry (λ n. n == m) entries
 
   -- the first entry is that of the number, or another
-  at-here : (e : ℕ × X) (rest : Option X) (q : ℕ) → e.0 ≡ q → cond (e.0 == q) (Some e.1) rest ≡ Some e.1
+  pub at-here : (e : ℕ × X) (rest : Option X) (q : ℕ) → e.0 ≡ q → cond (e.0 == q) (Some e.1) rest ≡ Some e.1
   at-here e rest q same = ap (λ (b : Bool). cond b (Some e.1) rest) (eq-eqb e.0 q same)
 
-  at-later : (e : ℕ × X) (rest : Option X) (q : ℕ) → e.0 ≢ q → cond (e.0 == q) (Some e.1) rest ≡ rest
+  pub at-later : (e : ℕ × X) (rest : Option X) (q : ℕ) → e.0 ≢ q → cond (e.0 == q) (Some e.1) rest ≡ rest
   at-later e rest q apart = ap (λ (b : Bool). cond b (Some e.1) rest) (ne_eqb e.0 q apart)
 
   pub put-other : (entries : List (ℕ × X)) (m : ℕ) (x : X) (q : ℕ) → q ≢ m → at_number (put_at entries m x) q ≡ at_number entries q

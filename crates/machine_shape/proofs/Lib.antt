@@ -17,3 +17,10 @@ pub mod LandedHandles
 pub mod StandingHandles
 pub mod HandleLaws
 pub mod LookedUp
+pub mod EntryTests
+pub mod EntryInserts
+pub mod SharedFiles
+pub mod OpenSteps
+pub mod DroppedHandles
+pub mod Rights
+pub mod OpenCalls

@@ -7,3 +7,5 @@ pub mod Numbers
 pub mod OpenHandles
 pub mod WellOpened
 pub mod HandleLaws
+pub mod SharingLaws
+pub mod OpenLaws
