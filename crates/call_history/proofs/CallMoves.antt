@@ -1,5 +1,5 @@
 -- A session behind its own call.
-use Rattle.std.proofs.Common.{◌≡◌, ◌==◌, ◌+◌, ◌≤◌, ◌<◌, ◌^◌, ◌&&◌, ℕ, Bool, true, false, not, true≢false, List, [], ◌∷◌, ◌++◌, length, Option, Some, None, slice_index_or, refl, sym, ap, ◌∙◌, subst, inl, inr, arith, append_assoc, length-append, eq-eqb}
+use Rattle.std.proofs.Common.{◌≡◌, ◌+◌, ◌≤◌, ◌<◌, ◌^◌, ◌&&◌, ℕ, Bool, true, false, not, true≢false, List, [], ◌∷◌, ◌++◌, length, Option, Some, None, refl, sym, ap, ◌∙◌, subst, inl, inr, eq-eqb}
 use Rattle.tee_types.specs.declared.call.Call.{Call}
 use Rattle.tee_types.specs.declared.call.Call.TheVariants.{Delete, Rename}
 use Rattle.tee_types.specs.declared.reply.Reply.{Reply}
@@ -12,10 +12,9 @@ use Rattle.store_model.specs.declared.session.Handle.{Handle}
 use Rattle.store_model.specs.Calls.{state_after}
 use Rattle.store_model.specs.Doubt.{Doubt, follows, session_landed}
 use Rattle.store_model.specs.Files.{reads_file}
-use Rattle.store_model.specs.History.{count_of}
-use Rattle.store_model.specs.Legal.{Answered, IsLegalAnswer, IsTagged, Unavailable, Unresolved, counter_after, is_commit_due, mark_of, meant_by, needs_file, stands_for_doubt}
+use Rattle.store_model.specs.Legal.{Answered, IsLegalAnswer, Unavailable, Unresolved, counter_after, mark_of, meant_by, needs_file, stands_for_doubt}
 use Rattle.store_model.specs.Machine.{MachineState, Session, handle_at, session_at}
-use Rattle.store_model.specs.Record.{events_of, fault_in_reply, file_of}
+use Rattle.store_model.specs.Record.{fault_in_reply, file_of}
 use Rattle.store_model.specs.Standing.{Standing, is_undone, keeps_doubt, standing_after}
 use Rattle.history_seats.specs.Records.{HistoryRecord, is_event_of}
 use Rattle.history_seats.specs.Settling.{HasMark, Pending, calm, is_doubtful, open_from, settles}
@@ -26,7 +25,7 @@ use Rattle.history_seats.specs.Views.{GateView, PassView, Sight}
 use Rattle.history_seats.specs.Changes.{pass_renewed, with_record}
 use Rattle.history_seats.specs.Rule.{PassFits}
 use Rattle.history_seats.proofs.OpenDoubts.{unchanged-settles}
-use Rattle.history_seats.proofs.Places.{any_settles, open-now, open-snoc}
+use Rattle.history_seats.proofs.Places.{open-now, open-snoc}
 use Rattle.suppositions.specs.Guesses.{Guess}
 use Rattle.suppositions.specs.Stores.{Store, standing_at, start_under}
 use Rattle.suppositions.specs.Answered.{AreAnswered, IsFairAt, IsFairHistory}
@@ -38,7 +37,7 @@ use Rattle.suppositions.proofs.SessionSteps.{doubtful_stands, made_stands, sessi
 use Rattle.call_history.specs.declared.own_doubt.OwnDoubt.{OwnDoubt}
 use Rattle.call_history.specs.Sessions.{CallerSession, HasOwnDoubt, IsCallerOf, IsOwnDoubt, landed_by, landing_of_call, pending_of, renamed, session_value}
 use Rattle.call_history.specs.Shown.{SeesAll, pass_shown}
-use Rattle.call_history.specs.Calls.{DoubtfulCallsMove, HasMoved, IsHeldUp, IsMeantAlone, IsMovedBy, IsToldAlone, MadeCallsMove, UnchangedCallsMove, alone_record, session_done, session_unless_undone}
+use Rattle.call_history.specs.Calls.{DoubtfulCallsMove, HasMoved, IsHeldUp, IsMovedBy, IsToldAlone, MadeCallsMove, UnchangedCallsMove, alone_record, session_done, session_unless_undone}
 use Rattle.call_history.proofs.OwnDoubts.{longer-own}
 use Rattle.call_history.proofs.Showing.{some_same}
 

@@ -1,25 +1,20 @@
 -- What always holds of a journal's history, over each of its calls.
-use Rattle.std.proofs.Common.{◌≡◌, ◌+◌, ◌<◌, ◌≤◌, ℕ, Bool, true, false, true≢false, List, [], ◌∷◌, ◌++◌, length, Option, Some, None, unwrap_or, refl, sym, ap, ◌∙◌, subst, inl, inr, arith, length-append, append-nil}
+use Rattle.std.proofs.Common.{◌≡◌, ℕ, true, false, true≢false, List, [], ◌∷◌, ◌++◌, length, Option, Some, None, unwrap_or, refl, sym, ap, ◌∙◌, subst, inl, inr, arith, length-append}
 use Rattle.std.proofs.lemmas.Bool.{cases_Bool}
 use Rattle.std.proofs.lemmas.List.{map-append}
 use Rattle.atomic_table.specs.Seated.{TableId}
 use Rattle.store_model.specs.declared.event.Event.{Event}
 use Rattle.store_model.specs.declared.event.Event.TheVariants.{Call as CallEvent, Landed}
-use Rattle.store_model.specs.declared.event.Mark.{Mark}
 use Rattle.store_model.specs.declared.event.Mark.TheVariants.{Unchanged, Made, Doubtful}
-use Rattle.store_model.specs.Doubt.{Doubt}
 use Rattle.store_model.specs.Record.{events_of}
 use Rattle.history_seats.specs.Records.{HistoryRecord}
-use Rattle.history_seats.specs.Mounts.{Mounted, Served}
 use Rattle.history_seats.specs.Settling.{HasMark, IsOpenDoubt, commits, is_landing}
-use Rattle.history_seats.specs.Changes.{IsFitting, IsNextOf, TagVersions, doubt_dropped, landing_of, record_of, with_record, with_slot_out, without_pass, without_slot}
+use Rattle.history_seats.specs.Changes.{IsFitting, IsNextOf, doubt_dropped, landing_of, with_record, with_slot_out, without_pass, without_slot}
 use Rattle.history_seats.specs.Views.{GateView, PassView, Sight, SlotView}
-use Rattle.history_seats.proofs.Tags.{event_in}
 use Rattle.suppositions.specs.Guesses.{Guess}
-use Rattle.suppositions.specs.Stores.{OpensMounted, Store, standing_at}
+use Rattle.suppositions.specs.Stores.{Store}
 use Rattle.suppositions.specs.Answered.{AreAnswered, IsAnsweredAt, IsFairAt, IsFairHistory}
 use Rattle.suppositions.specs.Mapped.{IsMappedBoth}
-use Rattle.suppositions.specs.MapLaws.{AreMountedApart}
 use Rattle.suppositions.proofs.Answers.{answered-front, answered-last, fair-snoc, nothing-fair}
 use Rattle.suppositions.proofs.MapSteps.{dropped-both, landing-both}
 use Rattle.suppositions.proofs.Openings.{opening_both}

@@ -1,14 +1,12 @@
 -- A session's own commit in doubt, in records that hold it.
-use Rattle.std.proofs.Common.{◌≡◌, ◌==◌, ◌+◌, ◌≤◌, ◌<◌, ℕ, zero, suc, Bool, true, false, true≢false, List, [], ◌∷◌, ◌++◌, length, drop, Option, Some, None, refl, sym, ap, ◌∙◌, subst, inl, inr, cond, arith, append_assoc, add-one}
-use Rattle.std.proofs.lemmas.Bool.{cases_Bool, cond-true, cond-false}
-use Rattle.tee_types.specs.declared.reply.Reply.{Reply}
+use Rattle.std.proofs.Common.{◌≡◌, ◌==◌, ◌+◌, ◌≤◌, ℕ, suc, Bool, true, false, true≢false, List, [], ◌∷◌, ◌++◌, length, drop, Option, Some, None, refl, sym, ap, ◌∙◌, subst, append_assoc, add-one}
+use Rattle.std.proofs.lemmas.Bool.{cond-false}
 use Rattle.store_model.specs.declared.event.Event.{Event}
 use Rattle.store_model.specs.declared.event.Event.TheVariants.{Call as CallEvent, Landed}
-use Rattle.store_model.specs.declared.event.Mark.{Mark}
 use Rattle.store_model.specs.declared.event.Mark.TheVariants.{Unchanged, Made, Doubtful}
 use Rattle.store_model.specs.Doubt.{Doubt}
 use Rattle.store_model.specs.Machine.{Session}
-use Rattle.store_model.specs.Record.{events_of, file_of}
+use Rattle.store_model.specs.Record.{file_of}
 use Rattle.store_model.specs.Standing.{Standing, keeps_doubt, replay, standing_after}
 use Rattle.store_model.proofs.Sessions.{replay-append}
 use Rattle.history_seats.specs.Records.{HistoryRecord, is_event_of}

@@ -10,7 +10,7 @@ use Rattle.store_model.specs.Record.{events_of}
 use Rattle.store_model.specs.declared.session.Handle.{Handle}
 use Rattle.history_seats.specs.Records.{HistoryRecord}
 use Rattle.store_model.specs.declared.event.Mark.TheVariants.{Doubtful}
-use Rattle.history_seats.specs.Settling.{HasMark, IsOpenDoubt, Pending, calm, dropped, is_landing, open_from, settled, settles, settling}
+use Rattle.history_seats.specs.Settling.{HasMark, IsOpenDoubt, Pending, calm, dropped, is_landing, open_from, settled, settling}
 use Rattle.history_seats.specs.Sessions.{session_if_landed, session_of}
 use Rattle.history_seats.specs.SessionLaws.{MayBeDropped}
 use Rattle.history_seats.specs.Known.{session_from}

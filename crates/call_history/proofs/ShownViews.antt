@@ -1,5 +1,5 @@
 -- The views of a session: within the history, as it begins, and over what it was shown.
-use Rattle.std.proofs.Common.{◌≡◌, ◌==◌, ◌+◌, ◌≤◌, ◌<◌, ℕ, suc, Bool, true, false, cond, List, [], ◌∷◌, ◌++◌, length, map, Some, slice_index_or, refl, sym, ap, ◌∙◌, subst, arith, append_assoc, length-append}
+use Rattle.std.proofs.Common.{◌≡◌, ◌==◌, ◌≤◌, ◌<◌, ℕ, suc, Bool, true, false, cond, List, [], ◌∷◌, ◌++◌, length, map, slice_index_or, refl, sym, ap, ◌∙◌, arith, append_assoc, length-append}
 use Rattle.std.proofs.lemmas.List.{length-map}
 use Rattle.std.proofs.Math.ListN.{get_or-map}
 use Rattle.store_model.specs.declared.event.Event.{Event}
@@ -15,10 +15,9 @@ use Rattle.history_seats.specs.Rule.{PassFits}
 use Rattle.history_seats.proofs.Numbering.{count-append, count-begins}
 use Rattle.history_seats.proofs.Places.{open-calm}
 use Rattle.suppositions.specs.Stores.{Store, start_under}
-use Rattle.suppositions.specs.Sessions.{Extends, IsSessionOf, SessionValue}
-use Rattle.call_history.specs.Sessions.{IsOwnDoubt}
+use Rattle.call_history.specs.Sessions.{CallerSession, IsCallerOf, IsOwnDoubt}
 use Rattle.call_history.specs.Beginnings.{FreshSessionsAreCallers}
-use Rattle.call_history.specs.Shown.{BeginsAll, SeesAll, ShownSessionsExtend}
+use Rattle.call_history.specs.Shown.{ShownSessionsExtend}
 use Rattle.call_history.proofs.Showing.{some_same}
 
 -- a doubt of the view stands within the history
@@ -47,6 +46,10 @@ made-below gate pass fits i made own is =
       count_within pass.session (events_of gate.all),
       length-map gate.all (λ (r : HistoryRecord). r.event),
     )
+
+-- what is drawn from its entropy leaves a session the store's
+pub drawn-caller : {E : Type 0} (store : Store) (s : CallerSession E) (entropy : E) → IsCallerOf store s → IsCallerOf store (record s { entropy = entropy })
+drawn-caller store s entropy x = record { session = x.session; doubt = x.doubt }
 
 -- what is past a view has no call of its session
 pub none-past : (gate : GateView) (pass : PassView) (fits : PassFits gate pass) → count_of pass.session (events_of fits.sees.begins.rest) ≡ 0

@@ -46,6 +46,8 @@ IsDoubtOf store gate commit =
     (guess : Guess) → AreAnswered store guess gate.all
     → (doubt : Doubt) × ((standing_at store guess gate.all).doubt ≡ Some doubt) × (doubt.commit ≡ commit)
 
--- So it has each doubt that is open in the records.
+-- While a doubt is open in the records, each such replay has one open.
 abbrev pub AreDoubtsHeld : Store → GateView → Type 0
-AreDoubtsHeld store gate = (commit : ℕ) → IsOpenDoubt commit gate.decided gate.all → IsDoubtOf store gate commit
+AreDoubtsHeld store gate =
+    (commit : ℕ) → IsOpenDoubt commit gate.decided gate.all → (guess : Guess) → AreAnswered store guess gate.all
+    → (doubt : Doubt) × ((standing_at store guess gate.all).doubt ≡ Some doubt)

@@ -1,7 +1,6 @@
 //! A caller's session.
 
 ghost use Rattle.std.specs.Prelude.{◌≡◌, ◌≤◌, ◌<◌, ◌^◌, ◌+◌, ◌++◌, ◌∷◌, [], ℕ, false, None, Some, IfOk, IfErr, IfSome, IsOk, IsSome, OnErr, OnOk, if◌then◌else◌};
-ghost use Rattle.disk_model.specs.Faults.{Rose};
 ghost use Rattle.enumerators.specs.Enumeration.{IsLive, IsStarted, advanced, allocated, cursor_at, freed, has_all, reset, started};
 ghost use Rattle.store_model.specs.Machine.{handle_at, has_all_handles, with_handle, without_handle};
 ghost use Rattle.history_seats.specs.Views.{PassView, Sight};
@@ -14,13 +13,13 @@ use history_seats::PassSeat;
 use std::alloc::Global;
 use std::marker::Model;
 use store_model::{Handle, ObjectName, Session as SessionState};
-use tee_ports::{Entropy, Failed};
+use tee_ports::Entropy;
 use tee_types::{AppId, Call, Flags, NoMemory, ObjectId};
 
 /// The session of an application, which belongs to one caller: its seat, its handles and enumerators, its own commit in doubt, and what
 /// it draws nonces from.
 #[derive(Drop)]
-pub struct Session<E: Entropy> {
+pub struct Session<E> {
     // None while it is lent.
     pass: Option<PassSeat>,
     number: u32,
@@ -31,7 +30,7 @@ pub struct Session<E: Entropy> {
     entropy: E,
 }
 
-impl<E: Entropy> Model for Session<E> {
+impl<E> Model for Session<E> {
     ghost use Rattle.call_history.specs.Beginnings.{fresh};
     ghost use Rattle.call_history.specs.Sessions.{CallerSession};
 
@@ -48,6 +47,9 @@ impl<E: Entropy> Model for Session<E> {
 }
 
 impl<E: Entropy> Session<E> {
+    ghost use Rattle.std.specs.Borrow.{Lends, sem};
+    ghost use Rattle.call_history.specs.contracts.session.Session.{the_row};
+
     /// The session of an application as it begins.
     pub fn new(
         alloc: Global,
@@ -141,17 +143,12 @@ impl<E: Entropy> Session<E> {
         self.made += 1;
     }
 
-    /// Draws 16 random bytes. After a failure `into` holds what it held before.
-    pub fn draw(&mut self, into: &mut [u8; 16]) -> Result<(), Failed>
-        ensures session { self.new ≡ record self.old { entropy = self.new.entropy } }
-        ensures reliable { E.is_reliable self.old.entropy → IsOk result }
-        ensures lasts { E.is_reliable self.old.entropy → E.is_reliable self.new.entropy }
-        ensures passed { OnOk result (E.faults self.new.entropy ≡ E.faults self.old.entropy) }
-        ensures rose { OnErr result (Rose (E.faults self.old.entropy) (E.faults self.new.entropy)) }
-        ensures carried { IfErr result (λ e. e.count ≡ E.faults self.new.entropy) }
-        ensures kept { OnErr result (into.new ≡ into.old) }
+    /// What it draws random bytes from.
+    pub fn entropy_mut(&mut self) -> &mut E
+        ensures value { result.now ≡ self.old.entropy }
+        ensures* writes_back { sem 𝓛 (Lends (the_row E.row) E.row self.entry result (λ w. record self.old { entropy = w })) }
     {
-        self.entropy.draw(into)
+        &mut self.entropy
     }
 
     /// Whether no further handle may be given.

@@ -1,7 +1,6 @@
 -- The event is the session's next, and the session is the store's behind it.
-use Rattle.std.proofs.Common.{◌≡◌, ◌+◌, ◌<◌, ◌≤◌, ◌++◌, ◌∷◌, [], ℕ, List, length, Option, Some, refl, sym, ap, ◌∙◌, subst, arith, length-append}
+use Rattle.std.proofs.Common.{◌≡◌, ◌+◌, ◌≤◌, ◌++◌, ◌∷◌, [], ℕ, length, Option, Some, refl, sym, ap, ◌∙◌, subst, arith, length-append}
 use Rattle.store_model.specs.declared.event.Event.TheVariants.{Call as CallEvent}
-use Rattle.history_seats.specs.Records.{HistoryRecord}
 use Rattle.history_seats.specs.Changes.{pass_renewed, record_of, view_in, with_record}
 use Rattle.history_seats.specs.Rule.{PassFits}
 use Rattle.history_seats.specs.Views.{GateView, PassView, Sight}

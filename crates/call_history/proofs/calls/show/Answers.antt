@@ -1,8 +1,7 @@
 -- The session that sees the whole history is the store's again.
-use Rattle.std.proofs.Common.{◌≡◌, ◌<◌, length, Option, None, Some, refl, sym, ap, ◌∙◌, subst}
-use Rattle.history_seats.specs.Changes.{pass_renewed}
+use Rattle.std.proofs.Common.{◌≡◌, ◌<◌, length, Option, Some, refl, sym, ap, ◌∙◌, subst}
 use Rattle.history_seats.specs.Rule.{PassFits}
-use Rattle.history_seats.specs.Views.{GateView, PassView, Sight}
+use Rattle.history_seats.specs.Views.{PassView, Sight}
 use Rattle.call_history.specs.Journals.{JournalValue}
 use Rattle.call_history.specs.Sessions.{CallerSession, IsCallerOf}
 use Rattle.call_history.specs.Shown.{doubt_learnt, pass_shown, shown, state_learnt}

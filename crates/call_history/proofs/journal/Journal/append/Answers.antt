@@ -1,9 +1,8 @@
 -- The journal with one record more.
-use Rattle.std.proofs.Common.{refl, sym, ap, subst}
+use Rattle.std.proofs.Common.{sym, ap, subst}
 use Rattle.history_seats.specs.Changes.{IsFitting, IsNextOf, record_of, view_in, with_record}
 use Rattle.history_seats.specs.Views.{GateView}
 use Rattle.history_seats.proofs.Tags.{event_in}
-use Rattle.suppositions.specs.Guesses.{Guess}
 use Rattle.suppositions.specs.Answered.{IsFairAt}
 use Rattle.call_history.specs.Journals.{JournalValue}
 use Rattle.call_history.proofs.Journals.{calls_next, more-events, next-journal, renewed-parts}

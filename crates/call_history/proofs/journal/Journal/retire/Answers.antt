@@ -1,5 +1,4 @@
 -- The journal with one seat less out.
-use Rattle.std.proofs.Common.{ap, ◌∙◌, length}
 use Rattle.history_seats.specs.Changes.{without_slot}
 use Rattle.call_history.proofs.Journals.{without_slot-journal, renewed-parts}
 use Rattle.call_history.proofs.journal.Journal.retire.Goals as goal

@@ -1,5 +1,4 @@
 -- The journal with one seat less out.
-use Rattle.std.proofs.Common.{ap, ◌∙◌, length}
 use Rattle.history_seats.specs.Changes.{without_pass}
 use Rattle.call_history.proofs.Journals.{without_pass-journal, renewed-parts}
 use Rattle.call_history.proofs.journal.Journal.retire_pass.Goals as goal

@@ -1,5 +1,5 @@
 -- What is behind the place in the history's events is behind it in what the seat knows.
-use Rattle.std.proofs.Common.{◌≡◌, ◌+◌, ℕ, Bool, nat_lt, List, Option, drop, sym, ap, ◌∙◌, option_map}
+use Rattle.std.proofs.Common.{◌≡◌, ◌+◌, ℕ, Bool, nat_lt, List, Option, drop, ap, ◌∙◌, option_map}
 use Rattle.std.specs.Prelude.{find}
 use Rattle.store_model.specs.declared.event.Event.{Event}
 use Rattle.history_seats.specs.Settling.{is_landing, settles, settling}

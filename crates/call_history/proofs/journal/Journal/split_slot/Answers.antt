@@ -1,5 +1,4 @@
 -- The journal with one more seat out.
-use Rattle.std.proofs.Common.{ap, ◌∙◌, length}
 use Rattle.history_seats.specs.Changes.{with_slot_out}
 use Rattle.call_history.specs.Journals.{told_of}
 use Rattle.call_history.proofs.Journals.{slot_out-journal, renewed-parts}
