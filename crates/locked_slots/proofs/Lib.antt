@@ -12,3 +12,5 @@ pub mod Staged
 pub mod NextVersions
 pub mod StagedSlots
 pub mod ChangeAnswers
+pub mod NewObjects
+pub mod MadeSlots

@@ -7,3 +7,4 @@ pub mod OwnEvents
 pub mod Reads
 pub mod Fills
 pub mod Stages
+pub mod NewObjects
