@@ -10,6 +10,7 @@ pub mod Filled
 pub mod KnownOnes
 pub mod Staged
 pub mod NextVersions
+pub mod MadeOver
 pub mod StagedSlots
 pub mod ChangeAnswers
 pub mod NewObjects
