@@ -1,5 +1,5 @@
 -- What the calls that stage answer.
-use Rattle.std.proofs.Common.{◌≡◌, ◌∙◌, ◌+◌, ◌-◌, ◌<◌, ◌≤◌, ℕ, true, List, length, min, Option, Some, None, Result, Ok, Err, refl, sym, ap, subst, arith}
+use Rattle.std.proofs.Common.{◌≡◌, ◌∙◌, ◌+◌, ◌<◌, ℕ, true, List, length, Option, Some, None, Result, Ok, Err, refl, sym, ap, subst, arith}
 use Rattle.std.specs.Prelude.{OnErr}
 use Rattle.node_image.specs.declared.node.RootRef.{RootRef}
 use Rattle.node_image.specs.Layout.{greatest_of}
@@ -10,7 +10,8 @@ use Rattle.object_file.specs.Value.{size_in}
 use Rattle.object_slots.specs.declared.fault.SlotFault.{SlotFault}
 use Rattle.object_slots.specs.Stages.{DataChange, StagesObject, resize_change, write_change}
 use Rattle.object_slots.specs.Value.{HeldObject, Holding, IfLive, IsLive, SlotValue, free, live, made, staged}
-use Rattle.locked_slots.specs.Objects.{IsObjectOf}
+use Rattle.locked_slots.specs.LiveSlots.{LiveSlotsGiveVersions}
+use Rattle.locked_slots.specs.Objects.{IsObjectOf, IsOfVersion}
 use Rattle.locked_slots.specs.LockedSlots.{IsContentOf, IsLockedSlot}
 use Rattle.locked_slots.specs.Reads.{GivesVersion}
 use Rattle.locked_slots.specs.Stages.{StagesVersion, VersionChange, resize_of, write_of}
@@ -80,3 +81,15 @@ module _ (size : ℕ) (o : HeldObject) (long : o.tree.tree.head.length ≡ 4096 
     own = λ x. refl;
     inside = resize_inside;
   }
+
+-- What such a slot holds is of the version.
+pub live_slots : LiveSlotsGiveVersions
+live_slots store slot is on calmly = by_holding slot.holds refl on
+  where
+    by_holding : (holds : Holding) → slot.holds ≡ holds → IsLive holds → (v : Version) × GivesVersion slot v × IsOfVersion store.keys slot.file slot.holds (Some v)
+    by_holding free holds on = absurd on
+    by_holding (made o) holds on = absurd on
+    by_holding (staged o s) holds on = absurd on
+    by_holding (live o) holds on =
+        let one = live_gives store slot o is holds calmly in
+        (one.0, one.1, subst (λ (h : Holding). IsOfVersion store.keys slot.file h (Some one.0)) (sym holds) (one.0, refl, slot_object store slot one.0 o is one.1 holds))

@@ -1,6 +1,6 @@
 -- What a stage was made over, whatever its file is: the ciphertexts that its nodes seal, over what was read.
-use Rattle.std.proofs.Common.{◌≡◌, ◌∙◌, ◌⊎◌, ◌+◌, ◌*◌, ◌/◌, ◌-◌, ◌<◌, ◌≤◌, ◌==◌, ◌||◌, ◌&&◌, nat_lt, min, max, ℕ, Bool, true, false, true≢false, cond, List, [], length, Option, Some, None, IsTrue, inl, inr, refl, sym, ap, subst, arith}
-use Rattle.std.proofs.lemmas.Bool.{and_parts, cases_Bool, cases_lt, cond-false, cond-true, lt-ltb, ltb-true}
+use Rattle.std.proofs.Common.{◌≡◌, ◌∙◌, ◌⊎◌, ◌+◌, ◌<◌, ◌≤◌, ◌==◌, ◌||◌, ◌&&◌, nat_lt, min, ℕ, Bool, true, false, true≢false, cond, List, [], length, Some, inl, inr, refl, sym, ap, subst, arith}
+use Rattle.std.proofs.lemmas.Bool.{and_parts, cases_lt, cond-false, cond-true, lt-ltb, ltb-true}
 use Rattle.disk_model.specs.State.{FileState}
 use Rattle.aes_block.specs.WrappedKey.{unwrapped_of}
 use Rattle.hmac_keys.specs.declared.Keys.{Keys}
@@ -8,7 +8,6 @@ use Rattle.node_image.specs.declared.node.RootRef.{RootRef}
 use Rattle.node_image.specs.declared.head.Head.{Head}
 use Rattle.node_image.specs.Layout.{greatest_of}
 use Rattle.node_image.specs.Tables.{at_node}
-use Rattle.htree_file.specs.Changes.{SealsAt}
 use Rattle.htree_file.specs.Pages.{page_of}
 use Rattle.htree_file.specs.Value.{Staged}
 use Rattle.htree_file.proofs.Sizes.{sized_greatest}
@@ -21,8 +20,8 @@ use Rattle.crash_core.specs.DeviceKeys.{object_key}
 use Rattle.history_seats.specs.Records.{Version}
 use Rattle.history_seats.proofs.Lists.{both_true}
 use Rattle.suppositions.specs.Given.{Gave, spelling_given}
-use Rattle.suppositions.specs.Spellings.{block_of, page_spelt, wrap_of}
-use Rattle.suppositions.specs.WriteLaws.{IsMadeOver, spelled_next}
+use Rattle.suppositions.specs.Spellings.{block_of, wrap_of}
+use Rattle.suppositions.specs.WriteLaws.{IsMadeOver}
 use Rattle.object_file.specs.Value.{size_in}
 use Rattle.object_slots.specs.Stages.{DataChange, IsStageOf}
 use Rattle.object_slots.specs.Value.{HeldObject}

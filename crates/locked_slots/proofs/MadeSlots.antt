@@ -1,8 +1,7 @@
 -- A locked slot after a new object was made in its file, or was not.
-use Rattle.std.proofs.Common.{◌≡◌, ◌∙◌, ◌+◌, ◌-◌, ◌≤◌, ℕ, Bool, true, false, true≢false, List, length, Option, Some, None, Result, Ok, Err, IsTrue, inl, inr, refl, sym, ap, subst, arith}
+use Rattle.std.proofs.Common.{◌≡◌, ◌∙◌, ◌+◌, ◌≤◌, ℕ, true≢false, List, length, Option, Some, None, Result, Ok, Err, IsTrue, inl, inr, refl, sym, ap, subst, arith}
 use Rattle.std.proofs.lemmas.Bool.{cases_Bool}
 use Rattle.disk_model.specs.State.{FileState, Sound as SoundFile}
-use Rattle.aes_block.specs.WrappedKey.{unwrapped_of}
 use Rattle.node_image.specs.declared.node.RootRef.{RootRef}
 use Rattle.node_image.specs.Layout.{greatest_of}
 use Rattle.htree_file.specs.Opening.{IsVerified}
@@ -10,11 +9,9 @@ use Rattle.htree_file.proofs.Sizes.{sized_greatest}
 use Rattle.store_model.specs.Object.{Contents, Sound}
 use Rattle.crash_core.specs.DeviceKeys.{object_key}
 use Rattle.history_seats.specs.Records.{Version}
-use Rattle.history_seats.specs.Views.{Sight, SlotView}
 use Rattle.core_parts.specs.SlotParts.{SlotHolds}
 use Rattle.core_parts.specs.SlotSteps.{Taker}
 use Rattle.core_parts.proofs.SlotRuns.{run_holds}
-use Rattle.suppositions.specs.Spellings.{IsReal}
 use Rattle.suppositions.specs.Stores.{Store}
 use Rattle.object_file.specs.Value.{size_in}
 use Rattle.object_slots.specs.declared.fault.SlotFault.{SlotFault}
@@ -93,16 +90,16 @@ module _ (store : Store) (old new : FileState) (app attributes bytes : List ℕ)
   made_version = elim (cases_Bool new.honest) [
     | inl honest ↦ (new_version new app attributes bytes o, of_honest honest, record { root_is = sym is.root_is; app_is = refl; size = refl; long = refl; object = refl })
     | inr off ↦ (
-        spelt,
-        of_other (λ honest. true≢false (sym honest ∙ off)),
-        record {
-          root_is = sym is.root_is;
-          app_is = refl;
-          size = refl;
-          long = refl;
-          object = spells_new (object_key store.keys app) attributes bytes o.tree.key o.tree.tree short is.key is.size whole is.seals;
-        },
-      )
+      spelt,
+      of_other (λ honest. true≢false (sym honest ∙ off)),
+      record {
+        root_is = sym is.root_is;
+        app_is = refl;
+        size = refl;
+        long = refl;
+        object = spells_new (object_key store.keys app) attributes bytes o.tree.key o.tree.tree short is.key is.size whole is.seals;
+      },
+    )
   ]
 
 module _ (store : Store) (old new : SlotValue) (tsk attributes bytes : List ℕ) (few : length attributes ≤ 2048) (is : IsLockedSlot store old) (vacant : IsFree old.holds) (calmly : old.doubt ≡ None)

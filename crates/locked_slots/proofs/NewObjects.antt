@@ -1,5 +1,5 @@
 -- The object that a new tree spells, with the ciphertexts that its nodes seal.
-use Rattle.std.proofs.Common.{◌≡◌, ◌∙◌, ℕ, ◌+◌, ◌-◌, ◌*◌, ◌/◌, ◌%◌, ◌<◌, ◌≤◌, nat_lt, Bool, true, false, List, [], length, get_or, map, take, Option, Some, None, Ok, ap, sym, subst, refl, arith}
+use Rattle.std.proofs.Common.{◌≡◌, ◌∙◌, ℕ, ◌+◌, ◌-◌, ◌*◌, ◌/◌, ◌%◌, ◌<◌, ◌≤◌, nat_lt, Bool, true, false, List, [], length, get_or, map, take, Option, Some, None, ap, sym, subst, refl, arith}
 use Rattle.std.proofs.lemmas.Bool.{lt-ltb, ltb-true}
 use Rattle.std.specs.Option.{is_none}
 use Rattle.std.proofs.lemmas.Grind.{same_number_lists}
@@ -8,18 +8,16 @@ use Rattle.node_image.specs.Layout.{greatest_of}
 use Rattle.htree_file.specs.Pages.{Opened, page_of}
 use Rattle.page_bytes.specs.Pages.{byte_in, bytes_from, page_at}
 use Rattle.page_bytes.proofs.Content.{bytes_from-is}
-use Rattle.store_model.specs.Object.{Object, Sound}
+use Rattle.store_model.specs.Object.{Sound}
 use Rattle.crash_core.specs.MountedObject.{bad_blocks, object_of}
 use Rattle.crash_core.proofs.BadBlocks.{filter-none}
 use Rattle.crash_core.proofs.ObjectChanges.{object_of-sound}
 use Rattle.aes_block.specs.WrappedKey.{unwrapped_of}
-use Rattle.hmac_keys.specs.declared.Keys.{Keys}
 use Rattle.node_image.specs.Selection.{row}
 use Rattle.node_image.specs.Tables.{at_node}
-use Rattle.node_image.proofs.Matching.{length-row, row_at, row_is, row_same}
+use Rattle.node_image.proofs.Matching.{length-row, row_at, row_is}
 use Rattle.htree_file.specs.Changes.{Seals}
-use Rattle.htree_file.specs.Opening.{IsVerified, Loaded}
-use Rattle.htree_file.proofs.Sizes.{sized_greatest}
+use Rattle.htree_file.specs.Opening.{Loaded}
 use Rattle.suppositions.specs.Spellings.{object_spelt, page_spelt, pages_spelt, spelled}
 use Rattle.object_file.specs.Making.{AreObjectPages, IsObjectPage, object_byte}
 
@@ -116,15 +114,15 @@ module _ (wrap attributes bytes : List ℕ) (key : List ℕ) (tree : Loaded) (sh
       let counted : length good_pages ≡ n = length-map pages (λ (page : List ℕ). Some page) ∙ count in
       let each : (k : ℕ) → k < n → page_spelt (spelled wrap (λ j. get_or (row text n) j []) tree) k ≡ get_or good_pages k None =
       λ k lt.
-          (λ i. page_of (sym unwraps i) tree.head (at_node tree.nodes (k + 1)) k (row_at text n k [] lt i))
-          ∙ opens k lt
-          ∙ ap (λ (page : List ℕ). Some page) (sym (row_at (λ j. (sealed j).page) n k [] lt))
-          ∙ sym (get_or-map (λ (page : List ℕ). Some page) pages k [] None (subst (λ (m : ℕ). k < m) (sym count) lt)) in
+      (λ i. page_of (sym unwraps i) tree.head (at_node tree.nodes (k + 1)) k (row_at text n k [] lt i))
+      ∙ opens k lt
+      ∙ ap (λ (page : List ℕ). Some page) (sym (row_at (λ j. (sealed j).page) n k [] lt))
+      ∙ sym (get_or-map (λ (page : List ℕ). Some page) pages k [] None (subst (λ (m : ℕ). k < m) (sym count) lt)) in
       let same : pages_spelt (spelled wrap (λ j. get_or (row text n) j []) tree) ≡ good_pages =
       row_is (page_spelt (spelled wrap (λ j. get_or (row text n) j []) tree)) good_pages n None counted each in
       let are : AreObjectPages attributes bytes pages (length pages) =
       λ k lt.
-          let low : k < n = subst (λ (m : ℕ). k < m) count lt in
-          subst (IsObjectPage attributes bytes k) (sym (row_at (λ j. (sealed j).page) n k [] low)) (page_is k low) in
+      let low : k < n = subst (λ (m : ℕ). k < m) count lt in
+      subst (IsObjectPage attributes bytes k) (sym (row_at (λ j. (sealed j).page) n k [] low)) (page_is k low) in
       (λ i. object_of (length bytes) (length attributes) (record { bytes = long i; pages = same i }))
       ∙ pages_object attributes bytes pages short (count ∙ whole ∙ ap greatest_of long) are

@@ -1,8 +1,6 @@
 -- What staging a change leaves of a locked slot.
-use Rattle.std.proofs.Common.{◌≡◌, ◌∙◌, ◌⊎◌, ◌+◌, ◌-◌, ◌<◌, ◌≤◌, ◌==◌, ◌||◌, ℕ, Bool, true, false, true≢false, List, length, min, max, Option, Some, None, Result, Ok, Err, IsTrue, inl, inr, refl, sym, ap, subst, arith}
+use Rattle.std.proofs.Common.{◌≡◌, ◌∙◌, ◌+◌, ◌<◌, ◌≤◌, ◌==◌, ◌||◌, ℕ, Bool, true, true≢false, List, Some, None, Result, Ok, Err, IsTrue, inl, inr, refl, sym, ap, subst}
 use Rattle.std.proofs.lemmas.Bool.{cases_Bool}
-use Rattle.disk_model.specs.State.{FileState, Sound as SoundFile}
-use Rattle.htree_file.specs.Standing.{Told}
 use Rattle.htree_file.specs.Value.{Staged}
 use Rattle.node_image.specs.declared.node.RootRef.{RootRef}
 use Rattle.store_model.specs.Object.{Contents, Sound}
@@ -17,16 +15,15 @@ use Rattle.page_bytes.specs.declared.range.ByteRange.{ByteRange}
 use Rattle.page_bytes.specs.Ranges.{needs}
 use Rattle.object_file.specs.Changes.{adopted}
 use Rattle.object_file.specs.Held.{held_in}
-use Rattle.object_file.specs.Value.{size_in}
 use Rattle.object_slots.specs.declared.fault.SlotFault.{SlotFault}
 use Rattle.object_slots.specs.Reads.{CorruptAnswer}
-use Rattle.object_slots.specs.Stages.{DataChange, IsStageOf, StagesObject, resize_change, write_change}
-use Rattle.object_slots.specs.Value.{HasStage, HeldObject, Holding, IfLive, IsLive, SlotValue, free, live, made, staged, with_stage, without_stage}
+use Rattle.object_slots.specs.Stages.{DataChange, IsStageOf, StagesObject}
+use Rattle.object_slots.specs.Value.{HasStage, HeldObject, Holding, SlotValue, live, staged, with_stage, without_stage}
 use Rattle.locked_slots.specs.Objects.{IsObjectOf, IsOfVersion}
 use Rattle.locked_slots.specs.KnownFor.{own_version}
-use Rattle.locked_slots.specs.LockedSlots.{IsContentOf, IsLockedSlot, IsSlotOf}
+use Rattle.locked_slots.specs.LockedSlots.{IsLockedSlot, IsSlotOf}
 use Rattle.locked_slots.specs.Reads.{GivesVersion}
-use Rattle.locked_slots.specs.Stages.{IsMadeOverGiven, IsNextVersion, IsStagedSlot, StageLeaves, StagesVersion, VersionChange, resize_of, write_of}
+use Rattle.locked_slots.specs.Stages.{IsMadeOverGiven, IsStagedSlot, StageLeaves, StagesVersion, VersionChange}
 use Rattle.locked_slots.proofs.Contents.{gives_seat, slot_object}
 use Rattle.locked_slots.proofs.NextVersions.{changed, of_changed, of_spelt, spelt, version_spelt}
 use Rattle.locked_slots.proofs.MadeOver.{chosen, gave, made_over}
@@ -102,15 +99,14 @@ module _ (store : Store) (old new : SlotValue) (o : HeldObject) (c : DataChange)
       over =
           subst
           (λ (x : RootRef × ℕ × ByteRange × ℕ × List ℕ). (g : Gave (wrap_of store.keys v) x.0 x.1 (λ k. (k == 0) || needs x.2 k))
-              × IsMadeOver store.keys v (version_spelt store.keys s.root s.tree v.app c.size v.attributes block) (spelling_given g) x.2 x.3 x.4)
+          × IsMadeOver store.keys v (version_spelt store.keys s.root s.tree v.app c.size v.attributes block) (spelling_given g) x.2 x.3 x.4)
           (λ i. (sym object.root i, sym object.size i, of.range i, of.place i, of.bytes i))
           (gave store.keys old.file new.file o v c root s stage object of.behind of.inside, made_over store.keys old.file new.file o v c root s stage object of.behind of.inside)
 
       next_changed : (honest : IsTrue new.file.honest) → StageLeaves store new v change (Ok root)
       next_changed honest =
           let of_next = of_changed store.keys old.file new.file o v c root s block stage (is.own.holds None).sound (own.holds None).sound object was of.behind of.own honest in
-          let next : Version = changed store.keys old.file new.file o v c root s block stage (is.own.holds None).sound (own.holds None).sound object was of.behind of.own in
-          (
+          let next : Version = changed store.keys old.file new.file o v c root s block stage (is.own.holds None).sound (own.holds None).sound object was of.behind of.own in (
             next,
             lock next of_next,
             record {
@@ -126,8 +122,7 @@ module _ (store : Store) (old new : SlotValue) (o : HeldObject) (c : DataChange)
       next_spelt : (IsTrue new.file.honest → ⊥) → StageLeaves store new v change (Ok root)
       next_spelt off =
           let of_next = of_spelt store.keys old.file new.file o v c root s block stage (is.own.holds None).sound (own.holds None).sound object was of.behind of.own off in
-          let next : Version = spelt store.keys old.file new.file o v c root s block stage (is.own.holds None).sound (own.holds None).sound object was of.behind of.own in
-          (
+          let next : Version = spelt store.keys old.file new.file o v c root s block stage (is.own.holds None).sound (own.holds None).sound object was of.behind of.own in (
             next,
             lock next of_next,
             record { root_is = stage.root_is; app = refl; size = of.size; attributes = refl; object = λ here x sound. absurd (off here); over = λ other. over },
