@@ -1,14 +1,17 @@
 -- What the calls that stage answer.
-use Rattle.std.proofs.Common.{◌≡◌, ◌∙◌, ◌+◌, ◌-◌, ◌≤◌, ℕ, List, length, [], min, Option, Some, None, Result, Ok, Err, refl, sym, ap, subst, arith}
+use Rattle.std.proofs.Common.{◌≡◌, ◌∙◌, ◌+◌, ◌<◌, ℕ, true, List, length, Option, Some, None, Result, Ok, Err, refl, sym, ap, subst, arith}
 use Rattle.std.specs.Prelude.{OnErr}
 use Rattle.node_image.specs.declared.node.RootRef.{RootRef}
+use Rattle.node_image.specs.Layout.{greatest_of}
+use Rattle.page_bytes.specs.Ranges.{needs, resize_range, write_range}
 use Rattle.history_seats.specs.Records.{Version}
 use Rattle.suppositions.specs.Stores.{Store}
 use Rattle.object_file.specs.Value.{size_in}
 use Rattle.object_slots.specs.declared.fault.SlotFault.{SlotFault}
 use Rattle.object_slots.specs.Stages.{DataChange, StagesObject, resize_change, write_change}
 use Rattle.object_slots.specs.Value.{HeldObject, Holding, IfLive, IsLive, SlotValue, free, live, made, staged}
-use Rattle.locked_slots.specs.Objects.{IsObjectOf}
+use Rattle.locked_slots.specs.LiveSlots.{LiveSlotsGiveVersions}
+use Rattle.locked_slots.specs.Objects.{IsObjectOf, IsOfVersion}
 use Rattle.locked_slots.specs.LockedSlots.{IsContentOf, IsLockedSlot}
 use Rattle.locked_slots.specs.Reads.{GivesVersion}
 use Rattle.locked_slots.specs.Stages.{StagesVersion, VersionChange, resize_of, write_of}
@@ -34,7 +37,7 @@ module _ (store : Store) (old new : SlotValue) (same : new ≡ record old { file
   by_object o holds stages v given =
       let object : IsObjectOf store.keys old.file o v = slot_object store old v o is given holds in
       subst (λ (n : ℕ). StagesVersion store new v (change n) result) (sym object.size)
-      (stages_version store old new o (c o) (change (size_in o)) v Undrawn is holds calmly given same (of o object.long) (λ k. []) result stages)
+      (stages_version store old new o (c o) (change (size_in o)) v Undrawn is holds calmly given same (of o object.long) result stages)
 
   pub changes_answer : (holds : Holding) → old.holds ≡ holds → IsLive holds → IfLive holds (λ o. StagesObject old.file new.file o (c o) new.holds Undrawn result)
       → OnErr result (IsLockedSlot store new) × ((v : Version) → GivesVersion old v → StagesVersion store new v (change v.size) result)
@@ -45,8 +48,48 @@ module _ (store : Store) (old new : SlotValue) (same : new ≡ record old { file
       let one = live_gives store old o is holds calmly in
       (refused store new one.0 (change one.0.size) result (by_object o holds stages one.0 one.1), by_object o holds stages)
 
-pub write_is : (at : ℕ) (bytes : List ℕ) (o : HeldObject) → o.tree.tree.head.length ≡ 4096 + size_in o → IsChangeOf (write_change o at bytes) (write_of (size_in o) at bytes)
-write_is at bytes o long = record { size = refl; contents = refl; asked = refl; behind = omega (arith, long); own = λ x. refl }
+module _ (at : ℕ) (bytes : List ℕ) (o : HeldObject) (long : o.tree.tree.head.length ≡ 4096 + size_in o) where
+  write_inside : (k : ℕ) → needs (write_change o at bytes).range k ≡ true → k < greatest_of (4096 + (write_change o at bytes).size)
+  write_inside k is = grind (arith, long, is)
 
-pub resize_is : (size : ℕ) (o : HeldObject) → o.tree.tree.head.length ≡ 4096 + size_in o → IsChangeOf (resize_change o size) (resize_of (size_in o) size)
-resize_is size o long = record { size = refl; contents = refl; asked = refl; behind = omega (arith, long); own = λ x. refl }
+  pub write_is : IsChangeOf (write_change o at bytes) (write_of (size_in o) at bytes)
+  write_is = record {
+    size = refl;
+    contents = refl;
+    asked = refl;
+    range = ap (λ (n : ℕ). write_range n (4096 + at) (length bytes)) long;
+    place = refl;
+    bytes = refl;
+    behind = omega (arith, long);
+    own = λ x. refl;
+    inside = write_inside;
+  }
+
+module _ (size : ℕ) (o : HeldObject) (long : o.tree.tree.head.length ≡ 4096 + size_in o) where
+  resize_inside : (k : ℕ) → needs (resize_change o size).range k ≡ true → k < greatest_of (4096 + (resize_change o size).size)
+  resize_inside k is = grind (arith, long, is)
+
+  pub resize_is : IsChangeOf (resize_change o size) (resize_of (size_in o) size)
+  resize_is = record {
+    size = refl;
+    contents = refl;
+    asked = refl;
+    range = ap (λ (n : ℕ). resize_range n (4096 + size)) long;
+    place = refl;
+    bytes = refl;
+    behind = omega (arith, long);
+    own = λ x. refl;
+    inside = resize_inside;
+  }
+
+-- What such a slot holds is of the version.
+pub live_slots : LiveSlotsGiveVersions
+live_slots store slot is on calmly = by_holding slot.holds refl on
+  where
+    by_holding : (holds : Holding) → slot.holds ≡ holds → IsLive holds → (v : Version) × GivesVersion slot v × IsOfVersion store.keys slot.file slot.holds (Some v)
+    by_holding free holds on = absurd on
+    by_holding (made o) holds on = absurd on
+    by_holding (staged o s) holds on = absurd on
+    by_holding (live o) holds on =
+        let one = live_gives store slot o is holds calmly in
+        (one.0, one.1, subst (λ (h : Holding). IsOfVersion store.keys slot.file h (Some one.0)) (sym holds) (one.0, refl, slot_object store slot one.0 o is one.1 holds))

@@ -1,6 +1,6 @@
 -- A locked slot after calls of its file.
 use Rattle.std.proofs.Common.{◌≡◌, ◌∙◌, ℕ, Option, Some, None, IsTrue, refl, sym, ap, subst}
-use Rattle.disk_model.specs.State.{FileState, Sound as SoundFile}
+use Rattle.disk_model.specs.State.{FileState}
 use Rattle.disk_model.specs.Calls.{Rests}
 use Rattle.hmac_keys.specs.declared.Keys.{Keys}
 use Rattle.history_seats.specs.Records.{Version}
@@ -11,10 +11,10 @@ use Rattle.core_parts.specs.SlotSteps.{Reader}
 use Rattle.core_parts.proofs.SlotRuns.{run_holds}
 use Rattle.suppositions.specs.Stores.{Store}
 use Rattle.object_slots.specs.Steps.{ReadSteps, part}
-use Rattle.object_slots.specs.Value.{HeldObject, Holding, IfLive, IsLive, SlotValue, free, live, made, staged, with_stage, without_stage}
+use Rattle.object_slots.specs.Value.{HeldObject, Holding, SlotValue, free, live, made, staged, with_stage, without_stage}
 use Rattle.locked_slots.specs.Objects.{IsObjectOf, IsOfVersion}
 use Rattle.locked_slots.specs.KnownFor.{own_version}
-use Rattle.locked_slots.specs.LockedSlots.{IsContentOf, IsInDoubt, IsLockedSlot, IsSettled, IsSlotOf}
+use Rattle.locked_slots.specs.LockedSlots.{IsContentOf, IsLockedSlot, IsSlotOf}
 use Rattle.locked_slots.specs.Reads.{GivesVersion}
 use Rattle.locked_slots.proofs.Stays.{object_rests}
 

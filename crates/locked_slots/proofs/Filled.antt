@@ -1,11 +1,9 @@
 -- What loading the object of a locked slot leaves.
-use Rattle.std.proofs.Common.{◌≡◌, ◌∙◌, ◌+◌, ◌-◌, ℕ, List, length, Option, Some, None, Result, Ok, Err, IsTrue, inl, inr, refl, sym, ap, subst, arith}
-use Rattle.std.specs.Prelude.{IfErr}
+use Rattle.std.proofs.Common.{◌≡◌, ◌∙◌, ◌+◌, ℕ, List, Option, Some, None, Result, Ok, Err, IsTrue, inl, refl, sym, ap, subst, arith}
 use Rattle.disk_model.specs.State.{FileState, Sound as SoundFile}
 use Rattle.aes_block.specs.WrappedKey.{unwrapped_of}
-use Rattle.hmac_keys.specs.declared.Keys.{Keys}
 use Rattle.dir_records.specs.declared.entry.DirEntry.{DirEntry}
-use Rattle.store_model.specs.Object.{Damaged, Sound}
+use Rattle.store_model.specs.Object.{Damaged}
 use Rattle.crash_core.specs.DeviceKeys.{object_key}
 use Rattle.history_seats.specs.Records.{Version}
 use Rattle.core_parts.specs.GateParts.{IsVersionOf}
@@ -21,7 +19,7 @@ use Rattle.object_file.specs.Value.{size_in}
 use Rattle.object_slots.specs.declared.fault.SlotFault.{SlotFault}
 use Rattle.object_slots.specs.declared.fault.SlotFault.TheVariants.{Corrupt, Failed, NoEntropy, NoMemory}
 use Rattle.object_slots.specs.Loads.{IsLoadedBy, IsRefusedBy, LoadsObject}
-use Rattle.object_slots.specs.Value.{HeldObject, Holding, IsFree, SlotValue, free, live, made, staged}
+use Rattle.object_slots.specs.Value.{HeldObject, Holding, SlotValue, free, live}
 use Rattle.object_slots.specs.Versions.{HasVersion}
 use Rattle.object_slots.proofs.FrontLaws.{loaded_have_fronts}
 use Rattle.object_slots.proofs.VersionLaws.{loaded_are_versions, refused_are_damaged}

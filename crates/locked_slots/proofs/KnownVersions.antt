@@ -1,5 +1,5 @@
 -- What a view knows of each generation of its file.
-use Rattle.std.proofs.Common.{◌≡◌, ◌⊎◌, ℕ, ◌≤◌, List, [], ◌∷◌, ◌++◌, length, Bool, true, false, true≢false, cond, drop, Option, Some, None, inl, inr, refl, sym, ◌∙◌, ap, subst}
+use Rattle.std.proofs.Common.{◌≡◌, ◌⊎◌, ℕ, ◌≤◌, List, [], ◌∷◌, ◌++◌, length, Bool, true, false, true≢false, cond, drop, Option, Some, None, inl, inr, refl, sym, ◌∙◌, ap}
 use Rattle.std.specs.Prelude.{◌==◌, unwrap_or}
 use Rattle.std.proofs.lemmas.Bool.{and_parts, cases_Bool, cond-true, cond-false, eqb-true}
 use Rattle.store_model.specs.declared.event.Event.{Event}
@@ -22,7 +22,7 @@ use Rattle.history_seats.proofs.GivenStays.{doubt-gives, made-gives, unchanged-l
 use Rattle.history_seats.proofs.KnownEntries.{given-told, version-doubt}
 use Rattle.history_seats.proofs.Places.{any_settles, open-less, open-now, view-place}
 use Rattle.store_model.specs.Record.{concerns_file}
-use Rattle.locked_slots.specs.KnownFor.{IsKnownFor, KnowsFor, KnowsItsOwn}
+use Rattle.locked_slots.specs.KnownFor.{IsKnownFor, KnowsFor}
 
 pub no_version : {X : Type 0} (x : X) → None ≡ Some x → ⊥
 no_version x e = cc

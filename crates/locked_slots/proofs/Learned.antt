@@ -1,32 +1,28 @@
 -- What a slot learns of its doubt, and of all else, once its seat sees the whole history.
-use Rattle.std.proofs.Common.{◌≡◌, ◌⊎◌, ◌+◌, ◌<◌, ◌≤◌, ℕ, List, [], ◌∷◌, ◌++◌, length, drop, nat_lt, Bool, true, false, true≢false, cond, Option, Some, None, inl, inr, refl, sym, ap, ◌∙◌, subst, append_assoc, IsTrue, arith}
+use Rattle.std.proofs.Common.{◌≡◌, ◌+◌, ◌<◌, ◌≤◌, ℕ, List, ◌∷◌, ◌++◌, length, drop, nat_lt, Bool, true, false, true≢false, Option, Some, None, inl, inr, refl, sym, ap, ◌∙◌, subst, append_assoc, arith}
 use Rattle.std.proofs.lemmas.Bool.{cases_Bool, cases_lt, cond-true, cond-false, le-ltb, lt-ltb}
 use Rattle.disk_model.specs.State.{FileState}
 use Rattle.hmac_keys.specs.declared.Keys.{Keys}
 use Rattle.store_model.specs.declared.event.Event.{Event}
 use Rattle.store_model.specs.declared.event.Event.TheVariants.{Call as CallEvent, Landed}
 use Rattle.store_model.specs.declared.event.Mark.TheVariants.{Unchanged, Made, Doubtful}
-use Rattle.history_seats.specs.Numbers.{is_in}
 use Rattle.history_seats.specs.Records.{HistoryRecord, IsUpToDate, Version}
 use Rattle.store_model.specs.Record.{concerns_file}
-use Rattle.history_seats.specs.Settling.{IsOpenDoubt, Pending, calm, dropped, is_landing, open_from, settled, settling}
+use Rattle.history_seats.specs.Settling.{Pending, calm, dropped, open_from, settled, settling}
 use Rattle.history_seats.specs.Changes.{seat_renewed, slot_renewed}
 use Rattle.history_seats.specs.Rule.{SlotFits}
 use Rattle.history_seats.specs.Views.{GateView, Sight, SlotView}
 use Rattle.history_seats.proofs.KnownEntries.{calm-stays, entry_known, version-told}
 use Rattle.history_seats.proofs.Doubts.{marked-settles}
 use Rattle.history_seats.proofs.Places.{any-at, any-past, any_settles, open-calm, settling-none, settling-settles}
-use Rattle.core_parts.specs.SlotParts.{Knows}
 use Rattle.core_parts.proofs.SlotRuns.{renewed_holds}
-use Rattle.suppositions.specs.Guesses.{Guess}
 use Rattle.suppositions.specs.Stores.{Store}
 use Rattle.suppositions.proofs.Answers.{own_grows}
 use Rattle.object_slots.specs.Steps.{part}
 use Rattle.object_slots.specs.Value.{Holding, SlotValue, with_stage, without_stage}
-use Rattle.locked_slots.specs.Objects.{IsOfVersion}
 use Rattle.locked_slots.specs.KnownFor.{own_version}
 use Rattle.locked_slots.specs.LockedSlots.{IsContentOf, IsInDoubt, IsLockedSlot, IsSettled, IsSlotOf}
-use Rattle.locked_slots.specs.Learning.{SlotsLearn, decided_slot, learned, shown}
+use Rattle.locked_slots.specs.Learning.{SlotsLearn, decided_slot, learned}
 use Rattle.locked_slots.proofs.KnownVersions.{renewed_known}
 use Rattle.locked_slots.proofs.OpenDoubts.{drop_behind, none_past, settling_past}
 

@@ -10,5 +10,8 @@ pub mod Filled
 pub mod KnownOnes
 pub mod Staged
 pub mod NextVersions
+pub mod MadeOver
 pub mod StagedSlots
 pub mod ChangeAnswers
+pub mod NewObjects
+pub mod MadeSlots

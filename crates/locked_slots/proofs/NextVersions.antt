@@ -1,7 +1,6 @@
 -- The version that a stage leaves: in an honest file the one that its reference names; in any other the one that its tree spells with chosen
 -- ciphertexts.
-use Rattle.std.proofs.Common.{◌≡◌, ◌∙◌, ◌⊎◌, ◌+◌, ◌-◌, ◌<◌, ◌≤◌, ℕ, Bool, true, false, true≢false, List, [], length, get_or, Option, Some, None, Result, Ok, Err, IsTrue, inl, inr, refl, sym, ap, subst, arith}
-use Rattle.std.proofs.lemmas.Bool.{cases_Bool}
+use Rattle.std.proofs.Common.{◌≡◌, ◌∙◌, ◌+◌, ◌<◌, ◌≤◌, ℕ, List, [], length, get_or, Some, Result, Ok, IsTrue, refl, sym, ap, subst, arith}
 use Rattle.disk_model.specs.State.{FileState, Sound as SoundFile}
 use Rattle.disk_model.proofs.ImageLaws.{reads_left}
 use Rattle.aes_block.specs.WrappedKey.{unwrapped_of}
@@ -11,23 +10,20 @@ use Rattle.node_image.specs.declared.head.Head.{Head}
 use Rattle.node_image.specs.Selection.{row, selected_tree}
 use Rattle.node_image.proofs.Matching.{row_at}
 use Rattle.htree_file.specs.declared.fault.TreeFault.{TreeFault}
-use Rattle.htree_file.specs.Opening.{IsVerified, Loaded, load_of}
+use Rattle.htree_file.specs.Opening.{IsVerified, Loaded}
 use Rattle.htree_file.specs.Value.{Staged}
 use Rattle.store_model.specs.Object.{Contents, Object, Sound}
 use Rattle.crash_core.specs.DeviceKeys.{object_key}
-use Rattle.crash_core.specs.MountedObject.{object_in}
 use Rattle.history_seats.specs.Records.{Version}
-use Rattle.core_parts.specs.SlotParts.{IsShownIn, VersionStands}
-use Rattle.suppositions.specs.Images.{version_of_image}
+use Rattle.core_parts.specs.SlotParts.{VersionStands}
 use Rattle.suppositions.specs.Spellings.{IsReal, block_of, object_spelt, spelled}
 use Rattle.suppositions.proofs.Images.{image_real}
 use Rattle.object_file.specs.Changes.{adopted}
 use Rattle.object_file.specs.Held.{held_in}
 use Rattle.object_file.specs.Value.{size_in}
-use Rattle.object_slots.specs.Fronts.{HasFront}
 use Rattle.object_slots.specs.Stages.{DataChange, IsStageOf}
 use Rattle.object_slots.specs.Value.{HeldObject}
-use Rattle.object_slots.specs.Versions.{HasVersion, changed_version}
+use Rattle.object_slots.specs.Versions.{changed_version}
 use Rattle.object_slots.proofs.FrontLaws.{stages_keep_fronts}
 use Rattle.object_slots.proofs.VersionLaws.{stages_are_versions, versions_are_held}
 use Rattle.locked_slots.specs.Objects.{IsObjectOf}

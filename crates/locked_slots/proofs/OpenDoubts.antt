@@ -1,12 +1,9 @@
 -- What settles behind a doubtful event, past a view.
-use Rattle.std.proofs.Common.{◌≡◌, ◌+◌, ◌<◌, ◌≤◌, ℕ, zero, suc, List, [], ◌∷◌, ◌++◌, length, drop, Bool, true, false, true≢false, ◌||◌, cond, Option, Some, None, inl, inr, refl, sym, ap, ◌∙◌, subst, append_assoc, arith}
-use Rattle.std.proofs.lemmas.Bool.{cases_Bool, cond-true, cond-false}
-use Rattle.std.specs.List.{list_any}
-use Rattle.store_model.specs.declared.event.Event.{Event}
-use Rattle.store_model.specs.Record.{events_of}
+use Rattle.std.proofs.Common.{◌≡◌, ◌+◌, ℕ, suc, List, [], ◌∷◌, ◌++◌, length, drop, Bool, true, false, true≢false, ◌||◌, Some, refl, ap, ◌∙◌, arith}
+use Rattle.std.proofs.lemmas.Bool.{cond-false}
 use Rattle.history_seats.specs.Records.{HistoryRecord}
 use Rattle.history_seats.specs.Settling.{settles, settling}
-use Rattle.history_seats.proofs.Places.{any_settles, settling-none}
+use Rattle.history_seats.proofs.Places.{any_settles}
 
 -- what lies behind an event of a list
 pub drop_behind : (front : List HistoryRecord) (r : HistoryRecord) (back : List HistoryRecord) → drop (length front + 1) (front ++ r ∷ back) ≡ back

@@ -1,22 +1,17 @@
 -- Slots as a phase begins.
-use Rattle.std.proofs.Common.{◌≡◌, ◌≤◌, ◌++◌, ◌∷◌, ℕ, List, [], map, Bool, true, false, Option, Some, None, inl, inr, refl, sym, ap, ◌∙◌, subst, IsTrue}
+use Rattle.std.proofs.Common.{◌≡◌, ◌++◌, ◌∷◌, ℕ, List, [], map, Bool, Some, None, inl, inr, refl, sym, ◌∙◌, subst}
 use Rattle.std.proofs.lemmas.Bool.{cases_Bool, cond-true, cond-false}
 use Rattle.disk_model.specs.State.{FileState}
-use Rattle.store_model.specs.Record.{file_of}
-use Rattle.history_seats.specs.Numbers.{is_in}
-use Rattle.history_seats.specs.Records.{HistoryRecord, Version}
-use Rattle.history_seats.specs.Mounts.{Entry, MountedEntry}
-use Rattle.history_seats.specs.Settling.{Pending, calm, open_from}
+use Rattle.history_seats.specs.Records.{Version}
+use Rattle.history_seats.specs.Mounts.{MountedEntry}
 use Rattle.history_seats.specs.Versions.{mounted_version, version_among}
-use Rattle.history_seats.specs.Directory.{given_version, has_entry}
-use Rattle.history_seats.specs.Views.{Sight, SlotView}
+use Rattle.history_seats.specs.Directory.{has_entry}
+use Rattle.history_seats.specs.Views.{SlotView}
 use Rattle.history_seats.proofs.Places.{open-calm, open-less}
 use Rattle.core_parts.specs.Opened.{first_view}
-use Rattle.core_parts.specs.SlotParts.{Knows, VersionStands}
-use Rattle.suppositions.specs.Guesses.{Guess}
+use Rattle.core_parts.specs.SlotParts.{Knows}
 use Rattle.suppositions.specs.Stores.{Store}
-use Rattle.suppositions.specs.Answered.{AreAnswered, AreOwnLegal, IsLegalAt}
-use Rattle.locked_slots.specs.KnownFor.{IsKnownFor, KnowsFor}
+use Rattle.locked_slots.specs.KnownFor.{KnowsFor}
 use Rattle.locked_slots.specs.LockedSlots.{IsLockedSlot}
 use Rattle.locked_slots.specs.Opening.{FirstSlotsAreLocked, IsMountedFile, first_slot}
 use Rattle.locked_slots.proofs.KnownVersions.{known_for, no_version}

@@ -1,6 +1,6 @@
 -- What an event of a slot's own object leaves of the slot.
-use Rattle.std.proofs.Common.{◌≡◌, ◌⊎◌, ◌+◌, ◌<◌, ◌≤◌, ℕ, List, [], ◌∷◌, ◌++◌, length, drop, Bool, true, false, true≢false, cond, ◌==◌, Option, Some, None, inl, inr, refl, sym, ap, ◌∙◌, subst, append_assoc, IsTrue, arith}
-use Rattle.std.proofs.lemmas.Bool.{cases_Bool, cond-true, cond-false, eq-eqb}
+use Rattle.std.proofs.Common.{◌≡◌, ◌≤◌, ℕ, List, [], ◌∷◌, ◌++◌, length, drop, true, false, ◌==◌, Option, Some, None, inl, inr, refl, sym, ap, ◌∙◌, subst, append_assoc, arith}
+use Rattle.std.proofs.lemmas.Bool.{cond-true, eq-eqb}
 use Rattle.disk_model.specs.State.{FileState}
 use Rattle.hmac_keys.specs.declared.Keys.{Keys}
 use Rattle.store_model.specs.declared.event.Event.{Event}
@@ -8,33 +8,24 @@ use Rattle.store_model.specs.declared.event.Event.TheVariants.{Call as CallEvent
 use Rattle.store_model.specs.declared.event.Mark.{Mark}
 use Rattle.store_model.specs.declared.event.Mark.TheVariants.{Unchanged, Made, Doubtful}
 use Rattle.store_model.specs.Record.{Tag, concerns_file}
-use Rattle.history_seats.specs.Numbers.{is_in}
-use Rattle.history_seats.specs.Records.{HistoryRecord, IsUpToDate, Version, concerns_object, is_object}
-use Rattle.history_seats.specs.Mounts.{Mounted}
+use Rattle.history_seats.specs.Records.{HistoryRecord, IsUpToDate, Version, concerns_object}
 use Rattle.history_seats.specs.Settling.{HasMark, Pending, calm, dropped, open_from, settled_by, settles}
-use Rattle.history_seats.specs.Versions.{version_after, version_next, version_of}
-use Rattle.history_seats.specs.Known.{version_from}
-use Rattle.history_seats.specs.Changes.{TagVersions, record_of, slot_renewed, with_record}
-use Rattle.history_seats.specs.Rule.{IsSound, SlotFits}
+use Rattle.history_seats.specs.Versions.{version_after, version_of}
+use Rattle.history_seats.specs.Changes.{TagVersions, slot_renewed}
 use Rattle.history_seats.specs.Views.{GateView, Sight, SlotView}
 use Rattle.history_seats.proofs.Givens.{version-snoc}
-use Rattle.history_seats.proofs.GivenStays.{unchanged-leaves}
 use Rattle.history_seats.proofs.KnownEntries.{entry_known}
 use Rattle.history_seats.proofs.Doubts.{marked-settles}
 use Rattle.history_seats.proofs.Lists.{both_true, or_false}
 use Rattle.history_seats.proofs.OpenDoubts.{unchanged-settles}
 use Rattle.history_seats.proofs.Places.{any-at, any_settles, open-calm, open-now, open-snoc}
-use Rattle.core_parts.specs.SlotParts.{Knows}
 use Rattle.core_parts.proofs.OwnEvents.{known_after, own_events_keep}
-use Rattle.suppositions.specs.Guesses.{Guess}
 use Rattle.suppositions.specs.Stores.{Store}
-use Rattle.suppositions.specs.Answered.{AreAnswered, IsLegalAt}
 use Rattle.suppositions.proofs.Answers.{own_grows}
 use Rattle.object_slots.specs.Steps.{part}
-use Rattle.object_slots.specs.Value.{Holding, SlotValue, with_stage, without_stage}
-use Rattle.locked_slots.specs.Objects.{IsOfVersion}
+use Rattle.object_slots.specs.Value.{Holding}
 use Rattle.locked_slots.specs.KnownFor.{own_version}
-use Rattle.locked_slots.specs.LockedSlots.{IsContentOf, IsInDoubt, IsLockedSlot, IsSettled, IsSlotOf}
+use Rattle.locked_slots.specs.LockedSlots.{IsContentOf, IsSlotOf}
 use Rattle.locked_slots.specs.OwnEvents.{DoubtfulEventsKeepSlots, IsOwnEvent, MadeEventsKeepSlots, UnchangedEventsKeepSlots, own_record, seat_after}
 use Rattle.locked_slots.proofs.KnownVersions.{known_before, renewed_known}
 use Rattle.locked_slots.proofs.OpenDoubts.{none_past}

@@ -1,6 +1,5 @@
 -- What a read of a locked slot's object tells of its version.
-use Rattle.std.proofs.Common.{◌≡◌, ◌∙◌, ◌+◌, ◌-◌, ◌++◌, ℕ, List, length, length-drop, take, drop, min, Option, Some, None, Result, Ok, Err, IsTrue, inl, refl, sym, ap, subst, arith}
-use Rattle.std.specs.Prelude.{IfOk}
+use Rattle.std.proofs.Common.{◌≡◌, ◌∙◌, ◌+◌, ◌-◌, ◌++◌, ℕ, List, length, length-drop, take, drop, min, None, Result, Ok, Err, IsTrue, inl, refl, sym, ap, subst}
 use Rattle.std.proofs.lemmas.List.{length-take}
 use Rattle.std.proofs.Math.Seq.{take-append_seam}
 use Rattle.disk_model.specs.State.{FileState}
@@ -27,7 +26,6 @@ use Rattle.locked_slots.specs.Objects.{IsObjectOf}
 use Rattle.locked_slots.specs.LockedSlots.{IsLockedSlot}
 use Rattle.locked_slots.specs.Reads.{GivesVersion, ReadsVersion, TellsRead, given_count}
 use Rattle.locked_slots.proofs.Contents.{slot_object, slot_rests}
-use Rattle.locked_slots.proofs.Stays.{object_rests}
 
 sound_same : (a b : Contents) → Sound a ≡ Sound b → a ≡ b
 sound_same a b e = cc

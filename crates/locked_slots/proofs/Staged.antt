@@ -1,21 +1,18 @@
 -- A locked slot after a change of its object's data was staged, or was refused.
-use Rattle.std.proofs.Common.{◌≡◌, ◌∙◌, ◌⊎◌, ◌+◌, ◌-◌, ◌≤◌, ℕ, Bool, true, false, List, length, min, max, Option, Some, None, Result, Ok, Err, IsTrue, inl, inr, refl, sym, ap, subst, arith}
+use Rattle.std.proofs.Common.{◌≡◌, ◌∙◌, ℕ, Option, Some, None, IsTrue, inl, refl, sym, ap, subst}
 use Rattle.disk_model.specs.State.{FileState, Sound as SoundFile}
 use Rattle.disk_model.specs.Keeps.{Keeps, Runs}
-use Rattle.hmac_keys.specs.declared.Keys.{Keys}
 use Rattle.node_image.specs.declared.node.RootRef.{RootRef}
-use Rattle.htree_file.specs.Opening.{Loaded}
 use Rattle.htree_file.specs.Selected.{Lies}
-use Rattle.store_model.specs.Object.{Contents, Sound}
 use Rattle.history_seats.specs.Records.{Version}
 use Rattle.history_seats.specs.Settling.{calm}
 use Rattle.history_seats.specs.Views.{Sight, SlotView}
-use Rattle.core_parts.specs.SlotParts.{Knows, SlotHolds, VersionStands}
+use Rattle.core_parts.specs.SlotParts.{SlotHolds, VersionStands}
 use Rattle.core_parts.specs.SlotSteps.{KnowsOne, Stager}
 use Rattle.core_parts.proofs.SlotRuns.{run_holds}
 use Rattle.suppositions.specs.Stores.{Store}
 use Rattle.object_slots.specs.Steps.{StageSteps, part}
-use Rattle.object_slots.specs.Value.{HeldObject, Holding, SlotValue, live}
+use Rattle.object_slots.specs.Value.{HeldObject}
 use Rattle.locked_slots.specs.Objects.{IsObjectOf}
 use Rattle.locked_slots.specs.KnownFor.{own_version}
 use Rattle.locked_slots.specs.LockedSlots.{IsSlotOf}

@@ -1,28 +1,32 @@
 -- What staging a change leaves of a locked slot.
-use Rattle.std.proofs.Common.{◌≡◌, ◌∙◌, ◌⊎◌, ◌+◌, ◌-◌, ◌≤◌, ℕ, Bool, true, false, true≢false, List, length, min, max, Option, Some, None, Result, Ok, Err, IsTrue, inl, inr, refl, sym, ap, subst, arith}
+use Rattle.std.proofs.Common.{◌≡◌, ◌∙◌, ◌+◌, ◌<◌, ◌≤◌, ◌==◌, ◌||◌, ℕ, Bool, true, true≢false, List, Some, None, Result, Ok, Err, IsTrue, inl, inr, refl, sym, ap, subst}
 use Rattle.std.proofs.lemmas.Bool.{cases_Bool}
-use Rattle.disk_model.specs.State.{FileState, Sound as SoundFile}
-use Rattle.htree_file.specs.Standing.{Told}
 use Rattle.htree_file.specs.Value.{Staged}
 use Rattle.node_image.specs.declared.node.RootRef.{RootRef}
 use Rattle.store_model.specs.Object.{Contents, Sound}
 use Rattle.history_seats.specs.Records.{Version}
 use Rattle.history_seats.specs.Settling.{calm}
+use Rattle.suppositions.specs.Given.{Gave, spelling_given}
+use Rattle.suppositions.specs.Spellings.{wrap_of}
 use Rattle.suppositions.specs.Stores.{Store}
+use Rattle.suppositions.specs.WriteLaws.{IsMadeOver}
+use Rattle.node_image.specs.Layout.{greatest_of}
+use Rattle.page_bytes.specs.declared.range.ByteRange.{ByteRange}
+use Rattle.page_bytes.specs.Ranges.{needs}
 use Rattle.object_file.specs.Changes.{adopted}
 use Rattle.object_file.specs.Held.{held_in}
-use Rattle.object_file.specs.Value.{size_in}
 use Rattle.object_slots.specs.declared.fault.SlotFault.{SlotFault}
 use Rattle.object_slots.specs.Reads.{CorruptAnswer}
-use Rattle.object_slots.specs.Stages.{DataChange, IsStageOf, StagesObject, resize_change, write_change}
-use Rattle.object_slots.specs.Value.{HasStage, HeldObject, Holding, IfLive, IsLive, SlotValue, free, live, made, staged, with_stage, without_stage}
+use Rattle.object_slots.specs.Stages.{DataChange, IsStageOf, StagesObject}
+use Rattle.object_slots.specs.Value.{HasStage, HeldObject, Holding, SlotValue, live, staged, with_stage, without_stage}
 use Rattle.locked_slots.specs.Objects.{IsObjectOf, IsOfVersion}
 use Rattle.locked_slots.specs.KnownFor.{own_version}
-use Rattle.locked_slots.specs.LockedSlots.{IsContentOf, IsLockedSlot, IsSlotOf}
+use Rattle.locked_slots.specs.LockedSlots.{IsLockedSlot, IsSlotOf}
 use Rattle.locked_slots.specs.Reads.{GivesVersion}
-use Rattle.locked_slots.specs.Stages.{IsNextVersion, IsStagedSlot, StageLeaves, StagesVersion, VersionChange, resize_of, write_of}
+use Rattle.locked_slots.specs.Stages.{IsMadeOverGiven, IsStagedSlot, StageLeaves, StagesVersion, VersionChange}
 use Rattle.locked_slots.proofs.Contents.{gives_seat, slot_object}
-use Rattle.locked_slots.proofs.NextVersions.{changed, of_changed, of_spelt, spelt}
+use Rattle.locked_slots.proofs.NextVersions.{changed, of_changed, of_spelt, spelt, version_spelt}
+use Rattle.locked_slots.proofs.MadeOver.{chosen, gave, made_over}
 use Rattle.locked_slots.proofs.Staged.{object_keeps, own_stays}
 
 sound_same : (a b : Contents) → Sound a ≡ Sound b → a ≡ b
@@ -33,11 +37,16 @@ pub record IsChangeOf (c : DataChange) (change : VersionChange) : Type 0 where
   pub size : c.size ≡ change.size
   pub contents : c.contents ≡ change.contents
   pub asked : c.asked ≡ change.asked
+  pub range : c.range ≡ change.range
+  pub place : c.at ≡ change.place
+  pub bytes : c.bytes ≡ change.bytes
   pub behind : 4096 ≤ c.range.first
   pub own : (x : Contents) → (c.contents x).attributes ≡ x.attributes
+  -- a block that it needs is there afterwards
+  pub inside : (k : ℕ) → needs c.range k ≡ true → k < greatest_of (4096 + c.size)
 
 module _ (store : Store) (old new : SlotValue) (o : HeldObject) (c : DataChange) (change : VersionChange) (v : Version) (Undrawn : Type 0) (is : IsLockedSlot store old) (holds : old.holds ≡ live o)
-    (calmly : old.doubt ≡ None) (given : GivesVersion old v) (same : new ≡ record old { file = new.file; holds = new.holds }) (of : IsChangeOf c change) (block : ℕ → List ℕ) where
+    (calmly : old.doubt ≡ None) (given : GivesVersion old v) (same : new ≡ record old { file = new.file; holds = new.holds }) (of : IsChangeOf c change) where
   abbrev gives : own_version is.seat.knows ≡ calm (Some v)
   gives = gives_seat store old v is given
 
@@ -82,11 +91,22 @@ module _ (store : Store) (old new : SlotValue) (o : HeldObject) (c : DataChange)
           before_is : record old { file = new.file; holds = live o; doubt = None } ≡ record new { holds = live o }
           before_is = (λ i. record old { file = new.file; holds = live o; doubt = sym calmly i }) ∙ ap (λ (x : SlotValue). record x { holds = live o }) (sym same)
 
+      -- what the file gave, and the ciphertexts of the next version
+      abbrev block : ℕ → List ℕ
+      block = chosen store.keys old.file new.file o v c root s stage object of.behind of.inside
+
+      over : IsMadeOverGiven store.keys v (version_spelt store.keys s.root s.tree v.app c.size v.attributes block) change
+      over =
+          subst
+          (λ (x : RootRef × ℕ × ByteRange × ℕ × List ℕ). (g : Gave (wrap_of store.keys v) x.0 x.1 (λ k. (k == 0) || needs x.2 k))
+          × IsMadeOver store.keys v (version_spelt store.keys s.root s.tree v.app c.size v.attributes block) (spelling_given g) x.2 x.3 x.4)
+          (λ i. (sym object.root i, sym object.size i, of.range i, of.place i, of.bytes i))
+          (gave store.keys old.file new.file o v c root s stage object of.behind of.inside, made_over store.keys old.file new.file o v c root s stage object of.behind of.inside)
+
       next_changed : (honest : IsTrue new.file.honest) → StageLeaves store new v change (Ok root)
       next_changed honest =
           let of_next = of_changed store.keys old.file new.file o v c root s block stage (is.own.holds None).sound (own.holds None).sound object was of.behind of.own honest in
-          let next : Version = changed store.keys old.file new.file o v c root s block stage (is.own.holds None).sound (own.holds None).sound object was of.behind of.own in
-          (
+          let next : Version = changed store.keys old.file new.file o v c root s block stage (is.own.holds None).sound (own.holds None).sound object was of.behind of.own in (
             next,
             lock next of_next,
             record {
@@ -95,17 +115,17 @@ module _ (store : Store) (old new : SlotValue) (o : HeldObject) (c : DataChange)
               size = of.size;
               attributes = refl;
               object = λ here x sound. (λ i. Sound (of.contents i (held x sound here i)));
+              over = λ off. absurd (off honest);
             },
           )
 
       next_spelt : (IsTrue new.file.honest → ⊥) → StageLeaves store new v change (Ok root)
       next_spelt off =
           let of_next = of_spelt store.keys old.file new.file o v c root s block stage (is.own.holds None).sound (own.holds None).sound object was of.behind of.own off in
-          let next : Version = spelt store.keys old.file new.file o v c root s block stage (is.own.holds None).sound (own.holds None).sound object was of.behind of.own in
-          (
+          let next : Version = spelt store.keys old.file new.file o v c root s block stage (is.own.holds None).sound (own.holds None).sound object was of.behind of.own in (
             next,
             lock next of_next,
-            record { root_is = stage.root_is; app = refl; size = of.size; attributes = refl; object = λ here x sound. absurd (off here) },
+            record { root_is = stage.root_is; app = refl; size = of.size; attributes = refl; object = λ here x sound. absurd (off here); over = λ other. over },
           )
 
       next_leaves : StageLeaves store new v change (Ok root)

@@ -1,12 +1,11 @@
 -- What holds of a slot's object after calls of its file.
-use Rattle.std.proofs.Common.{◌≡◌, ◌∙◌, ◌⊎◌, ℕ, ◌<◌, ◌≤◌, List, [], ◌∷◌, Result, Ok, IsTrue, inl, inr, refl, sym, ap, subst, arith}
+use Rattle.std.proofs.Common.{◌≡◌, ◌∙◌, ◌⊎◌, ℕ, ◌<◌, ◌≤◌, List, [], ◌∷◌, Ok, IsTrue, inl, inr, refl, sym, ap, subst, arith}
 use Rattle.disk_model.specs.State.{FileState, Sound as SoundFile}
 use Rattle.disk_model.specs.Calls.{Rests}
-use Rattle.disk_model.specs.Keeps.{CallOff, FileCall, IsCall, IsFileRun, Runs, write, sync, rest}
+use Rattle.disk_model.specs.Keeps.{CallOff, FileCall, IsFileRun, write, sync, rest}
 use Rattle.disk_model.proofs.ImageLaws.{reads_left}
 use Rattle.hmac_keys.specs.declared.Keys.{Keys}
-use Rattle.htree_file.specs.declared.fault.TreeFault.{TreeFault}
-use Rattle.htree_file.specs.Opening.{Loaded, load_of}
+use Rattle.htree_file.specs.Opening.{Loaded}
 use Rattle.htree_file.specs.Selected.{Lies}
 use Rattle.store_model.specs.Object.{Contents, Sound}
 use Rattle.crash_core.proofs.Sightings.{CallMisses}

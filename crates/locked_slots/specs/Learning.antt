@@ -3,7 +3,7 @@ use Rattle.std.specs.Prelude.{◌≡◌, ◌+◌, ℕ, Bool, nat_lt, drop, Optio
 use Rattle.store_model.specs.declared.event.Event.{Event}
 use Rattle.history_seats.specs.Settling.{is_landing, settling}
 use Rattle.history_seats.specs.Changes.{seat_renewed}
-use Rattle.history_seats.specs.Rule.{IsSound, SlotFits}
+use Rattle.history_seats.specs.Rule.{SlotFits}
 use Rattle.history_seats.specs.Views.{GateView, Sight, SlotView}
 use Rattle.suppositions.specs.Stores.{Store}
 use Rattle.object_slots.specs.Value.{SlotValue, with_stage, without_stage}

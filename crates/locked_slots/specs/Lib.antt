@@ -6,4 +6,6 @@ pub mod Learning
 pub mod OwnEvents
 pub mod Reads
 pub mod Fills
+pub mod LiveSlots
 pub mod Stages
+pub mod NewObjects

@@ -1,5 +1,5 @@
 -- When what a slot holds is of a version of its file.
-use Rattle.std.specs.Prelude.{◌≡◌, ℕ, ◌+◌, length, Ok, Option, Some, IsTrue}
+use Rattle.std.specs.Prelude.{◌≡◌, ◌+◌, length, Ok, Option, Some, IsTrue}
 use Rattle.disk_model.specs.State.{FileState}
 use Rattle.aes_block.specs.WrappedKey.{unwrapped_of}
 use Rattle.hmac_keys.specs.declared.Keys.{Keys}

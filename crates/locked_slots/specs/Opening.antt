@@ -1,9 +1,8 @@
 -- Slots as a phase begins.
-use Rattle.std.specs.Prelude.{◌≡◌, ℕ, false, [], Some, None, IsTrue}
+use Rattle.std.specs.Prelude.{◌≡◌, ℕ, Some, None, IsTrue}
 use Rattle.disk_model.specs.State.{FileState, Sound}
 use Rattle.history_seats.specs.Records.{Version}
-use Rattle.history_seats.specs.Versions.{is_entry_of, version_among}
-use Rattle.history_seats.specs.Views.{Sight, SlotView}
+use Rattle.history_seats.specs.Versions.{version_among}
 use Rattle.core_parts.specs.Opened.{first_view}
 use Rattle.core_parts.specs.SlotParts.{VersionStands}
 use Rattle.suppositions.specs.Spellings.{IsReal}

@@ -1,5 +1,5 @@
 -- What an event of a slot's own object leaves of the slot, once it is appended and the slot's seat sees it.
-use Rattle.std.specs.Prelude.{◌≡◌, ℕ, false, length, Option, Some, None, IsTrue}
+use Rattle.std.specs.Prelude.{◌≡◌, ℕ, false, length, Some, None, IsTrue}
 use Rattle.disk_model.specs.State.{FileState}
 use Rattle.store_model.specs.declared.event.Event.{Event}
 use Rattle.store_model.specs.declared.event.Mark.TheVariants.{Unchanged, Made, Doubtful}

@@ -1,6 +1,5 @@
 -- What a read of a locked slot's object answers, in terms of its version.
-use Rattle.std.specs.Prelude.{◌≡◌, ◌+◌, ◌-◌, ℕ, true, false, List, length, min, take, Some, Result, Ok, Err, IfOk, IsTrue}
-use Rattle.std.specs.List.{list_any}
+use Rattle.std.specs.Prelude.{◌≡◌, ◌+◌, ◌-◌, ℕ, List, length, min, take, Some, Result, IfOk, IsTrue}
 use Rattle.disk_model.specs.State.{FileState}
 use Rattle.hmac_keys.specs.declared.Keys.{Keys}
 use Rattle.tee_types.specs.declared.call.Call.TheVariants.{Read}

@@ -1,12 +1,17 @@
 -- What a stage of a locked slot leaves, in terms of its versions.
-use Rattle.std.specs.Prelude.{◌≡◌, ◌+◌, ℕ, Bool, true, false, List, length, min, max, None, Some, Result, Ok, Err, IsTrue}
-use Rattle.std.specs.List.{list_any}
+use Rattle.std.specs.Prelude.{◌≡◌, ◌+◌, ◌==◌, ◌||◌, ℕ, Bool, List, [], length, min, max, None, Some, Result, Ok, Err, IsTrue}
 use Rattle.disk_model.specs.State.{FileState}
 use Rattle.node_image.specs.declared.node.RootRef.{RootRef}
+use Rattle.hmac_keys.specs.declared.Keys.{Keys}
+use Rattle.page_bytes.specs.declared.range.ByteRange.{ByteRange}
+use Rattle.page_bytes.specs.Ranges.{needs, resize_range, write_range}
 use Rattle.store_model.specs.Object.{Contents, Sound}
 use Rattle.store_model.specs.Data.{needs_block, resized_contents, written_contents}
 use Rattle.history_seats.specs.Records.{Version}
+use Rattle.suppositions.specs.Given.{Gave, spelling_given}
+use Rattle.suppositions.specs.Spellings.{wrap_of}
 use Rattle.suppositions.specs.Stores.{Store}
+use Rattle.suppositions.specs.WriteLaws.{IsMadeOver}
 use Rattle.object_slots.specs.declared.fault.SlotFault.{SlotFault}
 use Rattle.object_slots.specs.Reads.{CorruptAnswer}
 use Rattle.object_slots.specs.Value.{HasStage, SlotValue, with_stage, without_stage}
@@ -21,8 +26,12 @@ pub record IsStagedSlot (store : Store) (slot : SlotValue) (next : Version) : Ty
   pub before : IsLockedSlot store (record slot { holds = without_stage slot.holds })
   pub after : IsOfVersion store.keys slot.file (with_stage slot.holds) (Some next)
 
--- A change of the data of a version's object: its size afterwards, what it makes of the contents, and which blocks it needs.
+-- A change of the data of a version's object: the range of the tree's bytes that it changes; the place of the bytes that are put, and these;
+-- the data's size afterwards; what it makes of the contents; and which data blocks it needs.
 pub record VersionChange : Type 0 where
+  pub range : ByteRange
+  pub place : ℕ
+  pub bytes : List ℕ
   pub size : ℕ
   pub contents : Contents → Contents
   pub asked : ℕ → Bool
@@ -30,6 +39,9 @@ pub record VersionChange : Type 0 where
 -- of a write to data of that size
 abbrev pub write_of : (size at : ℕ) → (bytes : List ℕ) → VersionChange
 write_of size at bytes = record {
+  range = write_range (4096 + size) (4096 + at) (length bytes);
+  place = 4096 + at;
+  bytes = bytes;
   size = max size (at + length bytes);
   contents = λ c. written_contents c at bytes;
   asked = needs_block size (min at size) (at + length bytes);
@@ -38,21 +50,32 @@ write_of size at bytes = record {
 -- of another size
 abbrev pub resize_of : (size to : ℕ) → VersionChange
 resize_of size to = record {
+  range = resize_range (4096 + size) (4096 + to);
+  place = 4096 + to;
+  bytes = [];
   size = to;
   contents = λ c. resized_contents c to;
   asked = needs_block size (min to size) (max to size);
 }
 
--- The next version is the one that the reference names, of the same application; in a file that is honest now its object is the changed one.
-pub record IsNextVersion (file : FileState) (v next : Version) (change : VersionChange) (root : RootRef) : Type 0 where
+-- The next version was made over what the file gave: block 0, and each block that the change needs.
+abbrev pub IsMadeOverGiven : Keys → (v next : Version) → VersionChange → Type 0
+IsMadeOverGiven keys v next change =
+    (gave : Gave (wrap_of keys v) v.root v.size (λ k. (k == 0) || needs change.range k))
+    × IsMadeOver keys v next (spelling_given gave) change.range change.place change.bytes
+
+-- The next version is the one that the reference names, of the same application. In a file that is honest now its object is the changed one;
+-- in any other it was made over what the file gave.
+pub record IsNextVersion (keys : Keys) (file : FileState) (v next : Version) (change : VersionChange) (root : RootRef) : Type 0 where
   pub root_is : next.root ≡ root
   pub app : next.app ≡ v.app
   pub size : next.size ≡ change.size
   pub attributes : next.attributes ≡ v.attributes
   pub object : IsTrue file.honest → (c : Contents) → v.object ≡ Sound c → next.object ≡ Sound (change.contents c)
+  pub over : (IsTrue file.honest → ⊥) → IsMadeOverGiven keys v next change
 
 abbrev pub StageLeaves : Store → (new : SlotValue) → (v : Version) → VersionChange → Result RootRef SlotFault → Type 0
-StageLeaves store new v change (Ok root) = (next : Version) × IsStagedSlot store new next × IsNextVersion new.file v next change root
+StageLeaves store new v change (Ok root) = (next : Version) × IsStagedSlot store new next × IsNextVersion store.keys new.file v next change root
 StageLeaves store new v change (Err fault) = IsLockedSlot store new
 
 -- What a stage of a change answers. It is refused as corrupt where a block that it needs is bad, as an honest file has it.

@@ -1,6 +1,7 @@
 //! Laws of locked slots. Each function does nothing: its contract is the law.
 
 ghost use Rattle.locked_slots.specs.Learning.{SlotsLearn};
+ghost use Rattle.locked_slots.specs.LiveSlots.{LiveSlotsGiveVersions};
 ghost use Rattle.locked_slots.specs.Opening.{FirstSlotsAreLocked};
 ghost use Rattle.locked_slots.specs.OwnEvents.{DoubtfulEventsKeepSlots, MadeEventsKeepSlots, UnchangedEventsKeepSlots};
 
@@ -31,4 +32,9 @@ pub fn made_events_keep_slots()
 #[tactic(auto, using(crate::proofs::OwnRecords::doubtful_keep))]
 pub fn doubtful_events_keep_slots()
     ensures { DoubtfulEventsKeepSlots }
+{}
+
+/// A slot behind its lock that has an object, and no doubt, holds the object of a version that its view gives.
+pub fn live_slots_give_versions()
+    ensures { LiveSlotsGiveVersions }
 {}

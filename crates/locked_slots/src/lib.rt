@@ -14,4 +14,4 @@ mod staging;
 pub use filling::fill;
 pub use locked::LockedSlot;
 pub use reading::read;
-pub use staging::{stage_truncate, stage_write};
+pub use staging::{stage_new, stage_truncate, stage_write};

@@ -2,9 +2,11 @@
 ghost use Rattle.std.specs.Prelude.{◌≡◌, ◌+◌, ◌≤◌, length, None, OnErr};
 ghost use Rattle.history_seats.specs.Records.{Version};
 ghost use Rattle.object_slots.specs.Faults.{HasCauses};
+ghost use Rattle.object_slots.specs.Makes.{MakesObject};
 ghost use Rattle.object_slots.specs.Stages.{StagesObject, resize_change, write_change};
-ghost use Rattle.object_slots.specs.Value.{IfLive, IsLive};
+ghost use Rattle.object_slots.specs.Value.{IfLive, IsFree, IsLive};
 ghost use Rattle.locked_slots.specs.LockedSlots.{IsLockedSlot};
+ghost use Rattle.locked_slots.specs.NewObjects.{KnowsNothing, NewLeaves};
 ghost use Rattle.locked_slots.specs.Reads.{GivesVersion};
 ghost use Rattle.locked_slots.specs.Stages.{StagesVersion, resize_of, write_of};
 
@@ -68,4 +70,33 @@ pub fn stage_truncate<F: StoreFile + Drop, E: Entropy, L: StoreName>(
     ensures version { (v : Version) → GivesVersion slot.old v → StagesVersion L.store slot.new v (resize_of v.size size) result }
 {
     slot.stage_truncate(alloc, size, entropy)
+}
+
+/// Cuts the slot's file to no bytes, and makes an object in it with these attributes and data, which is settled and not committed. `tsk` is
+/// the key of the application. Gives the reference that names it. The slot then has the object, of the next version.
+///
+/// # Errors
+///
+/// `Failed`, `NoEntropy` and `NoMemory`. The slot is free then, and may stand behind its lock.
+pub fn stage_new<F: StoreFile + Drop, E: Entropy, L: StoreName>(
+    alloc: Global,
+    slot: &mut Slot<F>,
+    tsk: &[u8; 32],
+    attributes: &[u8],
+    bytes: &[u8],
+    entropy: &mut E,
+) -> Result<RootRef, SlotFault>
+    requires locked { IsLockedSlot L.store slot.old }
+    requires vacant { IsFree slot.old.holds }
+    requires calm { slot.old.doubt ≡ None }
+    requires unknown { KnowsNothing slot.old }
+    requires attributes { length attributes.now ≤ 2048 }
+    requires few { length bytes.now ≤ 1044480 }
+    ensures same { slot.new ≡ record slot.old { file = slot.new.file; holds = slot.new.holds } }
+    ensures makes { MakesObject slot.old.file slot.new.file tsk.now attributes.now bytes.now slot.new.holds result }
+    ensures causes { HasCauses slot.old.file slot.new.file (E.faults entropy.old) (E.faults entropy.new)
+        (E.is_reliable entropy.old) (E.is_reliable entropy.new) result }
+    ensures leaves { NewLeaves L.store slot.new tsk.now attributes.now bytes.now result }
+{
+    slot.stage_new(alloc, tsk, attributes, bytes, entropy)
 }
