@@ -14,3 +14,4 @@ pub mod MapsKept
 pub mod LegalCommits
 pub mod WholeVersions
 pub mod LegalEvents
+pub mod LastDoubts

@@ -6,12 +6,14 @@ use Rattle.tee_types.specs.declared.reply.Reply.{Reply}
 use Rattle.tee_types.specs.declared.reply.Reply.TheVariants.{CounterSpent, NotAvailable}
 use Rattle.store_model.specs.declared.event.Event.TheVariants.{Call as CallEvent}
 use Rattle.store_model.specs.declared.event.Mark.TheVariants.{Unchanged}
+use Rattle.store_model.specs.Doubt.{Doubt}
 use Rattle.store_model.specs.Files.{is_misuse}
 use Rattle.store_model.specs.Legal.{IsTagged, is_commit_due, meant_by}
 use Rattle.store_model.specs.Record.{Tag}
 use Rattle.store_model.specs.Standing.{is_of_card}
 use Rattle.dir_records.specs.declared.entry.DirEntry.{DirEntry}
 use Rattle.history_seats.specs.Records.{HistoryRecord, Version}
+use Rattle.history_seats.specs.Settling.{IsOpenDoubt}
 use Rattle.history_seats.specs.Views.{GateView}
 use Rattle.history_seats.specs.Changes.{landing_of}
 use Rattle.suppositions.specs.Guesses.{Guess}
@@ -50,3 +52,10 @@ abbrev pub LandingsAreLegal : Type 0
 LandingsAreLegal =
     (store : Store) (guess : Guess) (view : GateView) (entries : List (Option DirEntry)) (counter : ℕ) (d : DoubtedChange) → IsTied store view entries counter (Some d)
     → AreAnswered store guess view.all → IsLegalAt store guess view.all (landing_of d.number)
+
+-- A doubt that is open in the history, from the view's place on, is the gate's, and the replay has it open.
+abbrev pub OpenDoubtsAreHeld : Type 0
+OpenDoubtsAreHeld =
+    (store : Store) (view : GateView) (entries : List (Option DirEntry)) (counter : ℕ) (doubt : Option DoubtedChange) → IsTied store view entries counter doubt
+    → (number : ℕ) → IsOpenDoubt number view.decided view.all → (guess : Guess) → AreAnswered store guess view.all
+    → (own : Doubt) × ((standing_at store guess view.all).doubt ≡ Some own) × (own.commit ≡ number)

@@ -6,7 +6,7 @@ ghost use Rattle.gate_ties.specs.TagLaws.{CommitTagsAreRight, UnchangedTagsAreRi
 ghost use Rattle.gate_ties.specs.OwnEntries.{TiedCommitsMakeEntries, TiedEntriesTell};
 ghost use Rattle.gate_ties.specs.CommitMaps.{CommitsKeepMaps, WholeVersionsStand};
 ghost use Rattle.gate_ties.specs.CommitAnswers.{CommitsAreLegal};
-ghost use Rattle.gate_ties.specs.EventAnswers.{LandingsAreLegal, UnmadeCommitsAreLegal, UnresolvedCallsAreLegal};
+ghost use Rattle.gate_ties.specs.EventAnswers.{LandingsAreLegal, OpenDoubtsAreHeld, UnmadeCommitsAreLegal, UnresolvedCallsAreLegal};
 ghost use Rattle.gate_ties.specs.EntryFacts.{MatchedEntriesTell};
 
 /// Along every replay the names of the machine's objects rise, if they do where it begins.
@@ -113,4 +113,9 @@ pub fn unresolved_calls_are_legal()
 /// The gate's doubt may land.
 pub fn landings_are_legal()
     ensures { LandingsAreLegal }
+{}
+
+/// A doubt that is open in the history is the gate's, and under each supposition the replay has it open.
+pub fn open_doubts_are_held()
+    ensures { OpenDoubtsAreHeld }
 {}
