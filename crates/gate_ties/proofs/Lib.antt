@@ -15,3 +15,4 @@ pub mod LegalCommits
 pub mod WholeVersions
 pub mod LegalEvents
 pub mod LastDoubts
+pub mod DueCommits

@@ -9,3 +9,4 @@ pub mod OwnEntries
 pub mod CommitMaps
 pub mod CommitAnswers
 pub mod EventAnswers
+pub mod DueChanges

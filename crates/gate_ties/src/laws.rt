@@ -6,6 +6,7 @@ ghost use Rattle.gate_ties.specs.TagLaws.{CommitTagsAreRight, UnchangedTagsAreRi
 ghost use Rattle.gate_ties.specs.OwnEntries.{TiedCommitsMakeEntries, TiedEntriesTell};
 ghost use Rattle.gate_ties.specs.CommitMaps.{CommitsKeepMaps, WholeVersionsStand};
 ghost use Rattle.gate_ties.specs.CommitAnswers.{CommitsAreLegal};
+ghost use Rattle.gate_ties.specs.DueChanges.{DueChangesAreCommits};
 ghost use Rattle.gate_ties.specs.EventAnswers.{LandingsAreLegal, OpenDoubtsAreHeld, UnmadeCommitsAreLegal, UnresolvedCallsAreLegal};
 ghost use Rattle.gate_ties.specs.EntryFacts.{MatchedEntriesTell};
 
@@ -118,4 +119,9 @@ pub fn landings_are_legal()
 /// A doubt that is open in the history is the gate's, and under each supposition the replay has it open.
 pub fn open_doubts_are_held()
     ensures { OpenDoubtsAreHeld }
+{}
+
+/// A write or a truncate that is the machine's, by what its object's file gave, is such a commit.
+pub fn due_changes_are_commits()
+    ensures { DueChangesAreCommits }
 {}
