@@ -1,19 +1,17 @@
 -- The ties over a commit, made or in doubt, and over a landing.
 use Rattle.std.proofs.Common.{◌≡◌, ◌≤◌, ℕ, Bool, true, false, true≢false, List, [], ◌∷◌, ◌++◌, length, Option, Some, None, is_some, unwrap_or, slice_index_or, inl, inr, refl, sym, ap, ◌∙◌, subst}
-use Rattle.std.specs.List.{list_any}
 use Rattle.std.proofs.lemmas.Bool.{cases_Bool, cond-true, cond-false}
 use Rattle.tee_types.specs.declared.call.Call.{Call}
 use Rattle.tee_types.specs.declared.reply.Reply.{Reply}
-use Rattle.store_model.specs.declared.event.Event.{Event}
-use Rattle.store_model.specs.declared.event.Event.TheVariants.{Call as CallEvent, Landed}
+use Rattle.store_model.specs.declared.event.Event.TheVariants.{Call as CallEvent}
 use Rattle.store_model.specs.declared.event.Mark.TheVariants.{Unchanged, Made, Doubtful}
 use Rattle.store_model.specs.Legal.{Answered, Doubted, FoundCorrupt, IsLegalAnswer, Spent, Unavailable, is_commit_due, mark_of}
-use Rattle.store_model.specs.Record.{Tag, events_of, file_of}
+use Rattle.store_model.specs.Record.{Tag, file_of}
 use Rattle.store_model.specs.Standing.{Standing, standing_after, standing_landed}
 use Rattle.dir_records.specs.declared.entry.DirEntry.{DirEntry}
 use Rattle.history_seats.specs.Records.{HistoryRecord, Version, is_object}
 use Rattle.history_seats.specs.Mounts.{Entry}
-use Rattle.history_seats.specs.Settling.{HasMark, IsOpenDoubt, Pending, as_landed, is_doubtful, is_doubtful_mark, settles}
+use Rattle.history_seats.specs.Settling.{Pending, as_landed, is_doubtful}
 use Rattle.history_seats.specs.Versions.{version_of}
 use Rattle.history_seats.specs.Directory.{entries_committed, given_version, has_entry}
 use Rattle.history_seats.specs.CommitLaws.{GivesInDoubt, GivesMade}
@@ -23,7 +21,6 @@ use Rattle.history_seats.specs.Changes.{landing_of, with_record}
 use Rattle.history_seats.proofs.DoubtedEntries.{has_committed}
 use Rattle.history_seats.proofs.Givens.{directory-snoc}
 use Rattle.history_seats.proofs.GivenStays.{doubt-gives, given-there, landing-gives, made-gives}
-use Rattle.history_seats.proofs.Lists.{or_left, or_right}
 use Rattle.history_seats.proofs.OpenDoubts.{doubt-opens}
 use Rattle.crash_core.specs.EntryChanges.{EntryChange, changed}
 use Rattle.suppositions.specs.Guesses.{Guess}
@@ -31,38 +28,14 @@ use Rattle.suppositions.specs.Stores.{Store, entries_at, standing_at}
 use Rattle.suppositions.specs.Mapped.{landed_version}
 use Rattle.suppositions.specs.Answered.{AreAnswered, IsAnsweredAt}
 use Rattle.suppositions.proofs.Answers.{answered-front, answered-last, standing-snoc}
-use Rattle.suppositions.proofs.Places.{head_same, not_empty, tail_same}
 use Rattle.gate_ties.specs.Matched.{AreMatched}
 use Rattle.gate_ties.specs.CallChanges.{IsEntryCommit}
 use Rattle.gate_ties.specs.Ties.{DoubtedChange, IsStandingDoubt, IsTied, IsTiedDoubt, MakesEntries}
 use Rattle.gate_ties.specs.TieLaws.{AreRising, DoubtfulCommitsKeepTies, LandingsKeepTies, MadeCommitsKeepTies, record_of_commit}
 use Rattle.gate_ties.proofs.Rising.{risen}
+use Rattle.gate_ties.proofs.LastDoubts.{closed}
 use Rattle.gate_ties.proofs.Matching.{Follow, matched_committed}
 use Rattle.gate_ties.proofs.QuietTies.{makes_same, matched_now, matched_same}
-
--- the last of these settles
-last_settles : (records : List HistoryRecord) (r : HistoryRecord) → settles r.event ≡ true → list_any settles (events_of (records ++ r ∷ [])) ≡ true
-last_settles [] r is = or_left (settles r.event) false is
-last_settles (x ∷ records) r is = or_right (settles x.event) (list_any settles (events_of (records ++ r ∷ []))) (last_settles records r is)
-
--- an event behind which none settles is the last one, if that settles
-is_last : (front back all : List HistoryRecord) (d r : HistoryRecord) → front ++ d ∷ back ≡ all ++ r ∷ [] → list_any settles (events_of back) ≡ false → settles r.event ≡ true → d ≡ r
-is_last [] back [] d r e none settled = head_same d r back [] e
-is_last [] back (y ∷ all) d r e none settled =
-    absurd (true≢false (sym (last_settles all r settled) ∙ ap (λ (l : List HistoryRecord). list_any settles (events_of l)) (sym (tail_same d y back (all ++ r ∷ []) e)) ∙ none))
-is_last (f ∷ []) back [] d r e none settled = absurd (not_empty d back (tail_same f r (d ∷ back) [] e))
-is_last (f ∷ g ∷ front) back [] d r e none settled = absurd (not_empty g (front ++ d ∷ back) (tail_same f r (g ∷ (front ++ d ∷ back)) [] e))
-is_last (f ∷ front) back (y ∷ all) d r e none settled = is_last front back all d r (tail_same f y (front ++ d ∷ back) (all ++ r ∷ []) e) none settled
-
--- behind an event that settles and leaves no doubt none is open
-closed : (number z : ℕ) (all : List HistoryRecord) (r : HistoryRecord) → settles r.event ≡ true → is_doubtful r.event ≡ false → IsOpenDoubt number z (all ++ r ∷ []) → ⊥
-closed number z all r settled calm_ open_ =
-    let same : open_.doubted ≡ r = is_last open_.front open_.back all open_.doubted r open_.is open_.last settled in
-    true≢false (sym (doubts open_.doubted.event open_.marked) ∙ ap (λ (x : HistoryRecord). is_doubtful x.event) same ∙ calm_)
-  where
-    doubts : (event : Event) → HasMark (Doubtful number) event → is_doubtful event ≡ true
-    doubts (CallEvent session n call reply mark) is = ap is_doubtful_mark is
-    doubts (Landed commit) is = absurd is
 
 nothing_left : (b : Bool) (o : Option Version) → b ≡ false → is_some o ≡ b → None ≡ o
 nothing_left b None off is = refl

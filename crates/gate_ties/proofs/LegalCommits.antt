@@ -159,6 +159,8 @@ module _ (store : Store) (guess : Guess) (view : GateView) (entries : List (Opti
 
 pub commits_legal : CommitsAreLegal
 commits_legal store guess view entries counter doubt tied session number call change tag declared fits = record {
-  made = made_legal store guess view entries counter doubt tied session number tag declared fits call change;
+  made = λ c none reply is.
+      subst (λ (r : Reply). IsLegalAt store guess view.all (record_of_commit session number call r (Made (counter + 1)) tag)) (sym is)
+      (made_legal store guess view entries counter doubt tied session number tag declared fits call change c none);
   doubtful = doubtful_legal store guess view entries counter doubt tied session number tag declared fits call change;
 }

@@ -12,3 +12,7 @@ pub mod RightTags
 pub mod Told
 pub mod MapsKept
 pub mod LegalCommits
+pub mod WholeVersions
+pub mod LegalEvents
+pub mod LastDoubts
+pub mod DueCommits

@@ -2,6 +2,7 @@
 use Rattle.std.specs.Prelude.{◌≡◌, ◌+◌, ◌<◌, ◌^◌, ℕ, List, Option, None, length}
 use Rattle.tee_types.specs.declared.call.Call.{Call}
 use Rattle.tee_types.specs.declared.reply.Cause.{Cause}
+use Rattle.tee_types.specs.declared.reply.Reply.{Reply}
 use Rattle.tee_types.specs.declared.reply.Reply.TheVariants.{NotAvailable}
 use Rattle.store_model.specs.declared.event.Mark.TheVariants.{Made, Doubtful}
 use Rattle.store_model.specs.Legal.{meant_by}
@@ -21,7 +22,8 @@ use Rattle.gate_ties.specs.CommitMaps.{IsCommitUnder}
 -- Made with the machine's reply, or in doubt with a cause that accuses no object's file.
 pub record AreCommitsLegal (store : Store) (guess : Guess) (view : GateView) (entries : List (Option DirEntry)) (counter session number : ℕ) (call : Call) (change : EntryChange) (tag : Tag Version) : Type 0 where
   pub made : IsCommitUnder store guess view entries counter session call change tag tag.committed → tag.doubted ≡ None
-      → IsLegalAt store guess view.all (record_of_commit session number call (meant_by (standing_at store guess view.all) session call) (Made (counter + 1)) tag)
+      → (reply : Reply) → reply ≡ meant_by (standing_at store guess view.all) session call
+      → IsLegalAt store guess view.all (record_of_commit session number call reply (Made (counter + 1)) tag)
   pub doubtful : IsCommitUnder store guess view entries counter session call change tag tag.doubted
       → tag.committed ≡ given_version store.mounted view.all tag.file tag.generation → (cause : Cause) → file_at_fault cause ≡ None
       → IsLegalAt store guess view.all (record_of_commit session number call (NotAvailable cause) (Doubtful (counter + 1)) tag)

@@ -1,9 +1,10 @@
 -- A commit that changes the gate's entries as its call does keeps the map of objects in step, made or in doubt.
 use Rattle.std.specs.Prelude.{◌≡◌, ℕ, true, List, [], Option, Some}
+use Rattle.hmac_keys.specs.declared.Keys.{Keys}
 use Rattle.tee_types.specs.declared.call.Call.{Call}
 use Rattle.tee_types.specs.declared.call.Call.TheVariants.{Create, Rename, Truncate, Write}
 use Rattle.tee_types.specs.declared.reply.Reply.{Reply}
-use Rattle.store_model.specs.Object.{Sound, changed_object}
+use Rattle.store_model.specs.Object.{Contents, Sound, changed_object}
 use Rattle.store_model.specs.Calls.{state_after}
 use Rattle.store_model.specs.Legal.{is_commit_due}
 use Rattle.store_model.specs.Record.{Tag}
@@ -14,6 +15,7 @@ use Rattle.history_seats.specs.Views.{GateView}
 use Rattle.crash_core.specs.Entries.{name_of}
 use Rattle.crash_core.specs.EntryChanges.{EntryChange, Put}
 use Rattle.suppositions.specs.Guesses.{Guess, object_under}
+use Rattle.suppositions.specs.Spellings.{IsReal}
 use Rattle.suppositions.specs.Stores.{Store, standing_at}
 use Rattle.suppositions.specs.Mapped.{IsMapped}
 use Rattle.suppositions.specs.CommitLaws.{Place}
@@ -55,3 +57,9 @@ CommitsKeepMaps =
     (store : Store) (guess : Guess) (view : GateView) (entries : List (Option DirEntry)) (counter : ℕ) (doubt : Option DoubtedChange) → IsTied store view entries counter doubt
     → (session number : ℕ) (call : Call) (reply : Reply) (change : EntryChange) (tag : Tag Version) (left : Option Version)
     → IsCommitUnder store guess view entries counter session call change tag left → EndsKeepMaps store guess view.all session number call reply (place_of tag) left
+
+-- A version without damage stands under every supposition: so does what a create makes.
+abbrev pub WholeVersionsStand : Type 0
+WholeVersionsStand =
+    (keys : Keys) (guess : Guess) (file generation : ℕ) (v : Version) (c : Contents) → IsReal keys v → v.object ≡ Sound c → c.bad ≡ []
+    → object_under keys guess file generation v ≡ Sound c

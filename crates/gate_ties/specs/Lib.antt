@@ -8,3 +8,5 @@ pub mod TagLaws
 pub mod OwnEntries
 pub mod CommitMaps
 pub mod CommitAnswers
+pub mod EventAnswers
+pub mod DueChanges

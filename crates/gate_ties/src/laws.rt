@@ -4,8 +4,10 @@ ghost use Rattle.gate_ties.specs.TieLaws.{DoubtfulCommitsKeepTies, DropsKeepTies
 ghost use Rattle.gate_ties.specs.MachineChanges.{ApplicationsStay, CommitsMakeEntries};
 ghost use Rattle.gate_ties.specs.TagLaws.{CommitTagsAreRight, UnchangedTagsAreRight};
 ghost use Rattle.gate_ties.specs.OwnEntries.{TiedCommitsMakeEntries, TiedEntriesTell};
-ghost use Rattle.gate_ties.specs.CommitMaps.{CommitsKeepMaps};
+ghost use Rattle.gate_ties.specs.CommitMaps.{CommitsKeepMaps, WholeVersionsStand};
 ghost use Rattle.gate_ties.specs.CommitAnswers.{CommitsAreLegal};
+ghost use Rattle.gate_ties.specs.DueChanges.{DueChangesAreCommits};
+ghost use Rattle.gate_ties.specs.EventAnswers.{LandingsAreLegal, OpenDoubtsAreHeld, UnmadeCommitsAreLegal, UnresolvedCallsAreLegal};
 ghost use Rattle.gate_ties.specs.EntryFacts.{MatchedEntriesTell};
 
 /// Along every replay the names of the machine's objects rise, if they do where it begins.
@@ -92,4 +94,34 @@ pub fn commits_keep_maps()
 /// Such a commit is legal under the supposition, made or in doubt, and keeps the map in step.
 pub fn commits_are_legal()
     ensures { CommitsAreLegal }
+{}
+
+/// A version without damage stands under every supposition.
+pub fn whole_versions_stand()
+    ensures { WholeVersionsStand }
+{}
+
+/// A commit of the machine may be answered with why it was not made.
+pub fn unmade_commits_are_legal()
+    ensures { UnmadeCommitsAreLegal }
+{}
+
+/// While the gate has a doubt, a call may be answered with what kept the doubt from being resolved.
+pub fn unresolved_calls_are_legal()
+    ensures { UnresolvedCallsAreLegal }
+{}
+
+/// The gate's doubt may land.
+pub fn landings_are_legal()
+    ensures { LandingsAreLegal }
+{}
+
+/// A doubt that is open in the history is the gate's, and under each supposition the replay has it open.
+pub fn open_doubts_are_held()
+    ensures { OpenDoubtsAreHeld }
+{}
+
+/// A write or a truncate that is the machine's, by what its object's file gave, is such a commit.
+pub fn due_changes_are_commits()
+    ensures { DueChangesAreCommits }
 {}

@@ -9,8 +9,9 @@ mod laws;
 
 pub use laws::{
     applications_stay, commit_tags_are_right, commits_are_legal, commits_keep_maps,
-    commits_make_entries, doubtful_commits_keep_ties, drops_keep_ties, landings_keep_ties,
-    made_commits_keep_ties, matched_entries_tell, openings_are_tied, replays_rise,
-    tied_commits_make_entries, tied_entries_tell, unchanged_events_keep_ties,
-    unchanged_tags_are_right,
+    commits_make_entries, doubtful_commits_keep_ties, drops_keep_ties, due_changes_are_commits,
+    landings_are_legal, landings_keep_ties, made_commits_keep_ties, matched_entries_tell,
+    open_doubts_are_held, openings_are_tied, replays_rise, tied_commits_make_entries,
+    tied_entries_tell, unchanged_events_keep_ties, unchanged_tags_are_right,
+    unmade_commits_are_legal, unresolved_calls_are_legal, whole_versions_stand,
 };
