@@ -10,3 +10,5 @@ pub mod ResolveSteps
 pub mod EventSteps
 pub mod RestingMoves
 pub mod ReserveSteps
+pub mod CommitFacts
+pub mod Ties

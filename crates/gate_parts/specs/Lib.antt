@@ -8,3 +8,5 @@ pub mod Resolves
 pub mod Events
 pub mod Moves
 pub mod Reserving
+pub mod CommitFacts
+pub mod Ties

@@ -1,5 +1,6 @@
 //! Laws of the gate's part. Each function does nothing: its contract is the law.
 
+ghost use Rattle.gate_parts.specs.CommitFacts.{DirectoryRunsKeep, SealsKeep};
 ghost use Rattle.gate_parts.specs.Commits.{CommitsAreSteps};
 ghost use Rattle.gate_parts.specs.Ended.{EndedStoresMount, EndsAreSupposed, HonestStoresMount};
 ghost use Rattle.gate_parts.specs.Events.{UnchangedEventsAreSteps};
@@ -7,6 +8,12 @@ ghost use Rattle.gate_parts.specs.Moves.{RestingGatesMove};
 ghost use Rattle.gate_parts.specs.Reserving.{ReleasesAreSteps, ReservesAreSteps};
 ghost use Rattle.gate_parts.specs.Resolves.{ResolvesAreSteps};
 ghost use Rattle.gate_parts.specs.Resting.{RestingGatesHold};
+ghost use Rattle.gate_parts.specs.Ties.{TiesTell};
+
+/// The ties of a gate, which it has whatever the files are, tell what ties it under a supposition.
+pub fn ties_tell()
+    ensures { TiesTell }
+{}
 
 /// Between two calls a gate that is tied to its history is a part of the core machine, at rest.
 pub fn resting_gates_hold()
@@ -34,7 +41,17 @@ pub fn commits_are_steps()
     ensures { CommitsAreSteps }
 {}
 
-/// So is the resolving of a doubt, whichever answer it finds.
+/// Amid a commit the calls of the directory's file keep the gate's fact, so that other parts may move between them.
+pub fn directory_runs_keep()
+    ensures { DirectoryRunsKeep }
+{}
+
+/// So does the seal.
+pub fn seals_keep()
+    ensures { SealsKeep }
+{}
+
+/// The resolving of a doubt is a list of steps from one part at rest to the next, whichever answer it finds.
 pub fn resolves_are_steps()
     ensures { ResolvesAreSteps }
 {}
