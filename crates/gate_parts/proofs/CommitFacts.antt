@@ -1,5 +1,5 @@
 -- The gate's fact amid a commit.
-use Rattle.std.proofs.Common.{◌≡◌, ◌+◌, ◌<◌, ℕ, List, [], ◌∷◌, inl, inr, IsTrue, Option, Some, None, Ok, refl, sym, ap, ◌∙◌, subst, arith}
+use Rattle.std.proofs.Common.{◌≡◌, ◌+◌, ℕ, List, [], ◌∷◌, inl, inr, IsTrue, Option, Some, None, Ok, sym, ap, ◌∙◌, subst, arith}
 use Rattle.disk_model.specs.State.{FileState, Sound}
 use Rattle.disk_model.specs.Keeps.{CallOff, FileCall, IsFileRun, write, sync, rest}
 use Rattle.disk_model.proofs.ImageLaws.{reads_left}
@@ -9,11 +9,9 @@ use Rattle.htree_file.specs.Selected.{Lies}
 use Rattle.store_model.specs.Object.{Object, ObjectMap}
 use Rattle.store_model.specs.Calls.{state_after}
 use Rattle.store_model.proofs.MadeChanges.{commits_make_changes}
-use Rattle.dir_records.specs.declared.entry.DirEntry.{DirEntry}
 use Rattle.history_seats.specs.Views.{GateView}
 use Rattle.crash_core.specs.CardBlock.{root_block, root_in}
 use Rattle.crash_core.specs.DeviceKeys.{directory_key}
-use Rattle.crash_core.specs.EntryLists.{AreDistinct}
 use Rattle.crash_core.specs.EntryChanges.{Clear, EntryChange, Put, changed}
 use Rattle.crash_core.specs.Mounting.{Held, map_of}
 use Rattle.crash_core.specs.Sights.{Sight, Stands, sight_of}
@@ -30,7 +28,7 @@ use Rattle.core_parts.specs.GateLaws.{MaySeal}
 use Rattle.core_parts.specs.GateParts.{DirectoryReads, GateDirectory, GateHolds, GatePart, GatePending, GateSealed, IsBacked, standing_of}
 use Rattle.core_parts.specs.GateSteps.{Handed}
 use Rattle.core_parts.proofs.DirectoryRuns.{file_run_honest, file_run_sound}
-use Rattle.suppositions.proofs.Mending.{none_some, some_same}
+use Rattle.suppositions.proofs.Mending.{none_some}
 use Rattle.gate_parts.specs.CommitFacts.{DirectoryRunsKeep, IsUnsealed, SealsKeep, held_put}
 use Rattle.gate_parts.proofs.CommitSteps.{first_set}
 

@@ -12,3 +12,4 @@ pub mod RestingMoves
 pub mod ReserveSteps
 pub mod CommitFacts
 pub mod Ties
+pub mod FinishedPhases

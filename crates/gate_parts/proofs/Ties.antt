@@ -1,5 +1,5 @@
 -- What ties a gate to its history tells under a supposition.
-use Rattle.std.proofs.Common.{◌≡◌, ℕ, List, Option, Some, None, option_map, sym, subst}
+use Rattle.std.proofs.Common.{ℕ, List, Option, Some, None, option_map, sym, subst}
 use Rattle.dir_records.specs.declared.entry.DirEntry.{DirEntry}
 use Rattle.history_seats.specs.Settling.{IsOpenDoubt}
 use Rattle.history_seats.specs.Views.{GateView}

@@ -1,5 +1,5 @@
 -- The gate's fact amid a commit, so that other parts may move between its steps.
-use Rattle.std.specs.Prelude.{◌≡◌, ◌<◌, Option, Some, None, IsTrue}
+use Rattle.std.specs.Prelude.{◌≡◌, Option, Some, None, IsTrue}
 use Rattle.disk_model.specs.State.{FileState, Sound}
 use Rattle.disk_model.specs.Keeps.{Runs}
 use Rattle.node_image.specs.declared.node.RootRef.{RootRef}

@@ -10,3 +10,4 @@ pub mod Moves
 pub mod Reserving
 pub mod CommitFacts
 pub mod Ties
+pub mod Finishing

@@ -4,6 +4,7 @@ ghost use Rattle.gate_parts.specs.CommitFacts.{DirectoryRunsKeep, SealsKeep};
 ghost use Rattle.gate_parts.specs.Commits.{CommitsAreSteps};
 ghost use Rattle.gate_parts.specs.Ended.{EndedStoresMount, EndsAreSupposed, HonestStoresMount};
 ghost use Rattle.gate_parts.specs.Events.{UnchangedEventsAreSteps};
+ghost use Rattle.gate_parts.specs.Finishing.{FinishedPhasesMount};
 ghost use Rattle.gate_parts.specs.Moves.{RestingGatesMove};
 ghost use Rattle.gate_parts.specs.Reserving.{ReleasesAreSteps, ReservesAreSteps};
 ghost use Rattle.gate_parts.specs.Resolves.{ResolvesAreSteps};
@@ -34,6 +35,12 @@ pub fn honest_stores_mount()
 /// The supposition that has exactly the files as not honest that are not, has them all.
 pub fn ends_are_supposed()
     ensures { EndsAreSupposed }
+{}
+
+/// A phase that finished: under the supposition that has exactly those files as not honest that are not, every picture mounts to what the
+/// history leaves, or the promises end at a first event.
+pub fn finished_phases_mount()
+    ensures { FinishedPhasesMount }
 {}
 
 /// A commit of the gate, however it ends, is with its event a list of steps of the core machine, from one part at rest to the next.
