@@ -1,9 +1,8 @@
 -- At the end of a phase every picture mounts to what the history leaves, or the promises end at a first event.
 use Rattle.std.proofs.Common.{inl, inr}
 use Rattle.suppositions.proofs.Narrowing.{all_answered}
-use Rattle.gate_parts.specs.Ended.{store_files}
 use Rattle.gate_parts.specs.Finishing.{FinishedPhasesMount}
-use Rattle.gate_parts.proofs.EndedStores.{ended_stores_mount, ends_are_supposed}
+use Rattle.gate_parts.proofs.EndedStores.{ended_stores_mount}
 use Rattle.gate_parts.proofs.Ties.{ties_tell}
 
 pub finished_phases_mount : FinishedPhasesMount
@@ -16,7 +15,7 @@ finished_phases_mount store guess g doubt holds card view slots f = elim (all_an
           gate = f.gate;
           tied = ties_tell store guess view g.dir.entries g.counter doubt f.mounted f.tied answered (f.in_step answered);
           slots_hold = f.slots_hold;
-          dishonest = ends_are_supposed guess (store_files g slots) f.dishonest;
+          dishonest = f.dishonest;
         })
         is trusted,
   )

@@ -15,11 +15,11 @@ use Rattle.gate_ties.specs.Ties.{IsTied}
 use Rattle.store_commit.specs.declared.gate.Doubted.{Doubted}
 use Rattle.store_commit.specs.Sides.{Sides}
 use Rattle.gate_parts.specs.Phases.{phase_under}
-use Rattle.gate_parts.specs.Ended.{AreSlotsOf, dishonest_in, store_files}
+use Rattle.gate_parts.specs.Ended.{AreSlotsOf, SupposesDishonest, store_files}
 use Rattle.gate_parts.specs.Resting.{IsGateOf}
 use Rattle.gate_parts.specs.Ties.{doubted_change}
 
--- The gate and the slots are at rest, the history is fair, and the supposition has exactly those files as not honest that are not.
+-- The gate and the slots are at rest, the history is fair, and the supposition has all files as not honest that are not.
 pub record HasFinished (store : Store) (guess : Guess) (g : Sides) (doubt : Option Doubted) (holds : List (Option ℕ)) (card : CardState) (view : GateView) (slots : ℕ → SlotPart) : Type 0 where
   pub gate : IsGateOf store g doubt holds card
   pub tied : IsTied store view g.dir.entries g.counter (option_map doubted_change doubt)
@@ -27,7 +27,7 @@ pub record HasFinished (store : Store) (guess : Guess) (g : Sides) (doubt : Opti
   pub fair : IsFairHistory store view.all
   pub in_step : AreAnswered store guess view.all → IsMappedBoth store guess view.decided view.all
   pub slots_hold : AreSlotsOf store view slots
-  pub dishonest : guess.dishonest ≡ dishonest_in (store_files g slots)
+  pub dishonest : SupposesDishonest guess (store_files g slots)
   -- the events of each other file are legal by themselves
   pub own_legal : (file : ℕ) → Contains guess.dishonest file ⊎ AreOwnLegal store guess file view.all
 

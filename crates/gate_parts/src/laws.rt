@@ -32,13 +32,13 @@ pub fn honest_stores_mount()
     ensures { HonestStoresMount }
 {}
 
-/// The supposition that has exactly the files as not honest that are not, has them all.
+/// The supposition that has just those files as not honest that are not, has them all.
 pub fn ends_are_supposed()
     ensures { EndsAreSupposed }
 {}
 
-/// A phase that finished: under the supposition that has exactly those files as not honest that are not, every picture mounts to what the
-/// history leaves, or the promises end at a first event.
+/// A phase that finished: under a supposition that has all files as not honest that are not, every picture mounts to what the history
+/// leaves, or the promises end at a first event.
 pub fn finished_phases_mount()
     ensures { FinishedPhasesMount }
 {}
