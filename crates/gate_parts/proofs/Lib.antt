@@ -4,7 +4,7 @@ pub mod ReadDirectories
 pub mod LandedEntries
 pub mod Holders
 pub mod RestingGates
-pub mod EndedStores
+pub mod ClosedStores
 pub mod CommitSteps
 pub mod ResolveSteps
 pub mod EventSteps

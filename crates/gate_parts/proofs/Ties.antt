@@ -24,9 +24,7 @@ module _ (store : Store) (guess : Guess) (view : GateView) (entries : List (Opti
         number = s.number;
         late = of.is_open;
         landed = record {
-          listed = of.landed.listed;
-          versions = of.landed.versions;
-          real = of.landed.real;
+          matched = of.landed;
           in_step = mapped.landed s.doubt s.is_open (subst (λ (n : ℕ). IsOpenDoubt n view.decided view.all) (sym s.number) of.is_open);
         };
       }
@@ -36,6 +34,6 @@ ties_tell store guess view entries counter doubt mounted tied answered mapped = 
   mounted = mounted;
   counted = tied.counter guess answered;
   rising = tied.rising guess answered;
-  now = record { listed = tied.listed; versions = tied.versions; real = tied.real; in_step = mapped.now };
+  now = record { matched = record { listed = tied.listed; unique = tied.unique; versions = tied.versions; real = tied.real }; in_step = mapped.now };
   doubts = doubts_read store guess view entries counter answered mapped doubt tied;
 }

@@ -15,7 +15,7 @@ use Rattle.gate_ties.specs.Ties.{IsTied}
 use Rattle.store_commit.specs.declared.gate.Doubted.{Doubted}
 use Rattle.store_commit.specs.Sides.{Sides}
 use Rattle.gate_parts.specs.Phases.{phase_under}
-use Rattle.gate_parts.specs.Ended.{AreSlotsOf, SupposesDishonest, store_files}
+use Rattle.gate_parts.specs.ClosedStores.{AreSlotsOf, SupposesDishonest, store_files}
 use Rattle.gate_parts.specs.Resting.{IsGateOf}
 use Rattle.gate_parts.specs.Ties.{doubted_change}
 

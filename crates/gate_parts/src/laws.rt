@@ -2,7 +2,7 @@
 
 ghost use Rattle.gate_parts.specs.CommitFacts.{DirectoryRunsKeep, SealsKeep};
 ghost use Rattle.gate_parts.specs.Commits.{CommitsAreSteps};
-ghost use Rattle.gate_parts.specs.Ended.{EndedStoresMount, EndsAreSupposed, HonestStoresMount};
+ghost use Rattle.gate_parts.specs.ClosedStores.{ClosedStoresMount, DishonestFilesAreSupposed, HonestStoresMount};
 ghost use Rattle.gate_parts.specs.Events.{UnchangedEventsAreSteps};
 ghost use Rattle.gate_parts.specs.Finishing.{FinishedPhasesMount};
 ghost use Rattle.gate_parts.specs.Moves.{RestingGatesMove};
@@ -23,8 +23,8 @@ pub fn resting_gates_hold()
 
 /// Once a phase has ended, every picture of the store mounts to the map that its history leaves, or to that with the commit in doubt.
 /// Nothing is said of objects in files that are not honest, nor where the directory's file is not.
-pub fn ended_stores_mount()
-    ensures { EndedStoresMount }
+pub fn closed_stores_mount()
+    ensures { ClosedStoresMount }
 {}
 
 /// Where every file is honest, it mounts to that map itself.
@@ -33,8 +33,8 @@ pub fn honest_stores_mount()
 {}
 
 /// The supposition that has just those files as not honest that are not, has them all.
-pub fn ends_are_supposed()
-    ensures { EndsAreSupposed }
+pub fn dishonest_files_are_supposed()
+    ensures { DishonestFilesAreSupposed }
 {}
 
 /// A phase that finished: under a supposition that has all files as not honest that are not, every picture mounts to what the history
