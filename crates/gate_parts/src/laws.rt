@@ -11,7 +11,7 @@ ghost use Rattle.gate_parts.specs.Resolves.{ResolvesAreSteps};
 ghost use Rattle.gate_parts.specs.Resting.{RestingGatesHold};
 ghost use Rattle.gate_parts.specs.Ties.{TiesTell};
 
-/// The ties of a gate, which it has whatever the files are, tell what ties it under a supposition.
+/// What ties a gate to its history, whatever the files are, ties it so under each supposition.
 pub fn ties_tell()
     ensures { TiesTell }
 {}
@@ -78,7 +78,7 @@ pub fn releases_are_steps()
     ensures { ReleasesAreSteps }
 {}
 
-/// Such steps are a move of the gate, which keeps its fact; and moves of gate and slots in any order are one run of the core machine.
+/// Such steps are a move of the gate as `core_parts` has it, and keep its fact.
 pub fn resting_gates_move()
     ensures { RestingGatesMove }
 {}
