@@ -53,7 +53,7 @@ use Rattle.store_commit.specs.Steps.{IsReady}
 use Rattle.gate_parts.specs.Phases.{phase_under}
 use Rattle.gate_parts.specs.Parts.{IsCardOf, pending_of, sealed_in, takes_of}
 use Rattle.gate_parts.specs.Resting.{IsGateOf, StepsTo}
-use Rattle.gate_parts.specs.Commits.{CommitsAreSteps, IsCommitted, IsForCall}
+use Rattle.gate_parts.specs.Commits.{CommitsAreSteps, IsGateCommit, IsForCall}
 use Rattle.gate_parts.proofs.Holders.{takes_freed}
 
 -- a write of nothing
@@ -173,7 +173,7 @@ module _ (store : Store) (guess : Guess) (handed : Option Handed) (old new : Sid
       }
 
       -- MADE
-      made_steps : (n : ℕ) → IsCommitted old new change (Made n) before after → Legal (MadeMark n) → StepsTo store guess handed start new None after (with_record (event (MadeMark n)) view)
+      made_steps : (n : ℕ) → IsGateCommit old new change (Made n) before after → Legal (MadeMark n) → StepsTo store guess handed start new None after (with_record (event (MadeMark n)) view)
       made_steps n c legal =
           let root : RootRef = new.dir.root in
           let left : GatePart = made_of new.file (sealed_card card root) root (changed old.dir.entries (change_of change)) (freed (change_of change) (takes_of before)) None (with_record (event (MadeMark n)) view) in
@@ -193,7 +193,7 @@ module _ (store : Store) (guess : Guess) (handed : Option Handed) (old new : Sid
       abbrev appended : GateView
       appended = with_record (event Unchanged) view
 
-      dropped_steps : (cause : Cause) → IsCommitted old new change (Dropped cause) before after → Legal Unchanged → StepsTo store guess handed start new None after appended
+      dropped_steps : (cause : Cause) → IsGateCommit old new change (Dropped cause) before after → Legal Unchanged → StepsTo store guess handed start new None after appended
       dropped_steps cause c legal =
           let given_up : GatePart = made_of new.file card old.dir.root old.dir.entries (takes_of before) None view in
           let left : GatePart = made_of new.file card old.dir.root old.dir.entries (takes_of before) None appended in
@@ -212,7 +212,7 @@ module _ (store : Store) (guess : Guess) (handed : Option Handed) (old new : Sid
           }
 
       -- DOUBTFUL
-      module _ (n : ℕ) (cause : Cause) (c : IsCommitted old new change (Doubtful n cause) before after) (legal : Legal (DoubtfulMark n)) where
+      module _ (n : ℕ) (cause : Cause) (c : IsGateCommit old new change (Doubtful n cause) before after) (legal : Legal (DoubtfulMark n)) where
         abbrev doubted_view : GateView
         doubted_view = with_record (event (DoubtfulMark n)) view
 
@@ -298,7 +298,7 @@ module _ (store : Store) (guess : Guess) (handed : Option Handed) (old new : Sid
         ]
 
   -- SPENT
-  spent_steps : IsCommitted old new change Spent before after → Legal Unchanged → StepsTo store guess handed start new None after (with_record (event Unchanged) view)
+  spent_steps : IsGateCommit old new change Spent before after → Legal Unchanged → StepsTo store guess handed start new None after (with_record (event Unchanged) view)
   spent_steps c legal =
       let left : GatePart = made_of old.file card old.dir.root old.dir.entries (takes_of before) None (with_record (event Unchanged) view) in
       let done : GateSteps phase handed start left =

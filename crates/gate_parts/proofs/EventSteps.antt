@@ -57,7 +57,7 @@ module _ (store : Store) (guess : Guess) (handed : Option Handed) (g : Sides) (h
         card = card;
         told = gate.told;
         steps = one_step phase handed start (Append (unchanged_event session number call reply tag)) (resting_part store guess g None holds card seen)
-        (append_unchanged_is_step phase handed start session number call reply tag legal (inl refl));
+            (append_unchanged_is_step phase handed start session number call reply tag legal (inl refl));
       }
 
   -- a reply that keeps the doubt leaves the machine and its doubt as they are

@@ -4,9 +4,12 @@ pub mod ReadDirectories
 pub mod LandedEntries
 pub mod Holders
 pub mod RestingGates
-pub mod EndedStores
+pub mod ClosedStores
 pub mod CommitSteps
 pub mod ResolveSteps
 pub mod EventSteps
 pub mod RestingMoves
 pub mod ReserveSteps
+pub mod CommitFacts
+pub mod Ties
+pub mod FinishedPhases

@@ -82,21 +82,21 @@ module _ (store : Store) (guess : Guess) (entries : List (Option DirEntry)) (kep
 
   supposed_by : (index : ℕ) (e : DirEntry) → entry_at entries index ≡ Some e → object_by store.keys guess given (Some (history_entry e)) ≡ Some (supposed e)
   supposed_by index e stood =
-      let v = reading.versions index e stood in
+      let v = reading.matched.versions index e stood in
       ap (option_map (object_under store.keys guess e.file e.generation)) v.1 ∙ ap (λ (x : Object). Some x) (sym (supposed_is e v.0 v.1))
 
   -- the map of these has under each name what stands for the version of its entry
   map_by : (name : ObjectName) (o : Option Entry) → entry_named name kept ≡ o → object_at (map_of held) name ≡ object_by store.keys guess given o
   map_by name None none = map_none held name (λ index h stood.
       let e = of_entry index h stood in
-      let found : entry_named (name_of e.0) kept ≡ Some (history_entry e.0) = listed_named entries kept reading.listed distinct index e.0 e.1 in
+      let found : entry_named (name_of e.0) kept ≡ Some (history_entry e.0) = listed_named entries kept reading.matched.listed distinct index e.0 e.1 in
       let off : at (name_of e.0) name ≡ false = elim (cases_Bool (at (name_of e.0) name)) [
         | inl tied ↦ absurd (none_some (history_entry e.0) (sym none ∙ sym (same_entry (name_of e.0) name kept tied) ∙ found))
         | inr apart_ ↦ apart_
       ] in
       subst (λ (x : Held). at (name_of x.entry) name ≡ false) e.2 off)
   map_by name (Some x) is =
-      let e : IsInDirectory entries x = reading.listed.back x (named_there name x kept is) in
+      let e : IsInDirectory entries x = reading.matched.listed.back x (named_there name x kept is) in
       let tied : at (name_of e.entry) name ≡ true = alike.symm (name_of e.entry) name ∙ ap (λ (y : Entry). at name y.name) e.is ∙ name_found name x kept is in
       map_found held e.index (held_as e.entry) name (to_held e.index e.entry e.at) (apart e.index e.entry e.at) tied
       ∙ sym (supposed_by e.index e.entry e.at) ∙ ap (λ (y : Entry). object_by store.keys guess given (Some y)) e.is
@@ -108,12 +108,12 @@ module _ (store : Store) (guess : Guess) (entries : List (Option DirEntry)) (kep
   module _ (view : GateView) (knows : (index : ℕ) (e : DirEntry) (v : Version) → entry_at entries index ≡ Some e → given e.file e.generation ≡ Some v → KnowsEntry view e v) where
     backed : (index : ℕ) (e : DirEntry) → entry_at entries index ≡ Some e → IsTrusted (phase_under store guess) e.file → IsBacked view None (held_as e)
     backed index e stood trusted =
-        let v = reading.versions index e stood in
+        let v = reading.matched.versions index e stood in
         inl (
           v.0,
           knows index e v.0 stood v.1,
           v.2,
-          sym (supposed_is e v.0 v.1 ∙ object_honest store.keys guess e.file e.generation v.0 (reading.real index e v.0 stood v.1) (honest_off guess e.file trusted)),
+          sym (supposed_is e v.0 v.1 ∙ object_honest store.keys guess e.file e.generation v.0 (reading.matched.real index e v.0 stood v.1) (honest_off guess e.file trusted)),
         )
 
     -- So the directory stands for the gate.

@@ -24,7 +24,7 @@ use Rattle.store_commit.specs.Holds.{AreApart, AreHolds, file_held}
 use Rattle.store_commit.specs.Sides.{Sides}
 use Rattle.gate_parts.specs.Phases.{phase_under}
 use Rattle.gate_parts.specs.Parts.{gate_part, pending_of, sealed_in, takes_of}
-use Rattle.gate_parts.specs.Resting.{IsGateOf, StepsTo, resting_part}
+use Rattle.gate_parts.specs.Resting.{IsGateOf, StepsTo}
 use Rattle.gate_parts.specs.Reserving.{IsReleased, IsReserved, ReleasesAreSteps, ReservesAreSteps}
 use Rattle.gate_parts.proofs.Holders.{held_taken, no_option, same_option, taken_held}
 
@@ -50,13 +50,13 @@ module _ (entries : List (Option DirEntry)) (before after : List (Option ℕ)) (
     same_takes : (file_held before session ≢ Some n) → (file_held after session ≢ Some n) → takes_of after n ≡ takes_of before n
     same_takes was is = same_option (takes_of after n) (takes_of before n)
         (λ k taken.
-            let held : file_held after k ≡ Some n = taken_held after n k taken in
-            let apart : k ≢ session = λ same. is (ap (file_held after) (sym same) ∙ held) in
-            held_taken entries before were n k (sym (others k apart) ∙ held))
+        let held : file_held after k ≡ Some n = taken_held after n k taken in
+        let apart : k ≢ session = λ same. is (ap (file_held after) (sym same) ∙ held) in
+        held_taken entries before were n k (sym (others k apart) ∙ held))
         (λ k taken.
-            let held : file_held before k ≡ Some n = taken_held before n k taken in
-            let apart : k ≢ session = λ same. was (ap (file_held before) (sym same) ∙ held) in
-            held_taken entries after are n k (others k apart ∙ held))
+        let held : file_held before k ≡ Some n = taken_held before n k taken in
+        let apart : k ≢ session = λ same. was (ap (file_held before) (sym same) ∙ held) in
+        held_taken entries after are n k (others k apart ∙ held))
 
     -- what that session held, nobody has taken
     gone_takes : file_held before session ≡ Some n → file_held after session ≡ None → takes_of after n ≡ None
@@ -86,7 +86,7 @@ module _ (store : Store) (guess : Guess) (handed : Option Handed) (g : Sides) (d
   reserve_steps file r =
       let none : takes_of before file ≡ None = no_option (takes_of before file) (λ k taken. r.free.unheld k (taken_held before file k taken)) in
       let others : (k : ℕ) → k ≢ session → file_held after k ≡ file_held before k = λ k apart.
-          ap (λ (l : List (Option ℕ)). get_or l k None) r.is ∙ get_or-set_other before session k (Some file) None apart in
+      ap (λ (l : List (Option ℕ)). get_or l k None) r.is ∙ get_or-set_other before session k (Some file) None apart in
       let point : (n : ℕ) → takes_of after n ≡ put (takes_of before) file (Some session) n = λ n. elim (cases_eq n file) [
         | inl same ↦
             held_taken g.dir.entries after r.held n session (r.takes ∙ ap (λ (m : ℕ). Some m) (sym same))

@@ -42,7 +42,7 @@ use Rattle.store_commit.specs.declared.change.EntryChange.TheVariants.{Put, Clea
 use Rattle.gate_parts.specs.Phases.{phase_under}
 use Rattle.gate_parts.specs.Parts.{IsCardOf, gate_part, pending_of, sealed_in, takes_of}
 use Rattle.gate_parts.specs.Readings.{IsDoubtRead, IsTiedUnder}
-use Rattle.gate_parts.specs.Resting.{IsGateOf, Rests, RestingGatesHold, resting_part}
+use Rattle.gate_parts.specs.Resting.{IsGateOf, IsResting, RestingGatesHold, resting_part}
 use Rattle.gate_parts.proofs.HeldDirectories.{held_reads}
 use Rattle.gate_parts.proofs.Holders.{holder_holds}
 use Rattle.gate_parts.proofs.LandedEntries.{landed_is_known}
@@ -109,7 +109,7 @@ module _ (store : Store) (guess : Guess) (g : Sides) (doubt : Option Doubted) (h
   names_still : (root : RootRef) (counter : ℕ) → at_now.counter ≡ counter → Names (gate.told).own root counter → CardNames card root at_now.counter
   names_still root counter is names = card_names g card gate.told root at_now.counter (subst (Names (gate.told).own root) (sym is) names)
 
-  settled_rests : IsSettled g → Rests (phase_under store guess) (resting_part store guess g None holds card view)
+  settled_rests : IsSettled g → IsResting (phase_under store guess) (resting_part store guess g None holds card view)
   settled_rests settled = record {
     fact = record {
       sound = gate.sound;
@@ -156,7 +156,7 @@ module _ (store : Store) (guess : Guess) (g : Sides) (doubt : Option Doubted) (h
       taken = taken_unnamed g.dir.entries holds gate.held;
     }
 
-    rests_with : (sealed : Option RootRef) → GateSealed (phase_under store guess) (part_with (Some read.doubt) sealed) (commit_with sealed) sealed → Rests (phase_under store guess) (part_with at_now.doubt sealed)
+    rests_with : (sealed : Option RootRef) → GateSealed (phase_under store guess) (part_with (Some read.doubt) sealed) (commit_with sealed) sealed → IsResting (phase_under store guess) (part_with at_now.doubt sealed)
     rests_with sealed names = record {
       fact = subst (λ (o : Option Doubt). GateHolds (phase_under store guess) (part_with o sealed)) (sym read.is_open) (holds_with sealed names);
       at_rest = doubted_rests at_now.doubt refl read.is_open sealed;
@@ -174,12 +174,12 @@ module _ (store : Store) (guess : Guess) (g : Sides) (doubt : Option Doubted) (h
         (ne_eqb card.counter g.counter (λ same. let more : card.counter ≡ g.counter + 1 = (gate.told).same.counter ∙ names.counted in omega (arith, same, more)))
         ∙ ap (option_map (λ (next : StagedDirectory). next.root)) (of.stands).is_open
 
-    doubt_rests : Rests (phase_under store guess) (resting_part store guess g (Some d) holds card view)
+    doubt_rests : IsResting (phase_under store guess) (resting_part store guess g (Some d) holds card view)
     doubt_rests = elim ((of.stands).named (gate.told).own (gate.told).has) [
       | inl old ↦
-          subst (λ (x : Option RootRef). Rests (phase_under store guess) (part_with at_now.doubt x)) (sym (unsealed old))
+          subst (λ (x : Option RootRef). IsResting (phase_under store guess) (part_with at_now.doubt x)) (sym (unsealed old))
           (rests_with None (names_still g.dir.root g.counter tied.counted old))
-      | inr new ↦ subst (λ (x : Option RootRef). Rests (phase_under store guess) (part_with at_now.doubt x)) (sym (is_sealed new)) (rests_with (Some (of.next).root) (record {
+      | inr new ↦ subst (λ (x : Option RootRef). IsResting (phase_under store guess) (part_with at_now.doubt x)) (sym (is_sealed new)) (rests_with (Some (of.next).root) (record {
         names = names_now (of.next).root 1 g.counter tied.counted new;
         place = subst (λ (n : ℕ). index_of (change_of d.change) < n) (sym ((of.stands).entries).whole) (change_within g.dir.entries d.change of.fits);
         directory = landed_stands;

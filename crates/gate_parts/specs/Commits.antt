@@ -33,14 +33,14 @@ use Rattle.gate_parts.specs.Phases.{phase_under}
 use Rattle.gate_parts.specs.Resting.{IsGateOf, StepsTo, resting_part}
 
 -- the mark of the event that a commit leaves, by its end
-abbrev pub mark_of : CommitEnd → Mark
-mark_of (Made n) = MadeMark n
-mark_of (Dropped cause) = Unchanged
-mark_of (Doubtful n cause) = DoubtfulMark n
-mark_of Spent = Unchanged
+abbrev pub end_mark : CommitEnd → Mark
+end_mark (Made n) = MadeMark n
+end_mark (Dropped cause) = Unchanged
+end_mark (Doubtful n cause) = DoubtfulMark n
+end_mark Spent = Unchanged
 
 abbrev pub commit_event : (session number : ℕ) → Call → Reply → CommitEnd → Option (Tag Version) → HistoryRecord
-commit_event session number call reply end tag = record { event = CallEvent session number call reply (mark_of end); tag = tag }
+commit_event session number call reply end tag = record { event = CallEvent session number call reply (end_mark end); tag = tag }
 
 -- What a commit is for: the machine commits the call, and the change of the entries is the one that this makes. The slot that is handed
 -- over shows in its file what the change puts.
@@ -53,7 +53,7 @@ pub record IsForCall (store : Store) (guess : Guess) (handed : Option Handed) (g
   pub shows : HandedShows (phase_under store guess) handed (change_of change) object
 
 -- What a commit of the gate leaves.
-pub record IsCommitted (old new : Sides) (change : EntryChange) (end : CommitEnd) (before after : List (Option ℕ)) : Type 0 where
+pub record IsGateCommit (old new : Sides) (change : EntryChange) (end : CommitEnd) (before after : List (Option ℕ)) : Type 0 where
   pub leaves : Leaves old new change end
   pub throughout : Throughout old new
   pub steps : Steps old new change end
@@ -66,6 +66,6 @@ abbrev pub CommitsAreSteps : Type 0
 CommitsAreSteps =
     (store : Store) (guess : Guess) (handed : Option Handed) (old new : Sides) (change : EntryChange) (end : CommitEnd) (before after : List (Option ℕ)) (card : CardState) (view : GateView)
     (session number : ℕ) (call : Call) (reply : Reply) (tag : Option (Tag Version)) → let r = commit_event session number call reply end tag in
-    IsGateOf store old None before card → IsCommitted old new change end before after → IsForCall store guess handed old view change session call
+    IsGateOf store old None before card → IsGateCommit old new change end before after → IsForCall store guess handed old view change session call
     → (IsTrusted (phase_under store guess) 0 → IsTrue new.file.honest) → IsLegalEvent guess.dishonest (standing_at store guess view.all) r.event (file_of r)
     → StepsTo store guess handed (resting_part store guess old None before card view) new (doubt_left change end) after (with_record r view)

@@ -22,14 +22,14 @@ abbrev pub unchanged_event : (session number : ℕ) → Call → Reply → Optio
 unchanged_event session number call reply tag = record { event = CallEvent session number call reply Unchanged; tag = tag }
 
 -- while a commit is in doubt, the reply leaves it so
-abbrev pub LeavesDoubt : Option Doubted → Reply → Type 0
-LeavesDoubt None reply = Unit {0}
-LeavesDoubt (Some d) reply = keeps_doubt reply ≡ true
+abbrev pub KeepsDoubt : Option Doubted → Reply → Type 0
+KeepsDoubt None reply = Unit {0}
+KeepsDoubt (Some d) reply = keeps_doubt reply ≡ true
 
 -- It leads from one part at rest to the next.
 abbrev pub UnchangedEventsAreSteps : Type 0
 UnchangedEventsAreSteps =
     (store : Store) (guess : Guess) (handed : Option Handed) (g : Sides) (doubt : Option Doubted) (holds : List (Option ℕ)) (card : CardState) (view : GateView)
     (session number : ℕ) (call : Call) (reply : Reply) (tag : Option (Tag Version)) → let r = unchanged_event session number call reply tag in
-    IsGateOf store g doubt holds card → LeavesDoubt doubt reply → IsLegalEvent guess.dishonest (standing_at store guess view.all) r.event (file_of r)
+    IsGateOf store g doubt holds card → KeepsDoubt doubt reply → IsLegalEvent guess.dishonest (standing_at store guess view.all) r.event (file_of r)
     → StepsTo store guess handed (resting_part store guess g doubt holds card view) g doubt holds (with_record r view)

@@ -2,9 +2,12 @@ pub mod Phases
 pub mod Parts
 pub mod Readings
 pub mod Resting
-pub mod Ended
+pub mod ClosedStores
 pub mod Commits
 pub mod Resolves
 pub mod Events
 pub mod Moves
 pub mod Reserving
+pub mod CommitFacts
+pub mod Ties
+pub mod Finishing

@@ -6,26 +6,20 @@ use Rattle.store_model.specs.Doubt.{Doubt}
 use Rattle.store_model.specs.Name.{name_cmp}
 use Rattle.store_model.specs.Standing.{Standing, standing_landed}
 use Rattle.dir_records.specs.declared.entry.DirEntry.{DirEntry}
-use Rattle.history_seats.specs.Records.{Version}
 use Rattle.history_seats.specs.Mounts.{Entry}
 use Rattle.history_seats.specs.Settling.{IsOpenDoubt, as_landed}
 use Rattle.history_seats.specs.Directory.{given_version}
 use Rattle.history_seats.specs.Views.{GateView}
-use Rattle.crash_core.specs.EntryLists.{entry_at}
-use Rattle.core_parts.specs.Listed.{AreListed}
 use Rattle.suppositions.specs.Guesses.{Guess}
-use Rattle.suppositions.specs.Listings.{HaveListedVersions}
 use Rattle.suppositions.specs.Mapped.{IsInStep, Versions, landed_version}
-use Rattle.suppositions.specs.Spellings.{IsReal}
 use Rattle.suppositions.specs.Stores.{Store, entries_at, standing_at}
+use Rattle.gate_ties.specs.Matched.{AreMatched}
 use Rattle.store_commit.specs.declared.gate.Doubted.{Doubted}
 use Rattle.store_commit.specs.Changes.{entries_after}
 
--- A directory's entries are those that the history has, each with its version, and the machine's map is in step with both.
+-- A directory's entries match the history's, and the machine's map is in step with both.
 pub record IsReading (store : Store) (guess : Guess) (entries : List (Option DirEntry)) (kept : List Entry) (given : Versions) (s : Standing) : Type 0 where
-  pub listed : AreListed entries kept
-  pub versions : HaveListedVersions entries given
-  pub real : (index : ℕ) (e : DirEntry) (v : Version) → entry_at entries index ≡ Some e → given e.file e.generation ≡ Some v → IsReal store.keys v
+  pub matched : AreMatched store.keys entries kept given
   pub in_step : IsInStep store.keys guess given kept s
 
 -- The gate's doubt is the one that the replay has open, and it may still land: then the entries are those with the change.

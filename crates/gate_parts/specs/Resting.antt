@@ -38,7 +38,7 @@ pub record StepsTo (store : Store) (guess : Guess) (handed : Option Handed) (fro
   pub steps : GateSteps (phase_under store guess) handed from (resting_part store guess g doubt holds card view)
 
 -- The part has its fact, and no call is under way.
-pub record Rests (phase : Phase) (g : GatePart) : Type 0 where
+pub record IsResting (phase : Phase) (g : GatePart) : Type 0 where
   pub fact : GateHolds phase g
   pub at_rest : IsAtRest phase g
 
@@ -47,4 +47,4 @@ abbrev pub RestingGatesHold : Type 0
 RestingGatesHold =
     (store : Store) (guess : Guess) (g : Sides) (doubt : Option Doubted) (holds : List (Option ℕ)) (card : CardState) (view : GateView)
     → IsGateOf store g doubt holds card → IsTiedUnder store guess view g.dir.entries g.counter doubt → (IsTrusted (phase_under store guess) 0 → IsTrue g.file.honest)
-    → Rests (phase_under store guess) (resting_part store guess g doubt holds card view)
+    → IsResting (phase_under store guess) (resting_part store guess g doubt holds card view)

@@ -1,12 +1,20 @@
 //! Laws of the gate's part. Each function does nothing: its contract is the law.
 
+ghost use Rattle.gate_parts.specs.CommitFacts.{DirectoryRunsKeep, SealsKeep};
 ghost use Rattle.gate_parts.specs.Commits.{CommitsAreSteps};
-ghost use Rattle.gate_parts.specs.Ended.{EndedStoresMount, EndsAreSupposed, HonestStoresMount};
+ghost use Rattle.gate_parts.specs.ClosedStores.{ClosedStoresMount, DishonestFilesAreSupposed, HonestStoresMount};
 ghost use Rattle.gate_parts.specs.Events.{UnchangedEventsAreSteps};
+ghost use Rattle.gate_parts.specs.Finishing.{FinishedPhasesMount};
 ghost use Rattle.gate_parts.specs.Moves.{RestingGatesMove};
 ghost use Rattle.gate_parts.specs.Reserving.{ReleasesAreSteps, ReservesAreSteps};
 ghost use Rattle.gate_parts.specs.Resolves.{ResolvesAreSteps};
 ghost use Rattle.gate_parts.specs.Resting.{RestingGatesHold};
+ghost use Rattle.gate_parts.specs.Ties.{TiesTell};
+
+/// What ties a gate to its history, whatever the files are, ties it so under each supposition.
+pub fn ties_tell()
+    ensures { TiesTell }
+{}
 
 /// Between two calls a gate that is tied to its history is a part of the core machine, at rest.
 pub fn resting_gates_hold()
@@ -15,8 +23,8 @@ pub fn resting_gates_hold()
 
 /// Once a phase has ended, every picture of the store mounts to the map that its history leaves, or to that with the commit in doubt.
 /// Nothing is said of objects in files that are not honest, nor where the directory's file is not.
-pub fn ended_stores_mount()
-    ensures { EndedStoresMount }
+pub fn closed_stores_mount()
+    ensures { ClosedStoresMount }
 {}
 
 /// Where every file is honest, it mounts to that map itself.
@@ -24,9 +32,15 @@ pub fn honest_stores_mount()
     ensures { HonestStoresMount }
 {}
 
-/// The supposition that has exactly the files as not honest that are not, has them all.
-pub fn ends_are_supposed()
-    ensures { EndsAreSupposed }
+/// The supposition that has just those files as not honest that are not, has them all.
+pub fn dishonest_files_are_supposed()
+    ensures { DishonestFilesAreSupposed }
+{}
+
+/// A phase that finished: under a supposition that has all files as not honest that are not, every picture mounts to what the history
+/// leaves, or the promises end at a first event.
+pub fn finished_phases_mount()
+    ensures { FinishedPhasesMount }
 {}
 
 /// A commit of the gate, however it ends, is with its event a list of steps of the core machine, from one part at rest to the next.
@@ -34,7 +48,17 @@ pub fn commits_are_steps()
     ensures { CommitsAreSteps }
 {}
 
-/// So is the resolving of a doubt, whichever answer it finds.
+/// Amid a commit the calls of the directory's file keep the gate's fact, so that other parts may move between them.
+pub fn directory_runs_keep()
+    ensures { DirectoryRunsKeep }
+{}
+
+/// So does the seal.
+pub fn seals_keep()
+    ensures { SealsKeep }
+{}
+
+/// The resolving of a doubt is a list of steps from one part at rest to the next, whichever answer it finds.
 pub fn resolves_are_steps()
     ensures { ResolvesAreSteps }
 {}
@@ -54,7 +78,7 @@ pub fn releases_are_steps()
     ensures { ReleasesAreSteps }
 {}
 
-/// Such steps are a move of the gate, which keeps its fact; and moves of gate and slots in any order are one run of the core machine.
+/// Such steps are a move of the gate as `core_parts` has it, and keep its fact.
 pub fn resting_gates_move()
     ensures { RestingGatesMove }
 {}

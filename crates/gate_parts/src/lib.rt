@@ -10,7 +10,8 @@
 mod laws;
 
 pub use laws::{
-    commits_are_steps, ended_stores_mount, ends_are_supposed, honest_stores_mount,
-    releases_are_steps, reserves_are_steps, resolves_are_steps, resting_gates_hold,
-    resting_gates_move, unchanged_events_are_steps,
+    closed_stores_mount, commits_are_steps, directory_runs_keep, dishonest_files_are_supposed,
+    finished_phases_mount, honest_stores_mount, releases_are_steps, reserves_are_steps,
+    resolves_are_steps, resting_gates_hold, resting_gates_move, seals_keep, ties_tell,
+    unchanged_events_are_steps,
 };

@@ -21,8 +21,8 @@ use Rattle.suppositions.proofs.Mending.{none_some}
 use Rattle.store_commit.specs.declared.gate.Doubted.{Doubted}
 use Rattle.store_commit.specs.Sides.{Sides}
 use Rattle.gate_parts.specs.Phases.{phase_under}
-use Rattle.gate_parts.specs.Resting.{Rests, resting_part}
-use Rattle.gate_parts.specs.Ended.{EndedStoresMount, EndsAreSupposed, HasEnded, HonestStoresMount, dishonest_below, no_file, no_slot, slots_of, store_files}
+use Rattle.gate_parts.specs.Resting.{IsResting, resting_part}
+use Rattle.gate_parts.specs.ClosedStores.{ClosedStoresMount, DishonestFilesAreSupposed, IsClosedStore, HonestStoresMount, dishonest_below, no_file, no_slot, slots_of, store_files}
 use Rattle.gate_parts.proofs.RestingGates.{resting_gates_hold}
 
 -- the slot of an object file, and of another number
@@ -55,7 +55,7 @@ no_slot_holds : (store : Store) (file : ℕ) → SlotHolds store.keys (no_slot f
 no_slot_holds store file = record { sound = no_file_sound; stands = λ honest v known. absurd (nothing_known file v known) }
 
 module _ (store : Store) (guess : Guess) (g : Sides) (doubt : Option Doubted) (holds : List (Option ℕ)) (card : CardState) (view : GateView) (slots : ℕ → SlotPart)
-    (e : HasEnded store guess g doubt holds card view slots) where
+    (e : IsClosedStore store guess g doubt holds card view slots) where
   -- each file is honest that is not supposed otherwise
   files_honest : (file : ℕ) → IsTrusted (phase_under store guess) file → IsTrue (store_files g slots file).honest
   files_honest file trusted = elim (cases_lt last_file file) [
@@ -65,7 +65,7 @@ module _ (store : Store) (guess : Guess) (g : Sides) (doubt : Option Doubted) (h
     | inr within ↦ e.dishonest file (omega (arith, within)) trusted
   ]
 
-  rests : Rests (phase_under store guess) (resting_part store guess g doubt holds card view)
+  rests : IsResting (phase_under store guess) (resting_part store guess g doubt holds card view)
   rests = resting_gates_hold store guess g doubt holds card view e.gate e.tied (files_honest 0)
 
   abbrev parts : Parts
@@ -83,16 +83,16 @@ module _ (store : Store) (guess : Guess) (g : Sides) (doubt : Option Doubted) (h
     honest = files_honest;
   }
 
-  pub ended_mounts : (picture : Picture) → IsPictureOf (store_files g slots) card picture → IsTrusted (phase_under store guess) 0
+  pub closed_mounts : (picture : Picture) → IsPictureOf (store_files g slots) card picture → IsTrusted (phase_under store guess) 0
       → MountsAfter (phase_under store guess) picture (standing_at store guess view.all)
-  ended_mounts picture is trusted = finish_mounts (phase_under store guess) parts picture parts_hold rests.at_rest is trusted
+  closed_mounts picture is trusted = finish_mounts (phase_under store guess) parts picture parts_hold rests.at_rest is trusted
 
   pub honest_mounts : (picture : Picture) → IsPictureOf (store_files g slots) card picture → ((file : ℕ) → IsTrusted (phase_under store guess) file)
       → IsMapAfter (phase_under store guess) picture (standing_at store guess view.all)
   honest_mounts picture is trusted = honest_finish_mounts (phase_under store guess) parts picture parts_hold rests.at_rest is trusted
 
-pub ended_stores_mount : EndedStoresMount
-ended_stores_mount store guess g doubt holds card view slots picture e is trusted = ended_mounts store guess g doubt holds card view slots e picture is trusted
+pub closed_stores_mount : ClosedStoresMount
+closed_stores_mount store guess g doubt holds card view slots picture e is trusted = closed_mounts store guess g doubt holds card view slots e picture is trusted
 
 pub honest_stores_mount : HonestStoresMount
 honest_stores_mount store guess g doubt holds card view slots picture e is trusted = honest_mounts store guess g doubt holds card view slots e picture is trusted
@@ -117,8 +117,8 @@ below_contains files (suc last) file lt tainted = elim (cases_eq last file) [
       ]
 ]
 
-pub ends_are_supposed : EndsAreSupposed
-ends_are_supposed guess files is file within trusted = elim (cases_Bool (files file).honest) [
+pub dishonest_files_are_supposed : DishonestFilesAreSupposed
+dishonest_files_are_supposed guess files is file within trusted = elim (cases_Bool (files file).honest) [
   | inl honest ↦ honest
   | inr tainted ↦ absurd (trusted (subst (λ (l : List ℕ). Contains l file) (sym is) (below_contains files (suc last_file) file (omega (arith, within)) tainted)))
 ]

@@ -1,4 +1,4 @@
--- A store at the end of a phase: its gate, and a slot for each file of an object.
+-- A store that is closed at the end of a phase: its gate, and a slot for each file of an object.
 use Rattle.std.specs.Prelude.{◌≡◌, ◌==◌, ◌≤◌, ℕ, zero, suc, nat_lt, if◌then◌else◌, true, false, List, [], ◌∷◌, Option, None, Contains, IsTrue}
 use Rattle.disk_model.specs.Arms.{no_arms}
 use Rattle.disk_model.specs.State.{FileState}
@@ -71,8 +71,8 @@ dishonest_in files = dishonest_below files (suc last_file)
 abbrev pub SupposesDishonest : Guess → (ℕ → FileState) → Type 0
 SupposesDishonest guess files = (file : ℕ) → file ≤ last_file → (Contains guess.dishonest file → ⊥) → IsTrue (files file).honest
 
--- A store that has ended, as a supposition has it.
-pub record HasEnded (store : Store) (guess : Guess) (g : Sides) (doubt : Option Doubted) (holds : List (Option ℕ)) (card : CardState) (view : GateView) (slots : ℕ → SlotPart) : Type 0 where
+-- A closed store, as a supposition has it.
+pub record IsClosedStore (store : Store) (guess : Guess) (g : Sides) (doubt : Option Doubted) (holds : List (Option ℕ)) (card : CardState) (view : GateView) (slots : ℕ → SlotPart) : Type 0 where
   pub gate : IsGateOf store g doubt holds card
   pub tied : IsTiedUnder store guess view g.dir.entries g.counter doubt
   pub slots_hold : AreSlotsOf store view slots
@@ -80,19 +80,19 @@ pub record HasEnded (store : Store) (guess : Guess) (g : Sides) (doubt : Option 
 
 -- Every picture of its files and its card mounts to the map that the history leaves under the supposition, or to that with the commit in
 -- doubt; nothing is said of the objects in files that are not honest, nor where the directory's file is not.
-abbrev pub EndedStoresMount : Type 0
-EndedStoresMount =
+abbrev pub ClosedStoresMount : Type 0
+ClosedStoresMount =
     (store : Store) (guess : Guess) (g : Sides) (doubt : Option Doubted) (holds : List (Option ℕ)) (card : CardState) (view : GateView) (slots : ℕ → SlotPart) (picture : Picture)
-    → HasEnded store guess g doubt holds card view slots → IsPictureOf (store_files g slots) card picture → IsTrusted (phase_under store guess) 0
+    → IsClosedStore store guess g doubt holds card view slots → IsPictureOf (store_files g slots) card picture → IsTrusted (phase_under store guess) 0
     → MountsAfter (phase_under store guess) picture (standing_at store guess view.all)
 
 -- Where every file is honest, it mounts to that map itself.
 abbrev pub HonestStoresMount : Type 0
 HonestStoresMount =
     (store : Store) (guess : Guess) (g : Sides) (doubt : Option Doubted) (holds : List (Option ℕ)) (card : CardState) (view : GateView) (slots : ℕ → SlotPart) (picture : Picture)
-    → HasEnded store guess g doubt holds card view slots → IsPictureOf (store_files g slots) card picture → ((file : ℕ) → IsTrusted (phase_under store guess) file)
+    → IsClosedStore store guess g doubt holds card view slots → IsPictureOf (store_files g slots) card picture → ((file : ℕ) → IsTrusted (phase_under store guess) file)
     → IsMapAfter (phase_under store guess) picture (standing_at store guess view.all)
 
 -- A supposition by which exactly the files are not honest that are not has them all.
-abbrev pub EndsAreSupposed : Type 0
-EndsAreSupposed = (guess : Guess) (files : ℕ → FileState) → guess.dishonest ≡ dishonest_in files → SupposesDishonest guess files
+abbrev pub DishonestFilesAreSupposed : Type 0
+DishonestFilesAreSupposed = (guess : Guess) (files : ℕ → FileState) → guess.dishonest ≡ dishonest_in files → SupposesDishonest guess files
