@@ -151,20 +151,21 @@ module _ (s : MachineState) (i : ℕ) (caller : Session) (is : session_at s i �
     sought : by_handle s (handle_at (session_at s i) number) (seeking (session_at s i)) ≡ seek_to target (int_lt (pos greatest_position) target)
     sought = ap (λ (x : Session). by_handle s (handle_at x number) (seeking x)) is ∙ ap (λ (h : Option Handle). by_handle s h (seeking caller)) live ∙ sought_by
 
-    pub seek_far : int_lt (pos greatest_position) target ≡ true → IsTold s i (Seek number offset whence) (Refused Overflow) caller
+    pub seek_far : (place : ℤ) → place ≡ offset → int_lt (pos greatest_position) (pos base +ℤ place) ≡ true → IsTold s i (Seek number offset whence) (Refused Overflow) caller
     unfolding seek_of
-    seek_far far = record {
-      outcome = sought ∙ ap (seek_to target) far ∙ refused_told s i caller (Refused Overflow) is;
+    seek_far place here far = record {
+      outcome = sought ∙ ap (seek_to target) (ap (λ (n : ℤ). int_lt (pos greatest_position) (pos base +ℤ n)) (sym here) ∙ far) ∙ refused_told s i caller (Refused Overflow) is;
       no_commit = refl;
       no_file = refl;
     }
 
-    pub seek_done : int_lt (pos greatest_position) target ≡ false → (position : ℕ) → position ≡ at_least_zero target
+    pub seek_done : (place : ℤ) → place ≡ offset → int_lt (pos greatest_position) (pos base +ℤ place) ≡ false → (position : ℕ) → position ≡ at_least_zero (pos base +ℤ place)
         → (new : Session) → new ≡ with_handle caller number (record h { position = position }) → IsTold s i (Seek number offset whence) Done new
     unfolding seek_of
-    seek_done near position at new left = record {
-      outcome = sought ∙ ap (seek_to target) near
-          ∙ ap (told s i Done) (ap (λ (p : ℕ). with_handle caller number (record h { position = p })) (sym at) ∙ sym left);
+    seek_done place here near position at new left = record {
+      outcome = sought ∙ ap (seek_to target) (ap (λ (n : ℤ). int_lt (pos greatest_position) (pos base +ℤ n)) (sym here) ∙ near)
+          ∙ ap (told s i Done)
+              (ap (λ (p : ℕ). with_handle caller number (record h { position = p })) (sym (at ∙ ap (λ (n : ℤ). at_least_zero (pos base +ℤ n)) here)) ∙ sym left);
       no_commit = refl;
       no_file = refl;
     }

@@ -9,3 +9,4 @@ pub mod ByHandle
 pub mod DataCalls
 pub mod Decisions
 pub mod Names
+pub mod Enumerators

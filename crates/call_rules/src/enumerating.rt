@@ -19,8 +19,8 @@ pub fn enum_new(session: &mut Session) -> Result<Reply, NoMemory>
 {
     match session.add_enumerator() {
         Ok(number) => Ok(Reply::Handle(number)),
-        Err(EnumFault::NoMemory) => Err(NoMemory {}),
-        Err(_) => Ok(Reply::Misuse(Reason::TooMany)),
+        Err(EnumFault::TooMany) => Ok(Reply::Misuse(Reason::TooMany)),
+        Err(_) => Err(NoMemory {}),
     }
 }
 
