@@ -2,7 +2,7 @@
 use Rattle.std.proofs.Common.{◌≡◌, ℕ, Bool, true, false, true≢false, cond, List, [], ◌∷◌, is_some, Option, Some, None, refl, sym, ap, ◌∙◌, is_eq, option_map}
 use Rattle.std.specs.declared.cmp.Ordering.{Ordering}
 use Rattle.std.specs.declared.cmp.Ordering.TheVariants.{Less, Equal, Greater}
-use Rattle.std.specs.List.{find}
+use Rattle.std.specs.List.{find, list_any}
 use Rattle.std.specs.List.Sorted.{IsStrictlySortedBy}
 use Rattle.std.specs.Map.{keys_of}
 use Rattle.std.specs.Ordering.{is_le, ordering_reverse, ordering_then}
@@ -12,7 +12,7 @@ use Rattle.tee_types.specs.Identifier.{bytes_cmp}
 use Rattle.store_model.specs.declared.name.ObjectName.{ObjectName}
 use Rattle.store_model.specs.Name.{name_cmp}
 use Rattle.store_model.specs.Object.{Object, ObjectMap, object_at}
-use Rattle.store_model.specs.Enumerating.{next_object, shown}
+use Rattle.store_model.specs.Enumerating.{is_of, next_object, shown}
 use Rattle.store_model.proofs.Enumerations.{list_any-find}
 use Rattle.store_model.proofs.Maps.{IsBelow, at, name_cmp_total}
 use Rattle.dir_records.specs.declared.entry.DirEntry.{DirEntry}
@@ -22,7 +22,7 @@ use Rattle.crash_core.specs.EntryLists.{entry_at}
 use Rattle.crash_core.proofs.EntryMaps.{self}
 use Rattle.crash_core.proofs.Names.{alike_is}
 use Rattle.machine_shape.specs.Shapes.{HasShape}
-use Rattle.machine_shape.specs.NextLaws.{ApplicationsHaveEntries, ApplicationsHaveNone, LeastEntriesAreNext, NoEntryIsNext, cursor_after}
+use Rattle.machine_shape.specs.LookLaws.{cursor_after}
 use Rattle.machine_shape.proofs.ShownNames.{entry_of_object}
 
 abbrev Entry : Type 0
@@ -128,7 +128,11 @@ not_true : (b : Bool) → (b ≡ true → ⊥) → b ≡ false
 not_true true h = absurd (h refl)
 not_true false h = refl
 
-pub least_next : LeastEntriesAreNext
+-- the least entry above is the next object
+pub least_next : (entries : List (Option DirEntry)) (objects : ObjectMap) (app : List ℕ) (after : Option (List ℕ)) (index : ℕ) (e : DirEntry)
+    → HasShape entries objects → entry_at entries index ≡ Some e → is_above app after (name_of e) ≡ true
+    → ((i : ℕ) (f : DirEntry) → entry_at entries i ≡ Some f → is_above app after (name_of f) ≡ true → is_le (bytes_cmp e.id f.id) ≡ true)
+    → option_map shown (next_object objects app (cursor_after after)) ≡ Some (e.id, e.size)
 least_next entries objects app after index e shape stood above least =
     let held = shape.each index e stood in
     let fails : (x : Entry) → object_at objects x.0 ≡ Some x.1 → name_cmp x.0 (name_of e) ≡ Less → is_above app after x.0 ≡ false =
@@ -148,14 +152,20 @@ none_passes entries objects app after shape none =
     let listed = entry_of_object entries objects x.0 x.1 shape stands in
     none listed.0 (listed.1).entry (listed.1).at (ap (is_above app after) (listed.1).named ∙ passes)))
 
-pub none_next : NoEntryIsNext
+-- where none is above there is none
+pub none_next : (entries : List (Option DirEntry)) (objects : ObjectMap) (app : List ℕ) (after : Option (List ℕ)) → HasShape entries objects
+    → ((i : ℕ) (f : DirEntry) → entry_at entries i ≡ Some f → is_above app after (name_of f) ≡ true → ⊥)
+    → next_object objects app (cursor_after after) ≡ None
 none_next entries objects app after shape none = next_found objects app after ∙ none_passes entries objects app after shape none
 
-pub application_there : ApplicationsHaveEntries
+-- an application with an entry has an object, and one without has none
+pub application_there : (entries : List (Option DirEntry)) (objects : ObjectMap) (app : List ℕ) (index : ℕ) (e : DirEntry) → HasShape entries objects
+    → entry_at entries index ≡ Some e → is_above app None (name_of e) ≡ true → list_any (is_of app) objects ≡ true
 application_there entries objects app index e shape stood above =
     let held = shape.each index e stood in
     list_any-find (is_entry_above app None) objects ∙ find_some (is_entry_above app None) (name_of e) held.0 above objects held.1
 
-pub application_none : ApplicationsHaveNone
+pub application_none : (entries : List (Option DirEntry)) (objects : ObjectMap) (app : List ℕ) → HasShape entries objects
+    → ((i : ℕ) (f : DirEntry) → entry_at entries i ≡ Some f → is_above app None (name_of f) ≡ true → ⊥) → list_any (is_of app) objects ≡ false
 application_none entries objects app shape none =
     list_any-find (is_entry_above app None) objects ∙ ap is_some (none_passes entries objects app None shape none)

@@ -1,8 +1,11 @@
 pub mod Shapes
 pub mod MappedLaws
 pub mod ShapeLaws
-pub mod RoomLaws
-pub mod NextLaws
+pub mod LookLaws
 pub mod ChangeLaws
+pub mod Numbers
 pub mod OpenHandles
 pub mod WellOpened
+pub mod HandleLaws
+pub mod SharingLaws
+pub mod OpenLaws

@@ -1,11 +1,13 @@
 -- The open handles of all sessions beside the table of them.
 use Rattle.std.specs.Prelude.{◌≡◌, ℕ, ◌<◌, List, [], length, Option, Some, slice_index_or}
+use Rattle.enumerators.specs.Places.{IsNumbered}
 use Rattle.dir_records.specs.declared.entry.DirEntry.{DirEntry}
 use Rattle.open_table.specs.declared.table.OpenRecord.{OpenRecord}
 use Rattle.open_table.specs.Table.{TableState, record_at}
 use Rattle.store_model.specs.declared.session.Handle.{Handle}
 use Rattle.store_model.specs.Machine.{Session, handle_at, new_session}
 use Rattle.crash_core.specs.EntryChanges.{IsEntryOf}
+use Rattle.machine_shape.specs.Numbers.{HasNumbers}
 
 -- The record is that of the session's live handle of that number: it has its rights, and the file of its object's entry.
 pub record IsRecordOf (entries : List (Option DirEntry)) (i number : ℕ) (h : Handle) (r : OpenRecord) : Type 0 where
@@ -25,3 +27,7 @@ pub record AreOpen (entries : List (Option DirEntry)) (table : TableState) (sess
       × ((h : Handle) × (handle_at (slice_index_or sessions r.session (new_session [])) r.handle ≡ Some h) × IsRecordOf entries r.session r.handle h r)
   pub single : (a b : ℕ) (r q : OpenRecord) → record_at table a ≡ Some r → record_at table b ≡ Some q → r.session ≡ q.session → r.handle ≡ q.handle
       → a ≡ b
+  -- the keys of the records rise, each below the bound, and so do the numbers of each session's handles
+  pub bound : ℕ
+  pub keyed : IsNumbered 0 table.records bound
+  pub numbered : (i : ℕ) → HasNumbers (slice_index_or sessions i (new_session []))

@@ -6,9 +6,14 @@
 
 mod laws;
 
-pub use laws::shapes::{
-    applications_have_entries, applications_have_none, changes_keep_shape, free_entries_give_room,
-    full_directories_lack_room, held_names_are_listed, landed_entries_have_shape,
-    least_entries_are_next, listed_names_are_held, mapped_entries_have_shape, no_entry_is_next,
-    objects_are_entries, objects_fit_entries, unlisted_names_are_free,
+pub use laws::handles::{
+    answered_handles_are_well_opened, calls_keep_well_opened, landings_keep_well_opened,
+    legal_doubts_are_due, openings_are_well_opened, replays_keep_well_opened,
 };
+pub use laws::opens::{drops_take_one_record, undone_calls_keep_open};
+pub use laws::shapes::{
+    applications_are_listed, changes_keep_shape, free_places_are_room, held_names_are_listed,
+    landed_entries_have_shape, mapped_entries_have_shape, named_entries_are_objects,
+    next_entries_are_next_objects, objects_are_entries, objects_fit_entries,
+};
+pub use laws::sharing::{files_allow_as_names, files_are_open_as_names};

@@ -1,0 +1,131 @@
+-- Along a history the machine's handles stay well opened.
+use Rattle.std.proofs.Common.{◌≡◌, ◌⊎◌, ℕ, Bool, true, false, true≢false, List, [], ◌∷◌, ◌++◌, map, slice_index_or, zero, suc, Option, Some, None, inl, inr, refl, sym, ap, ◌∙◌, subst, append_assoc, arith}
+use Rattle.tee_types.specs.declared.call.Call.{Call}
+use Rattle.tee_types.specs.declared.reply.Reply.{Reply}
+use Rattle.tee_types.specs.declared.reply.Reply.TheVariants.{Misuse, Corrupt, NotAvailable, CounterSpent}
+use Rattle.store_model.specs.declared.event.Event.{Event}
+use Rattle.store_model.specs.declared.event.Event.TheVariants.{Call as CallEvent, Landed}
+use Rattle.store_model.specs.declared.event.Mark.{Mark}
+use Rattle.store_model.specs.declared.event.Mark.TheVariants.{Unchanged, Made, Doubtful}
+use Rattle.store_model.specs.declared.session.Handle.{Handle}
+use Rattle.store_model.specs.Machine.{MachineState, Session, handle_at, new_session, session_at}
+use Rattle.store_model.specs.Calls.{state_after}
+use Rattle.store_model.specs.Doubt.{Doubt}
+use Rattle.store_model.specs.Legal.{IsLegalAnswer, IsLegalEvent, IsLegalFrom, is_commit_due, mark_of}
+use Rattle.store_model.specs.Legal.IsLegalAnswer.{Answered, Unavailable, Doubted, FoundCorrupt, Spent}
+use Rattle.store_model.specs.Record.{Record, file_of}
+use Rattle.store_model.specs.Standing.{PhaseOpening, Standing, is_undone, keeps_doubt, opening, replay, standing_after, standing_after_call, standing_landed}
+use Rattle.history_seats.specs.Records.{HistoryRecord}
+use Rattle.suppositions.specs.Guesses.{Guess}
+use Rattle.suppositions.specs.Stores.{Store, phase_of, standing_at, start_under}
+use Rattle.suppositions.specs.Answered.{AreAnswered, IsAnsweredAt}
+use Rattle.suppositions.proofs.Answers.{standing-snoc}
+use Rattle.machine_shape.specs.Numbers.{HasNumbers}
+use Rattle.machine_shape.specs.WellOpened.{WellOpened}
+use Rattle.machine_shape.specs.HandleLaws.{AreDoubtsDue, IsDoubtDue, IsDue, IsWellStanding}
+use Rattle.machine_shape.proofs.CallHandles.{well_opened-after}
+use Rattle.machine_shape.proofs.LandedHandles.{well_opened-landed}
+
+-- sessions that begin have no handles
+begun : (applications : List (List ℕ)) (i : ℕ) → (application : List ℕ) × (slice_index_or (map new_session applications) i (new_session []) ≡ new_session application)
+begun [] i = ([], refl)
+begun (a ∷ applications) zero = (a, refl)
+begun (a ∷ applications) (suc i) = begun applications i
+
+pub well_opened-opening : (phase : PhaseOpening) → WellOpened (opening phase).state
+well_opened-opening phase = record {
+  numbered = λ i. subst HasNumbers (sym (begun phase.applications i).1) (omega arith);
+  sound = λ i number h live. absurd (none i number h live);
+  compatible = λ i j number other h g live. absurd (none i number h live);
+}
+  where
+    none : (i number : ℕ) (h : Handle) → handle_at (session_at (opening phase).state i) number ≡ Some h → ⊥
+    none i number h live =
+        let gone : None ≡ Some h = ap (λ (y : Session). handle_at y number) (sym (begun phase.applications i).1) ∙ live in
+        cc (gone)
+
+pub well_standing-opening : (phase : PhaseOpening) → IsWellStanding (opening phase)
+well_standing-opening phase = record { opened = well_opened-opening phase; due = λ doubt is. absurd (cc (is)) }
+
+undone-kept : (reply : Reply) → keeps_doubt reply ≡ true → is_undone reply ≡ true
+undone-kept (Misuse reason) keeps = refl
+undone-kept Corrupt keeps = refl
+undone-kept (NotAvailable cause) keeps = refl
+undone-kept (CounterSpent counter) keeps = refl
+undone-kept reply keeps = absurd (true≢false (sym keeps))
+
+module _ (s : Standing) (well : IsWellStanding s) where
+  unchanged : (session : ℕ) (call : Call) (keeps undone : Bool) → (keeps ≡ true → undone ≡ true)
+      → IsWellStanding (record s {
+        state = elim undone as (λ _. MachineState) [ true ↦ s.state | false ↦ state_after s.state session call ];
+        doubt = elim keeps as (λ _. Option Doubt) [ true ↦ s.doubt | false ↦ None ];
+      })
+  unchanged session call true true h = record { opened = well.opened; due = well.due }
+  unchanged session call true false h = absurd (true≢false (sym (h refl)))
+  unchanged session call false true h = record { opened = well.opened; due = λ doubt is. absurd (cc (is)) }
+  unchanged session call false false h = record { opened = well_opened-after s.state well.opened session call; due = λ doubt is. absurd (cc (is)) }
+
+  by_mark : (session number : ℕ) (call : Call) (reply : Reply) (mark : Mark) (file : Option ℕ) → IsDoubtDue s (CallEvent session number call reply mark)
+      → IsWellStanding (standing_after_call s session call reply mark file)
+  by_mark session number call reply Unchanged file due = unchanged session call (keeps_doubt reply) (is_undone reply) (undone-kept reply)
+  by_mark session number call reply (Made commit) file due =
+      record { opened = well_opened-after s.state well.opened session call; due = λ doubt is. absurd (cc (is)) }
+  by_mark session number call reply (Doubtful commit) file due = record {
+    opened = well.opened;
+    due = λ doubt is. (let same : record { commit = commit; session = session; call = call; file = file } ≡ doubt = cc (is) in subst (IsDue s.state) same due);
+  }
+
+  landed : (o : Option Doubt) → s.doubt ≡ o → IsWellStanding (standing_landed s o)
+  landed None is = well
+  landed (Some doubt) is = record { opened = well_opened-landed s.state doubt (well.due doubt is) well.opened; due = λ d none. absurd (cc (none)) }
+
+  pub well_standing-after : (event : Event) (file : Option ℕ) → IsDoubtDue s event → IsWellStanding (standing_after s event file)
+  well_standing-after (CallEvent session number call reply mark) file due = by_mark session number call reply mark file due
+  well_standing-after (Landed commit) file due = landed s.doubt refl
+
+pub well_standing-replay : {Root : Type 0} (s : Standing) (records : List (Record Root)) → AreDoubtsDue s records → IsWellStanding s → IsWellStanding (replay s records)
+well_standing-replay s [] due well = well
+well_standing-replay s (r ∷ records) due well =
+    well_standing-replay (standing_after s r.event (file_of r)) records due.1 (well_standing-after s well r.event (file_of r) due.0)
+
+unmarked : (counter commit : ℕ) (b : Bool) → Doubtful commit ≡ mark_of counter b → ⊥
+unmarked counter commit true is = cc (is)
+unmarked counter commit false is = cc (is)
+
+legal_answer : (dishonest : List ℕ) (s : Standing) (session : ℕ) (call : Call) (reply : Reply) (commit : ℕ) (file : Option ℕ)
+    → IsLegalAnswer dishonest s session call reply (Doubtful commit) file → is_commit_due s session call ≡ true
+legal_answer dishonest s session call reply commit file (Answered answered) = absurd (unmarked s.counter commit (is_commit_due s session call) answered.marked)
+legal_answer dishonest s session call reply commit file (Unavailable unavailable) = absurd (cc (unavailable.marked))
+legal_answer dishonest s session call reply commit file (Doubted doubted) = doubted.due
+legal_answer dishonest s session call reply commit file (FoundCorrupt corrupt) = absurd (cc (corrupt.marked))
+legal_answer dishonest s session call reply commit file (Spent spent) = absurd (cc (spent.marked))
+
+legal_event : (dishonest : List ℕ) (s : Standing) (event : Event) (file : Option ℕ) → IsLegalEvent dishonest s event file → IsDoubtDue s event
+legal_event dishonest s (CallEvent session number call reply Unchanged) file legal = tt
+legal_event dishonest s (CallEvent session number call reply (Made commit)) file legal = tt
+legal_event dishonest s (CallEvent session number call reply (Doubtful commit)) file legal = legal_answer dishonest s session call reply commit file legal.answer
+legal_event dishonest s (Landed commit) file legal = tt
+
+pub legal_doubts : {Root : Type 0} (dishonest : List ℕ) (s : Standing) (records : List (Record Root)) → IsLegalFrom dishonest s records → AreDoubtsDue s records
+legal_doubts dishonest s [] legal = tt
+legal_doubts dishonest s (r ∷ records) legal =
+    (legal_event dishonest s r.event (file_of r) legal.0, legal_doubts dishonest (standing_after s r.event (file_of r)) records legal.1)
+
+module _ (store : Store) (guess : Guess) where
+  answered_event : (before : List HistoryRecord) (r : HistoryRecord) → IsAnsweredAt store guess before r → IsDoubtDue (standing_at store guess before) r.event
+  answered_event before r (inl legal) = legal_event guess.dishonest (standing_at store guess before) r.event (file_of r) legal.legal
+  answered_event before r (inr clash) =
+      let given = clash.told.given in
+      subst (IsDoubtDue (standing_at store guess before)) (sym (given.is ∙ ap (λ (m : Mark). CallEvent given.session given.number given.call given.reply m) clash.told.unchanged)) tt
+
+  answered_doubts : (front rest : List HistoryRecord) → AreAnswered store guess (front ++ rest) → AreDoubtsDue (standing_at store guess front) rest
+  answered_doubts front [] answered = tt
+  answered_doubts front (r ∷ rest) answered = (
+    answered_event front r (answered front r rest refl),
+    subst (λ (s : Standing). AreDoubtsDue s rest) (standing-snoc store guess front r)
+        (answered_doubts (front ++ r ∷ []) rest (subst (AreAnswered store guess) (sym (append_assoc front (r ∷ []) rest)) answered)),
+  )
+
+  pub well_standing-answered : (records : List HistoryRecord) → AreAnswered store guess records → IsWellStanding (standing_at store guess records)
+  well_standing-answered records answered =
+      well_standing-replay (start_under store guess) records (answered_doubts [] records answered) (well_standing-opening _)
