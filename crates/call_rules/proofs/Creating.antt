@@ -59,7 +59,7 @@ module _ (entries : List (Option DirEntry)) (table : TableState) (caller : Sessi
       ∙ ap (λ (b : Bool). create_rows flags (has_all_handles caller) (length attributes) b (holds s.objects name && list_any (has_open name) s.sessions) ++ room_row bytes (lacks_room s.objects name))
           (held_is entries s.objects m.shaped name found found_in)
       ∙ ap (λ (b : Bool). create_rows flags (has_all_handles caller) (length attributes) (is_some found) b ++ room_row bytes (lacks_room s.objects name))
-          (busy_is entries table caller s i m name found found_in)
+          (busy_is entries table caller s i are m name found found_in)
 
   abbrev early : List (Bool × Reply)
   early = create_rows flags (has_all_handles caller) (length attributes) (is_some found) (is_busy table found)

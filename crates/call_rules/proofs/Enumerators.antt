@@ -15,9 +15,8 @@ use Rattle.store_model.specs.Object.{ObjectMap}
 use Rattle.store_model.specs.Machine.{Session, MachineState, Outcome, session_at, with_session, unless_refused}
 use Rattle.store_model.specs.Enumerating.{is_of, shown, next_object, with_enumerators, by_cursor, enum_new_of, enum_start_of, enum_gives, enum_next_of, enum_reset_of, enum_free_of}
 use Rattle.dir_records.specs.declared.entry.DirEntry.{DirEntry}
-use Rattle.store_commit.specs.NameIndex.{IsNextAbove}
 use Rattle.machine_shape.specs.Shapes.{HasShape}
-use Rattle.machine_shape.proofs.NextObjects.{least_next, none_next, application_there, application_none}
+use Rattle.machine_shape.proofs.LookedUp.{next_objects}
 use Rattle.call_rules.specs.Nexts.{IsNextBy}
 use Rattle.call_rules.specs.Told.{IsTold, told}
 use Rattle.call_rules.proofs.Refusals.{refused_told}
@@ -26,22 +25,12 @@ use Rattle.call_rules.proofs.Refusals.{refused_told}
 abbrev pub shown_entry : DirEntry → List ℕ × ℕ
 shown_entry e = (e.id, e.size)
 
-module _ (entries : List (Option DirEntry)) (objects : ObjectMap) (shape : HasShape entries objects) (app : List ℕ) where
-  -- the next object is that of the next entry
-  pub next_is : (cursor : Cursor) (next : Option DirEntry) → IsNextBy entries app cursor next
-      → option_map shown (next_object objects app cursor) ≡ option_map shown_entry next
-  next_is Idle next is = sym (ap (option_map shown_entry) is)
-  next_is First None none = ap (option_map shown) (none_next entries objects app None shape none)
-  next_is First (Some e) is = least_next entries objects app None is.index e shape is.at is.above is.least
-  next_is (After id) None none = ap (option_map shown) (none_next entries objects app (Some id) shape none)
-  next_is (After id) (Some e) is = least_next entries objects app (Some id) is.index e shape is.at is.above is.least
-
-  -- the application has an object where it has an entry
-  pub any_is : (e : DirEntry) → IsNextAbove entries app None (Some e) → list_any (is_of app) objects ≡ true
-  any_is e is = application_there entries objects app is.index e shape is.at is.above
-
-  pub any_none : IsNextAbove entries app None None → list_any (is_of app) objects ≡ false
-  any_none none = application_none entries objects app shape none
+-- the next object is that of the next entry
+pub next_is : (entries : List (Option DirEntry)) (objects : ObjectMap) → HasShape entries objects → (app : List ℕ) (cursor : Cursor) (next : Option DirEntry)
+    → IsNextBy entries app cursor next → option_map shown (next_object objects app cursor) ≡ option_map shown_entry next
+next_is entries objects shape app Idle next is = sym (ap (option_map shown_entry) is)
+next_is entries objects shape app First next is = next_objects entries objects app None next shape is
+next_is entries objects shape app (After id) next is = next_objects entries objects app (Some id) next shape is
 
 pub full_of : (b : Bool) → AllGiven ≡ cond b AllGiven NoRoom → b ≡ true
 full_of true h = refl

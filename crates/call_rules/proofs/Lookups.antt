@@ -6,7 +6,7 @@ use Rattle.dir_records.specs.declared.entry.DirEntry.{DirEntry}
 use Rattle.store_commit.specs.declared.look.Held.{Held}
 use Rattle.store_commit.specs.NameIndex.{IsEntryNamed}
 use Rattle.machine_shape.specs.Shapes.{HasShape}
-use Rattle.machine_shape.proofs.ShownNames.{unlisted_free}
+use Rattle.machine_shape.proofs.LookedUp.{named_objects}
 use Rattle.call_rules.specs.Objects.{HasObject}
 
 module _ (entries : List (Option DirEntry)) (objects : ObjectMap) (shape : HasShape entries objects) (name : ObjectName) where
@@ -21,5 +21,4 @@ module _ (entries : List (Option DirEntry)) (objects : ObjectMap) (shape : HasSh
 
   -- a name is held exactly where an entry has it
   pub held_is : (found : Option Held) → IsEntryNamed entries name found → holds objects name ≡ is_some found
-  held_is (Some held) is = ap is_some (entry_object held is).at
-  held_is None none = ap is_some (unlisted_free entries objects name shape none)
+  held_is found is = (named_objects entries objects name found shape is).0

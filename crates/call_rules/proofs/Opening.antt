@@ -13,6 +13,7 @@ use Rattle.store_model.specs.Handles.{allows_open, open_refusals, open_of, open_
 use Rattle.dir_index.specs.Index.{named}
 use Rattle.dir_records.specs.declared.entry.DirEntry.{DirEntry}
 use Rattle.open_table.specs.Table.{TableState, allows_on_file}
+use Rattle.crash_core.specs.DirectoryLaws.{AreEntries}
 use Rattle.store_commit.specs.declared.look.Held.{Held}
 use Rattle.store_commit.specs.NameIndex.{IsEntryNamed}
 use Rattle.call_rules.specs.Matches.{Matches}
@@ -60,12 +61,12 @@ module _ (entries : List (Option DirEntry)) (table : TableState) (caller : Sessi
           (held_is entries s.objects m.shaped name None (found_in None none)))
       refl
 
-  module _ (passed : first_refusal early ≡ None) (held : Held) (is : IsEntryNamed entries (named caller.application id) (Some held)) (allowed : Bool)
+  module _ (are : AreEntries entries) (passed : first_refusal early ≡ None) (held : Held) (is : IsEntryNamed entries (named caller.application id) (Some held)) (allowed : Bool)
       (tells : allowed ≡ allows_on_file table (held.entry).file flags) where
     open_found : first_refusal (open_refusals s i name flags) ≡ first_refusal (late_rows true allowed damaged)
     open_found = open_late passed
         ∙ ap (λ (b : Bool). first_refusal (late_rows b (list_all (allows_open name flags) s.sessions) damaged)) (held_is entries s.objects m.shaped name (Some held) (found_in (Some held) is))
-        ∙ ap (λ (b : Bool). first_refusal (late_rows true b damaged)) (allowed_is entries table caller s i m name held flags (found_in (Some held) is) ∙ sym tells)
+        ∙ ap (λ (b : Bool). first_refusal (late_rows true b damaged)) (allowed_is entries table caller s i are m name held flags (found_in (Some held) is) ∙ sym tells)
 
     pub open_conflict : allowed ≡ false → IsTold s i (Open id flags) (Refused AccessConflict) caller
     open_conflict refuses = open_told s i caller m.session id flags (Refused AccessConflict)

@@ -1,6 +1,6 @@
 -- Where there is no room for one more object.
 use Rattle.std.specs.Prelude.{nat_le}
-use Rattle.std.proofs.Common.{◌≡◌, ◌∙◌, ◌<◌, ◌&&◌, ℕ, Bool, not, List, length, Option, Some, None, is_none, sym, ap, arith, subst}
+use Rattle.std.proofs.Common.{◌≡◌, ◌∙◌, ◌<◌, ◌&&◌, ℕ, Bool, not, List, length, Option, Some, None, is_none, refl, sym, ap, arith, subst}
 use Rattle.std.specs.Option.{option_map}
 use Rattle.store_model.specs.declared.name.ObjectName.{ObjectName}
 use Rattle.store_model.specs.Object.{ObjectMap, holds}
@@ -10,7 +10,7 @@ use Rattle.crash_core.specs.DirectoryLaws.{AreEntries}
 use Rattle.store_commit.specs.declared.look.Held.{Held}
 use Rattle.store_commit.specs.NameIndex.{IsEntryNamed, IsFirstFree}
 use Rattle.machine_shape.specs.Shapes.{HasShape}
-use Rattle.machine_shape.proofs.Rooms.{free_room, full_room}
+use Rattle.machine_shape.proofs.LookedUp.{free_places}
 use Rattle.call_rules.specs.declared.decision.NewPlace.{NewPlace}
 use Rattle.call_rules.specs.declared.decision.NewPlace.TheVariants.{Replaces, Adds}
 use Rattle.call_rules.specs.Rows.{IsPlaceAfter}
@@ -20,21 +20,18 @@ use Rattle.call_rules.proofs.Lookups.{held_is}
 unwrapped : (a b : NewPlace) → Some a ≡ Some b → a ≡ b
 unwrapped a b h = cc
 
-module _ (entries : List (Option DirEntry)) (objects : ObjectMap) (shape : HasShape entries objects) (are : AreEntries entries) (name : ObjectName) where
-  -- a name that no entry has lacks room where no entry is free
-  crowded : (free : Option ℕ) → IsFirstFree entries free → IsEntryNamed entries name None → (place : Option NewPlace) → place ≡ option_map Adds free
-      → lacks_room objects name ≡ is_none place
-  crowded (Some index) free none place is =
-      free_room entries objects name index are.whole are.distinct shape (omega (arith, free.0, are.whole)) free.1 ∙ sym (ap is_none is)
-  crowded None free none place is =
-      full_room entries objects name are.whole are.distinct shape (λ k low. free k (omega (arith, low, are.whole)))
-      ∙ ap not (held_is entries objects shape name None none) ∙ sym (ap is_none is)
+same_lack : (free : Option ℕ) → is_none free ≡ is_none (option_map Adds free)
+same_lack (Some index) = refl
+same_lack None = refl
 
+module _ (entries : List (Option DirEntry)) (objects : ObjectMap) (shape : HasShape entries objects) (are : AreEntries entries) (name : ObjectName) where
   -- There is no room exactly where there is no place.
   pub lacks_is : (found : Option Held) (place : Option NewPlace) → IsEntryNamed entries name found → IsPlaceAfter entries found place → lacks_room objects name ≡ is_none place
   lacks_is (Some held) place is after =
       ap (λ (b : Bool). not b && nat_le 256 (length objects)) (held_is entries objects shape name (Some held) is) ∙ sym (ap is_none after)
-  lacks_is None place none after = crowded after.0 after.1 none place after.2
+  lacks_is None place none after =
+      free_places entries objects name after.0 are.whole are.distinct shape after.1
+      ∙ ap (λ (b : Bool). not b && is_none after.0) (held_is entries objects shape name None none) ∙ same_lack after.0 ∙ sym (ap is_none after.2)
 
 module _ (entries : List (Option DirEntry)) (name : ObjectName) where
   free_new : (free : Option ℕ) (place : NewPlace) → IsEntryNamed entries name None → IsFirstFree entries free → Some place ≡ option_map Adds free → IsNewPlace entries name place
