@@ -1,11 +1,11 @@
 -- Calls by a handle that are refused before anything is done.
-use Rattle.std.proofs.Common.{◌≡◌, ◌∙◌, ◌||◌, not, ℕ, Bool, true, false, List, [], ◌∷◌, length, cond, slice_index_or, Option, Some, None, refl, sym, ap, subst}
+use Rattle.std.proofs.Common.{◌≡◌, ◌∙◌, ℕ, Bool, true, false, List, cond, Option, Some, None, refl, ap}
 use Rattle.tee_types.specs.Rights.{has}
 use Rattle.tee_types.specs.declared.reply.Reply.{Reply}
 use Rattle.tee_types.specs.declared.reply.Reply.TheVariants.{Done, Handle as HandleReply, Content, Info, Found, Refused, Misuse, Corrupt, NotAvailable, CounterSpent, NoMemory}
 use Rattle.tee_types.specs.declared.reply.Reason.TheVariants.{BadHandle, NoRight}
 use Rattle.store_model.specs.declared.session.Handle.{Handle}
-use Rattle.store_model.specs.Machine.{Session, MachineState, Outcome, session_at, handle_at, new_session, refuse, by_handle, by_right}
+use Rattle.store_model.specs.Machine.{Session, MachineState, Outcome, handle_at, refuse, by_right}
 use Rattle.store_model.specs.Calls.{is_done}
 use Rattle.store_model.specs.Files.{is_misuse}
 use Rattle.dir_records.specs.declared.entry.DirEntry.{DirEntry}

@@ -1,5 +1,5 @@
 -- The rows of a create, in the words of the directory.
-use Rattle.std.proofs.Common.{subst, ◌≡◌, ◌∙◌, ◌++◌, ◌&&◌, ◌||◌, ◌<◌, ◌≤◌, ℕ, Bool, true, false, not, List, [], ◌∷◌, length, Option, Some, None, is_some, is_none, refl, sym, ap, cond, lt-ltb, le-ltb}
+use Rattle.std.proofs.Common.{subst, ◌≡◌, ◌∙◌, ◌++◌, ◌&&◌, ◌||◌, ◌<◌, ◌≤◌, ℕ, Bool, List, [], ◌∷◌, length, Option, Some, None, is_some, is_none, sym, ap, lt-ltb, le-ltb}
 use Rattle.std.specs.Prelude.{nat_lt}
 use Rattle.std.specs.List.{list_any}
 use Rattle.tee_types.specs.declared.flags.Flags.{Flags}
@@ -9,7 +9,7 @@ use Rattle.tee_types.specs.declared.reply.Code.TheVariants.{NoSpace}
 use Rattle.tee_types.specs.Limits.{most_data_bytes}
 use Rattle.store_model.specs.declared.name.ObjectName.{ObjectName}
 use Rattle.store_model.specs.Object.{holds}
-use Rattle.store_model.specs.Machine.{Session, MachineState, session_at, name_in, first_refusal, has_all_handles}
+use Rattle.store_model.specs.Machine.{Session, MachineState, name_in, first_refusal, has_all_handles}
 use Rattle.store_model.specs.Handles.{has_open, create_refusals, lacks_room}
 use Rattle.dir_index.specs.Index.{named}
 use Rattle.dir_records.specs.declared.entry.DirEntry.{DirEntry}
@@ -57,9 +57,9 @@ module _ (entries : List (Option DirEntry)) (table : TableState) (caller : Sessi
   rows_are =
       ap (λ (x : Session). create_rows flags (has_all_handles x) (length attributes) (holds s.objects name) (holds s.objects name && list_any (has_open name) s.sessions) ++ room_row bytes (lacks_room s.objects name)) m.session
       ∙ ap (λ (b : Bool). create_rows flags (has_all_handles caller) (length attributes) b (holds s.objects name && list_any (has_open name) s.sessions) ++ room_row bytes (lacks_room s.objects name))
-          (held_is entries s.objects m.shaped name found found_in)
+      (held_is entries s.objects m.shaped name found found_in)
       ∙ ap (λ (b : Bool). create_rows flags (has_all_handles caller) (length attributes) (is_some found) b ++ room_row bytes (lacks_room s.objects name))
-          (busy_is entries table caller s i are m name found found_in)
+      (busy_is entries table caller s i are m name found found_in)
 
   abbrev early : List (Bool × Reply)
   early = create_rows flags (has_all_handles caller) (length attributes) (is_some found) (is_busy table found)

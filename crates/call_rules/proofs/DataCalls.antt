@@ -1,5 +1,5 @@
 -- Calls on the data of an open object: what they are refused with, and what they do to the object.
-use Rattle.std.proofs.Common.{◌≡◌, ◌∙◌, ◌==◌, ◌&&◌, ◌+◌, ℕ, Bool, true, false, not, List, [], ◌∷◌, length, cond, Option, Some, None, refl, sym, ap, arith, le-ltb, pos, ◌+ℤ◌, int_lt, ℤ}
+use Rattle.std.proofs.Common.{◌≡◌, ◌∙◌, ◌==◌, ◌&&◌, ℕ, Bool, true, false, not, List, [], ◌∷◌, length, cond, Option, Some, None, refl, sym, ap, arith, le-ltb, pos, ◌+ℤ◌, int_lt, ℤ}
 use Rattle.std.specs.Prelude.{nat_lt}
 use Rattle.std.proofs.lemmas.Bool.{eqb-true}
 use Rattle.tee_types.specs.Rights.{has, read_bit, write_bit}
@@ -10,10 +10,10 @@ use Rattle.tee_types.specs.declared.reply.Reply.TheVariants.{Done, Refused, Misu
 use Rattle.tee_types.specs.declared.reply.Code.TheVariants.{Overflow}
 use Rattle.tee_types.specs.declared.reply.Reason.TheVariants.{BadHandle}
 use Rattle.store_model.specs.declared.session.Handle.{Handle}
-use Rattle.store_model.specs.Object.{Object, Contents, object_at, size_at, size_of}
-use Rattle.store_model.specs.Machine.{Session, MachineState, Outcome, session_at, handle_at, with_handle, with_session, refuse, by_handle, by_right, of_sound, unless_refused}
-use Rattle.store_model.specs.Data.{read_of, read_from, write_of, write_from, truncate_of, truncate_from, seek_of, seek_base, at_least_zero, info_of, with_position, greatest_position}
-use Rattle.store_model.specs.Calls.{is_done, size_by}
+use Rattle.store_model.specs.Object.{Object, object_at, size_at, size_of}
+use Rattle.store_model.specs.Machine.{Session, MachineState, Outcome, session_at, handle_at, with_handle, with_session, by_handle, by_right, of_sound, unless_refused}
+use Rattle.store_model.specs.Data.{read_of, read_from, write_of, write_from, truncate_of, truncate_from, seek_of, seek_base, at_least_zero, info_of, greatest_position}
+use Rattle.store_model.specs.Calls.{size_by}
 use Rattle.store_model.specs.Files.{is_misuse}
 use Rattle.call_rules.specs.Objects.{HasObject, IsOfObject, RefusesRight, told_info}
 use Rattle.call_rules.specs.Told.{IsTold, told}
@@ -165,7 +165,7 @@ module _ (s : MachineState) (i : ℕ) (caller : Session) (is : session_at s i �
     seek_done place here near position at new left = record {
       outcome = sought ∙ ap (seek_to target) (ap (λ (n : ℤ). int_lt (pos greatest_position) (pos base +ℤ n)) (sym here) ∙ near)
           ∙ ap (told s i Done)
-              (ap (λ (p : ℕ). with_handle caller number (record h { position = p })) (sym (at ∙ ap (λ (n : ℤ). at_least_zero (pos base +ℤ n)) here)) ∙ sym left);
+          (ap (λ (p : ℕ). with_handle caller number (record h { position = p })) (sym (at ∙ ap (λ (n : ℤ). at_least_zero (pos base +ℤ n)) here)) ∙ sym left);
       no_commit = refl;
       no_file = refl;
     }

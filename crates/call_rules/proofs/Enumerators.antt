@@ -1,5 +1,5 @@
 -- Calls on enumerators: what they are refused with, and what they do.
-use Rattle.std.proofs.Common.{◌≡◌, ◌∙◌, ◌+◌, ℕ, Bool, true, false, not, cond, List, [], ◌∷◌, Option, Some, None, refl, sym, ap}
+use Rattle.std.proofs.Common.{◌≡◌, ◌∙◌, ℕ, Bool, true, false, not, cond, List, [], ◌∷◌, Option, Some, None, refl, sym, ap}
 use Rattle.std.specs.List.{list_any}
 use Rattle.std.specs.Option.{option_map}
 use Rattle.tee_types.specs.declared.call.Call.TheVariants.{EnumNew, EnumStart, EnumNext, EnumReset, EnumFree}
@@ -13,7 +13,7 @@ use Rattle.enumerators.specs.declared.cursor.EnumFault.TheVariants.{TooMany as A
 use Rattle.enumerators.specs.Enumeration.{EnumeratorTable, cursor_at, has_all, allocated, started, reset, advanced, freed}
 use Rattle.store_model.specs.Object.{ObjectMap}
 use Rattle.store_model.specs.Machine.{Session, MachineState, Outcome, session_at, with_session, unless_refused}
-use Rattle.store_model.specs.Enumerating.{is_of, shown, next_object, with_enumerators, by_cursor, enum_new_of, enum_start_of, enum_gives, enum_next_of, enum_reset_of, enum_free_of}
+use Rattle.store_model.specs.Enumerating.{is_of, shown, next_object, by_cursor, enum_new_of, enum_start_of, enum_gives, enum_next_of, enum_reset_of, enum_free_of}
 use Rattle.dir_records.specs.declared.entry.DirEntry.{DirEntry}
 use Rattle.machine_shape.specs.Shapes.{HasShape}
 use Rattle.machine_shape.proofs.LookedUp.{next_objects}

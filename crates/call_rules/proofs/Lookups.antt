@@ -1,7 +1,7 @@
 -- What a look-up by a name tells of the map of objects.
-use Rattle.std.proofs.Common.{◌≡◌, ◌∙◌, ℕ, Bool, true, false, List, Option, Some, None, is_some, refl, sym, ap}
+use Rattle.std.proofs.Common.{◌≡◌, ◌∙◌, List, Option, Some, is_some, sym, ap}
 use Rattle.store_model.specs.declared.name.ObjectName.{ObjectName}
-use Rattle.store_model.specs.Object.{Object, ObjectMap, object_at, holds}
+use Rattle.store_model.specs.Object.{ObjectMap, object_at, holds}
 use Rattle.dir_records.specs.declared.entry.DirEntry.{DirEntry}
 use Rattle.store_commit.specs.declared.look.Held.{Held}
 use Rattle.store_commit.specs.NameIndex.{IsEntryNamed}

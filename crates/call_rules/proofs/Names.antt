@@ -1,5 +1,5 @@
 -- Renaming and deleting: what they are refused with, and that they are done.
-use Rattle.std.proofs.Common.{◌≡◌, ◌∙◌, ℕ, Bool, true, false, List, [], ◌∷◌, Option, Some, None, refl, sym, ap, subst, is_some}
+use Rattle.std.proofs.Common.{◌≡◌, ◌∙◌, ℕ, Bool, true, false, List, [], ◌∷◌, Option, Some, refl, ap, is_some}
 use Rattle.tee_types.specs.Rights.{has, write_meta_bit}
 use Rattle.tee_types.specs.declared.call.Call.TheVariants.{Rename, Delete}
 use Rattle.tee_types.specs.declared.reply.Reply.{Reply}
@@ -7,7 +7,7 @@ use Rattle.tee_types.specs.declared.reply.Reply.TheVariants.{Done, Refused}
 use Rattle.tee_types.specs.declared.reply.Code.TheVariants.{AccessConflict}
 use Rattle.store_model.specs.declared.session.Handle.{Handle}
 use Rattle.store_model.specs.Object.{holds, moved_object, without_object}
-use Rattle.store_model.specs.Machine.{Session, MachineState, Outcome, session_at, with_session, name_in, handle_at, with_handle, without_handle, refuse, unless_refused}
+use Rattle.store_model.specs.Machine.{Session, MachineState, Outcome, session_at, with_session, name_in, handle_at, with_handle, without_handle, unless_refused}
 use Rattle.store_model.specs.Naming.{rename_of, delete_of}
 use Rattle.store_model.specs.Files.{is_misuse}
 use Rattle.dir_index.specs.Index.{named}
@@ -17,7 +17,7 @@ use Rattle.store_commit.specs.declared.look.Held.{Held}
 use Rattle.store_commit.specs.NameIndex.{IsEntryNamed}
 use Rattle.call_rules.specs.Matches.{Matches}
 use Rattle.call_rules.specs.Objects.{HasObject, IsDone, RefusesRight}
-use Rattle.call_rules.specs.Told.{IsTold, told}
+use Rattle.call_rules.specs.Told.{IsTold}
 use Rattle.call_rules.proofs.Refusals.{refused_told}
 use Rattle.call_rules.proofs.ByHandle.{misuse_not_done}
 use Rattle.call_rules.proofs.DataCalls.{right_told, right_done}

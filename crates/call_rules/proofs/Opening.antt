@@ -1,5 +1,5 @@
 -- The rows of an open, in the words of the directory.
-use Rattle.std.proofs.Common.{◌≡◌, ◌∙◌, ◌++◌, ◌||◌, ℕ, Bool, true, false, not, List, [], ◌∷◌, Option, Some, None, is_some, refl, sym, ap, subst}
+use Rattle.std.proofs.Common.{◌≡◌, ◌∙◌, ◌++◌, ℕ, Bool, true, false, not, List, [], ◌∷◌, Option, Some, None, refl, sym, ap, subst}
 use Rattle.std.specs.List.{list_all}
 use Rattle.tee_types.specs.declared.call.Call.TheVariants.{Open}
 use Rattle.tee_types.specs.declared.flags.Flags.{Flags}
@@ -8,7 +8,7 @@ use Rattle.tee_types.specs.declared.reply.Reply.TheVariants.{Refused, Corrupt}
 use Rattle.tee_types.specs.declared.reply.Code.TheVariants.{AccessConflict, ItemNotFound}
 use Rattle.store_model.specs.declared.name.ObjectName.{ObjectName}
 use Rattle.store_model.specs.Object.{holds, object_at, is_damaged}
-use Rattle.store_model.specs.Machine.{Session, MachineState, Outcome, session_at, name_in, first_refusal, has_all_handles, refuse}
+use Rattle.store_model.specs.Machine.{Session, MachineState, Outcome, name_in, first_refusal, has_all_handles, refuse}
 use Rattle.store_model.specs.Handles.{allows_open, open_refusals, open_of, open_handle}
 use Rattle.dir_index.specs.Index.{named}
 use Rattle.dir_records.specs.declared.entry.DirEntry.{DirEntry}
@@ -58,7 +58,7 @@ module _ (entries : List (Option DirEntry)) (table : TableState) (caller : Sessi
   pub open_missed : first_refusal early ≡ None → IsEntryNamed entries (named caller.application id) None → IsTold s i (Open id flags) (Refused ItemNotFound) caller
   open_missed passed none = open_told s i caller m.session id flags (Refused ItemNotFound)
       (open_late passed ∙ ap (λ (b : Bool). first_refusal (late_rows b (list_all (allows_open name flags) s.sessions) damaged))
-          (held_is entries s.objects m.shaped name None (found_in None none)))
+      (held_is entries s.objects m.shaped name None (found_in None none)))
       refl
 
   module _ (are : AreEntries entries) (passed : first_refusal early ≡ None) (held : Held) (is : IsEntryNamed entries (named caller.application id) (Some held)) (allowed : Bool)

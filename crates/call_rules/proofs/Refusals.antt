@@ -8,7 +8,7 @@ use Rattle.tee_types.specs.declared.reply.Reply.TheVariants.{Done, Handle, Conte
 use Rattle.store_model.specs.Machine.{Session, MachineState, Outcome, session_at, with_session, new_session, name_in, first_refusal, refuse}
 use Rattle.store_model.specs.Object.{Sound, with_object}
 use Rattle.store_model.specs.Handles.{create_of, create_refusals, open_of, open_refusals, open_handle}
-use Rattle.store_model.specs.Calls.{outcome_of, is_handle}
+use Rattle.store_model.specs.Calls.{is_handle}
 use Rattle.store_model.specs.Files.{is_misuse, is_corrupt}
 use Rattle.store_model.specs.Refusal.{is_refusal}
 use Rattle.tee_types.specs.Rights.{without_overwrite}
@@ -63,9 +63,9 @@ module _ (s : MachineState) (i : ℕ) (caller : Session) (is : session_at s i �
   unfolding create_of
   create_told attributes bytes reply refused refusal = record {
     outcome = ap (λ (r : Option Reply). elim r [
-        | Some x ↦ refuse s x
-        | None ↦ open_handle (record s { objects = with_object s.objects (name_in s i id) (Sound (record { attributes = attributes; bytes = bytes; bad = [] })) }) i (name_in s i id) (without_overwrite flags)
-      ]) refused ∙ refused_told s i caller reply is;
+      | Some x ↦ refuse s x
+      | None ↦ open_handle (record s { objects = with_object s.objects (name_in s i id) (Sound (record { attributes = attributes; bytes = bytes; bad = [] })) }) i (name_in s i id) (without_overwrite flags)
+    ]) refused ∙ refused_told s i caller reply is;
     no_commit = no_handle reply refusal;
     no_file = refl;
   }

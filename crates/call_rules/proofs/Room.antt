@@ -1,9 +1,9 @@
 -- Where there is no room for one more object.
 use Rattle.std.specs.Prelude.{nat_le}
-use Rattle.std.proofs.Common.{◌≡◌, ◌∙◌, ◌<◌, ◌&&◌, ℕ, Bool, not, List, length, Option, Some, None, is_none, refl, sym, ap, arith, subst}
+use Rattle.std.proofs.Common.{◌≡◌, ◌∙◌, ◌&&◌, ℕ, Bool, not, List, length, Option, Some, None, is_none, refl, sym, ap, subst}
 use Rattle.std.specs.Option.{option_map}
 use Rattle.store_model.specs.declared.name.ObjectName.{ObjectName}
-use Rattle.store_model.specs.Object.{ObjectMap, holds}
+use Rattle.store_model.specs.Object.{ObjectMap}
 use Rattle.store_model.specs.Handles.{lacks_room}
 use Rattle.dir_records.specs.declared.entry.DirEntry.{DirEntry}
 use Rattle.crash_core.specs.DirectoryLaws.{AreEntries}

@@ -1,5 +1,5 @@
 -- The rows of refusals that need no object's file, with the tests that the directory answers.
-use Rattle.std.specs.Prelude.{◌≡◌, ℕ, Bool, true, false, not, ◌&&◌, ◌||◌, nat_lt, List, [], ◌∷◌, Option, Some, None}
+use Rattle.std.specs.Prelude.{◌≡◌, ℕ, Bool, false, not, ◌&&◌, ◌||◌, nat_lt, List, [], ◌∷◌, Option, Some, None}
 use Rattle.std.specs.Option.{option_map}
 use Rattle.tee_types.specs.declared.flags.Flags.{Flags}
 use Rattle.tee_types.specs.declared.reply.Reply.{Reply}
@@ -9,7 +9,7 @@ use Rattle.tee_types.specs.declared.reply.Reason.TheVariants.{BadFlags, TooMany}
 use Rattle.tee_types.specs.Limits.{most_attribute_bytes}
 use Rattle.tee_types.specs.Rights.{overwrite_bit, has, is_known}
 use Rattle.dir_records.specs.declared.entry.DirEntry.{DirEntry}
-use Rattle.open_table.specs.Table.{TableState, allows_on_file, is_file_open}
+use Rattle.open_table.specs.Table.{TableState, is_file_open}
 use Rattle.store_commit.specs.declared.look.Held.{Held}
 use Rattle.call_rules.specs.declared.decision.NewPlace.{NewPlace}
 use Rattle.call_rules.specs.declared.decision.NewPlace.TheVariants.{Replaces, Adds}

@@ -24,7 +24,7 @@ pub fn read<C: Catalog>(catalog: &C, session: &Session, number: u32) -> Decision
         → IfAnswered result (λ reply. IsTold s i (Call.Read number size) reply session.now) }
     ensures reads { (s : MachineState) (i size : ℕ) → Matches (C.entries catalog.now) (C.handles catalog.now) session.now s i
         → IfNeeds result (λ found. IsOfObject s i (Call.Read number size) found.handle.name found.held.entry.size
-            (read_from s i number size found.handle)) }
+        (read_from s i number size found.handle)) }
     ensures found { IfNeeds result (IsRightful (C.entries catalog.now) session.now number READ) }
 {
     rightful_object(catalog, session, number, READ)
@@ -41,7 +41,7 @@ pub fn write<C: Catalog>(
         → IfAnswered result (λ reply. IsTold s i (Call.Write number bytes.now) reply session.now) }
     ensures writes { (s : MachineState) (i : ℕ) → Matches (C.entries catalog.now) (C.handles catalog.now) session.now s i
         → IfNeeds result (λ found. IsOfObject s i (Call.Write number bytes.now) found.handle.name found.held.entry.size
-            (write_from s i number bytes.now found.handle)) }
+        (write_from s i number bytes.now found.handle)) }
     ensures found { IfNeeds result (IsRightful (C.entries catalog.now) session.now number WRITE) }
 {
     match rightful_object(catalog, session, number, WRITE) {
@@ -78,7 +78,7 @@ pub fn truncate<C: Catalog>(catalog: &C, session: &Session, number: u32) -> Deci
         → IfAnswered result (λ reply. IsTold s i (Call.Truncate number size) reply session.now) }
     ensures resizes { (s : MachineState) (i size : ℕ) → Matches (C.entries catalog.now) (C.handles catalog.now) session.now s i
         → IfNeeds result (λ found. IsOfObject s i (Call.Truncate number size) found.handle.name found.held.entry.size
-            (truncate_from s size found.handle)) }
+        (truncate_from s size found.handle)) }
     ensures found { IfNeeds result (IsRightful (C.entries catalog.now) session.now number WRITE) }
 {
     rightful_object(catalog, session, number, WRITE)
@@ -153,6 +153,12 @@ pub fn seek<C: Catalog>(
     let Some(position) = sought(base, offset) else {
         return Reply::Refused(Code::Overflow);
     };
-    session.replace(number, Handle { position, ..found.handle });
+    session.replace(
+        number,
+        Handle {
+            position,
+            ..found.handle
+        },
+    );
     Reply::Done
 }

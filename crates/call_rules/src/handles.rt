@@ -18,7 +18,9 @@ use crate::catalog::Catalog;
 use crate::decision::{Decision, NewPlace};
 use store_commit::Held;
 use store_model::Session;
-use tee_types::{Bytes, Call, Code, Flags, MAX_ATTRIBUTES, MAX_DATA, OVERWRITE, ObjectId, Reason, Reply};
+use tee_types::{
+    Bytes, Call, Code, Flags, MAX_ATTRIBUTES, MAX_DATA, OVERWRITE, ObjectId, Reason, Reply,
+};
 
 // Whether a handle is open on the object of that entry.
 fn is_busy<C: Catalog>(catalog: &C, found: &Option<Held>) -> bool

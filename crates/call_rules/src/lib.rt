@@ -15,7 +15,6 @@ mod naming;
 pub use catalog::Catalog;
 pub use data::{info, read, seek, truncate, truncate_refusal, write, write_refusal};
 pub use decision::{Decision, NewPlace, OpenObject};
-
 pub use enumerating::{enum_free, enum_new, enum_next, enum_reset, enum_start};
 pub use handles::{close, create, open};
 pub use naming::{delete, rename};

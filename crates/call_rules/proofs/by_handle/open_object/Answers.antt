@@ -1,1 +1,0 @@
-use Rattle.call_rules.proofs.by_handle.open_object.Goals as goal

@@ -25,5 +25,5 @@ returns-clause-reads g c = λ s i size m.
     if_needs c.rightful_object.result (IsRightful (g.C.Catalog.entries c.args.catalog.now) c.args.session.now c.args.number read_bit)
     (λ (more : OpenObject). IsOfObject s i (Read c.args.number size) (more.handle).name ((more.held).entry).size (read_from s i c.args.number size more.handle))
     (λ more found. read_of_object s i c.args.session.now m.session c.args.number more.handle found.opened.live found.has_right ((more.held).entry).size size
-        (entry_object (g.C.Catalog.entries c.args.catalog.now) s.objects m.shaped (more.handle).name more.held found.opened.named))
+    (entry_object (g.C.Catalog.entries c.args.catalog.now) s.objects m.shaped (more.handle).name more.held found.opened.named))
     c.rightful_object.ensures.found

@@ -1,6 +1,4 @@
-use Rattle.std.proofs.Common.{◌≡◌, ◌∙◌, ℕ, Option, Some, None, refl, sym, ap}
-use Rattle.store_model.specs.declared.session.Handle.{Handle}
-use Rattle.store_model.specs.Machine.{MachineState, session_at, handle_at}
+use Rattle.std.proofs.Common.{◌∙◌, sym}
 use Rattle.call_rules.proofs.Closing.{close_refused, close_done}
 use Rattle.call_rules.proofs.handles.close.Goals as goal
 

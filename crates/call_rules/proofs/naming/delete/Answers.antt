@@ -24,5 +24,5 @@ returns-clause-deletes g c = λ s i m.
     if_needs c.rightful_object.result (IsRightful (g.C.Catalog.entries c.args.catalog.now) c.args.session.now c.args.number write_meta_bit)
     (λ (more : OpenObject). IsDone s i (Delete c.args.number) (more.handle).name ((more.held).entry).size)
     (λ more found. delete_done s i c.args.session.now m.session c.args.number more.handle found.opened.live found.has_right ((more.held).entry).size
-        (entry_object (g.C.Catalog.entries c.args.catalog.now) s.objects m.shaped (more.handle).name more.held found.opened.named))
+    (entry_object (g.C.Catalog.entries c.args.catalog.now) s.objects m.shaped (more.handle).name more.held found.opened.named))
     c.rightful_object.ensures.found
