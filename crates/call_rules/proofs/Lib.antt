@@ -1,0 +1,12 @@
+pub mod Refusals
+pub mod Lookups
+pub mod Sharing
+pub mod Room
+pub mod Closing
+pub mod Creating
+pub mod Opening
+pub mod ByHandle
+pub mod DataCalls
+pub mod Decisions
+pub mod Names
+pub mod Enumerators

@@ -1,0 +1,7 @@
+pub mod Matches
+pub mod Told
+pub mod Decided
+pub mod Places
+pub mod Objects
+pub mod Rows
+pub mod Nexts
