@@ -30,11 +30,11 @@ done-right s right (Some g) done h is made = let same : g ≡ h = cc (is) in ap 
     one true m = refl
     one false m = absurd (true≢false (sym m))
 
-rename-right : (s : MachineState) (i number : ℕ) (id : List ℕ) (h : Handle) → handle_at (session_at s i) number ≡ Some h → is_done (rename_of s i number id).reply ≡ true → has h.flags write_meta_bit ≡ true
+pub rename-right : (s : MachineState) (i number : ℕ) (id : List ℕ) (h : Handle) → handle_at (session_at s i) number ≡ Some h → is_done (rename_of s i number id).reply ≡ true → has h.flags write_meta_bit ≡ true
 unfolding rename_of
 rename-right s i number id h live made = done-right s write_meta_bit (handle_at (session_at s i) number) _ h live made
 
-delete-right : (s : MachineState) (i number : ℕ) (h : Handle) → handle_at (session_at s i) number ≡ Some h → is_done (delete_of s i number).reply ≡ true → has h.flags write_meta_bit ≡ true
+pub delete-right : (s : MachineState) (i number : ℕ) (h : Handle) → handle_at (session_at s i) number ≡ Some h → is_done (delete_of s i number).reply ≡ true → has h.flags write_meta_bit ≡ true
 unfolding delete_of
 delete-right s i number h live made = done-right s write_meta_bit (handle_at (session_at s i) number) _ h live made
 

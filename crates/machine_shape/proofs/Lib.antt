@@ -17,3 +17,7 @@ pub mod OpenSteps
 pub mod DroppedHandles
 pub mod Rights
 pub mod OpenCalls
+pub mod LinkedCalls
+pub mod ChangedFiles
+pub mod MadeOpens
+pub mod CommitOpens

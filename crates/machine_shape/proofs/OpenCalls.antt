@@ -1,4 +1,4 @@
--- A call that is answered as the machine does, and is no commit, and the table of open handles.
+-- Handles that stay, but for positions and names, and calls that are not done, beside the table of open handles.
 use Rattle.std.proofs.Common.{◌≡◌, ◌==◌, ◌<◌, ◌+◌, ◌⊎◌, ℕ, Bool, true, false, true≢false, cond, not, ◌||◌, List, [], ◌∷◌, length, length-set, slice_set, Option, Some, None, inl, inr, refl, sym, ap, ◌∙◌, subst, pos, ◌+ℤ◌, int_lt, arith}
 use Rattle.std.specs.List.{list_all, list_any}
 use Rattle.std.proofs.lemmas.Bool.{cases_eq}
@@ -109,7 +109,7 @@ handle-pairs entries after session number handle changed numbers live follows fi
   numbered = numbers-with session number changed numbers;
 }
 
-keeps-itself : (entries : List (Option DirEntry)) (name : ObjectName) → KeepsFile entries entries name
+pub keeps-itself : (entries : List (Option DirEntry)) (name : ObjectName) → KeepsFile entries entries name
 keeps-itself entries name file has_file = has_file
 
 module _ (entries : List (Option DirEntry)) (old new : TableState) (s : MachineState) (i : ℕ) (are_open : AreOpen entries old s.sessions) (within : i < length s.sessions) where
@@ -136,11 +136,6 @@ module _ (entries : List (Option DirEntry)) (old new : TableState) (s : MachineS
         numbered = are_open.numbered i;
       })
       (λ k n h other live'. keeps-itself entries h.name)) same
-
--- none of these replies gives a handle, or is Done
-abbrev NoNotes : List (Bool × Reply) → Type 0
-NoNotes [] = Unit {0}
-NoNotes (row ∷ rows) = (is_handle row.1 ≡ false) × (is_done row.1 ≡ false) × NoNotes rows
 
 pub undone_open : (entries : List (Option DirEntry)) (old new : TableState) (sessions : List Session) (i file : ℕ) (call : Call) (reply : Reply)
     → AreOpen entries old sessions → is_undone reply ≡ true → NotesReply old new file i call reply → AreOpen entries new sessions

@@ -32,18 +32,17 @@ begun [] i = ([], refl)
 begun (a ∷ applications) zero = (a, refl)
 begun (a ∷ applications) (suc i) = begun applications i
 
+pub no-handles : (phase : PhaseOpening) (i number : ℕ) (h : Handle) → handle_at (session_at (opening phase).state i) number ≡ Some h → ⊥
+no-handles phase i number h live =
+    let gone : None ≡ Some h = ap (λ (y : Session). handle_at y number) (sym (begun phase.applications i).1) ∙ live in
+    cc (gone)
+
 pub well_opened-opening : (phase : PhaseOpening) → WellOpened (opening phase).state
 well_opened-opening phase = record {
   numbered = λ i. subst HasNumbers (sym (begun phase.applications i).1) (omega arith);
-  sound = λ i number h live. absurd (none i number h live);
-  compatible = λ i j number other h g live. absurd (none i number h live);
+  sound = λ i number h live. absurd (no-handles phase i number h live);
+  compatible = λ i j number other h g live. absurd (no-handles phase i number h live);
 }
-  where
-    none : (i number : ℕ) (h : Handle) → handle_at (session_at (opening phase).state i) number ≡ Some h → ⊥
-    none i number h live =
-        let gone : None ≡ Some h = ap (λ (y : Session). handle_at y number) (sym (begun phase.applications i).1) ∙ live in
-        cc (gone)
-
 pub well_standing-opening : (phase : PhaseOpening) → IsWellStanding (opening phase)
 well_standing-opening phase = record { opened = well_opened-opening phase; due = λ doubt is. absurd (cc (is)) }
 
