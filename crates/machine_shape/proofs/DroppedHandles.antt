@@ -1,12 +1,12 @@
 -- A handle that is dropped takes its own record away, and no other; the table keeps the handles that are left.
-use Rattle.std.proofs.Common.{◌≡◌, ◌≢◌, ◌<◌, ◌==◌, ◌⊎◌, ◌↔◌, ℕ, Bool, true, false, true≢false, ◌&&◌, List, [], length, length-set, slice_set, Option, Some, None, find, inl, inr, refl, sym, ap, ◌∙◌, subst, arith, eq-eqb, eqb-true}
+use Rattle.std.proofs.Common.{◌≡◌, ◌≢◌, ◌<◌, ◌==◌, ◌⊎◌, ◌↔◌, ℕ, Bool, true, true≢false, ◌&&◌, List, [], length, length-set, slice_set, Option, Some, None, find, inl, inr, refl, sym, ap, ◌∙◌, subst, arith, eq-eqb, eqb-true}
 use Rattle.std.specs.Option.{option_map}
 use Rattle.std.proofs.lemmas.Bool.{and_parts, cases_eq}
 use Rattle.enumerators.specs.Places.{IsNumbered}
 use Rattle.enumerators.proofs.Numbering.{IsNumbered-remove_entry}
 use Rattle.dir_records.specs.declared.entry.DirEntry.{DirEntry}
 use Rattle.open_table.specs.declared.table.OpenRecord.{OpenRecord}
-use Rattle.open_table.specs.Table.{TableState, key_of, record_at}
+use Rattle.open_table.specs.Table.{TableState, record_at}
 use Rattle.store_model.specs.declared.session.Handle.{Handle}
 use Rattle.store_model.specs.Machine.{Session, handle_at, new_session, without_handle}
 use Rattle.store_commit.specs.Noting.{DropsHandle, WithoutKey}
@@ -114,19 +114,27 @@ module _ (entries : List (Option DirEntry)) (old new : TableState) (sessions : L
     left-each : (k n : ℕ) (h : Handle) → IsLeft k n h → (key : ℕ) × (r : OpenRecord) × (record_at new key ≡ Some r) × IsRecordOf after k n h r
     left-each k n h left =
         let each = are_open.each k n h (live-within sessions k n h left.live) left.live in
-        let of = each.3 in
-        (each.0, each.1, one.kept each.0 each.1 each.2 (λ is. not-both k n left.other (sym of.session ∙ is.0, sym of.handle ∙ is.1)),
-          record-after entries after k n h h each.1 of (record { flags = refl; files = files k n h left.live left.other }))
+        let of = each.3 in (
+          each.0,
+          each.1,
+          one.kept each.0 each.1 each.2 (λ is. not-both k n left.other (sym of.session ∙ is.0, sym of.handle ∙ is.1)),
+          record-after entries after k n h h each.1 of (record { flags = refl; files = files k n h left.live left.other }),
+        )
 
     left-back : (key : ℕ) (r : OpenRecord) → record_at new key ≡ Some r
         → (r.session < length later) × ((h : Handle) × IsLive later r.session r.handle h × IsRecordOf after r.session r.handle h r)
     left-back key r found =
         let was = one.left key r found in
         let back = are_open.back key r was.0 in
-        let h : Handle = back.1.0 in
-        (omega (arith, back.0, length-set sessions i closed), (h, still-live r.session r.handle h back.1.1 was.1,
-          record-after entries after r.session r.handle h h r back.1.2
-              (record { flags = refl; files = files r.session r.handle h back.1.1 (either r.session r.handle was.1) })))
+        let h : Handle = back.1.0 in (
+          omega (arith, back.0, length-set sessions i closed),
+          (
+            h,
+            still-live r.session r.handle h back.1.1 was.1,
+            record-after entries after r.session r.handle h h r back.1.2
+                (record { flags = refl; files = files r.session r.handle h back.1.1 (either r.session r.handle was.1) }),
+          ),
+        )
 
     pub open-dropped : AreOpen after new later
     open-dropped = record {

@@ -1,10 +1,8 @@
 -- What a call does that is not refused, and the table beside a rename and a delete.
-use Rattle.std.proofs.Common.{◌≡◌, ◌≢◌, ◌<◌, ◌⊎◌, ◌+◌, ℕ, zero, suc, Bool, true, false, true≢false, cond, List, [], ◌∷◌, ◌++◌, length, slice_index_or, slice_set, Option, Some, None, inl, inr, refl, sym, ap, ◌∙◌, subst}
-use Rattle.tee_types.specs.declared.call.Call.{Call}
-use Rattle.tee_types.specs.declared.call.Call.TheVariants.{Create, Write, Truncate, Rename, Delete}
+use Rattle.std.proofs.Common.{◌≡◌, ◌≢◌, ◌<◌, ◌⊎◌, ℕ, zero, suc, Bool, true, false, cond, List, [], ◌∷◌, length, slice_index_or, slice_set, Option, Some, None, inl, inr, refl, sym, ap, ◌∙◌}
 use Rattle.tee_types.specs.declared.flags.Flags.{Flags}
 use Rattle.tee_types.specs.declared.reply.Reply.{Reply}
-use Rattle.tee_types.specs.declared.reply.Reply.TheVariants.{Done, Misuse, Refused, Handle as HandleReply}
+use Rattle.tee_types.specs.declared.reply.Reply.TheVariants.{Done, Misuse, Refused}
 use Rattle.tee_types.specs.declared.reply.Code.TheVariants.{AccessConflict}
 use Rattle.tee_types.specs.declared.reply.Reason.TheVariants.{NoRight}
 use Rattle.tee_types.specs.Rights.{has, without_overwrite, write_meta_bit}
@@ -12,30 +10,21 @@ use Rattle.dir_records.specs.declared.entry.DirEntry.{DirEntry}
 use Rattle.open_table.specs.Table.{TableState}
 use Rattle.store_model.specs.declared.name.ObjectName.{ObjectName}
 use Rattle.store_model.specs.declared.session.Handle.{Handle}
-use Rattle.store_model.specs.Object.{Contents, Object, Sound, holds, moved_object, with_object, without_object}
-use Rattle.store_model.specs.Machine.{MachineState, Outcome, Session, by_right, first_refusal, handle_at, name_in, new_session, refuse, session_at, unless_refused, with_handle, with_session, without_handle}
+use Rattle.store_model.specs.Object.{Sound, holds, moved_object, with_object, without_object}
+use Rattle.store_model.specs.Machine.{MachineState, Outcome, Session, by_right, first_refusal, handle_at, name_in, refuse, session_at, unless_refused, with_handle, with_session, without_handle}
 use Rattle.store_model.specs.Handles.{create_of, create_refusals, open_handle}
 use Rattle.store_model.specs.Naming.{delete_of, rename_of}
-use Rattle.store_model.specs.Makes.{MakesChange, MapChange, Change, Move, Remove}
-use Rattle.store_model.specs.Makes.{Put as PutObject}
-use Rattle.store_model.specs.Calls.{is_commit, outcome_of, reply_of, state_after}
-use Rattle.store_model.specs.Doubt.{Doubt, follows, session_landed, state_landed}
-use Rattle.store_model.proofs.MadeChanges.{unrefused}
 use Rattle.crash_core.specs.Entries.{name_of}
 use Rattle.crash_core.specs.EntryLists.{AreDistinct}
-use Rattle.crash_core.specs.EntryChanges.{Clear, EntryChange, Enters, IsChange, IsEntryOf, IsNewEntry, IsNextEntry, Put, changed, file_put, index_of}
-use Rattle.store_commit.specs.Noting.{AddsHandle, DropsHandle, NotesReply}
+use Rattle.crash_core.specs.EntryChanges.{IsEntryOf, IsNextEntry}
+use Rattle.store_commit.specs.Noting.{DropsHandle}
 use Rattle.machine_shape.specs.OpenHandles.{AreOpen}
-use Rattle.machine_shape.specs.OpenLaws.{HasFile, NotesLanding}
 use Rattle.machine_shape.specs.WellOpened.{WellOpened}
 use Rattle.machine_shape.proofs.AloneHandles.{alone}
-use Rattle.machine_shape.proofs.CallHandles.{create-alone}
-use Rattle.machine_shape.proofs.ChangedFiles.{IsNotAt, keeps-elsewhere, keeps-same, moves-file, new-not_at, next-not_at, put-file}
+use Rattle.machine_shape.proofs.ChangedFiles.{IsNotAt, keeps-elsewhere, moves-file, next-not_at}
 use Rattle.machine_shape.proofs.DroppedHandles.{open-dropped}
-use Rattle.machine_shape.proofs.LandedHandles.{delete-right, rename-right}
-use Rattle.machine_shape.proofs.LinkedCalls.{linked-truncate, linked-write}
-use Rattle.machine_shape.proofs.OpenCalls.{handle-pairs, same-pairs, set-pairs}
-use Rattle.machine_shape.proofs.OpenSteps.{IsLive, KeepsFile, nth, open-added, open-same}
+use Rattle.machine_shape.proofs.OpenCalls.{handle-pairs, set-pairs}
+use Rattle.machine_shape.proofs.OpenSteps.{IsLive, KeepsFile, open-same}
 use Rattle.machine_shape.proofs.SessionLists.{live-within}
 
 pub set-same : (sessions : List Session) (i : ℕ) (d : Session) → slice_set sessions i (slice_index_or sessions i d) ≡ sessions

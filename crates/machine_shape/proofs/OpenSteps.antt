@@ -1,25 +1,21 @@
 -- The table keeps the open handles: as they stay, as one is added, and as one is dropped.
-use Rattle.std.proofs.Common.{◌≡◌, ◌≢◌, ◌<◌, ◌≤◌, ◌==◌, ◌+◌, ◌⊎◌, ℕ, Bool, true, false, true≢false, ◌&&◌, List, [], ◌∷◌, ◌++◌, length, length-set, slice_index_or, slice_set, Option, Some, None, find, inl, inr, refl, sym, ap, ◌∙◌, subst, arith, eq-eqb, eqb-true}
-use Rattle.std.specs.Option.{option_map}
-use Rattle.std.proofs.lemmas.Bool.{and_parts, cases_eq}
+use Rattle.std.proofs.Common.{◌≡◌, ◌≢◌, ◌<◌, ◌+◌, ◌⊎◌, ℕ, List, [], ◌∷◌, ◌++◌, length, length-set, slice_index_or, slice_set, Option, Some, None, inl, inr, refl, sym, ap, ◌∙◌, subst, arith}
 use Rattle.std.proofs.lemmas.Grind.{get_or-set_at}
 use Rattle.enumerators.specs.Places.{IsNumbered}
-use Rattle.enumerators.proofs.Numbering.{IsNumbered-append, IsNumbered-remove_entry, lookup-next}
+use Rattle.enumerators.proofs.Numbering.{IsNumbered-append, lookup-next}
 use Rattle.tee_types.specs.declared.flags.Flags.{Flags}
 use Rattle.dir_records.specs.declared.entry.DirEntry.{DirEntry}
 use Rattle.open_table.specs.declared.table.OpenRecord.{OpenRecord}
-use Rattle.open_table.specs.Table.{TableState, key_of, record_at}
+use Rattle.open_table.specs.Table.{TableState, record_at}
 use Rattle.store_model.specs.declared.name.ObjectName.{ObjectName}
 use Rattle.store_model.specs.declared.session.Handle.{Handle}
-use Rattle.store_model.specs.Machine.{Session, handle_at, new_session, without_handle}
-use Rattle.crash_core.specs.EntryChanges.{IsEntryOf}
-use Rattle.store_commit.specs.Noting.{AddsHandle, DropsHandle, WithoutKey}
+use Rattle.store_model.specs.Machine.{Session, handle_at, new_session}
+use Rattle.store_commit.specs.Noting.{AddsHandle}
 use Rattle.machine_shape.specs.Numbers.{HasNumbers}
 use Rattle.machine_shape.specs.OpenHandles.{AreOpen, IsRecordOf}
 use Rattle.machine_shape.specs.OpenLaws.{HasFile}
 use Rattle.machine_shape.proofs.EntryInserts.{inserted-found, inserted-here, inserted-other, numbered-higher, numbered-inserted}
-use Rattle.machine_shape.proofs.EntryLists.{added-found, added-new, added-old, at_number, taken-found, taken-other}
-use Rattle.machine_shape.proofs.EntryTests.{find-found, find-none}
+use Rattle.machine_shape.proofs.EntryLists.{added-found, added-new, added-old, at_number}
 use Rattle.machine_shape.proofs.QuietSteps.{set_numbers}
 use Rattle.machine_shape.proofs.SessionLists.{live-within, set-in}
 
@@ -94,22 +90,30 @@ module _ (entries after : List (Option DirEntry)) (old new : TableState) (sessio
       old-record : (k number : ℕ) (h : Handle) → IsLive sessions k number h → (key : ℕ) × (r : OpenRecord) × (record_at new key ≡ Some r) × IsRecordOf after k number h r
       old-record k number h live =
           let each = are_open.each k number h (live-within sessions k number h live) live in
-          let other : each.0 ≢ adds.key = λ same. (let both : None ≡ Some each.1 = sym adds.fresh ∙ ap (record_at old) (sym same) ∙ each.2 in cc (both)) in
-          (each.0, each.1, ap (λ (rs : List (ℕ × OpenRecord)). at_number rs each.0) adds.added ∙ inserted-other old.records adds.key added each.0 other ∙ each.2,
-            record-after entries after k number h h each.1 each.3 (record { flags = refl; files = files k number h live }))
+          let other : each.0 ≢ adds.key = λ same. (let both : None ≡ Some each.1 = sym adds.fresh ∙ ap (record_at old) (sym same) ∙ each.2 in cc (both)) in (
+            each.0,
+            each.1,
+            ap (λ (rs : List (ℕ × OpenRecord)). at_number rs each.0) adds.added ∙ inserted-other old.records adds.key added each.0 other ∙ each.2,
+            record-after entries after k number h h each.1 each.3 (record { flags = refl; files = files k number h live }),
+          )
 
       new-each : (k number : ℕ) (h : Handle) → IsLive later k number h → (key : ℕ) × (r : OpenRecord) × (record_at new key ≡ Some r) × IsRecordOf after k number h r
       new-each k number h live = elim (set-in sessions i k opened (new_session []) within) [
         | inl set_ ↦ elim (added-found (nth sessions i).handles next handle h number (ap (λ (y : Session). handle_at y number) (sym set_.1) ∙ live)) [
           | inl was ↦ old-record k number h (ap (λ (m : ℕ). handle_at (nth sessions m) number) set_.0 ∙ was)
-          | inr is ↦ (adds.key, added, ap (λ (rs : List (ℕ × OpenRecord)). at_number rs adds.key) adds.added ∙ inserted-here old.records adds.key added, record {
-            session = sym set_.0;
-            handle = sym is.0;
-            flags = ap (λ (x : Handle). x.flags) (sym is.1);
-            index = here.index;
-            named = record { entry = here.named.entry; at = here.named.at; named = here.named.named ∙ ap (λ (x : Handle). x.name) (sym is.1) };
-            file = here.is;
-          })
+          | inr is ↦ (
+            adds.key,
+            added,
+            ap (λ (rs : List (ℕ × OpenRecord)). at_number rs adds.key) adds.added ∙ inserted-here old.records adds.key added,
+            record {
+              session = sym set_.0;
+              handle = sym is.0;
+              flags = ap (λ (x : Handle). x.flags) (sym is.1);
+              index = here.index;
+              named = record { entry = here.named.entry; at = here.named.at; named = here.named.named ∙ ap (λ (x : Handle). x.name) (sym is.1) };
+              file = here.is;
+            },
+          )
         ]
         | inr stays ↦ old-record k number h (ap (λ (y : Session). handle_at y number) (sym stays.1) ∙ live)
       ]
@@ -135,9 +139,14 @@ module _ (entries after : List (Option DirEntry)) (old new : TableState) (sessio
         | inl is ↦ subst Backed (sym is.1) (omega (arith, within, length-set sessions i opened), (handle, live-new, own))
         | inr was ↦
             let back = are_open.back key r was.1 in
-            let h : Handle = back.1.0 in
-            (omega (arith, back.0, length-set sessions i opened), (h, live-later r.session r.handle h back.1.1,
-              record-after entries after r.session r.handle h h r back.1.2 (record { flags = refl; files = files r.session r.handle h back.1.1 })))
+            let h : Handle = back.1.0 in (
+              omega (arith, back.0, length-set sessions i opened),
+              (
+                h,
+                live-later r.session r.handle h back.1.1,
+                record-after entries after r.session r.handle h h r back.1.2 (record { flags = refl; files = files r.session r.handle h back.1.1 }),
+              ),
+            )
       ]
 
       -- the number is new

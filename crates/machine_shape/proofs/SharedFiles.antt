@@ -1,6 +1,6 @@
 -- Sharing by the file of an entry is sharing by its name.
-use Rattle.std.proofs.Common.{◌≡◌, ◌≢◌, ◌<◌, ◌==◌, ◌⊎◌, ℕ, zero, suc, Bool, true, false, true≢false, not, ◌&&◌, ◌||◌, List, [], ◌∷◌, length, slice_index_or, Option, Some, None, inl, inr, refl, sym, ap, ◌∙◌, subst, arith, eq-eqb, eqb-true}
-use Rattle.std.proofs.lemmas.Bool.{cases_Bool, cases_eq, and_parts}
+use Rattle.std.proofs.Common.{◌≡◌, ◌<◌, ◌==◌, ℕ, zero, suc, Bool, true, false, true≢false, not, ◌&&◌, ◌||◌, List, [], ◌∷◌, length, slice_index_or, Option, Some, inl, inr, refl, sym, ap, ◌∙◌, arith, eq-eqb, eqb-true}
+use Rattle.std.proofs.lemmas.Bool.{cases_Bool, cases_eq}
 use Rattle.std.specs.List.{list_all, list_any}
 use Rattle.std.specs.Ordering.{is_eq}
 use Rattle.tee_types.specs.declared.flags.Flags.{Flags}
@@ -17,12 +17,11 @@ use Rattle.store_model.proofs.Maps.{name_cmp_total}
 use Rattle.std.proofs.lemmas.Cmp.{tied_itself}
 use Rattle.crash_core.specs.Entries.{name_of}
 use Rattle.crash_core.specs.EntryLists.{AreDistinct, AreSingle, entry_at}
-use Rattle.crash_core.specs.EntryChanges.{IsEntryOf}
 use Rattle.crash_core.proofs.Names.{alike_is, name_test}
-use Rattle.machine_shape.specs.OpenHandles.{AreOpen, IsRecordOf}
+use Rattle.machine_shape.specs.OpenHandles.{AreOpen}
 use Rattle.machine_shape.proofs.CallHandles.{live-allows, live-any}
 use Rattle.machine_shape.proofs.EntryLists.{all-at, any-at}
-use Rattle.machine_shape.proofs.EntryTests.{Passes, all-from, any-found}
+use Rattle.machine_shape.proofs.EntryTests.{all-from, any-found}
 
 -- two tests of which each follows from the other
 one-test : (a b : Bool) → (a ≡ true → b ≡ true) → (b ≡ true → a ≡ true) → a ≡ b

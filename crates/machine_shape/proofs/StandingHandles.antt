@@ -1,5 +1,5 @@
 -- Along a history the machine's handles stay well opened.
-use Rattle.std.proofs.Common.{◌≡◌, ◌⊎◌, ℕ, Bool, true, false, true≢false, List, [], ◌∷◌, ◌++◌, map, slice_index_or, zero, suc, Option, Some, None, inl, inr, refl, sym, ap, ◌∙◌, subst, append_assoc, arith}
+use Rattle.std.proofs.Common.{◌≡◌, ℕ, Bool, true, false, true≢false, List, [], ◌∷◌, ◌++◌, map, slice_index_or, zero, suc, Option, Some, None, inl, inr, refl, sym, ap, ◌∙◌, subst, append_assoc, arith}
 use Rattle.tee_types.specs.declared.call.Call.{Call}
 use Rattle.tee_types.specs.declared.reply.Reply.{Reply}
 use Rattle.tee_types.specs.declared.reply.Reply.TheVariants.{Misuse, Corrupt, NotAvailable, CounterSpent}
@@ -17,7 +17,7 @@ use Rattle.store_model.specs.Record.{Record, file_of}
 use Rattle.store_model.specs.Standing.{PhaseOpening, Standing, is_undone, keeps_doubt, opening, replay, standing_after, standing_after_call, standing_landed}
 use Rattle.history_seats.specs.Records.{HistoryRecord}
 use Rattle.suppositions.specs.Guesses.{Guess}
-use Rattle.suppositions.specs.Stores.{Store, phase_of, standing_at, start_under}
+use Rattle.suppositions.specs.Stores.{Store, standing_at, start_under}
 use Rattle.suppositions.specs.Answered.{AreAnswered, IsAnsweredAt}
 use Rattle.suppositions.proofs.Answers.{standing-snoc}
 use Rattle.machine_shape.specs.Numbers.{HasNumbers}
@@ -43,6 +43,7 @@ well_opened-opening phase = record {
   sound = λ i number h live. absurd (no-handles phase i number h live);
   compatible = λ i j number other h g live. absurd (no-handles phase i number h live);
 }
+
 pub well_standing-opening : (phase : PhaseOpening) → IsWellStanding (opening phase)
 well_standing-opening phase = record { opened = well_opened-opening phase; due = λ doubt is. absurd (cc (is)) }
 

@@ -24,7 +24,7 @@ pub record AreOpen (entries : List (Option DirEntry)) (table : TableState) (sess
       → (key : ℕ) × (r : OpenRecord) × (record_at table key ≡ Some r) × IsRecordOf entries i number h r
   pub back : (key : ℕ) (r : OpenRecord) → record_at table key ≡ Some r
       → (r.session < length sessions)
-        × ((h : Handle) × (handle_at (slice_index_or sessions r.session (new_session [])) r.handle ≡ Some h) × IsRecordOf entries r.session r.handle h r)
+      × ((h : Handle) × (handle_at (slice_index_or sessions r.session (new_session [])) r.handle ≡ Some h) × IsRecordOf entries r.session r.handle h r)
   pub single : (a b : ℕ) (r q : OpenRecord) → record_at table a ≡ Some r → record_at table b ≡ Some q → r.session ≡ q.session → r.handle ≡ q.handle
       → a ≡ b
   -- the keys of the records rise, each below the bound, and so do the numbers of each session's handles

@@ -6,7 +6,13 @@
 
 mod laws;
 
+pub use laws::handles::{
+    answered_handles_are_well_opened, calls_keep_well_opened, landings_keep_well_opened,
+    legal_doubts_are_due, openings_are_well_opened, replays_keep_well_opened,
+};
+pub use laws::opens::{
+    answered_calls_keep_open, drops_take_one_record, landed_commits_keep_open,
+    made_commits_keep_open, openings_are_open, undone_calls_keep_open,
+};
 pub use laws::shapes::mapped_entries_have_shape;
-pub use laws::handles::{answered_handles_are_well_opened, calls_keep_well_opened, landings_keep_well_opened, legal_doubts_are_due, openings_are_well_opened, replays_keep_well_opened};
 pub use laws::sharing::{files_allow_as_names, files_are_open_as_names};
-pub use laws::opens::{answered_calls_keep_open, drops_take_one_record, landed_commits_keep_open, made_commits_keep_open, openings_are_open, undone_calls_keep_open};
