@@ -21,3 +21,10 @@ pub mod LinkedCalls
 pub mod ChangedFiles
 pub mod MadeOpens
 pub mod CommitOpens
+pub mod ChangedShapes
+pub mod MadeShapes
+pub mod CountedShapes
+pub mod Rooms
+pub mod ShownNames
+pub mod NextObjects
+pub mod LookedUp

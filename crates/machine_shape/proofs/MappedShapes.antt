@@ -1,20 +1,18 @@
 -- The shape of a map that is in step with what the directory lists.
-use Rattle.std.proofs.Common.{◌≡◌, ℕ, true, List, Option, Some, None, refl, sym, ap, ◌∙◌, is_eq, option_map}
+use Rattle.std.proofs.Common.{◌≡◌, ℕ, true, List, Option, Some, None, refl, sym, ap, ◌∙◌, option_map}
 use Rattle.std.specs.Map.{keys_of}
 use Rattle.std.specs.List.Sorted.{IsStrictlySortedBy}
 use Rattle.hmac_keys.specs.declared.Keys.{Keys}
 use Rattle.store_model.specs.declared.name.ObjectName.{ObjectName}
 use Rattle.store_model.specs.Name.{name_cmp}
-use Rattle.store_model.specs.Object.{Object, object_at, size_of}
+use Rattle.store_model.specs.Object.{Object}
 use Rattle.store_model.specs.Standing.{Standing}
 use Rattle.store_model.proofs.Maps.{at}
 use Rattle.dir_records.specs.declared.entry.DirEntry.{DirEntry}
 use Rattle.crash_core.specs.Entries.{name_of}
 use Rattle.crash_core.specs.EntryLists.{AreDistinct, entry_at}
 use Rattle.history_seats.specs.Mounts.{Entry}
-use Rattle.history_seats.specs.Records.{Version}
-use Rattle.core_parts.specs.GateParts.{IsVersionOf}
-use Rattle.core_parts.specs.Listed.{AreListed, IsInDirectory, history_entry}
+use Rattle.core_parts.specs.Listed.{AreListed, IsInDirectory}
 use Rattle.suppositions.specs.Guesses.{Guess, object_under}
 use Rattle.suppositions.specs.Listings.{HaveListedVersions}
 use Rattle.suppositions.specs.Mapped.{IsInStep, Versions, object_by}
@@ -22,7 +20,7 @@ use Rattle.suppositions.specs.Stores.{entry_named}
 use Rattle.suppositions.proofs.Listed.{listed_named, name_found, named_there}
 use Rattle.suppositions.proofs.Mending.{none_some, size_under}
 use Rattle.machine_shape.specs.Shapes.{HasShape}
-use Rattle.machine_shape.specs.ShapeLaws.{MappedEntriesHaveShape}
+use Rattle.machine_shape.specs.MappedLaws.{LandedEntriesHaveShape, MappedEntriesHaveShape}
 
 -- a name that has an object is that of an entry
 entry_of : (keys : Keys) (guess : Guess) (versions : Versions) (listed : List (Option DirEntry)) (entries : List Entry) → AreListed listed entries
@@ -42,15 +40,19 @@ pub step_shape : (keys : Keys) (guess : Guess) (versions : Versions) (listed : L
     → IsStrictlySortedBy name_cmp (keys_of s.state.objects) → HasShape listed s.state.objects
 step_shape keys guess versions listed entries s step lists have distinct rising = record {
   each = λ index e stood.
-      let version = have index e stood in
-      ( object_under keys guess e.file e.generation version.0,
+      let version = have index e stood in (
+        object_under keys guess e.file e.generation version.0,
         step.objects (name_of e)
-        ∙ ap (object_by keys guess versions) (listed_named listed entries lists distinct index e stood)
-        ∙ ap (option_map (object_under keys guess e.file e.generation)) version.1,
-        size_under keys guess e.file e.generation version.0 ∙ (version.2).size );
+            ∙ ap (object_by keys guess versions) (listed_named listed entries lists distinct index e stood)
+            ∙ ap (option_map (object_under keys guess e.file e.generation)) version.1,
+        size_under keys guess e.file e.generation version.0 ∙ (version.2).size,
+      );
   back = λ name object stands. entry_of keys guess versions listed entries lists name object (sym (step.objects name) ∙ stands);
   rising = rising;
 }
 
 pub mapped_shape : MappedEntriesHaveShape
 mapped_shape store guess records listed mapped lists have distinct rising = step_shape store.keys guess _ listed _ _ mapped lists have distinct rising
+
+pub landed_shape : LandedEntriesHaveShape
+landed_shape store guess records doubt listed mapped lists have distinct rising = step_shape store.keys guess _ listed _ _ mapped lists have distinct rising

@@ -1,6 +1,9 @@
 pub mod Shapes
+pub mod MappedLaws
 pub mod ShapeLaws
 pub mod Numbers
+pub mod LookLaws
+pub mod ChangeLaws
 pub mod OpenHandles
 pub mod WellOpened
 pub mod HandleLaws

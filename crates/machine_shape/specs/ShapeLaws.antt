@@ -1,24 +1,26 @@
--- Where the shape of the map comes from, and what it tells.
-use Rattle.std.specs.Prelude.{◌≡◌, List, Option}
-use Rattle.std.specs.Map.{keys_of}
-use Rattle.std.specs.List.Sorted.{IsStrictlySortedBy}
-use Rattle.store_model.specs.Name.{name_cmp}
+-- What the entries tell of a map of their shape.
+use Rattle.std.specs.Prelude.{◌≡◌, ℕ, ◌≤◌, true, is_some, List, length, Option}
+use Rattle.std.specs.List.{count_by}
+use Rattle.store_model.specs.declared.name.ObjectName.{ObjectName}
+use Rattle.store_model.specs.Object.{ObjectMap, holds}
 use Rattle.dir_records.specs.declared.entry.DirEntry.{DirEntry}
 use Rattle.crash_core.specs.EntryLists.{AreDistinct}
-use Rattle.history_seats.specs.Records.{HistoryRecord}
-use Rattle.history_seats.specs.Directory.{given_version}
-use Rattle.core_parts.specs.Listed.{AreListed}
-use Rattle.suppositions.specs.Guesses.{Guess}
-use Rattle.suppositions.specs.Listings.{HaveListedVersions}
-use Rattle.suppositions.specs.Mapped.{IsMapped}
-use Rattle.suppositions.specs.Stores.{Store, entries_at, standing_at}
+use Rattle.crash_core.specs.EntryChanges.{IsEntryOf}
 use Rattle.machine_shape.specs.Shapes.{HasShape}
 
--- Where the map is in step with the history, and the directory lists the history's entries, each with its version, the map has the
--- directory's names and sizes. That is so whatever the objects' files are.
-abbrev pub MappedEntriesHaveShape : Type 0
-MappedEntriesHaveShape =
-    (store : Store) (guess : Guess) (records : List HistoryRecord) (listed : List (Option DirEntry)) → IsMapped store guess records
-    → AreListed listed (entries_at store records).now → HaveListedVersions listed (given_version store.mounted records) → AreDistinct listed
-    → IsStrictlySortedBy name_cmp (keys_of (standing_at store guess records).state.objects)
-    → HasShape listed (standing_at store guess records).state.objects
+-- There are as many objects as entries that are not free.
+abbrev pub ObjectsAreEntries : Type 0
+ObjectsAreEntries =
+    (entries : List (Option DirEntry)) (objects : ObjectMap) → AreDistinct entries → HasShape entries objects
+    → length objects ≡ count_by is_some entries
+
+-- There are at most as many objects as places of entries.
+abbrev pub ObjectsFitEntries : Type 0
+ObjectsFitEntries =
+    (entries : List (Option DirEntry)) (objects : ObjectMap) → AreDistinct entries → HasShape entries objects → length objects ≤ length entries
+
+-- A name that is held is that of an entry.
+abbrev pub HeldNamesAreListed : Type 0
+HeldNamesAreListed =
+    (entries : List (Option DirEntry)) (objects : ObjectMap) (name : ObjectName) → HasShape entries objects
+    → holds objects name ≡ true → (index : ℕ) × IsEntryOf entries index name

@@ -14,5 +14,9 @@ pub use laws::opens::{
     answered_calls_keep_open, drops_take_one_record, landed_commits_keep_open,
     made_commits_keep_open, openings_are_open, undone_calls_keep_open,
 };
-pub use laws::shapes::mapped_entries_have_shape;
+pub use laws::shapes::{
+    applications_are_listed, changes_keep_shape, free_places_are_room, held_names_are_listed,
+    landed_entries_have_shape, mapped_entries_have_shape, named_entries_are_objects,
+    next_entries_are_next_objects, objects_are_entries, objects_fit_entries,
+};
 pub use laws::sharing::{files_allow_as_names, files_are_open_as_names};
