@@ -20,7 +20,7 @@ use Rattle.store_model.specs.declared.session.Handle.{Handle}
 use Rattle.store_model.specs.Name.{name_eq}
 use Rattle.store_model.specs.Object.{Contents, Damaged, Object, Sound, changed_object, holds, is_damaged, object_at, size_at, with_object}
 use Rattle.store_model.specs.Machine.{MachineState, Outcome, Session, by_handle, by_right, first_refusal, handle_at, name_in, new_session, of_sound, refuse, session_at, unless_refused}
-use Rattle.store_model.specs.Handles.{allows_open, close_of, create_of, create_refusals, has_open, open_of, open_refusals}
+use Rattle.store_model.specs.Handles.{allows_open, close_of, create_of, create_refusals, has_open, open_handle, open_of, open_refusals}
 use Rattle.store_model.specs.Data.{bytes_at, info_of, meets_block, read_of, resized_contents, seek_base, seek_of, truncate_of, truncate_refusals, with_contents, with_position, write_of, write_refusals, written_contents}
 use Rattle.store_model.specs.Naming.{delete_of, rename_of}
 use Rattle.store_model.specs.Enumerating.{by_cursor, enum_free_of, enum_gives, enum_new_of, enum_next_of, enum_reset_of, enum_start_of, is_of, with_enumerators}
@@ -129,7 +129,7 @@ module _ (s : MachineState) (well : WellOpened s) where
   fine-create i id flags attributes bytes =
       let name : ObjectName = name_in s i id in
       let c : Contents = record { attributes = attributes; bytes = bytes; bad = [] } in
-      fine-unless (create_refusals s i name flags attributes bytes) s _ well
+      fine-unless (create_refusals s i name flags attributes bytes) s (open_handle (record s { objects = with_object s.objects name (Sound c) }) i name (without_overwrite flags)) well
       (λ none.
       well_opened-open s well (with_object s.objects name (Sound c)) i name (without_overwrite flags) (keeps_sound-with s.objects name c) (sound-put s.objects name c)
       (λ j other g live same. absurd (create-alone i id flags attributes bytes none j other g live same)))

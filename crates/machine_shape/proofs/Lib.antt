@@ -21,6 +21,7 @@ pub mod LinkedCalls
 pub mod ChangedFiles
 pub mod MadeOpens
 pub mod CommitOpens
+pub mod EventOpens
 pub mod ChangedShapes
 pub mod MadeShapes
 pub mod CountedShapes

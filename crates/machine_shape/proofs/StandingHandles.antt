@@ -88,7 +88,7 @@ well_standing-replay s [] due well = well
 well_standing-replay s (r ∷ records) due well =
     well_standing-replay (standing_after s r.event (file_of r)) records due.1 (well_standing-after s well r.event (file_of r) due.0)
 
-unmarked : (counter commit : ℕ) (b : Bool) → Doubtful commit ≡ mark_of counter b → ⊥
+pub unmarked : (counter commit : ℕ) (b : Bool) → Doubtful commit ≡ mark_of counter b → ⊥
 unmarked counter commit true is = cc (is)
 unmarked counter commit false is = cc (is)
 

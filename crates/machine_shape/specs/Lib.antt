@@ -9,3 +9,4 @@ pub mod WellOpened
 pub mod HandleLaws
 pub mod SharingLaws
 pub mod OpenLaws
+pub mod EventLaws

@@ -6,6 +6,10 @@
 
 mod laws;
 
+pub use laws::events::{
+    doubtful_events_keep_open, landed_events_keep_open, made_events_keep_open,
+    unchanged_events_keep_open,
+};
 pub use laws::handles::{
     answered_handles_are_well_opened, calls_keep_well_opened, landings_keep_well_opened,
     legal_doubts_are_due, openings_are_well_opened, replays_keep_well_opened,
