@@ -13,7 +13,7 @@ use Rattle.store_model.proofs.Maps.{name_cmp_total}
 use Rattle.crash_core.specs.Entries.{name_of}
 use Rattle.crash_core.specs.EntryLists.{AreDistinct, entry_at}
 use Rattle.crash_core.specs.EntryChanges.{IsNewEntry, IsNextEntry, IsPlaceOf}
-use Rattle.machine_shape.specs.OpenLaws.{HasFile}
+use Rattle.machine_shape.specs.OpenHandles.{HasFile}
 use Rattle.machine_shape.proofs.OpenSteps.{KeepsFile}
 
 -- an entry at the index is not that of the name

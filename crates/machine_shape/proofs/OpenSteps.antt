@@ -12,8 +12,7 @@ use Rattle.store_model.specs.declared.session.Handle.{Handle}
 use Rattle.store_model.specs.Machine.{Session, handle_at, new_session}
 use Rattle.store_commit.specs.Noting.{AddsHandle}
 use Rattle.machine_shape.specs.Numbers.{HasNumbers}
-use Rattle.machine_shape.specs.OpenHandles.{AreOpen, IsRecordOf}
-use Rattle.machine_shape.specs.OpenLaws.{HasFile}
+use Rattle.machine_shape.specs.OpenHandles.{AreOpen, IsRecordOf, HasFile}
 use Rattle.machine_shape.proofs.EntryInserts.{inserted-found, inserted-here, inserted-other, numbered-higher, numbered-inserted}
 use Rattle.machine_shape.proofs.EntryLists.{added-found, added-new, added-old, at_number}
 use Rattle.machine_shape.proofs.QuietSteps.{set_numbers}
@@ -36,8 +35,7 @@ KeepsFile entries after name = (file : ℕ) → HasFile entries name file → Ha
 
 pub record-after : (entries after : List (Option DirEntry)) (i number : ℕ) (h h' : Handle) (r : OpenRecord) → IsRecordOf entries i number h r → Follows entries after h h' → IsRecordOf after i number h' r
 record-after entries after i number h h' r of follows =
-    let file = follows.files r.file (record { index = of.index; named = of.named; is = of.file }) in
-    record { session = of.session; handle = of.handle; flags = of.flags ∙ sym follows.flags; index = file.index; named = file.named; file = file.is }
+    record { session = of.session; handle = of.handle; flags = of.flags ∙ sym follows.flags; file = follows.files r.file of.file }
 
 -- the live handles of the sessions, one for one
 pub record Pairs (entries after : List (Option DirEntry)) (sessions later : List Session) : Type 0 where
@@ -84,7 +82,7 @@ module _ (entries after : List (Option DirEntry)) (old new : TableState) (sessio
       added = record { file = file; session = i; handle = next; flags = flags }
 
       own : IsRecordOf after i next handle added
-      own = record { session = refl; handle = refl; flags = refl; index = here.index; named = here.named; file = here.is }
+      own = record { session = refl; handle = refl; flags = refl; file = here }
 
       -- an old record is one of the new table, for its handle
       old-record : (k number : ℕ) (h : Handle) → IsLive sessions k number h → (key : ℕ) × (r : OpenRecord) × (record_at new key ≡ Some r) × IsRecordOf after k number h r
@@ -109,9 +107,11 @@ module _ (entries after : List (Option DirEntry)) (old new : TableState) (sessio
               session = sym set_.0;
               handle = sym is.0;
               flags = ap (λ (x : Handle). x.flags) (sym is.1);
-              index = here.index;
-              named = record { entry = here.named.entry; at = here.named.at; named = here.named.named ∙ ap (λ (x : Handle). x.name) (sym is.1) };
-              file = here.is;
+              file = record {
+                index = here.index;
+                named = record { entry = here.named.entry; at = here.named.at; named = here.named.named ∙ ap (λ (x : Handle). x.name) (sym is.1) };
+                is = here.is;
+              };
             },
           )
         ]

@@ -87,8 +87,8 @@ module _ (entries : List (Option DirEntry)) (table : TableState) (sessions : Lis
   live-on key r found same =
       let back = are_open.back key r found in
       let of = back.1.2 in
-      let one : of.named.entry ≡ e = by-file of.index of.named.entry of.named.at (sym of.file ∙ same) in
-      record { handle = back.1.0; live = back.1.1; name = sym of.named.named ∙ ap name_of one; flags = of.flags }
+      let one : of.file.named.entry ≡ e = by-file of.file.index of.file.named.entry of.file.named.at (sym of.file.is ∙ same) in
+      record { handle = back.1.0; live = back.1.1; name = sym of.file.named.named ∙ ap name_of one; flags = of.flags }
 
   -- a live handle on the object has a record of the file
   record RecordOn (h : Handle) : Type 0 where
@@ -102,8 +102,8 @@ module _ (entries : List (Option DirEntry)) (table : TableState) (sessions : Lis
   record-on i number h within live same =
       let each = are_open.each i number h within live in
       let of = each.3 in
-      let one : of.named.entry ≡ e = by-name of.index of.named.entry of.named.at (of.named.named ∙ same) in
-      record { key = each.0; it = each.1; found = each.2; file = of.file ∙ ap (λ (f : DirEntry). f.file) one; flags = of.flags }
+      let one : of.file.named.entry ≡ e = by-name of.file.index of.file.named.entry of.file.named.at (of.file.named.named ∙ same) in
+      record { key = each.0; it = each.1; found = each.2; file = of.file.is ∙ ap (λ (f : DirEntry). f.file) one; flags = of.flags }
 
   module _ (flags : Flags) where
     allows-by_name : allows_on_file table e.file flags ≡ true → list_all (allows_open name flags) sessions ≡ true
