@@ -1,18 +1,17 @@
 -- The handle that may rename is alone on its object: the object is moved or taken away under no other handle.
-use Rattle.std.proofs.Common.{◌≡◌, ◌≢◌, ◌<◌, ◌⊎◌, ◌==◌, ℕ, Bool, true, false, true≢false, List, [], length, Option, Some, None, is_some, inl, inr, refl, sym, ap, ◌∙◌, subst}
-use Rattle.std.specs.Ordering.{is_eq}
+use Rattle.std.proofs.Common.{◌≡◌, ◌≢◌, ◌<◌, ◌⊎◌, ℕ, true, false, true≢false, [], length, Some, is_some, inl, inr, sym, ap, ◌∙◌, subst}
 use Rattle.std.proofs.lemmas.Bool.{cases_Bool}
-use Rattle.tee_types.specs.Rights.{are_compatible, has, write_meta_bit}
+use Rattle.tee_types.specs.Rights.{has, write_meta_bit}
 use Rattle.store_model.specs.declared.name.ObjectName.{ObjectName}
 use Rattle.store_model.specs.declared.session.Handle.{Handle}
-use Rattle.store_model.specs.Object.{Contents, Object, ObjectMap, Sound, holds, moved_object, object_at, with_object, without_object}
+use Rattle.store_model.specs.Object.{ObjectMap, Sound, holds, moved_object, object_at, without_object}
 use Rattle.store_model.specs.Machine.{MachineState, Session, handle_at, new_session, session_at, with_handle, with_session, without_handle}
-use Rattle.store_model.proofs.Maps.{at, moved_object-held, name_cmp_total}
+use Rattle.store_model.proofs.Maps.{at, moved_object-held}
 use Rattle.store_model.proofs.MapLaws.{alike}
 use Rattle.crash_core.proofs.Names.{alike_is}
 use Rattle.machine_shape.specs.WellOpened.{IsSoundAt, WellOpened}
 use Rattle.machine_shape.proofs.EntryLists.{put-found, taken-found}
-use Rattle.machine_shape.proofs.Sharing.{are_compatible-alone, are_compatible-turned}
+use Rattle.machine_shape.proofs.Sharing.{are_compatible-alone}
 use Rattle.machine_shape.proofs.HandleSteps.{IsNewHandle, IsOld, NoNew, same_itself, well_after}
 use Rattle.machine_shape.proofs.NewHandles.{keeps_sound-with, sound-put, without-other}
 use Rattle.machine_shape.proofs.QuietSteps.{no_new, numbers-with, numbers-without, set_numbers}

@@ -1,8 +1,8 @@
 -- Each call of the machine leaves its handles well opened.
-use Rattle.std.proofs.Common.{◌≡◌, ◌==◌, ◌+◌, ℕ, zero, suc, Bool, true, false, true≢false, cond, not, ◌&&◌, ◌||◌, List, [], ◌∷◌, length, slice_index_or, Option, Some, None, is_some, refl, sym, ap, ◌∙◌, subst, pos, ◌+ℤ◌, int_lt}
+use Rattle.std.proofs.Common.{◌≡◌, ◌≢◌, ◌==◌, ◌+◌, ℕ, zero, suc, Bool, true, false, true≢false, cond, not, ◌&&◌, ◌||◌, List, [], ◌∷◌, length, slice_index_or, Option, Some, None, is_some, refl, sym, ap, ◌∙◌, pos, ◌+ℤ◌, int_lt}
 use Rattle.std.specs.List.{list_all, list_any}
 use Rattle.std.specs.Ordering.{is_eq}
-use Rattle.std.proofs.lemmas.Bool.{and_parts, or_parts}
+use Rattle.std.proofs.lemmas.Bool.{and_parts}
 use Rattle.std.proofs.lemmas.Cmp.{tied_itself}
 use Rattle.std.proofs.lemmas.List.Folds.{list_any_at}
 use Rattle.enumerators.specs.declared.cursor.Cursor.{Cursor}
@@ -20,7 +20,7 @@ use Rattle.store_model.specs.declared.session.Handle.{Handle}
 use Rattle.store_model.specs.Name.{name_eq}
 use Rattle.store_model.specs.Object.{Contents, Damaged, Object, Sound, changed_object, holds, is_damaged, object_at, size_at, with_object}
 use Rattle.store_model.specs.Machine.{MachineState, Outcome, Session, by_handle, by_right, first_refusal, handle_at, name_in, new_session, of_sound, refuse, session_at, unless_refused}
-use Rattle.store_model.specs.Handles.{allows_open, close_of, create_of, create_refusals, has_open, open_of, open_refusals}
+use Rattle.store_model.specs.Handles.{allows_open, close_of, create_of, create_refusals, has_open, open_handle, open_of, open_refusals}
 use Rattle.store_model.specs.Data.{bytes_at, info_of, meets_block, read_of, resized_contents, seek_base, seek_of, truncate_of, truncate_refusals, with_contents, with_position, write_of, write_refusals, written_contents}
 use Rattle.store_model.specs.Naming.{delete_of, rename_of}
 use Rattle.store_model.specs.Enumerating.{by_cursor, enum_free_of, enum_gives, enum_new_of, enum_next_of, enum_reset_of, enum_start_of, is_of, with_enumerators}
@@ -114,19 +114,25 @@ module _ (s : MachineState) (well : WellOpened s) where
   fine-gives i number None = well
   fine-gives i number (Some (id, size)) = quiet-enumerators s well i (advanced (session_at s i).enumerators number id)
 
+  -- no handle is open on the object that a create makes or replaces
+  pub create-alone : (i : ℕ) (id : List ℕ) (flags : Flags) (attributes bytes : List ℕ) → first_refusal (create_refusals s i (name_in s i id) flags attributes bytes) ≡ None
+      → (j other : ℕ) (g : Handle) → handle_at (session_at s j) other ≡ Some g → g.name ≢ name_in s i id
+  create-alone i id flags attributes bytes none j other g live same =
+      let name : ObjectName = name_in s i id in
+      let rows = all-off (create_refusals s i name flags attributes bytes) none in
+      let found : IsSoundAt s.objects g.name = well.sound j other g live in
+      let held : holds s.objects name ≡ true = ap (holds s.objects) (sym same) ∙ ap is_some found.is in
+      true≢false ((λ k. sym held k && sym (live-any s name j other g live same) k) ∙ rows.1.1.1.1.0)
+
   fine-create : (i : ℕ) (id : List ℕ) (flags : Flags) (attributes bytes : List ℕ) → Fine (create_of s i id flags attributes bytes)
   unfolding create_of
   fine-create i id flags attributes bytes =
       let name : ObjectName = name_in s i id in
       let c : Contents = record { attributes = attributes; bytes = bytes; bad = [] } in
-      fine-unless (create_refusals s i name flags attributes bytes) s _ well
+      fine-unless (create_refusals s i name flags attributes bytes) s (open_handle (record s { objects = with_object s.objects name (Sound c) }) i name (without_overwrite flags)) well
       (λ none.
-      let rows = all-off (create_refusals s i name flags attributes bytes) none in
       well_opened-open s well (with_object s.objects name (Sound c)) i name (without_overwrite flags) (keeps_sound-with s.objects name c) (sound-put s.objects name c)
-      (λ j other g live same.
-      let found : IsSoundAt s.objects g.name = well.sound j other g live in
-      let held : holds s.objects name ≡ true = ap (holds s.objects) (sym same) ∙ ap is_some found.is in
-      absurd (true≢false ((λ k. sym held k && sym (live-any s name j other g live same) k) ∙ rows.1.1.1.1.0))))
+      (λ j other g live same. absurd (create-alone i id flags attributes bytes none j other g live same)))
 
   fine-open : (i : ℕ) (id : List ℕ) (flags : Flags) → Fine (open_of s i id flags)
   unfolding open_of

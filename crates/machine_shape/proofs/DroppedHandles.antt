@@ -1,12 +1,12 @@
 -- A handle that is dropped takes its own record away, and no other; the table keeps the handles that are left.
-use Rattle.std.proofs.Common.{◌≡◌, ◌≢◌, ◌<◌, ◌==◌, ◌⊎◌, ◌↔◌, ℕ, Bool, true, false, true≢false, ◌&&◌, List, [], length, length-set, slice_set, Option, Some, None, find, inl, inr, refl, sym, ap, ◌∙◌, subst, arith, eq-eqb, eqb-true}
+use Rattle.std.proofs.Common.{◌≡◌, ◌≢◌, ◌<◌, ◌==◌, ◌⊎◌, ◌↔◌, ℕ, Bool, true, true≢false, ◌&&◌, List, [], length, length-set, slice_set, Option, Some, None, find, inl, inr, refl, sym, ap, ◌∙◌, subst, arith, eq-eqb, eqb-true}
 use Rattle.std.specs.Option.{option_map}
 use Rattle.std.proofs.lemmas.Bool.{and_parts, cases_eq}
 use Rattle.enumerators.specs.Places.{IsNumbered}
 use Rattle.enumerators.proofs.Numbering.{IsNumbered-remove_entry}
 use Rattle.dir_records.specs.declared.entry.DirEntry.{DirEntry}
 use Rattle.open_table.specs.declared.table.OpenRecord.{OpenRecord}
-use Rattle.open_table.specs.Table.{TableState, key_of, record_at}
+use Rattle.open_table.specs.Table.{TableState, record_at}
 use Rattle.store_model.specs.declared.session.Handle.{Handle}
 use Rattle.store_model.specs.Machine.{Session, handle_at, new_session, without_handle}
 use Rattle.store_commit.specs.Noting.{DropsHandle, WithoutKey}

@@ -1,14 +1,12 @@
 -- A step of the machine keeps its handles well opened: each live handle after it is one of before, or the one that is new.
-use Rattle.std.proofs.Common.{◌≡◌, ◌⊎◌, ℕ, true, Some, inl, inr, refl, sym, ap, ◌∙◌, subst}
+use Rattle.std.proofs.Common.{◌≡◌, ◌⊎◌, ℕ, true, Some, inl, inr, refl, sym, ◌∙◌}
 use Rattle.tee_types.specs.Rights.{are_compatible}
-use Rattle.store_model.specs.declared.name.ObjectName.{ObjectName}
 use Rattle.store_model.specs.declared.session.Handle.{Handle}
-use Rattle.store_model.specs.Object.{ObjectMap, object_at}
-use Rattle.store_model.specs.Machine.{MachineState, Session, handle_at, session_at, with_session}
+use Rattle.store_model.specs.Object.{ObjectMap}
+use Rattle.store_model.specs.Machine.{MachineState, Session, handle_at, session_at}
 use Rattle.machine_shape.specs.Numbers.{HasNumbers}
 use Rattle.machine_shape.specs.WellOpened.{IsSoundAt, WellOpened}
 use Rattle.machine_shape.proofs.Sharing.{are_compatible-turned}
-use Rattle.machine_shape.proofs.SessionLists.{set-cases}
 
 -- the handle is a live one of the session but for its position
 pub record IsSame (session : Session) (number : ℕ) (h : Handle) : Type 0 where

@@ -2,12 +2,11 @@
 use Rattle.std.proofs.Common.{◌≡◌, ℕ, Bool, true, false, true≢false, cond, List, [], Option, Some, None, refl, sym, ap, ◌∙◌, subst}
 use Rattle.tee_types.specs.declared.call.Call.{Call}
 use Rattle.tee_types.specs.declared.call.Call.TheVariants.{Create, Write, Truncate, Rename, Delete}
-use Rattle.tee_types.specs.declared.flags.Flags.{Flags}
 use Rattle.tee_types.specs.declared.reply.Reply.TheVariants.{Misuse}
 use Rattle.tee_types.specs.declared.reply.Reason.TheVariants.{NoRight}
 use Rattle.tee_types.specs.Rights.{has, write_meta_bit}
 use Rattle.store_model.specs.declared.session.Handle.{Handle}
-use Rattle.store_model.specs.Object.{Contents, Object, ObjectMap, Sound, changed_object}
+use Rattle.store_model.specs.Object.{Contents, ObjectMap, changed_object}
 use Rattle.store_model.specs.Machine.{MachineState, Outcome, by_right, handle_at, name_in, refuse, session_at, with_session}
 use Rattle.store_model.specs.Naming.{delete_of, rename_of}
 use Rattle.store_model.specs.Calls.{is_commit, is_done, reply_of, state_after}
@@ -30,11 +29,11 @@ done-right s right (Some g) done h is made = let same : g ≡ h = cc (is) in ap 
     one true m = refl
     one false m = absurd (true≢false (sym m))
 
-rename-right : (s : MachineState) (i number : ℕ) (id : List ℕ) (h : Handle) → handle_at (session_at s i) number ≡ Some h → is_done (rename_of s i number id).reply ≡ true → has h.flags write_meta_bit ≡ true
+pub rename-right : (s : MachineState) (i number : ℕ) (id : List ℕ) (h : Handle) → handle_at (session_at s i) number ≡ Some h → is_done (rename_of s i number id).reply ≡ true → has h.flags write_meta_bit ≡ true
 unfolding rename_of
 rename-right s i number id h live made = done-right s write_meta_bit (handle_at (session_at s i) number) _ h live made
 
-delete-right : (s : MachineState) (i number : ℕ) (h : Handle) → handle_at (session_at s i) number ≡ Some h → is_done (delete_of s i number).reply ≡ true → has h.flags write_meta_bit ≡ true
+pub delete-right : (s : MachineState) (i number : ℕ) (h : Handle) → handle_at (session_at s i) number ≡ Some h → is_done (delete_of s i number).reply ≡ true → has h.flags write_meta_bit ≡ true
 unfolding delete_of
 delete-right s i number h live made = done-right s write_meta_bit (handle_at (session_at s i) number) _ h live made
 

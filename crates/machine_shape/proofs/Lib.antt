@@ -1,10 +1,4 @@
 pub mod MappedShapes
-pub mod ChangedShapes
-pub mod MadeShapes
-pub mod CountedShapes
-pub mod Rooms
-pub mod ShownNames
-pub mod NextObjects
 pub mod EntryLists
 pub mod Sharing
 pub mod SessionLists
@@ -16,7 +10,6 @@ pub mod CallHandles
 pub mod LandedHandles
 pub mod StandingHandles
 pub mod HandleLaws
-pub mod LookedUp
 pub mod EntryTests
 pub mod EntryInserts
 pub mod SharedFiles
@@ -24,3 +17,15 @@ pub mod OpenSteps
 pub mod DroppedHandles
 pub mod Rights
 pub mod OpenCalls
+pub mod LinkedCalls
+pub mod ChangedFiles
+pub mod MadeOpens
+pub mod CommitOpens
+pub mod EventOpens
+pub mod ChangedShapes
+pub mod MadeShapes
+pub mod CountedShapes
+pub mod Rooms
+pub mod ShownNames
+pub mod NextObjects
+pub mod LookedUp

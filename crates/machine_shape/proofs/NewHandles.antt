@@ -1,29 +1,22 @@
 -- Steps that give a handle, and those of the handle that may rename: it is alone on its object.
-use Rattle.std.proofs.Common.{◌≡◌, ◌≢◌, ◌<◌, ◌⊎◌, ◌==◌, ◌+◌, ℕ, Bool, true, false, true≢false, cond, List, [], ◌∷◌, ◌++◌, Option, Some, None, is_some, inl, inr, refl, sym, ap, ◌∙◌, subst, arith, eq-eqb}
-use Rattle.std.specs.Map.{lookup}
+use Rattle.std.proofs.Common.{◌≡◌, ◌⊎◌, ◌+◌, ℕ, Bool, true, false, true≢false, cond, [], ◌∷◌, ◌++◌, Option, Some, is_some, inl, inr, refl, sym, ap, ◌∙◌, subst}
 use Rattle.std.specs.Ordering.{is_eq}
-use Rattle.std.proofs.lemmas.Bool.{cases_Bool}
 use Rattle.enumerators.proofs.Numbering.{IsNumbered-append}
 use Rattle.tee_types.specs.declared.flags.Flags.{Flags}
-use Rattle.tee_types.specs.Rights.{are_compatible, has, write_meta_bit}
+use Rattle.tee_types.specs.Rights.{are_compatible}
 use Rattle.store_model.specs.declared.name.ObjectName.{ObjectName}
 use Rattle.store_model.specs.declared.session.Handle.{Handle}
-use Rattle.store_model.specs.Name.{name_cmp}
-use Rattle.store_model.specs.Object.{Contents, Object, ObjectMap, Sound, holds, moved_object, object_at, with_object, without_object, changed_object}
-use Rattle.store_model.specs.Machine.{MachineState, Session, handle_at, new_session, session_at, with_handle, with_session, without_handle}
-use Rattle.store_model.specs.Handles.{open_handle}
+use Rattle.store_model.specs.Object.{Contents, Object, ObjectMap, Sound, object_at, with_object, without_object, changed_object}
+use Rattle.store_model.specs.Machine.{MachineState, Session, handle_at, new_session, session_at, with_session}
 use Rattle.store_model.proofs.Maps.{at, name_cmp_total}
 use Rattle.std.proofs.lemmas.Cmp.{tied_itself}
 use Rattle.store_model.proofs.MapLaws.{alike, object_at-with, object_at-changed}
-use Rattle.store_model.proofs.Maps.{moved_object-held}
 use Rattle.crash_core.proofs.Names.{alike_is}
-use Rattle.machine_shape.specs.Numbers.{HasNumbers}
 use Rattle.machine_shape.specs.WellOpened.{IsSoundAt, WellOpened}
-use Rattle.machine_shape.proofs.EntryLists.{added-found, put-found, taken-found}
-use Rattle.machine_shape.proofs.Sharing.{are_compatible-alone}
-use Rattle.machine_shape.proofs.HandleSteps.{IsNewHandle, IsOld, IsSame, NoNew, same_itself, well_after}
-use Rattle.machine_shape.proofs.QuietSteps.{KeepsSound, no_new, numbers-with, numbers-without, set_numbers}
-use Rattle.machine_shape.proofs.SessionLists.{live-within, set-cases, set-in}
+use Rattle.machine_shape.proofs.EntryLists.{added-found}
+use Rattle.machine_shape.proofs.HandleSteps.{IsNewHandle, IsOld, same_itself, well_after}
+use Rattle.machine_shape.proofs.QuietSteps.{KeepsSound, set_numbers}
+use Rattle.machine_shape.proofs.SessionLists.{set-cases}
 
 -- objects that are put and changed are sound, and the others stay
 sound_cond : (b : Bool) (c : Contents) (old : Option Object) (objects : ObjectMap) (name : ObjectName) → object_at objects name ≡ cond b (Some (Sound c)) old

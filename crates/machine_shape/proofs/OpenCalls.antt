@@ -1,41 +1,25 @@
--- A call that is answered as the machine does, and is no commit, and the table of open handles.
-use Rattle.std.proofs.Common.{◌≡◌, ◌==◌, ◌<◌, ◌+◌, ◌⊎◌, ℕ, Bool, true, false, true≢false, cond, not, ◌||◌, List, [], ◌∷◌, length, length-set, slice_set, Option, Some, None, inl, inr, refl, sym, ap, ◌∙◌, subst, pos, ◌+ℤ◌, int_lt, arith}
-use Rattle.std.specs.List.{list_all, list_any}
+-- Handles that stay, but for positions and names, and calls that are not done, beside the table of open handles.
+use Rattle.std.proofs.Common.{◌≡◌, ◌<◌, ℕ, true, false, true≢false, List, [], length, length-set, slice_set, Option, Some, inl, inr, refl, sym, ap, ◌∙◌, subst}
 use Rattle.std.proofs.lemmas.Bool.{cases_eq}
-use Rattle.enumerators.specs.declared.cursor.Cursor.{Cursor}
-use Rattle.enumerators.specs.Enumeration.{EnumeratorTable, advanced, allocated, cursor_at, freed, has_all, reset, started}
+use Rattle.enumerators.specs.Enumeration.{EnumeratorTable}
 use Rattle.tee_types.specs.declared.call.Call.{Call}
-use Rattle.tee_types.specs.declared.call.Call.TheVariants.{Create, Open, Close, Read, Write, Truncate, Seek, Rename, Delete, Info, EnumNew, EnumStart, EnumNext, EnumReset, EnumFree}
-use Rattle.tee_types.specs.declared.flags.Flags.{Flags}
+use Rattle.tee_types.specs.declared.call.Call.TheVariants.{Create, Open, Close, Delete}
 use Rattle.tee_types.specs.declared.reply.Reply.{Reply}
-use Rattle.tee_types.specs.declared.reply.Reply.TheVariants.{Misuse, Corrupt, Refused, NotAvailable, CounterSpent, Done, Handle as HandleReply}
-use Rattle.tee_types.specs.declared.reply.Code.TheVariants.{ItemNotFound, Overflow, AccessConflict}
-use Rattle.tee_types.specs.declared.reply.Reason.TheVariants.{BadHandle, BadEnumerator, NoRight, TooMany}
-use Rattle.tee_types.specs.Rights.{has, read_bit, without_overwrite, write_bit, write_meta_bit}
+use Rattle.tee_types.specs.declared.reply.Reply.TheVariants.{Done, Handle as HandleReply}
 use Rattle.dir_records.specs.declared.entry.DirEntry.{DirEntry}
-use Rattle.open_table.specs.declared.table.OpenRecord.{OpenRecord}
 use Rattle.open_table.specs.Table.{TableState}
 use Rattle.store_model.specs.declared.name.ObjectName.{ObjectName}
 use Rattle.store_model.specs.declared.session.Handle.{Handle}
-use Rattle.store_model.specs.Object.{Contents, Damaged, Object, ObjectMap, Sound, holds, object_at, size_at}
-use Rattle.store_model.specs.Machine.{MachineState, Outcome, Session, by_handle, by_right, first_refusal, handle_at, name_in, new_session, of_sound, refuse, session_at, unless_refused, with_handle}
-use Rattle.store_model.specs.Handles.{close_of, create_of, create_refusals, open_of, open_refusals}
-use Rattle.store_model.specs.Data.{bytes_at, info_of, meets_block, read_of, seek_base, seek_of, truncate_of, truncate_refusals, write_of, write_refusals}
-use Rattle.store_model.specs.Naming.{delete_of, rename_of}
-use Rattle.store_model.specs.Enumerating.{by_cursor, enum_free_of, enum_gives, enum_new_of, enum_next_of, enum_reset_of, enum_start_of, is_of, with_enumerators}
-use Rattle.store_model.specs.Calls.{is_commit, is_done, is_handle, outcome_of}
+use Rattle.store_model.specs.Machine.{MachineState, Session, handle_at, new_session, session_at, with_handle}
+use Rattle.store_model.specs.Calls.{is_done, is_handle}
 use Rattle.store_model.specs.Standing.{is_undone}
-use Rattle.store_commit.specs.Noting.{AddsHandle, DropsHandle, NotesReply}
+use Rattle.store_commit.specs.Noting.{NotesReply}
 use Rattle.machine_shape.specs.Numbers.{HasNumbers}
 use Rattle.machine_shape.specs.OpenHandles.{AreOpen}
-use Rattle.machine_shape.specs.OpenLaws.{HasFile, IsOpenedFile}
-use Rattle.machine_shape.proofs.CallHandles.{all-off}
-use Rattle.machine_shape.proofs.DroppedHandles.{open-dropped}
 use Rattle.machine_shape.proofs.EntryLists.{put-found, put-here, put-other}
-use Rattle.machine_shape.proofs.OpenSteps.{Follows, IsLive, KeepsFile, Pairs, nth, open-added, open-same}
+use Rattle.machine_shape.proofs.OpenSteps.{Follows, IsLive, KeepsFile, Pairs, nth, open-same}
 use Rattle.machine_shape.proofs.QuietSteps.{numbers-with, set_numbers}
-use Rattle.machine_shape.proofs.Rights.{without_overwrite-same}
-use Rattle.machine_shape.proofs.SessionLists.{live-within, set-in}
+use Rattle.machine_shape.proofs.SessionLists.{set-in}
 
 -- a reply that gives no handle and is not Done changes no record
 pub quiet-notes : (old new : TableState) (file i : ℕ) (call : Call) (reply : Reply) → is_handle reply ≡ false → is_done reply ≡ false → NotesReply old new file i call reply → new.records ≡ old.records
@@ -109,7 +93,7 @@ handle-pairs entries after session number handle changed numbers live follows fi
   numbered = numbers-with session number changed numbers;
 }
 
-keeps-itself : (entries : List (Option DirEntry)) (name : ObjectName) → KeepsFile entries entries name
+pub keeps-itself : (entries : List (Option DirEntry)) (name : ObjectName) → KeepsFile entries entries name
 keeps-itself entries name file has_file = has_file
 
 module _ (entries : List (Option DirEntry)) (old new : TableState) (s : MachineState) (i : ℕ) (are_open : AreOpen entries old s.sessions) (within : i < length s.sessions) where
@@ -136,11 +120,6 @@ module _ (entries : List (Option DirEntry)) (old new : TableState) (s : MachineS
         numbered = are_open.numbered i;
       })
       (λ k n h other live'. keeps-itself entries h.name)) same
-
--- none of these replies gives a handle, or is Done
-abbrev NoNotes : List (Bool × Reply) → Type 0
-NoNotes [] = Unit {0}
-NoNotes (row ∷ rows) = (is_handle row.1 ≡ false) × (is_done row.1 ≡ false) × NoNotes rows
 
 pub undone_open : (entries : List (Option DirEntry)) (old new : TableState) (sessions : List Session) (i file : ℕ) (call : Call) (reply : Reply)
     → AreOpen entries old sessions → is_undone reply ≡ true → NotesReply old new file i call reply → AreOpen entries new sessions

@@ -1,25 +1,20 @@
 -- The table keeps the open handles: as they stay, as one is added, and as one is dropped.
-use Rattle.std.proofs.Common.{◌≡◌, ◌≢◌, ◌<◌, ◌≤◌, ◌==◌, ◌+◌, ◌⊎◌, ℕ, Bool, true, false, true≢false, ◌&&◌, List, [], ◌∷◌, ◌++◌, length, length-set, slice_index_or, slice_set, Option, Some, None, find, inl, inr, refl, sym, ap, ◌∙◌, subst, arith, eq-eqb, eqb-true}
-use Rattle.std.specs.Option.{option_map}
-use Rattle.std.proofs.lemmas.Bool.{and_parts, cases_eq}
+use Rattle.std.proofs.Common.{◌≡◌, ◌≢◌, ◌<◌, ◌+◌, ◌⊎◌, ℕ, List, [], ◌∷◌, ◌++◌, length, length-set, slice_index_or, slice_set, Option, Some, None, inl, inr, refl, sym, ap, ◌∙◌, subst, arith}
 use Rattle.std.proofs.lemmas.Grind.{get_or-set_at}
 use Rattle.enumerators.specs.Places.{IsNumbered}
-use Rattle.enumerators.proofs.Numbering.{IsNumbered-append, IsNumbered-remove_entry, lookup-next}
+use Rattle.enumerators.proofs.Numbering.{IsNumbered-append, lookup-next}
 use Rattle.tee_types.specs.declared.flags.Flags.{Flags}
 use Rattle.dir_records.specs.declared.entry.DirEntry.{DirEntry}
 use Rattle.open_table.specs.declared.table.OpenRecord.{OpenRecord}
-use Rattle.open_table.specs.Table.{TableState, key_of, record_at}
+use Rattle.open_table.specs.Table.{TableState, record_at}
 use Rattle.store_model.specs.declared.name.ObjectName.{ObjectName}
 use Rattle.store_model.specs.declared.session.Handle.{Handle}
-use Rattle.store_model.specs.Machine.{Session, handle_at, new_session, without_handle}
-use Rattle.crash_core.specs.EntryChanges.{IsEntryOf}
-use Rattle.store_commit.specs.Noting.{AddsHandle, DropsHandle, WithoutKey}
+use Rattle.store_model.specs.Machine.{Session, handle_at, new_session}
+use Rattle.store_commit.specs.Noting.{AddsHandle}
 use Rattle.machine_shape.specs.Numbers.{HasNumbers}
-use Rattle.machine_shape.specs.OpenHandles.{AreOpen, IsRecordOf}
-use Rattle.machine_shape.specs.OpenLaws.{HasFile}
+use Rattle.machine_shape.specs.OpenHandles.{AreOpen, IsRecordOf, HasFile}
 use Rattle.machine_shape.proofs.EntryInserts.{inserted-found, inserted-here, inserted-other, numbered-higher, numbered-inserted}
-use Rattle.machine_shape.proofs.EntryLists.{added-found, added-new, added-old, at_number, taken-found, taken-other}
-use Rattle.machine_shape.proofs.EntryTests.{find-found, find-none}
+use Rattle.machine_shape.proofs.EntryLists.{added-found, added-new, added-old, at_number}
 use Rattle.machine_shape.proofs.QuietSteps.{set_numbers}
 use Rattle.machine_shape.proofs.SessionLists.{live-within, set-in}
 
@@ -40,8 +35,7 @@ KeepsFile entries after name = (file : ℕ) → HasFile entries name file → Ha
 
 pub record-after : (entries after : List (Option DirEntry)) (i number : ℕ) (h h' : Handle) (r : OpenRecord) → IsRecordOf entries i number h r → Follows entries after h h' → IsRecordOf after i number h' r
 record-after entries after i number h h' r of follows =
-    let file = follows.files r.file (record { index = of.index; named = of.named; is = of.file }) in
-    record { session = of.session; handle = of.handle; flags = of.flags ∙ sym follows.flags; index = file.index; named = file.named; file = file.is }
+    record { session = of.session; handle = of.handle; flags = of.flags ∙ sym follows.flags; file = follows.files r.file of.file }
 
 -- the live handles of the sessions, one for one
 pub record Pairs (entries after : List (Option DirEntry)) (sessions later : List Session) : Type 0 where
@@ -88,7 +82,7 @@ module _ (entries after : List (Option DirEntry)) (old new : TableState) (sessio
       added = record { file = file; session = i; handle = next; flags = flags }
 
       own : IsRecordOf after i next handle added
-      own = record { session = refl; handle = refl; flags = refl; index = here.index; named = here.named; file = here.is }
+      own = record { session = refl; handle = refl; flags = refl; file = here }
 
       -- an old record is one of the new table, for its handle
       old-record : (k number : ℕ) (h : Handle) → IsLive sessions k number h → (key : ℕ) × (r : OpenRecord) × (record_at new key ≡ Some r) × IsRecordOf after k number h r
@@ -113,9 +107,11 @@ module _ (entries after : List (Option DirEntry)) (old new : TableState) (sessio
               session = sym set_.0;
               handle = sym is.0;
               flags = ap (λ (x : Handle). x.flags) (sym is.1);
-              index = here.index;
-              named = record { entry = here.named.entry; at = here.named.at; named = here.named.named ∙ ap (λ (x : Handle). x.name) (sym is.1) };
-              file = here.is;
+              file = record {
+                index = here.index;
+                named = record { entry = here.named.entry; at = here.named.at; named = here.named.named ∙ ap (λ (x : Handle). x.name) (sym is.1) };
+                is = here.is;
+              };
             },
           )
         ]

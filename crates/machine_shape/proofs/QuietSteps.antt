@@ -1,10 +1,10 @@
 -- Steps that give no handle: the handles stay but for positions and for one that is closed, and sound objects stay sound.
-use Rattle.std.proofs.Common.{◌≡◌, ◌≢◌, ◌⊎◌, ◌==◌, ℕ, true, Some, inl, inr, refl, sym, ap, ◌∙◌, subst, []}
+use Rattle.std.proofs.Common.{◌≡◌, ◌==◌, ℕ, Some, inl, inr, sym, ap, ◌∙◌, subst, []}
 use Rattle.enumerators.proofs.Numbering.{IsNumbered-set_value, IsNumbered-remove_entry}
 use Rattle.enumerators.specs.Enumeration.{EnumeratorTable}
 use Rattle.store_model.specs.declared.name.ObjectName.{ObjectName}
 use Rattle.store_model.specs.declared.session.Handle.{Handle}
-use Rattle.store_model.specs.Object.{ObjectMap, object_at}
+use Rattle.store_model.specs.Object.{ObjectMap}
 use Rattle.store_model.specs.Machine.{MachineState, Session, handle_at, new_session, session_at, with_handle, with_session, without_handle}
 use Rattle.machine_shape.specs.Numbers.{HasNumbers}
 use Rattle.machine_shape.specs.WellOpened.{IsSoundAt, WellOpened}

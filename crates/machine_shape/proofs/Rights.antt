@@ -1,5 +1,5 @@
 -- Known rights without OVERWRITE are the same without it.
-use Rattle.std.proofs.Common.{◌≡◌, ◌==◌, ◌<◌, ◌≤◌, ◌+◌, ◌*◌, ◌-◌, ◌^◌, ◌/◌, ◌%◌, inl, inr, ℕ, Bool, true, false, true≢false, not, ◌||◌, bit_and, refl, sym, ap, ◌∙◌, arith, eqb-true, eq-eqb, lit<}
+use Rattle.std.proofs.Common.{◌≡◌, ◌==◌, ◌<◌, ◌+◌, ◌*◌, ◌^◌, ◌/◌, ◌%◌, inl, inr, ℕ, Bool, true, false, true≢false, not, ◌||◌, bit_and, refl, sym, ap, ◌∙◌, arith, eqb-true, eq-eqb, lit<}
 use Rattle.std.proofs.lemmas.Bool.{cases_eq, or_parts}
 use Rattle.std.proofs.lemmas.Nat.{and-not, and_assoc, and_comm, and_le_r}
 use Rattle.std.proofs.lemmas.Nat.Bits.{and_pow}

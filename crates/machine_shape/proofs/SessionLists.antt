@@ -1,10 +1,10 @@
 -- Lists of sessions with one set, and the numbers of their handles.
-use Rattle.std.proofs.Common.{◌≡◌, ◌≢◌, ◌<◌, ◌⊎◌, ℕ, zero, suc, List, [], ◌∷◌, ◌++◌, length, slice_index_or, slice_set, Option, Some, None, inl, inr, refl, sym, ap, ◌∙◌, subst, arith}
+use Rattle.std.proofs.Common.{◌≡◌, ◌≢◌, ◌<◌, ◌⊎◌, ℕ, zero, suc, List, [], ◌∷◌, length, slice_index_or, slice_set, Some, inl, inr, refl, ap, arith}
 use Rattle.std.proofs.lemmas.Bool.{cases_eq}
 use Rattle.std.proofs.lemmas.List.{get_or-set_other}
 use Rattle.std.proofs.lemmas.Grind.{get_or-set_at}
 use Rattle.store_model.specs.declared.session.Handle.{Handle}
-use Rattle.store_model.specs.Machine.{MachineState, Session, handle_at, new_session, session_at, with_session}
+use Rattle.store_model.specs.Machine.{Session, handle_at, new_session}
 
 -- a session of the list is the one that was set, or stays
 pub set-cases : (sessions : List Session) (i k : ℕ) (x d : Session)

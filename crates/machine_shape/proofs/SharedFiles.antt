@@ -1,6 +1,6 @@
 -- Sharing by the file of an entry is sharing by its name.
-use Rattle.std.proofs.Common.{◌≡◌, ◌≢◌, ◌<◌, ◌==◌, ◌⊎◌, ℕ, zero, suc, Bool, true, false, true≢false, not, ◌&&◌, ◌||◌, List, [], ◌∷◌, length, slice_index_or, Option, Some, None, inl, inr, refl, sym, ap, ◌∙◌, subst, arith, eq-eqb, eqb-true}
-use Rattle.std.proofs.lemmas.Bool.{cases_Bool, cases_eq, and_parts}
+use Rattle.std.proofs.Common.{◌≡◌, ◌<◌, ◌==◌, ℕ, zero, suc, Bool, true, false, true≢false, not, ◌&&◌, ◌||◌, List, [], ◌∷◌, length, slice_index_or, Option, Some, inl, inr, refl, sym, ap, ◌∙◌, arith, eq-eqb, eqb-true}
+use Rattle.std.proofs.lemmas.Bool.{cases_Bool, cases_eq}
 use Rattle.std.specs.List.{list_all, list_any}
 use Rattle.std.specs.Ordering.{is_eq}
 use Rattle.tee_types.specs.declared.flags.Flags.{Flags}
@@ -17,12 +17,11 @@ use Rattle.store_model.proofs.Maps.{name_cmp_total}
 use Rattle.std.proofs.lemmas.Cmp.{tied_itself}
 use Rattle.crash_core.specs.Entries.{name_of}
 use Rattle.crash_core.specs.EntryLists.{AreDistinct, AreSingle, entry_at}
-use Rattle.crash_core.specs.EntryChanges.{IsEntryOf}
 use Rattle.crash_core.proofs.Names.{alike_is, name_test}
-use Rattle.machine_shape.specs.OpenHandles.{AreOpen, IsRecordOf}
+use Rattle.machine_shape.specs.OpenHandles.{AreOpen}
 use Rattle.machine_shape.proofs.CallHandles.{live-allows, live-any}
 use Rattle.machine_shape.proofs.EntryLists.{all-at, any-at}
-use Rattle.machine_shape.proofs.EntryTests.{Passes, all-from, any-found}
+use Rattle.machine_shape.proofs.EntryTests.{all-from, any-found}
 
 -- two tests of which each follows from the other
 one-test : (a b : Bool) → (a ≡ true → b ≡ true) → (b ≡ true → a ≡ true) → a ≡ b
@@ -88,8 +87,8 @@ module _ (entries : List (Option DirEntry)) (table : TableState) (sessions : Lis
   live-on key r found same =
       let back = are_open.back key r found in
       let of = back.1.2 in
-      let one : of.named.entry ≡ e = by-file of.index of.named.entry of.named.at (sym of.file ∙ same) in
-      record { handle = back.1.0; live = back.1.1; name = sym of.named.named ∙ ap name_of one; flags = of.flags }
+      let one : of.file.named.entry ≡ e = by-file of.file.index of.file.named.entry of.file.named.at (sym of.file.is ∙ same) in
+      record { handle = back.1.0; live = back.1.1; name = sym of.file.named.named ∙ ap name_of one; flags = of.flags }
 
   -- a live handle on the object has a record of the file
   record RecordOn (h : Handle) : Type 0 where
@@ -103,8 +102,8 @@ module _ (entries : List (Option DirEntry)) (table : TableState) (sessions : Lis
   record-on i number h within live same =
       let each = are_open.each i number h within live in
       let of = each.3 in
-      let one : of.named.entry ≡ e = by-name of.index of.named.entry of.named.at (of.named.named ∙ same) in
-      record { key = each.0; it = each.1; found = each.2; file = of.file ∙ ap (λ (f : DirEntry). f.file) one; flags = of.flags }
+      let one : of.file.named.entry ≡ e = by-name of.file.index of.file.named.entry of.file.named.at (of.file.named.named ∙ same) in
+      record { key = each.0; it = each.1; found = each.2; file = of.file.is ∙ ap (λ (f : DirEntry). f.file) one; flags = of.flags }
 
   module _ (flags : Flags) where
     allows-by_name : allows_on_file table e.file flags ≡ true → list_all (allows_open name flags) sessions ≡ true

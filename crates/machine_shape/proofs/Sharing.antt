@@ -1,5 +1,5 @@
 -- Compatible rights: in either order, and never with a handle that may rename.
-use Rattle.std.proofs.Common.{◌≡◌, Bool, true, false, not, ◌&&◌, ◌||◌, refl, ap, sym, ◌∙◌}
+use Rattle.std.proofs.Common.{◌≡◌, Bool, true, false, not, ◌&&◌, ◌||◌, refl, ap}
 use Rattle.tee_types.specs.declared.flags.Flags.{Flags}
 use Rattle.tee_types.specs.Rights.{has, are_compatible, read_bit, write_bit, write_meta_bit, share_read_bit, share_write_bit}
 

@@ -1,5 +1,5 @@
 -- Along a history the machine's handles stay well opened.
-use Rattle.std.proofs.Common.{◌≡◌, ◌⊎◌, ℕ, Bool, true, false, true≢false, List, [], ◌∷◌, ◌++◌, map, slice_index_or, zero, suc, Option, Some, None, inl, inr, refl, sym, ap, ◌∙◌, subst, append_assoc, arith}
+use Rattle.std.proofs.Common.{◌≡◌, ℕ, Bool, true, false, true≢false, List, [], ◌∷◌, ◌++◌, map, slice_index_or, zero, suc, Option, Some, None, inl, inr, refl, sym, ap, ◌∙◌, subst, append_assoc, arith}
 use Rattle.tee_types.specs.declared.call.Call.{Call}
 use Rattle.tee_types.specs.declared.reply.Reply.{Reply}
 use Rattle.tee_types.specs.declared.reply.Reply.TheVariants.{Misuse, Corrupt, NotAvailable, CounterSpent}
@@ -17,7 +17,7 @@ use Rattle.store_model.specs.Record.{Record, file_of}
 use Rattle.store_model.specs.Standing.{PhaseOpening, Standing, is_undone, keeps_doubt, opening, replay, standing_after, standing_after_call, standing_landed}
 use Rattle.history_seats.specs.Records.{HistoryRecord}
 use Rattle.suppositions.specs.Guesses.{Guess}
-use Rattle.suppositions.specs.Stores.{Store, phase_of, standing_at, start_under}
+use Rattle.suppositions.specs.Stores.{Store, standing_at, start_under}
 use Rattle.suppositions.specs.Answered.{AreAnswered, IsAnsweredAt}
 use Rattle.suppositions.proofs.Answers.{standing-snoc}
 use Rattle.machine_shape.specs.Numbers.{HasNumbers}
@@ -32,17 +32,17 @@ begun [] i = ([], refl)
 begun (a ∷ applications) zero = (a, refl)
 begun (a ∷ applications) (suc i) = begun applications i
 
+pub no-handles : (phase : PhaseOpening) (i number : ℕ) (h : Handle) → handle_at (session_at (opening phase).state i) number ≡ Some h → ⊥
+no-handles phase i number h live =
+    let gone : None ≡ Some h = ap (λ (y : Session). handle_at y number) (sym (begun phase.applications i).1) ∙ live in
+    cc (gone)
+
 pub well_opened-opening : (phase : PhaseOpening) → WellOpened (opening phase).state
 well_opened-opening phase = record {
   numbered = λ i. subst HasNumbers (sym (begun phase.applications i).1) (omega arith);
-  sound = λ i number h live. absurd (none i number h live);
-  compatible = λ i j number other h g live. absurd (none i number h live);
+  sound = λ i number h live. absurd (no-handles phase i number h live);
+  compatible = λ i j number other h g live. absurd (no-handles phase i number h live);
 }
-  where
-    none : (i number : ℕ) (h : Handle) → handle_at (session_at (opening phase).state i) number ≡ Some h → ⊥
-    none i number h live =
-        let gone : None ≡ Some h = ap (λ (y : Session). handle_at y number) (sym (begun phase.applications i).1) ∙ live in
-        cc (gone)
 
 pub well_standing-opening : (phase : PhaseOpening) → IsWellStanding (opening phase)
 well_standing-opening phase = record { opened = well_opened-opening phase; due = λ doubt is. absurd (cc (is)) }
@@ -88,7 +88,7 @@ well_standing-replay s [] due well = well
 well_standing-replay s (r ∷ records) due well =
     well_standing-replay (standing_after s r.event (file_of r)) records due.1 (well_standing-after s well r.event (file_of r) due.0)
 
-unmarked : (counter commit : ℕ) (b : Bool) → Doubtful commit ≡ mark_of counter b → ⊥
+pub unmarked : (counter commit : ℕ) (b : Bool) → Doubtful commit ≡ mark_of counter b → ⊥
 unmarked counter commit true is = cc (is)
 unmarked counter commit false is = cc (is)
 

@@ -1,11 +1,12 @@
 pub mod Shapes
 pub mod MappedLaws
 pub mod ShapeLaws
+pub mod Numbers
 pub mod LookLaws
 pub mod ChangeLaws
-pub mod Numbers
 pub mod OpenHandles
 pub mod WellOpened
 pub mod HandleLaws
 pub mod SharingLaws
 pub mod OpenLaws
+pub mod EventLaws

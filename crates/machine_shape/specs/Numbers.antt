@@ -1,5 +1,4 @@
 -- The numbers of a session's live handles.
-use Rattle.std.specs.Prelude.{ℕ}
 use Rattle.enumerators.specs.Places.{IsNumbered}
 use Rattle.store_model.specs.Machine.{Session}
 

@@ -4,19 +4,24 @@ use Rattle.enumerators.specs.Places.{IsNumbered}
 use Rattle.dir_records.specs.declared.entry.DirEntry.{DirEntry}
 use Rattle.open_table.specs.declared.table.OpenRecord.{OpenRecord}
 use Rattle.open_table.specs.Table.{TableState, record_at}
+use Rattle.store_model.specs.declared.name.ObjectName.{ObjectName}
 use Rattle.store_model.specs.declared.session.Handle.{Handle}
 use Rattle.store_model.specs.Machine.{Session, handle_at, new_session}
 use Rattle.crash_core.specs.EntryChanges.{IsEntryOf}
 use Rattle.machine_shape.specs.Numbers.{HasNumbers}
+
+-- The name's entry has that file.
+pub record HasFile (entries : List (Option DirEntry)) (name : ObjectName) (file : ℕ) : Type 0 where
+  pub index : ℕ
+  pub named : IsEntryOf entries index name
+  pub is : file ≡ named.entry.file
 
 -- The record is that of the session's live handle of that number: it has its rights, and the file of its object's entry.
 pub record IsRecordOf (entries : List (Option DirEntry)) (i number : ℕ) (h : Handle) (r : OpenRecord) : Type 0 where
   pub session : r.session ≡ i
   pub handle : r.handle ≡ number
   pub flags : r.flags ≡ h.flags
-  pub index : ℕ
-  pub named : IsEntryOf entries index h.name
-  pub file : r.file ≡ named.entry.file
+  pub file : HasFile entries h.name r.file
 
 -- Each live handle has a record in the table, each record is that of a live handle, and no handle has two.
 pub record AreOpen (entries : List (Option DirEntry)) (table : TableState) (sessions : List Session) : Type 0 where

@@ -7,7 +7,6 @@ use Rattle.tee_types.specs.declared.reply.Reply.TheVariants.{Handle as HandleRep
 use Rattle.dir_records.specs.declared.entry.DirEntry.{DirEntry}
 use Rattle.open_table.specs.declared.table.OpenRecord.{OpenRecord}
 use Rattle.open_table.specs.Table.{TableState, record_at}
-use Rattle.store_model.specs.declared.name.ObjectName.{ObjectName}
 use Rattle.store_model.specs.Object.{Object}
 use Rattle.store_model.specs.Machine.{MachineState, Session, name_in}
 use Rattle.store_model.specs.Makes.{MakesChange, MapChange}
@@ -15,17 +14,11 @@ use Rattle.store_model.specs.Calls.{is_commit, reply_of, state_after}
 use Rattle.store_model.specs.Doubt.{Doubt, state_landed}
 use Rattle.store_model.specs.Standing.{PhaseOpening, is_undone, opening}
 use Rattle.crash_core.specs.EntryLists.{AreDistinct}
-use Rattle.crash_core.specs.EntryChanges.{EntryChange, IsChange, IsEntryOf, changed, file_put}
+use Rattle.crash_core.specs.EntryChanges.{EntryChange, IsChange, changed, file_put}
 use Rattle.store_commit.specs.Noting.{DropsHandle, NotesReply}
 use Rattle.machine_shape.specs.HandleLaws.{IsDue}
-use Rattle.machine_shape.specs.OpenHandles.{AreOpen}
+use Rattle.machine_shape.specs.OpenHandles.{AreOpen, HasFile}
 use Rattle.machine_shape.specs.WellOpened.{WellOpened}
-
--- The name's entry has that file.
-pub record HasFile (entries : List (Option DirEntry)) (name : ObjectName) (file : ℕ) : Type 0 where
-  pub index : ℕ
-  pub named : IsEntryOf entries index name
-  pub is : file ≡ named.entry.file
 
 -- A phase opens with no handle in its table.
 abbrev pub OpeningsAreOpen : Type 0

@@ -6,11 +6,18 @@
 
 mod laws;
 
+pub use laws::events::{
+    doubtful_events_keep_open, landed_events_keep_open, made_events_keep_open,
+    unchanged_events_keep_open,
+};
 pub use laws::handles::{
     answered_handles_are_well_opened, calls_keep_well_opened, landings_keep_well_opened,
     legal_doubts_are_due, openings_are_well_opened, replays_keep_well_opened,
 };
-pub use laws::opens::{drops_take_one_record, undone_calls_keep_open};
+pub use laws::opens::{
+    answered_calls_keep_open, drops_take_one_record, landed_commits_keep_open,
+    made_commits_keep_open, openings_are_open, undone_calls_keep_open,
+};
 pub use laws::shapes::{
     applications_are_listed, changes_keep_shape, free_places_are_room, held_names_are_listed,
     landed_entries_have_shape, mapped_entries_have_shape, named_entries_are_objects,

@@ -1,6 +1,5 @@
 -- The law is the lemma.
 use Rattle.machine_shape.proofs.DroppedHandles.{exactly}
-use Rattle.machine_shape.proofs.Rights.{without_overwrite-same}
 use Rattle.machine_shape.proofs.laws.opens.drops_take_one_record.Goals as goal
 
 pub returns : goal.returns
