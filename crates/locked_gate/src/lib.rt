@@ -1,0 +1,9 @@
+//! The gate of a phase behind its lock: the commit gate of the store, with the phase's history.
+//!
+//! What lies behind the lock is tied together: the directory's entries, the card's counter and the commit in doubt are those that the
+//! history leaves, and the open handles are those of the machine's sessions, under each supposition.
+#![tactic(auto)]
+
+mod gate;
+
+pub use gate::{Closing, LockedGate};
