@@ -1,5 +1,5 @@
 -- The views of a session: within the history, as it begins, and over what it was shown.
-use Rattle.std.proofs.Common.{◌≡◌, ◌==◌, ◌≤◌, ◌<◌, ℕ, suc, Bool, true, false, cond, List, [], ◌∷◌, ◌++◌, length, map, slice_index_or, refl, sym, ap, ◌∙◌, arith, append_assoc, length-append}
+use Rattle.std.proofs.Common.{◌≡◌, ◌==◌, ◌≤◌, ◌<◌, ℕ, suc, Bool, true, false, cond, List, [], ◌∷◌, ◌++◌, length, map, Some, slice_index_or, refl, sym, ap, ◌∙◌, arith, append_assoc, length-append}
 use Rattle.std.proofs.lemmas.List.{length-map}
 use Rattle.std.proofs.Math.ListN.{get_or-map}
 use Rattle.store_model.specs.declared.event.Event.{Event}
@@ -14,6 +14,7 @@ use Rattle.history_seats.specs.Known.{session_from}
 use Rattle.history_seats.specs.Rule.{PassFits}
 use Rattle.history_seats.proofs.Numbering.{count-append, count-begins}
 use Rattle.history_seats.proofs.Places.{open-calm}
+use Rattle.suppositions.specs.Sessions.{IsSessionOf, SessionValue}
 use Rattle.suppositions.specs.Stores.{Store, start_under}
 use Rattle.call_history.specs.Sessions.{CallerSession, IsCallerOf, IsOwnDoubt}
 use Rattle.call_history.specs.Beginnings.{FreshSessionsAreCallers}
@@ -46,6 +47,17 @@ made-below gate pass fits i made own is =
       count_within pass.session (events_of gate.all),
       length-map gate.all (λ (r : HistoryRecord). r.event),
     )
+
+-- a session counts its events of the whole history
+pub made-whole : (store : Store) (gate : GateView) (s : SessionValue) → IsSessionOf store s → (seat : Sight PassView) → s.pass ≡ Some seat → PassFits gate seat.knows
+    → s.made ≡ count_of s.number (events_of gate.all)
+made-whole store gate s x seat is fits =
+    let same : x.pass ≡ seat = some_same x.pass seat (sym x.is ∙ is) in
+    let own : s.number ≡ (seat.knows).session = x.number ∙ ap (λ (p : Sight PassView). (p.knows).session) same in
+    x.made
+    ∙ (λ i. count_of (own i) (events_of ((same i).knows).seen))
+    ∙ sym (count-begins (seat.knows).session (seat.knows).seen gate.all fits.sees.begins)
+    ∙ ap (λ (n : ℕ). count_of n (events_of gate.all)) (sym own)
 
 -- what is drawn from its entropy leaves a session the store's
 pub drawn-caller : {E : Type 0} (store : Store) (s : CallerSession E) (entropy : E) → IsCallerOf store s → IsCallerOf store (record s { entropy = entropy })

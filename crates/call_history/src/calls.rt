@@ -1,7 +1,9 @@
 //! What a session does with the journal: it is shown the history, and its calls are appended.
 
-ghost use Rattle.std.specs.Prelude.{◌≡◌, ◌≤◌, ◌<◌, ◌+◌, length, None, Some};
-ghost use Rattle.store_model.specs.Record.{fault_in_reply};
+ghost use Rattle.std.specs.Prelude.{◌≡◌, ◌≤◌, ◌<◌, ◌+◌, length, false, None, Some};
+ghost use Rattle.store_model.specs.History.{count_of};
+ghost use Rattle.store_model.specs.Record.{events_of, fault_in_reply};
+ghost use Rattle.history_seats.specs.Numbers.{is_in, without};
 ghost use Rattle.history_seats.specs.Rule.{Agrees};
 ghost use Rattle.history_seats.specs.Changes.{IsFitting, IsOf, record_of, seat_renewed, together, view_in, with_record};
 ghost use Rattle.suppositions.specs.Guesses.{Guess};
@@ -141,4 +143,17 @@ pub fn answer<L: StoreName, E: Entropy>(
     ensures extends { Extends L.store (session_value session.old) (session_value session.new) (Event.Call session.old.number session.old.made call reply Mark.Unchanged) result }
 {
     append_call::<L, E, Brand>(journal, None, session, call, reply, Mark::Unchanged).place
+}
+
+/// Takes a session's seat in for good, and lets the session go. It has as many events in the history as it counted, and none past its view.
+pub fn retire_session<L: StoreName, E: Entropy>(journal: &mut Journal<L>, session: Session<E>)
+    requires { IsCallerOf L.store session }
+    ensures journal { journal.new ≡ record journal.old { knows = record journal.old.knows { sessions = without session.number journal.old.knows.sessions } } }
+    ensures gone { is_in session.number journal.new.knows.sessions ≡ false }
+    ensures begins { BeginsAll journal.old.knows session.pass }
+    ensures made { session.made ≡ count_of session.number (events_of journal.old.knows.all) }
+    ensures kept { IsJournal L.store journal.new.knows }
+{
+    let pass = session.into_pass();
+    journal.retire_pass(pass);
 }

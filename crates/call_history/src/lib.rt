@@ -12,7 +12,7 @@ mod own_doubt;
 mod session;
 mod settled;
 
-pub use calls::{AppendedCall, answer, append_call, show};
+pub use calls::{AppendedCall, answer, append_call, retire_session, show};
 pub use journal::Journal;
 pub use laws::{
     doubtful_calls_move, fresh_sessions_are_callers, made_calls_move, openings_are_journals,
