@@ -1,9 +1,9 @@
 -- What the calls that stage answer.
-use Rattle.std.proofs.Common.{◌≡◌, ◌∙◌, ◌+◌, ◌<◌, ℕ, true, List, length, Option, Some, None, Result, Ok, Err, refl, sym, ap, subst, arith}
+use Rattle.std.proofs.Common.{◌≡◌, ◌∙◌, ◌+◌, ◌<◌, ℕ, true, List, length, Option, Some, None, Result, Ok, Err, refl, sym, ap, subst, arith, ◌≤◌}
 use Rattle.std.specs.Prelude.{OnErr}
 use Rattle.node_image.specs.declared.node.RootRef.{RootRef}
 use Rattle.node_image.specs.Layout.{greatest_of}
-use Rattle.page_bytes.specs.Ranges.{needs, resize_range, write_range}
+use Rattle.page_bytes.specs.Ranges.{meets, needs, resize_range, write_range}
 use Rattle.history_seats.specs.Records.{Version}
 use Rattle.suppositions.specs.Stores.{Store}
 use Rattle.object_file.specs.Value.{size_in}
@@ -15,6 +15,8 @@ use Rattle.locked_slots.specs.Objects.{IsObjectOf, IsOfVersion}
 use Rattle.locked_slots.specs.LockedSlots.{IsContentOf, IsLockedSlot}
 use Rattle.locked_slots.specs.Reads.{GivesVersion}
 use Rattle.locked_slots.specs.Stages.{StagesVersion, VersionChange, resize_of, write_of}
+use Rattle.suppositions.proofs.Comparing.{meets_from}
+use Rattle.locked_slots.proofs.HonestPages.{resize_lays, write_lays}
 use Rattle.locked_slots.proofs.Contents.{slot_object}
 use Rattle.locked_slots.proofs.StagedSlots.{IsChangeOf, stages_version}
 
@@ -31,7 +33,7 @@ refused store new v change (Err fault) stages = stages.leaves
 
 module _ (store : Store) (old new : SlotValue) (same : new ≡ record old { file = new.file; holds = new.holds }) (calmly : old.doubt ≡ None) (is : IsLockedSlot store old) (Undrawn : Type 0)
     (result : Result RootRef SlotFault) (c : HeldObject → DataChange) (change : ℕ → VersionChange)
-    (of : (o : HeldObject) → o.tree.tree.head.length ≡ 4096 + size_in o → IsChangeOf (c o) (change (size_in o))) where
+    (of : (o : HeldObject) → o.tree.tree.head.length ≡ 4096 + size_in o → IsChangeOf o (c o) (change (size_in o))) where
   by_object : (o : HeldObject) → old.holds ≡ live o → StagesObject old.file new.file o (c o) new.holds Undrawn result → (v : Version) → GivesVersion old v
       → StagesVersion store new v (change v.size) result
   by_object o holds stages v given =
@@ -52,7 +54,11 @@ module _ (at : ℕ) (bytes : List ℕ) (o : HeldObject) (long : o.tree.tree.head
   write_inside : (k : ℕ) → needs (write_change o at bytes).range k ≡ true → k < greatest_of (4096 + (write_change o at bytes).size)
   write_inside k is = grind (arith, long, is)
 
-  pub write_is : IsChangeOf (write_change o at bytes) (write_of (size_in o) at bytes)
+  write_grown : (k : ℕ) → k < greatest_of (4096 + (write_change o at bytes).size) → greatest_of o.tree.tree.head.length ≤ k → meets (write_change o at bytes).range.first (write_change o at bytes).range.last k ≡ true
+  write_grown k lt past =
+      meets_from (write_change o at bytes).range.first (write_change o at bytes).range.last k (omega (arith, long, lt, past)) (omega (arith, long, lt, past)) (omega (arith, past))
+
+  pub write_is : IsChangeOf o (write_change o at bytes) (write_of (size_in o) at bytes)
   write_is = record {
     size = refl;
     contents = refl;
@@ -63,13 +69,20 @@ module _ (at : ℕ) (bytes : List ℕ) (o : HeldObject) (long : o.tree.tree.head
     behind = omega (arith, long);
     own = λ x. refl;
     inside = write_inside;
+    from = refl;
+    grown = write_grown;
+    lays = write_lays o.tree.tree.head.length (4096 + at) bytes;
   }
 
 module _ (size : ℕ) (o : HeldObject) (long : o.tree.tree.head.length ≡ 4096 + size_in o) where
   resize_inside : (k : ℕ) → needs (resize_change o size).range k ≡ true → k < greatest_of (4096 + (resize_change o size).size)
   resize_inside k is = grind (arith, long, is)
 
-  pub resize_is : IsChangeOf (resize_change o size) (resize_of (size_in o) size)
+  resize_grown : (k : ℕ) → k < greatest_of (4096 + (resize_change o size).size) → greatest_of o.tree.tree.head.length ≤ k → meets (resize_change o size).range.first (resize_change o size).range.last k ≡ true
+  resize_grown k lt past =
+      meets_from (resize_change o size).range.first (resize_change o size).range.last k (omega (arith, long, lt, past)) (omega (arith, long, lt, past)) (omega (arith, past))
+
+  pub resize_is : IsChangeOf o (resize_change o size) (resize_of (size_in o) size)
   resize_is = record {
     size = refl;
     contents = refl;
@@ -80,6 +93,9 @@ module _ (size : ℕ) (o : HeldObject) (long : o.tree.tree.head.length ≡ 4096 
     behind = omega (arith, long);
     own = λ x. refl;
     inside = resize_inside;
+    from = refl;
+    grown = resize_grown;
+    lays = resize_lays o.tree.tree.head.length (4096 + size);
   }
 
 -- What such a slot holds is of the version.

@@ -11,6 +11,8 @@ pub mod KnownOnes
 pub mod Staged
 pub mod NextVersions
 pub mod MadeOver
+pub mod HonestPages
+pub mod HonestChanges
 pub mod StagedSlots
 pub mod ChangeAnswers
 pub mod NewObjects

@@ -1,5 +1,6 @@
 -- What staging a change leaves of a locked slot.
-use Rattle.std.proofs.Common.{◌≡◌, ◌∙◌, ◌+◌, ◌<◌, ◌≤◌, ◌==◌, ◌||◌, ℕ, Bool, true, true≢false, List, Some, None, Result, Ok, Err, IsTrue, inl, inr, refl, sym, ap, subst}
+use Rattle.disk_model.specs.State.{Sound as SoundFile}
+use Rattle.std.proofs.Common.{◌≡◌, ◌∙◌, ◌+◌, ◌<◌, ◌≤◌, ◌==◌, ◌||◌, ℕ, Bool, true, true≢false, List, Some, None, Result, Ok, Err, IsTrue, inl, inr, refl, sym, ap, subst, false}
 use Rattle.std.proofs.lemmas.Bool.{cases_Bool}
 use Rattle.htree_file.specs.Value.{Staged}
 use Rattle.node_image.specs.declared.node.RootRef.{RootRef}
@@ -7,12 +8,12 @@ use Rattle.store_model.specs.Object.{Contents, Sound}
 use Rattle.history_seats.specs.Records.{Version}
 use Rattle.history_seats.specs.Settling.{calm}
 use Rattle.suppositions.specs.Given.{Gave, spelling_given}
-use Rattle.suppositions.specs.Spellings.{wrap_of}
+use Rattle.suppositions.specs.Spellings.{block_of, spelled_if, wrap_of}
 use Rattle.suppositions.specs.Stores.{Store}
 use Rattle.suppositions.specs.WriteLaws.{IsMadeOver}
 use Rattle.node_image.specs.Layout.{greatest_of}
 use Rattle.page_bytes.specs.declared.range.ByteRange.{ByteRange}
-use Rattle.page_bytes.specs.Ranges.{needs}
+use Rattle.page_bytes.specs.Ranges.{meets, needs}
 use Rattle.object_file.specs.Changes.{adopted}
 use Rattle.object_file.specs.Held.{held_in}
 use Rattle.object_slots.specs.declared.fault.SlotFault.{SlotFault}
@@ -26,6 +27,11 @@ use Rattle.locked_slots.specs.Reads.{GivesVersion}
 use Rattle.locked_slots.specs.Stages.{IsMadeOverGiven, IsStagedSlot, StageLeaves, StagesVersion, VersionChange}
 use Rattle.locked_slots.proofs.Contents.{gives_seat, slot_object}
 use Rattle.locked_slots.proofs.NextVersions.{changed, of_changed, of_spelt, spelt, version_spelt}
+use Rattle.locked_slots.proofs.HonestChanges.{next_spelling, page_met, page_missed, page_spelling, seal_missed}
+use Rattle.locked_slots.proofs.HonestPages.{Lays}
+use Rattle.node_image.specs.declared.head.Head.{Head}
+use Rattle.object_slots.specs.Versions.{changed_version}
+use Rattle.locked_slots.specs.Stages.{ChangesPages}
 use Rattle.locked_slots.proofs.MadeOver.{chosen, gave, made_over}
 use Rattle.locked_slots.proofs.Staged.{object_keeps, own_stays}
 
@@ -33,7 +39,7 @@ sound_same : (a b : Contents) → Sound a ≡ Sound b → a ≡ b
 sound_same a b e = cc
 
 -- the change is that one
-pub record IsChangeOf (c : DataChange) (change : VersionChange) : Type 0 where
+pub record IsChangeOf (o : HeldObject) (c : DataChange) (change : VersionChange) : Type 0 where
   pub size : c.size ≡ change.size
   pub contents : c.contents ≡ change.contents
   pub asked : c.asked ≡ change.asked
@@ -44,9 +50,13 @@ pub record IsChangeOf (c : DataChange) (change : VersionChange) : Type 0 where
   pub own : (x : Contents) → (c.contents x).attributes ≡ x.attributes
   -- a block that it needs is there afterwards
   pub inside : (k : ℕ) → needs c.range k ≡ true → k < greatest_of (4096 + c.size)
+  -- it begins with the object's bytes, meets each block that is new, and lays its own
+  pub from : o.tree.tree.head.length ≡ c.range.size
+  pub grown : (k : ℕ) → k < greatest_of (4096 + c.size) → greatest_of o.tree.tree.head.length ≤ k → meets c.range.first c.range.last k ≡ true
+  pub lays : Lays c.range c.at c.bytes c.left
 
 module _ (store : Store) (old new : SlotValue) (o : HeldObject) (c : DataChange) (change : VersionChange) (v : Version) (Undrawn : Type 0) (is : IsLockedSlot store old) (holds : old.holds ≡ live o)
-    (calmly : old.doubt ≡ None) (given : GivesVersion old v) (same : new ≡ record old { file = new.file; holds = new.holds }) (of : IsChangeOf c change) where
+    (calmly : old.doubt ≡ None) (given : GivesVersion old v) (same : new ≡ record old { file = new.file; holds = new.holds }) (of : IsChangeOf o c change) where
   abbrev gives : own_version is.seat.knows ≡ calm (Some v)
   gives = gives_seat store old v is given
 
@@ -103,6 +113,24 @@ module _ (store : Store) (old new : SlotValue) (o : HeldObject) (c : DataChange)
           (λ i. (sym object.root i, sym object.size i, of.range i, of.place i, of.bytes i))
           (gave store.keys old.file new.file o v c root s stage object of.behind of.inside, made_over store.keys old.file new.file o v c root s stage object of.behind of.inside)
 
+      -- in an honest file the pages are those that the change makes
+      pages : IsTrue new.file.honest → ChangesPages store.keys v (changed_version new.file v (held_in o old.file.reads) c s) change.range change.place change.bytes
+      pages honest =
+          let kept : SoundFile old.file = (is.own.holds None).sound in
+          let still : SoundFile new.file = (own.holds None).sound in
+          subst (λ (x : ByteRange × ℕ × List ℕ). ChangesPages store.keys v (changed_version new.file v (held_in o old.file.reads) c s) x.0 x.1 x.2) (λ i. (of.range i, of.place i, of.bytes i))
+          (record {
+            was = page_spelling store.keys v o;
+            now = next_spelling store.keys new.file v s;
+            spelt = ap (spelled_if (wrap_of store.keys v) (block_of v)) (object.loads (was honest));
+            spelt_next = refl;
+            wrapped = ap (λ (h : Head). h.wrapped) stage.head;
+            long = ap (λ (h : Head). h.length) stage.head;
+            met = page_met store.keys old.file new.file o v c root s stage object kept still honest (was honest) of.from of.lays of.grown;
+            missed = page_missed store.keys old.file new.file o v c root s stage object kept still honest (was honest) of.from of.lays of.grown;
+            seal = seal_missed store.keys old.file new.file o v c root s stage object kept still honest (was honest) of.from of.lays of.grown;
+          })
+
       next_changed : (honest : IsTrue new.file.honest) → StageLeaves store new v change (Ok root)
       next_changed honest =
           let of_next = of_changed store.keys old.file new.file o v c root s block stage (is.own.holds None).sound (own.holds None).sound object was of.behind of.own honest in
@@ -115,6 +143,7 @@ module _ (store : Store) (old new : SlotValue) (o : HeldObject) (c : DataChange)
               size = of.size;
               attributes = refl;
               object = λ here x sound. (λ i. Sound (of.contents i (held x sound here i)));
+              pages = λ here. pages honest;
               over = λ off. absurd (off honest);
             },
           )
@@ -125,7 +154,7 @@ module _ (store : Store) (old new : SlotValue) (o : HeldObject) (c : DataChange)
           let next : Version = spelt store.keys old.file new.file o v c root s block stage (is.own.holds None).sound (own.holds None).sound object was of.behind of.own in (
             next,
             lock next of_next,
-            record { root_is = stage.root_is; app = refl; size = of.size; attributes = refl; object = λ here x sound. absurd (off here); over = λ other. over },
+            record { root_is = stage.root_is; app = refl; size = of.size; attributes = refl; object = λ here x sound. absurd (off here); pages = λ here. absurd (off here); over = λ other. over },
           )
 
       next_leaves : StageLeaves store new v change (Ok root)

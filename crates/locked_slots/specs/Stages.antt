@@ -1,15 +1,17 @@
 -- What a stage of a locked slot leaves, in terms of its versions.
-use Rattle.std.specs.Prelude.{◌≡◌, ◌+◌, ◌==◌, ◌||◌, ℕ, Bool, List, [], length, min, max, None, Some, Result, Ok, Err, IsTrue}
+use Rattle.std.specs.Prelude.{◌<◌, ◌≡◌, ◌+◌, ◌==◌, ◌||◌, ℕ, Bool, List, [], length, min, max, None, Some, Result, Ok, Err, IsTrue, true, false}
 use Rattle.disk_model.specs.State.{FileState}
 use Rattle.node_image.specs.declared.node.RootRef.{RootRef}
+use Rattle.htree_file.specs.Changes.{SealsAt}
 use Rattle.hmac_keys.specs.declared.Keys.{Keys}
 use Rattle.page_bytes.specs.declared.range.ByteRange.{ByteRange}
-use Rattle.page_bytes.specs.Ranges.{needs, resize_range, write_range}
+use Rattle.page_bytes.specs.Changed.{HasRewritten}
+use Rattle.page_bytes.specs.Ranges.{meets, needs, resize_range, write_range}
 use Rattle.store_model.specs.Object.{Contents, Sound}
 use Rattle.store_model.specs.Data.{needs_block, resized_contents, written_contents}
 use Rattle.history_seats.specs.Records.{Version}
 use Rattle.suppositions.specs.Given.{Gave, spelling_given}
-use Rattle.suppositions.specs.Spellings.{wrap_of}
+use Rattle.suppositions.specs.Spellings.{Spelling, page_spelt, spelling_of, wrap_of}
 use Rattle.suppositions.specs.Stores.{Store}
 use Rattle.suppositions.specs.WriteLaws.{IsMadeOver}
 use Rattle.object_slots.specs.declared.fault.SlotFault.{SlotFault}
@@ -64,14 +66,28 @@ IsMadeOverGiven keys v next change =
     (gave : Gave (wrap_of keys v) v.root v.size (λ k. (k == 0) || needs change.range k))
     × IsMadeOver keys v next (spelling_given gave) change.range change.place change.bytes
 
--- The next version is the one that the reference names, of the same application. In a file that is honest now its object is the changed one;
--- in any other it was made over what the file gave.
+-- The pages of the version's tree become those of the next: a block that the change meets has the page that the change makes, over the one
+-- that it had where it needs that; any other keeps its page, good or bad, and its seal.
+pub record ChangesPages (keys : Keys) (v next : Version) (range : ByteRange) (place : ℕ) (bytes : List ℕ) : Type 0 where
+  pub was : Spelling
+  pub now : Spelling
+  pub spelt : spelling_of keys v ≡ Some was
+  pub spelt_next : spelling_of keys next ≡ Some now
+  pub wrapped : now.tree.head.wrapped ≡ was.tree.head.wrapped
+  pub long : now.tree.head.length ≡ 4096 + next.size
+  pub met : (k : ℕ) → k < length now.tree.nodes → meets range.first range.last k ≡ true → HasRewritten range place bytes k (page_spelt was k) (page_spelt now k)
+  pub missed : (k : ℕ) → k < length now.tree.nodes → meets range.first range.last k ≡ false → page_spelt now k ≡ page_spelt was k
+  pub seal : (k : ℕ) → k < length now.tree.nodes → meets range.first range.last k ≡ false → SealsAt was.key was.tree now.tree k None
+
+-- The next version is the one that the reference names, of the same application. In a file that is honest now its object is the changed one,
+-- page by page; in any other it was made over what the file gave.
 pub record IsNextVersion (keys : Keys) (file : FileState) (v next : Version) (change : VersionChange) (root : RootRef) : Type 0 where
   pub root_is : next.root ≡ root
   pub app : next.app ≡ v.app
   pub size : next.size ≡ change.size
   pub attributes : next.attributes ≡ v.attributes
   pub object : IsTrue file.honest → (c : Contents) → v.object ≡ Sound c → next.object ≡ Sound (change.contents c)
+  pub pages : IsTrue file.honest → ChangesPages keys v next change.range change.place change.bytes
   pub over : (IsTrue file.honest → ⊥) → IsMadeOverGiven keys v next change
 
 abbrev pub StageLeaves : Store → (new : SlotValue) → (v : Version) → VersionChange → Result RootRef SlotFault → Type 0
