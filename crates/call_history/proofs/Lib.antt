@@ -1,0 +1,7 @@
+pub mod Journals
+pub mod Landings
+pub mod Closings
+pub mod OwnDoubts
+pub mod Showing
+pub mod CallMoves
+pub mod ShownViews

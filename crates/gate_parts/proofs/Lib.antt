@@ -1,0 +1,12 @@
+pub mod SameMaps
+pub mod HeldDirectories
+pub mod ReadDirectories
+pub mod LandedEntries
+pub mod Holders
+pub mod RestingGates
+pub mod EndedStores
+pub mod CommitSteps
+pub mod ResolveSteps
+pub mod EventSteps
+pub mod RestingMoves
+pub mod ReserveSteps

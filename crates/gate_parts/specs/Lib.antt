@@ -1,0 +1,10 @@
+pub mod Phases
+pub mod Parts
+pub mod Readings
+pub mod Resting
+pub mod Ended
+pub mod Commits
+pub mod Resolves
+pub mod Events
+pub mod Moves
+pub mod Reserving

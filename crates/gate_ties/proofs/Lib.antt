@@ -1,0 +1,14 @@
+pub mod Rising
+pub mod Uniqueness
+pub mod Listing
+pub mod Matching
+pub mod Opening
+pub mod QuietTies
+pub mod Facts
+pub mod Making
+pub mod CommitTies
+pub mod Applications
+pub mod RightTags
+pub mod Told
+pub mod MapsKept
+pub mod LegalCommits

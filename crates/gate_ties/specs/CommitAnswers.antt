@@ -1,0 +1,33 @@
+-- A commit that changes the gate's entries as its call does is legal under a supposition, and keeps the map of objects in step.
+use Rattle.std.specs.Prelude.{◌≡◌, ◌+◌, ◌<◌, ◌^◌, ℕ, List, Option, None, length}
+use Rattle.tee_types.specs.declared.call.Call.{Call}
+use Rattle.tee_types.specs.declared.reply.Cause.{Cause}
+use Rattle.tee_types.specs.declared.reply.Reply.TheVariants.{NotAvailable}
+use Rattle.store_model.specs.declared.event.Mark.TheVariants.{Made, Doubtful}
+use Rattle.store_model.specs.Legal.{meant_by}
+use Rattle.store_model.specs.Record.{Tag, file_at_fault}
+use Rattle.dir_records.specs.declared.entry.DirEntry.{DirEntry}
+use Rattle.history_seats.specs.Records.{Version}
+use Rattle.history_seats.specs.Directory.{given_version}
+use Rattle.history_seats.specs.Views.{GateView}
+use Rattle.crash_core.specs.EntryChanges.{EntryChange}
+use Rattle.suppositions.specs.Guesses.{Guess}
+use Rattle.suppositions.specs.Stores.{Store, standing_at}
+use Rattle.suppositions.specs.Answered.{IsLegalAt}
+use Rattle.gate_ties.specs.Ties.{DoubtedChange, IsTied}
+use Rattle.gate_ties.specs.TieLaws.{record_of_commit}
+use Rattle.gate_ties.specs.CommitMaps.{IsCommitUnder}
+
+-- Made with the machine's reply, or in doubt with a cause that accuses no object's file.
+pub record AreCommitsLegal (store : Store) (guess : Guess) (view : GateView) (entries : List (Option DirEntry)) (counter session number : ℕ) (call : Call) (change : EntryChange) (tag : Tag Version) : Type 0 where
+  pub made : IsCommitUnder store guess view entries counter session call change tag tag.committed → tag.doubted ≡ None
+      → IsLegalAt store guess view.all (record_of_commit session number call (meant_by (standing_at store guess view.all) session call) (Made (counter + 1)) tag)
+  pub doubtful : IsCommitUnder store guess view entries counter session call change tag tag.doubted
+      → tag.committed ≡ given_version store.mounted view.all tag.file tag.generation → (cause : Cause) → file_at_fault cause ≡ None
+      → IsLegalAt store guess view.all (record_of_commit session number call (NotAvailable cause) (Doubtful (counter + 1)) tag)
+
+abbrev pub CommitsAreLegal : Type 0
+CommitsAreLegal =
+    (store : Store) (guess : Guess) (view : GateView) (entries : List (Option DirEntry)) (counter : ℕ) (doubt : Option DoubtedChange) → IsTied store view entries counter doubt
+    → (session number : ℕ) (call : Call) (change : EntryChange) (tag : Tag Version) → session < length store.mounted.applications → counter + 1 < 2 ^ 32
+    → AreCommitsLegal store guess view entries counter session number call change tag

@@ -1,0 +1,10 @@
+pub mod Matched
+pub mod CallChanges
+pub mod Ties
+pub mod MachineChanges
+pub mod TieLaws
+pub mod EntryFacts
+pub mod TagLaws
+pub mod OwnEntries
+pub mod CommitMaps
+pub mod CommitAnswers

@@ -1,0 +1,14 @@
+pub mod KnownVersions
+pub mod Openings
+pub mod OpenDoubts
+pub mod Learned
+pub mod OwnRecords
+pub mod Stays
+pub mod Contents
+pub mod ReadVersions
+pub mod Filled
+pub mod KnownOnes
+pub mod Staged
+pub mod NextVersions
+pub mod StagedSlots
+pub mod ChangeAnswers

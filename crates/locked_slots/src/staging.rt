@@ -1,0 +1,71 @@
+// Stages of a locked slot's object.
+ghost use Rattle.std.specs.Prelude.{◌≡◌, ◌+◌, ◌≤◌, length, None, OnErr};
+ghost use Rattle.history_seats.specs.Records.{Version};
+ghost use Rattle.object_slots.specs.Faults.{HasCauses};
+ghost use Rattle.object_slots.specs.Stages.{StagesObject, resize_change, write_change};
+ghost use Rattle.object_slots.specs.Value.{IfLive, IsLive};
+ghost use Rattle.locked_slots.specs.LockedSlots.{IsLockedSlot};
+ghost use Rattle.locked_slots.specs.Reads.{GivesVersion};
+ghost use Rattle.locked_slots.specs.Stages.{StagesVersion, resize_of, write_of};
+
+use node_image::RootRef;
+use object_slots::{Slot, SlotFault};
+use std::alloc::Global;
+use suppositions::StoreName;
+use tee_ports::{Entropy, StoreFile};
+
+/// Writes data from the place `at` on, with zero between the old end and that place, into the version that the committed object does not
+/// use, and settles it. Gives the reference that names the changed object. The slot has a stage then, of the next version.
+///
+/// # Errors
+///
+/// `Corrupt` where a block that would keep old bytes beside the new ones is bad; besides `Failed`, `NoEntropy` and `NoMemory`. The slot may
+/// stand behind its lock then.
+pub fn stage_write<F: StoreFile + Drop, E: Entropy, L: StoreName>(
+    alloc: Global,
+    slot: &mut Slot<F>,
+    at: u32,
+    bytes: &[u8],
+    entropy: &mut E,
+) -> Result<RootRef, SlotFault>
+    requires locked { IsLockedSlot L.store slot.old }
+    requires live { IsLive slot.old.holds }
+    requires calm { slot.old.doubt ≡ None }
+    requires few { at + length bytes.now ≤ 1044480 }
+    ensures same { slot.new ≡ record slot.old { file = slot.new.file; holds = slot.new.holds } }
+    ensures stages { IfLive slot.old.holds (λ o. StagesObject slot.old.file slot.new.file o (write_change o at bytes.now) slot.new.holds
+        (entropy.new ≡ entropy.old) result) }
+    ensures causes { HasCauses slot.old.file slot.new.file (E.faults entropy.old) (E.faults entropy.new)
+        (E.is_reliable entropy.old) (E.is_reliable entropy.new) result }
+    ensures locked { OnErr result (IsLockedSlot L.store slot.new) }
+    ensures version { (v : Version) → GivesVersion slot.old v → StagesVersion L.store slot.new v (write_of v.size at bytes.now) result }
+{
+    slot.stage_write(alloc, at, bytes, entropy)
+}
+
+/// Makes the data so many bytes, with zero behind the old end, in the version that the committed object does not use, and settles it. Gives
+/// the reference that names the changed object. The slot has a stage then, of the next version.
+///
+/// # Errors
+///
+/// As for a write.
+pub fn stage_truncate<F: StoreFile + Drop, E: Entropy, L: StoreName>(
+    alloc: Global,
+    slot: &mut Slot<F>,
+    size: u32,
+    entropy: &mut E,
+) -> Result<RootRef, SlotFault>
+    requires locked { IsLockedSlot L.store slot.old }
+    requires live { IsLive slot.old.holds }
+    requires calm { slot.old.doubt ≡ None }
+    requires few { size ≤ 1044480 }
+    ensures same { slot.new ≡ record slot.old { file = slot.new.file; holds = slot.new.holds } }
+    ensures stages { IfLive slot.old.holds (λ o. StagesObject slot.old.file slot.new.file o (resize_change o size) slot.new.holds
+        (entropy.new ≡ entropy.old) result) }
+    ensures causes { HasCauses slot.old.file slot.new.file (E.faults entropy.old) (E.faults entropy.new)
+        (E.is_reliable entropy.old) (E.is_reliable entropy.new) result }
+    ensures locked { OnErr result (IsLockedSlot L.store slot.new) }
+    ensures version { (v : Version) → GivesVersion slot.old v → StagesVersion L.store slot.new v (resize_of v.size size) result }
+{
+    slot.stage_truncate(alloc, size, entropy)
+}
