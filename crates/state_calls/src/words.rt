@@ -35,83 +35,86 @@ fn compare(alloc: Global, copy: &impl Debug, original: &impl Debug) -> anyhow::R
     Ok(())
 }
 
-/// A call of each kind up to the rename.
-fn calls_up_to_rename(alloc: Global, id: ObjectId) -> anyhow::Result<[Call; 8]> {
+fn compare_call(alloc: Global, call: Call) -> anyhow::Result<()> {
+    let copy = call.copy(alloc)?;
+    compare(alloc, &copy, &call)
+}
+
+fn compare_reply(alloc: Global, reply: Reply) -> anyhow::Result<()> {
+    let copy = reply.copy(alloc)?;
+    compare(alloc, &copy, &reply)
+}
+
+/// Copies the calls that name an object or bring bytes.
+fn compare_long_calls(alloc: Global, id: ObjectId) -> anyhow::Result<()> {
     let flags = Flags { bits: READ };
-    Ok([
-        Call::Create {
-            id,
-            flags,
-            attributes: Bytes::from_slice(alloc, b"a")?,
-            bytes: Bytes::from_slice(alloc, b"bc")?,
-        },
-        Call::Open { id, flags },
-        Call::Close { handle: 7 },
-        Call::Read { handle: 7, size: 9 },
-        Call::Write {
-            handle: 7,
-            bytes: Bytes::from_slice(alloc, b"bc")?,
-        },
-        Call::Truncate { handle: 7, size: 9 },
-        Call::Seek {
-            handle: 7,
-            offset: -3,
-            whence: Whence::End,
-        },
-        Call::Rename { handle: 7, id },
-    ])
+    let attributes = Bytes::from_slice(alloc, b"a")?;
+    let bytes = Bytes::from_slice(alloc, b"bc")?;
+    let create = Call::Create {
+        id,
+        flags,
+        attributes,
+        bytes,
+    };
+    compare_call(alloc, create)?;
+    compare_call(alloc, Call::Open { id, flags })?;
+    let bytes = Bytes::from_slice(alloc, b"bc")?;
+    compare_call(alloc, Call::Write { handle: 7, bytes })?;
+    compare_call(alloc, Call::Rename { handle: 7, id })
 }
 
-/// A call of each kind from the delete on.
-fn calls_from_delete() -> [Call; 7] {
-    [
-        Call::Delete { handle: 7 },
-        Call::Info { handle: 7 },
-        Call::EnumNew,
-        Call::EnumStart { number: 4 },
-        Call::EnumNext { number: 4 },
-        Call::EnumReset { number: 4 },
-        Call::EnumFree { number: 4 },
-    ]
+/// Copies the calls of numbers alone.
+fn compare_short_calls(alloc: Global) -> anyhow::Result<()> {
+    compare_call(alloc, Call::Close { handle: 7 })?;
+    compare_call(alloc, Call::Read { handle: 7, size: 9 })?;
+    compare_call(alloc, Call::Truncate { handle: 7, size: 9 })?;
+    let seek = Call::Seek {
+        handle: 7,
+        offset: -3,
+        whence: Whence::End,
+    };
+    compare_call(alloc, seek)?;
+    compare_call(alloc, Call::Delete { handle: 7 })?;
+    compare_call(alloc, Call::Info { handle: 7 })?;
+    compare_call(alloc, Call::EnumNew)?;
+    compare_call(alloc, Call::EnumStart { number: 4 })?;
+    compare_call(alloc, Call::EnumNext { number: 4 })?;
+    compare_call(alloc, Call::EnumReset { number: 4 })?;
+    compare_call(alloc, Call::EnumFree { number: 4 })
 }
 
-/// A reply of each kind.
-fn replies(alloc: Global, id: ObjectId) -> anyhow::Result<[Reply; 11]> {
-    Ok([
-        Reply::Done,
-        Reply::Handle(3),
-        Reply::Content(Bytes::from_slice(alloc, b"bc")?),
-        Reply::Info {
-            size: 5,
-            position: 2,
-            flags: Flags { bits: READ },
-            attributes: Bytes::from_slice(alloc, b"a")?,
-        },
-        Reply::Found { id, size: 5 },
-        Reply::Refused(Code::Overflow),
-        Reply::Misuse(Reason::NoRight),
-        Reply::Corrupt,
-        Reply::NotAvailable(Cause::Fault {
-            device: Device::File(3),
-            count: 4,
-        }),
-        Reply::CounterSpent(6),
-        Reply::NoMemory,
-    ])
+fn compare_replies(alloc: Global, id: ObjectId) -> anyhow::Result<()> {
+    let attributes = Bytes::from_slice(alloc, b"a")?;
+    let info = Reply::Info {
+        size: 5,
+        position: 2,
+        flags: Flags { bits: READ },
+        attributes,
+    };
+    compare_reply(alloc, info)?;
+    let bytes = Bytes::from_slice(alloc, b"bc")?;
+    compare_reply(alloc, Reply::Content(bytes))?;
+    compare_reply(alloc, Reply::Done)?;
+    compare_reply(alloc, Reply::Handle(3))?;
+    compare_reply(alloc, Reply::Found { id, size: 5 })?;
+    compare_reply(alloc, Reply::Refused(Code::Overflow))?;
+    compare_reply(alloc, Reply::Misuse(Reason::NoRight))?;
+    compare_reply(alloc, Reply::Corrupt)?;
+    let fault = Cause::Fault {
+        device: Device::File(3),
+        count: 4,
+    };
+    compare_reply(alloc, Reply::NotAvailable(fault))?;
+    compare_reply(alloc, Reply::CounterSpent(6))?;
+    compare_reply(alloc, Reply::NoMemory)
 }
 
 fn print_copies(rt: &impl Print, alloc: Global) -> anyhow::Result<()> {
     let id = ObjectId::new(b"k").ok().context("the identifier k")?;
-    for call in &calls_up_to_rename(alloc, id)? {
-        compare(alloc, &call.copy(alloc)?, call)?;
-    }
-    for call in &calls_from_delete() {
-        compare(alloc, &call.copy(alloc)?, call)?;
-    }
+    compare_long_calls(alloc, id)?;
+    compare_short_calls(alloc)?;
     println!(rt; "tee_types: copies of 15 calls -> print as the calls do")?;
-    for reply in &replies(alloc, id)? {
-        compare(alloc, &reply.copy(alloc)?, reply)?;
-    }
+    compare_replies(alloc, id)?;
     println!(rt; "tee_types: copies of 11 replies -> print as the replies do")?;
     Ok(())
 }
