@@ -4,9 +4,6 @@
 ghost use Rattle.std.specs.Prelude.{◌≡◌, ◌≤◌, ◌+◌, length};
 ghost use Rattle.byte_fields.specs.Field.{field, with_field};
 
-#[cfg(test)]
-mod tests;
-
 /// The field of N bytes at the offset.
 pub fn field<const N: usize>(bytes: &[u8], offset: usize) -> [u8; N]
     requires { offset + N ≤ length bytes.now }

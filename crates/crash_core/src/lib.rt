@@ -10,8 +10,6 @@ mod core_laws;
 mod directory_laws;
 mod fault;
 mod laws;
-#[cfg(test)]
-mod tests;
 
 pub use core_laws::{every_picture_mounts, honest_pictures_mount, openings_are_starts};
 pub use directory_laws::{blocks_are_read_back, directories_are_opened, directories_have_entries};

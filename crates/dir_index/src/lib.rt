@@ -3,8 +3,6 @@
 
 mod index;
 mod laws;
-#[cfg(test)]
-mod tests;
 
 pub use index::DirIndex;
 pub use laws::changes_concern_one_name;

@@ -6,7 +6,5 @@
 
 mod entry;
 mod form;
-#[cfg(test)]
-mod tests;
 
 pub use entry::{BadRecord, DirEntry};

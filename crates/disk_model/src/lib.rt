@@ -7,6 +7,3 @@
 mod span;
 
 pub use span::{Change, Span, touched};
-
-#[cfg(test)]
-mod tests;

@@ -6,8 +6,6 @@ mod cursor;
 mod enumerators;
 mod laws;
 mod places;
-#[cfg(test)]
-mod tests;
 
 pub use cursor::{Cursor, EnumFault};
 pub use enumerators::Enumerators;

@@ -16,8 +16,6 @@ use tags::{hash_subkey, pre_counter_block, tag_of};
 mod counter_mode;
 mod hash_input;
 mod tags;
-#[cfg(test)]
-mod tests;
 
 /// The tag that was given is not the tag of the additional data and the ciphertext.
 #[derive(Clone, Copy, PartialEq, Eq, Debug)]

@@ -15,8 +15,6 @@ ghost use Rattle.ghash_field.specs.Table.{block_step};
 use table::{Table, fill_table, mul_by_table};
 
 mod table;
-#[cfg(test)]
-mod tests;
 
 // R of section 6.3: 1110 0001, then 120 zero bits. It stands for x^128.
 const REDUCTION: u128 = 0xe1 << 120;

@@ -6,8 +6,6 @@ pub mod laws;
 mod rule;
 mod seats;
 mod steps;
-#[cfg(test)]
-mod tests;
 
 pub use gate::{Appended, Refreshed};
 pub use seats::{GateSeat, HistoryTable, PassSeat, SlotSeat};

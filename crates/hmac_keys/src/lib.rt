@@ -11,9 +11,6 @@ ghost use Rattle.sha2.specs.Sha256.{sha256};
 
 use sha2::{Digest, Sha256};
 
-#[cfg(test)]
-mod tests;
-
 // The length of a block of SHA-256 in bytes.
 const BLOCK: usize = 64;
 

@@ -9,8 +9,6 @@ mod hashing;
 mod head;
 mod node;
 mod offsets;
-#[cfg(test)]
-mod tests;
 
 pub use hashing::node_hash;
 pub use head::{BadHead, Head, greatest_node};

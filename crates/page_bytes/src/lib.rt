@@ -4,7 +4,5 @@
 
 mod page;
 mod range;
-#[cfg(test)]
-mod tests;
 
 pub use range::ByteRange;

@@ -11,8 +11,6 @@ mod heard;
 mod port;
 mod protocol;
 mod sim_port;
-#[cfg(test)]
-mod tests;
 
 pub use card::{Register, SimCard};
 pub use card_rig::CardRig;

@@ -15,8 +15,6 @@ use hmac_keys::hmac;
 use tee_types::FrameFault;
 
 mod frame;
-#[cfg(test)]
-mod tests;
 
 /// The MAC of a frame under the card's key: HMAC with SHA-256 of bytes 228 to 511.
 pub fn mac(bytes: &[u8; 512], key: &[u8; 32]) -> [u8; 32]

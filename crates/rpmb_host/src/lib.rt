@@ -5,8 +5,6 @@
 mod fault;
 mod host;
 mod requests;
-#[cfg(test)]
-mod tests;
 mod verdict;
 
 pub use fault::HostFault;

@@ -3,8 +3,6 @@
 
 mod laws;
 mod seed_entropy;
-#[cfg(test)]
-mod tests;
 
 pub use laws::words_are_apart;
 pub use seed_entropy::SeedEntropy;

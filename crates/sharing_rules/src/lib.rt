@@ -7,8 +7,6 @@ ghost use Rattle.std.specs.List.{list_all};
 ghost use Rattle.tee_types.specs.Rights.{are_compatible};
 
 mod laws;
-#[cfg(test)]
-mod tests;
 
 pub use laws::{
     handles_without_rights_are_compatible, sharing_is_symmetric, write_meta_is_exclusive,

@@ -35,6 +35,3 @@ pub use store_file::StoreFile;
 
 /// Memory ran out.
 pub type NoMemory = std::alloc::AllocError;
-
-#[cfg(test)]
-mod tests;

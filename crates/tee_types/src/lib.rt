@@ -10,8 +10,6 @@ mod laws;
 mod limits;
 mod object_id;
 mod reply;
-#[cfg(test)]
-mod tests;
 
 pub use app_id::AppId;
 pub use bytes::Bytes;

@@ -7,8 +7,6 @@
 
 mod node_set;
 mod paths;
-#[cfg(test)]
-mod tests;
 
 pub use node_set::NodeSet;
 pub use paths::{children, parent, staged_nodes, touched_nodes};

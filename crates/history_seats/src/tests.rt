@@ -1,3 +1,0 @@
-mod doubts;
-mod places;
-mod threads;
