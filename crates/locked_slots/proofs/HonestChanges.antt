@@ -1,8 +1,7 @@
 -- In an honest file a settled stage leaves the pages that the change makes.
-use Rattle.std.proofs.Common.{◌≡◌, ◌∙◌, ◌⊎◌, ◌+◌, ◌*◌, ◌-◌, ◌<◌, ◌≤◌, min, ℕ, Bool, true, false, true≢false, List, [], length, get_or, Option, Some, None, Result, Ok, Err, IsTrue, inl, inr, refl, sym, ap, subst, arith}
+use Rattle.std.proofs.Common.{◌≡◌, ◌∙◌, ◌⊎◌, ◌+◌, ◌*◌, ◌<◌, ◌≤◌, min, ℕ, true, false, true≢false, List, [], length, get_or, Option, Some, None, Result, Ok, IsTrue, inl, inr, refl, sym, ap, subst, arith}
 use Rattle.std.proofs.lemmas.Bool.{cases_Bool, cases_lt}
 use Rattle.std.specs.Option.{IsSome}
-use Rattle.htree_file.specs.Pages.{block_in}
 use Rattle.block_file.specs.Reads.{IsPage}
 use Rattle.disk_model.specs.State.{FileState, Sound as SoundFile}
 use Rattle.disk_model.proofs.ImageLaws.{reads_left}
@@ -16,14 +15,14 @@ use Rattle.node_image.specs.Tables.{at_node}
 use Rattle.node_image.proofs.Matching.{row_at}
 use Rattle.htree_file.specs.declared.fault.TreeFault.{TreeFault}
 use Rattle.htree_file.specs.Changes.{SealsAt}
-use Rattle.htree_file.specs.Opening.{Loaded, load_of}
+use Rattle.htree_file.specs.Opening.{load_of}
 use Rattle.htree_file.specs.Pages.{Opened, opened_in, opened_of, page_in, page_of}
 use Rattle.htree_file.specs.Standing.{Told}
 use Rattle.htree_file.specs.Value.{Staged}
 use Rattle.htree_file.proofs.Sizes.{sized_greatest}
 use Rattle.page_bytes.specs.declared.range.ByteRange.{ByteRange}
 use Rattle.page_bytes.specs.Changed.{HasRewritten}
-use Rattle.page_bytes.specs.Pages.{byte_in, bytes_from, page_at}
+use Rattle.page_bytes.specs.Pages.{bytes_from, page_at}
 use Rattle.page_bytes.specs.Ranges.{end_block, first_block, meets, needs}
 use Rattle.page_bytes.proofs.Content.{blocks-met}
 use Rattle.block_file.specs.Stages.{IsAfter, bytes_in}
@@ -124,8 +123,7 @@ module _ (keys : Keys) (old new : FileState) (o : HeldObject) (v : Version) (c :
   page_needed k need =
       let there : k < length o.tree.tree.nodes = omega (arith, old_count, size, needed_old c.range k need) in
       let read = stage.read k need in
-      let page : IsPage o.tree.key o.tree.tree old new k read.0 = read.1 in
-      (
+      let page : IsPage o.tree.key o.tree.tree old new k read.0 = read.1 in (
         read.0,
         page_was k there
             ∙ row_at (page_in old.reads (unwrapped_of wrap o.tree.tree.head.wrapped) o.tree.tree) (length o.tree.tree.nodes) k None there

@@ -1,25 +1,20 @@
 -- How the pages of a version in an honest file become those of the next.
-use Rattle.std.proofs.Common.{◌≡◌, ◌∙◌, ◌⊎◌, ◌+◌, ◌*◌, ◌/◌, ◌%◌, ◌-◌, ◌<◌, ◌≤◌, nat_lt, min, max, ℕ, Bool, true, false, true≢false, cond, List, [], length, get_or, Option, Some, None, Result, Ok, Err, IsTrue, inl, inr, refl, sym, ap, subst, arith}
-use Rattle.std.proofs.lemmas.Bool.{cases_Bool, cases_lt}
+use Rattle.std.proofs.Common.{◌≡◌, ◌∙◌, ◌⊎◌, ◌+◌, ◌*◌, ◌/◌, ◌%◌, ◌<◌, ◌≤◌, ℕ, true, List, [], length, get_or, Option, Some, Ok, inl, inr, sym, ap, arith}
+use Rattle.std.proofs.lemmas.Bool.{cases_lt}
 use Rattle.std.proofs.lemmas.List.{get_or_past}
-use Rattle.disk_model.specs.State.{FileState}
 use Rattle.disk_model.specs.Bytes.{after_resize, after_write}
-use Rattle.aes_block.specs.WrappedKey.{unwrapped_of}
 use Rattle.node_image.specs.declared.node.RootRef.{RootRef}
 use Rattle.node_image.specs.declared.node.NodeImage.{NodeImage}
 use Rattle.node_image.specs.declared.head.Head.{Head}
 use Rattle.node_image.specs.Parts.Part.{block}
-use Rattle.node_image.specs.Selection.{head_in, part_in, row, selected_node, selected_tree}
-use Rattle.node_image.specs.Tables.{at_node, block_bit}
+use Rattle.node_image.specs.Selection.{head_in, part_in, selected_node, selected_tree}
+use Rattle.node_image.specs.Tables.{block_bit}
 use Rattle.node_image.proofs.Matching.{node_is, row_at}
-use Rattle.htree_file.specs.declared.fault.TreeFault.{TreeFault}
 use Rattle.htree_file.specs.Opening.{Loaded, load_of}
-use Rattle.htree_file.specs.Pages.{Opened, block_in, opened_in, opened_of, page_in, page_of}
-use Rattle.htree_file.specs.Standing.{Told}
+use Rattle.htree_file.specs.Pages.{block_in}
 use Rattle.htree_file.proofs.Loadings.{loaded_from}
 use Rattle.page_bytes.specs.declared.range.ByteRange.{ByteRange}
-use Rattle.page_bytes.specs.Changed.{HasRewritten}
-use Rattle.page_bytes.specs.Pages.{byte_at, byte_in, bytes_from, page_at}
+use Rattle.page_bytes.specs.Pages.{byte_at, byte_in, bytes_from}
 use Rattle.page_bytes.specs.Ranges.{meets, needs, resize_range, write_range}
 use Rattle.page_bytes.specs.Rewriting.{IsRewritten, changed_byte}
 use Rattle.page_bytes.proofs.Content.{get_or-after_resize, get_or-after_write, get_or-bytes_from-zero, length-bytes_from}

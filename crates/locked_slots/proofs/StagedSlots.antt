@@ -1,6 +1,6 @@
 -- What staging a change leaves of a locked slot.
 use Rattle.disk_model.specs.State.{Sound as SoundFile}
-use Rattle.std.proofs.Common.{◌≡◌, ◌∙◌, ◌+◌, ◌<◌, ◌≤◌, ◌==◌, ◌||◌, ℕ, Bool, true, true≢false, List, Some, None, Result, Ok, Err, IsTrue, inl, inr, refl, sym, ap, subst, false}
+use Rattle.std.proofs.Common.{◌≡◌, ◌∙◌, ◌+◌, ◌<◌, ◌≤◌, ◌==◌, ◌||◌, ℕ, Bool, true, true≢false, List, Some, None, Result, Ok, Err, IsTrue, inl, inr, refl, sym, ap, subst}
 use Rattle.std.proofs.lemmas.Bool.{cases_Bool}
 use Rattle.htree_file.specs.Value.{Staged}
 use Rattle.node_image.specs.declared.node.RootRef.{RootRef}
