@@ -1,5 +1,5 @@
-//! Tries what may go wrong with objects, the trees that hold them, and a store's directory and card: calls that fail, stops, crashes, altered bytes. Prints a
-//! line for each scenario with what then stands, how many bytes some changes write, and how often something was lost.
+//! Tries what may go wrong with objects and the trees that hold them: calls that fail, stops, crashes, altered bytes. Prints a line for
+//! each scenario with what then stands, how many bytes some changes write, and how often something was lost.
 //!
 //! A scenario is run once for each call that may fail, in each way and with each seed of a crash. What stands then is the bytes
 //! before the change, or after it, where both are read again under their references; or the alteration is told, in the
@@ -15,10 +15,8 @@ mod base;
 mod blocks;
 mod budget;
 mod change;
-mod commits;
 mod files;
 mod masks;
-mod mishaps;
 mod named;
 mod objects;
 mod outcome;
@@ -27,7 +25,6 @@ mod ranges;
 mod roots;
 mod scenarios;
 mod single_calls;
-mod stores;
 mod told;
 mod trees;
 mod trials;

@@ -3,7 +3,6 @@
 use crate::altered::{self, Kind};
 use crate::base::Base;
 use crate::change::{Change, old_bytes};
-use crate::commits::{self, Act};
 use crate::outcome::Tally;
 use crate::trees::Step;
 use crate::trials::Trial;
@@ -44,8 +43,6 @@ enum Tries {
     Roots,
     /// Arms that a tree passes on.
     PassedOn,
-    /// An act on a store.
-    Store(Act),
 }
 
 /// A scenario.
@@ -56,7 +53,7 @@ pub struct Scenario {
 }
 
 /// All scenarios, in the order of the table.
-pub const ALL: [Scenario; 33] = [
+pub const ALL: [Scenario; 29] = [
     Scenario {
         name: "a file: written, cut, written past its end",
         tries: Tries::File,
@@ -197,22 +194,6 @@ pub const ALL: [Scenario; 33] = [
         name: "references and sizes of others",
         tries: Tries::Names,
     },
-    Scenario {
-        name: "a store is formatted",
-        tries: Tries::Store(Act::Format),
-    },
-    Scenario {
-        name: "a store is mounted",
-        tries: Tries::Store(Act::Mount),
-    },
-    Scenario {
-        name: "store: an entry is put",
-        tries: Tries::Store(Act::Put),
-    },
-    Scenario {
-        name: "store: an entry is cleared",
-        tries: Tries::Store(Act::Clear),
-    },
 ];
 
 impl Scenario {
@@ -240,7 +221,6 @@ impl Scenario {
             Tries::Sizes => ranges::tally_sizes(alloc),
             Tries::Roots => roots::tally(alloc),
             Tries::PassedOn => passed_on::tally(alloc),
-            Tries::Store(act) => commits::tally(alloc, act),
         }
     }
 }
