@@ -1,7 +1,9 @@
 //! Formatting a store.
 
-ghost use Rattle.std.specs.Prelude.{◌≡◌, vec_len, IfErr, IfOk};
-ghost use Rattle.store_commit.specs.Formats.{FormatRefused, Formats, LeavesFormat};
+ghost use Rattle.std.specs.Prelude.{◌≡◌, vec_len, IfErr, IfOk, IsTrue};
+ghost use Rattle.store_commit.specs.Causes.{counts};
+ghost use Rattle.store_commit.specs.Counts.{NoneRose, RefusalCounts, RefusalNotDrawn, RefusalNotOfCard};
+ghost use Rattle.store_commit.specs.Formats.{FormatHeard, FormatRefused, Formats, IsFormatWritten, LeavesFormat};
 ghost use Rattle.object_calls.specs.Files.{files_of};
 ghost use Rattle.object_calls.specs.Formed.{MountsToNone};
 ghost use Rattle.object_calls.specs.Refusals.{SameObjectFiles};
@@ -36,6 +38,18 @@ pub fn format<F: StoreFile + Drop, R: RpmbPort + Drop, E: Entropy>(
         (R.state bench.card) (R.state h.bench.card) keys.now (E.faults entropy.old) (E.faults entropy.new) h.fault) }
     ensures others_err { IfErr result (λ h. SameObjectFiles bench.files.items h.bench.files.items) }
     ensures whole_err { IfErr result (λ h. vec_len h.bench.files ≡ 273) }
+    // Whatever the card is.
+    ensures written { IfOk result (λ b. IsFormatWritten (files_of F.state b.files.items 0) (R.state bench.card) (R.state b.card) keys.now) }
+    ensures heard { IfErr result (λ h. FormatHeard (files_of F.state bench.files.items 0) (files_of F.state h.bench.files.items 0)
+        (R.state bench.card) (R.state h.bench.card) keys.now h.fault) }
+    // A refusal that carries a count is of the one that rose; after another, and after a format, none did.
+    ensures passed { IfOk result (λ b. NoneRose (counts (files_of F.state bench.files.items 0) (R.state bench.card) (E.faults entropy.old))
+        (counts (files_of F.state b.files.items 0) (R.state b.card) (E.faults entropy.new))) }
+    ensures counts { IfErr result (λ h. RefusalCounts (counts (files_of F.state bench.files.items 0) (R.state bench.card) (E.faults entropy.old))
+        (counts (files_of F.state h.bench.files.items 0) (R.state h.bench.card) (E.faults entropy.new)) h.fault) }
+    ensures calm { IsTrue (R.state bench.card).calm → IfOk result (λ b. IsTrue (R.state b.card).calm) }
+    ensures calm_err { IsTrue (R.state bench.card).calm → IfErr result (λ h. IsTrue (R.state h.bench.card).calm × RefusalNotOfCard h.fault) }
+    ensures drawn { E.is_reliable entropy.old → IfErr result (λ h. RefusalNotDrawn h.fault) }
     ensures reliable { E.is_reliable entropy.old → E.is_reliable entropy.new }
 {
     let Bench { files, card } = bench;

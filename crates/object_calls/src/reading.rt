@@ -1,11 +1,15 @@
 //! The card's block 0.
 
-ghost use Rattle.std.specs.Prelude.{◌≡◌, IfErr, IfOk, OnOk};
+ghost use Rattle.std.specs.Prelude.{◌≡◌, IfErr, IfOk, IsTrue, OnOk};
+ghost use Rattle.disk_model.specs.State.{FileState};
 ghost use Rattle.hmac_keys.specs.KeyTable.{rpmb_key};
 ghost use Rattle.rpmb_card.specs.Card.{CardState};
 ghost use Rattle.rpmb_host.specs.Honest.{HasCard};
 ghost use Rattle.crash_core.specs.Pictures.{block_zero};
+ghost use Rattle.store_commit.specs.Causes.{counts};
+ghost use Rattle.store_commit.specs.Counts.{RefusalCounts, RefusalNotDrawn, RefusalNotOfCard};
 ghost use Rattle.store_commit.specs.Mounts.{CardRefused};
+ghost use Rattle.store_commit.specs.Reads.{AsksBlock, IsBlockRead, OfHost};
 
 use crate::bench::{Bench, BlockRead, Halted};
 use hmac_keys::{Keys, rpmb_key};
@@ -32,6 +36,16 @@ pub fn card_block<F, R: RpmbPort, E: Entropy>(
     ensures refused { IfErr result (λ h. CardRefused (R.state bench.card) (R.state h.bench.card) (rpmb_key keys.now.huk)
         (E.faults entropy.old) (E.faults entropy.new) h.fault) }
     ensures passed { IfOk result (λ r. ((R.state r.bench.card).faults ≡ (R.state bench.card).faults) × (E.faults entropy.new ≡ E.faults entropy.old)) }
+    // What was heard, whatever the card is: the block of a verified answer, or the answer that was refused.
+    ensures heard { IfOk result (λ r. IsBlockRead (rpmb_key keys.now.huk) (R.state bench.card) (R.state r.bench.card) r.block) }
+    ensures heard_err { IfErr result (λ h. OfHost (λ fault. AsksBlock (rpmb_key keys.now.huk) (R.state bench.card) (R.state h.bench.card) (Err fault))
+        h.fault) }
+    // A refusal that carries a count is of the one that rose; after another none did.
+    ensures counts { IfErr result (λ h. (file : FileState) → RefusalCounts (counts file (R.state bench.card) (E.faults entropy.old))
+        (counts file (R.state h.bench.card) (E.faults entropy.new)) h.fault) }
+    ensures calm { IsTrue (R.state bench.card).calm → IfOk result (λ r. IsTrue (R.state r.bench.card).calm) }
+    ensures calm_err { IsTrue (R.state bench.card).calm → IfErr result (λ h. IsTrue (R.state h.bench.card).calm × RefusalNotOfCard h.fault) }
+    ensures drawn { E.is_reliable entropy.old → IfErr result (λ h. RefusalNotDrawn h.fault) }
     ensures reliable { E.is_reliable entropy.old → E.is_reliable entropy.new }
 {
     let Bench { files, card } = bench;

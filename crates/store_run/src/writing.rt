@@ -1,6 +1,6 @@
 //! Writing text to a sink.
 
-ghost use Rattle.std.specs.Prelude.{◌≡◌, ◌≤◌, ◌⊎◌, ℕ, [], take, OnOk, OnErr, IfErr};
+ghost use Rattle.std.specs.Prelude.{◌≡◌, ◌<◌, ◌≤◌, ◌⊎◌, ℕ, [], length, take, IsOk, OnOk, OnErr, IfErr};
 ghost use Rattle.tee_ports.specs.Faults.{Rose};
 ghost use Rattle.tee_ports.specs.Streams.{Appends};
 ghost use Rattle.store_run.specs.Sending.{Sends, Stops, IsWriteError};
@@ -36,8 +36,13 @@ pub const PIECE: usize = 65_536;
 /// Puts the text that is kept, where there is enough of it or this is the last.
 pub fn flush<K: Sink>(sink: &mut K, kept: &mut Vec<u8>, at_least: usize) -> Result<(), Status>
     ensures ok { OnOk result (Sends (K.held sink.old) (K.held sink.new) kept.old.items kept.new.items []) }
-    ensures all { OnOk result (at_least ≡ 0 → kept.new.items ≡ []) }
+    // Less than is asked for stays, and nothing is put; else nothing is kept.
+    ensures few { length kept.old.items < at_least
+        → IsOk result × (sink.new ≡ sink.old) × (kept.new.items ≡ kept.old.items) }
+    ensures all { OnOk result (at_least ≤ length kept.old.items → kept.new.items ≡ []) }
     ensures err { OnErr result (Stops (K.held sink.old) (K.held sink.new) kept.old.items []) }
+    // No memory is taken.
+    ensures fault { IfErr result (λ status. status ≡ Status.WriteFault) }
     ensures error { IfErr result (IsWriteError (Rose (K.faults sink.old) (K.faults sink.new) ⊎ K.is_full sink.new)) }
     ensures counted { K.faults sink.old ≤ K.faults sink.new }
 {

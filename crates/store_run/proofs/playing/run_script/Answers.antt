@@ -15,7 +15,7 @@ returns-clause-text g c =
     let steps = c.loop-steps.steps.now in
     let none : length steps ≡ 0 = grind (arith, c.is_empty.ensures, c.loop-steps-test.false) in
     text_of_flush c.flush.result c.args.script.now (g.K.Sink.held c.args.sink.now) _ _ steps _ _ _ _ _ c.flush.new.kept.items none c.loop-steps.invariant.run
-    c.flush.ensures.ok (on_ok_weaker c.flush.result (λ all. all refl) c.flush.ensures.all) c.flush.ensures.err
+    c.flush.ensures.ok (on_ok_weaker c.flush.result (λ all. all (omega arith)) c.flush.ensures.all) c.flush.ensures.err
 
 pub returns-in_err-run-clause-text : goal.returns-in_err-run-clause-text
 returns-in_err-run-clause-text g c = (
