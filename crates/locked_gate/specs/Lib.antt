@@ -1,1 +1,4 @@
 pub mod LockedGates
+pub mod KnownMachine
+pub mod Answering
+pub mod Settled

@@ -4,6 +4,9 @@
 //! history leaves, and the open handles are those of the machine's sessions, under each supposition.
 #![tactic(auto)]
 
+mod answer;
 mod gate;
+pub mod laws;
+mod resolve;
 
 pub use gate::{Closing, LockedGate};
