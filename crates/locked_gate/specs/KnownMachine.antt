@@ -1,5 +1,5 @@
 -- What a gate behind its lock tells of the machine, under each supposition under which its history is answered.
-use Rattle.std.specs.Prelude.{◌≡◌, ◌<◌, ℕ, List, Option, None, length}
+use Rattle.std.specs.Prelude.{◌≡◌, ◌<◌, List, Option, length}
 use Rattle.open_table.specs.Table.{TableState}
 use Rattle.store_model.specs.Machine.{MachineState, session_at}
 use Rattle.dir_records.specs.declared.entry.DirEntry.{DirEntry}

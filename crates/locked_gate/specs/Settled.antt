@@ -1,5 +1,5 @@
 -- What the resolving of a doubt leaves behind the lock.
-use Rattle.std.specs.Prelude.{◌≡◌, List, Option, Some, None, Result, Ok, Err}
+use Rattle.std.specs.Prelude.{◌≡◌, Option, Some, None, Result, Ok, Err}
 use Rattle.open_table.specs.Table.{TableState}
 use Rattle.tee_types.specs.declared.reply.Cause.{Cause}
 use Rattle.history_seats.specs.Views.{GateView}

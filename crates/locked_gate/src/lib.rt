@@ -8,5 +8,6 @@ mod answer;
 mod gate;
 pub mod laws;
 mod resolve;
+mod show;
 
 pub use gate::{Closing, LockedGate};

@@ -1,13 +1,11 @@
 -- Behind the lock what became of the doubt is tied to the history.
-use Rattle.std.proofs.Common.{◌≡◌, ℕ, Option, Some, None, Result, Ok, Err, IfSome, IsSome, refl, sym, ap, ◌∙◌, subst}
-use Rattle.tee_types.specs.declared.reply.Cause.{Cause}
+use Rattle.std.proofs.Common.{◌≡◌, ℕ, None, Ok, Err, IsSome, sym, ap, ◌∙◌, subst}
 use Rattle.history_seats.specs.Views.{GateView}
 use Rattle.history_seats.specs.Changes.{landing_of, with_record}
 use Rattle.call_history.specs.Journals.{IsJournal, JournalValue}
-use Rattle.store_commit.specs.declared.gate.Doubted.{Doubted}
 use Rattle.store_commit.specs.declared.resolve.Resolved.{Resolved}
-use Rattle.store_commit.specs.declared.resolve.Resolved.TheVariants.{Landed, Dropped}
-use Rattle.store_commit.specs.Gates.{DoubtStands, GateValue, gate_sides}
+use Rattle.store_commit.specs.declared.resolve.Resolved.TheVariants.{Landed}
+use Rattle.store_commit.specs.Gates.{GateValue, gate_sides}
 use Rattle.store_commit.specs.Resolving.{IsLanded, IsUndone, IsUnresolved, Resolves, TellsCounter}
 use Rattle.store_commit.specs.Sides.{Sides}
 use Rattle.dir_file.specs.View.{DirView}
