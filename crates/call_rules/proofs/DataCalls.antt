@@ -1,23 +1,25 @@
 -- Calls on the data of an open object: what they are refused with, and what they do to the object.
-use Rattle.std.proofs.Common.{◌≡◌, ◌∙◌, ◌==◌, ◌&&◌, ℕ, Bool, true, false, not, List, [], ◌∷◌, length, cond, Option, Some, None, refl, sym, ap, arith, le-ltb, pos, ◌+ℤ◌, int_lt, ℤ}
+use Rattle.std.proofs.Common.{◌≡◌, ◌∙◌, ◌==◌, ◌&&◌, ◌+◌, ℕ, Bool, true, false, not, List, [], ◌∷◌, length, cond, Option, Some, None, refl, sym, ap, arith, le-ltb, pos, ◌+ℤ◌, int_lt, ℤ}
 use Rattle.std.specs.Prelude.{nat_lt}
 use Rattle.std.proofs.lemmas.Bool.{eqb-true}
+use Rattle.std.specs.List.{list_any}
 use Rattle.tee_types.specs.Rights.{has, read_bit, write_bit}
 use Rattle.tee_types.specs.declared.call.Call.TheVariants.{Read, Write, Truncate, Seek, Info as InfoCall}
 use Rattle.tee_types.specs.declared.call.Whence.{Whence}
 use Rattle.tee_types.specs.declared.reply.Reply.{Reply}
-use Rattle.tee_types.specs.declared.reply.Reply.TheVariants.{Done, Refused, Misuse}
+use Rattle.tee_types.specs.declared.reply.Reply.TheVariants.{Done, Content, Refused, Misuse, Corrupt}
 use Rattle.tee_types.specs.declared.reply.Code.TheVariants.{Overflow}
 use Rattle.tee_types.specs.declared.reply.Reason.TheVariants.{BadHandle}
 use Rattle.store_model.specs.declared.session.Handle.{Handle}
 use Rattle.store_model.specs.Object.{Object, object_at, size_at, size_of}
 use Rattle.store_model.specs.Machine.{Session, MachineState, Outcome, session_at, handle_at, with_handle, with_session, by_handle, by_right, of_sound, unless_refused}
-use Rattle.store_model.specs.Data.{read_of, read_from, write_of, write_from, truncate_of, truncate_from, seek_of, seek_base, at_least_zero, info_of, greatest_position}
+use Rattle.store_model.specs.Data.{meets, bytes_at, with_position, read_of, read_from, write_of, write_from, write_refusals, truncate_refusals, truncate_of, truncate_from, seek_of, seek_base, at_least_zero, info_of, greatest_position}
 use Rattle.store_model.specs.Calls.{size_by}
 use Rattle.store_model.specs.Files.{is_misuse}
 use Rattle.call_rules.specs.Objects.{HasObject, IsOfObject, RefusesRight, told_info}
 use Rattle.call_rules.specs.Told.{IsTold, told}
 use Rattle.call_rules.proofs.Refusals.{refused_told}
+use Rattle.call_rules.proofs.Proper.{of_object, proper_unless}
 use Rattle.call_rules.proofs.ByHandle.{misuse_not_done, by_right-has}
 
 no_bytes : (n : ℕ) → (n == 0) ≡ true → nat_lt 0 n ≡ false
@@ -74,26 +76,26 @@ module _ (s : MachineState) (i : ℕ) (caller : Session) (is : session_at s i �
   module _ (h : Handle) (live : handle_at caller number ≡ Some h) where
     pub info_of_object : (size : ℕ) → HasObject s.objects h.name size → IsOfObject s i (InfoCall number) h.name size (told_info s h)
     unfolding info_of
-    info_of_object size there = record {
-      there = there;
-      outcome = ap (λ (h : Option Handle). by_handle s h (λ handle. of_sound s (object_at s.objects handle.name) (told_info s handle))) (same_handle ∙ live);
-    }
+    info_of_object size there = of_object s i (InfoCall number) h.name size (told_info s h) there
+        (ap (λ (h : Option Handle). by_handle s h (λ handle. of_sound s (object_at s.objects handle.name) (told_info s handle))) (same_handle ∙ live))
+        (λ c. refl)
 
     pub read_of_object : has h.flags read_bit ≡ true → (size wanted : ℕ) → HasObject s.objects h.name size
         → IsOfObject s i (Read number wanted) h.name size (read_from s i number wanted h)
     unfolding read_of
-    read_of_object has_right size wanted there = record {
-      there = there;
-      outcome = right_done read_bit (λ handle. of_sound s (object_at s.objects handle.name) (read_from s i number wanted handle)) h live has_right;
-    }
+    read_of_object has_right size wanted there = of_object s i (Read number wanted) h.name size (read_from s i number wanted h) there
+        (right_done read_bit (λ handle. of_sound s (object_at s.objects handle.name) (read_from s i number wanted handle)) h live has_right)
+        (λ c.
+        let last = h.position + length (bytes_at c.bytes h.position wanted) in
+        proper_unless ((list_any (meets (record { start = h.position; end = last })) c.bad, Corrupt) ∷ []) s
+        (record { reply = Content (bytes_at c.bytes h.position wanted); next = with_position s i number h last }) (refl, tt) refl)
 
     pub truncate_of_object : has h.flags write_bit ≡ true → (size new : ℕ) → HasObject s.objects h.name size
         → IsOfObject s i (Truncate number new) h.name size (truncate_from s new h)
     unfolding truncate_of
-    truncate_of_object has_right size new there = record {
-      there = there;
-      outcome = right_done write_bit (λ handle. of_sound s (object_at s.objects handle.name) (truncate_from s new handle)) h live has_right;
-    }
+    truncate_of_object has_right size new there = of_object s i (Truncate number new) h.name size (truncate_from s new h) there
+        (right_done write_bit (λ handle. of_sound s (object_at s.objects handle.name) (truncate_from s new handle)) h live has_right)
+        (λ c. proper_unless (truncate_refusals c new) s _ (refl, (refl, tt)) refl)
 
     abbrev writing : List ℕ → Handle → Outcome
     writing bytes handle = cond (length bytes == 0) (record { reply = Done; next = s }) (of_sound s (object_at s.objects handle.name) (write_from s i number bytes handle))
@@ -111,11 +113,10 @@ module _ (s : MachineState) (i : ℕ) (caller : Session) (is : session_at s i �
     pub write_of_object : has h.flags write_bit ≡ true → (bytes : List ℕ) → (length bytes == 0) ≡ false → (size : ℕ) → HasObject s.objects h.name size
         → IsOfObject s i (Write number bytes) h.name size (write_from s i number bytes h)
     unfolding write_of
-    write_of_object has_right bytes some size there = record {
-      there = there;
-      outcome = right_done write_bit (writing bytes) h live has_right
-          ∙ ap (λ (b : Bool). cond b (record { reply = Done; next = s }) (of_sound s (object_at s.objects h.name) (write_from s i number bytes h))) some;
-    }
+    write_of_object has_right bytes some size there = of_object s i (Write number bytes) h.name size (write_from s i number bytes h) there
+        (right_done write_bit (writing bytes) h live has_right
+        ∙ ap (λ (b : Bool). cond b (record { reply = Done; next = s }) (of_sound s (object_at s.objects h.name) (write_from s i number bytes h))) some)
+        (λ c. proper_unless (write_refusals c h.position (length bytes)) s _ (refl, (refl, (refl, tt))) refl)
 
 module _ (s : MachineState) (i : ℕ) (caller : Session) (is : session_at s i ≡ caller) (number : ℕ) (offset : ℤ) (whence : Whence) where
   abbrev seeking : Session → Handle → Outcome

@@ -6,6 +6,7 @@ pub mod Closing
 pub mod Creating
 pub mod Opening
 pub mod ByHandle
+pub mod Proper
 pub mod DataCalls
 pub mod Decisions
 pub mod Names

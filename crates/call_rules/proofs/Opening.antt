@@ -17,7 +17,9 @@ use Rattle.crash_core.specs.DirectoryLaws.{AreEntries}
 use Rattle.store_commit.specs.declared.look.Held.{Held}
 use Rattle.store_commit.specs.NameIndex.{IsEntryNamed}
 use Rattle.call_rules.specs.Matches.{Matches}
-use Rattle.call_rules.specs.Objects.{IsOpened}
+use Rattle.call_rules.specs.Objects.{IsOpened, open_sound}
+use Rattle.store_model.specs.Calls.{outcome_of}
+use Rattle.call_rules.proofs.Proper.{proper_unless}
 use Rattle.call_rules.specs.Rows.{open_rows}
 use Rattle.call_rules.specs.Told.{IsTold}
 use Rattle.call_rules.proofs.Lookups.{entry_object, held_is}
@@ -72,10 +74,14 @@ module _ (entries : List (Option DirEntry)) (table : TableState) (caller : Sessi
     open_conflict refuses = open_told s i caller m.session id flags (Refused AccessConflict)
         (open_found ∙ ap (λ (b : Bool). first_refusal (late_rows true b damaged)) refuses) refl
 
-    pub open_opens : allowed ≡ true → IsOpened s i id flags (held.entry).size
+    opened : allowed ≡ true → outcome_of s i (Open id flags) ≡ open_sound s i name flags
     unfolding open_of
+    opened passes = ap (λ (r : Option Reply). let o : Outcome = elim r [ Some x ↦ refuse s x | None ↦ open_handle s i name flags ] in o)
+        (open_found ∙ ap (λ (b : Bool). first_refusal (late_rows true b damaged)) passes)
+
+    pub open_opens : allowed ≡ true → IsOpened s i id flags (held.entry).size
     open_opens passes = record {
       there = entry_object entries s.objects m.shaped name held (found_in (Some held) is);
-      outcome = ap (λ (r : Option Reply). let o : Outcome = elim r [ Some x ↦ refuse s x | None ↦ open_handle s i name flags ] in o)
-          (open_found ∙ ap (λ (b : Bool). first_refusal (late_rows true b damaged)) passes);
+      outcome = opened passes;
+      proper = ap (λ (o : Outcome). is_misuse o.reply) (opened passes) ∙ proper_unless ((damaged, Corrupt) ∷ []) s (open_handle s i name flags) (refl, tt) refl;
     }

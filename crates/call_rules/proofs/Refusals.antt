@@ -8,7 +8,7 @@ use Rattle.tee_types.specs.declared.reply.Reply.TheVariants.{Done, Handle, Conte
 use Rattle.store_model.specs.Machine.{Session, MachineState, Outcome, session_at, with_session, new_session, name_in, first_refusal, refuse}
 use Rattle.store_model.specs.Object.{Sound, with_object}
 use Rattle.store_model.specs.Handles.{create_of, create_refusals, open_of, open_refusals, open_handle}
-use Rattle.store_model.specs.Calls.{is_handle}
+use Rattle.store_model.specs.Calls.{reply_of, is_handle}
 use Rattle.store_model.specs.Files.{is_misuse, is_corrupt}
 use Rattle.store_model.specs.Refusal.{is_refusal}
 use Rattle.tee_types.specs.Rights.{without_overwrite}
@@ -69,6 +69,17 @@ module _ (s : MachineState) (i : ℕ) (caller : Session) (is : session_at s i �
     no_commit = no_handle reply refusal;
     no_file = refl;
   }
+
+  -- a create that is not refused gives the next handle
+  pub create_makes : (attributes bytes : List ℕ) → first_refusal (create_refusals s i (name_in s i id) flags attributes bytes) ≡ None
+      → reply_of s i (Create id flags attributes bytes) ≡ Handle caller.next_handle
+  unfolding create_of
+  create_makes attributes bytes passed =
+      ap (λ (r : Option Reply). let o : Outcome = elim r [
+        | Some x ↦ refuse s x
+        | None ↦ open_handle (record s { objects = with_object s.objects (name_in s i id) (Sound (record { attributes = attributes; bytes = bytes; bad = [] })) }) i (name_in s i id) (without_overwrite flags)
+      ] in o.reply) passed
+      ∙ ap (λ (x : Session). Handle x.next_handle) is
 
   pub open_told : (reply : Reply) → first_refusal (open_refusals s i (name_in s i id) flags) ≡ Some reply → (is_handle reply || is_corrupt reply) ≡ false
       → IsTold s i (Open id flags) reply caller

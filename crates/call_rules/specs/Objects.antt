@@ -1,5 +1,5 @@
 -- Objects as the directory tells of them.
-use Rattle.std.specs.Prelude.{◌≡◌, ℕ, true, List, [], ◌∷◌, length, Option, Some}
+use Rattle.std.specs.Prelude.{◌≡◌, ℕ, true, false, List, [], ◌∷◌, length, Option, Some}
 use Rattle.tee_types.specs.declared.call.Call.{Call}
 use Rattle.tee_types.specs.declared.call.Call.TheVariants.{Open}
 use Rattle.tee_types.specs.declared.flags.Flags.{Flags}
@@ -11,6 +11,7 @@ use Rattle.store_model.specs.declared.name.ObjectName.{ObjectName}
 use Rattle.store_model.specs.Object.{Object, Contents, ObjectMap, object_at, size_of, is_damaged}
 use Rattle.store_model.specs.Machine.{Session, MachineState, Outcome, handle_at, name_in, unless_refused, refuse, of_sound, by_right}
 use Rattle.store_model.specs.Handles.{open_handle}
+use Rattle.store_model.specs.Files.{is_misuse}
 use Rattle.store_model.specs.Calls.{outcome_of, reply_of}
 use Rattle.dir_records.specs.declared.entry.DirEntry.{DirEntry}
 use Rattle.call_rules.specs.declared.decision.OpenObject.{OpenObject}
@@ -26,10 +27,11 @@ pub record HasObject (objects : ObjectMap) (name : ObjectName) (size : ℕ) : Ty
 abbrev pub open_sound : MachineState → ℕ → ObjectName → Flags → Outcome
 open_sound s i name flags = unless_refused ((is_damaged (object_at s.objects name), Corrupt) ∷ []) s (open_handle s i name flags)
 
--- The machine opens the object of that name where it is sound; an object of that size is there.
+-- The machine opens the object of that name where it is sound; an object of that size is there. The call is no misuse.
 pub record IsOpened (s : MachineState) (i : ℕ) (id : List ℕ) (flags : Flags) (size : ℕ) : Type 0 where
   pub there : HasObject s.objects (name_in s i id) size
   pub outcome : outcome_of s i (Open id flags) ≡ open_sound s i (name_in s i id) flags
+  pub proper : is_misuse (reply_of s i (Open id flags)) ≡ false
 
 -- the session's live handle of that number, and the entry of its object
 pub record IsOpenObject (entries : List (Option DirEntry)) (session : Session) (number : ℕ) (found : OpenObject) : Type 0 where
@@ -41,10 +43,11 @@ pub record IsRightful (entries : List (Option DirEntry)) (session : Session) (nu
   pub opened : IsOpenObject entries session number found
   pub has_right : has (found.handle).flags right ≡ true
 
--- The machine does this where the object of that name is sound; an object of that size is there.
+-- The machine does this where the object of that name is sound; an object of that size is there. The call is no misuse.
 pub record IsOfObject (s : MachineState) (i : ℕ) (call : Call) (name : ObjectName) (size : ℕ) (done : Contents → Outcome) : Type 0 where
   pub there : HasObject s.objects name size
   pub outcome : outcome_of s i call ≡ of_sound s (object_at s.objects name) done
+  pub proper : is_misuse (reply_of s i call) ≡ false
 
 -- The machine does the call by that handle, on an object of that size.
 pub record IsDone (s : MachineState) (i : ℕ) (call : Call) (name : ObjectName) (size : ℕ) : Type 0 where

@@ -6,6 +6,7 @@ ghost use Rattle.store_model.specs.Machine.{MachineState, session_at, name_in, f
 ghost use Rattle.store_model.specs.Handles.{create_refusals, open_refusals};
 ghost use Rattle.store_model.specs.Refusal.{is_refusal};
 ghost use Rattle.store_model.specs.Files.{is_misuse};
+ghost use Rattle.store_model.specs.Calls.{reply_of};
 ghost use Rattle.store_commit.specs.NameIndex.{IsEntryNamed};
 ghost use Rattle.call_rules.specs.Matches.{Matches};
 ghost use Rattle.call_rules.specs.Told.{IsTold};
@@ -102,6 +103,9 @@ pub fn create<C: Catalog>(
         → first_refusal (create_refusals s i (name_in s i id) flags attributes.now bytes.now) ≡ answer_in result }
     ensures told { (s : MachineState) (i : ℕ) → Matches (C.entries catalog.now) (C.handles catalog.now) session.now s i
         → IfAnswered result (λ reply. IsTold s i (Call.Create id flags attributes.now bytes.now) reply session.now) }
+    // Where it is not refused, the machine gives the session's next handle.
+    ensures makes { (s : MachineState) (i : ℕ) → Matches (C.entries catalog.now) (C.handles catalog.now) session.now s i
+        → IfNeeds result (λ _. reply_of s i (Call.Create id flags attributes.now bytes.now) ≡ Reply.Handle session.now.next_handle) }
     ensures place { IfNeeds result (IsNewPlace (C.entries catalog.now) (named session.now.application id)) }
 {
     let found = catalog.look(session.app(), id);

@@ -17,6 +17,7 @@ ghost use Rattle.gate_ties.specs.TieLaws.{KeepsDoubt};
 ghost use Rattle.store_commit.specs.Noting.{DropsHandle};
 ghost use Rattle.locked_gate.specs.Answering.{LeavesHandles};
 ghost use Rattle.locked_gate.specs.LockedGates.{change_in_doubt};
+ghost use Rattle.locked_gate.specs.Ruled.{IsRuled};
 
 use crate::gate::LockedGate;
 use call_history::Session;
@@ -49,6 +50,45 @@ impl<F: StoreFile + Drop, R: RpmbPort + Drop, L: StoreName> LockedGate<F, R, L> 
         call_history::answer(&mut self.journal, session, call, reply)
     }
 
+    // The card's counter, which is 32 bits, whether a commit is in doubt or none is.
+    fn count(&self) -> u32
+        ensures { result ≡ self.now.gate.counter }
+    {
+        match self.gate.doubt() {
+            Some(number) => number - 1,
+            None => self.gate.counter(),
+        }
+    }
+
+    /// Answers a call that the rules answered whole, by the entries and the open handles that are behind the lock. It neither opens a
+    /// handle nor closes one. Tells the place of the event.
+    pub fn answer_ruled<E: Entropy>(
+        &mut self,
+        session: &mut Session<E>,
+        call: Call,
+        reply: Reply,
+    ) -> u64
+        requires room { 1 ≤ self.old.journal.spare }
+        requires within { self.old.journal.knows.decided ≤ length self.old.journal.knows.all }
+        requires fault { fault_in_reply reply ≡ None }
+        requires ruled { IsRuled L.store self.old.journal.knows self.old.gate.dir.dir.entries self.old.gate.open_handles call reply session.old }
+        // The reply leaves the commit in doubt, if there is one.
+        requires doubt { KeepsDoubt (change_in_doubt self.old.gate.doubt) (Event.Call session.old.number session.old.made call reply Mark.Unchanged) }
+        requires handles { LeavesHandles call reply }
+        ensures place { result ≡ length self.old.journal.knows.all }
+        ensures gate { self.new.gate ≡ self.old.gate }
+        ensures closing { self.new.closing ≡ self.old.closing }
+        ensures knows { self.new.journal.knows ≡ with_record (alone_record session.old.number session.old.made call reply) self.old.journal.knows }
+        ensures spare { self.old.journal.spare ≤ self.new.journal.spare + 1 }
+        ensures session { session.new ≡ record session.old { pass = pass_shown self.new.journal.knows session.old.pass; made = session.old.made + 1 } }
+        ensures whole { IsCallerOf L.store session.new }
+        ensures extends { Extends L.store (session_value session.old) (session_value session.new) (Event.Call session.old.number session.old.made call reply Mark.Unchanged) result }
+    {
+        let _doubt = self.doubt();
+        let _count = self.count();
+        self.answer(session, call, reply)
+    }
+
     /// Closes a handle: the session already lacks it, and the table of open handles loses its record. Tells the place of the event.
     pub fn close_handle<E: Entropy>(&mut self, session: &mut Session<E>, handle: u32) -> u64
         requires room { 1 ≤ self.old.journal.spare }
@@ -66,6 +106,11 @@ impl<F: StoreFile + Drop, R: RpmbPort + Drop, L: StoreName> LockedGate<F, R, L> 
         ensures extends { Extends L.store (session_value session.old) (session_value session.new) (Event.Call session.old.number session.old.made (CloseCall handle) DoneReply Mark.Unchanged) result }
     {
         self.gate.drop_handle(session.number(), handle);
-        call_history::answer(&mut self.journal, session, Call::Close { handle }, Reply::Done)
+        call_history::answer(
+            &mut self.journal,
+            session,
+            Call::Close { handle },
+            Reply::Done,
+        )
     }
 }

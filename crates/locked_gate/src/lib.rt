@@ -6,7 +6,7 @@
 
 mod answer;
 mod gate;
-pub mod laws;
+pub mod known;
 mod resolve;
 mod show;
 

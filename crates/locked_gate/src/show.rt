@@ -21,7 +21,11 @@ use tee_ports::{Entropy, StoreFile};
 impl<F: StoreFile + Drop, R: RpmbPort + Drop, L: StoreName> LockedGate<F, R, L> {
     /// Shows a session the whole history, and a slot's seat beside it where one comes. The session learns what became of its own commit
     /// in doubt, and stands as the machine's.
-    pub fn show<E: Entropy>(&mut self, slot: Option<SlotSeat>, session: &mut Session<E>) -> Option<SlotSeat>
+    pub fn show<E: Entropy>(
+        &mut self,
+        slot: Option<SlotSeat>,
+        session: &mut Session<E>,
+    ) -> Option<SlotSeat>
         requires slot { IsOf L.store.table slot }
         requires session { IsCallerOf L.store session.old }
         ensures same { self.new ≡ self.old }

@@ -4,7 +4,7 @@ use Rattle.tee_types.specs.declared.reply.Code.TheVariants.{NoSpace}
 use Rattle.store_model.specs.Machine.{first_refusal}
 use Rattle.call_rules.specs.declared.decision.NewPlace.{NewPlace}
 use Rattle.call_rules.proofs.Creating.{rows_of, named_for, create_early, create_large, create_by_place}
-use Rattle.call_rules.proofs.Refusals.{create_told}
+use Rattle.call_rules.proofs.Refusals.{create_told, create_makes}
 use Rattle.call_rules.proofs.Room.{place_new}
 use Rattle.call_rules.proofs.handles.create.Goals as goal
 
@@ -49,3 +49,9 @@ returns-in-None-clause-told g c = λ s i m.
 pub returns-in-Some-new_place-clause-place : goal.returns-in-Some-new_place-clause-place
 returns-in-Some-new_place-clause-place g c = place_new _ _ c.look-found.result c.in-Some-new_place.place (named_for _ c.args.session.now _ _ _ c.app.ensures c.look-found.ensures.named)
     c.in-Some-new_place.ensures
+
+pub returns-in-Some-new_place-clause-makes : goal.returns-in-Some-new_place-clause-makes
+returns-in-Some-new_place-clause-makes g c = λ s i m.
+    create_makes s i c.args.session.now m.session c.args.id c.args.flags c.args.attributes.now c.args.bytes.now
+    ((create_by_place _ _ c.args.session.now c.look-found.ensures.entries c.args.id c.look-found.result (named_for _ c.args.session.now _ _ _ c.app.ensures c.look-found.ensures.named)
+    c.args.flags c.args.attributes.now c.args.bytes.now s i m (rows_of _ _ _ _ _ _ _ _ _ c.create_refusal.ensures.rows c.len.ensures c.is_some-held.ensures c.is_busy-busy.ensures ∙ c.in_default.is) (omega arith) c.new_place.result c.new_place.ensures) ∙ ap (λ (p : Option NewPlace). first_refusal ((is_none p, Refused NoSpace) ∷ [])) c.in-Some-new_place.is)

@@ -1,4 +1,4 @@
-//! Laws of a gate behind its lock. Each function does nothing: its contract is the law.
+//! What a gate behind its lock knows of the machine. Each function does nothing: its contract is the law.
 
 ghost use Rattle.locked_gate.specs.KnownMachine.{LockedGatesKnow, ShownSessionsStand};
 
