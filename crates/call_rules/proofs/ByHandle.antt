@@ -32,8 +32,9 @@ pub live_named : (entries : List (Option DirEntry)) (table : TableState) (caller
     → (number : ℕ) (h : Handle) → handle_at caller number ≡ Some h → IsEntryNamed entries h.name None → ⊥
 live_named entries table caller s i m number h live none =
     let there = m.handles.each i number h m.within (ap (λ (x : Session). handle_at x number) m.session ∙ live) in
-    let named = (there.3).named in
-    none (there.3).index named.entry named.at named.named
+    let file = (there.3).file in
+    let named = file.named in
+    none file.index named.entry named.at named.named
 
 -- without a live handle, a call by one is refused
 pub refuses-none : (s : MachineState) (right : ℕ) (handle : Option Handle) → handle ≡ None → RefusesRight s right handle (Misuse BadHandle)

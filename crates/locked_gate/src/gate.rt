@@ -1,6 +1,9 @@
 //! The gate of a phase.
 
-ghost use Rattle.std.specs.Prelude.{◌≡◌};
+ghost use Rattle.std.specs.Prelude.{◌≡◌, ◌≤◌, OnOk};
+ghost use Rattle.std.specs.Option.{option_map};
+ghost use Rattle.crash_core.specs.DirectoryLaws.{AreEntries};
+ghost use Rattle.locked_gate.specs.KnownMachine.{KnowsMachine};
 
 use call_history::Journal;
 use rpmb_card::RpmbPort;
@@ -8,6 +11,7 @@ use std::marker::Model;
 use store_commit::Gate;
 use suppositions::StoreName;
 use tee_ports::StoreFile;
+use tee_types::NoMemory;
 
 /// A handle of a session.
 #[derive(Clone, Copy, PartialEq, Eq, Debug)]
@@ -21,10 +25,10 @@ pub struct Closing {
 /// The commit gate of the store that `L` names, with the history of its calls, as both stand behind one lock.
 #[derive(Drop)]
 pub struct LockedGate<F: StoreFile + Drop, R: RpmbPort + Drop, L: StoreName> {
-    gate: Gate<F, R>,
-    journal: Journal<L>,
+    pub(crate) gate: Gate<F, R>,
+    pub(crate) journal: Journal<L>,
     // The handle that the landing of the commit in doubt closes, where that is a delete.
-    closing: Option<Closing>,
+    pub(crate) closing: Option<Closing>,
 }
 
 impl<F: StoreFile + Drop, R: RpmbPort + Drop, L: StoreName> Model for LockedGate<F, R, L> {
@@ -65,5 +69,32 @@ impl<F: StoreFile + Drop, R: RpmbPort + Drop, L: StoreName> LockedGate<F, R, L> 
             closing: _,
         } = self;
         (gate, journal)
+    }
+
+    /// The number of the commit in doubt, if one is.
+    pub fn doubt(&self) -> Option<u32>
+        ensures number { result ≡ option_map (λ d. d.number) self.now.gate.doubt }
+        // What always holds behind the lock, and what the entries and the open handles tell of the machine.
+        ensures locked { IsLockedGate L.store self.now.gate self.now.journal.knows self.now.closing }
+        ensures entries { AreEntries self.now.gate.dir.dir.entries }
+        ensures machine { KnowsMachine L.store self.now.journal.knows self.now.gate.dir.dir.entries self.now.gate.open_handles }
+    {
+        self.gate.doubt()
+    }
+
+    /// Makes room for one commit, for one handle more and for two events: a landing, and a call.
+    ///
+    /// # Errors
+    ///
+    /// Memory ran out. Nothing changed but that there may be room.
+    pub fn reserve(&mut self) -> Result<(), NoMemory>
+        ensures room { OnOk result ((1 ≤ self.new.gate.room) × (1 ≤ self.new.gate.open_handles.spare) × (2 ≤ self.new.journal.spare)) }
+        ensures handles { self.new.gate.open_handles.records ≡ self.old.gate.open_handles.records }
+        ensures gate { self.new.gate ≡ record self.old.gate { open_handles = self.new.gate.open_handles; room = self.new.gate.room } }
+        ensures knows { self.new.journal.knows ≡ self.old.journal.knows }
+        ensures closing { self.new.closing ≡ self.old.closing }
+    {
+        self.journal.reserve(2)?;
+        self.gate.reserve()
     }
 }

@@ -4,6 +4,10 @@
 //! history leaves, and the open handles are those of the machine's sessions, under each supposition.
 #![tactic(auto)]
 
+mod answer;
 mod gate;
+pub mod known;
+mod resolve;
+mod show;
 
 pub use gate::{Closing, LockedGate};

@@ -1,0 +1,4 @@
+pub mod Knowing
+pub mod AloneCalls
+pub mod RuledCalls
+pub mod Resolving
