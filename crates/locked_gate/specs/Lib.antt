@@ -1,1 +1,2 @@
 pub mod LockedGates
+pub mod Told
