@@ -96,7 +96,7 @@ module _ (s : MachineState) (i size : ℕ) (name : ObjectName) where
   handle-named number handle live by = some_same handle.name name (sym (ap (option_map (λ (h : Handle). h.name)) live) ∙ by)
 
   -- the object of a live handle
-  at-handle : (number : ℕ) (handle : Handle) (o : Object) → handle_at (session_at s i) number ≡ Some handle → name_by s i number ≡ Some name → object_at s.objects name ≡ Some o
+  pub at-handle : (number : ℕ) (handle : Handle) (o : Object) → handle_at (session_at s i) number ≡ Some handle → name_by s i number ≡ Some name → object_at s.objects name ≡ Some o
       → object_at s.objects handle.name ≡ Some o
   at-handle number handle o live by there = ap (object_at s.objects) (handle-named number handle live by) ∙ there
 

@@ -1,6 +1,6 @@
 //! Laws of answers that an object's file has a part in. Each function does nothing: its contract is the law.
 
-ghost use Rattle.locked_gate.specs.Told.{FailedFilesAreLegal, RefusedFilesAreFair, ToldFilesAreFair};
+ghost use Rattle.locked_gate.specs.Told.{FailedFilesAreLegal, HonestAnswersAreLegal, RefusedFilesAreFair, ToldFilesAreFair};
 
 /// A call that its object's file failed may be answered with that fault.
 pub fn failed_files_are_legal()
@@ -15,4 +15,9 @@ pub fn refused_files_are_fair()
 /// One that is answered with what its object's file gave is answered fairly, whatever the file is.
 pub fn told_files_are_fair()
     ensures { ToldFilesAreFair }
+{}
+
+/// Of a file that is honest, what the version's object answers to the call is legal: its own bytes, or Corrupt where damage is met.
+pub fn honest_answers_are_legal()
+    ensures { HonestAnswersAreLegal }
 {}

@@ -8,4 +8,6 @@ mod gate;
 mod laws;
 
 pub use gate::{Closing, LockedGate};
-pub use laws::{failed_files_are_legal, refused_files_are_fair, told_files_are_fair};
+pub use laws::{
+    failed_files_are_legal, honest_answers_are_legal, refused_files_are_fair, told_files_are_fair,
+};
