@@ -21,7 +21,7 @@ use Rattle.suppositions.proofs.Mending.{none_some, object_honest, size_under, so
 use Rattle.suppositions.proofs.ReadCalls.{info-damaged, info-good, meets_bad, open-damaged, open-good, read-bad, read-damaged, read-good}
 use Rattle.locked_gate.specs.Told.{Answers, DependsOnFile, HonestAnswersAreLegal, IsAdmittedOr}
 use Rattle.locked_gate.proofs.Meant.{at-handle, corrupt_quiet, truncate-bad, truncate-damaged, write-bad, write-damaged}
-use Rattle.locked_gate.proofs.Told.{answered_by, legal_by, object-there}
+use Rattle.locked_gate.proofs.FairAnswers.{answered_by, legal_by, object-there}
 
 -- such a reply carries no fault
 faultless : (o : Object) (position : ℕ) (call : Call) (reply : Reply) → Answers o position call reply → (n : ℕ) → fault_in_reply reply ≡ Some n → ⊥

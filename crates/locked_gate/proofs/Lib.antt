@@ -1,3 +1,4 @@
 pub mod Meant
-pub mod Told
+pub mod FairAnswers
 pub mod Honest
+pub mod SlotAnswers

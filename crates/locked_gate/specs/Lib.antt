@@ -1,2 +1,3 @@
 pub mod LockedGates
 pub mod Told
+pub mod SlotAnswers

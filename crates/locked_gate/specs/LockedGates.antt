@@ -2,7 +2,6 @@
 use Rattle.std.specs.Prelude.{◌≡◌, ℕ, List, Option, Some, None}
 use Rattle.tee_types.specs.declared.call.Call.{Call}
 use Rattle.tee_types.specs.declared.call.Call.TheVariants.{Delete}
-use Rattle.hmac_keys.specs.declared.Keys.{Keys}
 use Rattle.hmac_keys.specs.KeyTable.{rpmb_key}
 use Rattle.open_table.specs.Table.{TableState}
 use Rattle.store_model.specs.Doubt.{Doubt}
@@ -15,7 +14,7 @@ use Rattle.suppositions.specs.Answered.{AreAnswered}
 use Rattle.store_commit.specs.declared.gate.Doubted.{Doubted}
 use Rattle.store_commit.specs.Changes.{change_of}
 use Rattle.store_commit.specs.Gates.{GateValue}
-use Rattle.call_history.specs.Journals.{JournalValue}
+use Rattle.call_history.specs.Journals.{IsJournal, JournalValue}
 use Rattle.gate_ties.specs.Ties.{DoubtedChange, IsTied}
 use Rattle.machine_shape.specs.OpenHandles.{AreOpen}
 use Rattle.locked_gate.specs.declared.gate.Closing.{Closing}
@@ -49,6 +48,7 @@ IsClosingTied store knows (Some d) closing =
 
 -- What always holds of a gate behind its lock.
 pub record IsLockedGate {F R : Type 0} (store : Store) (gate : GateValue F R) (knows : GateView) (closing : Option Closing) : Type 0 where
+  pub journal : IsJournal store knows
   pub tied : IsTied store knows gate.dir.dir.entries gate.counter (change_in_doubt gate.doubt)
   pub handles : AreHandlesTied store knows gate.dir.dir.entries gate.open_handles
   pub closes : IsClosingTied store knows gate.doubt closing

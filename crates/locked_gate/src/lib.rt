@@ -5,9 +5,7 @@
 #![tactic(auto)]
 
 mod gate;
-mod laws;
+mod slot_answer;
+pub mod told;
 
 pub use gate::{Closing, LockedGate};
-pub use laws::{
-    failed_files_are_legal, honest_answers_are_legal, refused_files_are_fair, told_files_are_fair,
-};
