@@ -2,3 +2,4 @@ pub mod Meant
 pub mod FairAnswers
 pub mod Honest
 pub mod SlotAnswers
+pub mod EntryCalls

@@ -1,3 +1,4 @@
 pub mod LockedGates
 pub mod Told
 pub mod SlotAnswers
+pub mod EntryCalls
