@@ -3,7 +3,6 @@ use Rattle.std.proofs.Common.{◌≡◌, ◌<◌, ◌^◌, ℕ, refl, sym, ◌�
 use Rattle.core_parts.specs.GateParts.{IsVersionOf}
 use Rattle.core_parts.specs.Listed.{history_entry}
 use Rattle.crash_core.specs.Entries.{name_of}
-use Rattle.history_seats.specs.Records.{Version}
 use Rattle.suppositions.specs.Stores.{standing_at}
 use Rattle.suppositions.proofs.Mending.{some_same}
 use Rattle.gate_ties.proofs.Told.{tied_tell}

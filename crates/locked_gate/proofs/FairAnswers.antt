@@ -1,5 +1,5 @@
 -- Answers that an object's file has a part in are legal, or show a clash, or the promises end there.
-use Rattle.std.proofs.Common.{◌≡◌, ◌||◌, ◌<◌, ◌^◌, ℕ, true, false, Bool, true≢false, List, Option, Some, None, Contains, refl, sym, ap, ◌∙◌, subst, inl, inr, arith}
+use Rattle.std.proofs.Common.{◌≡◌, ◌||◌, ◌<◌, ◌^◌, ℕ, true, false, Bool, true≢false, List, Some, Contains, refl, sym, ap, ◌∙◌, subst, inl, arith}
 use Rattle.tee_types.specs.declared.call.Call.{Call}
 use Rattle.tee_types.specs.declared.reply.Cause.TheVariants.{Fault}
 use Rattle.tee_types.specs.declared.reply.Device.TheVariants.{File}
@@ -15,7 +15,7 @@ use Rattle.store_model.specs.Standing.{Standing}
 use Rattle.history_seats.specs.Directory.{given_version}
 use Rattle.history_seats.specs.Records.{HistoryRecord, Version}
 use Rattle.history_seats.proofs.Lists.{or_right}
-use Rattle.suppositions.specs.Answered.{IsFairAt, IsLegalAt, IsOwed}
+use Rattle.suppositions.specs.Answered.{IsLegalAt}
 use Rattle.suppositions.specs.Given.{position_by}
 use Rattle.suppositions.specs.Guesses.{Guess, object_under}
 use Rattle.suppositions.specs.Shown.{IsToldAt}

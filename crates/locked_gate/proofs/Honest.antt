@@ -1,5 +1,5 @@
 -- What an honest file's object answers is the machine's, and legal.
-use Rattle.std.proofs.Common.{◌≡◌, ◌+◌, ℕ, false, List, length, Some, refl, sym, ap, ◌∙◌, subst}
+use Rattle.std.proofs.Common.{◌≡◌, ◌+◌, ℕ, false, List, length, Some, refl, sym, ap, ◌∙◌}
 use Rattle.std.specs.List.{list_any}
 use Rattle.tee_types.specs.declared.call.Call.{Call}
 use Rattle.tee_types.specs.declared.call.Call.TheVariants.{Info, Open, Read, Truncate, Write}
@@ -9,16 +9,15 @@ use Rattle.tee_types.specs.declared.reply.Reply.TheVariants.{Content, Corrupt, H
 use Rattle.store_model.specs.declared.name.ObjectName.{ObjectName}
 use Rattle.store_model.specs.declared.session.Handle.{Handle}
 use Rattle.store_model.specs.Calls.{is_commit, is_commit_of, reply_of, size_before}
-use Rattle.store_model.specs.Data.{bytes_at, meets_block, range_written, spoils}
+use Rattle.store_model.specs.Data.{meets_block, range_written, spoils}
 use Rattle.store_model.specs.Files.{object_named}
-use Rattle.store_model.specs.Legal.{is_commit_due, meant_by}
 use Rattle.store_model.specs.Machine.{MachineState, handle_at, name_in, session_at}
-use Rattle.store_model.specs.Object.{Contents, Damaged, Object, Sound, object_at, size_of}
+use Rattle.store_model.specs.Object.{Damaged, Object, Sound, object_at, size_of}
 use Rattle.store_model.specs.Record.{fault_in_reply}
 use Rattle.suppositions.specs.Given.{position_by, position_of}
 use Rattle.suppositions.specs.Stores.{standing_at}
 use Rattle.suppositions.proofs.Mending.{none_some, object_honest, size_under, some_same}
-use Rattle.suppositions.proofs.ReadCalls.{info-damaged, info-good, meets_bad, open-damaged, open-good, read-bad, read-damaged, read-good}
+use Rattle.suppositions.proofs.ReadCalls.{info-damaged, info-good, open-damaged, open-good, read-bad, read-damaged, read-good}
 use Rattle.locked_gate.specs.Told.{Answers, DependsOnFile, HonestAnswersAreLegal, IsAdmittedOr}
 use Rattle.locked_gate.proofs.Meant.{at-handle, corrupt_quiet, truncate-bad, truncate-damaged, write-bad, write-damaged}
 use Rattle.locked_gate.proofs.FairAnswers.{answered_by, legal_by, object-there}

@@ -3,22 +3,21 @@ use Rattle.std.proofs.Common.{◌≡◌, ◌+◌, ◌==◌, ℕ, Bool, true, fal
 use Rattle.tee_types.specs.declared.call.Call.{Call}
 use Rattle.tee_types.specs.declared.call.Call.TheVariants.{Create, Delete, Info, Open, Read, Rename, Truncate, Write}
 use Rattle.tee_types.specs.declared.reply.Reply.{Reply}
-use Rattle.tee_types.specs.declared.reply.Reply.TheVariants.{Content, Corrupt, Handle as HandleReply, Info as InfoReply}
+use Rattle.tee_types.specs.declared.reply.Reply.TheVariants.{Corrupt}
 use Rattle.tee_types.specs.Limits.{most_data_bytes}
 use Rattle.tee_types.specs.Rights.{has, read_bit, write_bit}
 use Rattle.store_model.specs.declared.name.ObjectName.{ObjectName}
 use Rattle.store_model.specs.declared.session.Handle.{Handle}
 use Rattle.store_model.specs.Calls.{is_commit, is_commit_of, reply_of}
-use Rattle.store_model.specs.Data.{bytes_at, greatest_position, meets_block, range_resized, range_written, spoils, truncate_from, truncate_of, write_from, write_of}
+use Rattle.store_model.specs.Data.{greatest_position, range_resized, range_written, spoils, truncate_from, truncate_of, write_from, write_of}
 use Rattle.store_model.specs.Files.{makes_object, name_by, object_named}
 use Rattle.store_model.specs.Legal.{tells_object, touches_file}
 use Rattle.store_model.specs.Machine.{MachineState, Outcome, handle_at, of_sound, session_at}
 use Rattle.store_model.specs.Object.{Contents, Damaged, Object, Sound, object_at, size_of}
-use Rattle.suppositions.specs.Given.{position_by, position_of}
 use Rattle.suppositions.proofs.ChangeCalls.{truncate_commits, write_commits}
 use Rattle.suppositions.proofs.Mending.{some_same}
 use Rattle.suppositions.proofs.ReadCalls.{info-damaged, info-good, meets_bad, open-damaged, open-good, read-bad, read-damaged, read-good}
-use Rattle.locked_gate.specs.Told.{Answers, DependsOnFile, IsAdmittedOr}
+use Rattle.locked_gate.specs.Told.{DependsOnFile}
 
 -- The machine finds damage, or tells of the object, or makes a commit.
 pub data MeantCase (s : MachineState) (i : ℕ) (call : Call) : Type 0 where

@@ -1,5 +1,5 @@
 -- A gate behind its lock over an answer that comes with the seat of the object's file.
-use Rattle.std.proofs.Common.{◌≡◌, ◌<◌, ℕ, true, true≢false, List, [], ◌∷◌, length, Option, Some, None, refl, sym, ap, ◌∙◌, subst, eq-eqb}
+use Rattle.std.proofs.Common.{◌≡◌, ◌<◌, ℕ, true≢false, [], ◌∷◌, length, Option, Some, None, refl, sym, ◌∙◌, subst, eq-eqb}
 use Rattle.tee_types.specs.declared.call.Call.{Call}
 use Rattle.tee_types.specs.declared.reply.Reply.{Reply}
 use Rattle.open_table.specs.Table.{TableState}
@@ -25,7 +25,7 @@ use Rattle.store_commit.specs.declared.gate.Doubted.{Doubted}
 use Rattle.store_commit.specs.Gates.{GateValue}
 use Rattle.store_commit.specs.Noting.{NotesReply}
 use Rattle.locked_gate.specs.declared.gate.Closing.{Closing}
-use Rattle.locked_gate.specs.LockedGates.{AreHandlesTied, IsClosingTied, IsLockedGate, change_in_doubt}
+use Rattle.locked_gate.specs.LockedGates.{IsClosingTied, IsLockedGate, change_in_doubt}
 use Rattle.locked_gate.specs.SlotAnswers.{MayBeTold, slot_record, versions_given}
 
 module _ (store : Store) (knows : GateView) (slot : SlotView) (session made : ℕ) (call : Call) (reply : Reply) where

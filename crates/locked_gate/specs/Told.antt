@@ -1,5 +1,5 @@
 -- Answers to a call on an object that the object's file has a part in, and that change nothing: what is asked of the call, and of the reply.
-use Rattle.std.specs.Prelude.{◌≡◌, ◌⊎◌, ◌+◌, ◌<◌, ◌^◌, ℕ, true, false, List, length, Some, None}
+use Rattle.std.specs.Prelude.{◌≡◌, ◌+◌, ◌<◌, ◌^◌, ℕ, true, false, List, length, Some, None}
 use Rattle.std.specs.List.{list_any}
 use Rattle.tee_types.specs.declared.call.Call.{Call}
 use Rattle.tee_types.specs.declared.call.Call.TheVariants.{Info, Open, Read, Truncate, Write}
@@ -12,7 +12,7 @@ use Rattle.store_model.specs.declared.name.ObjectName.{ObjectName}
 use Rattle.store_model.specs.Data.{bytes_at, meets_block, range_resized, range_written, spoils}
 use Rattle.store_model.specs.Files.{object_named}
 use Rattle.store_model.specs.Machine.{MachineState, name_in, session_at}
-use Rattle.store_model.specs.Object.{Contents, Damaged, Object, Sound}
+use Rattle.store_model.specs.Object.{Damaged, Object, Sound}
 use Rattle.store_model.specs.Record.{Tag}
 use Rattle.history_seats.specs.Directory.{given_version}
 use Rattle.history_seats.specs.Mounts.{Entry}
@@ -21,7 +21,7 @@ use Rattle.history_seats.specs.Records.{HistoryRecord, Version}
 use Rattle.suppositions.specs.Answered.{IsFairAt, IsLegalAt}
 use Rattle.suppositions.specs.ChangeLaws.{IsChanging}
 use Rattle.suppositions.specs.Given.{Gave, Tells, is_asked, position_by, spelling_given}
-use Rattle.suppositions.specs.Guesses.{Guess, object_under}
+use Rattle.suppositions.specs.Guesses.{Guess}
 use Rattle.suppositions.specs.Mapped.{IsMapped}
 use Rattle.suppositions.specs.ReadLaws.{IsAdmitted, IsLive, IsOpening}
 use Rattle.suppositions.specs.Spellings.{IsReal, wrap_of}

@@ -56,10 +56,15 @@ impl<F: StoreFile + Drop, R: RpmbPort + Drop, L: StoreName> LockedGate<F, R, L> 
         let Event::Call { call, reply, .. } = event else {
             unreachable!()
         };
-        let AppendedCall { place, slot } = append_call::<L, E, Brand>(&mut self.journal, Some(slot), session, call, reply, Mark::Unchanged);
-        let Some(slot) = slot else {
-            unreachable!()
-        };
+        let AppendedCall { place, slot } = append_call::<L, E, Brand>(
+            &mut self.journal,
+            Some(slot),
+            session,
+            call,
+            reply,
+            Mark::Unchanged,
+        );
+        let Some(slot) = slot else { unreachable!() };
         (place, slot)
     }
 }

@@ -1,5 +1,5 @@
 -- The event leaves the entries, the counter and the doubt; the table gets the handle that the reply gives, if it gives one.
-use Rattle.std.proofs.Common.{◌≡◌, ℕ, Option, sym, subst}
+use Rattle.std.proofs.Common.{◌≡◌, ℕ, sym, subst}
 use Rattle.tee_types.specs.declared.call.Call.{Call}
 use Rattle.tee_types.specs.declared.reply.Reply.{Reply}
 use Rattle.store_model.specs.declared.event.Event.TheVariants.{Call as CallEvent}
