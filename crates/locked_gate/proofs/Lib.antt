@@ -2,3 +2,8 @@ pub mod Knowing
 pub mod AloneCalls
 pub mod RuledCalls
 pub mod Resolving
+pub mod Meant
+pub mod FairAnswers
+pub mod Honest
+pub mod SlotAnswers
+pub mod EntryCalls

@@ -9,5 +9,7 @@ mod gate;
 pub mod known;
 mod resolve;
 mod show;
+mod slot_answer;
+pub mod told;
 
 pub use gate::{Closing, LockedGate};
