@@ -1,1 +1,4 @@
 pub mod LockedGates
+pub mod Commits
+pub mod CommitLaws
+pub mod Moves

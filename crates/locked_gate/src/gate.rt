@@ -21,10 +21,10 @@ pub struct Closing {
 /// The commit gate of the store that `L` names, with the history of its calls, as both stand behind one lock.
 #[derive(Drop)]
 pub struct LockedGate<F: StoreFile + Drop, R: RpmbPort + Drop, L: StoreName> {
-    gate: Gate<F, R>,
-    journal: Journal<L>,
+    pub(crate) gate: Gate<F, R>,
+    pub(crate) journal: Journal<L>,
     // The handle that the landing of the commit in doubt closes, where that is a delete.
-    closing: Option<Closing>,
+    pub(crate) closing: Option<Closing>,
 }
 
 impl<F: StoreFile + Drop, R: RpmbPort + Drop, L: StoreName> Model for LockedGate<F, R, L> {

@@ -4,6 +4,15 @@
 //! history leaves, and the open handles are those of the machine's sessions, under each supposition.
 #![tactic(auto)]
 
+mod commit;
+mod ends;
 mod gate;
+mod laws;
+mod made;
+mod moves;
+mod noting;
 
+pub use ends::{MadeVersions, UnmadeVersions};
 pub use gate::{Closing, LockedGate};
+pub use laws::{doubtful_commits_keep_gates, made_commits_keep_gates, ready_commits_are_fair};
+pub use moves::SessionMove;

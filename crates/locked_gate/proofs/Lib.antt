@@ -1,0 +1,5 @@
+pub mod ReadyCommits
+pub mod CommitTags
+pub mod FairCommits
+pub mod CommitEnds
+pub mod CommitGates
