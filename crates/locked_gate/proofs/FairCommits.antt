@@ -1,9 +1,11 @@
 -- Under each supposition the records of a ready commit's ends are fair.
-use Rattle.std.proofs.Common.{◌≡◌, ◌<◌, ℕ, List, Option, Some, None, length, inl, inr, refl, sym, subst}
+use Rattle.std.proofs.Common.{◌≡◌, ◌<◌, ℕ, List, Option, Some, None, length, inl, inr, refl, sym, subst, true}
 use Rattle.tee_types.specs.declared.call.Call.{Call}
 use Rattle.tee_types.specs.declared.reply.Reply.{Reply}
+use Rattle.tee_types.specs.declared.reply.Reply.TheVariants.{CounterSpent, NotAvailable}
 use Rattle.store_model.specs.declared.event.Mark.TheVariants.{Unchanged}
 use Rattle.store_model.specs.Record.{fault_in_reply}
+use Rattle.store_model.specs.Standing.{is_undone}
 use Rattle.dir_records.specs.declared.entry.DirEntry.{DirEntry}
 use Rattle.history_seats.specs.Changes.{TagVersions}
 use Rattle.history_seats.specs.Views.{GateView, SlotView}
@@ -22,6 +24,12 @@ use Rattle.locked_gate.proofs.CommitTags.{commit_tagged}
 -- why a commit was not made says so of the machine's counter, too
 unmade_there : (there counter : ℕ) (reply : Reply) → there ≡ counter → IsUnmade counter reply → IsUnmade there reply
 unmade_there there counter reply same is = subst (λ (n : ℕ). IsUnmade n reply) (sym same) is
+
+-- such a reply is that of a call which was not done
+pub unmade_undone : (counter : ℕ) (reply : Reply) → IsUnmade counter reply → is_undone reply ≡ true
+unmade_undone counter (NotAvailable cause) is = refl
+unmade_undone counter (CounterSpent last) is = refl
+unmade_undone counter reply is = absurd is
 
 module _ (store : Store) (view : GateView) (entries : List (Option DirEntry)) (counter session number : ℕ) (call : Call) (reply : Reply) (change : EntryChange) (slot : SlotView) (versions : TagVersions)
     (kept : IsJournal store view) (tied : IsTied store view entries counter None) (known : session < length store.mounted.applications)
