@@ -7,3 +7,8 @@ pub mod FairAnswers
 pub mod Honest
 pub mod SlotAnswers
 pub mod EntryCalls
+pub mod ReadyCommits
+pub mod CommitTags
+pub mod FairCommits
+pub mod CommitEnds
+pub mod CommitGates

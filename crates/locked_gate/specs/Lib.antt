@@ -6,3 +6,6 @@ pub mod Settled
 pub mod Told
 pub mod SlotAnswers
 pub mod EntryCalls
+pub mod Commits
+pub mod CommitLaws
+pub mod Moves

@@ -11,5 +11,14 @@ mod resolve;
 mod show;
 mod slot_answer;
 pub mod told;
+mod commit;
+mod ends;
+mod laws;
+mod made;
+mod moves;
+mod noting;
 
+pub use ends::{MadeVersions, UnmadeVersions};
 pub use gate::{Closing, LockedGate};
+pub use laws::{doubtful_commits_keep_gates, made_commits_keep_gates, ready_commits_are_fair};
+pub use moves::SessionMove;

@@ -1,0 +1,146 @@
+-- What always holds of the gate holds behind a ready commit that was made, or that is in doubt.
+use Rattle.std.proofs.Common.{◌≡◌, ◌≤◌, ◌<◌, ℕ, Bool, true, false, List, [], ◌∷◌, Option, Some, None, length, inl, inr, refl, sym, ap, ◌∙◌, subst}
+use Rattle.tee_types.specs.declared.call.Call.{Call}
+use Rattle.tee_types.specs.declared.reply.Cause.{Cause}
+use Rattle.tee_types.specs.declared.reply.Reply.{Reply}
+use Rattle.tee_types.specs.declared.reply.Reply.TheVariants.{NotAvailable}
+use Rattle.store_model.specs.declared.event.Event.TheVariants.{Call as CallEvent}
+use Rattle.store_model.specs.declared.event.Mark.TheVariants.{Unchanged, Made, Doubtful}
+use Rattle.store_model.specs.Doubt.{Doubt}
+use Rattle.store_model.specs.Legal.{IsLegalAnswer, is_commit_due, mark_of}
+use Rattle.store_model.specs.Legal.IsLegalAnswer.{Answered, Unavailable, Doubted, FoundCorrupt, Spent}
+use Rattle.store_model.specs.Record.{Tag, file_of}
+use Rattle.store_model.specs.Standing.{Standing}
+use Rattle.open_table.specs.Table.{TableState}
+use Rattle.dir_records.specs.declared.entry.DirEntry.{DirEntry}
+use Rattle.history_seats.specs.Records.{HistoryRecord, Version}
+use Rattle.history_seats.specs.Changes.{TagVersions, with_record}
+use Rattle.history_seats.specs.Views.{GateView, SlotView}
+use Rattle.crash_core.specs.EntryChanges.{Clear, EntryChange, Put, changed, file_put}
+use Rattle.core_parts.specs.Listed.{IsTagOfChange}
+use Rattle.suppositions.specs.Guesses.{Guess}
+use Rattle.suppositions.specs.Stores.{Store, standing_at}
+use Rattle.suppositions.specs.Answered.{AreAnswered, IsAnsweredAt}
+use Rattle.suppositions.proofs.Answers.{answered-front, answered-last, standing-snoc}
+use Rattle.suppositions.proofs.Mending.{none_some, some_same}
+use Rattle.call_history.specs.Journals.{IsJournal}
+use Rattle.gate_ties.specs.Ties.{IsTied}
+use Rattle.machine_shape.specs.OpenHandles.{AreOpen}
+use Rattle.machine_shape.proofs.EventOpens.{doubtful-event, made-event}
+use Rattle.store_commit.specs.Noting.{NotesReply}
+use Rattle.store_commit.specs.Gates.{GateValue}
+use Rattle.store_commit.specs.Changes.{change_of}
+use Rattle.store_commit.specs.declared.gate.Doubted.{Doubted as GateDoubt}
+use Rattle.store_commit.specs.declared.change.EntryChange.{EntryChange as GateChange}
+use Rattle.locked_gate.specs.declared.gate.Closing.{Closing}
+use Rattle.locked_gate.specs.LockedGates.{IsClosingTied, IsLockedGate, change_in_doubt, closing_of}
+use Rattle.locked_gate.specs.Commits.{IsReadyCommit, call_record, made_versions, tag_of}
+use Rattle.locked_gate.proofs.ReadyCommits.{notes_undone}
+use Rattle.locked_gate.proofs.CommitEnds.{doubtful_tied, made_tied, makes_entries}
+
+-- what is marked as made is a commit of the machine
+marked_due : (counter n : ℕ) (b : Bool) → Made n ≡ mark_of counter b → b ≡ true
+marked_due counter n true is = refl
+marked_due counter n false is = absurd (cc (is))
+
+answered_due : (dishonest : List ℕ) (s : Standing) (session : ℕ) (call : Call) (reply : Reply) (n : ℕ) (file : Option ℕ) → IsLegalAnswer dishonest s session call reply (Made n) file
+    → is_commit_due s session call ≡ true
+answered_due dishonest s session call reply n file (Answered answer) = marked_due s.counter n (is_commit_due s session call) answer.marked
+answered_due dishonest s session call reply n file (Unavailable answer) = absurd (cc (answer.marked))
+answered_due dishonest s session call reply n file (Doubted answer) = absurd (cc (answer.marked))
+answered_due dishonest s session call reply n file (FoundCorrupt answer) = absurd (cc (answer.marked))
+answered_due dishonest s session call reply n file (Spent answer) = absurd (cc (answer.marked))
+
+made_due : (store : Store) (guess : Guess) (before : List HistoryRecord) (session number : ℕ) (call : Call) (reply : Reply) (n : ℕ) (slot : SlotView) (versions : TagVersions)
+    → IsAnsweredAt store guess before (call_record session number call reply (Made n) slot versions) → is_commit_due (standing_at store guess before) session call ≡ true
+made_due store guess before session number call reply n slot versions (inl legal) =
+    answered_due guess.dishonest (standing_at store guess before) session call reply n (Some slot.file) legal.legal.answer
+made_due store guess before session number call reply n slot versions (inr clash) =
+    let given = clash.told.given in
+    let both : CallEvent session number call reply (Made n) ≡ CallEvent given.session given.number given.call given.reply given.mark = given.is in
+    let mark : Made n ≡ given.mark = cc (both) in
+    let unmarked : Made n ≡ Unchanged = mark ∙ clash.told.unchanged in
+    absurd (cc (unmarked))
+
+-- the file that is put is the tag's
+puts_own : (entries : List (Option DirEntry)) (change : EntryChange) (tag : Tag Version) → IsTagOfChange entries change tag → (put : ℕ) → file_put change ≡ Some put → tag.file ≡ put
+puts_own entries (Put index e) tag is put has = is.file ∙ some_same e.file put has
+puts_own entries (Clear index) tag is put has = absurd (none_some put has)
+
+module _ {F R : Type 0} (store : Store) (gate next : GateValue F R) (view : GateView) (closing : Option Closing) (locked : IsLockedGate store gate view closing) (idle : gate.doubt ≡ None)
+    (kept : IsJournal store view) (within : view.decided ≤ length view.all) (session number : ℕ) (known : session < length store.mounted.applications) (call : Call) (reply : Reply) (change : GateChange)
+    (slot : SlotView) (versions : TagVersions)
+    (ready : IsReadyCommit store view gate.dir.dir.entries gate.counter session number call reply (change_of change) slot versions) where
+  abbrev entries : List (Option DirEntry)
+  entries = gate.dir.dir.entries
+
+  calm_tied : IsTied store view entries gate.counter None
+  calm_tied = subst (λ (d : Option GateDoubt). IsTied store view entries gate.counter (change_in_doubt d)) idle locked.tied
+
+  module _ (cause : Cause) (n : ℕ) (same_entries : next.dir.dir.entries ≡ gate.dir.dir.entries) (counted : next.counter ≡ gate.counter) (doubted : next.doubt ≡ Some (record { number = n; change = change }))
+      (handles : next.open_handles ≡ gate.open_handles) (tsk : next.dir.dir.tsk ≡ gate.dir.dir.tsk) (key : next.host.key ≡ gate.host.key) where
+    abbrev r : HistoryRecord
+    r = call_record session number call (NotAvailable cause) (Doubtful n) slot versions
+
+    abbrev after : GateView
+    after = with_record r view
+
+    closes : (guess : Guess) (doubt : Doubt) → (standing_at store guess after.all).doubt ≡ Some doubt → closing_of session call ≡ closing_of doubt.session doubt.call
+    closes guess doubt is =
+        let own : Doubt = record { commit = n; session = session; call = call; file = file_of r } in
+        let stands : Some own ≡ Some doubt = sym (ap (λ (s : Standing). s.doubt) (standing-snoc store guess view.all r)) ∙ is in
+        ap (λ (d : Doubt). closing_of d.session d.call) (some_same own doubt stands)
+
+    still_open : (guess : Guess) → AreAnswered store guess after.all → AreOpen entries gate.open_handles (standing_at store guess after.all).state.sessions
+    still_open guess answered =
+        doubtful-event store guess view.all r answered entries gate.open_handles gate.open_handles (locked.handles guess (answered-front store guess view.all (r ∷ []) answered)) session number 0 call
+        (NotAvailable cause) (notes_undone gate.open_handles 0 session call (NotAvailable cause) refl) n refl
+
+    pub doubtful_locked : IsLockedGate store next after (closing_of session call)
+    doubtful_locked = record {
+      tied = subst (λ (d : Option GateDoubt). IsTied store after next.dir.dir.entries next.counter (change_in_doubt d)) (sym doubted)
+          (subst (λ (k : ℕ). IsTied store after next.dir.dir.entries k (Some (record { number = n; change = change_of change }))) (sym counted)
+          (subst (λ (l : List (Option DirEntry)). IsTied store after l gate.counter (Some (record { number = n; change = change_of change }))) (sym same_entries)
+          (doubtful_tied store view entries gate.counter session number call reply (change_of change) slot versions kept calm_tied known ready (NotAvailable cause) n within)));
+      handles = λ guess answered.
+          subst (λ (l : List (Option DirEntry)). AreOpen l next.open_handles (standing_at store guess after.all).state.sessions) (sym same_entries)
+          (subst (λ (t : TableState). AreOpen entries t (standing_at store guess after.all).state.sessions) (sym handles) (still_open guess answered));
+      closes = subst (λ (d : Option GateDoubt). IsClosingTied store after d (closing_of session call)) (sym doubted) (λ guess doubt answered is. closes guess doubt is);
+      directory_key = tsk ∙ locked.directory_key;
+      card_key = key ∙ locked.card_key;
+    }
+
+  module _ (n : ℕ) (entries_are : next.dir.dir.entries ≡ changed gate.dir.dir.entries (change_of change)) (counted : next.counter ≡ n) (none : next.doubt ≡ None)
+      (notes : NotesReply gate.open_handles next.open_handles slot.file session call reply)
+      (tsk : next.dir.dir.tsk ≡ gate.dir.dir.tsk) (key : next.host.key ≡ gate.host.key) where
+    abbrev r_made : HistoryRecord
+    r_made = call_record session number call reply (Made n) slot (made_versions versions)
+
+    abbrev after_made : GateView
+    after_made = with_record r_made view
+
+    made_open : (guess : Guess) → AreAnswered store guess after_made.all
+        → AreOpen (changed entries (change_of change)) next.open_handles (standing_at store guess after_made.all).state.sessions
+    made_open guess answered =
+        let front = answered-front store guess view.all (r_made ∷ []) answered in
+        let due = made_due store guess view.all session number call reply n slot (made_versions versions) (answered-last store guess view.all r_made answered) in
+        let x = makes_entries store view entries gate.counter session number call reply (change_of change) slot versions kept calm_tied known ready guess front due in
+        made-event store guess view.all r_made answered entries gate.open_handles next.open_handles (locked.handles guess front) session number slot.file call reply notes n
+        (standing_at store guess view.all).counter x.made (change_of change) x.object refl ready.commit.before.distinct x.makes x.enters
+        (puts_own entries (change_of change) (tag_of slot versions) ready.commit.tagged)
+
+    none_closes : closing ≡ None
+    none_closes = subst (λ (d : Option GateDoubt). IsClosingTied store view d closing) idle locked.closes
+
+    pub made_locked : IsLockedGate store next after_made closing
+    made_locked = record {
+      tied = subst (λ (d : Option GateDoubt). IsTied store after_made next.dir.dir.entries next.counter (change_in_doubt d)) (sym none)
+          (subst (λ (k : ℕ). IsTied store after_made next.dir.dir.entries k None) (sym counted)
+          (subst (λ (l : List (Option DirEntry)). IsTied store after_made l n None) (sym entries_are)
+          (made_tied store view entries gate.counter session number call reply (change_of change) slot versions kept calm_tied known ready n)));
+      handles = λ guess answered.
+          subst (λ (l : List (Option DirEntry)). AreOpen l next.open_handles (standing_at store guess after_made.all).state.sessions) (sym entries_are) (made_open guess answered);
+      closes = subst (λ (d : Option GateDoubt). IsClosingTied store after_made d closing) (sym none) none_closes;
+      directory_key = tsk ∙ locked.directory_key;
+      card_key = key ∙ locked.card_key;
+    }
