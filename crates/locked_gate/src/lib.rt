@@ -5,6 +5,7 @@
 #![tactic(auto)]
 
 mod answer;
+mod catalog;
 mod gate;
 pub mod known;
 mod resolve;
