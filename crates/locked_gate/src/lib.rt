@@ -5,6 +5,7 @@
 #![tactic(auto)]
 
 mod commit;
+mod doubtful;
 mod ends;
 mod gate;
 mod laws;
