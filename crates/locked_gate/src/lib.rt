@@ -13,6 +13,7 @@ mod show;
 mod slot_answer;
 pub mod told;
 mod commit;
+mod doubtful;
 mod ends;
 mod laws;
 mod made;
