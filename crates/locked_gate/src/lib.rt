@@ -6,21 +6,20 @@
 
 mod answer;
 mod catalog;
+mod commit;
+mod doubtful;
+mod ends;
 mod gate;
 pub mod known;
+pub mod laws;
+mod made;
+mod moves;
+mod noting;
 mod resolve;
 mod show;
 mod slot_answer;
 pub mod told;
-mod commit;
-mod doubtful;
-mod ends;
-mod laws;
-mod made;
-mod moves;
-mod noting;
 
 pub use ends::{MadeVersions, UnmadeVersions};
 pub use gate::{Closing, LockedGate};
-pub use laws::{doubtful_commits_keep_gates, made_commits_keep_gates, ready_commits_are_fair};
 pub use moves::SessionMove;
