@@ -38,15 +38,6 @@ module _ (store : Store) (knows : GateView) (slot : SlotView) (session made : �
   right : HasRightTag store.mounted knows.all r
   right = unchanged_right store.mounted knows.all r refl (λ tag is. subst (NamesGiven store.mounted knows.all) (some_same the_tag tag is) (record { committed = refl; doubted = refl }))
 
-  pub slot-fitting : knows.mounted ≡ Some store.mounted → ((n : ℕ) → fault_in_reply reply ≡ Some n → n ≡ slot.file) → IsFitting knows r
-  slot-fitting mounted fault = record {
-    right = λ m is. subst (λ (x : Mounted). HasRightTag x knows.all r) (some_same store.mounted m (sym mounted ∙ is)) right;
-    tagged = record {
-      fault = λ file is. eq-eqb slot.file file (sym (fault file is));
-      commit = λ commits_. absurd (true≢false (sym commits_));
-    };
-  }
-
   slot-closes : (doubt : Option Doubted) (closing : Option Closing) → doubt ≡ None → IsClosingTied store knows doubt closing → IsClosingTied store (with_record r knows) doubt closing
   slot-closes None closing calm closes = closes
   slot-closes (Some d) closing calm closes = absurd (none_some calm)
