@@ -1,16 +1,15 @@
 -- A gate behind its lock over an answer that comes with the seat of the object's file.
-use Rattle.std.proofs.Common.{◌≡◌, ◌<◌, ℕ, true≢false, [], ◌∷◌, length, Option, Some, None, refl, sym, ◌∙◌, subst, eq-eqb}
+use Rattle.std.proofs.Common.{◌≡◌, ◌<◌, ℕ, [], ◌∷◌, length, Option, Some, None, refl, sym, subst}
 use Rattle.tee_types.specs.declared.call.Call.{Call}
 use Rattle.tee_types.specs.declared.reply.Reply.{Reply}
 use Rattle.open_table.specs.Table.{TableState}
 use Rattle.store_model.specs.declared.event.Event.TheVariants.{Call as CallEvent}
 use Rattle.store_model.specs.declared.event.Mark.TheVariants.{Unchanged}
-use Rattle.store_model.specs.Record.{Tag, fault_in_reply}
+use Rattle.store_model.specs.Record.{Tag}
 use Rattle.history_seats.specs.Records.{HistoryRecord, Version}
-use Rattle.history_seats.specs.Mounts.{Mounted}
 use Rattle.history_seats.specs.Tags.{HasRightTag}
 use Rattle.history_seats.specs.Views.{GateView, SlotView}
-use Rattle.history_seats.specs.Changes.{IsFitting, with_record}
+use Rattle.history_seats.specs.Changes.{with_record}
 use Rattle.suppositions.specs.Stores.{Store}
 use Rattle.suppositions.proofs.Answers.{answered-front}
 use Rattle.suppositions.proofs.Mending.{some_same}
