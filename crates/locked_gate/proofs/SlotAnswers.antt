@@ -1,16 +1,15 @@
 -- A gate behind its lock over an answer that comes with the seat of the object's file.
-use Rattle.std.proofs.Common.{◌≡◌, ◌<◌, ℕ, true≢false, [], ◌∷◌, length, Option, Some, None, refl, sym, ◌∙◌, subst, eq-eqb}
+use Rattle.std.proofs.Common.{◌≡◌, ◌<◌, ℕ, [], ◌∷◌, length, Option, Some, None, refl, sym, subst}
 use Rattle.tee_types.specs.declared.call.Call.{Call}
 use Rattle.tee_types.specs.declared.reply.Reply.{Reply}
 use Rattle.open_table.specs.Table.{TableState}
 use Rattle.store_model.specs.declared.event.Event.TheVariants.{Call as CallEvent}
 use Rattle.store_model.specs.declared.event.Mark.TheVariants.{Unchanged}
-use Rattle.store_model.specs.Record.{Tag, fault_in_reply}
+use Rattle.store_model.specs.Record.{Tag}
 use Rattle.history_seats.specs.Records.{HistoryRecord, Version}
-use Rattle.history_seats.specs.Mounts.{Mounted}
 use Rattle.history_seats.specs.Tags.{HasRightTag}
 use Rattle.history_seats.specs.Views.{GateView, SlotView}
-use Rattle.history_seats.specs.Changes.{IsFitting, with_record}
+use Rattle.history_seats.specs.Changes.{with_record}
 use Rattle.suppositions.specs.Stores.{Store}
 use Rattle.suppositions.proofs.Answers.{answered-front}
 use Rattle.suppositions.proofs.Mending.{some_same}
@@ -37,15 +36,6 @@ module _ (store : Store) (knows : GateView) (slot : SlotView) (session made : �
 
   right : HasRightTag store.mounted knows.all r
   right = unchanged_right store.mounted knows.all r refl (λ tag is. subst (NamesGiven store.mounted knows.all) (some_same the_tag tag is) (record { committed = refl; doubted = refl }))
-
-  pub slot-fitting : knows.mounted ≡ Some store.mounted → ((n : ℕ) → fault_in_reply reply ≡ Some n → n ≡ slot.file) → IsFitting knows r
-  slot-fitting mounted fault = record {
-    right = λ m is. subst (λ (x : Mounted). HasRightTag x knows.all r) (some_same store.mounted m (sym mounted ∙ is)) right;
-    tagged = record {
-      fault = λ file is. eq-eqb slot.file file (sym (fault file is));
-      commit = λ commits_. absurd (true≢false (sym commits_));
-    };
-  }
 
   slot-closes : (doubt : Option Doubted) (closing : Option Closing) → doubt ≡ None → IsClosingTied store knows doubt closing → IsClosingTied store (with_record r knows) doubt closing
   slot-closes None closing calm closes = closes

@@ -8,7 +8,7 @@ pub fn failed_files_are_legal()
     ensures { FailedFilesAreLegal }
 {}
 
-/// One whose object's file gave what was refused is answered as corrupt: fairly, as long as the file is honest or is known not to be.
+/// One whose object's file gave what was refused may be answered as corrupt, under each supposition in which the file is not honest.
 pub fn refused_files_are_fair()
     ensures { RefusedFilesAreFair }
 {}
