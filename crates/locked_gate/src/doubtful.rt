@@ -23,7 +23,13 @@ use tee_types::{Call, Cause, Reply};
 
 /// Ends a ready commit of the next number, which the gate left in doubt for that cause: the machine's own reply would have been `reply`.
 /// The gate's entries and its counter are as before the commit.
-pub(crate) fn end_doubtful<F: StoreFile + Drop, R: RpmbPort + Drop, L: StoreName, E: Entropy, N: VersionsName>(
+pub(crate) fn end_doubtful<
+    F: StoreFile + Drop,
+    R: RpmbPort + Drop,
+    L: StoreName,
+    E: Entropy,
+    N: VersionsName,
+>(
     gate: &Gate<F, R>,
     journal: &mut Journal<L>,
     change: &EntryChange,

@@ -6,6 +6,7 @@
 
 mod commit;
 mod doubtful;
+mod end_made;
 mod ends;
 mod gate;
 mod laws;
