@@ -3,3 +3,4 @@ pub mod CommitTags
 pub mod FairCommits
 pub mod CommitEnds
 pub mod CommitGates
+pub mod DoneMoves

@@ -8,7 +8,7 @@ ghost use Rattle.suppositions.specs.Guesses.{Guess};
 ghost use Rattle.suppositions.specs.Answered.{IsFairAt};
 ghost use Rattle.suppositions.specs.Sessions.{Extends};
 ghost use Rattle.store_commit.specs.Noting.{NotesReply};
-ghost use Rattle.call_history.specs.Calls.{HasMoved, session_done};
+ghost use Rattle.locked_gate.specs.DoneCalls.{HasDone};
 ghost use Rattle.call_history.specs.Journals.{IsJournal};
 ghost use Rattle.call_history.specs.Sessions.{IsCallerOf, session_value};
 ghost use Rattle.call_history.specs.Shown.{pass_shown};
@@ -51,7 +51,7 @@ pub(crate) fn end_made<
     requires within { journal.old.knows.decided ≤ length journal.old.knows.all }
     requires settled { session.old.doubt ≡ None }
     requires may { MayMove session.old.state step }
-    requires moved { HasMoved L.store journal.old.knows (session_done session.old.number call) (record session.old { state = moved_by session.old.state step }) }
+    requires moved { HasDone L.store journal.old.knows call (record session.old { state = moved_by session.old.state step }) }
     requires fault { fault_in_reply reply ≡ None }
     requires right { HasRightTag L.store.mounted journal.old.knows.all
         (call_record session.old.number session.old.made call reply (Mark.Made number) slot.knows (made_versions N.versions)) }
