@@ -51,7 +51,7 @@ answered_due dishonest s session call reply n file (Doubted answer) = absurd (cc
 answered_due dishonest s session call reply n file (FoundCorrupt answer) = absurd (cc (answer.marked))
 answered_due dishonest s session call reply n file (Spent answer) = absurd (cc (answer.marked))
 
-made_due : (store : Store) (guess : Guess) (before : List HistoryRecord) (session number : ℕ) (call : Call) (reply : Reply) (n : ℕ) (slot : SlotView) (versions : TagVersions)
+pub made_due : (store : Store) (guess : Guess) (before : List HistoryRecord) (session number : ℕ) (call : Call) (reply : Reply) (n : ℕ) (slot : SlotView) (versions : TagVersions)
     → IsAnsweredAt store guess before (call_record session number call reply (Made n) slot versions) → is_commit_due (standing_at store guess before) session call ≡ true
 made_due store guess before session number call reply n slot versions (inl legal) =
     answered_due guess.dishonest (standing_at store guess before) session call reply n (Some slot.file) legal.legal.answer

@@ -12,3 +12,4 @@ pub mod CommitTags
 pub mod FairCommits
 pub mod CommitEnds
 pub mod CommitGates
+pub mod DoneMoves

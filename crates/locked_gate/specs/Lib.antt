@@ -9,3 +9,4 @@ pub mod EntryCalls
 pub mod Commits
 pub mod CommitLaws
 pub mod Moves
+pub mod DoneCalls

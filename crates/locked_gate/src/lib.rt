@@ -8,6 +8,7 @@ mod answer;
 mod catalog;
 mod commit;
 mod doubtful;
+mod end_made;
 mod ends;
 mod gate;
 pub mod known;

@@ -7,7 +7,7 @@ ghost use Rattle.history_seats.specs.Changes.{seat_renewed, with_record};
 ghost use Rattle.suppositions.specs.Guesses.{Guess};
 ghost use Rattle.suppositions.specs.Answered.{IsFairAt};
 ghost use Rattle.suppositions.specs.Sessions.{Extends};
-ghost use Rattle.call_history.specs.Calls.{HasMoved, session_done};
+ghost use Rattle.locked_gate.specs.DoneCalls.{HasDone};
 ghost use Rattle.call_history.specs.Journals.{IsJournal};
 ghost use Rattle.call_history.specs.Sessions.{IsCallerOf, landing_of_call, session_value};
 ghost use Rattle.call_history.specs.Shown.{pass_shown};
@@ -35,7 +35,7 @@ pub(crate) fn append_made<L: StoreName, E: Entropy, N: VersionsName>(
     requires kept { IsJournal L.store journal.old.knows }
     requires within { journal.old.knows.decided ≤ length journal.old.knows.all }
     requires settled { session.old.doubt ≡ None }
-    requires moved { HasMoved L.store journal.old.knows (session_done session.old.number call) session.old }
+    requires moved { HasDone L.store journal.old.knows call session.old }
     requires fault { fault_in_reply reply ≡ None }
     requires right { HasRightTag L.store.mounted journal.old.knows.all
         (call_record session.old.number session.old.made call reply (Mark.Made number) slot.knows (made_versions N.versions)) }

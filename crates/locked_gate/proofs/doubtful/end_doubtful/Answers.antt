@@ -1,5 +1,5 @@
 -- The record is fair and rightly tagged, since the commit was ready, and its doubt is the gate's.
-use Rattle.std.proofs.Common.{◌≡◌, ◌+◌, ◌<◌, ◌^◌, ℕ, Some, sym, subst, arith}
+use Rattle.std.proofs.Common.{◌+◌, ◌<◌, ◌^◌, ℕ, Some, sym, subst}
 use Rattle.tee_types.specs.declared.reply.Reply.TheVariants.{NotAvailable}
 use Rattle.store_model.specs.declared.event.Mark.TheVariants.{Doubtful}
 use Rattle.history_seats.specs.Views.{GateView}

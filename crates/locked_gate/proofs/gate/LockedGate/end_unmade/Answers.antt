@@ -1,5 +1,5 @@
 -- The record is fair, since the commit was ready.
-use Rattle.std.proofs.Common.{◌≡◌, true, Option, None, refl, sym, ap, ◌∙◌, subst}
+use Rattle.std.proofs.Common.{Option, None, subst}
 use Rattle.store_commit.specs.Changes.{change_of}
 use Rattle.store_commit.specs.declared.gate.Doubted.{Doubted}
 use Rattle.gate_ties.specs.Ties.{IsTied}
