@@ -68,11 +68,14 @@ puts_own entries (Put index e) tag is put has = is.file ∙ some_same e.file put
 puts_own entries (Clear index) tag is put has = absurd (none_some put has)
 
 module _ {F R : Type 0} (store : Store) (gate next : GateValue F R) (view : GateView) (closing : Option Closing) (locked : IsLockedGate store gate view closing) (idle : gate.doubt ≡ None)
-    (kept : IsJournal store view) (within : view.decided ≤ length view.all) (session number : ℕ) (known : session < length store.mounted.applications) (call : Call) (reply : Reply) (change : GateChange)
+    (within : view.decided ≤ length view.all) (session number : ℕ) (known : session < length store.mounted.applications) (call : Call) (reply : Reply) (change : GateChange)
     (slot : SlotView) (versions : TagVersions)
     (ready : IsReadyCommit store view gate.dir.dir.entries gate.counter session number call reply (change_of change) slot versions) where
   abbrev entries : List (Option DirEntry)
   entries = gate.dir.dir.entries
+
+  kept : IsJournal store view
+  kept = locked.journal
 
   calm_tied : IsTied store view entries gate.counter None
   calm_tied = subst (λ (d : Option GateDoubt). IsTied store view entries gate.counter (change_in_doubt d)) idle locked.tied
@@ -96,8 +99,9 @@ module _ {F R : Type 0} (store : Store) (gate next : GateValue F R) (view : Gate
         doubtful-event store guess view.all r answered entries gate.open_handles gate.open_handles (locked.handles guess (answered-front store guess view.all (r ∷ []) answered)) session number 0 call
         (NotAvailable cause) (notes_undone gate.open_handles 0 session call (NotAvailable cause) refl) n refl
 
-    pub doubtful_locked : IsLockedGate store next after (closing_of session call)
-    doubtful_locked = record {
+    pub doubtful_locked : IsJournal store after → IsLockedGate store next after (closing_of session call)
+    doubtful_locked journal = record {
+      journal = journal;
       tied = subst (λ (d : Option GateDoubt). IsTied store after next.dir.dir.entries next.counter (change_in_doubt d)) (sym doubted)
           (subst (λ (k : ℕ). IsTied store after next.dir.dir.entries k (Some (record { number = n; change = change_of change }))) (sym counted)
           (subst (λ (l : List (Option DirEntry)). IsTied store after l gate.counter (Some (record { number = n; change = change_of change }))) (sym same_entries)
@@ -132,8 +136,9 @@ module _ {F R : Type 0} (store : Store) (gate next : GateValue F R) (view : Gate
     none_closes : closing ≡ None
     none_closes = subst (λ (d : Option GateDoubt). IsClosingTied store view d closing) idle locked.closes
 
-    pub made_locked : IsLockedGate store next after_made closing
-    made_locked = record {
+    pub made_locked : IsJournal store after_made → IsLockedGate store next after_made closing
+    made_locked journal = record {
+      journal = journal;
       tied = subst (λ (d : Option GateDoubt). IsTied store after_made next.dir.dir.entries next.counter (change_in_doubt d)) (sym none)
           (subst (λ (k : ℕ). IsTied store after_made next.dir.dir.entries k None) (sym counted)
           (subst (λ (l : List (Option DirEntry)). IsTied store after_made l n None) (sym entries_are)

@@ -22,6 +22,7 @@ use Rattle.suppositions.specs.Stores.{Store, standing_at}
 use Rattle.suppositions.proofs.Answers.{answered-front}
 use Rattle.suppositions.proofs.Mending.{none_some, some_same}
 use Rattle.suppositions.proofs.SessionSteps.{sessions_at}
+use Rattle.call_history.specs.Journals.{IsJournal}
 use Rattle.call_history.specs.Sessions.{CallerSession}
 use Rattle.call_history.specs.Calls.{IsMovedBy}
 use Rattle.call_history.proofs.CallMoves.{stands-now, unchanged-moves}
@@ -89,11 +90,13 @@ module _ {E : Type 0} (store : Store) (view : GateView) (s : CallerSession E) (c
 module _ {F R : Type 0} (store : Store) (gate : GateValue F R) (view : GateView) (closing : Option Closing) (locked : IsLockedGate store gate view closing) (idle : gate.doubt ≡ None) where
   pub unmade_locked : (session number : ℕ) (call : Call) (reply : Reply) (slot : SlotView) (versions : TagVersions) → session < length store.mounted.applications → is_undone reply ≡ true
       → versions.committed ≡ given_version store.mounted view.all slot.file slot.generation
+      → IsJournal store (with_record (unmade store view session number call reply slot versions) view)
       → IsLockedGate store gate (with_record (unmade store view session number call reply slot versions) view) closing
-  unmade_locked session number call reply slot versions known undone given =
+  unmade_locked session number call reply slot versions known undone given journal =
       let r = unmade store view session number call reply slot versions in
       let entries = gate.dir.dir.entries in
       record {
+        journal = journal;
         tied = subst (λ (d : Option Doubted). IsTied store (with_record r view) entries gate.counter (change_in_doubt d)) (sym idle)
             (unchanged_ties store view entries gate.counter None r refl (unmade_tag store view session number call reply slot versions given) tt
             (subst (λ (d : Option Doubted). IsTied store view entries gate.counter (change_in_doubt d)) idle locked.tied));

@@ -43,11 +43,10 @@ ReadyCommitsAreFair =
     → IsJournal store view → IsTied store view entries counter None → session < length store.mounted.applications
     → IsReadyCommit store view entries counter session number call reply change slot versions → AreEndsFair store view counter session number call reply slot versions
 
--- The gate behind its lock, with a whole journal, while no commit is in doubt.
+-- The gate behind its lock while no commit is in doubt.
 pub record IsIdleGate {F R : Type 0} (store : Store) (gate : GateValue F R) (view : GateView) (closing : Option Closing) : Type 0 where
   pub locked : IsLockedGate store gate view closing
   pub idle : gate.doubt ≡ None
-  pub kept : IsJournal store view
   pub within : view.decided ≤ length view.all
 
 -- The gate once a commit of that number is in doubt.
@@ -74,6 +73,7 @@ DoubtfulCommitsKeepGates F R =
     (store : Store) (old new : GateValue F R) (view : GateView) (closing : Option Closing) (session number : ℕ) (call : Call) (reply : Reply) (change : GateChange) (slot : SlotView) (versions : TagVersions)
     (cause : Cause) (n : ℕ) → IsIdleGate store old view closing → session < length store.mounted.applications
     → IsReadyCommit store view old.dir.dir.entries old.counter session number call reply (change_of change) slot versions → IsDoubtedGate old new change n
+    → IsJournal store (with_record (call_record session number call (NotAvailable cause) (Doubtful n) slot versions) view)
     → IsLockedGate store new (with_record (call_record session number call (NotAvailable cause) (Doubtful n) slot versions) view) (closing_of session call)
 
 -- So it is behind the record of one that was made.
@@ -83,4 +83,5 @@ MadeCommitsKeepGates F R =
     (n : ℕ) → IsIdleGate store old view closing → session < length store.mounted.applications
     → IsReadyCommit store view old.dir.dir.entries old.counter session number call reply (change_of change) slot versions
     → IsMadeGate old new change n slot.file session call reply
+    → IsJournal store (with_record (call_record session number call reply (Made n) slot (made_versions versions)) view)
     → IsLockedGate store new (with_record (call_record session number call reply (Made n) slot (made_versions versions)) view) closing

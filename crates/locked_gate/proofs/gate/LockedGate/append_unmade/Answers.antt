@@ -47,4 +47,5 @@ invariant_of-self g c =
     subst (λ (k : GateView). IsLockedGate store inside.gate k inside.closing) (sym c.append_call.ensures.knows)
     (unmade_locked store inside.gate inside.journal.knows inside.closing c.self.invariant idle s.number s.made c.args.call c.args.reply slot versions
     c.requires.calm.caller.session.known c.requires.undone
-    (subst (λ (k : GateView). versions.committed ≡ given_version store.mounted k.all slot.file slot.generation) (sym same) c.requires.given))
+    (subst (λ (k : GateView). versions.committed ≡ given_version store.mounted k.all slot.file slot.generation) (sym same) c.requires.given)
+    (subst (IsJournal store) c.append_call.ensures.knows c.append_call.ensures.kept))
