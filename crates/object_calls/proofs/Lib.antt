@@ -12,3 +12,9 @@ pub mod Nexts
 pub mod MapStays
 pub mod FormedBench
 pub mod Mounts
+pub mod FirstParts
+pub mod Stacks
+pub mod SplitFiles
+pub mod Seating
+pub mod Retirings
+pub mod LeftStores

@@ -9,4 +9,10 @@ pub mod Reads
 pub mod Next
 pub mod Arming
 pub mod Refusals
+pub mod Sessions
+pub mod OpenedStores
 pub mod Seats
+pub mod Services
+pub mod Serving
+pub mod Retiring
+pub mod Finished

@@ -9,17 +9,22 @@
 mod arms;
 mod bench;
 mod data;
+mod finishing;
 mod forming;
 mod mounting;
 mod next;
 mod opening;
 mod reading;
+mod service;
 mod shown;
+mod splitting;
 mod syncing;
 
 pub use bench::{Bench, BlockRead, FILES, Halted};
+pub use finishing::Closed;
 pub use forming::format;
 pub use mounting::mount;
 pub use opening::Opening;
 pub use reading::card_block;
+pub use service::Service;
 pub use shown::{Shown, ShownObject};

@@ -1,0 +1,214 @@
+-- A store that is no longer served: its gate and its slots are at rest.
+use Rattle.std.proofs.Common.{◌≡◌, ◌==◌, ◌+◌, ◌<◌, ◌≤◌, ◌⊎◌, ◌||◌, ℕ, zero, suc, Bool, true, false, true≢false, List, [], ◌∷◌, ◌++◌, length, Option, Some, None, option_map, IsTrue, inl, inr, refl, sym, ap, ◌∙◌, subst, arith, ne_eqb, eq-eqb}
+use Rattle.std.specs.Prelude.{Contains, nat_lt}
+use Rattle.std.proofs.lemmas.Bool.{cases_Bool, cases_lt, cond-true, cond-false, le-ltb, lt-ltb, eqb-true}
+use Rattle.disk_model.specs.State.{FileState, Sound}
+use Rattle.tee_types.specs.Limits.{last_file}
+use Rattle.hmac_keys.specs.KeyTable.{rpmb_key}
+use Rattle.rpmb_card.specs.Card.{CardState}
+use Rattle.rpmb_card.specs.Port.{PortState}
+use Rattle.rpmb_host.specs.Honest.{HasCard}
+use Rattle.store_model.specs.Record.{concerns_file, events_of, file_of}
+use Rattle.store_model.specs.History.{AreNumbered}
+use Rattle.store_model.specs.LegalHistory.{doubt_of}
+use Rattle.store_model.specs.Doubt.{Doubt}
+use Rattle.history_seats.specs.Numbers.{is_in}
+use Rattle.history_seats.specs.Records.{HistoryRecord, IsUpToDate}
+use Rattle.history_seats.specs.Rule.{SlotFits}
+use Rattle.history_seats.specs.Views.{GateView, SlotView}
+use Rattle.crash_core.specs.Pictures.{IsPictureOf, Picture}
+use Rattle.crash_core.specs.CoreState.{IsTrusted}
+use Rattle.core_parts.specs.SlotParts.{SlotHolds, SlotPart}
+use Rattle.core_parts.specs.Joined.{IsObjectFile}
+use Rattle.core_parts.specs.Finished.{MountsAfter}
+use Rattle.core_parts.proofs.Contained.{contains_first, contains_later, contains_cases, contains_none}
+use Rattle.suppositions.specs.Guesses.{Guess}
+use Rattle.suppositions.specs.Stores.{Store, standing_at}
+use Rattle.suppositions.specs.Answered.{AreAnswered, AreOwnLegal, IsEnded}
+use Rattle.suppositions.proofs.Answers.{own-whole}
+use Rattle.suppositions.proofs.Narrowing.{all_answered}
+use Rattle.store_commit.specs.declared.gate.Doubted.{Doubted}
+use Rattle.store_commit.specs.Gates.{DoubtStands, GateValue, gate_sides}
+use Rattle.store_commit.specs.Holds.{AreHolds}
+use Rattle.store_commit.specs.Sides.{Sides}
+use Rattle.gate_ties.specs.Ties.{DoubtedChange, IsStandingDoubt, IsTied}
+use Rattle.gate_parts.specs.ClosedStores.{AreSlotsOf, SupposesDishonest, dishonest_in, no_slot, slots_of, store_files}
+use Rattle.gate_parts.specs.Phases.{phase_under}
+use Rattle.gate_parts.specs.Resting.{IsGateOf}
+use Rattle.gate_parts.specs.Ties.{doubted_change}
+use Rattle.gate_parts.proofs.ClosedStores.{closed_stores_mount, dishonest_files_are_supposed}
+use Rattle.gate_parts.proofs.Ties.{ties_tell}
+use Rattle.object_slots.specs.Steps.{part}
+use Rattle.locked_gate.specs.declared.gate.Closing.{Closing}
+use Rattle.locked_gate.specs.LockedGates.{IsLockedGate, LockedGateValue, change_in_doubt}
+use Rattle.object_calls.specs.Files.{files_of}
+use Rattle.object_calls.specs.Finished.{IsAnsweredOrEnds, IsDoubtLeft, LeavesStore, PicturesMountAfter}
+use Rattle.object_calls.specs.Retiring.{AreRetired, IsRetired}
+use Rattle.object_calls.specs.Services.{AreOfObjectFiles}
+use Rattle.object_calls.proofs.Files.{files-past}
+use Rattle.object_calls.proofs.Retirings.{IsSameHistory, numbered_back, retired_back}
+
+-- a number that is in a list is contained in it, and the other way round
+in-contains : (n : ℕ) (numbers : List ℕ) → is_in n numbers ≡ true → Contains numbers n
+in-contains n [] there = absurd (true≢false (sym there))
+in-contains n (m ∷ numbers) there = by_test (λ found. in-contains n numbers found) (m == n) refl there
+  where
+    by_test : (is_in n numbers ≡ true → Contains numbers n) → (b : Bool) → (m == n) ≡ b → (b || is_in n numbers) ≡ true → Contains (m ∷ numbers) n
+    by_test later true same found = contains_first m n numbers (eqb-true m n same)
+    by_test later false other found = contains_later m n numbers (later found)
+
+contains-in : (n : ℕ) (numbers : List ℕ) → Contains numbers n → is_in n numbers ≡ true
+contains-in n [] there = absurd (contains_none n there)
+contains-in n (m ∷ numbers) there = elim (contains_cases m n numbers there) [
+  | inl same ↦ ap (λ (b : Bool). b || is_in n numbers) (eq-eqb m n same)
+  | inr later ↦ by_test (m == n) (contains-in n numbers later)
+]
+  where
+    by_test : (b : Bool) → is_in n numbers ≡ true → (b || is_in n numbers) ≡ true
+    by_test true found = refl
+    by_test false found = found
+
+-- a record between two parts of a list is in it
+contains_between : (front : List HistoryRecord) (r : HistoryRecord) (back : List HistoryRecord) → Contains (front ++ r ∷ back) r
+contains_between [] r back = contains_first r r back refl
+contains_between (f ∷ front) r back = contains_later f r (front ++ r ∷ back) (contains_between front r back)
+
+-- a file is one of an object, or it is not
+object_or_not : (file : ℕ) → IsObjectFile file ⊎ (IsObjectFile file → ⊥)
+object_or_not file = elim (cases_lt file 1) [
+  | inl none ↦ inr (λ own. omega (arith, own.0, none))
+  | inr least ↦ elim (cases_lt last_file file) [
+    | inl past ↦ inr (λ own. omega (arith, own.1, past))
+    | inr within ↦ inl (omega (arith, least), omega (arith, within))
+  ]
+]
+
+-- the commit in doubt, in the words of the gate's part
+doubt_words : (doubt : Option Doubted) → change_in_doubt doubt ≡ option_map doubted_change doubt
+doubt_words None = refl
+doubt_words (Some d) = refl
+
+module _ {F R : Type 0} (state : F → FileState) (port : R → PortState) (sound : (f : F) → Sound (state f)) (store : Store) (gate : GateValue F R) (view : GateView)
+    (closing : Option Closing) (others : List F) (locked : IsLockedGate store gate view closing) (stands : DoubtStands (gate_sides state port gate) gate.doubt)
+    (held : AreHolds gate.dir.dir.entries gate.holds) (tagged : AreOfObjectFiles view.all) (many : length others ≡ 272) (retired : AreRetired store view state 272 others) where
+  abbrev g : Sides
+  g = gate_sides state port gate
+
+  abbrev files : ℕ → FileState
+  files = files_of state (gate.dir.file ∷ others)
+
+  -- THE SLOTS
+  retired_at : (file : ℕ) → IsObjectFile file → IsRetired store view file (files file)
+  retired_at zero own = absurd (omega (arith, own.0))
+  retired_at (suc i) own = let next : i + 1 ≡ suc i = omega arith in subst (λ (n : ℕ). IsRetired store view n (files_of state others i)) next (retired i (omega (arith, own.1)))
+
+  abbrev slot_by : (file : ℕ) → IsObjectFile file ⊎ (IsObjectFile file → ⊥) → SlotPart
+  slot_by file (inl own) = part (files file) (retired_at file own).seat.knows None
+  slot_by file (inr off) = no_slot file
+
+  abbrev slots : ℕ → SlotPart
+  slots file = slot_by file (object_or_not file)
+
+  each_by : (P : ℕ → SlotPart → Type 0) → ((file : ℕ) (own : IsObjectFile file) → P file (part (files file) (retired_at file own).seat.knows None)) → (file : ℕ)
+      → IsObjectFile file → (which : IsObjectFile file ⊎ (IsObjectFile file → ⊥)) → P file (slot_by file which)
+  each_by P all file own (inl is) = all file is
+  each_by P all file own (inr off) = absurd (off own)
+
+  slots_hold : AreSlotsOf store view slots
+  slots_hold = record {
+    numbered = λ file own. each_by (λ n s. s.view.file ≡ n) (λ n is. (retired_at n is).own.own) file own (object_or_not file);
+    fits = λ file own. each_by (λ n s. SlotFits view s.view) (λ n is. (retired_at n is).fits) file own (object_or_not file);
+    holds = λ file own. each_by (λ n s. SlotHolds store.keys s) (λ n is. (retired_at n is).own.holds None) file own (object_or_not file);
+  }
+
+  -- THE FILES
+  slot_file : (file : ℕ) → 1 ≤ file → (slots_of slots file).file ≡ files file
+  slot_file file least = elim (cases_lt last_file file) [
+    | inl past ↦
+        ap (λ (s : SlotPart). s.file) (cond-true (nat_lt last_file file) (no_slot file) (slots file) (lt-ltb last_file file past))
+        ∙ sym (files-past state (gate.dir.file ∷ others) file (omega (arith, past, many)))
+    | inr within ↦
+        ap (λ (s : SlotPart). s.file) (cond-false (nat_lt last_file file) (no_slot file) (slots file) (le-ltb last_file file (omega (arith, within))))
+        ∙ each_by (λ n s. s.file ≡ files n) (λ n is. refl) file (least, omega (arith, within)) (object_or_not file)
+  ]
+
+  same_file : (file : ℕ) → store_files g slots file ≡ files file
+  same_file zero = refl
+  same_file (suc i) =
+      cond-false (suc i == 0) g.file (slots_of slots (suc i)).file (ne_eqb (suc i) 0 (λ is. omega (arith, is))) ∙ slot_file (suc i) (omega arith)
+
+  same_files : store_files g slots ≡ files
+  same_files = λ j file. same_file file j
+
+  -- THE HISTORY
+  supposed : (guess : Guess) → guess.dishonest ≡ dishonest_in files → SupposesDishonest guess (store_files g slots)
+  supposed guess is = dishonest_files_are_supposed guess (store_files g slots) (is ∙ ap dishonest_in (sym same_files))
+
+  own_of : (guess : Guess) (file : ℕ) (own : IsObjectFile file) → IsTrue (files file).honest → is_in file guess.dishonest ≡ false → AreOwnLegal store guess file view.all
+  own_of guess file own honest off =
+      let r = retired_at file own in
+      let begins : IsUpToDate (concerns_file file) r.seat.knows.seen view.all =
+      subst (λ (n : ℕ). IsUpToDate (concerns_file n) r.seat.knows.seen view.all) r.own.own r.fits.sees.begins in
+      own-whole store guess file r.seat.knows.seen view.all begins (r.own.legal honest guess off)
+
+  own_legal : (guess : Guess) → guess.dishonest ≡ dishonest_in files → (file : ℕ) → Contains guess.dishonest file ⊎ AreOwnLegal store guess file view.all
+  own_legal guess is file = elim (object_or_not file) [
+    | inr off ↦ inr (λ front r back split names answered. absurd (off (tagged r file (subst (λ (l : List HistoryRecord). Contains l r) split (contains_between front r back)) names)))
+    | inl own ↦ elim (cases_Bool (is_in file guess.dishonest)) [
+      | inl among ↦ inl (in-contains file guess.dishonest among)
+      | inr off ↦
+          let honest : IsTrue (files file).honest =
+          subst (λ (s : FileState). IsTrue s.honest) (same_file file) (supposed guess is file own.1 (λ there. true≢false (sym (contains-in file guess.dishonest there) ∙ off))) in
+          inr (own_of guess file own honest off)
+    ]
+  ]
+
+  answered_or : IsAnsweredOrEnds store view files
+  answered_or guess is = all_answered store guess view.all (locked.journal.fair guess) (own_legal guess is)
+
+  tied_words : IsTied store view gate.dir.dir.entries gate.counter (option_map doubted_change gate.doubt)
+  tied_words = subst (λ (d : Option DoubtedChange). IsTied store view gate.dir.dir.entries gate.counter d) (doubt_words gate.doubt) locked.tied
+
+  mounts_after : PicturesMountAfter store view files (port gate.host.port)
+  mounts_after guess card picture is answered has left trusted =
+      closed_stores_mount store guess g gate.doubt gate.holds card view slots picture
+      (record {
+        gate = record {
+          tsk = locked.directory_key;
+          sound = sound gate.dir.file;
+          stands = stands;
+          held = held;
+          told = record { own = card; has = subst (λ (k : List ℕ). HasCard (port gate.host.port) k card) (sym locked.card_key) has; same = record { key = refl; counter = refl; blocks = refl } };
+        };
+        tied = ties_tell store guess view gate.dir.dir.entries gate.counter gate.doubt locked.journal.mounted tied_words answered (locked.journal.in_step guess answered);
+        slots_hold = slots_hold;
+        dishonest = supposed guess is;
+      })
+      (subst (λ (f : ℕ → FileState). IsPictureOf f card picture) (sym same_files) left) trusted
+
+  doubt_by : (doubt : Option Doubted) → IsTied store view gate.dir.dir.entries gate.counter (change_in_doubt doubt) → IsDoubtLeft store view (option_map (λ d. d.number) doubt)
+  doubt_by None tied guess answered = inr refl
+  doubt_by (Some d) tied guess answered =
+      let s : IsStandingDoubt (standing_at store guess view.all) gate.dir.dir.entries _ = tied.doubt.stands guess answered in
+      inl (ap (λ (n : ℕ). Some n) (sym s.number) ∙ ap (option_map (λ (x : Doubt). x.commit)) (sym s.is_open))
+
+  pub leaves : (doubt : Option ℕ) → doubt ≡ option_map (λ d. d.number) gate.doubt → AreNumbered (events_of view.all) → LeavesStore store view files (port gate.host.port) doubt
+  leaves doubt is numbered = record {
+    numbered = numbered;
+    answered = answered_or;
+    mounts = mounts_after;
+    doubted = subst (IsDoubtLeft store view) (sym is) (doubt_by gate.doubt locked.tied);
+  }
+
+-- The parts of a service that is finished: its gate, its history once the sessions' seats were taken in, and its files.
+module _ {F R : Type 0} (state : F → FileState) (port : R → PortState) (sound : (f : F) → Sound (state f)) (store : Store) (s : LockedGateValue F R) (later : GateView)
+    (locked : IsLockedGate store s.gate s.journal.knows s.closing) (tagged : AreOfObjectFiles s.journal.knows.all) (same : IsSameHistory s.journal.knows later)
+    (others : List F) (many : length others ≡ 272) (retired : AreRetired store later state 272 others) (numbered : AreNumbered (events_of later.all)) where
+  pub leaves_parts : DoubtStands (gate_sides state port s.gate) s.gate.doubt → AreHolds s.gate.dir.dir.entries s.gate.holds → (doubt : Option ℕ)
+      → doubt ≡ option_map (λ d. d.number) s.gate.doubt → (dir : F) (card : R) (files : List F) → dir ≡ s.gate.dir.file → card ≡ s.gate.host.port → files ≡ dir ∷ others
+      → LeavesStore store s.journal.knows (files_of state files) (port card) doubt
+  leaves_parts stands held doubt doubt_is dir card files dir_is card_is files_are =
+      let all = leaves state port sound store s.gate s.journal.knows s.closing others locked stands held tagged many
+      (λ i within. retired_back s.journal.knows later same store (i + 1) (files_of state others i) (retired i within)) doubt doubt_is (numbered_back s.journal.knows later same numbered) in
+      subst (λ (l : List F). LeavesStore store s.journal.knows (files_of state l) (port card) doubt) (sym (files_are ∙ ap (λ (f : F). f ∷ others) dir_is))
+      (subst (λ (r : R). LeavesStore store s.journal.knows (files_of state (s.gate.dir.file ∷ others)) (port r) doubt) (sym card_is) all)

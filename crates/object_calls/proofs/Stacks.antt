@@ -1,0 +1,29 @@
+-- A list that is turned over, and then taken from its end: what comes is the list from its front on.
+use Rattle.std.proofs.Common.{◌≡◌, ◌+◌, ◌-◌, ◌<◌, ◌≤◌, ℕ, List, length, take, get_or, reverse, refl, sym, ap, ◌∙◌, arith}
+use Rattle.std.proofs.lemmas.List.{get_or-reverse, get_or-take, length-reverse, length-take-le, take-take, take_all}
+
+-- what is left of the list once so many were taken
+abbrev pub left_of : {X : Type 0} → List X → (taken : ℕ) → List X
+left_of items taken = take (length items - taken) (reverse items)
+
+module _ {X : Type 0} (items : List X) where
+  pub all_left : reverse items ≡ left_of items 0
+  all_left = sym (take_all (length items - 0) (reverse items) (omega (arith, length-reverse items)))
+
+  module _ (left : List X) (taken : ℕ) (is : left ≡ left_of items taken) where
+    pub length-left : length left ≡ length items - taken
+    length-left = ap length is ∙ length-take-le (length items - taken) (reverse items) (omega (arith, length-reverse items))
+
+    pub last_left : (x : X) → taken < length items → x ≡ get_or left (length left - 1) x → x ≡ get_or items taken x
+    last_left x more last =
+        let place : length left - 1 ≡ length items - 1 - taken = omega (arith, length-left) in
+        last ∙ ap (λ (k : ℕ). get_or left k x) place ∙ ap (λ (l : List X). get_or l (length items - 1 - taken) x) is
+        ∙ get_or-take (length items - taken) (reverse items) (length items - 1 - taken) x (omega arith)
+        ∙ get_or-reverse items (length items - 1 - taken) x (omega arith)
+        ∙ ap (λ (k : ℕ). get_or items k x) (omega arith)
+
+    pub rest_left : taken < length items → take (length left - 1) left ≡ left_of items (taken + 1)
+    rest_left more =
+        let fewer : length left - 1 ≡ length items - (taken + 1) = omega (arith, length-left) in
+        ap (λ (k : ℕ). take k left) fewer ∙ ap (take (length items - (taken + 1))) is
+        ∙ take-take (length items - (taken + 1)) (length items - taken) (reverse items) (omega arith)

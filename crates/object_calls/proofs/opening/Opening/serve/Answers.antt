@@ -1,0 +1,94 @@
+use Rattle.std.proofs.Common.{rules, ◌≡◌, ◌∙◌, ◌+◌, ◌<◌, ℕ, List, [], ◌∷◌, length, None, vec_len, refl, sym, ap, subst, arith}
+use Rattle.std.specs.Vec.{vec_capacity}
+use Rattle.store_model.specs.declared.event.Event.{Event}
+use Rattle.history_seats.specs.Views.{GateView}
+use Rattle.suppositions.specs.Stores.{Store}
+use Rattle.call_history.specs.Journals.{IsJournalOf, JournalValue}
+use Rattle.locked_gate.specs.LockedGates.{IsLockedGate, LockedGateValue}
+use Rattle.mounted_store.specs.MountLaws.{IsFirstView}
+use Rattle.object_calls.specs.OpenedStores.{IsStoreOf}
+use Rattle.object_calls.specs.Opening.{OpeningValue}
+use Rattle.object_calls.specs.Seats.{IsSplitting}
+use Rattle.object_calls.specs.Serving.{ServesOpening}
+use Rattle.object_calls.specs.Services.{ServiceValue}
+use Rattle.object_calls.proofs.FirstParts.{first_gate, first_journal, first_numbered, may_be_first, new-splitting, none_tagged, room_for_all, told_first}
+use Rattle.object_calls.proofs.opening.Opening.serve.Goals as goal
+
+pub split_slots-slots-requires-clause-splitting : goal.split_slots-slots-requires-clause-splitting
+split_slots-slots-requires-clause-splitting g c =
+    subst (λ (v : GateView). IsSplitting g.L.StoreName.store v 1) (sym c.self.invariant.2.knows) (new-splitting g.L.StoreName.store)
+
+pub split_slots-slots-requires-clause-locked : goal.split_slots-slots-requires-clause-locked
+split_slots-slots-requires-clause-locked g c =
+    let i = c.self.inside in
+    let o : OpeningValue g.row.F.Denot g.row.R.Denot =
+    record { gate = i.gate; files = i.files.items; storage_key = i.storage_key; table = i.table; applications = i.applications.items } in
+    let of = subst (IsStoreOf g.F.StoreFile.state g.R.RpmbPort.state g.L.StoreName.store) (sym c.self.view_is) c.requires.store in
+    may_be_first g.F.StoreFile.state g.R.RpmbPort.state g.met.F.StoreFile.sound g.L.StoreName.store o c.self.invariant.0 of
+
+pub new-journal-requires : goal.new-journal-requires
+new-journal-requires g c =
+    let i = c.self.inside in
+    let store = g.L.StoreName.store in
+    let o : OpeningValue g.row.F.Denot g.row.R.Denot =
+    record { gate = i.gate; files = i.files.items; storage_key = i.storage_key; table = i.table; applications = i.applications.items } in
+    let of = subst (IsStoreOf g.F.StoreFile.state g.R.RpmbPort.state store) (sym c.self.view_is) c.requires.store in
+    let seat = c.split_passes.new.seat in
+    let told = c.split_passes.ensures.told in
+    subst (λ (l : List Event). IsJournalOf store i.table seat l 0) (sym c.new.ensures)
+    (first_journal g.F.StoreFile.state g.R.RpmbPort.state g.met.F.StoreFile.sound store o c.self.invariant.0 of i.table seat (sym (ap (λ (s : Store). s.table) of.is)) c.split_passes.ensures.table
+    told.undecided (told_first store seat.knows (length store.mounted.applications) told))
+
+pub new-requires-2 : goal.new-requires-2
+new-requires-2 g c =
+    let i = c.self.inside in
+    let store = g.L.StoreName.store in
+    let o : OpeningValue g.row.F.Denot g.row.R.Denot =
+    record { gate = i.gate; files = i.files.items; storage_key = i.storage_key; table = i.table; applications = i.applications.items } in
+    let of = subst (IsStoreOf g.F.StoreFile.state g.R.RpmbPort.state store) (sym c.self.view_is) c.requires.store in
+    let seat = c.split_passes.new.seat in
+    let first = told_first store seat.knows (length store.mounted.applications) c.split_passes.ensures.told in
+    subst (λ (v : GateView). IsLockedGate store i.gate v None) (sym (ap (λ (j : JournalValue). j.knows) c.new-journal.ensures))
+    (first_gate g.F.StoreFile.state g.R.RpmbPort.state g.met.F.StoreFile.sound store o c.self.invariant.0 of seat.knows first)
+
+pub invariant_of-result : goal.invariant_of-result
+invariant_of-result g c =
+    let i = c.self.inside in
+    let store = g.L.StoreName.store in
+    let of = subst (IsStoreOf g.F.StoreFile.state g.R.RpmbPort.state store) (sym c.self.view_is) c.requires.store in
+    let slots = c.split_slots-slots.result.slots in
+    let many : length slots.items ≡ 272 = sym slots.ok.0 ∙ c.split_slots-slots.ensures.many in
+    let gate : LockedGateValue g.row.F.Denot g.row.R.Denot = c.new-2.result in
+    let empty : gate.journal.knows.all ≡ [] =
+    ap (λ (x : LockedGateValue g.row.F.Denot g.row.R.Denot). x.journal.knows.all) c.new-2.ensures ∙ ap (λ (j : JournalValue). j.knows.all) c.new-journal.ensures ∙ c.split_passes.ensures.told.empty in (
+      record {
+        many = many;
+        numbered = first_numbered store i.gate.dir.dir.entries g.F.StoreFile.state i.files.items slots.items c.split_slots-slots.ensures.slots many;
+        tagged = none_tagged gate.journal.knows empty;
+        keyed = of.keyed.storage;
+      },
+      c.split_slots-slots.ensures.vacant,
+      room_for_all (vec_capacity c.split_slots-slots.result.room) (vec_capacity i.files) (vec_len i.files) (length i.files.items) c.split_slots-slots.ensures.room c.self.invariant.1
+          i.files.ok.0 c.self.invariant.0.whole,
+    )
+
+pub returns-clause-served : goal.returns-clause-served
+returns-clause-served g c =
+    let i = c.self.inside in
+    let state = g.F.StoreFile.state in
+    let store = g.L.StoreName.store in
+    let gate : LockedGateValue g.row.F.Denot g.row.R.Denot = c.new-2.result in
+    let seat = c.split_passes.new.seat in
+    let told = c.split_passes.ensures.told in
+    let knows : gate.journal.knows ≡ seat.knows =
+    ap (λ (x : LockedGateValue g.row.F.Denot g.row.R.Denot). x.journal.knows) c.new-2.ensures ∙ ap (λ (j : JournalValue). j.knows) c.new-journal.ensures in
+    let served : ServiceValue g.row.F.Denot g.row.R.Denot = record { gate = gate; slots = c.split_slots-slots.result.slots.items; storage_key = i.storage_key } in
+    subst (λ (v : OpeningValue g.row.F.Denot g.row.R.Denot). ServesOpening state store v served) c.self.view_is
+    (record {
+      gate = ap (λ (x : LockedGateValue g.row.F.Denot g.row.R.Denot). x.gate) c.new-2.ensures;
+      view = subst (IsFirstView store) (sym knows) (told_first store seat.knows (length store.mounted.applications) told);
+      undecided = ap (λ (v : GateView). v.decided) knows ∙ told.undecided;
+      unclosed = ap (λ (x : LockedGateValue g.row.F.Denot g.row.R.Denot). x.closing) c.new-2.ensures;
+      slots = c.split_slots-slots.ensures.slots;
+      storage_key = refl;
+    })

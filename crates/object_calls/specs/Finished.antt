@@ -1,0 +1,55 @@
+-- What a phase leaves, once the store is no longer served.
+use Rattle.std.specs.Prelude.{◌≡◌, ◌⊎◌, ◌<◌, ℕ, List, length, Option, None, slice_index_or}
+use Rattle.std.specs.Option.{option_map}
+use Rattle.disk_model.specs.State.{FileState}
+use Rattle.hmac_keys.specs.KeyTable.{rpmb_key}
+use Rattle.rpmb_card.specs.Card.{CardState}
+use Rattle.rpmb_card.specs.Port.{PortState}
+use Rattle.rpmb_host.specs.Honest.{HasCard}
+use Rattle.store_model.specs.History.{AreNumbered, count_of}
+use Rattle.store_model.specs.LegalHistory.{doubt_of}
+use Rattle.store_model.specs.Record.{events_of}
+use Rattle.history_seats.specs.Views.{GateView}
+use Rattle.crash_core.specs.Pictures.{IsPictureOf, Picture}
+use Rattle.crash_core.specs.CoreState.{IsTrusted}
+use Rattle.core_parts.specs.Finished.{MountsAfter}
+use Rattle.suppositions.specs.Guesses.{Guess}
+use Rattle.suppositions.specs.Stores.{Store, standing_at}
+use Rattle.suppositions.specs.Answered.{AreAnswered, IsEnded}
+use Rattle.call_history.specs.Sessions.{CallerSession}
+use Rattle.call_history.specs.Shown.{BeginsAll}
+use Rattle.gate_parts.specs.ClosedStores.{dishonest_in}
+use Rattle.gate_parts.specs.Phases.{phase_under}
+
+-- Under a supposition with just those files as not honest that are not, the history is answered, or the promises end at a first event.
+abbrev pub IsAnsweredOrEnds : Store → GateView → (ℕ → FileState) → Type 0
+IsAnsweredOrEnds store view files =
+    (guess : Guess) → guess.dishonest ≡ dishonest_in files → AreAnswered store guess view.all ⊎ IsEnded store guess view.all
+
+-- Where it is answered, every picture of the files and the card mounts to the map that it leaves, or to that with the commit in doubt;
+-- where the directory's file is honest, and but for objects in files that are not.
+abbrev pub PicturesMountAfter : Store → GateView → (ℕ → FileState) → PortState → Type 0
+PicturesMountAfter store view files port =
+    (guess : Guess) (card : CardState) (picture : Picture) → guess.dishonest ≡ dishonest_in files → AreAnswered store guess view.all
+    → HasCard port (rpmb_key store.keys.huk) card → IsPictureOf files card picture → IsTrusted (phase_under store guess) 0
+    → MountsAfter (phase_under store guess) picture (standing_at store guess view.all)
+
+-- The doubt is the one that the history leaves open, or it was dropped.
+abbrev pub IsDoubtLeft : Store → GateView → Option ℕ → Type 0
+IsDoubtLeft store view doubt =
+    (guess : Guess) → AreAnswered store guess view.all → (doubt ≡ doubt_of (standing_at store guess view.all)) ⊎ (doubt ≡ None)
+
+-- Each session's view begins the history, past which it has no event, and the session counted its events.
+pub record HasCounted {E : Type 0} (view : GateView) (s : CallerSession E) : Type 0 where
+  pub begins : BeginsAll view s.pass
+  pub made : s.made ≡ count_of s.number (events_of view.all)
+
+abbrev pub HaveCounted : {E : Type 0} → GateView → List (CallerSession E) → Type 0
+HaveCounted {E} view sessions = (i : ℕ) (d : CallerSession E) → i < length sessions → HasCounted view (slice_index_or sessions i d)
+
+-- What is said of a store once its phase has ended: of the events in order, the files, the card and the doubt.
+pub record LeavesStore (store : Store) (view : GateView) (files : ℕ → FileState) (port : PortState) (doubt : Option ℕ) : Type 0 where
+  pub numbered : AreNumbered (events_of view.all)
+  pub answered : IsAnsweredOrEnds store view files
+  pub mounts : PicturesMountAfter store view files port
+  pub doubted : IsDoubtLeft store view doubt

@@ -1,0 +1,89 @@
+//! A store that is served.
+
+ghost use Rattle.std.specs.Prelude.{◌≡◌, ◌+◌, ◌≤◌, [], vec_len, IfErr, IfOk, OnErr, OnOk};
+ghost use Rattle.std.specs.Vec.{vec_capacity};
+ghost use Rattle.object_calls.specs.OpenedStores.{IsStoreOf};
+ghost use Rattle.object_calls.specs.Serving.{ServesOpening};
+ghost use Rattle.object_calls.specs.Services.{IsService, ServiceValue};
+ghost use Rattle.object_calls.specs.Sessions.{AreSeated, AreUnseated};
+
+use crate::bench::FILES;
+use crate::opening::Opening;
+use crate::splitting::{SplitSlots, split_passes, split_slots};
+use call_history::{Journal, Session};
+use locked_gate::LockedGate;
+use locked_slots::LockedSlot;
+use rpmb_card::RpmbPort;
+use std::alloc::Global;
+use std::marker::Model;
+use store_model::History;
+use suppositions::StoreName;
+use tee_ports::{Entropy, StoreFile};
+
+/// A mounted store that is served: the gate, and a slot of each file of an object. `L` names the store.
+#[derive(Drop)]
+pub struct Service<F: StoreFile + Drop, R: RpmbPort + Drop, L: StoreName> {
+    pub(crate) gate: LockedGate<F, R, L>,
+    // The slot of file 1 first.
+    pub(crate) slots: Vec<LockedSlot<F, L>>,
+    // The key that the applications' keys come from.
+    pub(crate) storage_key: [u8; 32],
+    // Where all files go at the end: it has room for them, and no file.
+    pub(crate) room: Vec<F>,
+    pub(crate) alloc: Global,
+}
+
+impl<F: StoreFile + Drop, R: RpmbPort + Drop, L: StoreName> Model for Service<F, R, L> {
+    ghost use Rattle.std.specs.Prelude.{◌≡◌, ◌≤◌, vec_len};
+    ghost use Rattle.std.specs.Vec.{vec_capacity};
+    ghost use Rattle.object_calls.specs.Services.{IsService, ServiceValue};
+
+    ghost Value = { ServiceValue F R };
+
+    ghost view = { λ s. record { gate = s.gate; slots = s.slots.items; storage_key = s.storage_key } };
+
+    ghost invariant = { λ s. IsService L.store s.gate s.slots.items s.storage_key × (vec_len s.room ≡ 0) × (273 ≤ vec_capacity s.room) };
+}
+
+impl<F: StoreFile + Drop, R: RpmbPort + Drop> Opening<F, R> {
+    /// Serves the store: splits a seat for each file of an object, and gives each session its own.
+    ///
+    /// # Errors
+    ///
+    /// Memory ran out. The opening and the sessions are as they were.
+    pub fn serve<E: Entropy, L: StoreName>(
+        self,
+        sessions: &mut [Session<E>],
+    ) -> Result<Service<F, R, L>, Opening<F, R>>
+        requires store { IsStoreOf F.state R.state L.store self }
+        requires sessions { AreUnseated self.applications sessions.old }
+        ensures served { IfOk result (ServesOpening F.state L.store self) }
+        ensures seated { OnOk result (AreSeated L.store sessions.new) }
+        ensures refused { IfErr result (λ opening. opening ≡ self) }
+        ensures unseated { OnErr result (sessions.new ≡ sessions.old) }
+    {
+        let Ok(slots) = Vec::with_capacity(self.alloc, FILES - 1) else {
+            return Err(self)
+        };
+        let Opening {
+            gate,
+            files,
+            storage_key,
+            alloc,
+            table,
+            mut seat,
+            applications: _,
+        } = self;
+        let SplitSlots { slots, room } =
+            split_slots::<F, R, L>(&gate, &table, &mut seat, files, slots);
+        split_passes::<E, L>(&table, &mut seat, sessions);
+        let journal = Journal::new(table, seat, History::new(alloc));
+        Ok(Service {
+            gate: LockedGate::new(gate, journal),
+            slots,
+            storage_key,
+            room,
+            alloc,
+        })
+    }
+}
