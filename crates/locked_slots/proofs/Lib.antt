@@ -13,6 +13,7 @@ pub mod NextVersions
 pub mod MadeOver
 pub mod HonestPages
 pub mod HonestChanges
+pub mod MadeOverOwn
 pub mod StagedSlots
 pub mod ChangeAnswers
 pub mod NewObjects
