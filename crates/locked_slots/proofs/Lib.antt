@@ -18,3 +18,4 @@ pub mod StagedSlots
 pub mod ChangeAnswers
 pub mod NewObjects
 pub mod MadeSlots
+pub mod ToldFronts
