@@ -17,6 +17,7 @@ mod made;
 mod moves;
 mod noting;
 mod resolve;
+mod seats;
 mod show;
 mod slot_answer;
 pub mod told;
