@@ -4,6 +4,7 @@ ghost use Rattle.std.specs.Prelude.{◌≡◌, ℕ, true, IfOk, OnErr};
 ghost use Rattle.store_model.specs.Machine.{MachineState, session_at};
 ghost use Rattle.store_model.specs.Standing.{is_undone};
 ghost use Rattle.call_rules.specs.Matches.{Matches};
+ghost use Rattle.call_rules.specs.Plain.{IsPlain};
 ghost use Rattle.call_rules.specs.Told.{IsTold};
 ghost use Rattle.call_rules.specs.Nexts.{IsNextBy};
 
@@ -19,6 +20,7 @@ pub fn enum_new(session: &mut Session) -> Result<Reply, NoMemory>
     // A call that was not done leaves the session as it was.
     ensures undone { IfOk result (λ reply. is_undone reply ≡ true → session.new ≡ session.old) }
     ensures application { session.new.application ≡ session.old.application }
+    ensures plain { IfOk result IsPlain }
     ensures err { OnErr result (session.new ≡ session.old) }
 {
     match session.add_enumerator() {
@@ -35,6 +37,7 @@ pub fn enum_start<C: Catalog>(catalog: &C, session: &mut Session, number: u32) -
     // A call that was not done leaves the session as it was.
     ensures undone { is_undone result ≡ true → session.new ≡ session.old }
     ensures application { session.new.application ≡ session.old.application }
+    ensures plain { IsPlain result }
 {
     let Some(_live) = session.cursor(number) else {
         return Reply::Misuse(Reason::BadEnumerator);
@@ -65,6 +68,7 @@ pub fn enum_next<C: Catalog>(catalog: &C, session: &mut Session, number: u32) ->
     // A call that was not done leaves the session as it was.
     ensures undone { is_undone result ≡ true → session.new ≡ session.old }
     ensures application { session.new.application ≡ session.old.application }
+    ensures plain { IsPlain result }
 {
     let Some(cursor) = session.cursor(number) else {
         return Reply::Misuse(Reason::BadEnumerator);
@@ -85,6 +89,7 @@ pub fn enum_reset(session: &mut Session, number: u32) -> Reply
     // A call that was not done leaves the session as it was.
     ensures undone { is_undone result ≡ true → session.new ≡ session.old }
     ensures application { session.new.application ≡ session.old.application }
+    ensures plain { IsPlain result }
 {
     let Some(_live) = session.cursor(number) else {
         return Reply::Misuse(Reason::BadEnumerator);
@@ -99,6 +104,7 @@ pub fn enum_free(session: &mut Session, number: u32) -> Reply
     // A call that was not done leaves the session as it was.
     ensures undone { is_undone result ≡ true → session.new ≡ session.old }
     ensures application { session.new.application ≡ session.old.application }
+    ensures plain { IsPlain result }
 {
     let Some(_live) = session.cursor(number) else {
         return Reply::Misuse(Reason::BadEnumerator);
