@@ -1,0 +1,35 @@
+//! What a slot does with its stage once its commit has ended.
+
+ghost use Rattle.std.specs.Prelude.{◌≡◌, None};
+ghost use Rattle.locked_slots.specs.LockedSlots.{IsLockedSlot};
+ghost use Rattle.object_commits.specs.EndLaws.{IsEndedSlot};
+ghost use Rattle.object_commits.specs.Ends.{slot_behind};
+
+use history_seats::SlotSeat;
+use object_slots::Slot;
+use store_commit::CommitEnd;
+use suppositions::StoreName;
+use tee_ports::StoreFile;
+
+/// Gives a slot its seat back, and ends its change as the gate ended the commit, whose event stands at that place: the stage is adopted where
+/// the commit was made, given up where it was not, and kept while it is in doubt. The slot may stand behind its lock then.
+pub fn settle_slot<F: StoreFile + Drop, L: StoreName>(
+    slot: &mut Slot<F>,
+    seat: SlotSeat,
+    end: CommitEnd,
+    place: u64,
+)
+    requires lent { slot.old.seat ≡ None }
+    requires ended { IsEndedSlot L.store slot.old seat end place }
+    ensures slot { slot.new ≡ slot_behind slot.old seat end place }
+    ensures locked { IsLockedSlot L.store slot.new }
+{
+    slot.give_seat(seat);
+    // Until the end is looked at the change is in doubt.
+    slot.hold_doubt(place);
+    match end {
+        CommitEnd::Made(_) => slot.adopt(),
+        CommitEnd::Doubtful(..) => {}
+        CommitEnd::Dropped(_) | CommitEnd::Spent => slot.drop_stage(),
+    }
+}
