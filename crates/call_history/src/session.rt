@@ -48,6 +48,7 @@ impl<E> Model for Session<E> {
 
 impl<E: Entropy> Session<E> {
     ghost use Rattle.std.specs.Borrow.{Lends, sem};
+    ghost use Rattle.store_model.specs.contracts.session.Session.{the_row as state_row};
     ghost use Rattle.call_history.specs.contracts.session.Session.{the_row};
     ghost use Rattle.store_model.specs.contracts.session.Session.{the_row as state_row};
 
@@ -157,6 +158,21 @@ impl<E: Entropy> Session<E> {
         ensures { self.new ≡ record self.old { made = self.old.made + 1 } }
     {
         self.made += 1;
+    }
+
+    /// The machine's session.
+    pub fn state(&self) -> &SessionState
+        ensures { result.now ≡ self.now.state }
+    {
+        &self.state
+    }
+
+    /// The machine's session, which a call moves.
+    pub fn state_mut(&mut self) -> &mut SessionState
+        ensures value { result.now ≡ self.old.state }
+        ensures* writes_back { sem 𝓛 (Lends (the_row E.row) state_row self.entry result (λ w. record self.old { state = w })) }
+    {
+        &mut self.state
     }
 
     /// What it draws random bytes from.

@@ -3,6 +3,7 @@
 ghost use Rattle.std.specs.Prelude.{◌≡◌, ◌+◌, ◌≤◌, ℕ, [], ◌∷◌, true, false, Some, pos, ◌+ℤ◌, int_lt, IfSome, IsNone, MatchOption};
 ghost use Rattle.store_model.specs.Object.{Contents};
 ghost use Rattle.store_model.specs.Machine.{MachineState, first_refusal};
+ghost use Rattle.store_model.specs.Standing.{is_undone};
 ghost use Rattle.store_model.specs.Data.{at_least_zero, read_from, seek_base, spoils, range_resized, range_written, truncate_from, truncate_refusals, write_from, write_refusals};
 ghost use Rattle.call_rules.specs.Matches.{Matches};
 ghost use Rattle.call_rules.specs.Told.{IsTold};
@@ -143,8 +144,11 @@ pub fn seek<C: Catalog>(
     offset: i64,
     whence: Whence,
 ) -> Reply
-    ensures { (s : MachineState) (i : ℕ) → Matches (C.entries catalog.now) (C.handles catalog.now) session.old s i
+    ensures told { (s : MachineState) (i : ℕ) → Matches (C.entries catalog.now) (C.handles catalog.now) session.old s i
         → IsTold s i (Call.Seek number offset whence) result session.new }
+    // A call that was not done leaves the session as it was.
+    ensures undone { is_undone result ≡ true → session.new ≡ session.old }
+    ensures application { session.new.application ≡ session.old.application }
 {
     let Some(found) = open_object(catalog, session, number) else {
         return Reply::Misuse(Reason::BadHandle);

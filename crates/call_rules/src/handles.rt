@@ -3,6 +3,7 @@
 ghost use Rattle.std.specs.Prelude.{◌≡◌, ℕ, true, Some, IfSome};
 ghost use Rattle.dir_index.specs.Index.{named};
 ghost use Rattle.store_model.specs.Machine.{MachineState, session_at, name_in, first_refusal, has_all_handles};
+ghost use Rattle.store_model.specs.Standing.{is_undone};
 ghost use Rattle.store_model.specs.Handles.{create_refusals, open_refusals};
 ghost use Rattle.store_model.specs.Refusal.{is_refusal};
 ghost use Rattle.store_model.specs.Files.{is_misuse};
@@ -150,7 +151,10 @@ pub fn open<C: Catalog>(
 
 /// TEE_CloseObject: what it is answered. Where it is done, the handle is gone.
 pub fn close(session: &mut Session, number: u32) -> Reply
-    ensures { (s : MachineState) (i : ℕ) → session_at s i ≡ session.old → IsTold s i (Call.Close number) result session.new }
+    ensures told { (s : MachineState) (i : ℕ) → session_at s i ≡ session.old → IsTold s i (Call.Close number) result session.new }
+    // A call that was not done leaves the session as it was.
+    ensures undone { is_undone result ≡ true → session.new ≡ session.old }
+    ensures application { session.new.application ≡ session.old.application }
 {
     let Some(_live) = session.handle(number) else {
         return Reply::Misuse(Reason::BadHandle);
