@@ -13,3 +13,4 @@ pub mod FairCommits
 pub mod CommitEnds
 pub mod CommitGates
 pub mod DoneMoves
+pub mod Seating
