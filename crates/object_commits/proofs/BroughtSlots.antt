@@ -12,7 +12,7 @@ use Rattle.locked_slots.specs.KnownFor.{own_version}
 use Rattle.locked_slots.specs.LockedSlots.{IsContentOf, IsLockedSlot}
 use Rattle.locked_slots.specs.Objects.{IsObjectOf, IsOfVersion}
 use Rattle.node_image.specs.declared.node.RootRef.{RootRef}
-use Rattle.object_commits.specs.BroughtSlots.{ShownSeatsSeeWhole, StagedSlotsAreBrought}
+use Rattle.object_commits.specs.BroughtSlots.{ShownSeatsSeeWhole, StagedSlotsAreBrought, StagesAreVersions}
 use Rattle.object_file.specs.Changes.{adopted}
 use Rattle.object_slots.specs.Value.{HasStage, HeldObject, Holding, IsHolding, SlotValue, free, live, made, staged, with_stage, without_stage}
 use Rattle.store_model.specs.Record.{concerns_file}
@@ -39,6 +39,12 @@ next_object keys file (made o) next has after =
 next_object keys file (staged o s) next has after =
     let object = object_after keys file (adopted o s) next after in
     record { object = adopted o s; is = refl; of_next = object; bit = λ holding. subst (λ (r : RootRef). r.version < 2) (sym object.root) holding.2 }
+
+pub stages_versions : StagesAreVersions
+stages_versions store slot v change root stages holding =
+    let left = stages.leaves in
+    let object = next_object store.keys slot.file slot.holds left.0 left.1.has left.1.after in
+    (left.0, left.1, record { follows = left.2; real = object.of_next.real; bit = object.bit holding; spared = stages.corrupt })
 
 -- a slot behind its lock, whose view gives a version that no doubt touches, holds what is of that
 pub holding_given : (store : Store) (slot : SlotValue) (holds : Holding) (seat : Sight SlotView) (version : Option Version) → IsLockedSlot store (record slot { seat = Some seat; holds = holds })

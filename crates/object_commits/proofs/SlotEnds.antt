@@ -7,6 +7,7 @@ use Rattle.core_parts.specs.SlotLaws.{IsNewlyKnown}
 use Rattle.crash_core.specs.EntryChanges.{Clear, EntryChange, Put}
 use Rattle.dir_records.specs.declared.entry.DirEntry.{DirEntry}
 use Rattle.disk_model.specs.State.{FileState}
+use Rattle.gate_ties.proofs.CommitTags.{commit_tagged}
 use Rattle.gate_ties.proofs.LegalCommits.{commits_legal}
 use Rattle.gate_ties.proofs.LegalEvents.{unmade_legal}
 use Rattle.gate_ties.proofs.RightTags.{commits_right}
@@ -25,16 +26,16 @@ use Rattle.history_seats.specs.Settling.{Pending, calm, dropped, open_from, sett
 use Rattle.history_seats.specs.Tags.{HasRightTag}
 use Rattle.history_seats.specs.Versions.{version_of}
 use Rattle.history_seats.specs.Views.{GateView, Sight, SlotView}
-use Rattle.locked_gate.proofs.CommitTags.{commit_tagged}
 use Rattle.locked_gate.proofs.ReadyCommits.{unmade_tag}
 use Rattle.locked_gate.specs.Commits.{IsDueUnder, IsReadyCommit, call_record, made_versions, tag_of, unmade_versions}
+use Rattle.locked_gate.specs.Ends.{end_event, mark_told, reply_told, versions_told}
 use Rattle.locked_gate.specs.LockedGates.{change_in_doubt}
 use Rattle.locked_slots.proofs.OwnRecords.{doubtful_keep, made_keep, own_after}
 use Rattle.locked_slots.specs.KnownFor.{own_version}
 use Rattle.locked_slots.specs.LockedSlots.{IsContentOf, IsLockedSlot, IsSlotOf}
 use Rattle.locked_slots.specs.OwnEvents.{IsOwnEvent, own_record, seat_after}
 use Rattle.object_commits.specs.EndLaws.{CommitsEndSlots, EndedSlotsAreLocked}
-use Rattle.object_commits.specs.Ends.{IsEndAt, event_of_end, mark_of_end, reply_of_end, slot_behind, versions_of_end}
+use Rattle.object_commits.specs.Ends.{IsEndAt, slot_behind}
 use Rattle.object_slots.specs.Value.{SlotValue, with_stage, without_stage}
 use Rattle.store_commit.specs.declared.change.CommitEnd.{CommitEnd}
 use Rattle.store_commit.specs.declared.change.CommitEnd.TheVariants.{Doubtful as DoubtfulEnd, Dropped, Made as MadeEnd, Spent}
@@ -112,7 +113,7 @@ module _ (store : Store) (knows : GateView) (entries : List (Option DirEntry)) (
     next_number n is low = subst (λ (k : ℕ). k < 2 ^ 32) is low
 
     pub end_legal : (end : CommitEnd) → IsEndAt counter end
-        → IsLegalAt store guess knows.all (call_record session number call (reply_of_end reply end) (mark_of_end end) slot (versions_of_end versions end))
+        → IsLegalAt store guess knows.all (call_record session number call (reply_told end reply) (mark_told end) slot (versions_told end versions))
     end_legal (MadeEnd n) at_end =
         subst (λ (k : ℕ). IsLegalAt store guess knows.all (call_record session number call reply (Made k) slot (made_versions versions))) (sym at_end.0)
         ((commits_legal store guess knows entries counter None tied session number call change named known (next_number n at_end.0 at_end.1)).made made_under refl reply due.replied)
@@ -122,7 +123,7 @@ module _ (store : Store) (knows : GateView) (entries : List (Option DirEntry)) (
     end_legal (Dropped cause) none = unmade_end (NotAvailable cause) tt none
     end_legal Spent last = unmade_end (CounterSpent 4294967295) (refl, tied.counter guess answered ∙ last) refl
 
-  pub end_right : (end : CommitEnd) → HasRightTag store.mounted knows.all (call_record session number call (reply_of_end reply end) (mark_of_end end) slot (versions_of_end versions end))
+  pub end_right : (end : CommitEnd) → HasRightTag store.mounted knows.all (call_record session number call (reply_told end reply) (mark_told end) slot (versions_told end versions))
   end_right (MadeEnd n) = (commits_right store knows entries counter None session number call reply n named change tied).made made_commit refl
   end_right (DoubtfulEnd n cause) =
       (commits_right store knows entries counter None session number call (NotAvailable cause) n (tag_of slot versions) change tied).doubtful ready.commit ready.given
@@ -131,7 +132,7 @@ module _ (store : Store) (knows : GateView) (entries : List (Option DirEntry)) (
 
 -- the version that an end makes known is the one that the commit leaves
 newly_left : (session number : ℕ) (call : Call) (reply : Reply) (versions : TagVersions) (end : CommitEnd) (v : Version)
-    → IsNewlyKnown (event_of_end session number call reply end) (versions_of_end versions end) v → versions.doubted ≡ Some v
+    → IsNewlyKnown (end_event end session number call reply) (versions_told end versions) v → versions.doubted ≡ Some v
 newly_left session number call reply versions (MadeEnd n) v known = known
 newly_left session number call reply versions (DoubtfulEnd n cause) v known = known
 newly_left session number call reply versions (Dropped cause) v known = absurd known
@@ -157,7 +158,7 @@ commits_end F R E store gate knows closing caller call reply change slot seat ve
         fits = sees.fits;
         on_a_call = refl;
         right =
-            subst (λ (m : Mounted). HasRightTag m knows.all (call_record caller.number caller.made call (reply_of_end reply end) (mark_of_end end) seat.knows (versions_of_end versions end))) (sym own.mounted)
+            subst (λ (m : Mounted). HasRightTag m knows.all (call_record caller.number caller.made call (reply_told end reply) (mark_told end) seat.knows (versions_told end versions))) (sym own.mounted)
             (end_right store knows gate.dir.dir.entries gate.counter caller.number caller.made call reply change seat.knows versions locked.journal tied calm.caller.session.known commit.ready end);
         real = λ v known. brought.real v (newly_left caller.number caller.made call reply versions end v known);
         stands = λ honest v known. brought.stands honest v (newly_left caller.number caller.made call reply versions end v known);
@@ -238,8 +239,8 @@ ended_locked store slot seat end place ended =
         }
 
     by_end : (e : CommitEnd)
-        → IsOwnEvent store ended.knows slot.number slot.file ended.was (event_of_end ended.session ended.number ended.call ended.reply e) (versions_of_end ended.versions e)
-        → IsLockedSlot store (slot_behind slot (seat_after ended.knows ended.was (event_of_end ended.session ended.number ended.call ended.reply e) (versions_of_end ended.versions e)) e (length (ended.knows).all))
+        → IsOwnEvent store ended.knows slot.number slot.file ended.was (end_event e ended.session ended.number ended.call ended.reply) (versions_told e ended.versions)
+        → IsLockedSlot store (slot_behind slot (seat_after ended.knows ended.was (end_event e ended.session ended.number ended.call ended.reply) (versions_told e ended.versions)) e (length (ended.knows).all))
     by_end (MadeEnd n) event =
         made_keep store ended.knows slot ended.was (CallEvent ended.session ended.number ended.call ended.reply (Made n)) (made_versions ended.versions) n (with_stage slot.holds) own event refl ended.brought.after
     by_end (DoubtfulEnd n cause) event =

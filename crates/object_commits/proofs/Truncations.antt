@@ -72,7 +72,7 @@ module _ {F R E : Type 0} (store : Store) (gate : GateValue F R) (knows : GateVi
   resizes = ap (resize_of v.size) staged.follows.size
 
   over : IsMadeOverGiven store.keys v next (resize_of v.size next.size)
-  over = subst (IsMadeOverGiven store.keys v next) (sym resizes) staged.over
+  over = subst (IsMadeOverGiven store.keys v next) (sym resizes) staged.follows.over
 
   -- Under a supposition.
   module _ (guess : Guess) (answered : AreAnswered store guess knows.all) where

@@ -93,7 +93,7 @@ module _ {F R E : Type 0} (store : Store) (gate : GateValue F R) (knows : GateVi
     abbrev given : IsGivenAt store guess knows.all (call_record caller.number caller.made write Done (Made 0) slot versions)
     given =
         given_call store gate knows closing caller handle found slot v at_object guess answered write Done (Made 0) versions found.handle.position refl
-        (sym (ap position_of live)) staged.over.0
+        (sym (ap position_of live)) staged.follows.over.0
 
     due_write : IsDueUnder store guess knows.all caller.number write Done (Put found.held.index (changed_entry e next)) (tag_of slot versions)
         ⊎ EndsUnder store guess knows.all caller.number caller.made write slot
@@ -101,7 +101,7 @@ module _ {F R E : Type 0} (store : Store) (gate : GateValue F R) (knows : GateVi
         due_or_end store gate knows closing caller handle found slot v at_object next staged.follows.app staged.follows.attributes staged.real staged.bit few write tt makes guess answered on_write Done (Made 0) given
         (writes_due store guess knows.all (call_record caller.number caller.made write Done (Made 0) slot versions) given (version_real store gate knows closing caller handle found slot v at_object)
         (mapped_here store gate knows closing caller handle found slot v at_object guess answered) next handle bytes refl
-        (record { handle = found.handle; live = live }, may.right, may.some, low, fits) staged.follows.size staged.over.1)
+        (record { handle = found.handle; live = live }, may.right, may.some, low, fits) staged.follows.size staged.follows.over.1)
 
     -- Over an honest file.
     module _ (now : IsTrue file.honest) (honest : is_in slot.file guess.dishonest ≡ false) where

@@ -1,5 +1,5 @@
 -- The slot of a commit that is brought to the gate.
-use Rattle.std.specs.Prelude.{IsTrue, None, Option, Some, ◌≡◌}
+use Rattle.std.specs.Prelude.{IsTrue, None, Ok, Option, Some, ◌≡◌}
 use Rattle.core_parts.specs.SlotParts.{VersionStands}
 use Rattle.history_seats.specs.Changes.{TagVersions, slot_renewed, together}
 use Rattle.history_seats.specs.Records.{Version}
@@ -9,9 +9,10 @@ use Rattle.history_seats.specs.Views.{GateView, PassView, Sight, SlotView}
 use Rattle.locked_slots.specs.KnownFor.{own_version}
 use Rattle.locked_slots.specs.LockedSlots.{IsLockedSlot}
 use Rattle.locked_slots.specs.Objects.{IsOfVersion}
-use Rattle.locked_slots.specs.Stages.{IsStagedSlot}
-use Rattle.object_commits.specs.StagedVersions.{change_versions}
-use Rattle.object_slots.specs.Value.{SlotValue, with_stage, without_stage}
+use Rattle.locked_slots.specs.Stages.{IsStagedSlot, StagesVersion, VersionChange}
+use Rattle.node_image.specs.declared.node.RootRef.{RootRef}
+use Rattle.object_commits.specs.StagedVersions.{IsStagedVersion, change_versions}
+use Rattle.object_slots.specs.Value.{IsHolding, SlotValue, with_stage, without_stage}
 use Rattle.suppositions.specs.Spellings.{IsReal}
 use Rattle.suppositions.specs.Stores.{Store}
 
@@ -42,3 +43,9 @@ abbrev pub ShownSeatsSeeWhole : Type 0
 ShownSeatsSeeWhole =
     (knows : GateView) (seat : Sight SlotView) (pass : Option PassView) → Agrees (together knows (Some seat.knows) pass)
     → SeesWhole knows (record seat { knows = slot_renewed knows seat.knows })
+
+-- A change that was staged left such a version, of which the slot has the stage.
+abbrev pub StagesAreVersions : Type 0
+StagesAreVersions =
+    (store : Store) (slot : SlotValue) (v : Version) (change : VersionChange) (root : RootRef) → StagesVersion store slot v change (Ok root) → IsHolding slot.holds
+    → (next : Version) × IsStagedSlot store slot next × IsStagedVersion store.keys slot.file v next change root

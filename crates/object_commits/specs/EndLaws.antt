@@ -5,12 +5,13 @@ use Rattle.crash_core.specs.EntryChanges.{EntryChange}
 use Rattle.history_seats.specs.Changes.{TagVersions, slot_renewed}
 use Rattle.history_seats.specs.Views.{GateView, Sight, SlotView}
 use Rattle.locked_gate.specs.Commits.{IsCalm}
+use Rattle.locked_gate.specs.Ends.{end_event, versions_told}
 use Rattle.locked_gate.specs.LockedGates.{IsLockedGate}
 use Rattle.locked_gate.specs.declared.gate.Closing.{Closing}
 use Rattle.locked_slots.specs.LockedSlots.{IsLockedSlot}
 use Rattle.locked_slots.specs.OwnEvents.{IsOwnEvent, seat_after}
 use Rattle.object_commits.specs.BroughtSlots.{IsBroughtSlot, SeesWhole}
-use Rattle.object_commits.specs.Ends.{IsEndAt, event_of_end, slot_behind, versions_of_end}
+use Rattle.object_commits.specs.Ends.{IsEndAt, slot_behind}
 use Rattle.object_commits.specs.SlotCommits.{IsSlotCommit}
 use Rattle.object_slots.specs.Value.{SlotValue}
 use Rattle.store_commit.specs.Gates.{GateValue}
@@ -30,8 +31,8 @@ pub record IsEndedSlot (store : Store) (slot : SlotValue) (seat : Sight SlotView
   pub versions : TagVersions
   pub brought : IsBroughtSlot store slot was versions
   pub whole : slot_renewed knows was.knows ≡ was.knows
-  pub event : IsOwnEvent store knows slot.number slot.file was (event_of_end session number call reply end) (versions_of_end versions end)
-  pub sees : seat ≡ seat_after knows was (event_of_end session number call reply end) (versions_of_end versions end)
+  pub event : IsOwnEvent store knows slot.number slot.file was (end_event end session number call reply) (versions_told end versions)
+  pub sees : seat ≡ seat_after knows was (end_event end session number call reply) (versions_told end versions)
   pub at : place ≡ length knows.all
 
 -- So does each end of a commit that was brought with its slot.
@@ -41,7 +42,7 @@ CommitsEndSlots F R E =
     (versions : TagVersions) (end : CommitEnd) → IsLockedGate store gate knows closing → gate.doubt ≡ None → IsCalm store knows caller
     → IsSlotCommit store knows gate.dir.dir.entries gate.counter caller.number caller.made call reply change slot.file seat.knows versions → IsBroughtSlot store slot seat versions
     → SeesWhole knows seat → IsEndAt gate.counter end
-    → IsEndedSlot store slot (seat_after knows seat (event_of_end caller.number caller.made call reply end) (versions_of_end versions end)) end (length knows.all)
+    → IsEndedSlot store slot (seat_after knows seat (end_event end caller.number caller.made call reply) (versions_told end versions)) end (length knows.all)
 
 -- Behind it the slot may stand behind its lock.
 abbrev pub EndedSlotsAreLocked : Type 0

@@ -1,6 +1,6 @@
 //! Laws of commits that are brought with a slot. Each function does nothing: its contract is the law.
 
-ghost use Rattle.object_commits.specs.BroughtSlots.{ShownSeatsSeeWhole, StagedSlotsAreBrought};
+ghost use Rattle.object_commits.specs.BroughtSlots.{ShownSeatsSeeWhole, StagedSlotsAreBrought, StagesAreVersions};
 ghost use Rattle.object_commits.specs.ChangeLaws.{TruncationsMayCommit, WritesMayCommit};
 ghost use Rattle.object_commits.specs.CreateLaws.{CreatesMayCommit, NewSeatsAreLocked, NewSlotsAreBrought};
 ghost use Rattle.object_commits.specs.EndLaws.{CommitsEndSlots, EndedSlotsAreLocked};
@@ -55,6 +55,12 @@ pub fn handles_are_own<E: Entropy>()
 #[tactic(auto, using(crate::proofs::WholeSlots::whole_brought))]
 pub fn whole_slots_are_brought()
     ensures { WholeSlotsAreBrought }
+{}
+
+/// A change that was staged, whatever its object's file is, left a version that may be brought to the gate.
+#[tactic(auto, using(crate::proofs::BroughtSlots::stages_versions))]
+pub fn stages_are_versions()
+    ensures { StagesAreVersions }
 {}
 
 /// A slot with a stage is brought to the gate as a commit wants it.

@@ -11,7 +11,7 @@ mod settling;
 pub use laws::{
     commits_end_slots, creates_may_commit, deletes_may_commit, ended_slots_are_locked,
     handles_are_own, new_seats_are_locked, new_slots_are_brought, renames_may_commit,
-    shown_seats_see_whole, staged_slots_are_brought, truncations_may_commit,
+    shown_seats_see_whole, staged_slots_are_brought, stages_are_versions, truncations_may_commit,
     whole_slots_are_brought, writes_may_commit,
 };
 pub use settling::settle_slot;
