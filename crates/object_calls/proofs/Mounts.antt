@@ -1,6 +1,7 @@
 -- A bench that is mounted, or refused.
 use Rattle.std.proofs.Common.{◌≡◌, ◌∙◌, ◌<◌, ◌≤◌, ℕ, List, [], ◌∷◌, length, Option, Some, None, refl, sym, ap, subst, arith}
 use Rattle.disk_model.specs.State.{FileState, Sound, pending}
+use Rattle.atomic_table.specs.Seated.{TableId}
 use Rattle.hmac_keys.specs.declared.Keys.{Keys}
 use Rattle.hmac_keys.specs.KeyTable.{dir_tsk, ssk}
 use Rattle.rpmb_card.specs.Port.{PortState}
@@ -65,7 +66,7 @@ module _ {F : Type 0} (state : F → FileState) (old new : List F) (p0 p1 : Port
 
 -- THE OPENING
 module _ {F R : Type 0} (state : F → FileState) (port : R → PortState) (old : FileState) (p0 : PortState) (keys : Keys) (g : GateValue F R) (files : List F) (was : ℕ → FileState) (storage_key : List ℕ)
-    (opens : OpensGate old p0 keys (gate_sides state port g)) (key : storage_key ≡ ssk keys.huk keys.chip) where
+    (opens : OpensGate old p0 keys (gate_sides state port g)) (key : storage_key ≡ ssk keys.huk keys.chip) (table : TableId) where
   pub opening_of : g.doubt ≡ None → g.open_handles.records ≡ [] → ((session : ℕ) → file_held g.holds session ≡ None) → length files ≡ 272
       → SyncsNamed g.dir.dir.entries 256 was (object_files state files) → IsOpening state g files storage_key
   opening_of idle unopened unheld whole syncs = record {
@@ -82,7 +83,7 @@ module _ {F R : Type 0} (state : F → FileState) (port : R → PortState) (old 
   }
 
   abbrev o : OpeningValue F R
-  o = record { gate = g; files = files; storage_key = storage_key }
+  o = record { gate = g; files = files; storage_key = storage_key; table = table; applications = [] }
 
   pub keyed_of : IsKeyed keys o
   keyed_of = record { storage = key; card = opens.key_is }

@@ -9,3 +9,4 @@ pub mod Reads
 pub mod Next
 pub mod Arming
 pub mod Refusals
+pub mod Seats

@@ -1,6 +1,7 @@
 -- What a contract sees of a store that is mounted.
 use Rattle.std.specs.Prelude.{◌≡◌, ℕ, List, [], ◌∷◌, length, Option, Some, None}
 use Rattle.disk_model.specs.State.{FileState, pending}
+use Rattle.atomic_table.specs.Seated.{TableId}
 use Rattle.hmac_keys.specs.declared.Keys.{Keys}
 use Rattle.hmac_keys.specs.KeyTable.{dir_tsk, rpmb_key, ssk}
 use Rattle.dir_records.specs.declared.entry.DirEntry.{DirEntry}
@@ -17,6 +18,10 @@ pub record OpeningValue (F R : Type 0) : Type 0 where
   pub files : List F
   -- the key that the keys of the directory and of the applications come from (SSK)
   pub storage_key : List ℕ
+  -- the table of the phase's history
+  pub table : TableId
+  -- the applications of the sessions, by their numbers
+  pub applications : List (List ℕ)
 
 -- all files, by their numbers
 abbrev pub bench_files : {F R : Type 0} → (F → FileState) → OpeningValue F R → ℕ → FileState

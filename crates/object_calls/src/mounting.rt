@@ -1,6 +1,6 @@
 //! Mounting a store.
 
-ghost use Rattle.std.specs.Prelude.{◌≡◌, vec_len, IfErr, IfOk};
+ghost use Rattle.std.specs.Prelude.{◌≡◌, [], vec_len, IfErr, IfOk};
 ghost use Rattle.store_commit.specs.Gates.{gate_sides};
 ghost use Rattle.store_commit.specs.Mounts.{LeavesDevices, OpensGate};
 ghost use Rattle.object_calls.specs.Begins.{IsWholeOpening, MountsAsRead};
@@ -12,6 +12,7 @@ ghost use Rattle.object_calls.specs.Syncing.{SyncsNamed};
 use crate::bench::{Bench, Halted, take_dir, with_dir};
 use crate::opening::Opening;
 use crate::syncing::sync_named;
+use history_seats::HistoryTable;
 use hmac_keys::{Keys, ssk};
 use rpmb_card::RpmbPort;
 use std::alloc::Global;
@@ -37,6 +38,7 @@ pub fn mount<F: StoreFile + Drop, R: RpmbPort + Drop, E: Entropy>(
     ensures keyed { IfOk result (λ o. IsKeyed keys.now o) }
     ensures mounted { IfOk result (λ o. MountsAsRead F.state (files_of F.state bench.files.items 0) (R.state bench.card) keys.now o) }
     ensures opens { IfOk result (λ o. IsWholeOpening F.state R.state o) }
+    ensures unopened { IfOk result (λ o. o.applications ≡ []) }
     ensures refused { IfErr result (λ h. BenchRefused F.state bench.files.items h.bench.files.items (R.state bench.card) (R.state h.bench.card) keys.now
         (E.faults entropy.old) (E.faults entropy.new) h.fault) }
     ensures leaves { IfErr result (λ h. LeavesDevices (files_of F.state bench.files.items 0) (files_of F.state h.bench.files.items 0)
@@ -44,6 +46,10 @@ pub fn mount<F: StoreFile + Drop, R: RpmbPort + Drop, E: Entropy>(
     ensures whole { IfErr result (λ h. vec_len h.bench.files ≡ 273) }
     ensures reliable { E.is_reliable entropy.old → E.is_reliable entropy.new }
 {
+    let Ok((table, seat)) = HistoryTable::make(alloc) else {
+        let fault = MountFault::NoMemory;
+        return Err(Halted { bench, fault });
+    };
     let Bench { files, card } = bench;
     let (dir, mut others) = take_dir(files);
     let gate = match Gate::mount(alloc, dir, card, keys, entropy) {
@@ -55,7 +61,7 @@ pub fn mount<F: StoreFile + Drop, R: RpmbPort + Drop, E: Entropy>(
         }
     };
     match sync_named(&mut others, &gate) {
-        Ok(()) => Ok(Opening::new(alloc, gate, others, ssk(keys))),
+        Ok(()) => Ok(Opening::new(alloc, gate, others, ssk(keys), table, seat)),
         Err(cause) => {
             let (dir, card) = gate.close();
             let files = with_dir(dir, others);

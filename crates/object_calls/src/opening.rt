@@ -1,20 +1,23 @@
 //! A store that is mounted.
 
-ghost use Rattle.std.specs.Prelude.{◌≡◌, ◌<◌, ◌∷◌, ℕ, length, vec_len, is_some, count_by};
+ghost use Rattle.std.specs.Prelude.{◌≡◌, ◌<◌, [], ◌∷◌, ℕ, length, vec_len, is_some, count_by};
 ghost use Rattle.std.specs.Vec.{vec_capacity};
 ghost use Rattle.hmac_keys.specs.declared.Keys.{Keys};
 ghost use Rattle.crash_core.specs.Opening.{opening_map};
 ghost use Rattle.object_calls.specs.Begins.{IsWholeOpening};
 ghost use Rattle.object_calls.specs.Opening.{IsOpening, bench_files, entries_in};
+ghost use Rattle.object_calls.specs.Seats.{IsUnused};
 
 use crate::bench::{Bench, with_dir};
+use history_seats::{GateSeat, HistoryTable};
 use rpmb_card::RpmbPort;
 use std::alloc::Global;
 use std::marker::Model;
 use store_commit::Gate;
 use tee_ports::StoreFile;
+use tee_types::AppId;
 
-/// A store that is mounted, on one thread and without locks. No handle is open.
+/// A store that is mounted, on one thread and without locks, with the sessions that were opened on it. No handle is open.
 ///
 /// Nothing is pending on the directory's file, nor on a file that an entry of the directory names.
 #[derive(Drop)]
@@ -25,18 +28,31 @@ pub struct Opening<F: StoreFile + Drop, R: RpmbPort + Drop> {
     // The key that the applications' keys come from.
     pub(crate) storage_key: [u8; 32],
     pub(crate) alloc: Global,
+    // The table of the phase's history, and the gate's seat in it.
+    pub(crate) table: HistoryTable,
+    pub(crate) seat: GateSeat,
+    // The applications of the sessions, by their numbers.
+    pub(crate) applications: Vec<AppId>,
 }
 
 impl<F: StoreFile + Drop, R: RpmbPort + Drop> Model for Opening<F, R> {
-    ghost use Rattle.std.specs.Prelude.{◌<◌, vec_len};
+    ghost use Rattle.std.specs.Prelude.{◌<◌, ◌≤◌, vec_len};
     ghost use Rattle.std.specs.Vec.{vec_capacity};
     ghost use Rattle.object_calls.specs.Opening.{IsOpening, OpeningValue};
+    ghost use Rattle.object_calls.specs.Seats.{IsUnused};
 
     ghost Value = { OpeningValue F R };
 
-    ghost view = { λ o. record { gate = o.gate; files = o.files.items; storage_key = o.storage_key } };
+    ghost view = { λ o. record {
+      gate = o.gate;
+      files = o.files.items;
+      storage_key = o.storage_key;
+      table = o.table;
+      applications = o.applications.items;
+    } };
 
-    ghost invariant = { λ o. IsOpening F.state o.gate o.files.items o.storage_key × (vec_len o.files < vec_capacity o.files) };
+    ghost invariant = { λ o. IsOpening F.state o.gate o.files.items o.storage_key × (vec_len o.files < vec_capacity o.files)
+        × IsUnused o.table o.seat × (vec_len o.applications ≤ 16) };
 }
 
 // How many of the 256 entries of a gate's directory are not free.
@@ -52,22 +68,28 @@ fn count_entries<F: StoreFile + Drop, R: RpmbPort + Drop>(gate: &Gate<F, R>) -> 
 }
 
 impl<F: StoreFile + Drop, R: RpmbPort + Drop> Opening<F, R> {
-    // The opening of a gate that was mounted, and of the files that were synced.
+    // The opening of a gate that was mounted, and of the files that were synced. The seat is that of a new table.
     pub(crate) fn new(
         alloc: Global,
         gate: Gate<F, R>,
         files: Vec<F>,
         storage_key: [u8; 32],
+        table: HistoryTable,
+        seat: GateSeat,
     ) -> Opening<F, R>
         requires opening { IsOpening F.state gate files.items storage_key }
         requires room { vec_len files < vec_capacity files }
-        ensures { result ≡ record { gate = gate; files = files.items; storage_key = storage_key } }
+        requires unused { IsUnused table seat }
+        ensures { result ≡ record { gate = gate; files = files.items; storage_key = storage_key; table = table; applications = [] } }
     {
         Opening {
             gate,
             files,
             storage_key,
             alloc,
+            table,
+            seat,
+            applications: Vec::new(alloc),
         }
     }
 
@@ -93,6 +115,9 @@ impl<F: StoreFile + Drop, R: RpmbPort + Drop> Opening<F, R> {
             files,
             storage_key: _,
             alloc: _,
+            table: _,
+            seat: _,
+            applications: _,
         } = self;
         let (dir, card) = gate.close();
         let files = with_dir(dir, files);

@@ -10,6 +10,6 @@ returns-clause-opens g c =
     let state = g.F.StoreFile.state in
     let port = g.R.RpmbPort.state in
     let i = c.self.inside in
-    let o : OpeningValue g.row.F.Denot g.row.R.Denot = record { gate = i.gate; files = i.files.items; storage_key = i.storage_key } in
+    let o : OpeningValue g.row.F.Denot g.row.R.Denot = record { gate = i.gate; files = i.files.items; storage_key = i.storage_key; table = i.table; applications = i.applications.items } in
     let settled = subst (DoubtStands (gate_sides state port i.gate)) c.self.invariant.0.idle c.close-dir.ensures.stands in
     subst (IsWholeOpening state port) c.self.view_is (whole_opening state port g.met.F.StoreFile.sound o settled c.self.invariant.0)

@@ -39,6 +39,8 @@ invariant_of-self g c =
       subst (λ (l : List g.row.F.Denot). IsOpening state i.gate l i.storage_key) (sym filled)
           (stays_open state i.gate items i.storage_key c.self.invariant.0 i.gate new refl (many ∙ sym long) (reads_pending (files_of state (d ∷ items)) (files_of state (d ∷ new)) e.file one)),
       c.self.invariant.1,
+      c.self.invariant.2,
+      c.self.invariant.3,
     )
 
 pub returns-in_err-object-clause-answer : goal.returns-in_err-object-clause-answer
@@ -113,6 +115,8 @@ invariant_of-self-2 g c =
       subst (λ (l : List g.row.F.Denot). IsOpening state i.gate l i.storage_key) (sym filled)
           (stays_open state i.gate items i.storage_key c.self.invariant.0 i.gate new refl (many ∙ sym long) (reads_pending (files_of state (d ∷ items)) (files_of state (d ∷ new)) e.file one)),
       c.self.invariant.1,
+      c.self.invariant.2,
+      c.self.invariant.3,
     )
 
 pub returns-clause-answer : goal.returns-clause-answer

@@ -23,4 +23,6 @@ invariant_of-self g c =
       subst (λ (l : List g.row.F.Denot). IsOpening state n.gate l i.storage_key) (sym (refilled i.files.len i.files.items n.files long many))
           (stays_open state i.gate i.files.items i.storage_key c.self.invariant.0 n.gate n.files e.gate (many ∙ sym long) still),
       c.self.invariant.1,
+      c.self.invariant.2,
+      c.self.invariant.3,
     )

@@ -1,0 +1,5 @@
+pub mod ListedEntries
+pub mod OpeningMaps
+pub mod MountedViews
+pub mod FirstHandles
+pub mod MountedParts

@@ -1,0 +1,4 @@
+pub mod MountedEntries
+pub mod Generations
+pub mod MountedStores
+pub mod MountLaws
