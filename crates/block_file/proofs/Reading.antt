@@ -41,7 +41,7 @@ put_new pages k j page same = cond-true (j == k) page (pages j) (eq-eqb j k same
 module _ (key : List ℕ) (tree : Loaded) where
   -- a page that was read stays one as the calls go on
   pub page_first : (a b c : FileState) (k : ℕ) (page : List ℕ) → GoesOn b c → IsPage key tree a b k page → IsPage key tree a c k page
-  page_first a b c k page goes read = record { ciphertext = read.ciphertext; stands = λ told. read.stands (told_first a b c goes told); opens = read.opens }
+  page_first a b c k page goes read = record { ciphertext = read.ciphertext; stands = λ told. read.stands (told_first a b c goes told); opens = read.opens; long = read.long }
 
   -- a page that is read after calls that change nothing
   pub page_then : (a b c : FileState) (k : ℕ) (page : List ℕ) → Rests a b → GoesOn b c → IsPage key tree b c k page → IsPage key tree a c k page
@@ -49,6 +49,7 @@ module _ (key : List ℕ) (tree : Loaded) where
     ciphertext = read.ciphertext;
     stands = λ told. read.stands (told_then a b c rests.goes_on told) ∙ ap (λ (bytes : List ℕ). block_in bytes tree k) (rests.reads (first_known a b c goes told.1));
     opens = read.opens;
+    long = read.long;
   }
 
   pub was_first : (a b c : FileState) (k : ℕ) → GoesOn b c → WasRead key tree a b k → WasRead key tree a c k

@@ -1,5 +1,5 @@
 -- What reading blocks of a tree says, whatever the file is.
-use Rattle.std.specs.Prelude.{◌≡◌, ℕ, zero, suc, ◌+◌, ◌-◌, ◌/◌, ◌%◌, ◌<◌, List, get_or, Some, None, Bool, true, Result, Ok, Err, IsTrue}
+use Rattle.std.specs.Prelude.{◌≡◌, ℕ, zero, suc, ◌+◌, ◌-◌, ◌/◌, ◌%◌, ◌<◌, List, length, get_or, Some, None, Bool, true, Result, Ok, Err, IsTrue}
 use Rattle.disk_model.specs.Arms.{Arms, count_call}
 use Rattle.disk_model.specs.State.{FileState}
 use Rattle.node_image.specs.Tables.{at_node}
@@ -11,12 +11,13 @@ use Rattle.htree_file.specs.Standing.{Told}
 use Rattle.page_bytes.specs.declared.range.ByteRange.{ByteRange}
 use Rattle.page_bytes.specs.Ranges.{end_block, first_block, meets}
 
--- Block k was read as that page: a ciphertext with the tag of its node deciphers to it. Where the file is followed, it is the
--- one that stands there.
+-- Block k was read as that page of 4,096 bytes: a ciphertext with the tag of its node deciphers to it. Where the file is followed, it is
+-- the one that stands there.
 pub record IsPage (key : List ℕ) (tree : Loaded) (old new : FileState) (k : ℕ) (page : List ℕ) : Type 0 where
   pub ciphertext : List ℕ
   pub stands : Told old new → ciphertext ≡ block_in old.reads tree k
   pub opens : page_of key tree.head (at_node tree.nodes (k + 1)) k ciphertext ≡ Some page
+  pub long : length page ≡ 4096
 
 abbrev pub WasRead : (key : List ℕ) → Loaded → (old new : FileState) → (k : ℕ) → Type 0
 WasRead key tree old new k = (page : List ℕ) × IsPage key tree old new k page

@@ -31,14 +31,15 @@ use Rattle.suppositions.specs.Stores.{Store, standing_at, start_under}
 use Rattle.suppositions.specs.Answered.{AreAnswered, IsFairAt, IsFairHistory}
 use Rattle.suppositions.specs.CallLaws.{SessionGoesOn, session_renewed}
 use Rattle.suppositions.specs.Sessions.{Extends, IsSessionOf, SessionValue}
-use Rattle.suppositions.proofs.Answers.{answered-front, standing-snoc}
+use Rattle.suppositions.proofs.Answers.{answered-front, answered-last, standing-snoc}
 use Rattle.suppositions.proofs.CallSessions.{calls_extend}
 use Rattle.suppositions.proofs.SessionSteps.{doubtful_stands, made_stands, sessions_at, unchanged_stands}
 use Rattle.call_history.specs.declared.own_doubt.OwnDoubt.{OwnDoubt}
 use Rattle.call_history.specs.Sessions.{CallerSession, HasOwnDoubt, IsCallerOf, IsOwnDoubt, landed_by, landing_of_call, pending_of, renamed, session_value}
 use Rattle.call_history.specs.Shown.{SeesAll, pass_shown}
-use Rattle.call_history.specs.Calls.{DoubtfulCallsMove, HasMoved, IsHeldUp, IsMovedBy, IsToldAlone, MadeCallsMove, UnchangedCallsMove, alone_record, session_done, session_unless_undone}
+use Rattle.call_history.specs.Calls.{DoubtfulCallsMove, HasDone, HasMoved, IsHeldUp, IsMovedBy, IsToldAlone, MadeCallsMove, UnchangedCallsMove, alone_record, session_unless_undone}
 use Rattle.call_history.proofs.OwnDoubts.{longer-own}
+use Rattle.call_history.proofs.MadeCommits.{made_due}
 use Rattle.call_history.proofs.Showing.{some_same}
 
 none_some : {A : Type 0} (a : A) → None ≡ Some a → ⊥
@@ -231,18 +232,18 @@ module _ {E : Type 0} (store : Store) (gate : GateView) (r : HistoryRecord) (cal
   made-record : (mark : Mark) → r.event ≡ CallEvent s.number s.made call reply mark → record { event = CallEvent s.number s.made call reply mark; tag = r.tag } ≡ r
   made-record mark event = λ i. record { event = sym event i; tag = r.tag }
 
-  pub made-moves : (commit : ℕ) → r.event ≡ CallEvent s.number s.made call reply (Made commit) → s.doubt ≡ None → HasMoved store gate (session_done s.number call) s
-      → IsMovedBy store gate r s
+  pub made-moves : (commit : ℕ) → r.event ≡ CallEvent s.number s.made call reply (Made commit) → s.doubt ≡ None → HasDone store gate call s → IsMovedBy store gate r s
   made-moves commit event none moved = record {
     before = pending_of moved.before s.doubt;
     was = moved.was.session;
     application = moved.application ∙ moved.was.session.application;
     moves = λ guess answered.
+        let due = made_due store guess gate.all r s.number s.made call reply commit event (answered-last store guess gate.all r answered) in
         subst (λ (x : HistoryRecord). session_from gate.decided s.number (start_under store guess) (gate.all ++ x ∷ []) ≡ calm (session_at (standing_at store guess (gate.all ++ x ∷ [])).state s.number))
         (made-record (Made commit) event) (made_stands store guess gate.all s.number gate.decided s.number s.made call reply commit r.tag within)
         ∙ ap (λ (x : Session). calm x)
         (ap (λ (t : Standing). session_at t.state s.number) (behind (Made commit) guess event)
-        ∙ moved.moves guess (answered-front store guess gate.all (r ∷ []) answered))
+        ∙ moved.moves guess (answered-front store guess gate.all (r ∷ []) answered) due)
         ∙ ap (pending_of s.state) (sym none);
     doubt = λ doubt has. absurd (none_some doubt (sym none ∙ has));
   }

@@ -74,6 +74,19 @@ session_unless_undone session call reply s = session_at (state_unless_undone s.s
 abbrev pub session_done : (session : ℕ) → Call → Standing → Session
 session_done session call s = session_at (state_after s.state session call) session
 
+-- Wherever all is answered and the machine commits the session's call, that leaves it so.
+abbrev pub LeavesSession : Store → GateView → (session : ℕ) → Call → Session → Type 0
+LeavesSession store gate session call after =
+    (guess : Guess) → AreAnswered store guess gate.all → is_commit_due (standing_at store guess gate.all) session call ≡ true
+    → session_done session call (standing_at store guess gate.all) ≡ after
+
+-- The session was the store's with some other state, and is as such a commit leaves it.
+pub record HasDone {E : Type 0} (store : Store) (gate : GateView) (call : Call) (s : CallerSession E) : Type 0 where
+  pub before : Session
+  pub was : IsCallerOf store (record s { state = before })
+  pub application : s.state.application ≡ before.application
+  pub moves : LeavesSession store gate s.number call s.state
+
 -- A call that commits nothing leaves the session so; while its own commit is in doubt, the reply has to leave that.
 abbrev pub UnchangedCallsMove : (E : Type 0) → Type 0
 UnchangedCallsMove E =
@@ -85,8 +98,7 @@ UnchangedCallsMove E =
 abbrev pub MadeCallsMove : (E : Type 0) → Type 0
 MadeCallsMove E =
     (store : Store) (gate : GateView) (r : HistoryRecord) (call : Call) (reply : Reply) (commit : ℕ) (s : CallerSession E) → gate.decided ≤ length gate.all
-    → r.event ≡ CallEvent s.number s.made call reply (Made commit) → s.doubt ≡ None → HasMoved store gate (session_done s.number call) s
-    → IsMovedBy store gate r s
+    → r.event ≡ CallEvent s.number s.made call reply (Made commit) → s.doubt ≡ None → HasDone store gate call s → IsMovedBy store gate r s
 
 -- One whose commit is in doubt leaves it as it was, with that doubt.
 abbrev pub DoubtfulCallsMove : (E : Type 0) → Type 0

@@ -48,8 +48,8 @@ impl<E> Model for Session<E> {
 
 impl<E: Entropy> Session<E> {
     ghost use Rattle.std.specs.Borrow.{Lends, sem};
-    ghost use Rattle.call_history.specs.contracts.session.Session.{the_row};
     ghost use Rattle.store_model.specs.contracts.session.Session.{the_row as state_row};
+    ghost use Rattle.call_history.specs.contracts.session.Session.{the_row};
 
     /// The session of an application as it begins.
     pub fn new(
@@ -91,21 +91,6 @@ impl<E: Entropy> Session<E> {
         ensures { result ≡ self.now.state.application }
     {
         self.state.app()
-    }
-
-    /// The machine's session that it stands for: its handles and enumerators.
-    pub fn state(&self) -> &SessionState
-        ensures { result.now ≡ self.now.state }
-    {
-        &self.state
-    }
-
-    /// The same, to be changed as a call changes it.
-    pub fn state_mut(&mut self) -> &mut SessionState
-        ensures value { result.now ≡ self.old.state }
-        ensures* writes_back { sem 𝓛 (Lends (the_row E.row) state_row self.entry result (λ w. record self.old { state = w })) }
-    {
-        &mut self.state
     }
 
     /// Its own commit in doubt.

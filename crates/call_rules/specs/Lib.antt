@@ -1,5 +1,6 @@
 pub mod Matches
 pub mod Told
+pub mod Plain
 pub mod Decided
 pub mod Places
 pub mod Objects

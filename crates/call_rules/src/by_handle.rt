@@ -4,6 +4,7 @@ ghost use Rattle.std.specs.Prelude.{◌≡◌, ℕ, true, None, IfSome, IsNone};
 ghost use Rattle.store_model.specs.Machine.{MachineState, handle_at};
 ghost use Rattle.store_model.specs.Files.{is_misuse};
 ghost use Rattle.call_rules.specs.Matches.{Matches};
+ghost use Rattle.call_rules.specs.Plain.{IsPlain, IsRefused};
 ghost use Rattle.call_rules.specs.Decided.{IfAnswered, IfNeeds};
 ghost use Rattle.call_rules.specs.Objects.{IsOpenObject, IsRightful, RefusesRight};
 
@@ -37,6 +38,8 @@ pub(crate) fn rightful_object<C: Catalog>(
 ) -> Decision<OpenObject>
     ensures found { IfNeeds result (IsRightful (C.entries catalog.now) session.now number right) }
     ensures misuse { IfAnswered result (λ reply. is_misuse reply ≡ true) }
+    ensures refusal { IfAnswered result IsRefused }
+    ensures plain { IfAnswered result IsPlain }
     ensures refused { (s : MachineState) (i : ℕ) → Matches (C.entries catalog.now) (C.handles catalog.now) session.now s i
         → IfAnswered result (RefusesRight s right (handle_at session.now number)) }
 {

@@ -3,8 +3,10 @@
 ghost use Rattle.std.specs.Prelude.{◌≡◌, ◌+◌, ◌≤◌, ℕ, [], ◌∷◌, true, false, Some, pos, ◌+ℤ◌, int_lt, IfSome, IsNone, MatchOption};
 ghost use Rattle.store_model.specs.Object.{Contents};
 ghost use Rattle.store_model.specs.Machine.{MachineState, first_refusal};
+ghost use Rattle.store_model.specs.Standing.{is_undone};
 ghost use Rattle.store_model.specs.Data.{at_least_zero, read_from, seek_base, spoils, range_resized, range_written, truncate_from, truncate_refusals, write_from, write_refusals};
 ghost use Rattle.call_rules.specs.Matches.{Matches};
+ghost use Rattle.call_rules.specs.Plain.{IsPlain, IsRefused};
 ghost use Rattle.call_rules.specs.Told.{IsTold};
 ghost use Rattle.call_rules.specs.Decided.{IfAnswered, IfNeeds};
 ghost use Rattle.call_rules.specs.Objects.{IsOfObject, IsOpenObject, IsRightful, told_info};
@@ -26,6 +28,7 @@ pub fn read<C: Catalog>(catalog: &C, session: &Session, number: u32) -> Decision
         → IfNeeds result (λ found. IsOfObject s i (Call.Read number size) found.handle.name found.held.entry.size
         (read_from s i number size found.handle)) }
     ensures found { IfNeeds result (IsRightful (C.entries catalog.now) session.now number READ) }
+    ensures refused { IfAnswered result IsRefused }
 {
     rightful_object(catalog, session, number, READ)
 }
@@ -43,6 +46,7 @@ pub fn write<C: Catalog>(
         → IfNeeds result (λ found. IsOfObject s i (Call.Write number bytes.now) found.handle.name found.held.entry.size
         (write_from s i number bytes.now found.handle)) }
     ensures found { IfNeeds result (IsRightful (C.entries catalog.now) session.now number WRITE) }
+    ensures plain { IfAnswered result IsPlain }
 {
     match rightful_object(catalog, session, number, WRITE) {
         Decision::Answered(reply) => Decision::Answered(reply),
@@ -80,6 +84,7 @@ pub fn truncate<C: Catalog>(catalog: &C, session: &Session, number: u32) -> Deci
         → IfNeeds result (λ found. IsOfObject s i (Call.Truncate number size) found.handle.name found.held.entry.size
         (truncate_from s size found.handle)) }
     ensures found { IfNeeds result (IsRightful (C.entries catalog.now) session.now number WRITE) }
+    ensures refused { IfAnswered result IsRefused }
 {
     rightful_object(catalog, session, number, WRITE)
 }
@@ -104,6 +109,7 @@ pub fn info<C: Catalog>(catalog: &C, session: &Session, number: u32) -> Decision
     ensures tells { (s : MachineState) (i : ℕ) → Matches (C.entries catalog.now) (C.handles catalog.now) session.now s i
         → IfNeeds result (λ found. IsOfObject s i (Call.Info number) found.handle.name found.held.entry.size (told_info s found.handle)) }
     ensures found { IfNeeds result (IsOpenObject (C.entries catalog.now) session.now number) }
+    ensures refused { IfAnswered result IsRefused }
 {
     match open_object(catalog, session, number) {
         Some(found) => Decision::Needs(found),
@@ -143,8 +149,12 @@ pub fn seek<C: Catalog>(
     offset: i64,
     whence: Whence,
 ) -> Reply
-    ensures { (s : MachineState) (i : ℕ) → Matches (C.entries catalog.now) (C.handles catalog.now) session.old s i
+    ensures told { (s : MachineState) (i : ℕ) → Matches (C.entries catalog.now) (C.handles catalog.now) session.old s i
         → IsTold s i (Call.Seek number offset whence) result session.new }
+    // A call that was not done leaves the session as it was.
+    ensures undone { is_undone result ≡ true → session.new ≡ session.old }
+    ensures application { session.new.application ≡ session.old.application }
+    ensures plain { IsPlain result }
 {
     let Some(found) = open_object(catalog, session, number) else {
         return Reply::Misuse(Reason::BadHandle);

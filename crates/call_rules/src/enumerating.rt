@@ -1,8 +1,10 @@
 //! Calls on the enumerators of a session.
 
-ghost use Rattle.std.specs.Prelude.{◌≡◌, ℕ, IfOk, OnErr};
+ghost use Rattle.std.specs.Prelude.{◌≡◌, ℕ, true, IfOk, OnErr};
 ghost use Rattle.store_model.specs.Machine.{MachineState, session_at};
+ghost use Rattle.store_model.specs.Standing.{is_undone};
 ghost use Rattle.call_rules.specs.Matches.{Matches};
+ghost use Rattle.call_rules.specs.Plain.{IsPlain};
 ghost use Rattle.call_rules.specs.Told.{IsTold};
 ghost use Rattle.call_rules.specs.Nexts.{IsNextBy};
 
@@ -15,6 +17,10 @@ use tee_types::{AppId, Call, Code, NoMemory, Reason, Reply};
 /// TEE_AllocatePersistentObjectEnumerator: what it is answered. Want of memory changes nothing.
 pub fn enum_new(session: &mut Session) -> Result<Reply, NoMemory>
     ensures ok { (s : MachineState) (i : ℕ) → session_at s i ≡ session.old → IfOk result (λ reply. IsTold s i Call.EnumNew reply session.new) }
+    // A call that was not done leaves the session as it was.
+    ensures undone { IfOk result (λ reply. is_undone reply ≡ true → session.new ≡ session.old) }
+    ensures application { session.new.application ≡ session.old.application }
+    ensures plain { IfOk result IsPlain }
     ensures err { OnErr result (session.new ≡ session.old) }
 {
     match session.add_enumerator() {
@@ -26,8 +32,12 @@ pub fn enum_new(session: &mut Session) -> Result<Reply, NoMemory>
 
 /// TEE_StartPersistentObjectEnumerator: what it is answered. Where the application has no object, the enumerator is then not started.
 pub fn enum_start<C: Catalog>(catalog: &C, session: &mut Session, number: u32) -> Reply
-    ensures { (s : MachineState) (i : ℕ) → Matches (C.entries catalog.now) (C.handles catalog.now) session.old s i
+    ensures told { (s : MachineState) (i : ℕ) → Matches (C.entries catalog.now) (C.handles catalog.now) session.old s i
         → IsTold s i (Call.EnumStart number) result session.new }
+    // A call that was not done leaves the session as it was.
+    ensures undone { is_undone result ≡ true → session.new ≡ session.old }
+    ensures application { session.new.application ≡ session.old.application }
+    ensures plain { IsPlain result }
 {
     let Some(_live) = session.cursor(number) else {
         return Reply::Misuse(Reason::BadEnumerator);
@@ -53,8 +63,12 @@ fn next_entry<C: Catalog>(catalog: &C, app: AppId, cursor: Cursor) -> Option<Dir
 
 /// TEE_GetNextPersistentObject: what it is answered.
 pub fn enum_next<C: Catalog>(catalog: &C, session: &mut Session, number: u32) -> Reply
-    ensures { (s : MachineState) (i : ℕ) → Matches (C.entries catalog.now) (C.handles catalog.now) session.old s i
+    ensures told { (s : MachineState) (i : ℕ) → Matches (C.entries catalog.now) (C.handles catalog.now) session.old s i
         → IsTold s i (Call.EnumNext number) result session.new }
+    // A call that was not done leaves the session as it was.
+    ensures undone { is_undone result ≡ true → session.new ≡ session.old }
+    ensures application { session.new.application ≡ session.old.application }
+    ensures plain { IsPlain result }
 {
     let Some(cursor) = session.cursor(number) else {
         return Reply::Misuse(Reason::BadEnumerator);
@@ -71,7 +85,11 @@ pub fn enum_next<C: Catalog>(catalog: &C, session: &mut Session, number: u32) ->
 
 /// TEE_ResetPersistentObjectEnumerator: what it is answered.
 pub fn enum_reset(session: &mut Session, number: u32) -> Reply
-    ensures { (s : MachineState) (i : ℕ) → session_at s i ≡ session.old → IsTold s i (Call.EnumReset number) result session.new }
+    ensures told { (s : MachineState) (i : ℕ) → session_at s i ≡ session.old → IsTold s i (Call.EnumReset number) result session.new }
+    // A call that was not done leaves the session as it was.
+    ensures undone { is_undone result ≡ true → session.new ≡ session.old }
+    ensures application { session.new.application ≡ session.old.application }
+    ensures plain { IsPlain result }
 {
     let Some(_live) = session.cursor(number) else {
         return Reply::Misuse(Reason::BadEnumerator);
@@ -82,7 +100,11 @@ pub fn enum_reset(session: &mut Session, number: u32) -> Reply
 
 /// TEE_FreePersistentObjectEnumerator: what it is answered.
 pub fn enum_free(session: &mut Session, number: u32) -> Reply
-    ensures { (s : MachineState) (i : ℕ) → session_at s i ≡ session.old → IsTold s i (Call.EnumFree number) result session.new }
+    ensures told { (s : MachineState) (i : ℕ) → session_at s i ≡ session.old → IsTold s i (Call.EnumFree number) result session.new }
+    // A call that was not done leaves the session as it was.
+    ensures undone { is_undone result ≡ true → session.new ≡ session.old }
+    ensures application { session.new.application ≡ session.old.application }
+    ensures plain { IsPlain result }
 {
     let Some(_live) = session.cursor(number) else {
         return Reply::Misuse(Reason::BadEnumerator);

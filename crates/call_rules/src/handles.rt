@@ -3,12 +3,14 @@
 ghost use Rattle.std.specs.Prelude.{◌≡◌, ℕ, true, Some, IfSome};
 ghost use Rattle.dir_index.specs.Index.{named};
 ghost use Rattle.store_model.specs.Machine.{MachineState, session_at, name_in, first_refusal, has_all_handles};
+ghost use Rattle.store_model.specs.Standing.{is_undone};
 ghost use Rattle.store_model.specs.Handles.{create_refusals, open_refusals};
 ghost use Rattle.store_model.specs.Refusal.{is_refusal};
 ghost use Rattle.store_model.specs.Files.{is_misuse};
 ghost use Rattle.store_model.specs.Calls.{reply_of};
 ghost use Rattle.store_commit.specs.NameIndex.{IsEntryNamed};
 ghost use Rattle.call_rules.specs.Matches.{Matches};
+ghost use Rattle.call_rules.specs.Plain.{IsPlain, IsRefused};
 ghost use Rattle.call_rules.specs.Told.{IsTold};
 ghost use Rattle.call_rules.specs.Decided.{IfAnswered, IfNeeds, answer_in};
 ghost use Rattle.call_rules.specs.Objects.{IsOpened};
@@ -56,6 +58,7 @@ fn create_refusal(
 ) -> Option<Reply>
     ensures rows { result ≡ first_refusal (create_rows flags (has_all_handles session.now) attributes held busy) }
     ensures refused { IfSome result (λ reply. is_refusal reply ≡ true) }
+    ensures refusal { IfSome result IsRefused }
 {
     if !flags.known() {
         return Some(Reply::Misuse(Reason::BadFlags));
@@ -79,6 +82,7 @@ fn create_refusal(
 fn open_refusal(session: &Session, flags: Flags) -> Option<Reply>
     ensures rows { result ≡ first_refusal (open_rows flags (has_all_handles session.now)) }
     ensures refused { IfSome result (λ reply. is_misuse reply ≡ true) }
+    ensures refusal { IfSome result IsRefused }
 {
     if !flags.known() || flags.has(OVERWRITE) {
         return Some(Reply::Misuse(Reason::BadFlags));
@@ -107,6 +111,7 @@ pub fn create<C: Catalog>(
     ensures makes { (s : MachineState) (i : ℕ) → Matches (C.entries catalog.now) (C.handles catalog.now) session.now s i
         → IfNeeds result (λ _. reply_of s i (Call.Create id flags attributes.now bytes.now) ≡ Reply.Handle session.now.next_handle) }
     ensures place { IfNeeds result (IsNewPlace (C.entries catalog.now) (named session.now.application id)) }
+    ensures refused { IfAnswered result IsRefused }
 {
     let found = catalog.look(session.app(), id);
     let held = found.is_some();
@@ -135,6 +140,7 @@ pub fn open<C: Catalog>(
     ensures opens { (s : MachineState) (i : ℕ) → Matches (C.entries catalog.now) (C.handles catalog.now) session.now s i
         → IfNeeds result (λ held. IsOpened s i id flags held.entry.size) }
     ensures named { IfNeeds result (λ held. IsEntryNamed (C.entries catalog.now) (named session.now.application id) (Some held)) }
+    ensures refused { IfAnswered result IsRefused }
 {
     if let Some(reply) = open_refusal(session, flags) {
         return Decision::Answered(reply);
@@ -150,7 +156,11 @@ pub fn open<C: Catalog>(
 
 /// TEE_CloseObject: what it is answered. Where it is done, the handle is gone.
 pub fn close(session: &mut Session, number: u32) -> Reply
-    ensures { (s : MachineState) (i : ℕ) → session_at s i ≡ session.old → IsTold s i (Call.Close number) result session.new }
+    ensures told { (s : MachineState) (i : ℕ) → session_at s i ≡ session.old → IsTold s i (Call.Close number) result session.new }
+    // A call that was not done leaves the session as it was.
+    ensures undone { is_undone result ≡ true → session.new ≡ session.old }
+    ensures application { session.new.application ≡ session.old.application }
+    ensures plain { IsPlain result }
 {
     let Some(_live) = session.handle(number) else {
         return Reply::Misuse(Reason::BadHandle);

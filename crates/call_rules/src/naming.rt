@@ -8,6 +8,7 @@ ghost use Rattle.store_commit.specs.NameIndex.{IsEntryNamed};
 ghost use Rattle.call_rules.specs.Matches.{Matches};
 ghost use Rattle.call_rules.specs.Told.{IsTold};
 ghost use Rattle.call_rules.specs.Decided.{IfAnswered, IfNeeds};
+ghost use Rattle.call_rules.specs.Plain.{IsRefused};
 ghost use Rattle.call_rules.specs.Objects.{IsDone, IsRightful};
 
 use crate::by_handle::rightful_object;
@@ -31,6 +32,7 @@ pub fn rename<C: Catalog>(
         → IfNeeds result (λ _. holds s.objects (name_in s i id) ≡ false) }
     ensures unnamed { IfNeeds result (λ _. IsEntryNamed (C.entries catalog.now) (named session.now.application id) None) }
     ensures found { IfNeeds result (IsRightful (C.entries catalog.now) session.now number WRITE_META) }
+    ensures refused { IfAnswered result IsRefused }
 {
     match rightful_object(catalog, session, number, WRITE_META) {
         Decision::Answered(reply) => Decision::Answered(reply),
@@ -50,6 +52,7 @@ pub fn delete<C: Catalog>(catalog: &C, session: &Session, number: u32) -> Decisi
     ensures deletes { (s : MachineState) (i : ℕ) → Matches (C.entries catalog.now) (C.handles catalog.now) session.now s i
         → IfNeeds result (λ found. IsDone s i (Call.Delete number) found.handle.name found.held.entry.size) }
     ensures found { IfNeeds result (IsRightful (C.entries catalog.now) session.now number WRITE_META) }
+    ensures refused { IfAnswered result IsRefused }
 {
     rightful_object(catalog, session, number, WRITE_META)
 }

@@ -10,6 +10,7 @@ pub mod CommitTies
 pub mod Applications
 pub mod RightTags
 pub mod Told
+pub mod CommitTags
 pub mod MapsKept
 pub mod LegalCommits
 pub mod WholeVersions

@@ -1,6 +1,6 @@
 //! What the gate does for the slots of objects' files: their seats, and which file a new object takes.
 
-ghost use Rattle.std.specs.Prelude.{◌≡◌, ◌×◌, ◌<◌, length, slice_set, None, Some};
+ghost use Rattle.std.specs.Prelude.{◌≡◌, ◌<◌, length, slice_set, None, Some};
 ghost use Rattle.history_seats.specs.Changes.{new_slot, with_slot_out, without_slot};
 ghost use Rattle.history_seats.specs.Rule.{Agrees};
 ghost use Rattle.history_seats.specs.Changes.{together};

@@ -119,7 +119,7 @@ module _ (keys : Keys) (old new : FileState) (o : HeldObject) (v : Version) (c :
       page_now k lt ∙ after.changed.same k listed off ∙ sym (page_was k there)
 
   -- a block that it needs is good
-  page_needed : (k : ℕ) → needs c.range k ≡ true → (over : List ℕ) × (page_spelt was k ≡ Some over)
+  pub page_needed : (k : ℕ) → needs c.range k ≡ true → (over : List ℕ) × (page_spelt was k ≡ Some over)
   page_needed k need =
       let there : k < length o.tree.tree.nodes = omega (arith, old_count, size, needed_old c.range k need) in
       let read = stage.read k need in

@@ -13,7 +13,9 @@ pub mod NextVersions
 pub mod MadeOver
 pub mod HonestPages
 pub mod HonestChanges
+pub mod MadeOverOwn
 pub mod StagedSlots
 pub mod ChangeAnswers
 pub mod NewObjects
 pub mod MadeSlots
+pub mod ToldFronts

@@ -22,6 +22,7 @@ use Rattle.history_seats.proofs.Lists.{both_true}
 use Rattle.suppositions.specs.Given.{Gave, spelling_given}
 use Rattle.suppositions.specs.Spellings.{block_of, wrap_of}
 use Rattle.suppositions.specs.WriteLaws.{IsMadeOver}
+use Rattle.suppositions.proofs.Standing.{page_same}
 use Rattle.object_file.specs.Value.{size_in}
 use Rattle.object_slots.specs.Stages.{DataChange, IsStageOf}
 use Rattle.object_slots.specs.Value.{HeldObject}
@@ -157,5 +158,10 @@ module _ (keys : Keys) (old new : FileState) (o : HeldObject) (v : Version) (c :
               ∙ opens k b;
         };
     seal = λ k lt off. stage.seals.missed k lt (missed k off);
-    block = λ k lt off. text_at k lt ∙ cond-false (meets r.first r.last k) (remade k).text (block_of v k) off;
+    page = λ k lt off.
+        let seal = stage.seals.missed k lt (missed k off) in
+        let wrapped : s.tree.head.wrapped ≡ o.tree.tree.head.wrapped = ap (λ (h : Head). h.wrapped) stage.head in
+        page_same (unwrapped_of (wrap_of keys v) s.tree.head.wrapped) (unwrapped_of (wrap_of keys v) o.tree.tree.head.wrapped) s.tree.head o.tree.tree.head (at_node s.tree.nodes (k + 1))
+        (at_node o.tree.tree.nodes (k + 1)) k (block_of next k) (block_of v k) (ap (unwrapped_of (wrap_of keys v)) wrapped) wrapped seal.0 seal.1
+        (text_at k lt ∙ cond-false (meets r.first r.last k) (remade k).text (block_of v k) off);
   }

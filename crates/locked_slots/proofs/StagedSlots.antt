@@ -16,6 +16,7 @@ use Rattle.page_bytes.specs.declared.range.ByteRange.{ByteRange}
 use Rattle.page_bytes.specs.Ranges.{meets, needs}
 use Rattle.object_file.specs.Changes.{adopted}
 use Rattle.object_file.specs.Held.{held_in}
+use Rattle.object_file.specs.Value.{size_in}
 use Rattle.object_slots.specs.declared.fault.SlotFault.{SlotFault}
 use Rattle.object_slots.specs.Reads.{CorruptAnswer}
 use Rattle.object_slots.specs.Stages.{DataChange, IsStageOf, StagesObject}
@@ -33,6 +34,7 @@ use Rattle.node_image.specs.declared.head.Head.{Head}
 use Rattle.object_slots.specs.Versions.{changed_version}
 use Rattle.locked_slots.specs.Stages.{ChangesPages}
 use Rattle.locked_slots.proofs.MadeOver.{chosen, gave, made_over}
+use Rattle.locked_slots.proofs.MadeOverOwn.{gave_own, made_over_own}
 use Rattle.locked_slots.proofs.Staged.{object_keeps, own_stays}
 
 sound_same : (a b : Contents) → Sound a ≡ Sound b → a ≡ b
@@ -101,17 +103,34 @@ module _ (store : Store) (old new : SlotValue) (o : HeldObject) (c : DataChange)
           before_is : record old { file = new.file; holds = live o; doubt = None } ≡ record new { holds = live o }
           before_is = (λ i. record old { file = new.file; holds = live o; doubt = sym calmly i }) ∙ ap (λ (x : SlotValue). record x { holds = live o }) (sym same)
 
-      -- what the file gave, and the ciphertexts of the next version
+      -- the ciphertexts of the next version in a file that is not honest
       abbrev block : ℕ → List ℕ
       block = chosen store.keys old.file new.file o v c root s stage object of.behind of.inside
 
-      over : IsMadeOverGiven store.keys v (version_spelt store.keys s.root s.tree v.app c.size v.attributes block) change
-      over =
+      over : (next : Version) (told : Gave (wrap_of store.keys v) o.tree.root (size_in o) (λ k. (k == 0) || needs c.range k))
+          → IsMadeOver store.keys v next (spelling_given told) c.range c.at c.bytes → IsMadeOverGiven store.keys v next change
+      over next told made =
           subst
           (λ (x : RootRef × ℕ × ByteRange × ℕ × List ℕ). (g : Gave (wrap_of store.keys v) x.0 x.1 (λ k. (k == 0) || needs x.2 k))
-          × IsMadeOver store.keys v (version_spelt store.keys s.root s.tree v.app c.size v.attributes block) (spelling_given g) x.2 x.3 x.4)
+          × IsMadeOver store.keys v next (spelling_given g) x.2 x.3 x.4)
           (λ i. (sym object.root i, sym object.size i, of.range i, of.place i, of.bytes i))
-          (gave store.keys old.file new.file o v c root s stage object of.behind of.inside, made_over store.keys old.file new.file o v c root s stage object of.behind of.inside)
+          (told, made)
+
+      -- over what was read, in any file
+      over_given : IsMadeOverGiven store.keys v (version_spelt store.keys s.root s.tree v.app c.size v.attributes block) change
+      over_given =
+          over (version_spelt store.keys s.root s.tree v.app c.size v.attributes block)
+          (gave store.keys old.file new.file o v c root s stage object of.behind of.inside)
+          (made_over store.keys old.file new.file o v c root s stage object of.behind of.inside)
+
+      -- and over what the version spells, in an honest one
+      over_own : IsTrue new.file.honest → IsMadeOverGiven store.keys v (changed_version new.file v (held_in o old.file.reads) c s) change
+      over_own honest =
+          let kept : SoundFile old.file = (is.own.holds None).sound in
+          let still : SoundFile new.file = (own.holds None).sound in
+          over (changed_version new.file v (held_in o old.file.reads) c s)
+          (gave_own store.keys old.file new.file o v c root s stage object kept still honest (was honest) of.from of.lays of.grown)
+          (made_over_own store.keys old.file new.file o v c root s stage object kept still honest (was honest) of.from of.lays of.grown)
 
       -- in an honest file the pages are those that the change makes
       pages : IsTrue new.file.honest → ChangesPages store.keys v (changed_version new.file v (held_in o old.file.reads) c s) change.range change.place change.bytes
@@ -144,7 +163,7 @@ module _ (store : Store) (old new : SlotValue) (o : HeldObject) (c : DataChange)
               attributes = refl;
               object = λ here x sound. (λ i. Sound (of.contents i (held x sound here i)));
               pages = λ here. pages honest;
-              over = λ off. absurd (off honest);
+              over = over_own honest;
             },
           )
 
@@ -154,7 +173,7 @@ module _ (store : Store) (old new : SlotValue) (o : HeldObject) (c : DataChange)
           let next : Version = spelt store.keys old.file new.file o v c root s block stage (is.own.holds None).sound (own.holds None).sound object was of.behind of.own in (
             next,
             lock next of_next,
-            record { root_is = stage.root_is; app = refl; size = of.size; attributes = refl; object = λ here x sound. absurd (off here); pages = λ here. absurd (off here); over = λ other. over },
+            record { root_is = stage.root_is; app = refl; size = of.size; attributes = refl; object = λ here x sound. absurd (off here); pages = λ here. absurd (off here); over = over_given },
           )
 
       next_leaves : StageLeaves store new v change (Ok root)

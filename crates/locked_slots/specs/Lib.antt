@@ -6,6 +6,7 @@ pub mod Learning
 pub mod OwnEvents
 pub mod Reads
 pub mod Fills
+pub mod Fronts
 pub mod LiveSlots
 pub mod Stages
 pub mod NewObjects

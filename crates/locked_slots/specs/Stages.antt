@@ -79,8 +79,8 @@ pub record ChangesPages (keys : Keys) (v next : Version) (range : ByteRange) (pl
   pub missed : (k : ℕ) → k < length now.tree.nodes → meets range.first range.last k ≡ false → page_spelt now k ≡ page_spelt was k
   pub seal : (k : ℕ) → k < length now.tree.nodes → meets range.first range.last k ≡ false → SealsAt was.key was.tree now.tree k None
 
--- The next version is the one that the reference names, of the same application. In a file that is honest now its object is the changed one,
--- page by page; in any other it was made over what the file gave.
+-- The next version is the one that the reference names, of the same application, and was made over what the file gave. In a file that is
+-- honest now its object is the changed one, page by page.
 pub record IsNextVersion (keys : Keys) (file : FileState) (v next : Version) (change : VersionChange) (root : RootRef) : Type 0 where
   pub root_is : next.root ≡ root
   pub app : next.app ≡ v.app
@@ -88,7 +88,7 @@ pub record IsNextVersion (keys : Keys) (file : FileState) (v next : Version) (ch
   pub attributes : next.attributes ≡ v.attributes
   pub object : IsTrue file.honest → (c : Contents) → v.object ≡ Sound c → next.object ≡ Sound (change.contents c)
   pub pages : IsTrue file.honest → ChangesPages keys v next change.range change.place change.bytes
-  pub over : (IsTrue file.honest → ⊥) → IsMadeOverGiven keys v next change
+  pub over : IsMadeOverGiven keys v next change
 
 abbrev pub StageLeaves : Store → (new : SlotValue) → (v : Version) → VersionChange → Result RootRef SlotFault → Type 0
 StageLeaves store new v change (Ok root) = (next : Version) × IsStagedSlot store new next × IsNextVersion store.keys new.file v next change root

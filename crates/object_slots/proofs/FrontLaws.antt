@@ -19,6 +19,7 @@ loaded_have_fronts old new tsk e o loaded =
     let first = loaded.first in
     record {
       page = first.page;
+      long = first.read.long;
       seals = (first.read.ciphertext, first.read.opens);
       front = λ i lt. first.are i (omega (arith, lt, loaded.attributes));
     }
@@ -31,6 +32,7 @@ made_have_fronts old new tsk attributes bytes root o few made =
     let is : IsObjectPage attributes bytes 0 block.0 = block.1 in
     record {
       page = block.0;
+      long = is.long;
       seals = block.2;
       front = λ i lt.
           let below : i < length attributes = subst (λ (l : List ℕ). i < length l) made.attributes_are lt in
@@ -49,4 +51,4 @@ stages_keep_fronts old new o c root s behind stage front =
     let was : Seals o.tree.key o.tree.tree 0 front.page = front.seals in
     let same : page_of o.tree.key s.tree.head (at_node s.tree.nodes 1) 0 was.0 ≡ page_of o.tree.key o.tree.tree.head (at_node o.tree.tree.nodes 1) 0 was.0 =
     same_page o.tree.key s.tree.head o.tree.tree.head (at_node s.tree.nodes 1) (at_node o.tree.tree.nodes 1) 0 was.0 (ap (λ (h : Head). h.wrapped) stage.head) kept.0 kept.1 in
-    record { page = front.page; seals = (was.0, same ∙ was.1); front = front.front }
+    record { page = front.page; long = front.long; seals = (was.0, same ∙ was.1); front = front.front }

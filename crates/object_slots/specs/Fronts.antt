@@ -11,9 +11,10 @@ use Rattle.object_slots.specs.Makes.{IsMade}
 use Rattle.object_slots.specs.Stages.{DataChange, IsStageOf}
 use Rattle.object_slots.specs.Value.{HeldObject}
 
--- The node of block 0 seals a page that begins with the attributes.
+-- The node of block 0 seals a page of 4,096 bytes that begins with the attributes.
 pub record HasFront (o : HeldObject) : Type 0 where
   pub page : List ℕ
+  pub long : length page ≡ 4096
   pub seals : Seals o.tree.key o.tree.tree 0 page
   pub front : (i : ℕ) → i < length o.attributes → get_or o.attributes i 0 ≡ get_or page i 0
 

@@ -1,5 +1,5 @@
 // Slots.
-ghost use Rattle.std.specs.Prelude.{◌≡◌, ◌⊎◌, ◌+◌, ◌≤◌, length, IfSome, IsSome, None, Some};
+ghost use Rattle.std.specs.Prelude.{◌≡◌, ◌⊎◌, ◌↔◌, ◌+◌, ◌≤◌, length, IfSome, IsSome, IsTrue, None, Some};
 ghost use Rattle.disk_model.specs.State.{Sound};
 ghost use Rattle.htree_file.specs.Opening.{IsVerified};
 ghost use Rattle.dir_records.specs.Form.{HasForm};
@@ -98,6 +98,19 @@ impl<F: StoreFile + Drop> Slot<F> {
             unreachable!()
         };
         seat.generation()
+    }
+
+    /// Whether no tree is loaded.
+    pub fn is_free(&self) -> bool
+        ensures { IsTrue result ↔ IsFree self.now.holds }
+    {
+        match &self.content {
+            Some(Content::Free(_)) => true,
+            Some(Content::Made(_)) => false,
+            Some(Content::Live(_)) => false,
+            Some(Content::Staged(_)) => false,
+            None => unreachable!(),
+        }
     }
 
     /// The place of the event that left its commit in doubt, if one did.

@@ -23,14 +23,14 @@ use Rattle.crash_core.specs.MountedObject.{object_of}
 use Rattle.crash_core.proofs.ObjectChanges.{object_of-resized, object_of-written}
 use Rattle.history_seats.specs.Records.{Version}
 use Rattle.history_seats.proofs.Lists.{or_right}
-use Rattle.suppositions.specs.Spellings.{IsReal, Spelling, block_of, object_spelt, opened_spelt, page_spelt, pages_spelt, spelled_if, wrap_of}
+use Rattle.suppositions.specs.Spellings.{IsReal, Spelling, block_of, object_spelt, opened_spelt, page_spelt, pages_spelt, spelled_if, with_committed, wrap_of}
 use Rattle.suppositions.specs.Guesses.{Guess, object_under, under}
 use Rattle.suppositions.specs.Clashes.{IsAlike}
 use Rattle.suppositions.specs.Given.{Gave, is_asked, spelling_given}
 use Rattle.suppositions.specs.Shown.{Strays}
 use Rattle.suppositions.specs.TreeLaws.{KeepsGood}
 use Rattle.suppositions.specs.WriteLaws.{IsMadeOver, TruncationsStandOrStray, WritesStandOrStray, spelled_next}
-use Rattle.suppositions.proofs.Standing.{keeps_own, key_under, unmet_page, verified_under}
+use Rattle.suppositions.proofs.Standing.{keeps_own, key_under, page_same, unmet_page, verified_under}
 use Rattle.suppositions.proofs.SameTrees.{alike_trees}
 use Rattle.suppositions.proofs.Comparing.{compare, is_some_of, meets_from, search_all}
 use Rattle.suppositions.proofs.Undamaged.{asked_within, damaged_sound, sound_of}
@@ -127,8 +127,16 @@ module _ (keys : Keys) (guess : Guess) (file generation : ℕ) (v next : Version
           ) in
           let wrapped : new.tree.head.wrapped ≡ old.tree.head.wrapped =
           ap (λ (t : Loaded). t.head.wrapped) kept.tree ∙ made.wrapped ∙ ap (λ (h : Head). h.wrapped) (sym alike.head) in
+          -- what is committed in both versions gives one page, by the new tree and by the old one
+          let own_key : new.key ≡ own.key =
+          key_under keys guess file generation next new kept.stands ∙ ap (λ (t : Loaded). unwrapped_of (wrap_of keys next) t.head.wrapped) kept.tree in
+          let page : page_spelt (with_committed next new) k ≡ page_spelt (with_committed v old) k =
+          (λ i. page_spelt (record { key = own_key i; tree = kept.tree i; block = block_of next }) k)
+          ∙ made.page k lt off
+          ∙ page_same given.key old.key given.tree.head old.tree.head (at_node given.tree.nodes (k + 1)) (at_node old.tree.nodes (k + 1)) k (block_of v k) (block_of v k)
+          (sym (key_is alike)) (ap (λ (h : Head). h.wrapped) (sym alike.head)) (sym n.iv) (sym n.tag) refl in
           new-at k lt
-          ∙ unmet_page keys guess file generation v next k made.app (made.block k lt off) old new stands kept.stands wrapped seals
+          ∙ unmet_page keys guess file generation v next k made.app old new stands kept.stands wrapped seals page
           ∙ sym (old-at k inside)
 
   new-count : length (pages_spelt new) ≡ length made.tree.nodes

@@ -1,6 +1,7 @@
 -- What stands for a version: by which tree, and which of its pages are good.
 use Rattle.std.proofs.Common.{◌≡◌, ◌+◌, ℕ, Bool, true, false, cond, List, ◌++◌, Option, Some, None, option_map, Result, Ok, Err, refl, sym, ap, ◌∙◌, subst}
 use Rattle.std.specs.Int.{w32, to_be_bytes}
+use Rattle.std.specs.Prelude.{unwrap_or}
 use Rattle.std.specs.Str.{bytes_eq}
 use Rattle.aes_block.specs.Cipher.{cipher}
 use Rattle.aes_block.specs.WrappedKey.{unwrapped_of}
@@ -16,7 +17,7 @@ use Rattle.hmac_keys.specs.declared.Keys.{Keys}
 use Rattle.crash_core.specs.DeviceKeys.{object_key}
 use Rattle.history_seats.specs.Numbers.{is_in}
 use Rattle.history_seats.specs.Records.{Version}
-use Rattle.suppositions.specs.Spellings.{IsReal, Spelling, block_of, page_spelt, spelled, spelled_if, spelling_of, wrap_of}
+use Rattle.suppositions.specs.Spellings.{IsReal, Spelling, block_of, page_spelt, spelled, spelled_if, spelling_of, with_committed, wrap_of}
 use Rattle.suppositions.specs.Guesses.{Guess, VerifiedTree, block_or, mended, supposed_under, tree_or, tree_supposed, under}
 use Rattle.suppositions.specs.TreeLaws.{KeepsGood, SuppositionsAreVerified}
 use Rattle.suppositions.proofs.Mending.{good_stays, none_some, some_same}
@@ -117,28 +118,54 @@ module _ (keys : Keys) (guess : Guess) (file generation : ℕ) (v : Version) whe
         good = λ k page e. e;
       }
 
--- A block that a change does not meet has the page in the next version that it had: its node is sealed as before, and its committed ciphertext
--- is the same.
-module _ (keys : Keys) (guess : Guess) (file generation : ℕ) (v next : Version) (k : ℕ) (app : next.app ≡ v.app) (block : block_of next k ≡ block_of v k) where
+-- a block that is bad has the ciphertext that is supposed, or its own
+page-bad : (supposed : ℕ → Option (List ℕ)) (sp : Spelling) (k : ℕ) → page_spelt sp k ≡ None
+    → page_spelt (mended supposed sp) k ≡ page_of sp.key sp.tree.head (at_node sp.tree.nodes (k + 1)) k (unwrap_or (supposed k) (sp.block k))
+page-bad supposed sp k bad = ap (λ (o : Option (List ℕ)). page_of sp.key sp.tree.head (at_node sp.tree.nodes (k + 1)) k (block_or o (sp.block k) (supposed k))) bad
+
+-- A block that a change does not meet has the page in the next version that it had: its node is sealed as before, and what is committed gives
+-- the page that it gave, or is bad as it was.
+module _ (keys : Keys) (guess : Guess) (file generation : ℕ) (v next : Version) (k : ℕ) (app : next.app ≡ v.app) where
   abbrev spelt_old : Loaded → Spelling
   spelt_old tree = spelled (wrap_of keys v) (block_of v) tree
 
   abbrev spelt_new : Loaded → Spelling
   spelt_new tree = spelled (wrap_of keys next) (block_of next) tree
 
-  own-page : (a b : Loaded) → b.head.wrapped ≡ a.head.wrapped → (at_node b.nodes (k + 1)).iv ≡ (at_node a.nodes (k + 1)).iv → (at_node b.nodes (k + 1)).tag ≡ (at_node a.nodes (k + 1)).tag
-      → (c d : List ℕ) → d ≡ c → page_of (spelt_new b).key b.head (at_node b.nodes (k + 1)) k d ≡ page_of (spelt_old a).key a.head (at_node a.nodes (k + 1)) k c
-  own-page a b wrapped iv tag c d text =
-      page_same (spelt_new b).key (spelt_old a).key b.head a.head (at_node b.nodes (k + 1)) (at_node a.nodes (k + 1)) k d c
-      (λ i. unwrapped_of (object_key keys (app i)) (wrapped i)) wrapped iv tag text
+  abbrev supposed : ℕ → Option (List ℕ)
+  supposed = guess.blocks file generation
 
-  with-page : (q : Bool) (a b : Loaded) → b.head.wrapped ≡ a.head.wrapped → (at_node b.nodes (k + 1)).iv ≡ (at_node a.nodes (k + 1)).iv → (at_node b.nodes (k + 1)).tag ≡ (at_node a.nodes (k + 1)).tag
-      → page_spelt (spelt_with keys guess file generation next q b) k ≡ page_spelt (spelt_with keys guess file generation v q a) k
-  with-page false a b wrapped iv tag = own-page a b wrapped iv tag (block_of v k) (block_of next k) block
-  with-page true a b wrapped iv tag =
-      let same : page_spelt (spelt_new b) k ≡ page_spelt (spelt_old a) k = own-page a b wrapped iv tag (block_of v k) (block_of next k) block in
-      own-page a b wrapped iv tag (block_or (page_spelt (spelt_old a) k) (block_of v k) (guess.blocks file generation k)) (block_or (page_spelt (spelt_new b) k) (block_of next k) (guess.blocks file generation k))
-      (λ i. block_or (same i) (block i) (guess.blocks file generation k))
+  -- two trees whose nodes seal block k alike
+  pub record IsUnmet (a b : Loaded) : Type 0 where
+    pub wrapped : b.head.wrapped ≡ a.head.wrapped
+    pub iv : (at_node b.nodes (k + 1)).iv ≡ (at_node a.nodes (k + 1)).iv
+    pub tag : (at_node b.nodes (k + 1)).tag ≡ (at_node a.nodes (k + 1)).tag
+    pub page : page_spelt (spelt_new b) k ≡ page_spelt (spelt_old a) k
+
+  -- where both are bad, the ciphertext that is supposed gives one page, and where nothing is supposed both stay bad
+  both-bad : (a b : Loaded) → IsUnmet a b → page_spelt (spelt_old a) k ≡ None → (o : Option (List ℕ)) → supposed k ≡ o
+      → page_spelt (mended supposed (spelt_new b)) k ≡ page_spelt (mended supposed (spelt_old a)) k
+  both-bad a b u bad o is =
+      page-bad supposed (spelt_new b) k (u.page ∙ bad)
+      ∙ ap (λ (c : Option (List ℕ)). page_of (spelt_new b).key b.head (at_node b.nodes (k + 1)) k (unwrap_or c (block_of next k))) is
+      ∙ by_supposed o
+      ∙ ap (λ (c : Option (List ℕ)). page_of (spelt_old a).key a.head (at_node a.nodes (k + 1)) k (unwrap_or c (block_of v k))) (sym is)
+      ∙ sym (page-bad supposed (spelt_old a) k bad)
+    where
+      by_supposed : (c : Option (List ℕ)) → page_of (spelt_new b).key b.head (at_node b.nodes (k + 1)) k (unwrap_or c (block_of next k))
+          ≡ page_of (spelt_old a).key a.head (at_node a.nodes (k + 1)) k (unwrap_or c (block_of v k))
+      by_supposed (Some text) =
+          page_same (spelt_new b).key (spelt_old a).key b.head a.head (at_node b.nodes (k + 1)) (at_node a.nodes (k + 1)) k text text
+          (λ i. unwrapped_of (object_key keys (app i)) (u.wrapped i)) u.wrapped u.iv u.tag refl
+      by_supposed None = u.page
+
+  mended-page : (a b : Loaded) → IsUnmet a b → (o : Option (List ℕ)) → page_spelt (spelt_old a) k ≡ o → page_spelt (mended supposed (spelt_new b)) k ≡ page_spelt (mended supposed (spelt_old a)) k
+  mended-page a b u (Some page) good = good_stays supposed (spelt_new b) k page (u.page ∙ good) ∙ sym (good_stays supposed (spelt_old a) k page good)
+  mended-page a b u None bad = both-bad a b u bad (supposed k) refl
+
+  with-page : (q : Bool) (a b : Loaded) → IsUnmet a b → page_spelt (spelt_with keys guess file generation next q b) k ≡ page_spelt (spelt_with keys guess file generation v q a) k
+  with-page false a b u = u.page
+  with-page true a b u = mended-page a b u (page_spelt (spelt_old a) k) refl
 
   tree-old : (q : Bool) (a : Loaded) → (spelt_with keys guess file generation v q a).tree ≡ a
   tree-old true a = refl
@@ -148,9 +175,19 @@ module _ (keys : Keys) (guess : Guess) (file generation : ℕ) (v next : Version
   tree-new true b = refl
   tree-new false b = refl
 
+  -- with what is committed a spelling is the version's own
+  own-old : (q : Bool) (a : Loaded) → page_spelt (with_committed v (spelt_with keys guess file generation v q a)) k ≡ page_spelt (spelt_old a) k
+  own-old true a = refl
+  own-old false a = refl
+
+  own-new : (q : Bool) (b : Loaded) → page_spelt (with_committed next (spelt_with keys guess file generation next q b)) k ≡ page_spelt (spelt_new b) k
+  own-new true b = refl
+  own-new false b = refl
+
   pub unmet_page : (old new : Spelling) → under keys guess file generation v ≡ Some old → under keys guess file generation next ≡ Some new
-      → new.tree.head.wrapped ≡ old.tree.head.wrapped → SealsAt old.key old.tree new.tree k None → page_spelt new k ≡ page_spelt old k
-  unmet_page old new stands stood wrapped seals =
+      → new.tree.head.wrapped ≡ old.tree.head.wrapped → SealsAt old.key old.tree new.tree k None → page_spelt (with_committed next new) k ≡ page_spelt (with_committed v old) k
+      → page_spelt new k ≡ page_spelt old k
+  unmet_page old new stands stood wrapped seals page =
       let q = is_in file guess.dishonest in
       let x = by_tree keys guess file generation v old stands in
       let y = by_tree keys guess file generation next new stood in
@@ -158,9 +195,17 @@ module _ (keys : Keys) (guess : Guess) (file generation : ℕ) (v next : Version
       let b : new.tree ≡ y.tree = ap (λ (s : Spelling). s.tree) (sym y.is) ∙ tree-new q y.tree in
       ap (λ (s : Spelling). page_spelt s k) (sym y.is)
       ∙ with-page q x.tree y.tree
-      (ap (λ (t : Loaded). t.head.wrapped) (sym b) ∙ wrapped ∙ ap (λ (t : Loaded). t.head.wrapped) a)
-      (ap (λ (t : Loaded). (at_node t.nodes (k + 1)).iv) (sym b) ∙ seals.0 ∙ ap (λ (t : Loaded). (at_node t.nodes (k + 1)).iv) a)
-      (ap (λ (t : Loaded). (at_node t.nodes (k + 1)).tag) (sym b) ∙ seals.1 ∙ ap (λ (t : Loaded). (at_node t.nodes (k + 1)).tag) a)
+      (record {
+        wrapped = ap (λ (t : Loaded). t.head.wrapped) (sym b) ∙ wrapped ∙ ap (λ (t : Loaded). t.head.wrapped) a;
+        iv = ap (λ (t : Loaded). (at_node t.nodes (k + 1)).iv) (sym b) ∙ seals.0 ∙ ap (λ (t : Loaded). (at_node t.nodes (k + 1)).iv) a;
+        tag = ap (λ (t : Loaded). (at_node t.nodes (k + 1)).tag) (sym b) ∙ seals.1 ∙ ap (λ (t : Loaded). (at_node t.nodes (k + 1)).tag) a;
+        page =
+            sym (own-new q y.tree)
+            ∙ ap (λ (s : Spelling). page_spelt (with_committed next s) k) y.is
+            ∙ page
+            ∙ ap (λ (s : Spelling). page_spelt (with_committed v s) k) (sym x.is)
+            ∙ own-old q x.tree;
+      })
       ∙ ap (λ (s : Spelling). page_spelt s k) x.is
 
 pub spelled_under : SuppositionsAreVerified

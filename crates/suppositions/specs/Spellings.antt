@@ -49,6 +49,10 @@ wrap_of keys v = object_key keys v.app
 abbrev pub block_of : Version → (k : ℕ) → List ℕ
 block_of v k = get_or v.tree.blocks k []
 
+-- a spelling with the ciphertexts that are committed in a version
+abbrev pub with_committed : Version → Spelling → Spelling
+with_committed v sp = record sp { block = block_of v }
+
 -- What a version spells out by itself, if its tree loads.
 abbrev pub spelling_of : Keys → Version → Option Spelling
 spelling_of keys v = spelled_if (wrap_of keys v) (block_of v) v.loads

@@ -9,7 +9,7 @@ use Rattle.store_model.specs.Object.{size_of}
 use Rattle.store_model.specs.Damage.{HasLessDamage}
 use Rattle.history_seats.specs.Numbers.{is_in}
 use Rattle.history_seats.specs.Records.{Version}
-use Rattle.suppositions.specs.Spellings.{IsReal, Spelling, block_of, page_spelt, spelling_of, wrap_of}
+use Rattle.suppositions.specs.Spellings.{IsReal, Spelling, page_spelt, spelling_of, with_committed, wrap_of}
 use Rattle.suppositions.specs.Guesses.{Guess, nothing_back, object_under, under}
 use Rattle.suppositions.specs.Clashes.{HaveFlags, IsAlike, NodeClash}
 use Rattle.suppositions.specs.Images.{version_of_image}
@@ -68,10 +68,11 @@ abbrev pub SuppositionsKeepGood : Type 0
 SuppositionsKeepGood =
     (keys : Keys) (guess : Guess) (file generation : ℕ) (v : Version) (own : Spelling) → spelling_of keys v ≡ Some own → KeepsGood keys guess file generation v own
 
--- A block that a change does not meet, so that its node is sealed as before and its committed ciphertext is the same, has the page in the
--- next version that it had.
+-- A block that a change does not meet, so that its node is sealed as before, and whose committed ciphertext gives the page that it gave, or is
+-- bad as it was, has the page in the next version that it had.
 abbrev pub UnmetPagesStay : Type 0
 UnmetPagesStay =
-    (keys : Keys) (guess : Guess) (file generation : ℕ) (v next : Version) (k : ℕ) → next.app ≡ v.app → block_of next k ≡ block_of v k → (old new : Spelling)
+    (keys : Keys) (guess : Guess) (file generation : ℕ) (v next : Version) (k : ℕ) → next.app ≡ v.app → (old new : Spelling)
     → under keys guess file generation v ≡ Some old → under keys guess file generation next ≡ Some new → new.tree.head.wrapped ≡ old.tree.head.wrapped
-    → SealsAt old.key old.tree new.tree k None → page_spelt new k ≡ page_spelt old k
+    → SealsAt old.key old.tree new.tree k None → page_spelt (with_committed next new) k ≡ page_spelt (with_committed v old) k
+    → page_spelt new k ≡ page_spelt old k

@@ -12,7 +12,7 @@ use Rattle.page_bytes.specs.Ranges.{meets, resize_range, write_range}
 use Rattle.store_model.specs.Object.{Contents, Sound}
 use Rattle.store_model.specs.Data.{resized_contents, written_contents}
 use Rattle.history_seats.specs.Records.{Version}
-use Rattle.suppositions.specs.Spellings.{IsReal, Spelling, block_of, page_spelt, spelled, wrap_of}
+use Rattle.suppositions.specs.Spellings.{IsReal, Spelling, block_of, page_spelt, spelled, with_committed, wrap_of}
 use Rattle.suppositions.specs.Guesses.{Guess, object_under, under}
 use Rattle.suppositions.specs.Given.{Gave, is_asked, spelling_given}
 use Rattle.suppositions.specs.Shown.{Strays}
@@ -22,7 +22,7 @@ abbrev pub spelled_next : Keys → Version → Loaded → Spelling
 spelled_next keys next tree = spelled (wrap_of keys next) (block_of next) tree
 
 -- The next version was made over what was given: a block that the change meets has the page that the change makes, over the page that was
--- given where it needs that; any other keeps its seal and its committed ciphertext.
+-- given where it needs that; any other keeps its seal, and the page that its committed ciphertext gives, good or bad.
 pub record IsMadeOver (keys : Keys) (v next : Version) (given : Spelling) (r : ByteRange) (at : ℕ) (bytes : List ℕ) : Type 0 where
   pub app : next.app ≡ v.app
   pub attributes : next.attributes ≡ v.attributes
@@ -34,7 +34,7 @@ pub record IsMadeOver (keys : Keys) (v next : Version) (given : Spelling) (r : B
   pub met : (k : ℕ) → k < length tree.nodes → meets r.first r.last k ≡ true
       → HasRewritten r at bytes k (page_spelt given k) (page_spelt (spelled_next keys next tree) k)
   pub seal : (k : ℕ) → k < length tree.nodes → meets r.first r.last k ≡ false → SealsAt given.key given.tree tree k None
-  pub block : (k : ℕ) → k < length tree.nodes → meets r.first r.last k ≡ false → block_of next k ≡ block_of v k
+  pub page : (k : ℕ) → k < length tree.nodes → meets r.first r.last k ≡ false → page_spelt (spelled_next keys next tree) k ≡ page_spelt (with_committed v given) k
 
 -- A write.
 abbrev pub WritesStandOrStray : Type 0

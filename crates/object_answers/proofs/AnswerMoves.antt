@@ -1,0 +1,111 @@
+-- A session behind an answer that its object's file gave.
+use Rattle.std.proofs.Common.{◌≡◌, ◌≤◌, ℕ, Bool, true, false, true≢false, List, [], ◌∷◌, ◌++◌, length, Option, Some, refl, sym, ap, ◌∙◌, subst, inl, inr}
+use Rattle.tee_types.specs.declared.call.Call.{Call}
+use Rattle.tee_types.specs.declared.reply.Reply.{Reply}
+use Rattle.store_model.specs.declared.event.Event.TheVariants.{Call as CallEvent}
+use Rattle.store_model.specs.declared.event.Mark.{Mark}
+use Rattle.store_model.specs.declared.event.Mark.TheVariants.{Unchanged}
+use Rattle.store_model.specs.Calls.{reply_of, state_after}
+use Rattle.store_model.specs.Legal.{Answered, Doubted, FoundCorrupt, IsLegalAnswer, Spent, Unavailable}
+use Rattle.store_model.specs.Machine.{MachineState, Session, session_at}
+use Rattle.store_model.specs.Standing.{Standing, is_undone}
+use Rattle.history_seats.specs.Known.{session_from}
+use Rattle.history_seats.specs.Records.{HistoryRecord}
+use Rattle.history_seats.specs.Settling.{calm}
+use Rattle.history_seats.specs.Views.{GateView, SlotView}
+use Rattle.suppositions.specs.Guesses.{Guess}
+use Rattle.suppositions.specs.Given.{DiffersInBytes}
+use Rattle.suppositions.specs.Stores.{Store, standing_at, start_under}
+use Rattle.suppositions.specs.Answered.{AreAnswered, IsAnsweredAt}
+use Rattle.suppositions.specs.Shown.{IsClashedAt}
+use Rattle.suppositions.proofs.Answers.{answered-front, answered-last, standing-snoc}
+use Rattle.suppositions.proofs.Mending.{none_some}
+use Rattle.suppositions.proofs.SessionSteps.{unchanged_stands}
+use Rattle.call_history.specs.Calls.{IsMovedBy}
+use Rattle.call_history.specs.Sessions.{CallerSession, pending_of}
+use Rattle.call_history.proofs.CallMoves.{stands-whole}
+use Rattle.locked_gate.specs.KnownMachine.{IsSessionAt}
+use Rattle.locked_gate.specs.SlotAnswers.{slot_record}
+use Rattle.locked_gate.proofs.Knowing.{shown_stand}
+use Rattle.object_answers.specs.EntryCalls.{MeansAlike}
+use Rattle.object_answers.specs.Serving.{MovesAlike}
+
+same_session : (session made i n : ℕ) (a b : Call) (p q : Reply) (m k : Mark) → CallEvent session made a p m ≡ CallEvent i n b q k → session ≡ i
+same_session session made i n a b p q m k e = cc
+
+same_call : (session made i n : ℕ) (a b : Call) (p q : Reply) (m k : Mark) → CallEvent session made a p m ≡ CallEvent i n b q k → a ≡ b
+same_call session made i n a b p q m k e = cc
+
+same_reply : (session made i n : ℕ) (a b : Call) (p q : Reply) (m k : Mark) → CallEvent session made a p m ≡ CallEvent i n b q k → p ≡ q
+same_reply session made i n a b p q m k e = cc
+
+-- An event that is answered, by a reply that tells something, has the machine's reply but for bytes of the object.
+module _ (store : Store) (guess : Guess) (all : List HistoryRecord) (slot : SlotView) (knows : GateView) (number made : ℕ) (call : Call) (reply : Reply) (done : is_undone reply ≡ false) where
+  abbrev here : Standing
+  here = standing_at store guess all
+
+  off : (other : Reply) → is_undone other ≡ true → reply ≡ other → ⊥
+  off other undone is = true≢false (sym undone ∙ ap is_undone (sym is) ∙ done)
+
+  by_legal : (file : Option ℕ) → IsLegalAnswer guess.dishonest here number call reply Unchanged file → MeansAlike here.state number call reply
+  by_legal file (Answered a) = inl a.replied
+  by_legal file (Unavailable a) = absurd (off _ refl a.replied)
+  by_legal file (Doubted a) = absurd (off _ refl a.replied)
+  by_legal file (FoundCorrupt a) = absurd (off _ refl a.replied)
+  by_legal file (Spent a) = absurd (off _ refl a.replied)
+
+  by_clash : IsClashedAt store guess all (slot_record store knows slot number made call reply) → MeansAlike here.state number call reply
+  by_clash clash =
+      let g = clash.told.given in
+      let session = same_session number made g.session g.number call g.call reply g.reply Unchanged g.mark g.is in
+      let same = same_call number made g.session g.number call g.call reply g.reply Unchanged g.mark g.is in
+      let replied = same_reply number made g.session g.number call g.call reply g.reply Unchanged g.mark g.is in
+      inr (subst (λ (p : ℕ × Call × Reply). DiffersInBytes p.2 (reply_of here.state p.0 p.1)) (λ i. (sym session i, sym same i, sym replied i)) clash.alike)
+
+  pub means-alike : IsAnsweredAt store guess all (slot_record store knows slot number made call reply) → MeansAlike here.state number call reply
+  means-alike (inl legal) = by_legal (Some slot.file) legal.legal.answer
+  means-alike (inr clash) = by_clash clash
+
+-- So the session moves as the machine's.
+module _ {E : Type 0} (store : Store) (knows : GateView) (slot : SlotView) (call : Call) (reply : Reply) (s : CallerSession E) (within : knows.decided ≤ length knows.all) (state : Session) (moves : MovesAlike store knows call reply state s) where
+  abbrev r : HistoryRecord
+  r = slot_record store knows slot s.number s.made call reply
+
+  abbrev was : CallerSession E
+  was = record s { state = state }
+
+  module _ (guess : Guess) (answered : AreAnswered store guess (knows.all ++ r ∷ [])) where
+    front : AreAnswered store guess knows.all
+    front = answered-front store guess knows.all (r ∷ []) answered
+
+    abbrev before : Standing
+    before = standing_at store guess knows.all
+
+    stands : IsSessionAt before.state was
+    stands = shown_stand E store knows was moves.was moves.sees guess front
+
+    calmly : session_from knows.decided s.number (start_under store guess) knows.all ≡ calm state
+    calmly = stands-whole store knows was moves.was moves.sees guess front ∙ ap (pending_of state) moves.settled
+
+    by_undone : (b : Bool) → is_undone reply ≡ b → session_at (elim b as (λ _. MachineState) [ true ↦ before.state | false ↦ state_after before.state s.number call ]) s.number ≡ s.state
+    by_undone true undone = stands.is ∙ sym (moves.undone undone)
+    by_undone false done =
+        moves.done done before.state stands (means-alike store guess knows.all slot knows s.number s.made call reply done (answered-last store guess knows.all r answered))
+
+    after : session_at (standing_at store guess (knows.all ++ r ∷ [])).state s.number ≡ s.state
+    after = ap (λ (t : Standing). session_at t.state s.number) (standing-snoc store guess knows.all r) ∙ by_undone (is_undone reply) refl
+
+    moved : session_from knows.decided s.number (start_under store guess) (knows.all ++ r ∷ []) ≡ pending_of s.state s.doubt
+    moved =
+        unchanged_stands store guess knows.all s.number knows.decided r state within refl calmly
+        ∙ ap (λ (x : Session). calm x) after
+        ∙ ap (pending_of s.state) (sym moves.settled)
+
+  pub answer-moves : IsMovedBy store knows r s
+  answer-moves = record {
+    before = pending_of state s.doubt;
+    was = moves.was.session;
+    application = moves.application ∙ moves.was.session.application;
+    moves = moved;
+    doubt = λ doubt has. absurd (none_some doubt (sym moves.settled ∙ has));
+  }

@@ -1,0 +1,96 @@
+-- A slot at an entry, once its object is loaded.
+use Rattle.std.proofs.Common.{◌≡◌, ◌∙◌, ℕ, List, Some, None, Result, Ok, Err, sym, ap, subst}
+use Rattle.dir_records.specs.declared.entry.DirEntry.{DirEntry}
+use Rattle.history_seats.specs.Records.{Version}
+use Rattle.history_seats.specs.Views.{GateView}
+use Rattle.history_seats.specs.Rule.{IsSound}
+use Rattle.crash_core.specs.EntryLists.{entry_at}
+use Rattle.suppositions.specs.Stores.{Store}
+use Rattle.locked_gate.specs.LockedGates.{IsLockedGate, LockedGateValue}
+use Rattle.object_slots.specs.declared.fault.SlotFault.{SlotFault}
+use Rattle.object_slots.specs.declared.fault.SlotFault.TheVariants.{Corrupt, Failed, NoEntropy, NoMemory}
+use Rattle.object_slots.specs.Loads.{IsLoadedBy, LoadsObject}
+use Rattle.object_slots.specs.Value.{HeldObject, Holding, IsFree, IsLive, SlotValue, free, live, made, staged}
+use Rattle.locked_slots.specs.Fills.{GivesEntry, IsDamagedAnswer}
+use Rattle.locked_slots.specs.LockedSlots.{IsLockedSlot}
+use Rattle.locked_slots.specs.Objects.{IsOfVersion}
+use Rattle.locked_slots.specs.Reads.{GivesVersion}
+use Rattle.locked_slots.proofs.Filled.{with_fault}
+use Rattle.locked_slots.proofs.Contents.{gives_seat, settled_now}
+use Rattle.object_answers.specs.Loading.{FillsOrStays, HoldsVersion, LoadsEntry, LoadsVersion}
+use Rattle.object_answers.specs.Meeting.{IsAtEntry, SeesWhole, met}
+use Rattle.object_answers.proofs.Meetings.{at-entry, at-stays, gives-entry, met-still}
+
+-- A slot that holds something, and is in no doubt, holds the object of the version that it gives.
+module _ (store : Store) (slot : SlotValue) (v : Version) (locked : IsLockedSlot store slot) (gives : GivesVersion slot v) where
+  of-version : IsOfVersion store.keys slot.file slot.holds (Some v)
+  of-version = (settled_now store.keys slot.file locked.seat.knows v (gives_seat store slot v locked gives) slot.holds slot.doubt locked.content).1
+
+  is-live : (holds : Holding) → IsOfVersion store.keys slot.file holds (Some v) → (IsFree holds → ⊥) → IsLive holds
+  is-live free own held = absurd (held tt)
+  is-live (live o) own held = tt
+  is-live (made o) own held = absurd own
+  is-live (staged o s) own held = absurd own
+
+  pub holds-version : (IsFree slot.holds → ⊥) → HoldsVersion store.keys slot v
+  holds-version held = record { live = is-live slot.holds of-version held; own = of-version }
+
+  live-held : (o : HeldObject) → slot.holds ≡ live o → IsFree slot.holds → ⊥
+  live-held o is free_ = subst IsFree is free_
+
+-- The object was loaded, or was refused.
+module _ (store : Store) (old new : SlotValue) (e : DirEntry) (tsk : List ℕ) (v : Version) (locked : IsLockedSlot store new) (gives : GivesVersion new v) where
+  by_fault : (fault : SlotFault) → LoadsObject old.file new.file tsk e new.holds (with_fault fault) → IsDamagedAnswer new.file v (with_fault fault) → LoadsVersion store.keys new v (with_fault fault)
+  by_fault Corrupt loads damaged = damaged
+  by_fault (Failed count) loads damaged = tt
+  by_fault (NoEntropy count) loads damaged = loads.refused
+  by_fault NoMemory loads damaged = tt
+
+  pub filled-version : (result : Result (Unit {0}) SlotFault) → LoadsObject old.file new.file tsk e new.holds result → IsDamagedAnswer new.file v result → LoadsVersion store.keys new v result
+  filled-version (Ok done) loads damaged =
+      let left : (o : HeldObject) × (new.holds ≡ live o) × IsLoadedBy old.file new.file tsk e o = loads.leaves in
+      holds-version store new v locked gives (live-held store new v locked gives left.0 left.1)
+  filled-version (Err fault) loads damaged = by_fault fault loads damaged
+
+-- a free slot is filled, any other stays
+pub fills-free : (holds : Holding) (old new : SlotValue) (tsk : List ℕ) (e : DirEntry) (result : Result (Unit {0}) SlotFault) → IsFree holds → LoadsObject old.file new.file tsk e new.holds result
+    → FillsOrStays holds old new tsk e result
+fills-free free old new tsk e result is loads = loads
+fills-free (made o) old new tsk e result is loads = absurd is
+fills-free (live o) old new tsk e result is loads = absurd is
+fills-free (staged o s) old new tsk e result is loads = absurd is
+
+pub stays-held : (holds : Holding) (old new : SlotValue) (tsk : List ℕ) (e : DirEntry) (result : Result (Unit {0}) SlotFault) → (IsFree holds → ⊥) → new ≡ old → FillsOrStays holds old new tsk e result
+stays-held free old new tsk e result held same = absurd (held tt)
+stays-held (made o) old new tsk e result held same = same
+stays-held (live o) old new tsk e result held same = same
+stays-held (staged o s) old new tsk e result held same = same
+
+-- a version is given by the seat alone
+pub gives-still : (old new : SlotValue) (v : Version) → new ≡ record old { file = new.file; holds = new.holds } → GivesVersion old v → GivesVersion new v
+gives-still old new v same gives = subst (λ (s : SlotValue). GivesVersion s v) (sym same) (record { seat = gives.seat; is = gives.is; gives = gives.gives })
+
+-- The slot of an entry's file, which was shown the history, once the entry's object is loaded.
+module _ {F R : Type 0} (store : Store) (gate : LockedGateValue F R) (locked : IsLockedGate store gate.gate gate.journal.knows gate.closing) (idle : gate.gate.doubt ≡ None) (index : ℕ) (e : DirEntry)
+    (held : entry_at gate.gate.dir.dir.entries index ≡ Some e) (old mid : SlotValue) (own : IsLockedSlot store mid) (sees : SeesWhole gate.journal.knows mid) (sound : IsSound gate.journal.knows)
+    (is : mid ≡ met gate.journal.knows old) (file : old.number ≡ e.file) where
+  abbrev knows : GateView
+  knows = gate.journal.knows
+
+  at : (v : Version) × IsAtEntry knows mid e v
+  at =
+      at-entry store gate.gate knows gate.closing locked idle index e held mid own sees
+      (ap (λ (s : SlotValue). s.number) is ∙ (met-still knows old).number ∙ file) sound
+
+  pub shown-gives : GivesEntry mid e
+  shown-gives = gives-entry knows mid e at.0 store own at.1
+
+  pub loads-entry : (new : SlotValue) (tsk : List ℕ) (result : Result (Unit {0}) SlotFault) → new ≡ record mid { file = new.file; holds = new.holds } → FillsOrStays mid.holds mid new tsk e result
+      → ((v : Version) → GivesVersion mid v → LoadsVersion store.keys new v result) → LoadsEntry store.keys knows old new tsk e result
+  loads-entry new tsk result same filled version = record {
+    version = at.0;
+    at = at-stays knows mid new e at.0 same at.1;
+    loads = version at.0 at.1.gives;
+    same = same ∙ ap (λ (s : SlotValue). record s { file = new.file; holds = new.holds }) is;
+    filled = subst (λ (s : SlotValue). FillsOrStays s.holds s new tsk e result) is filled;
+  }

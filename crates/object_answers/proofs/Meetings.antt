@@ -1,0 +1,184 @@
+-- A slot that is shown the whole history.
+use Rattle.std.proofs.Common.{◌≡◌, ◌+◌, ◌<◌, ◌∷◌, ℕ, List, length, Bool, true, false, cond, drop, nat_lt, Option, Some, None, inl, refl, sym, ap, ◌∙◌, subst, arith, length-append}
+use Rattle.store_model.specs.declared.event.Event.{Event}
+use Rattle.dir_records.specs.declared.entry.DirEntry.{DirEntry}
+use Rattle.history_seats.specs.Changes.{seat_renewed, slot_renewed}
+use Rattle.history_seats.specs.Directory.{given_version}
+use Rattle.history_seats.specs.Mounts.{Mounted}
+use Rattle.history_seats.specs.Records.{HistoryRecord, Version}
+use Rattle.history_seats.specs.Rule.{IsSound, SlotFits}
+use Rattle.history_seats.specs.Settling.{IsOpenDoubt, calm, is_landing, settling}
+use Rattle.history_seats.specs.Views.{GateView, Sight, SlotView}
+use Rattle.core_parts.specs.GateParts.{IsVersionOf}
+use Rattle.crash_core.specs.EntryLists.{entry_at}
+use Rattle.store_commit.specs.declared.gate.Doubted.{Doubted}
+use Rattle.store_commit.specs.Gates.{GateValue}
+use Rattle.suppositions.specs.Stores.{Store}
+use Rattle.gate_ties.specs.Ties.{IsDoubtTied}
+use Rattle.object_slots.specs.Value.{SlotValue}
+use Rattle.locked_slots.specs.KnownFor.{own_version}
+use Rattle.locked_slots.specs.Fills.{GivesEntry}
+use Rattle.locked_slots.specs.Learning.{decided_slot, dropped_slot, landed_slot, learned, shown}
+use Rattle.locked_slots.specs.LockedSlots.{IsContentOf, IsInDoubt, IsLockedSlot, IsSettled, IsSlotOf}
+use Rattle.locked_slots.proofs.Contents.{seat_same}
+use Rattle.locked_slots.proofs.KnownOnes.{known_one}
+use Rattle.locked_slots.proofs.Learned.{slots_learn}
+use Rattle.locked_gate.specs.declared.gate.Closing.{Closing}
+use Rattle.locked_gate.specs.LockedGates.{IsLockedGate, change_in_doubt}
+use Rattle.object_answers.specs.Meeting.{IsAtEntry, SeesWhole, met}
+
+-- its seat, and what the slot shows by it
+pub own-seat : (store : Store) (slot : SlotValue) (seat : Sight SlotView) → slot.seat ≡ Some seat → IsLockedSlot store slot → IsSlotOf store slot.number slot.file seat
+own-seat store slot seat is locked = subst (IsSlotOf store slot.number slot.file) (seat_same locked.seat seat (sym locked.is ∙ is)) locked.own
+
+content-seat : (store : Store) (slot : SlotValue) (seat : Sight SlotView) → slot.seat ≡ Some seat → (locked : IsLockedSlot store slot) → IsContentOf store.keys slot.file seat.knows slot.holds slot.doubt
+content-seat store slot seat is locked =
+    subst (λ (s : Sight SlotView). IsContentOf store.keys slot.file s.knows slot.holds slot.doubt) (seat_same locked.seat seat (sym locked.is ∙ is)) locked.content
+
+-- the event of its doubt stands in the history
+module _ (store : Store) (gate : GateView) (slot : SlotValue) (seat : Sight SlotView) (is : slot.seat ≡ Some seat) (fits : SlotFits gate seat.knows) (locked : IsLockedSlot store slot) where
+  pub doubt-below : (place : ℕ) → slot.doubt ≡ Some place → place < length gate.all
+  doubt-below place has =
+      let doubted : IsInDoubt store.keys slot.file seat.knows slot.holds place =
+      subst (IsContentOf store.keys slot.file seat.knows slot.holds) has (content-seat store slot seat is locked) in
+      omega (
+        arith,
+        doubted.at,
+        sym (length-append doubted.doubt.front (doubted.doubt.doubted ∷ doubted.doubt.back)) ∙ ap length doubted.doubt.is,
+        sym (length-append seat.knows.seen fits.sees.begins.rest) ∙ ap length fits.sees.begins.is,
+      )
+
+  pub met-locked : IsLockedSlot store (met gate slot)
+  met-locked = slots_learn store gate slot seat is fits locked
+
+-- number, seat and file stay with the slot, whatever becomes of its doubt
+pub record IsStill (old new : SlotValue) : Type 0 where
+  pub number : new.number ≡ old.number
+  pub seat : new.seat ≡ old.seat
+  pub file : new.file ≡ old.file
+
+by_landing : (slot : SlotValue) (landed : Bool) → IsStill slot (cond landed (landed_slot slot) (dropped_slot slot))
+by_landing slot true = record { number = refl; seat = refl; file = refl }
+by_landing slot false = record { number = refl; seat = refl; file = refl }
+
+by_event : (slot : SlotValue) (event : Option Event) (below : Bool) → IsStill slot (decided_slot event below slot)
+by_event slot None true = record { number = refl; seat = refl; file = refl }
+by_event slot None false = record { number = refl; seat = refl; file = refl }
+by_event slot (Some event) below = by_landing slot (is_landing event)
+
+by_doubt : (gate : GateView) (slot : SlotValue) (doubt : Option ℕ) → IsStill slot (learned gate doubt slot)
+by_doubt gate slot None = record { number = refl; seat = refl; file = refl }
+by_doubt gate slot (Some place) = by_event slot (settling (drop (place + 1) gate.all)) (nat_lt place gate.decided)
+
+pub met-still : (gate : GateView) (slot : SlotValue) → IsStill (shown gate slot) (met gate slot)
+met-still gate slot = by_doubt gate (shown gate slot) slot.doubt
+
+-- so it sees the whole history
+pub met-sees : (gate : GateView) (slot : SlotValue) (seat : Sight SlotView) → slot.seat ≡ Some seat → SeesWhole gate (met gate slot)
+met-sees gate slot seat is = record {
+  seat = record seat { knows = slot_renewed gate seat.knows };
+  is = (met-still gate slot).seat ∙ ap (seat_renewed gate) is;
+  whole = refl;
+}
+
+-- Where the gate has no doubt, a slot that sees the whole history has none.
+module _ (store : Store) (gate : GateView) (slot : SlotValue) (locked : IsLockedSlot store slot) (sees : SeesWhole gate slot) (closed : (number : ℕ) → IsOpenDoubt number gate.decided gate.all → ⊥) where
+  none_open : (doubt : Option ℕ) → IsContentOf store.keys slot.file sees.seat.knows slot.holds doubt → doubt ≡ None
+  none_open None content = refl
+  none_open (Some place) content =
+      let z : sees.seat.knows.decided ≡ gate.decided = ap (λ (v : SlotView). v.decided) (sym sees.whole) in
+      let all : sees.seat.knows.seen ≡ gate.all = ap (λ (v : SlotView). v.seen) (sym sees.whole) in
+      absurd (closed content.commit (subst (λ (p : ℕ × List HistoryRecord). IsOpenDoubt content.commit p.0 p.1) (λ i. (z i, all i)) content.doubt))
+
+  pub seen-settled : slot.doubt ≡ None
+  seen-settled = none_open slot.doubt (content-seat store slot sees.seat sees.is locked)
+
+-- a doubt of the gate's, if there is none
+pub none-open : (store : Store) (knows : GateView) (entries : List (Option DirEntry)) (doubt : Option Doubted) → doubt ≡ None → IsDoubtTied store knows entries (change_in_doubt doubt)
+    → (number : ℕ) → IsOpenDoubt number knows.decided knows.all → ⊥
+none-open store knows entries doubt none tied = subst (λ (o : Option Doubted). IsDoubtTied store knows entries (change_in_doubt o)) none tied
+
+-- A slot of an entry's file that sees the whole history, by which no doubt is open: its view gives the entry's version.
+module _ (store : Store) (gate : GateView) (slot : SlotValue) (locked : IsLockedSlot store slot) (sees : SeesWhole gate slot) (settled : slot.doubt ≡ None) (e : DirEntry) (v : Version)
+    (file : slot.number ≡ e.file) (given : given_version store.mounted gate.all e.file e.generation ≡ Some v) (is : IsVersionOf e v) where
+  abbrev view : SlotView
+  view = sees.seat.knows
+
+  own : IsSlotOf store slot.number slot.file sees.seat
+  own = own-seat store slot sees.seat sees.is locked
+
+  seen_all : view.seen ≡ gate.all
+  seen_all = ap (λ (w : SlotView). w.seen) (sym sees.whole)
+
+  of_file : view.file ≡ e.file
+  of_file = own.own ∙ file
+
+  told : given_version view.mounted view.seen view.file e.generation ≡ Some v
+  told = (λ i. given_version (own.mounted i) (seen_all i) (of_file i) e.generation) ∙ given
+
+  generation-is : e.generation ≡ view.generation
+  generation-is = own.single e.generation v (inl told)
+
+  there : given_version view.mounted view.seen view.file view.generation ≡ Some v
+  there = ap (given_version view.mounted view.seen view.file) (sym generation-is) ∙ told
+
+  content : IsSettled store.keys slot.file view slot.holds
+  content = subst (IsContentOf store.keys slot.file view slot.holds) settled (content-seat store slot sees.seat sees.is locked)
+
+  gives : own_version view ≡ calm (Some v)
+  gives = content.gives ∙ ap (λ (o : Option Version). calm o) (known_one view content.version content.gives own.single v (inl (view.generation, there)))
+
+  pub stands-at : IsSound gate → IsAtEntry gate slot e v
+  stands-at sound = record {
+    sound = sound;
+    file = file;
+    settled = settled;
+    sees = sees;
+    generation = sym generation-is;
+    gives = record { seat = sees.seat; is = sees.is; gives = gives };
+    given = ap (λ (m : Mounted). given_version m gate.all e.file e.generation) own.mounted ∙ given;
+    own = is;
+  }
+
+-- So the slot stands at the entry, by its version.
+pub at-entry : {F R : Type 0} (store : Store) (gate : GateValue F R) (knows : GateView) (closing : Option Closing) → IsLockedGate store gate knows closing → gate.doubt ≡ None
+    → (index : ℕ) (e : DirEntry) → entry_at gate.dir.dir.entries index ≡ Some e → (slot : SlotValue) → IsLockedSlot store slot → SeesWhole knows slot → slot.number ≡ e.file → IsSound knows
+    → (v : Version) × IsAtEntry knows slot e v
+at-entry store gate knows closing locked idle index e at slot own sees file sound =
+    let settled = seen-settled store knows slot own sees (none-open store knows gate.dir.dir.entries gate.doubt idle locked.tied.doubt) in
+    let listed = locked.tied.versions index e at in
+    (listed.0, stands-at store knows slot own sees settled e listed.0 file listed.1 listed.2 sound)
+
+-- and so it does whatever becomes of its file and of what it holds
+pub at-stays : (knows : GateView) (old new : SlotValue) (e : DirEntry) (v : Version) → new ≡ record old { file = new.file; holds = new.holds } → IsAtEntry knows old e v → IsAtEntry knows new e v
+at-stays knows old new e v same at =
+    subst (λ (s : SlotValue). IsAtEntry knows s e v) (sym same) (record {
+      sound = at.sound;
+      file = at.file;
+      settled = at.settled;
+      sees = record { seat = at.sees.seat; is = at.sees.is; whole = at.sees.whole };
+      generation = at.generation;
+      gives = record { seat = at.gives.seat; is = at.gives.is; gives = at.gives.gives };
+      given = at.given;
+      own = at.own;
+    })
+
+-- Where it holds nothing yet, the entry's object may be loaded.
+pub gives-entry : (knows : GateView) (slot : SlotValue) (e : DirEntry) (v : Version) → (store : Store) → IsLockedSlot store slot → IsAtEntry knows slot e v → GivesEntry slot e
+gives-entry knows slot e v store locked at =
+    let seat = at.sees.seat in
+    let own = own-seat store slot seat at.sees.is locked in
+    let all : seat.knows.seen ≡ knows.all = ap (λ (w : SlotView). w.seen) (sym at.sees.whole) in
+    let there : given_version seat.knows.mounted seat.knows.seen seat.knows.file seat.knows.generation ≡ Some v =
+    (λ i. given_version seat.knows.mounted (all i) ((own.own ∙ at.file) i) (at.generation i)) ∙ at.given in
+    let one : at.gives.seat ≡ seat = seat_same at.gives.seat seat (sym at.gives.is ∙ at.sees.is) in
+    record {
+      version = v;
+      gives = at.gives;
+      there = subst (λ (s : Sight SlotView). given_version s.knows.mounted s.knows.seen s.knows.file s.knows.generation ≡ Some v) (sym one) there;
+      is = at.own;
+    }
+
+-- a slot of which the file alone moved
+pub file-moved : (old new : SlotValue) → new ≡ record old { file = new.file } → new ≡ record old { file = new.file; holds = new.holds }
+file-moved old new same = same ∙ ap (λ (s : SlotValue). record old { file = new.file; holds = s.holds }) (sym same)

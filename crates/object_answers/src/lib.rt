@@ -1,0 +1,17 @@
+//! Calls that an object's file has a part in, and that change nothing.
+//!
+//! What the file gives is the answer, or why it gives nothing. A slot is shown the history together with the caller's session, before its
+//! file is asked; the answer is appended with the slot's seat.
+#![tactic(auto)]
+
+mod answer;
+mod fault;
+mod loading;
+mod meeting;
+mod reading;
+mod telling;
+
+pub use answer::Answer;
+pub use fault::fault_reply;
+pub use loading::load;
+pub use reading::read;

@@ -1,0 +1,73 @@
+//! How a session and the slot of an object's file are shown the history.
+
+ghost use Rattle.std.specs.Prelude.{◌≡◌, ◌<◌, ℕ, length, None, Some};
+ghost use Rattle.history_seats.specs.Rule.{IsSound};
+ghost use Rattle.suppositions.specs.Guesses.{Guess};
+ghost use Rattle.suppositions.specs.Stores.{standing_at};
+ghost use Rattle.suppositions.specs.Answered.{AreAnswered};
+ghost use Rattle.call_history.specs.Sessions.{IsCallerOf};
+ghost use Rattle.call_history.specs.Shown.{BeginsAll, SeesAll, shown};
+ghost use Rattle.locked_slots.specs.Learning.{learned};
+ghost use Rattle.locked_slots.specs.LockedSlots.{IsLockedSlot};
+ghost use Rattle.locked_gate.specs.KnownMachine.{IsSessionAt};
+ghost use Rattle.object_answers.specs.Meeting.{SeesWhole, met, settled_slot};
+
+use call_history::{Session, Settled};
+use locked_gate::LockedGate;
+use object_slots::Slot;
+use rpmb_card::RpmbPort;
+use suppositions::StoreName;
+use tee_ports::{Entropy, StoreFile};
+
+// Ends the slot's doubt, as it was settled.
+fn settle<F: StoreFile + Drop>(slot: &mut Slot<F>, place: u64, settled: Settled)
+    requires { slot.old.doubt ≡ Some place }
+    ensures { slot.new ≡ settled_slot settled slot.old }
+{
+    match settled {
+        Settled::Open => {}
+        Settled::Landed => slot.adopt(),
+        Settled::Dropped => slot.drop_stage(),
+    }
+}
+
+// Tells a slot that sees the whole history what became of its doubt.
+fn learn<F: StoreFile + Drop, R: RpmbPort + Drop, L: StoreName>(
+    gate: &LockedGate<F, R, L>,
+    slot: &mut Slot<F>,
+)
+    requires { (place : ℕ) → slot.old.doubt ≡ Some place → place < length gate.now.journal.knows.all }
+    ensures { slot.new ≡ learned gate.now.journal.knows slot.old.doubt slot.old }
+{
+    let Some(place) = slot.doubt_place() else {
+        return
+    };
+    settle(slot, place, gate.settled_behind(place));
+}
+
+/// Shows a session and a slot the whole history. Both learn what became of their own commits in doubt.
+pub(crate) fn meet<F: StoreFile + Drop, R: RpmbPort + Drop, L: StoreName, E: Entropy>(
+    gate: &mut LockedGate<F, R, L>,
+    slot: &mut Slot<F>,
+    session: &mut Session<E>,
+)
+    requires locked { IsLockedSlot L.store slot.old }
+    requires session { IsCallerOf L.store session.old }
+    ensures same { gate.new ≡ gate.old }
+    ensures slot { slot.new ≡ met gate.old.journal.knows slot.old }
+    ensures locked { IsLockedSlot L.store slot.new }
+    ensures whole_slot { SeesWhole gate.old.journal.knows slot.new }
+    ensures sound { IsSound gate.old.journal.knows }
+    ensures session { session.new ≡ shown gate.old.journal.knows session.old }
+    ensures begins { BeginsAll gate.old.journal.knows session.old.pass }
+    ensures sees { SeesAll gate.old.journal.knows session.new.pass }
+    ensures whole { IsCallerOf L.store session.new }
+    ensures stands { (guess : Guess) → AreAnswered L.store guess gate.old.journal.knows.all → IsSessionAt (standing_at L.store guess gate.old.journal.knows.all).state session.new }
+{
+    let seat = slot.lend_seat();
+    let Some(seat) = gate.show(Some(seat), session) else {
+        unreachable!()
+    };
+    slot.give_seat(seat);
+    learn(gate, slot);
+}

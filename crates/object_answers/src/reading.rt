@@ -1,0 +1,149 @@
+//! TEE_ReadObjectData: a read of an open object's data.
+
+ghost use Rattle.std.specs.Prelude.{◌≡◌, ◌≤◌, ℕ, None, Some, IfOk, OnErr};
+ghost use Rattle.tee_types.specs.Rights.{read_bit};
+ghost use Rattle.crash_core.specs.DeviceKeys.{object_key};
+ghost use Rattle.crash_core.specs.EntryLists.{entry_at};
+ghost use Rattle.history_seats.specs.Records.{Version};
+ghost use Rattle.store_model.specs.Machine.{handle_at};
+ghost use Rattle.call_rules.specs.Objects.{IsRightful};
+ghost use Rattle.locked_slots.specs.LockedSlots.{IsLockedSlot};
+ghost use Rattle.locked_slots.specs.Reads.{GivesVersion};
+ghost use Rattle.locked_gate.specs.Commits.{IsCalm};
+ghost use Rattle.object_slots.specs.Value.{IsLive};
+ghost use Rattle.object_answers.specs.Reading.{EndsAtPosition, ReadsAnswer, ReadsEntry, read_session};
+ghost use Rattle.object_answers.specs.Served.{IsServedOrNot};
+
+use crate::answer::Answer;
+use crate::fault::fault_reply;
+use crate::loading::load;
+use crate::telling::tell;
+use call_history::Session;
+use call_rules::OpenObject;
+use dir_records::DirEntry;
+use locked_gate::LockedGate;
+use locked_slots::LockedSlot;
+use object_slots::Slot;
+use rpmb_card::RpmbPort;
+use std::alloc::Global;
+use store_model::Handle;
+use suppositions::StoreName;
+use tee_ports::{Entropy, StoreFile};
+use tee_types::{Bytes, Call, NoMemory, Reply};
+
+// Reads at most so many bytes from the place `at` on, fewer where the end of the object's `size` bytes is nearer.
+fn read_bytes<F: StoreFile + Drop, L: StoreName>(
+    alloc: Global,
+    slot: &mut Slot<F>,
+    at: u32,
+    count: u32,
+    size: u32,
+) -> Result<Reply, NoMemory>
+    requires locked { IsLockedSlot L.store slot.old }
+    requires live { IsLive slot.old.holds }
+    ensures same { slot.new ≡ record slot.old { file = slot.new.file } }
+    ensures locked { IsLockedSlot L.store slot.new }
+    ensures reads { (v : Version) → GivesVersion slot.old v → v.size ≡ size → IfOk result (ReadsAnswer L.store slot.new v at count) }
+{
+    let long = count.min(size.saturating_sub(at));
+    let mut bytes = vec![in alloc; 0; long as usize]?;
+    match locked_slots::read::<F, L>(slot, at, bytes.as_mut_slice()) {
+        Ok(_) => Ok(Reply::Content(Bytes::from_vec(bytes))),
+        Err(fault) => {
+            let Some(reply) = fault_reply(slot.number(), fault) else {
+                return Err(NoMemory {});
+            };
+            Ok(reply)
+        }
+    }
+}
+
+// Loads the entry's object, and reads from it.
+fn read_entry<F: StoreFile + Drop, R: RpmbPort + Drop, L: StoreName, E: Entropy>(
+    alloc: Global,
+    gate: &mut LockedGate<F, R, L>,
+    slot: &mut LockedSlot<F, L>,
+    session: &mut Session<E>,
+    entry: &DirEntry,
+    tsk: &[u8; 32],
+    at: u32,
+    count: u32,
+) -> Result<Reply, NoMemory>
+    requires idle { gate.old.gate.doubt ≡ None }
+    requires calm { IsCalm L.store gate.old.journal.knows session.old }
+    requires entry { (index : ℕ) × (entry_at gate.old.gate.dir.dir.entries index ≡ Some entry.now) }
+    requires file { slot.old.number ≡ entry.now.file }
+    requires key { tsk.now ≡ object_key L.store.keys entry.now.app }
+    ensures gate { gate.new ≡ gate.old }
+    ensures session { session.new ≡ session.old }
+    ensures number { slot.new.number ≡ slot.old.number }
+    ensures reads { IfOk result (ReadsEntry L.store gate.old.journal.knows slot.new entry.now at count) }
+{
+    match load(alloc, gate, slot, session, entry, tsk) {
+        Ok(()) => read_bytes::<F, L>(alloc, &mut slot.slot, at, count, entry.size),
+        Err(fault) => {
+            let Some(reply) = fault_reply(entry.file, fault) else {
+                return Err(NoMemory {});
+            };
+            Ok(reply)
+        }
+    }
+}
+
+// Moves the handle behind the bytes that a reply gives.
+fn advance<E: Entropy>(session: &mut Session<E>, number: u32, handle: Handle, reply: &Reply)
+    requires live { handle_at session.old.state number ≡ Some handle }
+    requires fits { EndsAtPosition handle.position reply.now }
+    ensures { session.new ≡ record session.old { state = read_session session.old.state number handle reply.now } }
+{
+    if let Reply::Content(bytes) = reply {
+        let position = handle.position + bytes.len() as u32;
+        session.replace(number, Handle { position, ..handle });
+    }
+}
+
+/// Reads at most so many bytes from the handle's position on. `found` is what the rules found of the handle, whose session was shown the
+/// history. `tsk` is the key of the entry's application. The position advances by what is given.
+///
+/// # Errors
+///
+/// Memory ran out. Nothing was answered.
+pub fn read<F: StoreFile + Drop, R: RpmbPort + Drop, L: StoreName, E: Entropy>(
+    alloc: Global,
+    gate: &mut LockedGate<F, R, L>,
+    slot: &mut LockedSlot<F, L>,
+    session: &mut Session<E>,
+    found: &OpenObject,
+    tsk: &[u8; 32],
+    handle: u32,
+    count: u32,
+) -> Result<Answer, NoMemory>
+    requires room { 1 ≤ gate.old.journal.spare }
+    requires handle { 1 ≤ gate.old.gate.open_handles.spare }
+    requires idle { gate.old.gate.doubt ≡ None }
+    requires calm { IsCalm L.store gate.old.journal.knows session.old }
+    requires found { IsRightful gate.old.gate.dir.dir.entries session.old.state handle read_bit found.now }
+    requires file { slot.old.number ≡ found.now.held.entry.file }
+    requires key { tsk.now ≡ object_key L.store.keys found.now.held.entry.app }
+    ensures { IsServedOrNot L.store gate.old gate.new session.old session.new (Call.Read handle count) result }
+{
+    let object = found.handle;
+    let entry = found.held.entry;
+    let reply = read_entry(
+        alloc,
+        gate,
+        slot,
+        session,
+        &entry,
+        tsk,
+        object.position,
+        count,
+    )?;
+    let told = reply.copy(alloc)?;
+    advance(session, handle, object, &reply);
+    let call = Call::Read {
+        handle,
+        size: count,
+    };
+    Ok(tell(gate, slot, session, call, reply, told))
+}

@@ -1,0 +1,40 @@
+//! How the answer that an object's file gave is appended.
+
+ghost use Rattle.std.specs.Prelude.{◌≡◌, ◌≤◌};
+ghost use Rattle.object_answers.specs.Served.{IsServed};
+ghost use Rattle.object_answers.specs.Serving.{MayBeServed};
+
+use crate::answer::Answer;
+use call_history::Session;
+use locked_gate::LockedGate;
+use locked_slots::LockedSlot;
+use rpmb_card::RpmbPort;
+use suppositions::StoreName;
+use tee_ports::{Entropy, StoreFile};
+use tee_types::{Call, Reply};
+
+/// Appends the reply that an object's file gave, and tells it. `told` is a copy of the reply. The session is already as the call leaves
+/// it.
+pub(crate) fn tell<F: StoreFile + Drop, R: RpmbPort + Drop, L: StoreName, E: Entropy>(
+    gate: &mut LockedGate<F, R, L>,
+    slot: &mut LockedSlot<F, L>,
+    session: &mut Session<E>,
+    call: Call,
+    reply: Reply,
+    told: Reply,
+) -> Answer
+    requires room { 1 ≤ gate.old.journal.spare }
+    requires handle { 1 ≤ gate.old.gate.open_handles.spare }
+    requires copied { told ≡ reply }
+    requires may { MayBeServed L.store gate.old.gate gate.old.journal.knows slot.old call reply session.old }
+    ensures served { IsServed L.store gate.old gate.new session.old session.new call result }
+    ensures reply { result.reply ≡ reply }
+    ensures number { slot.new.number ≡ slot.old.number }
+{
+    let _doubt = gate.doubt();
+    let _counter = gate.counter();
+    let seat = slot.slot.lend_seat();
+    let (place, seat) = gate.answer_with(seat, session, call, reply);
+    slot.slot.give_seat(seat);
+    Answer { place, reply: told }
+}

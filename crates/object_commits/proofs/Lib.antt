@@ -1,0 +1,14 @@
+pub mod PlacedEntries
+pub mod AtObject
+pub mod GivenCalls
+pub mod Changes
+pub mod Writes
+pub mod Truncations
+pub mod BroughtSlots
+pub mod SlotEnds
+pub mod OwnHandles
+pub mod Names
+pub mod WholeSlots
+pub mod NewFiles
+pub mod Creates
+pub mod SettledSlots

@@ -1,0 +1,9 @@
+pub mod AtObject
+pub mod StagedVersions
+pub mod SlotCommits
+pub mod ChangeLaws
+pub mod BroughtSlots
+pub mod NameLaws
+pub mod CreateLaws
+pub mod Ends
+pub mod EndLaws
