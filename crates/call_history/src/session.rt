@@ -4,23 +4,21 @@ ghost use Rattle.std.specs.Prelude.{◌≡◌, ◌≤◌, ◌<◌, ◌^◌, ◌+
 ghost use Rattle.enumerators.specs.Enumeration.{IsLive, IsStarted, advanced, allocated, cursor_at, freed, has_all, reset, started};
 ghost use Rattle.store_model.specs.Machine.{handle_at, has_all_handles, with_handle, without_handle};
 ghost use Rattle.history_seats.specs.Views.{PassView, Sight};
-ghost use Rattle.call_history.specs.Beginnings.{fresh};
 ghost use Rattle.call_history.specs.Sessions.{landed_by, landing_of_call, renamed};
 
 use crate::own_doubt::{Landing, OwnDoubt, landing_of};
 use enumerators::{Cursor, EnumFault};
 use history_seats::PassSeat;
-use std::alloc::Global;
 use std::marker::Model;
 use store_model::{Handle, ObjectName, Session as SessionState};
 use tee_ports::Entropy;
-use tee_types::{AppId, Call, Flags, NoMemory, ObjectId};
+use tee_types::{AppId, Call, Flags, ObjectId};
 
 /// The session of an application, which belongs to one caller: its seat, its handles and enumerators, its own commit in doubt, and what
 /// it draws nonces from.
 #[derive(Drop)]
 pub struct Session<E> {
-    // None while it is lent.
+    // None before it is given, and while it is lent.
     pass: Option<PassSeat>,
     number: u32,
     // How many events it has.
@@ -31,7 +29,6 @@ pub struct Session<E> {
 }
 
 impl<E> Model for Session<E> {
-    ghost use Rattle.call_history.specs.Beginnings.{fresh};
     ghost use Rattle.call_history.specs.Sessions.{CallerSession};
 
     ghost Value = { CallerSession E };
@@ -51,25 +48,18 @@ impl<E: Entropy> Session<E> {
     ghost use Rattle.store_model.specs.contracts.session.Session.{the_row as state_row};
     ghost use Rattle.call_history.specs.contracts.session.Session.{the_row};
 
-    /// The session of an application as it begins.
-    pub fn new(
-        alloc: Global,
-        pass: PassSeat,
-        app: AppId,
-        entropy: E,
-    ) -> Result<Session<E>, NoMemory>
-        ensures { IfOk result (λ session. session ≡ fresh pass app entropy) }
+    /// The session of that number as it begins, with that state. It has no seat yet.
+    pub fn new(number: u32, state: SessionState, entropy: E) -> Session<E>
+        ensures { result ≡ record { pass = None; number = number; made = 0; state = state; doubt = None; entropy = entropy } }
     {
-        let number = pass.session();
-        let state = SessionState::new(alloc, app)?;
-        Ok(Session {
-            pass: Some(pass),
+        Session {
+            pass: None,
             number,
             made: 0,
             state,
             doubt: None,
             entropy,
-        })
+        }
     }
 
     /// Its number.
@@ -112,7 +102,7 @@ impl<E: Entropy> Session<E> {
         pass
     }
 
-    /// Takes the seat back.
+    /// Takes its seat, or takes it back.
     pub fn give_pass(&mut self, pass: PassSeat)
         ensures { self.new ≡ record self.old { pass = Some pass } }
     {

@@ -3,11 +3,18 @@ use Rattle.std.specs.Prelude.{◌≡◌, ◌<◌, ◌≤◌, ℕ, List, [], leng
 use Rattle.store_model.specs.Machine.{new_session}
 use Rattle.call_history.specs.Sessions.{CallerSession, IsCallerOf}
 use Rattle.suppositions.specs.Stores.{Store}
+use Rattle.object_calls.specs.declared.session.SessionFault.{SessionFault}
+use Rattle.object_calls.specs.declared.session.SessionFault.TheVariants.{TooMany, NoMemory}
 
 -- the session of an application as it begins, without its seat
 abbrev pub unseated : {E : Type 0} → (number : ℕ) → (app : List ℕ) → E → CallerSession E
 unseated number app entropy = record { pass = None; number = number; made = 0; state = new_session app; doubt = None; entropy = entropy }
 
+
+-- A session is refused where there are sixteen, and for want of memory; its entropy is given back.
+abbrev pub IsSessionRefused : {E : Type 0} → (count : ℕ) → E → SessionFault E → Type 0
+IsSessionRefused count entropy (TooMany given) = (16 ≤ count) × (given ≡ entropy)
+IsSessionRefused count entropy (NoMemory given) = (count < 16) × (given ≡ entropy)
 
 -- Each application has its session, in order.
 pub record AreUnseated {E : Type 0} (applications : List (List ℕ)) (sessions : List (CallerSession E)) : Type 0 where
