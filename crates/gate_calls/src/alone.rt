@@ -12,9 +12,9 @@ ghost use Rattle.gate_calls.specs.Seen.{HasSeen};
 ghost use Rattle.gate_calls.specs.Served.{IsLeft, IsServed, IsServedAlone, ServesAlone, ServesByRules};
 
 use crate::by_rules::{answer_on_object, tell};
+use crate::deciding::{is_new_enumerator, misuse};
 use crate::holding::held_up;
 use crate::moving::{close, enum_free, enum_new, enum_next, enum_reset, enum_start, seek};
-use crate::deciding::{is_new_enumerator, misuse};
 use crate::served::Answer;
 use crate::settling::settle;
 use call_history::Session;

@@ -8,7 +8,6 @@ use Rattle.suppositions.specs.Stores.{Store}
 abbrev pub unseated : {E : Type 0} → (number : ℕ) → (app : List ℕ) → E → CallerSession E
 unseated number app entropy = record { pass = None; number = number; made = 0; state = new_session app; doubt = None; entropy = entropy }
 
-
 -- Each application has its session, in order.
 pub record AreUnseated {E : Type 0} (applications : List (List ℕ)) (sessions : List (CallerSession E)) : Type 0 where
   pub many : length sessions ≡ length applications

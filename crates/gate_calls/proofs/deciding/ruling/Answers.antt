@@ -25,4 +25,3 @@ pub returns-in-Truncate-clause-proper : goal.returns-in-Truncate-clause-proper
 returns-in-Truncate-clause-proper g c = λ on s i m none.
     proper-as s i c.args.call.now _ c.in-Truncate.is
     (decided-needs c.truncate.result _ _ (λ found is. is.proper) (c.truncate.ensures.resizes s i c.in-Truncate.size m) (subst (λ (o : Option Reply). IsNone o) c.answered-in-Truncate.ensures none))
-
