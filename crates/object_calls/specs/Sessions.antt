@@ -10,7 +10,6 @@ use Rattle.object_calls.specs.declared.session.SessionFault.TheVariants.{TooMany
 abbrev pub unseated : {E : Type 0} → (number : ℕ) → (app : List ℕ) → E → CallerSession E
 unseated number app entropy = record { pass = None; number = number; made = 0; state = new_session app; doubt = None; entropy = entropy }
 
-
 -- A session is refused where there are sixteen, and for want of memory; its entropy is given back.
 abbrev pub IsSessionRefused : {E : Type 0} → (count : ℕ) → E → SessionFault E → Type 0
 IsSessionRefused count entropy (TooMany given) = (16 ≤ count) × (given ≡ entropy)

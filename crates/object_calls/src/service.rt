@@ -74,8 +74,9 @@ impl<F: StoreFile + Drop, R: RpmbPort + Drop> Opening<F, R> {
             mut seat,
             applications: _,
         } = self;
-        let SplitSlots { slots, room } =
-            split_slots::<F, R, L>(&gate, &table, &mut seat, files, slots);
+        let SplitSlots { slots, room } = split_slots::<F, R, L>(
+            &gate, &table, &mut seat, files, slots,
+        );
         split_passes::<E, L>(&table, &mut seat, sessions);
         let journal = Journal::new(table, seat, History::new(alloc));
         Ok(Service {

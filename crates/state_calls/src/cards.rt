@@ -1,13 +1,13 @@
 // Frames of the card, the simulated card behind its port, and the host.
 
-use crate::line::{hex_line, line};
+use crate::report::Report;
 use rpmb_card::{
     CardRig, PROGRAM_KEY, READ_RESULT, RpmbPort, SimCard, SimPort, WRITE_BLOCK, empty_frame,
 };
 use rpmb_frame::{Frame, mac, seal_frame, verify};
-use rpmb_host::Host;
+use rpmb_host::{Host, HostFault};
 use std::alloc::Global;
-use tee_ports::Failed;
+use tee_ports::{Failed, NoMemory};
 
 const KEY: [u8; 32] = [0x5a; 32];
 
@@ -20,30 +20,30 @@ fn pattern_bytes() -> [u8; 512] {
     pattern
 }
 
-// The expected MAC is from Python's `hmac`.
-fn print_frame(rt: &impl Print, alloc: Global) -> anyhow::Result<()> {
+/// The bytes from 0 to 31.
+fn rising_key() -> [u8; 32] {
     let mut key = [0; 32];
     for (i, byte) in key.iter_mut().enumerate() {
         *byte = i as u8;
     }
+    key
+}
+
+// The expected MAC is from Python's `hmac`.
+fn add_frame(report: &mut Report) {
+    let key = rising_key();
     let mut bytes = pattern_bytes();
     let again = Frame::parse(&bytes).write() == bytes;
-    line(
-        rt,
+    report.line(
         "rpmb_frame: are fields of known bytes these bytes again",
         &again,
-    )?;
-    hex_line(
-        rt,
-        alloc,
-        "rpmb_frame: MAC of known bytes",
-        &mac(&bytes, &key),
-    )?;
-    line(rt, "rpmb_frame: known bytes", &verify(&bytes, &key))?;
+    );
+    report.hex("rpmb_frame: MAC of known bytes", &mac(&bytes, &key));
+    report.line("rpmb_frame: known bytes", &verify(&bytes, &key));
     seal_frame(&mut bytes, &key);
     let sealed = Frame::parse(&bytes).key_or_mac;
-    hex_line(rt, alloc, "rpmb_frame: MAC of the sealed frame", &sealed)?;
-    line(rt, "rpmb_frame: the sealed frame", &verify(&bytes, &key))
+    report.hex("rpmb_frame: MAC of the sealed frame", &sealed);
+    report.line("rpmb_frame: the sealed frame", &verify(&bytes, &key));
 }
 
 fn request(kind: u16) -> Frame {
@@ -87,114 +87,99 @@ fn counter_from(port: &mut SimPort, frame: &[u8; 512]) -> Result<u32, Failed> {
     Ok(Frame::parse(&bytes).counter)
 }
 
-fn arm_with<R: CardRig>(port: &mut R) -> anyhow::Result<()> {
+fn arm_with<R: CardRig>(port: &mut R) -> Result<(), NoMemory> {
     port.fail_call(1)?;
     port.lose_call(2)?;
     port.stop_after(3);
     Ok(())
 }
 
-fn print_port(rt: &impl Print, alloc: Global) -> anyhow::Result<()> {
-    let mut port = SimPort::new(alloc, card_with_key());
-    let result = request(READ_RESULT).write();
+/// Adds what an armed port gives, and hands out the third answer, of which the others are told apart.
+fn add_answers(report: &mut Report, port: &mut SimPort, asks: &[u8; 512]) -> [u8; 512] {
     let write = write_request(0, 0, 1);
-    arm_with(&mut port)?;
-    line(
-        rt,
-        "rpmb_card: a write that fails",
-        &counter_from(&mut port, &write),
-    )?;
-    line(
-        rt,
+    report.line("rpmb_card: a write that fails", &counter_from(port, &write));
+    report.line(
         "rpmb_card: a write whose answer is lost",
-        &counter_from(&mut port, &write),
-    )?;
-    let third = exchange_with(&mut port, &result);
-    let Ok(told) = third else {
-        anyhow::bail!("the third call of the card fails");
-    };
-    line(
-        rt,
+        &counter_from(port, &write),
+    );
+    let told = exchange_with(port, asks).unwrap_or([0; 512]);
+    report.line(
         "rpmb_card: counter in the result",
         &Frame::parse(&told).counter,
-    )?;
-    line(
-        rt,
+    );
+    report.line(
         "rpmb_card: the result, past the stop",
-        &counter_from(&mut port, &result),
-    )?;
+        &counter_from(port, asks),
+    );
+    told
+}
+
+fn add_port(report: &mut Report, alloc: Global) -> Result<(), NoMemory> {
+    let mut port = SimPort::new(alloc, card_with_key());
+    arm_with(&mut port)?;
+    let result = request(READ_RESULT).write();
+    let told = add_answers(report, &mut port, &result);
     port.disarm();
-    let same = exchange_with(&mut port, &result) == third;
-    line(rt, "rpmb_card: is it the same with no arms", &same)?;
+    let same = exchange_with(&mut port, &result) == Ok(told);
+    report.line("rpmb_card: is it the same with no arms", &same);
     let same = port.into_card().answer(&result) == told;
-    line(rt, "rpmb_card: is it the same from the card itself", &same)
+    report.line("rpmb_card: is it the same from the card itself", &same);
+    Ok(())
 }
 
 fn host_of(alloc: Global) -> Host<SimPort> {
     Host::new(SimPort::new(alloc, card_with_key()), KEY)
 }
 
-fn is_written(block: [u8; 256]) -> bool {
-    block == [0xb0; 256]
+fn counter_of(host: &mut Host<SimPort>) -> Result<u32, HostFault> {
+    host.read_counter(&[1; 16])
 }
 
-fn is_zero(block: [u8; 256]) -> bool {
-    block == [0; 256]
+/// Whether each byte of a block has this value.
+fn is_block(host: &mut Host<SimPort>, address: u16, value: u8) -> Result<bool, HostFault> {
+    let block = host.read_block(address, &[1; 16])?;
+    Ok(block == [value; 256])
 }
 
-fn print_host(rt: &impl Print, alloc: Global) -> anyhow::Result<()> {
-    let mut host = host_of(alloc);
-    let nonce = [1; 16];
-    line(rt, "rpmb_host: counter", &host.read_counter(&nonce))?;
-    line(
-        rt,
+fn write_block(host: &mut Host<SimPort>, address: u16, value: u8) -> Result<u32, HostFault> {
+    host.write_block(address, 0, &[value; 256])
+}
+
+fn add_host(report: &mut Report, host: &mut Host<SimPort>) {
+    report.line("rpmb_host: counter", &counter_of(host));
+    report.line(
         "rpmb_host: write of block 255",
-        &host.write_block(255, 0, &[0xb0; 256]),
-    )?;
-    line(rt, "rpmb_host: counter", &host.read_counter(&nonce))?;
-    line(
-        rt,
+        &write_block(host, 255, 0xb0),
+    );
+    report.line("rpmb_host: counter", &counter_of(host));
+    report.line(
         "rpmb_host: is block 255 what was written",
-        &host.read_block(255, &nonce).map(is_written),
-    )?;
-    line(
-        rt,
-        "rpmb_host: is block 0 zero",
-        &host.read_block(0, &nonce).map(is_zero),
-    )?;
-    line(
-        rt,
-        "rpmb_host: is block 256 zero",
-        &host.read_block(256, &nonce).map(is_zero),
-    )?;
-    line(
-        rt,
+        &is_block(host, 255, 0xb0),
+    );
+    report.line("rpmb_host: is block 0 zero", &is_block(host, 0, 0));
+    report.line("rpmb_host: is block 256 zero", &is_block(host, 256, 0));
+    report.line(
         "rpmb_host: a write with a counter that is past",
-        &host.write_block(0, 0, &[0; 256]),
-    )
+        &write_block(host, 0, 0),
+    );
 }
 
-fn print_armed(rt: &impl Print, alloc: Global) -> anyhow::Result<()> {
-    let mut host = host_of(alloc);
+fn add_armed(report: &mut Report, host: &mut Host<SimPort>) -> Result<(), NoMemory> {
     host.fail_call(1)?;
-    line(
-        rt,
-        "rpmb_host: a write that fails",
-        &host.write_block(0, 0, &[5; 256]),
-    )?;
+    report.line("rpmb_host: a write that fails", &write_block(host, 0, 5));
     host.lose_call(2)?;
     host.stop_after(3);
-    line(
-        rt,
+    report.line(
         "rpmb_host: a write whose answer is lost",
-        &host.write_block(0, 0, &[5; 256]),
-    )
+        &write_block(host, 0, 5),
+    );
+    Ok(())
 }
 
-/// Prints the calls of `rpmb_frame`, `rpmb_card` and `rpmb_host`.
-pub fn print(rt: &impl Print, alloc: Global) -> anyhow::Result<()> {
-    print_frame(rt, alloc)?;
-    print_port(rt, alloc)?;
-    print_host(rt, alloc)?;
-    print_armed(rt, alloc)
+/// Adds the calls of `rpmb_frame`, `rpmb_card` and `rpmb_host`.
+pub fn add_calls(report: &mut Report, alloc: Global) -> Result<(), NoMemory> {
+    add_frame(report);
+    add_port(report, alloc)?;
+    add_host(report, &mut host_of(alloc));
+    add_armed(report, &mut host_of(alloc))
 }

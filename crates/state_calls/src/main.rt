@@ -5,17 +5,29 @@
 //! No contract says that memory is left, nor that it means what was meant. So each function is called here where it succeeds.
 #![tactic(auto)]
 
+use report::Report;
+
 mod cards;
-mod line;
 mod ports;
 mod records;
+mod report;
 mod tables;
 mod words;
 
+/// Makes the calls, and prints the lines up to where a sink writes to the standard output, and those behind.
+fn print_calls(rt: &HostRuntime, report: &mut Report) -> anyhow::Result<()> {
+    cards::add_calls(report, rt.alloc())?;
+    ports::add_calls(report, rt, rt.alloc())?;
+    report.print(rt)?;
+    ports::add_standard(report, rt);
+    ports::add_seeds(report);
+    words::add_calls(report, rt.alloc())?;
+    tables::add_calls(report, rt.alloc())?;
+    records::add_calls(report, rt.alloc())?;
+    report.print(rt)?;
+    Ok(())
+}
+
 fn main(rt: HostRuntime) -> anyhow::Result<()> {
-    cards::print(&rt, rt.alloc())?;
-    ports::print(&rt, rt.alloc())?;
-    words::print(&rt, rt.alloc())?;
-    tables::print(&rt, rt.alloc())?;
-    records::print(&rt, rt.alloc())
+    print_calls(&rt, &mut Report::new(rt.alloc()))
 }

@@ -1,19 +1,19 @@
 // Entries of the directory, and the index of their names.
 
-use crate::line::{hex_line, line};
-use anyhow::Context;
+use crate::report::Report;
 use dir_index::DirIndex;
 use dir_records::DirEntry;
 use std::alloc::Global;
-use tee_types::{AppId, ObjectId};
+use tee_types::{AppId, NoMemory, ObjectId};
 use uuid::Uuid;
 
 fn app(number: u8) -> AppId {
     AppId::from_uuid(Uuid::from_bytes([number; 16]))
 }
 
-fn id(bytes: &[u8]) -> anyhow::Result<ObjectId> {
-    ObjectId::new(bytes).ok().context("an identifier")
+// The identifier of one byte.
+fn id(byte: u8) -> ObjectId {
+    ObjectId::new(&[byte]).unwrap()
 }
 
 fn example(id: ObjectId) -> DirEntry {
@@ -30,84 +30,102 @@ fn example(id: ObjectId) -> DirEntry {
     }
 }
 
-/// Entries as bytes, and these as entries again. What other bytes are is asked in `known_answers`.
-fn print_entries(rt: &impl Print, alloc: Global) -> anyhow::Result<()> {
-    let entry = example(id(b"key")?);
-    let bytes = entry.to_bytes();
-    hex_line(rt, alloc, "dir_records: bytes of an entry", &bytes)?;
-    let again = DirEntry::from_bytes(&bytes) == Ok(Some(entry));
-    line(rt, "dir_records: are they the entry", &again)?;
-    let longest = example(id(&[0xee; 64])?);
-    let again = DirEntry::from_bytes(&longest.to_bytes()) == Ok(Some(longest));
-    line(
-        rt,
-        "dir_records: with 64 bytes in the identifier, are they the entry",
-        &again,
-    )
+// Whether the bytes of an entry are that entry again.
+fn is_again(entry: DirEntry) -> bool {
+    DirEntry::from_bytes(&entry.to_bytes()) == Ok(Some(entry))
 }
 
-fn add(index: &mut DirIndex, app: AppId, bytes: &[u8], record: u16) -> anyhow::Result<()> {
-    let id = id(bytes)?;
+/// Entries as bytes, and these as entries again. What other bytes are is asked in `known_answers`.
+fn add_entries(report: &mut Report) {
+    let entry = example(ObjectId::new(b"key").unwrap());
+    report.hex("dir_records: bytes of an entry", &entry.to_bytes());
+    report.line("dir_records: are they the entry", &is_again(entry));
+    let longest = example(ObjectId::new(&[0xee; 64]).unwrap());
+    report.line(
+        "dir_records: with 64 bytes in the identifier, are they the entry",
+        &is_again(longest),
+    );
+}
+
+fn insert(index: &mut DirIndex, number: u8, id: ObjectId, record: u16) -> Result<(), NoMemory> {
     index.reserve(1)?;
+    let app = app(number);
     if index.find(app, id).is_none() {
         index.insert(app, id, record);
     }
     Ok(())
 }
 
-// The names a, aa and b of one application, put in out of order, among those of others.
-fn example_index(index: &mut DirIndex) -> anyhow::Result<()> {
-    add(index, app(2), b"b", 7)?;
-    add(index, app(3), b"a", 1)?;
-    add(index, app(2), b"a", 9)?;
-    add(index, app(1), b"c", 2)?;
-    add(index, app(2), b"aa", 8)
+fn double_a() -> ObjectId {
+    ObjectId::new(b"aa").unwrap()
 }
 
-/// Prints the name above another, and its record.
-fn print_next(
-    rt: &impl Print,
+// The names a, aa and b of one application, put in out of order, among those of others.
+fn fill(index: &mut DirIndex) -> Result<(), NoMemory> {
+    insert(index, 2, id(b'b'), 7)?;
+    insert(index, 3, id(b'a'), 1)?;
+    insert(index, 2, id(b'a'), 9)?;
+    insert(index, 1, id(b'c'), 2)?;
+    insert(index, 2, double_a(), 8)
+}
+
+/// Adds the name above another, and its record.
+fn add_next(
+    report: &mut Report,
     alloc: Global,
     index: &DirIndex,
     number: u8,
     after: Option<ObjectId>,
-) -> anyhow::Result<()> {
+) -> Result<(), NoMemory> {
     let Some((id, record)) = index.next_above(app(number), after) else {
-        println!(rt; "dir_index: next name of application {number} -> none")?;
+        report.add(&format_args!("dir_index: next name of application {number} -> none"));
         return Ok(());
     };
     let name = hex::encode(alloc, id.bytes())?;
-    println!(rt; "dir_index: next name of application {number} -> {name}, record {record}")?;
+    report.add(&format_args!(
+        "dir_index: next name of application {number} -> {name}, record {record}"
+    ));
     Ok(())
 }
 
-fn print_names(rt: &impl Print, alloc: Global, index: &DirIndex) -> anyhow::Result<()> {
-    print_next(rt, alloc, index, 2, None)?;
-    print_next(rt, alloc, index, 2, Some(id(b"a")?))?;
-    print_next(rt, alloc, index, 2, Some(id(b"aa")?))?;
-    print_next(rt, alloc, index, 2, Some(id(b"b")?))?;
-    print_next(rt, alloc, index, 4, None)
-}
-
-fn print_moved(rt: &impl Print, mut index: DirIndex) -> anyhow::Result<()> {
-    let (app, other, a, z) = (app(2), app(3), id(b"a")?, id(b"z")?);
-    if index.find(app, z).is_none() {
-        index.rename(app, a, z);
+fn add_names(report: &mut Report, alloc: Global, index: &DirIndex) -> Result<(), NoMemory> {
+    for (number, after) in [
+        (2, None),
+        (2, Some(id(b'a'))),
+        (2, Some(double_a())),
+        (2, Some(id(b'b'))),
+        (4, None),
+    ] {
+        add_next(report, alloc, index, number, after)?;
     }
-    line(rt, "dir_index: a, renamed to z", &index.find(app, a))?;
-    line(rt, "dir_index: a of another", &index.find(other, a))?;
-    line(rt, "dir_index: z", &index.find(app, z))?;
-    index.remove(app, z);
-    line(rt, "dir_index: z, removed", &index.find(app, z))?;
-    line(rt, "dir_index: names", &index.len())?;
-    line(rt, "dir_index: entries", &index.entries().len())
+    Ok(())
 }
 
-/// Prints the calls of `dir_records` and `dir_index`.
-pub fn print(rt: &impl Print, alloc: Global) -> anyhow::Result<()> {
-    print_entries(rt, alloc)?;
+fn rename(index: &mut DirIndex, from: ObjectId, to: ObjectId) {
+    let app = app(2);
+    if index.find(app, to).is_none() {
+        index.rename(app, from, to);
+    }
+}
+
+fn add_moved(report: &mut Report, index: &mut DirIndex) {
+    let (a, z) = (id(b'a'), id(b'z'));
+    rename(index, a, z);
+    report.line("dir_index: a, renamed to z", &index.find(app(2), a));
+    report.line("dir_index: a of another", &index.find(app(3), a));
+    report.line("dir_index: z", &index.find(app(2), z));
+    index.remove(app(2), z);
+    report.line("dir_index: z, removed", &index.find(app(2), z));
+    report.line("dir_index: names", &index.len());
+    report.line("dir_index: entries", &index.entries().len());
+}
+
+/// Adds the calls of `dir_records` and `dir_index`.
+pub fn add_calls(report: &mut Report, alloc: Global) -> Result<(), NoMemory> {
+    add_entries(report);
     let mut index = DirIndex::new(alloc);
-    example_index(&mut index)?;
-    print_names(rt, alloc, &index)?;
-    print_moved(rt, index)
+    fill(&mut index)?;
+    add_names(report, alloc, &index)?;
+    add_moved(report, &mut index);
+    Ok(())
 }

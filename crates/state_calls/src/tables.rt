@@ -1,7 +1,6 @@
 // Tables: which handles share, enumerators, and open handles.
 
-use crate::line::line;
-use anyhow::{Context, bail};
+use crate::report::Report;
 use enumerators::{Cursor, Enumerators};
 use open_table::OpenTable;
 use sharing_rules::compatible;
@@ -39,55 +38,49 @@ fn flags(bits: u32) -> Flags {
     Flags { bits }
 }
 
-fn print_sharing(rt: &impl Print) -> anyhow::Result<()> {
+fn add_sharing(report: &mut Report) {
     for (left, right) in PAIRS {
         let there = compatible(flags(left), flags(right));
         let back = compatible(flags(right), flags(left));
-        println!(rt;
+        report.add(&format_args!(
             "sharing_rules: {left:#04x} beside {right:#04x}, and the other way round -> {there}, {back}"
-        )?;
+        ));
     }
-    Ok(())
 }
 
-/// Prints what was called, and where enumerator 1 then stands.
-fn print_step(
-    rt: &impl Print,
-    call: &str,
-    answer: &impl Debug,
-    table: &Enumerators,
-) -> anyhow::Result<()> {
+/// Adds what was called, and where enumerator 1 then stands.
+fn add_step(report: &mut Report, call: &str, answer: &impl Debug, table: &Enumerators) {
     let cursor = table.cursor(1);
-    println!(rt; "enumerators: {call} -> {answer:?}, {cursor:?}")?;
-    Ok(())
+    report.add(&format_args!("enumerators: {call} -> {answer:?}, {cursor:?}"));
 }
 
-/// Enumerator 1 gives an identifier.
-fn give(rt: &impl Print, table: &mut Enumerators, id: ObjectId) -> anyhow::Result<()> {
+/// Enumerator 1 gives an identifier, where it is at its start; whether it then stands behind that.
+fn gives(table: &mut Enumerators, id: ObjectId) -> bool {
     let Ok(Cursor::First) = table.cursor(1) else {
-        bail!("enumerator 1 is not at its start");
+        return false;
     };
     table.given(1, id);
-    let after = table.cursor(1) == Ok(Cursor::After(id));
-    line(rt, "enumerators: is 1 behind what it gave", &after)
+    table.cursor(1) == Ok(Cursor::After(id))
 }
 
-fn print_enumerators(rt: &impl Print, alloc: Global) -> anyhow::Result<()> {
-    let id = ObjectId::new(b"key").ok().context("the identifier key")?;
-    let mut table = Enumerators::new(alloc);
-    line(rt, "enumerators: 0 of none", &table.cursor(0))?;
-    line(rt, "enumerators: a new one", &table.add())?;
-    print_step(rt, "a new one", &table.add(), &table)?;
-    print_step(rt, "start of 1", &table.start(1), &table)?;
-    give(rt, &mut table, id)?;
-    line(rt, "enumerators: 0", &table.cursor(0))?;
-    print_step(rt, "start of 1", &table.start(1), &table)?;
-    print_step(rt, "reset of 1", &table.reset(1), &table)?;
-    print_step(rt, "end of 1", &table.free(1), &table)?;
-    print_step(rt, "start of 1", &table.start(1), &table)?;
-    print_step(rt, "reset of 1", &table.reset(1), &table)?;
-    print_step(rt, "end of 1", &table.free(1), &table)?;
-    line(rt, "enumerators: 0", &table.cursor(0))
+/// Starts, resets and ends enumerator 1, also where it is gone.
+fn add_changes(report: &mut Report, table: &mut Enumerators) {
+    add_step(report, "start of 1", &table.start(1), table);
+    add_step(report, "reset of 1", &table.reset(1), table);
+    add_step(report, "end of 1", &table.free(1), table);
+}
+
+fn add_enumerators(report: &mut Report, table: &mut Enumerators) {
+    report.line("enumerators: 0 of none", &table.cursor(0));
+    report.line("enumerators: a new one", &table.add());
+    add_step(report, "a new one", &table.add(), table);
+    add_step(report, "start of 1", &table.start(1), table);
+    let is_behind = gives(table, ObjectId::new(b"key").unwrap());
+    report.line("enumerators: is 1 behind what it gave", &is_behind);
+    report.line("enumerators: 0", &table.cursor(0));
+    add_changes(report, table);
+    add_changes(report, table);
+    report.line("enumerators: 0", &table.cursor(0));
 }
 
 fn open(table: &mut OpenTable, file: u16, session: u32) -> Result<usize, NoMemory> {
@@ -101,40 +94,46 @@ fn close(table: &mut OpenTable, session: u32) {
     }
 }
 
-fn print_open(rt: &impl Print, alloc: Global) -> anyhow::Result<()> {
-    let mut table = OpenTable::new(alloc);
-    let first = open(&mut table, 1, 0)?;
-    let second = open(&mut table, 1, 1)?;
-    line(rt, "open_table: are two handles apart", &(first != second))?;
-    let found = (
-        table.find(0, 7) == Some(first),
-        table.find(1, 7) == Some(second),
-    );
-    line(rt, "open_table: are both found", &found)?;
-    line(rt, "open_table: handle 0 of session 7", &table.find(7, 0))?;
-    close(&mut table, 0);
-    line(rt, "open_table: the first, once closed", &table.find(0, 7))?;
-    line(
-        rt,
-        "open_table: is the second found",
-        &(table.find(1, 7) == Some(second)),
-    )?;
-    let third = open(&mut table, 9, 0)?;
-    line(
-        rt,
-        "open_table: is a third apart from the second",
-        &(third != second),
-    )?;
-    line(
-        rt,
-        "open_table: is it found",
-        &(table.find(0, 7) == Some(third)),
-    )
+/// Whether handle 7 of a session is found under its key.
+fn is_found(table: &OpenTable, session: u32, key: usize) -> bool {
+    table.find(session, 7) == Some(key)
 }
 
-/// Prints the calls of `sharing_rules`, `enumerators` and `open_table`.
-pub fn print(rt: &impl Print, alloc: Global) -> anyhow::Result<()> {
-    print_sharing(rt)?;
-    print_enumerators(rt, alloc)?;
-    print_open(rt, alloc)
+fn add_two(report: &mut Report, table: &OpenTable, first: usize, second: usize) {
+    report.line("open_table: are two handles apart", &(first != second));
+    let found = (is_found(table, 0, first), is_found(table, 1, second));
+    report.line("open_table: are both found", &found);
+    report.line("open_table: handle 0 of session 7", &table.find(7, 0));
+}
+
+fn add_closed(report: &mut Report, table: &mut OpenTable, second: usize) {
+    close(table, 0);
+    report.line("open_table: the first, once closed", &table.find(0, 7));
+    let found = is_found(table, 1, second);
+    report.line("open_table: is the second found", &found);
+}
+
+fn add_third(report: &mut Report, table: &OpenTable, second: usize, third: usize) {
+    report.line(
+        "open_table: is a third apart from the second",
+        &(third != second),
+    );
+    report.line("open_table: is it found", &is_found(table, 0, third));
+}
+
+fn add_open(report: &mut Report, table: &mut OpenTable) -> Result<(), NoMemory> {
+    let first = open(table, 1, 0)?;
+    let second = open(table, 1, 1)?;
+    add_two(report, table, first, second);
+    add_closed(report, table, second);
+    let third = open(table, 9, 0)?;
+    add_third(report, table, second, third);
+    Ok(())
+}
+
+/// Adds the calls of `sharing_rules`, `enumerators` and `open_table`.
+pub fn add_calls(report: &mut Report, alloc: Global) -> Result<(), NoMemory> {
+    add_sharing(report);
+    add_enumerators(report, &mut Enumerators::new(alloc));
+    add_open(report, &mut OpenTable::new(alloc))
 }

@@ -1,11 +1,10 @@
 // Products and hashes of blocks, sealed texts of each length, and digests.
 
-use crate::line::{hex_line, line};
+use crate::report::Report;
 use aes_block::Aes128;
 use gcm_mode::{open_text, seal};
 use ghash_field::{Ghash, mul};
 use sha2::{Digest, Sha256};
-use std::alloc::Global;
 
 // The fourth test case of AES-128 in the submission of GCM: the hash subkey, the blocks of the
 // additional data, the ciphertext and the lengths, and their GHASH.
@@ -45,22 +44,26 @@ fn products_agree(length: u32) -> bool {
     hasher.finish() == sum.to_be_bytes()
 }
 
-fn print_products(rt: &impl Print) -> anyhow::Result<()> {
-    println!(rt;
-        "ghash_field: published hash by products -> {:032x}",
-        hash_by_products()
-    )?;
+/// Of so many lengths, in how many blocks, those where the hasher and products agree.
+fn lengths_that_agree() -> u32 {
     let mut agreed = 0u32;
     for length in 0..300 {
         if products_agree(length) {
             agreed = agreed.saturating_add(1);
         }
     }
-    line(
-        rt,
+    agreed
+}
+
+fn add_products(report: &mut Report) {
+    report.hex(
+        "ghash_field: published hash by products",
+        &hash_by_products().to_be_bytes(),
+    );
+    report.line(
         "ghash_field: of 0 to 299 blocks, lengths where the hasher and products agree",
-        &agreed,
-    )
+        &lengths_that_agree(),
+    );
 }
 
 /// FNV-1a of bytes that follow those of `digest`.
@@ -96,36 +99,42 @@ fn sealed_digest(key: &Aes128, digest: u64, length: u16) -> Option<u64> {
     Some(digest)
 }
 
-// All ciphertexts and tags of texts of 0 to 300 bytes, one after the other, have the digest (FNV-1a)
-// that those of Python's `cryptography` have.
-fn print_lengths(rt: &impl Print) -> anyhow::Result<()> {
+// The digest of all ciphertexts and tags of texts of 0 to 300 bytes, one after the other; none where a text does not open as it was.
+fn digest_of_lengths() -> Option<u64> {
     let key = Aes128::new(&0xfeffe9928665731c6d6a8f9467308308u128.to_be_bytes());
     let mut digest = 0xcbf29ce484222325;
     for length in 0..301 {
-        let Some(next) = sealed_digest(&key, digest, length) else {
-            anyhow::bail!("a text of {length} bytes does not open as it was");
-        };
-        digest = next;
+        digest = sealed_digest(&key, digest, length)?;
     }
-    println!(rt; "gcm_mode: digest of texts of 0 to 300 bytes, sealed -> {digest:016x}")?;
-    Ok(())
+    Some(digest)
+}
+
+// The expected digest (FNV-1a) is that of what Python's `cryptography` gives.
+fn add_lengths(report: &mut Report) {
+    match digest_of_lengths() {
+        Some(digest) => report.hex(
+            "gcm_mode: digest of texts of 0 to 300 bytes, sealed",
+            &digest.to_be_bytes(),
+        ),
+        None => report.line("gcm_mode: do sealed texts open as they were", &false),
+    }
 }
 
 // The second published case of AES-128, opened with its tag's last bit turned.
-fn print_refused(rt: &impl Print, alloc: Global) -> anyhow::Result<()> {
+fn add_refused(report: &mut Report) {
     let key = Aes128::new(&[0; 16]);
     let mut text = 0x0388dace60b6a392f328c2b971b2fe78u128.to_be_bytes();
     let tag = 0xab6e47d42cec13bdf53a67b21257bddeu128.to_be_bytes();
     let refused = open_text(&key, &[0; 12], &[], &mut text, &tag).is_err();
-    line(rt, "gcm_mode: is a tag with a bit turned refused", &refused)?;
-    hex_line(rt, alloc, "gcm_mode: the text that was refused", &text)
+    report.line("gcm_mode: is a tag with a bit turned refused", &refused);
+    report.hex("gcm_mode: the text that was refused", &text);
 }
 
-/// Prints the calls of `ghash_field`, `gcm_mode` and `sha2`.
-pub fn print(rt: &impl Print, alloc: Global) -> anyhow::Result<()> {
-    print_products(rt)?;
-    print_lengths(rt)?;
-    print_refused(rt, alloc)?;
-    hex_line(rt, alloc, "sha2: of abc", &Sha256::digest(b"abc"))?;
-    hex_line(rt, alloc, "sha2: of nothing", &Sha256::digest(b""))
+/// Adds the calls of `ghash_field`, `gcm_mode` and `sha2`.
+pub fn add_calls(report: &mut Report) {
+    add_products(report);
+    add_lengths(report);
+    add_refused(report);
+    report.hex("sha2: of abc", &Sha256::digest(b"abc"));
+    report.hex("sha2: of nothing", &Sha256::digest(b""));
 }

@@ -4,15 +4,23 @@
 //! No contract says that it means what was meant, nor that anything meets what a call requires. So each function is called here.
 #![tactic(auto)]
 
+use report::Report;
+
 mod ciphers;
 mod fields;
-mod line;
 mod pages;
+mod report;
 mod trees;
 
+fn print_calls(rt: &HostRuntime, report: &mut Report) -> anyhow::Result<()> {
+    fields::add_calls(report);
+    pages::add_calls(report);
+    trees::add_calls(report, rt.alloc())?;
+    ciphers::add_calls(report);
+    report.print(rt)?;
+    Ok(())
+}
+
 fn main(rt: HostRuntime) -> anyhow::Result<()> {
-    fields::print(&rt)?;
-    pages::print(&rt)?;
-    trees::print(&rt, rt.alloc())?;
-    ciphers::print(&rt, rt.alloc())
+    print_calls(&rt, &mut Report::new(rt.alloc()))
 }

@@ -1,14 +1,14 @@
 // Nodes of trees: which ones a change touches, and their bytes and hashes.
 
-use crate::line::{hex_line, line};
+use crate::report::Report;
 use node_image::{
     Head, NodeImage, block_offset, greatest_node, head_offset, node_hash, node_offset,
 };
-use std::alloc::Global;
+use std::alloc::{AllocError, Global};
 use tree_paths::{NodeSet, children, parent, staged_nodes, touched_nodes};
 
 /// The numbers of a set's nodes.
-fn numbers_of(alloc: Global, set: &NodeSet) -> anyhow::Result<Vec<u32>> {
+fn numbers_of(alloc: Global, set: &NodeSet) -> Result<Vec<u32>, AllocError> {
     let mut numbers = Vec::new(alloc);
     for n in 0..300 {
         if set.has(n) {
@@ -18,66 +18,63 @@ fn numbers_of(alloc: Global, set: &NodeSet) -> anyhow::Result<Vec<u32>> {
     Ok(numbers)
 }
 
-fn print_set(rt: &impl Print, alloc: Global, call: &str, set: &NodeSet) -> anyhow::Result<()> {
+fn add_set(
+    report: &mut Report,
+    alloc: Global,
+    call: &str,
+    set: &NodeSet,
+) -> Result<(), AllocError> {
     let numbers = numbers_of(alloc, set)?;
-    println!(rt; "tree_paths: {call} -> {} nodes, {numbers:?}", set.count())?;
+    let count = set.count();
+    report.add(&format_args!("tree_paths: {call} -> {count} nodes, {numbers:?}"));
     Ok(())
 }
 
-fn print_family(rt: &impl Print) -> anyhow::Result<()> {
-    line(rt, "tree_paths: children of 1 of 256", &children(1, 256))?;
-    line(rt, "tree_paths: children of 4 of 256", &children(4, 256))?;
-    line(
-        rt,
-        "tree_paths: children of 128 of 256",
-        &children(128, 256),
-    )?;
-    line(
-        rt,
-        "tree_paths: children of 200 of 256",
-        &children(200, 256),
-    )?;
-    line(rt, "tree_paths: parent of 1", &parent(1))?;
-    line(rt, "tree_paths: parent of 256", &parent(256))?;
-    line(rt, "tree_paths: parent of 7", &parent(7))
+fn add_family(report: &mut Report) {
+    report.line("tree_paths: children of 1 of 256", &children(1, 256));
+    report.line("tree_paths: children of 4 of 256", &children(4, 256));
+    report.line("tree_paths: children of 128 of 256", &children(128, 256));
+    report.line("tree_paths: children of 200 of 256", &children(200, 256));
+    report.line("tree_paths: parent of 1", &parent(1));
+    report.line("tree_paths: parent of 256", &parent(256));
+    report.line("tree_paths: parent of 7", &parent(7));
 }
 
-fn print_touched(rt: &impl Print, alloc: Global) -> anyhow::Result<()> {
-    let some = touched_nodes(&[4, 6], 8);
-    print_set(rt, alloc, "touched by blocks 4 and 6 of 8", &some)?;
-    let one = touched_nodes(&[0], 1);
-    print_set(rt, alloc, "touched by block 0 of 1", &one)?;
-    let last = touched_nodes(&[255], 256);
-    print_set(rt, alloc, "touched by block 255 of 256", &last)?;
-    let none = touched_nodes(&[], 256);
-    print_set(rt, alloc, "touched by no block of 256", &none)
+fn add_sets(report: &mut Report, alloc: Global) -> Result<(), AllocError> {
+    for (call, set) in [
+        ("touched by blocks 4 and 6 of 8", touched_nodes(&[4, 6], 8)),
+        ("touched by block 0 of 1", touched_nodes(&[0], 1)),
+        ("touched by block 255 of 256", touched_nodes(&[255], 256)),
+        ("touched by no block of 256", touched_nodes(&[], 256)),
+        (
+            "written for block 255 of 256",
+            staged_nodes(&[255], 256, 256),
+        ),
+        ("written for block 7 of 8", staged_nodes(&[7], 8, 8)),
+        // node 9 goes, and node 4 remains above it
+        (
+            "written for block 7 of 9 that become 8",
+            staged_nodes(&[7], 9, 8),
+        ),
+        (
+            "written for 9 blocks that become 8",
+            staged_nodes(&[], 9, 8),
+        ),
+    ] {
+        add_set(report, alloc, call, &set)?;
+    }
+    Ok(())
 }
 
-fn print_staged(rt: &impl Print, alloc: Global) -> anyhow::Result<()> {
-    let last = staged_nodes(&[255], 256, 256);
-    print_set(rt, alloc, "written for block 255 of 256", &last)?;
-    let eighth = staged_nodes(&[7], 8, 8);
-    print_set(rt, alloc, "written for block 7 of 8", &eighth)?;
-    // node 9 goes, and node 4 remains above it
-    let cut = staged_nodes(&[7], 9, 8);
-    print_set(rt, alloc, "written for block 7 of 9 that become 8", &cut)?;
-    let bare = staged_nodes(&[], 9, 8);
-    print_set(rt, alloc, "written for 9 blocks that become 8", &bare)
-}
-
-fn print_offsets(rt: &impl Print) -> anyhow::Result<()> {
-    line(rt, "node_image: place of head 1", &head_offset(1))?;
-    line(rt, "node_image: place of node 1 0", &node_offset(1, 0))?;
-    line(rt, "node_image: place of node 1 1", &node_offset(1, 1))?;
-    line(rt, "node_image: place of node 2 0", &node_offset(2, 0))?;
-    line(rt, "node_image: place of node 256 1", &node_offset(256, 1))?;
-    line(rt, "node_image: place of block 0 0", &block_offset(0, 0))?;
-    line(rt, "node_image: place of block 1 0", &block_offset(1, 0))?;
-    line(
-        rt,
-        "node_image: place of block 255 1",
-        &block_offset(255, 1),
-    )
+fn add_offsets(report: &mut Report) {
+    report.line("node_image: place of head 1", &head_offset(1));
+    report.line("node_image: place of node 1 0", &node_offset(1, 0));
+    report.line("node_image: place of node 1 1", &node_offset(1, 1));
+    report.line("node_image: place of node 2 0", &node_offset(2, 0));
+    report.line("node_image: place of node 256 1", &node_offset(256, 1));
+    report.line("node_image: place of block 0 0", &block_offset(0, 0));
+    report.line("node_image: place of block 1 0", &block_offset(1, 0));
+    report.line("node_image: place of block 255 1", &block_offset(255, 1));
 }
 
 // 16 bytes that rise from `first`.
@@ -99,7 +96,7 @@ fn example_node() -> NodeImage {
 }
 
 // The expected hashes are from Python's `hashlib`.
-fn print_hashes(rt: &impl Print, alloc: Global) -> anyhow::Result<()> {
+fn add_hashes(report: &mut Report) {
     let node = example_node();
     let head = Head {
         wrapped: rising(32),
@@ -107,48 +104,44 @@ fn print_hashes(rt: &impl Print, alloc: Global) -> anyhow::Result<()> {
         greatest: 3,
     };
     let root = node_hash(&node, Some(&head), Some(&[0xaa; 32]), Some(&[0xbb; 32]));
-    hex_line(rt, alloc, "node_image: hash of node 1 with children", &root)?;
+    report.hex("node_image: hash of node 1 with children", &root);
     let inner = node_hash(&node, None, Some(&[0xaa; 32]), None);
-    hex_line(rt, alloc, "node_image: hash with a left child", &inner)?;
+    report.hex("node_image: hash with a left child", &inner);
     let leaf = node_hash(&node, None, None, None);
-    hex_line(rt, alloc, "node_image: hash with no child", &leaf)
+    report.hex("node_image: hash with no child", &leaf);
 }
 
-fn print_node(rt: &impl Print, alloc: Global) -> anyhow::Result<()> {
+fn add_node(report: &mut Report) {
     let bytes = example_node().to_bytes();
-    hex_line(rt, alloc, "node_image: bytes of a node", &bytes)?;
+    report.hex("node_image: bytes of a node", &bytes);
     let again = NodeImage::from_bytes(&bytes) == example_node();
-    line(rt, "node_image: is it the node again", &again)
+    report.line("node_image: is it the node again", &again);
 }
 
-fn print_head(rt: &impl Print, alloc: Global) -> anyhow::Result<()> {
+fn add_head(report: &mut Report) {
     let head = Head {
         wrapped: rising(0),
         length: 1_048_576,
         greatest: 256,
     };
     let mut bytes = head.to_bytes();
-    hex_line(rt, alloc, "node_image: bytes of a head", &bytes)?;
-    line(rt, "node_image: the head again", &Head::from_bytes(&bytes))?;
+    report.hex("node_image: bytes of a head", &bytes);
+    report.line("node_image: the head again", &Head::from_bytes(&bytes));
     bytes[31] = 1;
-    line(
-        rt,
-        "node_image: a last byte of 1",
-        &Head::from_bytes(&bytes),
-    )?;
-    line(rt, "node_image: zeros", &Head::from_bytes(&[0; 32]))?;
-    line(rt, "node_image: nodes of no byte", &greatest_node(0))?;
-    line(rt, "node_image: nodes of 4096 bytes", &greatest_node(4096))?;
-    line(rt, "node_image: nodes of 4097 bytes", &greatest_node(4097))
+    report.line("node_image: a last byte of 1", &Head::from_bytes(&bytes));
+    report.line("node_image: zeros", &Head::from_bytes(&[0; 32]));
+    report.line("node_image: nodes of no byte", &greatest_node(0));
+    report.line("node_image: nodes of 4096 bytes", &greatest_node(4096));
+    report.line("node_image: nodes of 4097 bytes", &greatest_node(4097));
 }
 
-/// Prints the calls of `tree_paths` and `node_image`.
-pub fn print(rt: &impl Print, alloc: Global) -> anyhow::Result<()> {
-    print_family(rt)?;
-    print_touched(rt, alloc)?;
-    print_staged(rt, alloc)?;
-    print_offsets(rt)?;
-    print_hashes(rt, alloc)?;
-    print_node(rt, alloc)?;
-    print_head(rt, alloc)
+/// Adds the calls of `tree_paths` and `node_image`.
+pub fn add_calls(report: &mut Report, alloc: Global) -> Result<(), AllocError> {
+    add_family(report);
+    add_sets(report, alloc)?;
+    add_offsets(report);
+    add_hashes(report);
+    add_node(report);
+    add_head(report);
+    Ok(())
 }

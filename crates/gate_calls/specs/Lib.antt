@@ -1,0 +1,4 @@
+pub mod Seen
+pub mod Resolved
+pub mod Served
+pub mod Rulings

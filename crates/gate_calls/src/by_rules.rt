@@ -1,0 +1,63 @@
+//! Calls that the rules answer, and that leave the session as it is.
+
+ghost use Rattle.std.specs.Prelude.{◌≡◌, ◌≤◌, length, None};
+ghost use Rattle.store_model.specs.declared.event.Event.TheVariants.{Call as CallEvent};
+ghost use Rattle.store_model.specs.declared.event.Mark.TheVariants.{Unchanged};
+ghost use Rattle.call_rules.specs.Plain.{IsPlain};
+ghost use Rattle.gate_ties.specs.TieLaws.{KeepsDoubt};
+ghost use Rattle.locked_gate.specs.Answering.{LeavesHandles};
+ghost use Rattle.locked_gate.specs.Commits.{IsCalm};
+ghost use Rattle.locked_gate.specs.LockedGates.{change_in_doubt};
+ghost use Rattle.locked_gate.specs.Ruled.{IsRuled};
+ghost use Rattle.gate_calls.specs.Rulings.{is_on_object};
+ghost use Rattle.gate_calls.specs.Served.{IsServed, ServesByRules};
+
+use crate::deciding::ruling;
+use crate::served::{Answer, twice};
+use call_history::Session;
+use locked_gate::LockedGate;
+use rpmb_card::RpmbPort;
+use std::alloc::Global;
+use suppositions::StoreName;
+use tee_ports::{Entropy, StoreFile};
+use tee_types::{Call, NoMemory, Reply};
+
+// Appends a call that the rules answered. The session is as the call leaves it.
+pub(crate) fn tell<F: StoreFile + Drop, R: RpmbPort + Drop, L: StoreName, E: Entropy>(
+    gate: &mut LockedGate<F, R, L>,
+    session: &mut Session<E>,
+    call: Call,
+    reply: Reply,
+) -> Answer
+    requires room { 1 ≤ gate.old.journal.spare }
+    requires within { gate.old.journal.knows.decided ≤ length gate.old.journal.knows.all }
+    requires ruled { IsRuled L.store gate.old.journal.knows gate.old.gate.dir.dir.entries gate.old.gate.open_handles call reply session.old }
+    requires plain { IsPlain reply }
+    requires doubt { KeepsDoubt (change_in_doubt gate.old.gate.doubt) (CallEvent session.old.number session.old.made call reply Unchanged) }
+    requires handles { LeavesHandles call reply }
+    ensures served { IsServed L.store call result gate.old gate.new session.old session.new }
+    ensures reply { result.reply ≡ reply }
+{
+    let (reply, told) = twice(reply);
+    let place = gate.answer_ruled(session, call, reply);
+    Answer { place, reply: told }
+}
+
+// Answers a call on an object, where the rules do.
+pub(crate) fn answer_on_object<F: StoreFile + Drop, R: RpmbPort + Drop, L: StoreName, E: Entropy>(
+    alloc: Global,
+    gate: &mut LockedGate<F, R, L>,
+    session: &mut Session<E>,
+    call: &Call,
+) -> Result<Option<Answer>, NoMemory>
+    requires room { 1 ≤ gate.old.journal.spare }
+    requires idle { gate.old.gate.doubt ≡ None }
+    requires calm { IsCalm L.store gate.old.journal.knows session.old }
+    ensures { ServesByRules L.store call.now gate.old gate.new session.old session.new result }
+{
+    let Some(reply) = ruling(&*gate, session.state(), call) else {
+        return Ok(None);
+    };
+    let kept = call.copy(alloc)?;
+    Ok(Some(tell(gate, session, kept, reply)))
+}
