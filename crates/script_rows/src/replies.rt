@@ -1,7 +1,8 @@
 // The lines of replies and controls that no row has.
 
 use anyhow::Context;
-use script_text::{Control, Script, parse, print_control, print_event, print_phase};
+use run_text::{print_control, print_event, print_phase};
+use script_text::{Control, Script, parse};
 use std::alloc::Global;
 use store_model::{Event, Mark};
 use tee_types::{Call, Cause, Code, Device, FrameFault, NoMemory, Reason, Reply};

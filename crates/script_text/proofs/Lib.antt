@@ -3,8 +3,6 @@ pub mod Declared
 pub mod Options
 pub mod Digits
 pub mod OneLine
-pub mod Printing
 pub mod Rows
-pub mod PrintedRows
 pub mod FormedCalls
 pub mod FormedSteps

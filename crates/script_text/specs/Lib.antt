@@ -4,6 +4,4 @@ pub mod Script
 pub mod Calls
 pub mod Grammar
 pub mod Parsed
-pub mod Forms
-pub mod Text
 pub mod Laws

@@ -5,7 +5,7 @@ use Rattle.std.proofs.lemmas.List.{append-nil, get_or-take, length-take-le}
 use Rattle.script_text.specs.declared.script.Step.{Step}
 use Rattle.script_text.specs.declared.script.Step.TheVariants.{Call as CallStep, Control as ControlStep}
 use Rattle.script_text.specs.Script.{ScriptValue, IsPlaced, is_call}
-use Rattle.script_text.specs.Text.{PhaseRecord, Act, Serve, Do, acts_from, acts_of, acts_text, control_line, phase_text}
+use Rattle.run_text.specs.Text.{PhaseRecord, Act, Serve, Do, acts_from, acts_of, acts_text, control_line, phase_text}
 use Rattle.store_run.specs.Phases.{phases_of, ServesPhases, ServesSteps}
 use Rattle.store_run.specs.Serving.{AreCalls, IsCallFirst}
 

@@ -21,7 +21,7 @@ use Rattle.script_text.specs.declared.script.Step.{Step}
 use Rattle.script_text.specs.declared.script.Step.TheVariants.{Control as ControlStep}
 use Rattle.script_text.specs.declared.script.Control.{Control}
 use Rattle.script_text.specs.Script.{ScriptValue, IsPlaced, is_call}
-use Rattle.script_text.specs.Text.{PhaseRecord, Act, Serve, Do, acts_of, acts_text, control_line, phase_text, phase_line, events_text, script_output}
+use Rattle.run_text.specs.Text.{PhaseRecord, Act, Serve, Do, acts_of, acts_text, control_line, phase_text, phase_line, events_text, script_output}
 use Rattle.store_run.specs.declared.status.Status.{Status}
 use Rattle.store_run.specs.Phases.{phases_of, script_phases, ServesPhases, ServesSteps, IsLegalPhase, IsPhaseChain, AreLegalPhases, opened_with, steps_served, calls_in}
 use Rattle.store_run.specs.Serving.{HasServed, IsCallFirst}

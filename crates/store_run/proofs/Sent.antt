@@ -5,7 +5,7 @@ use Rattle.std.proofs.lemmas.Option.{get_or_from_slice_get}
 use Rattle.tee_ports.proofs.Streams.{Appends-none, Appends-append}
 use Rattle.store_model.specs.declared.event.Event.{Event}
 use Rattle.script_text.specs.Script.{ScriptValue}
-use Rattle.script_text.specs.Text.{event_text, events_text, phase_line}
+use Rattle.run_text.specs.Text.{event_text, events_text, phase_line}
 use Rattle.store_run.specs.Sending.{Sends, Stops}
 
 pub Sends-none : (held : Option (List ℕ)) (kept new text : List ℕ) → new ≡ kept ++ text → Sends held held kept new text

@@ -11,7 +11,7 @@ use Rattle.store_model.specs.LegalHistory.{IsLegal, end_of}
 use Rattle.store_model.specs.Commits.{map_after}
 use Rattle.script_text.specs.declared.script.Step.{Step}
 use Rattle.script_text.specs.declared.script.Step.TheVariants.{Call as CallStep, Control as ControlStep}
-use Rattle.script_text.specs.Text.{PhaseRecord, Act, Serve, Do, acts_of}
+use Rattle.run_text.specs.Text.{PhaseRecord, Act, Serve, Do, acts_of}
 
 -- the steps whose calls these events are, in order
 abbrev pub steps_served : List Event → List Step

@@ -5,7 +5,7 @@ use Rattle.store_model.specs.Sound.{IsObjectMap}
 use Rattle.script_text.specs.declared.script.Step.{Step}
 use Rattle.script_text.specs.Script.{ScriptValue, IsPlaced}
 use Rattle.script_text.specs.Laws.{IsFormed}
-use Rattle.script_text.specs.Text.{PhaseRecord, Act, acts_of, acts_text}
+use Rattle.run_text.specs.Text.{PhaseRecord, Act, acts_of, acts_text}
 use Rattle.tee_ports.specs.Streams.{Appends}
 use Rattle.store_run.specs.Phases.{phases_of, ServesPhases, IsPhaseChain}
 use Rattle.store_run.specs.Sending.{Sends}

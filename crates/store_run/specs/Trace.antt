@@ -3,7 +3,7 @@ use Rattle.std.specs.Prelude.{ℕ, ◌≡◌, ◌≤◌, ◌⊎◌, List, [], �
 use Rattle.tee_ports.specs.Streams.{TakesFirst, Appends}
 use Rattle.script_text.specs.Script.{ScriptValue}
 use Rattle.script_text.specs.Grammar.{script_of}
-use Rattle.script_text.specs.Text.{PhaseRecord, script_output}
+use Rattle.run_text.specs.Text.{PhaseRecord, script_output}
 use Rattle.store_run.specs.Phases.{script_phases, ServesPhases, AreLegalPhases}
 
 pub record Trace : Type 0 where

@@ -6,7 +6,7 @@ ghost use Rattle.tee_ports.specs.Faults.{Rose};
 ghost use Rattle.tee_ports.specs.Streams.{Appends};
 ghost use Rattle.script_text.specs.Script.{is_call};
 ghost use Rattle.script_text.specs.Laws.{IsFormed};
-ghost use Rattle.script_text.specs.Text.{PhaseRecord};
+ghost use Rattle.run_text.specs.Text.{PhaseRecord};
 ghost use Rattle.store_run.specs.Trace.{IsTextOf, IsWholeTextOf};
 ghost use Rattle.store_run.specs.Serving.{IsCallFirst};
 ghost use Rattle.store_run.specs.Running.{HasRun, HasStopped};

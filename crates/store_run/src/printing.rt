@@ -2,12 +2,13 @@
 
 ghost use Rattle.std.specs.Prelude.{◌≡◌, ◌≤◌, ◌⊎◌, ◌++◌, ◌<◌, length, slice_get, Some, OnOk, OnErr, IfErr};
 ghost use Rattle.tee_ports.specs.Faults.{Rose};
-ghost use Rattle.script_text.specs.Text.{event_text, events_text, phase_line, control_line};
+ghost use Rattle.run_text.specs.Text.{event_text, events_text, phase_line, control_line};
 ghost use Rattle.store_run.specs.Sending.{Sends, Stops, IsWriteError};
 
 use crate::status::Status;
 use crate::writing::{PIECE, flush};
-use script_text::{Control, Script, print_control, print_event, print_phase};
+use run_text::{print_control, print_event, print_phase};
+use script_text::{Control, Script};
 use store_model::{Event, History};
 use tee_ports::Sink;
 

@@ -6,7 +6,7 @@ ghost use Rattle.std.specs.String.{string_bytes};
 ghost use Rattle.tee_ports.specs.Faults.{Rose};
 ghost use Rattle.tee_ports.specs.Streams.{Appends};
 ghost use Rattle.script_text.specs.Script.{ScriptValue};
-ghost use Rattle.script_text.specs.Text.{PhaseRecord};
+ghost use Rattle.run_text.specs.Text.{PhaseRecord};
 ghost use Rattle.script_text.specs.Grammar.{script_of};
 ghost use Rattle.store_run.specs.Trace.{Trace, IsTraceOf, IsTextOf, IsWholeTextOf};
 ghost use Rattle.store_run.specs.Sending.{IsWriteError};

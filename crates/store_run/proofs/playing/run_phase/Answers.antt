@@ -3,7 +3,7 @@ use Rattle.std.proofs.lemmas.List.{length-map}
 use Rattle.std.proofs.lemmas.Grind.{common_steps}
 use Rattle.store_model.specs.Machine.{applications}
 use Rattle.script_text.specs.Script.{IsPlaced}
-use Rattle.script_text.specs.Text.{phase_line, events_text}
+use Rattle.run_text.specs.Text.{phase_line, events_text}
 use Rattle.store_run.specs.Serving.{AreCalls, HasServed}
 use Rattle.store_run.specs.Sending.{Sends, Stops}
 use Rattle.store_run.specs.Running.{HasRun}

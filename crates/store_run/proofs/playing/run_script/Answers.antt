@@ -1,6 +1,6 @@
 use Rattle.std.proofs.Common.{◌≡◌, [], length, refl, rules, arith}
 use Rattle.tee_ports.proofs.Streams.{Appends-none}
-use Rattle.script_text.specs.Text.{script_output}
+use Rattle.run_text.specs.Text.{script_output}
 use Rattle.std.proofs.lemmas.Result.{on_ok_weaker}
 use Rattle.store_run.proofs.Progress.{text_of_flush}
 use Rattle.store_run.proofs.playing.run_script.Goals as goal

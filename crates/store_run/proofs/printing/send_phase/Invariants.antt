@@ -1,5 +1,5 @@
 use Rattle.std.proofs.Common.{◌++◌, ◌≤◌, take}
-use Rattle.script_text.specs.Text.{phase_line, events_text}
+use Rattle.run_text.specs.Text.{phase_line, events_text}
 use Rattle.store_run.specs.Sending.{Sends}
 use Rattle.store_run.proofs.printing.send_phase.Given as goal
 

@@ -3,7 +3,7 @@
 ghost use Rattle.std.specs.Prelude.{◌≡◌, ◌++◌, length, take, codes, decimal, OnOk};
 ghost use Rattle.std.specs.Fmt.{signed_decimal};
 ghost use Rattle.hex.specs.Hex.{encode_lower};
-ghost use Rattle.script_text.specs.Forms.{bytes_text, flags_text, letters_text, letter};
+ghost use Rattle.run_text.specs.Forms.{bytes_text, flags_text, letters_text, letter};
 
 use itoa::Buffer;
 use tee_types::{Flags, NoMemory, OVERWRITE, READ, SHARE_READ, SHARE_WRITE, WRITE, WRITE_META};
@@ -99,6 +99,51 @@ pub(crate) fn put_flags(out: &mut Vec<u8>, flags: Flags) -> Result<(), NoMemory>
     put_hex(out, &flags.bits.to_be_bytes())
 }
 
+/// Appends a word, and flags behind it.
+pub(crate) fn put_word_flags(out: &mut Vec<u8>, word: &[u8], flags: Flags) -> Result<(), NoMemory>
+    ensures ok { OnOk result (out.new.items ≡ out.old.items ++ word.now ++ flags_text flags) }
+    ensures kept { take (length out.old.items) out.new.items ≡ out.old.items }
+{
+    put(out, word)?;
+    put_flags(out, flags)
+}
+
+/// Appends a word, and a signed number behind it.
+pub(crate) fn put_word_signed(out: &mut Vec<u8>, word: &[u8], number: i64) -> Result<(), NoMemory>
+    ensures ok { OnOk result (out.new.items ≡ out.old.items ++ word.now ++ signed_decimal number) }
+    ensures kept { take (length out.old.items) out.new.items ≡ out.old.items }
+{
+    put(out, word)?;
+    put_signed(out, number)
+}
+
+/// Appends two words, one right behind the other.
+pub(crate) fn put_two(out: &mut Vec<u8>, first: &[u8], second: &[u8]) -> Result<(), NoMemory>
+    ensures ok { OnOk result (out.new.items ≡ out.old.items ++ first.now ++ second.now) }
+    ensures kept { take (length out.old.items) out.new.items ≡ out.old.items }
+{
+    put(out, first)?;
+    put(out, second)
+}
+
+/// Appends a word, and bytes behind it, in hex, small letters.
+pub(crate) fn put_word_hex(out: &mut Vec<u8>, word: &[u8], bytes: &[u8]) -> Result<(), NoMemory>
+    ensures ok { OnOk result (out.new.items ≡ out.old.items ++ word.now ++ encode_lower bytes.now) }
+    ensures kept { take (length out.old.items) out.new.items ≡ out.old.items }
+{
+    put(out, word)?;
+    put_hex(out, bytes)
+}
+
+/// Appends a word, and bytes behind it, in hex, or `-` for none.
+pub(crate) fn put_word_bytes(out: &mut Vec<u8>, word: &[u8], bytes: &[u8]) -> Result<(), NoMemory>
+    ensures ok { OnOk result (out.new.items ≡ out.old.items ++ word.now ++ bytes_text bytes.now) }
+    ensures kept { take (length out.old.items) out.new.items ≡ out.old.items }
+{
+    put(out, word)?;
+    put_bytes(out, bytes)
+}
+
 /// Appends a word, and a number behind it.
 pub(crate) fn put_word_number(out: &mut Vec<u8>, word: &[u8], number: u64) -> Result<(), NoMemory>
     ensures ok { OnOk result (out.new.items ≡ out.old.items ++ word.now ++ decimal number) }
@@ -119,6 +164,5 @@ pub(crate) fn put_word_numbers(
     ensures kept { take (length out.old.items) out.new.items ≡ out.old.items }
 {
     put_word_number(out, word, first as u64)?;
-    put(out, b" ")?;
-    put_number(out, second as u64)
+    put_word_number(out, b" ", second as u64)
 }

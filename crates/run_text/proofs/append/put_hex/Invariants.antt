@@ -1,6 +1,6 @@
 use Rattle.std.proofs.Common.{◌≡◌, ◌++◌, drop, take, length}
 use Rattle.hex.specs.Hex.{encode_lower}
-use Rattle.script_text.proofs.append.put_hex.Given as goal
+use Rattle.run_text.proofs.append.put_hex.Given as goal
 
 abbrev pub invariant-loop-byte : goal.invariant-loop-byte
 invariant-loop-byte l = record {

@@ -1,14 +1,15 @@
 //! Writing the text of a run, line by line.
 
-ghost use Rattle.std.specs.Prelude.{◌≡◌, ◌++◌, length, take, OnOk, OnErr};
-ghost use Rattle.script_text.specs.Text.{event_text, phase_line, control_line, name_at};
+ghost use Rattle.std.specs.Prelude.{◌≡◌, ◌++◌, length, take, codes, decimal, OnOk, OnErr};
+ghost use Rattle.run_text.specs.Forms.{reply_text};
+ghost use Rattle.run_text.specs.Text.{event_text, phase_line, control_line, name_at};
 
-use crate::append::{put, put_number};
+use crate::append::{put, put_number, put_word_number};
 use crate::print_call::{put_call, put_control};
 use crate::print_reply::put_reply;
-use crate::script::{Control, Script};
+use script_text::{Control, Script};
 use store_model::Event;
-use tee_types::NoMemory;
+use tee_types::{NoMemory, Reply};
 
 /// Appends the name of a session's application.
 fn put_name(out: &mut Vec<u8>, names: &Script, session: u32) -> Result<(), NoMemory>
@@ -19,6 +20,27 @@ fn put_name(out: &mut Vec<u8>, names: &Script, session: u32) -> Result<(), NoMem
         Some(name) => put(out, name),
         None => Ok(()),
     }
+}
+
+/// Appends the place of an event, and the application that called.
+fn put_caller(out: &mut Vec<u8>, names: &Script, place: u64, session: u32) -> Result<(), NoMemory>
+    ensures ok { OnOk result (out.new.items ≡ out.old.items ++ decimal place ++ codes " " ++ name_at names.now session ++ codes " ") }
+    ensures kept { take (length out.old.items) out.new.items ≡ out.old.items }
+{
+    put_number(out, place)?;
+    put(out, b" ")?;
+    put_name(out, names, session)?;
+    put(out, b" ")
+}
+
+/// Appends the answer of a call, and the end of its line.
+fn put_answer(out: &mut Vec<u8>, reply: &Reply) -> Result<(), NoMemory>
+    ensures ok { OnOk result (out.new.items ≡ out.old.items ++ codes " -> " ++ reply_text reply.now ++ codes "\n") }
+    ensures kept { take (length out.old.items) out.new.items ≡ out.old.items }
+{
+    put(out, b" -> ")?;
+    put_reply(out, reply)?;
+    put(out, b"\n")
 }
 
 /// Appends the line of an event. A refusal may leave a part of it behind the old text.
@@ -34,19 +56,13 @@ fn put_event(out: &mut Vec<u8>, names: &Script, place: u64, event: &Event) -> Re
             reply,
             ..
         } => {
-            put_number(out, place)?;
-            put(out, b" ")?;
-            put_name(out, names, *session)?;
-            put(out, b" ")?;
+            put_caller(out, names, place, *session)?;
             put_call(out, call)?;
-            put(out, b" -> ")?;
-            put_reply(out, reply)?;
-            put(out, b"\n")
+            put_answer(out, reply)
         }
         Event::Landed { commit } => {
             put_number(out, place)?;
-            put(out, b" - landed ")?;
-            put_number(out, *commit as u64)?;
+            put_word_number(out, b" - landed ", *commit as u64)?;
             put(out, b"\n")
         }
     }
@@ -76,10 +92,8 @@ fn put_phase(out: &mut Vec<u8>, number: u64, objects: u16) -> Result<(), NoMemor
     ensures ok { OnOk result (out.new.items ≡ out.old.items ++ phase_line number objects) }
     ensures kept { take (length out.old.items) out.new.items ≡ out.old.items }
 {
-    put(out, b"# phase ")?;
-    put_number(out, number)?;
-    put(out, b" serial objects ")?;
-    put_number(out, objects as u64)?;
+    put_word_number(out, b"# phase ", number)?;
+    put_word_number(out, b" serial objects ", objects as u64)?;
     put(out, b"\n")?;
     Ok(())
 }

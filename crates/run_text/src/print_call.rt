@@ -1,13 +1,14 @@
 //! Writing a call and a control.
 
 ghost use Rattle.std.specs.Prelude.{◌≡◌, ◌++◌, length, take, OnOk};
-ghost use Rattle.tee_types.specs.declared.call.Call.TheVariants.{Create, Seek};
-ghost use Rattle.script_text.specs.Forms.{call_text, control_text, whence_text};
+ghost use Rattle.tee_types.specs.declared.call.Call.TheVariants.{Create, Open, Rename, Seek, Write};
+ghost use Rattle.run_text.specs.Forms.{call_text, control_text, whence_text};
 
 use crate::append::{
-    put, put_bytes, put_flags, put_hex, put_signed, put_word_number, put_word_numbers,
+    put, put_two, put_word_bytes, put_word_flags, put_word_hex, put_word_number, put_word_numbers,
+    put_word_signed,
 };
-use crate::script::Control;
+use script_text::Control;
 use tee_types::{Bytes, Call, Flags, NoMemory, ObjectId, Whence};
 
 /// The name of the place from which a seek counts.
@@ -33,14 +34,40 @@ fn put_create(
     ensures ok { OnOk result (out.new.items ≡ out.old.items ++ call_text (Create id.now flags attributes.now bytes.now)) }
     ensures kept { take (length out.old.items) out.new.items ≡ out.old.items }
 {
-    put(out, b"create ")?;
-    put_hex(out, id.bytes())?;
-    put(out, b" ")?;
-    put_flags(out, flags)?;
-    put(out, b" ")?;
-    put_bytes(out, attributes.as_slice())?;
-    put(out, b" ")?;
-    put_bytes(out, bytes.as_slice())
+    put_word_hex(out, b"create ", id.bytes())?;
+    put_word_flags(out, b" ", flags)?;
+    put_word_bytes(out, b" ", attributes.as_slice())?;
+    put_word_bytes(out, b" ", bytes.as_slice())
+}
+
+/// Appends an open.
+#[tactic(auto, unfolding(crate::specs::Forms::call_text))]
+fn put_open(out: &mut Vec<u8>, id: &ObjectId, flags: Flags) -> Result<(), NoMemory>
+    ensures ok { OnOk result (out.new.items ≡ out.old.items ++ call_text (Open id.now flags)) }
+    ensures kept { take (length out.old.items) out.new.items ≡ out.old.items }
+{
+    put_word_hex(out, b"open ", id.bytes())?;
+    put_word_flags(out, b" ", flags)
+}
+
+/// Appends a write.
+#[tactic(auto, unfolding(crate::specs::Forms::call_text))]
+fn put_write(out: &mut Vec<u8>, handle: u32, bytes: &Bytes) -> Result<(), NoMemory>
+    ensures ok { OnOk result (out.new.items ≡ out.old.items ++ call_text (Write handle bytes.now)) }
+    ensures kept { take (length out.old.items) out.new.items ≡ out.old.items }
+{
+    put_word_number(out, b"write ", handle as u64)?;
+    put_word_bytes(out, b" ", bytes.as_slice())
+}
+
+/// Appends a rename.
+#[tactic(auto, unfolding(crate::specs::Forms::call_text))]
+fn put_rename(out: &mut Vec<u8>, handle: u32, id: &ObjectId) -> Result<(), NoMemory>
+    ensures ok { OnOk result (out.new.items ≡ out.old.items ++ call_text (Rename handle id.now)) }
+    ensures kept { take (length out.old.items) out.new.items ≡ out.old.items }
+{
+    put_word_number(out, b"rename ", handle as u64)?;
+    put_word_hex(out, b" ", id.bytes())
 }
 
 /// Appends a seek.
@@ -50,10 +77,8 @@ fn put_seek(out: &mut Vec<u8>, handle: u32, offset: i64, whence: Whence) -> Resu
     ensures kept { take (length out.old.items) out.new.items ≡ out.old.items }
 {
     put_word_number(out, b"seek ", handle as u64)?;
-    put(out, b" ")?;
-    put_signed(out, offset)?;
-    put(out, b" ")?;
-    put(out, whence_name(whence))
+    put_word_signed(out, b" ", offset)?;
+    put_two(out, b" ", whence_name(whence))
 }
 
 /// Appends a call.
@@ -69,30 +94,17 @@ pub(crate) fn put_call(out: &mut Vec<u8>, call: &Call) -> Result<(), NoMemory>
             attributes,
             bytes,
         } => put_create(out, id, *flags, attributes, bytes),
-        Call::Open { id, flags } => {
-            put(out, b"open ")?;
-            put_hex(out, id.bytes())?;
-            put(out, b" ")?;
-            put_flags(out, *flags)
-        }
+        Call::Open { id, flags } => put_open(out, id, *flags),
         Call::Close { handle } => put_word_number(out, b"close ", *handle as u64),
         Call::Read { handle, size } => put_word_numbers(out, b"read ", *handle, *size),
-        Call::Write { handle, bytes } => {
-            put_word_number(out, b"write ", *handle as u64)?;
-            put(out, b" ")?;
-            put_bytes(out, bytes.as_slice())
-        }
+        Call::Write { handle, bytes } => put_write(out, *handle, bytes),
         Call::Truncate { handle, size } => put_word_numbers(out, b"truncate ", *handle, *size),
         Call::Seek {
             handle,
             offset,
             whence,
         } => put_seek(out, *handle, *offset, *whence),
-        Call::Rename { handle, id } => {
-            put_word_number(out, b"rename ", *handle as u64)?;
-            put(out, b" ")?;
-            put_hex(out, id.bytes())
-        }
+        Call::Rename { handle, id } => put_rename(out, *handle, id),
         Call::Delete { handle } => put_word_number(out, b"delete ", *handle as u64),
         Call::Info { handle } => put_word_number(out, b"info ", *handle as u64),
         Call::EnumNew => put(out, b"enum"),

@@ -17,8 +17,8 @@ use Rattle.script_text.specs.declared.script.Control.TheVariants.{Serial, Phase}
 use Rattle.script_text.specs.declared.script.Step.{Step}
 use Rattle.script_text.specs.declared.script.Step.TheVariants.{Call as CallStep, Control as ControlStep}
 use Rattle.script_text.specs.Script.{ScriptValue}
-use Rattle.script_text.specs.Forms.{flags_text, call_text, reply_text}
-use Rattle.script_text.specs.Text.{Serve, Do, event_text, events_text, phase_line, acts_of, script_output}
+use Rattle.run_text.specs.Forms.{flags_text, call_text, reply_text}
+use Rattle.run_text.specs.Text.{Serve, Do, event_text, events_text, phase_line, acts_of, script_output}
 
 calls : map call_text
     (Create (0x6b ∷ []) (record { bits = 1 }) (0 ∷ []) [] ∷ Open (0x6b ∷ []) (record { bits = 0x8 }) ∷ Close 0 ∷ Read 0 4

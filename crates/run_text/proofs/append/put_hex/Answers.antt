@@ -1,7 +1,7 @@
 use Rattle.std.proofs.Common.{◌∙◌, sym, arith}
 use Rattle.std.proofs.lemmas.Grind.{common_steps}
-use Rattle.script_text.proofs.Printing.{encode_lower-more, encode_lower-all}
-use Rattle.script_text.proofs.append.put_hex.Goals as goal
+use Rattle.run_text.proofs.Printing.{encode_lower-more, encode_lower-all}
+use Rattle.run_text.proofs.append.put_hex.Goals as goal
 
 pub loop-byte-preserved : goal.loop-byte-preserved
 loop-byte-preserved c = record {

@@ -8,7 +8,7 @@ use Rattle.script_text.specs.declared.script.Control.{Control}
 use Rattle.script_text.specs.declared.script.Step.{Step}
 use Rattle.script_text.specs.declared.script.Step.TheVariants.{Call as CallStep, Control as ControlStep}
 use Rattle.script_text.specs.Script.{ScriptValue}
-use Rattle.script_text.specs.Forms.{call_text, control_text, reply_text}
+use Rattle.run_text.specs.Forms.{call_text, control_text, reply_text}
 
 -- the name by which the script calls that session
 abbrev pub name_at : ScriptValue → ℕ → List ℕ
