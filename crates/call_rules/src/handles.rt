@@ -1,6 +1,6 @@
 //! Calls that give handles and take them back.
 
-ghost use Rattle.std.specs.Prelude.{◌≡◌, ℕ, true, Some, IfSome};
+ghost use Rattle.std.specs.Prelude.{◌≡◌, ℕ, true, false, Some, IfSome};
 ghost use Rattle.dir_index.specs.Index.{named};
 ghost use Rattle.store_model.specs.Machine.{MachineState, session_at, name_in, first_refusal, has_all_handles};
 ghost use Rattle.store_model.specs.Standing.{is_undone};
@@ -111,6 +111,7 @@ pub fn create<C: Catalog>(
     ensures makes { (s : MachineState) (i : ℕ) → Matches (C.entries catalog.now) (C.handles catalog.now) session.now s i
         → IfNeeds result (λ _. reply_of s i (Call.Create id flags attributes.now bytes.now) ≡ Reply.Handle session.now.next_handle) }
     ensures place { IfNeeds result (IsNewPlace (C.entries catalog.now) (named session.now.application id)) }
+    ensures few { IfNeeds result (λ _. has_all_handles session.now ≡ false) }
     ensures refused { IfAnswered result IsRefused }
 {
     let found = catalog.look(session.app(), id);
@@ -140,6 +141,7 @@ pub fn open<C: Catalog>(
     ensures opens { (s : MachineState) (i : ℕ) → Matches (C.entries catalog.now) (C.handles catalog.now) session.now s i
         → IfNeeds result (λ held. IsOpened s i id flags held.entry.size) }
     ensures named { IfNeeds result (λ held. IsEntryNamed (C.entries catalog.now) (named session.now.application id) (Some held)) }
+    ensures few { IfNeeds result (λ _. has_all_handles session.now ≡ false) }
     ensures refused { IfAnswered result IsRefused }
 {
     if let Some(reply) = open_refusal(session, flags) {

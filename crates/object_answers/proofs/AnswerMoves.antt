@@ -9,6 +9,8 @@ use Rattle.store_model.specs.Calls.{reply_of, state_after}
 use Rattle.store_model.specs.Legal.{Answered, Doubted, FoundCorrupt, IsLegalAnswer, Spent, Unavailable}
 use Rattle.store_model.specs.Machine.{MachineState, Session, session_at}
 use Rattle.store_model.specs.Standing.{Standing, is_undone}
+use Rattle.dir_records.specs.declared.entry.DirEntry.{DirEntry}
+use Rattle.open_table.specs.Table.{TableState}
 use Rattle.history_seats.specs.Known.{session_from}
 use Rattle.history_seats.specs.Records.{HistoryRecord}
 use Rattle.history_seats.specs.Settling.{calm}
@@ -22,9 +24,11 @@ use Rattle.suppositions.proofs.Answers.{answered-front, answered-last, standing-
 use Rattle.suppositions.proofs.Mending.{none_some}
 use Rattle.suppositions.proofs.SessionSteps.{unchanged_stands}
 use Rattle.call_history.specs.Calls.{IsMovedBy}
-use Rattle.call_history.specs.Sessions.{CallerSession, pending_of}
+use Rattle.call_history.specs.Sessions.{CallerSession, IsCallerOf, pending_of}
+use Rattle.call_history.specs.Shown.{SeesAll}
+use Rattle.call_rules.specs.Matches.{Matches}
 use Rattle.call_history.proofs.CallMoves.{stands-whole}
-use Rattle.locked_gate.specs.KnownMachine.{IsSessionAt}
+use Rattle.locked_gate.specs.KnownMachine.{IsSessionAt, KnowsMachine}
 use Rattle.locked_gate.specs.SlotAnswers.{slot_record}
 use Rattle.locked_gate.proofs.Knowing.{shown_stand}
 use Rattle.object_answers.specs.EntryCalls.{MeansAlike}
@@ -66,8 +70,17 @@ module _ (store : Store) (guess : Guess) (all : List HistoryRecord) (slot : Slot
   means-alike (inl legal) = by_legal (Some slot.file) legal.legal.answer
   means-alike (inr clash) = by_clash clash
 
+-- The machine is as the gate's entries and open handles tell, with the session that sees the whole history.
+pub here-matches : (E : Type 0) (store : Store) (knows : GateView) (entries : List (Option DirEntry)) (table : TableState) → KnowsMachine store knows entries table → (s : CallerSession E) → IsCallerOf store s
+    → SeesAll knows s.pass → (guess : Guess) → AreAnswered store guess knows.all → Matches entries table s.state (standing_at store guess knows.all).state s.number
+here-matches E store knows entries table machine s caller sees guess answered =
+    let of = machine guess answered in
+    let stands = shown_stand E store knows s caller sees guess answered in
+    record { shaped = of.shaped; handles = of.handles; within = stands.within; session = stands.is }
+
 -- So the session moves as the machine's.
-module _ {E : Type 0} (store : Store) (knows : GateView) (slot : SlotView) (call : Call) (reply : Reply) (s : CallerSession E) (within : knows.decided ≤ length knows.all) (state : Session) (moves : MovesAlike store knows call reply state s) where
+module _ {E : Type 0} (store : Store) (knows : GateView) (entries : List (Option DirEntry)) (table : TableState) (machine : KnowsMachine store knows entries table) (slot : SlotView) (call : Call) (reply : Reply)
+    (s : CallerSession E) (within : knows.decided ≤ length knows.all) (state : Session) (moves : MovesAlike store knows entries table call reply state s) where
   abbrev r : HistoryRecord
   r = slot_record store knows slot s.number s.made call reply
 
@@ -90,7 +103,7 @@ module _ {E : Type 0} (store : Store) (knows : GateView) (slot : SlotView) (call
     by_undone : (b : Bool) → is_undone reply ≡ b → session_at (elim b as (λ _. MachineState) [ true ↦ before.state | false ↦ state_after before.state s.number call ]) s.number ≡ s.state
     by_undone true undone = stands.is ∙ sym (moves.undone undone)
     by_undone false done =
-        moves.done done before.state stands (means-alike store guess knows.all slot knows s.number s.made call reply done (answered-last store guess knows.all r answered))
+        moves.done done before.state (here-matches E store knows entries table machine was moves.was moves.sees guess front) (means-alike store guess knows.all slot knows s.number s.made call reply done (answered-last store guess knows.all r answered))
 
     after : session_at (standing_at store guess (knows.all ++ r ∷ [])).state s.number ≡ s.state
     after = ap (λ (t : Standing). session_at t.state s.number) (standing-snoc store guess knows.all r) ∙ by_undone (is_undone reply) refl

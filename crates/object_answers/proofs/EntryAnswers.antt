@@ -44,6 +44,7 @@ use Rattle.locked_gate.proofs.Knowing.{shown_stand}
 use Rattle.object_answers.specs.EntryCalls.{AdmitsIfTold, IsEntryCall}
 use Rattle.object_answers.specs.FileAnswers.{Fails, IsFileAnswer, Refuses, Tells as FileTells}
 use Rattle.object_answers.specs.Serving.{MayBeServed}
+use Rattle.object_answers.proofs.AnswerMoves.{here-matches}
 use Rattle.object_answers.proofs.Meetings.{own-seat}
 
 -- A reply that tells of an object is no refusal, and accuses no device.
@@ -121,11 +122,8 @@ module _ {F R E : Type 0} (store : Store) (gate : GateValue F R) (knows : GateVi
     abbrev here : Standing
     here = standing_at store guess knows.all
 
-    stands : IsSessionAt here.state (record s { state = may.before })
-    stands = shown_stand E store knows (record s { state = may.before }) may.moves.was may.moves.sees guess answered
-
     on : IsEntryCall here.state s.number e may.position call reply
-    on = may.on here.state (machine guess answered) stands
+    on = may.on here.state (here-matches E store knows gate.dir.dir.entries gate.open_handles machine (record s { state = may.before }) may.moves.was may.moves.sees guess answered)
 
     on-file : IsOnFile store guess knows.all s.number call e.file e.generation v
     on-file = entry_calls F R store gate knows closing locked are low s.number may.index call e v may.moves.was.session.known may.held given guess answered on.named on.depends

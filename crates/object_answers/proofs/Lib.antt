@@ -1,8 +1,10 @@
 pub mod Outcomes
 pub mod Meetings
 pub mod LoadedEntries
-pub mod EntryAnswers
+pub mod Causes
+pub mod ReadyEntries
 pub mod AnswerMoves
+pub mod EntryAnswers
 pub mod OwnAnswers
-pub mod ReadAnswers
 pub mod ServedCalls
+pub mod ReadAnswers

@@ -1,5 +1,8 @@
 -- A slot at an entry, once its object is loaded.
-use Rattle.std.proofs.Common.{◌≡◌, ◌∙◌, ℕ, List, Some, None, Result, Ok, Err, sym, ap, subst}
+use Rattle.std.proofs.Common.{◌≡◌, ◌∙◌, ℕ, List, Some, None, Result, Ok, Err, IsOk, true≢false, refl, sym, ap, subst}
+use Rattle.disk_model.specs.Calls.{Rests}
+use Rattle.disk_model.specs.State.{FileState}
+use Rattle.disk_model.proofs.Goings.{goes_on_none}
 use Rattle.dir_records.specs.declared.entry.DirEntry.{DirEntry}
 use Rattle.history_seats.specs.Records.{Version}
 use Rattle.history_seats.specs.Views.{GateView}
@@ -9,6 +12,7 @@ use Rattle.suppositions.specs.Stores.{Store}
 use Rattle.locked_gate.specs.LockedGates.{IsLockedGate, LockedGateValue}
 use Rattle.object_slots.specs.declared.fault.SlotFault.{SlotFault}
 use Rattle.object_slots.specs.declared.fault.SlotFault.TheVariants.{Corrupt, Failed, NoEntropy, NoMemory}
+use Rattle.object_slots.specs.Faults.{HasCause}
 use Rattle.object_slots.specs.Loads.{IsLoadedBy, LoadsObject}
 use Rattle.object_slots.specs.Value.{HeldObject, Holding, IsFree, IsLive, SlotValue, free, live, made, staged}
 use Rattle.locked_slots.specs.Fills.{GivesEntry, IsDamagedAnswer}
@@ -60,15 +64,38 @@ fills-free (made o) old new tsk e result is loads = absurd is
 fills-free (live o) old new tsk e result is loads = absurd is
 fills-free (staged o s) old new tsk e result is loads = absurd is
 
-pub stays-held : (holds : Holding) (old new : SlotValue) (tsk : List ℕ) (e : DirEntry) (result : Result (Unit {0}) SlotFault) → (IsFree holds → ⊥) → new ≡ old → FillsOrStays holds old new tsk e result
-stays-held free old new tsk e result held same = absurd (held tt)
-stays-held (made o) old new tsk e result held same = same
-stays-held (live o) old new tsk e result held same = same
-stays-held (staged o s) old new tsk e result held same = same
+pub stays-held : (holds : Holding) (old new : SlotValue) (tsk : List ℕ) (e : DirEntry) (result : Result (Unit {0}) SlotFault) → (IsFree holds → ⊥) → new ≡ old → IsOk result → FillsOrStays holds old new tsk e result
+stays-held free old new tsk e result held same ok = absurd (held tt)
+stays-held (made o) old new tsk e result held same ok = (same, ok)
+stays-held (live o) old new tsk e result held same ok = (same, ok)
+stays-held (staged o s) old new tsk e result held same ok = (same, ok)
 
 -- a version is given by the seat alone
 pub gives-still : (old new : SlotValue) (v : Version) → new ≡ record old { file = new.file; holds = new.holds } → GivesVersion old v → GivesVersion new v
 gives-still old new v same gives = subst (λ (s : SlotValue). GivesVersion s v) (sym same) (record { seat = gives.seat; is = gives.is; gives = gives.gives })
+
+-- A file that is let be.
+pub rests-none : (s : FileState) → Rests s s
+rests-none s = record { trail = refl; settled = λ honest. refl; pending_from = refl; reads = λ known. refl; written = refl; goes_on = goes_on_none s }
+
+passed-none : (s : FileState) (result : Result (Unit {0}) SlotFault) → IsOk result → HasCause s s result
+passed-none s (Ok done) ok = record { faults = refl; starved = refl }
+passed-none s (Err fault) ok = absurd (true≢false (sym ok))
+
+-- the file was read at most
+pub record ReadsAtMost (old new : FileState) (result : Result (Unit {0}) SlotFault) : Type 0 where
+  pub rests : Rests old new
+  pub cause : HasCause old new result
+
+let_be : (old new : SlotValue) (result : Result (Unit {0}) SlotFault) → (new ≡ old) × IsOk result → ReadsAtMost old.file new.file result
+let_be old new result stays =
+    subst (λ (s : SlotValue). ReadsAtMost old.file s.file result) (sym stays.0) (record { rests = rests-none old.file; cause = passed-none old.file result stays.1 })
+
+reads-at_most : (holds : Holding) (old new : SlotValue) (tsk : List ℕ) (e : DirEntry) (result : Result (Unit {0}) SlotFault) → FillsOrStays holds old new tsk e result → ReadsAtMost old.file new.file result
+reads-at_most free old new tsk e result filled = record { rests = filled.rests; cause = filled.cause }
+reads-at_most (made o) old new tsk e result stays = let_be old new result stays
+reads-at_most (live o) old new tsk e result stays = let_be old new result stays
+reads-at_most (staged o s) old new tsk e result stays = let_be old new result stays
 
 -- The slot of an entry's file, which was shown the history, once the entry's object is loaded.
 module _ {F R : Type 0} (store : Store) (gate : LockedGateValue F R) (locked : IsLockedGate store gate.gate gate.journal.knows gate.closing) (idle : gate.gate.doubt ≡ None) (index : ℕ) (e : DirEntry)
@@ -87,10 +114,15 @@ module _ {F R : Type 0} (store : Store) (gate : LockedGateValue F R) (locked : I
 
   pub loads-entry : (new : SlotValue) (tsk : List ℕ) (result : Result (Unit {0}) SlotFault) → new ≡ record mid { file = new.file; holds = new.holds } → FillsOrStays mid.holds mid new tsk e result
       → ((v : Version) → GivesVersion mid v → LoadsVersion store.keys new v result) → LoadsEntry store.keys knows old new tsk e result
-  loads-entry new tsk result same filled version = record {
+  loads-entry new tsk result same filled version =
+      let file_is : mid.file ≡ old.file = ap (λ (s : SlotValue). s.file) is ∙ (met-still knows old).file in
+      let reads : ReadsAtMost old.file new.file result = subst (λ (f : FileState). ReadsAtMost f new.file result) file_is (reads-at_most mid.holds mid new tsk e result filled) in
+      record {
     version = at.0;
     at = at-stays knows mid new e at.0 same at.1;
     loads = version at.0 at.1.gives;
     same = same ∙ ap (λ (s : SlotValue). record s { file = new.file; holds = new.holds }) is;
     filled = subst (λ (s : SlotValue). FillsOrStays s.holds s new tsk e result) is filled;
+    rests = reads.rests;
+    cause = reads.cause;
   }

@@ -1,10 +1,11 @@
 -- A Read of an entry's object.
-use Rattle.std.proofs.Common.{◌≡◌, ◌⊎◌, ◌<◌, ◌^◌, ◌+◌, ◌-◌, ◌==◌, ◌||◌, ℕ, Bool, true, false, true≢false, List, [], length, min, take, drop, Option, Some, None, Result, Ok, Err, IsTrue, option_map, refl, sym, ap, ◌∙◌, subst, inl, inr, arith, length-drop}
+use Rattle.std.proofs.Common.{IfOk, ◌≡◌, ◌⊎◌, ◌<◌, ◌^◌, ◌+◌, ◌-◌, ◌==◌, ◌||◌, ℕ, Bool, true, false, true≢false, List, [], length, min, take, drop, Option, Some, None, Result, Ok, Err, IsTrue, option_map, refl, sym, ap, ◌∙◌, subst, inl, inr, arith, length-drop}
 use Rattle.std.proofs.lemmas.Grind.{get_or-set_at}
 use Rattle.std.proofs.lemmas.List.{length-take, take_all, take_min}
-use Rattle.std.specs.Prelude.{IfOk}
 use Rattle.std.specs.List.{list_any}
+use Rattle.disk_model.specs.Calls.{GoesOn, Rests}
 use Rattle.disk_model.specs.State.{FileState}
+use Rattle.htree_file.specs.Answers.{FilePassed}
 use Rattle.page_bytes.specs.Pages.{bytes_from, page_at}
 use Rattle.page_bytes.specs.Ranges.{meets}
 use Rattle.page_bytes.proofs.Content.{length-bytes_from}
@@ -23,6 +24,7 @@ use Rattle.store_model.specs.Machine.{MachineState, Outcome, Session, handle_at,
 use Rattle.store_model.specs.Object.{Contents, Damaged, Object, Sound, object_at}
 use Rattle.store_model.specs.Standing.{is_undone}
 use Rattle.dir_records.specs.declared.entry.DirEntry.{DirEntry}
+use Rattle.open_table.specs.Table.{TableState}
 use Rattle.history_seats.specs.Records.{Version}
 use Rattle.history_seats.specs.Views.{GateView}
 use Rattle.suppositions.specs.Given.{DiffersInBytes, Gave, position_of, spelling_given}
@@ -31,6 +33,7 @@ use Rattle.suppositions.specs.Stores.{Store}
 use Rattle.suppositions.proofs.Mending.{none_some, some_same}
 use Rattle.call_history.specs.Sessions.{CallerSession}
 use Rattle.call_rules.specs.declared.decision.OpenObject.{OpenObject}
+use Rattle.call_rules.specs.Matches.{Matches}
 use Rattle.call_rules.specs.Objects.{IsRightful}
 use Rattle.crash_core.specs.Entries.{name_of}
 use Rattle.store_commit.specs.Gates.{GateValue}
@@ -38,25 +41,26 @@ use Rattle.object_file.specs.Held.{held_in, pages_in}
 use Rattle.object_file.specs.Value.{size_in}
 use Rattle.object_slots.specs.declared.fault.SlotFault.{SlotFault}
 use Rattle.object_slots.specs.declared.fault.SlotFault.TheVariants.{Corrupt as IsCorrupt, Failed, NoEntropy, NoMemory}
-use Rattle.object_slots.specs.Value.{Holding, IsLive, SlotValue, free, live, made, staged}
+use Rattle.object_slots.specs.Faults.{FaultCause, HasCause}
+use Rattle.object_slots.specs.Reads.{ReadsObject}
+use Rattle.object_slots.specs.Value.{Holding, IfLive, IsLive, SlotValue, free, live, made, staged}
 use Rattle.locked_slots.specs.LockedSlots.{IsLockedSlot}
 use Rattle.locked_slots.specs.Reads.{GivesVersion, ReadsVersion, given_count}
 use Rattle.locked_slots.proofs.Contents.{slot_object}
-use Rattle.locked_slots.proofs.Filled.{with_fault}
 use Rattle.locked_gate.specs.Commits.{IsCalm}
-use Rattle.locked_gate.specs.KnownMachine.{IsSessionAt}
 use Rattle.locked_gate.specs.Told.{Answers, DependsOnFile, IsToldBy}
 use Rattle.object_answers.specs.Faults.{reply_of_fault}
 use Rattle.object_answers.specs.FileAnswers.{Fails, IsFileAnswer, Refuses, Tells as FileTells}
 use Rattle.object_answers.specs.EntryCalls.{AdmitsIfTold, IsEntryCall, MeansAlike}
-use Rattle.object_answers.specs.Loading.{LoadsVersion}
 use Rattle.object_answers.specs.Meeting.{IsAtEntry}
+use Rattle.object_answers.specs.Ready.{IsReadyEntry}
+use Rattle.object_answers.proofs.Causes.{passed-told, told-cause}
 use Rattle.object_answers.proofs.Meetings.{at-stays, file-moved}
-use Rattle.object_answers.specs.Reading.{ReadsAnswer, ReadsEntry, read_session}
+use Rattle.object_answers.specs.Reading.{EndsAtPosition, ReadsAnswer, ReadsEntry, read_session}
 use Rattle.object_answers.specs.Serving.{MayBeServed, MovesAlike}
 
 -- A read of so many bytes as there are of the version's object from a place on, at most `count`.
-module _ (store : Store) (slot : SlotValue) (v : Version) (at count : ℕ) (locked : IsLockedSlot store slot) (gives : GivesVersion slot v) (holding : IsLive slot.holds)
+module _ (store : Store) (was : FileState) (slot : SlotValue) (v : Version) (at count : ℕ) (locked : IsLockedSlot store slot) (gives : GivesVersion slot v) (holding : IsLive slot.holds)
     (after : List ℕ) (long : length after ≡ min count (v.size - at)) where
   abbrev keys : Keys
   keys = store.keys
@@ -120,8 +124,8 @@ module _ (store : Store) (slot : SlotValue) (v : Version) (at count : ℕ) (lock
           ap (λ (m : ℕ). list_any (meets_block at (at + m)) o.contents.bad) (sym given) ∙ reads.corrupt honest o.contents o.object,
         )
 
-    pub content-answer : at < 2 ^ 32 → v.size < 2 ^ 32 → ReadsAnswer store slot v at count (Content after)
-    content-answer low few = record { answers = λ handle. FileTells (told handle) (honest-content handle); long = long; ends = omega (arith, long, low, few) }
+    pub content-answer : FilePassed was slot.file → at < 2 ^ 32 → v.size < 2 ^ 32 → ReadsAnswer store was slot v at count (Content after)
+    content-answer passed low few = record { answers = λ handle. FileTells (told handle) (honest-content handle); cause = passed; ends = omega (arith, long, low, few) }
 
   honest-corrupt : ReadsVersion keys slot.file v at after (Err IsCorrupt) → (handle : ℕ) → IsTrue slot.file.honest → Answers v.object at (Read handle count) Corrupt
   honest-corrupt reads handle honest =
@@ -132,38 +136,63 @@ module _ (store : Store) (slot : SlotValue) (v : Version) (at count : ℕ) (lock
       subst (λ (x : Object). Answers x at (Read handle count) Corrupt) (sym o.object)
       (ap (λ (m : ℕ). list_any (meets_block at (at + m)) o.contents.bad) many ∙ reads.corrupt honest o.contents o.object)
 
-  pub fault-answer : (fault : SlotFault) (reply : Reply) → Some reply ≡ reply_of_fault slot.number fault → ReadsVersion keys slot.file v at after (Err fault) → ReadsAnswer store slot v at count reply
-  fault-answer IsCorrupt reply is reads =
-      let same : Corrupt ≡ reply = sym (some_same reply Corrupt is) in
-      subst (ReadsAnswer store slot v at count) same (record { answers = λ handle. Refuses refl (honest-corrupt reads handle); long = tt; ends = tt })
-  fault-answer (Failed n) reply is reads =
-      let same : NotAvailable (Fault (File slot.number) n) ≡ reply = sym (some_same reply (NotAvailable (Fault (File slot.number) n)) is) in
-      subst (ReadsAnswer store slot v at count) same (record { answers = λ handle. Fails n refl; long = tt; ends = tt })
-  fault-answer (NoEntropy n) reply is reads = absurd (none_some reply (sym is))
-  fault-answer NoMemory reply is reads = absurd (none_some reply (sym is))
+  answers-fault : (fault : SlotFault) (reply : Reply) → Some reply ≡ reply_of_fault slot.number fault → ReadsVersion keys slot.file v at after (Err fault) → (handle : ℕ)
+      → IsFileAnswer store slot.file slot.number v at (Read handle count) reply
+  answers-fault IsCorrupt reply is reads handle =
+      let same : reply ≡ Corrupt = some_same reply Corrupt is in
+      Refuses same (λ honest. subst (Answers v.object at (Read handle count)) (sym same) (honest-corrupt reads handle honest))
+  answers-fault (Failed n) reply is reads handle = Fails n (some_same reply (NotAvailable (Fault (File slot.number) n)) is)
+  answers-fault (NoEntropy n) reply is reads handle = absurd (none_some reply (sym is))
+  answers-fault NoMemory reply is reads handle = absurd (none_some reply (sym is))
 
--- An entry whose object could not be loaded.
-pub unloaded-answer : (store : Store) (slot : SlotValue) (v : Version) (at count : ℕ) (fault : SlotFault) (reply : Reply) → Some reply ≡ reply_of_fault slot.number fault
-    → LoadsVersion store.keys slot v (with_fault fault) → ReadsAnswer store slot v at count reply
-unloaded-answer store slot v at count IsCorrupt reply is loads =
-    let same : Corrupt ≡ reply = sym (some_same reply Corrupt is) in
-    subst (ReadsAnswer store slot v at count) same (record {
-      answers = λ handle. Refuses refl (λ honest. subst (λ (x : Object). Answers x at (Read handle count) Corrupt) (sym (loads honest)) tt);
-      long = tt;
-      ends = tt;
-    })
-unloaded-answer store slot v at count (Failed n) reply is loads =
-    let same : NotAvailable (Fault (File slot.number) n) ≡ reply = sym (some_same reply (NotAvailable (Fault (File slot.number) n)) is) in
-    subst (ReadsAnswer store slot v at count) same (record { answers = λ handle. Fails n refl; long = tt; ends = tt })
-unloaded-answer store slot v at count (NoEntropy n) reply is loads = absurd loads
-unloaded-answer store slot v at count NoMemory reply is loads = absurd (none_some reply (sym is))
+  ends-fault : (fault : SlotFault) (reply : Reply) → Some reply ≡ reply_of_fault slot.number fault → EndsAtPosition at reply
+  ends-fault IsCorrupt reply is = subst (EndsAtPosition at) (sym (some_same reply Corrupt is)) tt
+  ends-fault (Failed n) reply is = subst (EndsAtPosition at) (sym (some_same reply (NotAvailable (Fault (File slot.number) n)) is)) tt
+  ends-fault (NoEntropy n) reply is = absurd (none_some reply (sym is))
+  ends-fault NoMemory reply is = absurd (none_some reply (sym is))
+
+  pub fault-answer : (fault : SlotFault) (reply : Reply) → Some reply ≡ reply_of_fault slot.number fault → ReadsVersion keys slot.file v at after (Err fault) → FaultCause was slot.file fault
+      → ReadsAnswer store was slot v at count reply
+  fault-answer fault reply is reads cause = record {
+    answers = answers-fault fault reply is reads;
+    cause = told-cause was slot.file slot.number fault reply is cause;
+    ends = ends-fault fault reply is;
+  }
+
+-- What the slot's read says of its file.
+pub live-reads : (holds : Holding) (old new : FileState) (at : ℕ) (before after : List ℕ) (result : Result ℕ SlotFault) → IsLive holds → IfLive holds (λ o. ReadsObject old new o at before after result)
+    → Rests old new × HasCause old new result
+live-reads free old new at before after result on reads = absurd on
+live-reads (made o) old new at before after result on reads = absurd on
+live-reads (staged o s) old new at before after result on reads = absurd on
+live-reads (live o) old new at before after result on reads = (reads.rests, reads.cause)
 
 -- What was read of the entry's object, once that was loaded.
-pub read-entry : {A : Type 0} (store : Store) (knows : GateView) (mid new : SlotValue) (e : DirEntry) (v : Version) (at count : ℕ) → IsAtEntry knows mid e v → new ≡ record mid { file = new.file }
-    → (result : Result Reply A) → IfOk result (ReadsAnswer store new v at count) → IfOk result (ReadsEntry store knows new e at count)
-read-entry store knows mid new e v at count stands same (Ok reply) reads =
-    record { version = v; entry = at-stays knows mid new e v (file-moved mid new same) stands; reads = reads }
-read-entry store knows mid new e v at count stands same (Err none) reads = tt
+pub read-entry : {A : Type 0} (store : Store) (knows : GateView) (was : FileState) (mid new : SlotValue) (e : DirEntry) (v : Version) (at count : ℕ) → IsAtEntry knows mid e v
+    → new ≡ record mid { file = new.file } → FilePassed was mid.file → GoesOn was mid.file → (result : Result Reply A) → IfOk result (ReadsAnswer store mid.file new v at count)
+    → IfOk result (ReadsEntry store knows was new e at count)
+read-entry store knows was mid new e v at count stands same passed goes (Ok reply) reads = record {
+  answers = λ handle. record {
+    version = v;
+    at = at-stays knows mid new e v (file-moved mid new same) stands;
+    answers = reads.answers handle;
+    cause = passed-told was mid.file new.file passed goes new.number reply reads.cause;
+  };
+  ends = reads.ends;
+}
+read-entry store knows was mid new e v at count stands same passed goes (Err none) reads = tt
+
+undone-ends : (at : ℕ) (reply : Reply) → is_undone reply ≡ true → EndsAtPosition at reply
+undone-ends at (Content bytes) undone = absurd (true≢false (sym undone))
+undone-ends at reply undone = tt
+
+-- What could not be loaded.
+pub unread-entry : (store : Store) (knows : GateView) (was : FileState) (slot : SlotValue) (e : DirEntry) (at count : ℕ) (reply : Reply) → IsReadyEntry store knows was slot e (Some reply)
+    → ReadsEntry store knows was slot e at count reply
+unread-entry store knows was slot e at count reply ready = record {
+  answers = λ handle. record { version = ready.version; at = ready.at; answers = ready.ready.answers at (Read handle count); cause = ready.ready.cause };
+  ends = undone-ends at reply ready.ready.undone;
+}
 
 -- What the machine does at a Read that gives bytes.
 module _ (m : MachineState) (i number count : ℕ) (handle : Handle) (live_ : handle_at (session_at m i) number ≡ Some handle) (right : has handle.flags read_bit ≡ true) (other : List ℕ) where
@@ -247,27 +276,27 @@ admits-read m i size number count (NotAvailable cause) depends = tt
 admits-read m i size number count reply depends = depends
 
 -- The session moves as the machine's.
-module _ {E : Type 0} (store : Store) (knows : GateView) (was : CallerSession E) (number count : ℕ) (handle : Handle) (live_ : handle_at was.state number ≡ Some handle)
-    (right : has handle.flags read_bit ≡ true) (calmly : IsCalm store knows was) where
+module _ {E : Type 0} (store : Store) (knows : GateView) (entries : List (Option DirEntry)) (table : TableState) (was : CallerSession E) (number count : ℕ) (handle : Handle)
+    (live_ : handle_at was.state number ≡ Some handle) (right : has handle.flags read_bit ≡ true) (calmly : IsCalm store knows was) where
   abbrev Done : Reply → Type 0
-  Done r = is_undone r ≡ false → (m : MachineState) → IsSessionAt m was → MeansAlike m was.number (Read number count) r
+  Done r = is_undone r ≡ false → (m : MachineState) → Matches entries table was.state m was.number → MeansAlike m was.number (Read number count) r
       → session_at (state_after m was.number (Read number count)) was.number ≡ read_session was.state number handle r
 
-  there : (m : MachineState) → IsSessionAt m was → handle_at (session_at m was.number) number ≡ Some handle
-  there m at = ap (λ (s : Session). handle_at s number) at.is ∙ live_
+  there : (m : MachineState) → Matches entries table was.state m was.number → handle_at (session_at m was.number) number ≡ Some handle
+  there m at = ap (λ (s : Session). handle_at s number) at.session ∙ live_
 
   by_content : (bytes : List ℕ) → Done (Content bytes)
   by_content bytes done m at alike =
       let meant = alike-content bytes (reply_of m was.number (Read number count)) alike in
       content-session m was.number number count handle (there m at) right meant.0 at.within meant.1
-      ∙ (λ k. with_handle (at.is k) number (record handle { position = handle.position + sym meant.2 k }))
+      ∙ (λ k. with_handle (at.session k) number (record handle { position = handle.position + sym meant.2 k }))
 
   by_kind : (reply : Reply) → (is_undone reply ≡ true) ⊎ ((bytes : List ℕ) × (reply ≡ Content bytes)) → Done reply
   by_kind reply (inl undone) = λ done. absurd (true≢false (sym undone ∙ done))
   by_kind reply (inr content) = subst Done (sym content.1) (by_content content.0)
 
   read-moves : (reply : Reply) → (is_undone reply ≡ true) ⊎ ((bytes : List ℕ) × (reply ≡ Content bytes))
-      → MovesAlike store knows (Read number count) reply was.state (record was { state = read_session was.state number handle reply })
+      → MovesAlike store knows entries table (Read number count) reply was.state (record was { state = read_session was.state number handle reply })
   read-moves reply kind = record {
     was = calmly.caller;
     sees = calmly.sees;
@@ -277,7 +306,8 @@ module _ {E : Type 0} (store : Store) (knows : GateView) (was : CallerSession E)
     done = by_kind reply kind;
   }
 
-  read-call : (m : MachineState) (e : DirEntry) (reply : Reply) → handle.name ≡ name_of e → IsSessionAt m was → IsEntryCall m was.number e handle.position (Read number count) reply
+  read-call : (m : MachineState) (e : DirEntry) (reply : Reply) → handle.name ≡ name_of e → Matches entries table was.state m was.number
+      → IsEntryCall m was.number e handle.position (Read number count) reply
   read-call m e reply named at =
       let depends : DependsOnFile m was.number e.size (Read number count) = (record { handle = handle; live = there m at }, right) in
       record {
@@ -288,26 +318,26 @@ module _ {E : Type 0} (store : Store) (knows : GateView) (was : CallerSession E)
       }
 
 -- So the reply may be appended.
-pub read-served : {F R E : Type 0} (store : Store) (gate : GateValue F R) (knows : GateView) (slot : SlotValue) (was now : CallerSession E) (number count : ℕ) (found : OpenObject) (reply : Reply)
-    → gate.doubt ≡ None → IsCalm store knows was → IsRightful gate.dir.dir.entries was.state number read_bit found
-    → ReadsEntry store knows slot found.held.entry found.handle.position count reply → now ≡ record was { state = read_session was.state number found.handle reply }
+pub read-served : {F R E : Type 0} (store : Store) (gate : GateValue F R) (knows : GateView) (was : FileState) (slot : SlotValue) (s now : CallerSession E) (number count : ℕ) (found : OpenObject) (reply : Reply)
+    → gate.doubt ≡ None → IsCalm store knows s → IsRightful gate.dir.dir.entries s.state number read_bit found
+    → ReadsEntry store knows was slot found.held.entry found.handle.position count reply → now ≡ record s { state = read_session s.state number found.handle reply }
     → MayBeServed store gate knows slot (Read number count) reply now
-read-served store gate knows slot was now number count found reply idle calmly rightful reads moved =
+read-served store gate knows was slot s now number count found reply idle calmly rightful reads moved =
     let live_ = rightful.opened.live in
-    let answers = reads.reads.answers number in
+    let own = reads.answers number in
     subst (MayBeServed store gate knows slot (Read number count) reply) (sym moved) (record {
       idle = idle;
       index = found.held.index;
       entry = found.held.entry;
       held = rightful.opened.named.0;
-      version = reads.version;
-      at = reads.entry;
+      version = own.version;
+      at = own.at;
       position = found.handle.position;
-      answers = answers;
-      before = was.state;
+      answers = own.answers;
+      before = s.state;
       moves =
-          read-moves store knows was number count found.handle live_ rightful.has_right calmly reply
-          (read-kind store slot.file slot.number reads.version found.handle.position number count reply answers);
-      on = λ m machine at.
-          read-call store knows was number count found.handle live_ rightful.has_right calmly m found.held.entry reply (sym rightful.opened.named.1) at;
+          read-moves store knows gate.dir.dir.entries gate.open_handles s number count found.handle live_ rightful.has_right calmly reply
+          (read-kind store slot.file slot.number own.version found.handle.position number count reply own.answers);
+      on = λ m at.
+          read-call store knows gate.dir.dir.entries gate.open_handles s number count found.handle live_ rightful.has_right calmly m found.held.entry reply (sym rightful.opened.named.1) at;
     })

@@ -1,8 +1,10 @@
 pub mod Meeting
 pub mod Loading
-pub mod Reading
+pub mod Causes
 pub mod Faults
 pub mod FileAnswers
+pub mod Ready
+pub mod Reading
 pub mod EntryCalls
 pub mod Serving
 pub mod Served

@@ -1,5 +1,6 @@
 -- What a Read answers, by what the object's file gave.
-use Rattle.std.specs.Prelude.{◌≡◌, ◌+◌, ◌-◌, ◌<◌, ◌^◌, ℕ, length, min}
+use Rattle.std.specs.Prelude.{◌≡◌, ◌+◌, ◌<◌, ◌^◌, ℕ, length}
+use Rattle.disk_model.specs.State.{FileState}
 use Rattle.tee_types.specs.declared.call.Call.TheVariants.{Read}
 use Rattle.tee_types.specs.declared.reply.Reply.{Reply}
 use Rattle.tee_types.specs.declared.reply.Reply.TheVariants.{Content}
@@ -10,13 +11,8 @@ use Rattle.history_seats.specs.Records.{Version}
 use Rattle.history_seats.specs.Views.{GateView}
 use Rattle.suppositions.specs.Stores.{Store}
 use Rattle.object_slots.specs.Value.{SlotValue}
-use Rattle.object_answers.specs.FileAnswers.{IsFileAnswer}
-use Rattle.object_answers.specs.Meeting.{IsAtEntry}
-
--- how many bytes a reply gives, if it gives bytes
-abbrev pub GivesBytes : (count : ℕ) → Reply → Type 0
-GivesBytes count (Content bytes) = length bytes ≡ count
-GivesBytes count reply = Unit {0}
+use Rattle.object_answers.specs.Causes.{HasToldCause}
+use Rattle.object_answers.specs.FileAnswers.{AnswersEntry, IsFileAnswer}
 
 -- the bytes that a reply gives from a place on end at a position
 abbrev pub EndsAtPosition : (at : ℕ) → Reply → Type 0
@@ -24,16 +20,15 @@ EndsAtPosition at (Content bytes) = at + length bytes < 2 ^ 32
 EndsAtPosition at reply = Unit {0}
 
 -- The reply to a Read of at most so many bytes of the version's object, from a place on.
-pub record ReadsAnswer (store : Store) (slot : SlotValue) (v : Version) (at count : ℕ) (reply : Reply) : Type 0 where
+pub record ReadsAnswer (store : Store) (was : FileState) (slot : SlotValue) (v : Version) (at count : ℕ) (reply : Reply) : Type 0 where
   pub answers : (handle : ℕ) → IsFileAnswer store slot.file slot.number v at (Read handle count) reply
-  pub long : GivesBytes (min count (v.size - at)) reply
+  pub cause : HasToldCause was slot.file slot.number reply
   pub ends : EndsAtPosition at reply
 
--- The same of an entry's object, whose slot is at the entry.
-pub record ReadsEntry (store : Store) (gate : GateView) (slot : SlotValue) (e : DirEntry) (at count : ℕ) (reply : Reply) : Type 0 where
-  pub version : Version
-  pub entry : IsAtEntry gate slot e version
-  pub reads : ReadsAnswer store slot version at count reply
+-- The same of an entry's object, by its slot.
+pub record ReadsEntry (store : Store) (gate : GateView) (was : FileState) (slot : SlotValue) (e : DirEntry) (at count : ℕ) (reply : Reply) : Type 0 where
+  pub answers : (handle : ℕ) → AnswersEntry store gate was slot e at (Read handle count) reply
+  pub ends : EndsAtPosition at reply
 
 -- the position advances by what is given
 abbrev pub read_session : Session → (number : ℕ) → Handle → Reply → Session

@@ -9,9 +9,12 @@ mod fault;
 mod loading;
 mod meeting;
 mod reading;
+mod ready;
 mod telling;
 
 pub use answer::Answer;
 pub use fault::fault_reply;
 pub use loading::load;
 pub use reading::read;
+pub use ready::load_or_reply;
+pub use telling::tell;

@@ -71,6 +71,7 @@ pub fn load<F: StoreFile + Drop, R: RpmbPort + Drop, L: StoreName, E: Entropy>(
     requires file { slot.old.number ≡ entry.now.file }
     requires key { tsk.now ≡ object_key L.store.keys entry.now.app }
     ensures gate { gate.new ≡ gate.old }
+    ensures number { slot.new.number ≡ slot.old.number }
     ensures loads { LoadsEntry L.store.keys gate.old.journal.knows slot.old slot.new tsk.now entry.now result }
     ensures session { session.new ≡ shown gate.old.journal.knows session.old }
     ensures begins { BeginsAll gate.old.journal.knows session.old.pass }

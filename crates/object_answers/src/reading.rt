@@ -2,6 +2,7 @@
 
 ghost use Rattle.std.specs.Prelude.{◌≡◌, ◌≤◌, ℕ, None, Some, IfOk, OnErr};
 ghost use Rattle.tee_types.specs.Rights.{read_bit};
+ghost use Rattle.disk_model.specs.Calls.{Rests};
 ghost use Rattle.crash_core.specs.DeviceKeys.{object_key};
 ghost use Rattle.crash_core.specs.EntryLists.{entry_at};
 ghost use Rattle.history_seats.specs.Records.{Version};
@@ -11,12 +12,13 @@ ghost use Rattle.locked_slots.specs.LockedSlots.{IsLockedSlot};
 ghost use Rattle.locked_slots.specs.Reads.{GivesVersion};
 ghost use Rattle.locked_gate.specs.Commits.{IsCalm};
 ghost use Rattle.object_slots.specs.Value.{IsLive};
+ghost use Rattle.object_answers.specs.Causes.{HasToldCause};
 ghost use Rattle.object_answers.specs.Reading.{EndsAtPosition, ReadsAnswer, ReadsEntry, read_session};
 ghost use Rattle.object_answers.specs.Served.{IsServedOrNot};
 
 use crate::answer::Answer;
 use crate::fault::fault_reply;
-use crate::loading::load;
+use crate::ready::load_or_reply;
 use crate::telling::tell;
 use call_history::Session;
 use call_rules::OpenObject;
@@ -43,7 +45,8 @@ fn read_bytes<F: StoreFile + Drop, L: StoreName>(
     requires live { IsLive slot.old.holds }
     ensures same { slot.new ≡ record slot.old { file = slot.new.file } }
     ensures locked { IsLockedSlot L.store slot.new }
-    ensures reads { (v : Version) → GivesVersion slot.old v → v.size ≡ size → IfOk result (ReadsAnswer L.store slot.new v at count) }
+    ensures rests { Rests slot.old.file slot.new.file }
+    ensures reads { (v : Version) → GivesVersion slot.old v → v.size ≡ size → IfOk result (ReadsAnswer L.store slot.old.file slot.new v at count) }
 {
     let long = count.min(size.saturating_sub(at));
     let mut bytes = vec![in alloc; 0; long as usize]?;
@@ -77,17 +80,13 @@ fn read_entry<F: StoreFile + Drop, R: RpmbPort + Drop, L: StoreName, E: Entropy>
     ensures gate { gate.new ≡ gate.old }
     ensures session { session.new ≡ session.old }
     ensures number { slot.new.number ≡ slot.old.number }
-    ensures reads { IfOk result (ReadsEntry L.store gate.old.journal.knows slot.new entry.now at count) }
+    ensures rests { Rests slot.old.file slot.new.file }
+    ensures reads { IfOk result (ReadsEntry L.store gate.old.journal.knows slot.old.file slot.new entry.now at count) }
 {
-    match load(alloc, gate, slot, session, entry, tsk) {
-        Ok(()) => read_bytes::<F, L>(alloc, &mut slot.slot, at, count, entry.size),
-        Err(fault) => {
-            let Some(reply) = fault_reply(entry.file, fault) else {
-                return Err(NoMemory {});
-            };
-            Ok(reply)
-        }
+    if let Some(reply) = load_or_reply(alloc, gate, slot, session, entry, tsk)? {
+        return Ok(reply);
     }
+    read_bytes::<F, L>(alloc, &mut slot.slot, at, count, entry.size)
 }
 
 // Moves the handle behind the bytes that a reply gives.
@@ -125,7 +124,11 @@ pub fn read<F: StoreFile + Drop, R: RpmbPort + Drop, L: StoreName, E: Entropy>(
     requires found { IsRightful gate.old.gate.dir.dir.entries session.old.state handle read_bit found.now }
     requires file { slot.old.number ≡ found.now.held.entry.file }
     requires key { tsk.now ≡ object_key L.store.keys found.now.held.entry.app }
-    ensures { IsServedOrNot L.store gate.old gate.new session.old session.new (Call.Read handle count) result }
+    ensures served { IsServedOrNot L.store gate.old gate.new session.old session.new (Call.Read handle count) result }
+    ensures number { slot.new.number ≡ slot.old.number }
+    // The object's file was read at most. The reply accuses it where it failed, and no other.
+    ensures rests { Rests slot.old.file slot.new.file }
+    ensures cause { IfOk result (λ answer. HasToldCause slot.old.file slot.new.file slot.old.number answer.reply) }
 {
     let object = found.handle;
     let entry = found.held.entry;

@@ -15,7 +15,7 @@ use tee_types::{Call, Reply};
 
 /// Appends the reply that an object's file gave, and tells it. `told` is a copy of the reply. The session is already as the call leaves
 /// it.
-pub(crate) fn tell<F: StoreFile + Drop, R: RpmbPort + Drop, L: StoreName, E: Entropy>(
+pub fn tell<F: StoreFile + Drop, R: RpmbPort + Drop, L: StoreName, E: Entropy>(
     gate: &mut LockedGate<F, R, L>,
     slot: &mut LockedSlot<F, L>,
     session: &mut Session<E>,
@@ -30,6 +30,7 @@ pub(crate) fn tell<F: StoreFile + Drop, R: RpmbPort + Drop, L: StoreName, E: Ent
     ensures served { IsServed L.store gate.old gate.new session.old session.new call result }
     ensures reply { result.reply ≡ reply }
     ensures number { slot.new.number ≡ slot.old.number }
+    ensures file { slot.new.file ≡ slot.old.file }
 {
     let _doubt = gate.doubt();
     let _counter = gate.counter();

@@ -2,13 +2,14 @@
 use Rattle.std.proofs.Common.{◌≡◌, ◌-◌, ℕ, List, length, min, sym, ap, ◌∙◌, subst, arith}
 use Rattle.std.proofs.lemmas.List.{take_at}
 use Rattle.tee_types.specs.declared.reply.Reply.TheVariants.{Content}
+use Rattle.object_slots.specs.Faults.{HasCause}
 use Rattle.object_slots.specs.Value.{IsLive, SlotValue}
 use Rattle.locked_slots.specs.Reads.{ReadsVersion}
 use Rattle.object_answers.specs.Faults.{reply_of_fault}
 use Rattle.object_answers.specs.Reading.{ReadsAnswer}
 use Rattle.object_answers.proofs.LoadedEntries.{gives-still}
 use Rattle.object_answers.proofs.Meetings.{file-moved}
-use Rattle.object_answers.proofs.ReadAnswers.{content-answer, fault-answer}
+use Rattle.object_answers.proofs.ReadAnswers.{content-answer, fault-answer, live-reads}
 use Rattle.object_answers.proofs.reading.read_bytes.Goals as goal
 
 pub returns-in-Ok-clause-reads : goal.returns-in-Ok-clause-reads
@@ -22,9 +23,10 @@ returns-in-Ok-clause-reads g c = λ v gives sized.
     let long : length after ≡ min c.args.count (v.size - c.args.at) = omega (arith, whole, c.in_ok-bytes.ensures.len, c.min-long.ensures, c.saturating_sub.ensures, sized) in
     let reads = subst (ReadsVersion store.keys new.file v c.args.at after) c.in-Ok.is (c.read.ensures.version v gives) in
     let bytes : c.from_vec.result ≡ after = c.from_vec.ensures ∙ take_at after _ c.in_ok-bytes.bytes.len whole in
-    subst (λ (b : List ℕ). ReadsAnswer store new v c.args.at c.args.count (Content b)) (sym bytes)
-    (content-answer store new v c.args.at c.args.count c.read.ensures.locked (gives-still old new v (file-moved old new same) gives)
-    (subst IsLive (sym (ap (λ (s : SlotValue). s.holds) same)) c.requires.live) after long c.in-Ok.field-0 reads (omega arith) (omega (arith, sized)))
+    subst (λ (b : List ℕ). ReadsAnswer store old.file new v c.args.at c.args.count (Content b)) (sym bytes)
+    (content-answer store old.file new v c.args.at c.args.count c.read.ensures.locked (gives-still old new v (file-moved old new same) gives)
+    (subst IsLive (sym (ap (λ (s : SlotValue). s.holds) same)) c.requires.live) after long c.in-Ok.field-0 reads
+    (subst (HasCause old.file new.file) c.in-Ok.is (live-reads old.holds old.file new.file c.args.at c.as_mut_slice.result.now after c.read.result c.requires.live c.read.ensures.reads).1) (omega arith) (omega (arith, sized)))
 
 pub returns-in-Some-clause-reads : goal.returns-in-Some-clause-reads
 returns-in-Some-clause-reads g c = λ v gives sized.
@@ -36,6 +38,15 @@ returns-in-Some-clause-reads g c = λ v gives sized.
     let whole : length after ≡ c.in_ok-bytes.bytes.len = omega (arith, c.read.auto.into, c.as_mut_slice.ensures.len) in
     let long : length after ≡ min c.args.count (v.size - c.args.at) = omega (arith, whole, c.in_ok-bytes.ensures.len, c.min-long.ensures, c.saturating_sub.ensures, sized) in
     let reads = subst (ReadsVersion store.keys new.file v c.args.at after) c.in-Err.is (c.read.ensures.version v gives) in
-    fault-answer store new v c.args.at c.args.count c.read.ensures.locked (gives-still old new v (file-moved old new same) gives)
+    fault-answer store old.file new v c.args.at c.args.count c.read.ensures.locked (gives-still old new v (file-moved old new same) gives)
     (subst IsLive (sym (ap (λ (s : SlotValue). s.holds) same)) c.requires.live) after long c.in-Err.fault c.in-Some.reply
     (sym c.in-Some.is ∙ c.fault_reply.ensures ∙ ap (λ (n : ℕ). reply_of_fault n c.in-Err.fault) c.number.ensures.number) reads
+    (subst (HasCause old.file new.file) c.in-Err.is (live-reads old.holds old.file new.file c.args.at c.as_mut_slice.result.now after c.read.result c.requires.live c.read.ensures.reads).1)
+
+pub returns-in-Ok-clause-rests : goal.returns-in-Ok-clause-rests
+returns-in-Ok-clause-rests g c =
+    (live-reads c.args.slot.now.holds c.args.slot.now.file c.read.new.slot.file c.args.at c.as_mut_slice.result.now c.read.new.into c.read.result c.requires.live c.read.ensures.reads).0
+
+pub returns-in-Some-clause-rests : goal.returns-in-Some-clause-rests
+returns-in-Some-clause-rests g c =
+    (live-reads c.args.slot.now.holds c.args.slot.now.file c.read.new.slot.file c.args.at c.as_mut_slice.result.now c.read.new.into c.read.result c.requires.live c.read.ensures.reads).0

@@ -1,33 +1,38 @@
 -- The entry's object was loaded and read, or could not be.
-use Rattle.std.proofs.Common.{ℕ, sym, ap, ◌∙◌, subst}
+use Rattle.std.proofs.Common.{None, Some, sym, ap, subst}
+use Rattle.disk_model.specs.Calls.{GoesOn, Rests}
+use Rattle.disk_model.specs.State.{FileState}
 use Rattle.object_slots.specs.Value.{SlotValue}
-use Rattle.object_answers.specs.Faults.{reply_of_fault}
-use Rattle.object_answers.specs.Loading.{LoadsVersion}
-use Rattle.object_answers.specs.Meeting.{IsAtEntry}
-use Rattle.object_answers.proofs.ReadAnswers.{read-entry, unloaded-answer}
+use Rattle.object_answers.specs.Ready.{IsReadyEntry}
+use Rattle.object_answers.proofs.Causes.{rests-then}
+use Rattle.object_answers.proofs.ReadAnswers.{read-entry, unread-entry}
 use Rattle.object_answers.proofs.reading.read_entry.Goals as goal
-
-pub returns-in-Ok-clause-reads : goal.returns-in-Ok-clause-reads
-returns-in-Ok-clause-reads g c =
-    let store = g.L.StoreName.store in
-    let knows = c.args.gate.now.journal.knows in
-    let e = c.args.entry.now in
-    let loads = c.load.ensures.loads in
-    let mid = c.slot.inside.slot in
-    let at : IsAtEntry knows mid e loads.version = subst (λ (s : SlotValue). IsAtEntry knows s e loads.version) (sym c.slot.view_is) loads.at in
-    read-entry store knows mid c.read_bytes.new.slot e loads.version c.args.at c.args.count at c.read_bytes.ensures.same c.read_bytes.result
-    (c.read_bytes.ensures.reads loads.version at.gives at.own.size)
 
 pub returns-in-Some-clause-reads : goal.returns-in-Some-clause-reads
 returns-in-Some-clause-reads g c =
     let store = g.L.StoreName.store in
-    let slot = c.load.new.slot in
-    let loads = c.load.ensures.loads in
-    record {
-      version = loads.version;
-      entry = loads.at;
-      reads =
-          unloaded-answer store slot loads.version c.args.at c.args.count c.in-Err.fault c.in-Some.reply
-          (sym c.in-Some.is ∙ c.fault_reply.ensures ∙ ap (λ (n : ℕ). reply_of_fault n c.in-Err.fault) (sym loads.at.file))
-          (subst (LoadsVersion store.keys slot loads.version) c.in-Err.is loads.loads);
-    }
+    let knows = c.args.gate.now.journal.knows in
+    let was = c.args.slot.now.file in
+    let slot = c.load_or_reply.new.slot in
+    let e = c.args.entry.now in
+    unread-entry store knows was slot e c.args.at c.args.count c.in-Some.reply (subst (IsReadyEntry store knows was slot e) c.in-Some.is c.in_ok-reply.ensures.ready)
+
+pub returns-clause-rests : goal.returns-clause-rests
+returns-clause-rests g c =
+    let was = c.args.slot.now.file in
+    let mid = c.slot.inside.slot in
+    rests-then was mid.file c.read_bytes.new.slot.file (subst (λ (s : SlotValue). Rests was s.file) (sym c.slot.view_is) c.load_or_reply.ensures.rests) c.read_bytes.ensures.rests
+
+pub returns-clause-reads : goal.returns-clause-reads
+returns-clause-reads g c =
+    let store = g.L.StoreName.store in
+    let knows = c.args.gate.now.journal.knows in
+    let was = c.args.slot.now.file in
+    let e = c.args.entry.now in
+    let mid = c.slot.inside.slot in
+    let ready : IsReadyEntry store knows was mid e None =
+    subst (λ (s : SlotValue). IsReadyEntry store knows was s e None) (sym c.slot.view_is)
+    (subst (IsReadyEntry store knows was c.load_or_reply.new.slot e) c.in_default.is c.in_ok-reply.ensures.ready) in
+    let goes : GoesOn was mid.file = (subst (λ (s : SlotValue). Rests was s.file) (sym c.slot.view_is) c.load_or_reply.ensures.rests).goes_on in
+    read-entry store knows was mid c.read_bytes.new.slot e ready.version c.args.at c.args.count ready.at c.read_bytes.ensures.same ready.ready.1 goes c.read_bytes.result
+    (c.read_bytes.ensures.reads ready.version ready.at.gives ready.at.own.size)

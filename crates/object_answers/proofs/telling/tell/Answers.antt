@@ -30,13 +30,14 @@ answer_with-place-requires-clause-told g c =
 pub answer_with-place-requires-clause-moved : goal.answer_with-place-requires-clause-moved
 answer_with-place-requires-clause-moved g c =
     let store = g.L.StoreName.store in
-    let knows = c.args.gate.now.journal.knows in
+    let gate = c.args.gate.now in
+    let knows = gate.journal.knows in
     let s = c.args.session.now in
     let may = c.requires.may in
     let lent : c.lend_seat-seat.result ≡ may.at.sees.seat =
     seat_same c.lend_seat-seat.result may.at.sees.seat (sym c.lend_seat-seat.ensures.seat ∙ ap (λ (x : SlotValue). x.seat) c.slot.view_is ∙ may.at.sees.is) in
     subst (λ (x : Sight SlotView). IsMovedBy store knows (slot_record store knows x.knows s.number s.made c.args.call c.args.reply) s) (sym lent)
-    (answer-moves store knows may.at.sees.seat.knows c.args.call c.args.reply s may.at.sound.decided_within may.before may.moves)
+    (answer-moves store knows gate.gate.dir.dir.entries gate.gate.open_handles c.doubt-doubt.ensures.machine may.at.sees.seat.knows c.args.call c.args.reply s may.at.sound.decided_within may.before may.moves)
 
 pub invariant_of-slot : goal.invariant_of-slot
 invariant_of-slot g c =
