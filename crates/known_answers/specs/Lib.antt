@@ -4,9 +4,3 @@ pub mod Trees
 pub mod Entries
 pub mod Objects
 pub mod Answers
-pub mod Words
-pub mod Subjects
-pub mod Asks
-pub mod Refusals
-pub mod Forms
-pub mod LineForms

@@ -7,15 +7,11 @@
 #![tactic(auto)]
 
 use anyhow::Context;
-use lines::parse;
+use question_lines::parse;
 
 mod answers;
-mod arguments;
 mod entries;
-mod lines;
 mod objects;
-mod questions;
-mod subjects;
 mod trees;
 mod words;
 
