@@ -1,8 +1,7 @@
 -- A call that waits for a commit in doubt in vain.
-use Rattle.std.proofs.Common.{◌≡◌, ◌≤◌, ℕ, true, false, List, Option, Some, None, IsSome, length, refl, sym, ap, ◌∙◌, subst, inr}
+use Rattle.std.proofs.Common.{◌≡◌, ℕ, true, false, List, Option, Some, None, IsSome, refl, inr}
 use Rattle.tee_types.specs.declared.call.Call.{Call}
 use Rattle.tee_types.specs.declared.reply.Cause.{Cause}
-use Rattle.tee_types.specs.declared.reply.Reply.{Reply}
 use Rattle.tee_types.specs.declared.reply.Reply.TheVariants.{NotAvailable}
 use Rattle.open_table.specs.Table.{TableState}
 use Rattle.store_model.specs.declared.event.Event.TheVariants.{Call as CallEvent}
@@ -37,12 +36,6 @@ seen-matches {E} store knows entries table s seen known guess answered =
     let of = known guess answered in
     let stands = shown_stand E store knows s seen.caller seen.sees guess answered in
     record { shaped = of.shaped; handles = of.handles; within = stands.within; session = stands.is }
-
--- the reply leaves the doubt
-pub held-keeps : (o : Option Doubted) (session number : ℕ) (call : Call) (cause : Cause) → is_of_card cause ≡ true
-    → KeepsDoubt (change_in_doubt o) (CallEvent session number call (NotAvailable cause) Unchanged)
-held-keeps None session number call cause of_card = tt
-held-keeps (Some d) session number call cause of_card = of_card
 
 module _ {E F R : Type 0} (store : Store) (gate : GateValue F R) (knows : GateView) (closing : Option Closing) (s : CallerSession E) (call : Call) (cause : Cause) (seen : HasSeen store knows s)
     (of_card : is_of_card cause ≡ true) where

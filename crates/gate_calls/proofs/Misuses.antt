@@ -134,25 +134,6 @@ module _ (s : MachineState) (i : ℕ) (caller : Session) (is : session_at s i �
   pub free-misuse : IsMisuse s i caller (EnumFree number) (reason_unless (cursor_at caller.enumerators number) BadEnumerator)
   free-misuse = by-place s i caller (EnumFree number) (cursor_at caller.enumerators number) BadEnumerator (free_missed s i caller is number) free-proper
 
--- the same of a call on an object
-told-proper : (s : MachineState) (i : ℕ) (caller : Session) (call : Call) (reply : Reply) → is_misuse reply ≡ false → IsTold s i call reply caller → is_misuse (reply_of s i call) ≡ false
-told-proper s i caller call reply proper told = ap (λ (o : Outcome). is_misuse o.reply) told.outcome ∙ proper
-
-pub ruling-misuse : (s : MachineState) (i : ℕ) (caller : Session) (call : Call) (ruling : Option Reply) → IfSome ruling (λ reply. IsTold s i call reply caller)
-    → (IsNone ruling → is_misuse (reply_of s i call) ≡ false) → IsMisuse s i caller call (option_and_then reason_of ruling)
-ruling-misuse s i caller call None told proper = proper refl
-ruling-misuse s i caller call (Some (Misuse reason)) told proper = told
-ruling-misuse s i caller call (Some Done) told proper = told-proper s i caller call Done refl told
-ruling-misuse s i caller call (Some (Handle number)) told proper = told-proper s i caller call (Handle number) refl told
-ruling-misuse s i caller call (Some (Content bytes)) told proper = told-proper s i caller call (Content bytes) refl told
-ruling-misuse s i caller call (Some (Info size position flags attributes)) told proper = told-proper s i caller call (Info size position flags attributes) refl told
-ruling-misuse s i caller call (Some (Found id size)) told proper = told-proper s i caller call (Found id size) refl told
-ruling-misuse s i caller call (Some (Refused code)) told proper = told-proper s i caller call (Refused code) refl told
-ruling-misuse s i caller call (Some Corrupt) told proper = told-proper s i caller call Corrupt refl told
-ruling-misuse s i caller call (Some (NotAvailable cause)) told proper = told-proper s i caller call (NotAvailable cause) refl told
-ruling-misuse s i caller call (Some (CounterSpent counter)) told proper = told-proper s i caller call (CounterSpent counter) refl told
-ruling-misuse s i caller call (Some NoMemory) told proper = told-proper s i caller call NoMemory refl told
-
 -- in other words
 pub misuse-as : (s : MachineState) (i : ℕ) (caller : Session) (call other : Call) (found reason : Option Reason) → call ≡ other → found ≡ reason
     → IsMisuse s i caller other reason → IsMisuse s i caller call found

@@ -1,6 +1,5 @@
 -- While the gate has no doubt, no session that sees the whole history has one of its own.
-use Rattle.std.proofs.Common.{◌≡◌, ◌≤◌, ℕ, List, Option, Some, None, length, refl, sym, subst}
-use Rattle.dir_records.specs.declared.entry.DirEntry.{DirEntry}
+use Rattle.std.proofs.Common.{◌≡◌, ◌≤◌, ℕ, List, Option, Some, None, refl, sym, subst}
 use Rattle.history_seats.specs.Records.{HistoryRecord}
 use Rattle.history_seats.specs.Settling.{IsOpenDoubt}
 use Rattle.history_seats.specs.Views.{GateView}
@@ -24,16 +23,18 @@ none-unless (Some d) never = absurd (never d refl)
 -- a session's own doubt is open in what it sees
 own-open : (i : ℕ) (seen : List HistoryRecord) (decided place : ℕ) → IsOwnDoubt i seen decided place → (commit : ℕ) × IsOpenDoubt commit decided seen
 own-open i seen decided place own =
-    let number = doubt-number own.doubted.event own.doubtful in
-    (number.0, record {
-      front = own.front;
-      doubted = own.doubted;
-      back = own.back;
-      is = own.is;
-      marked = number.1;
-      last = own.last;
-      late = subst (λ (n : ℕ). decided ≤ n) (sym own.at) own.late;
-    })
+    let number = doubt-number own.doubted.event own.doubtful in (
+      number.0,
+      record {
+        front = own.front;
+        doubted = own.doubted;
+        back = own.back;
+        is = own.is;
+        marked = number.1;
+        last = own.last;
+        late = subst (λ (n : ℕ). decided ≤ n) (sym own.at) own.late;
+      },
+    )
 
 module _ {F R : Type 0} (store : Store) (gate : GateValue F R) (knows : GateView) (closing : Option Closing) (locked : IsLockedGate store gate knows closing) (idle : gate.doubt ≡ None) where
   none-open : (commit : ℕ) → IsOpenDoubt commit knows.decided knows.all → ⊥

@@ -21,7 +21,7 @@ use Rattle.call_history.specs.Calls.{alone_record}
 use Rattle.call_history.specs.Sessions.{CallerSession, IsCallerOf, session_value}
 use Rattle.call_history.specs.Shown.{pass_shown}
 use Rattle.call_rules.specs.Matches.{Matches}
-use Rattle.call_rules.specs.Plain.{IsPlain, IsRefused}
+use Rattle.call_rules.specs.Plain.{IsPlain}
 use Rattle.call_rules.specs.Told.{IsTold}
 use Rattle.gate_ties.specs.TieLaws.{KeepsDoubt}
 use Rattle.store_commit.specs.declared.gate.Doubted.{Doubted}
@@ -50,19 +50,6 @@ module _ {E : Type 0} (store : Store) (knows : GateView) (entries : List (Option
     application = application;
     undone = undone;
     keeps = λ doubt is. absurd (none-some doubt (sym calm.settled ∙ is));
-    told = λ m matches. told m s.number matches;
-  }
-
-  -- a session that stays, and whose own doubt does
-  pub standing-ruled : HasSeen store knows s → ((doubt : OwnDoubt) → s.doubt ≡ Some doubt → keeps_doubt reply ≡ true)
-      → ((m : MachineState) (i : ℕ) → Matches entries table s.state m i → IsTold m i call reply s.state) → IsRuled store knows entries table call reply s
-  standing-ruled seen keeps told = record {
-    before = s.state;
-    was = record { session = seen.caller.session; doubt = seen.caller.doubt };
-    sees = seen.sees;
-    application = refl;
-    undone = λ undone. refl;
-    keeps = keeps;
     told = λ m matches. told m s.number matches;
   }
 
@@ -99,15 +86,6 @@ moved-served store call answer old new s after state x = record {
   closing = x.closing;
 }
 
--- no doubt is there to be kept
-pub idle-keeps : (o : Option Doubted) (event : Event) → o ≡ None → KeepsDoubt (change_in_doubt o) event
-idle-keeps o event idle = subst (λ (x : Option Doubted). KeepsDoubt (change_in_doubt x) event) (sym idle) tt
-
--- a misuse keeps it
-pub misuse-keeps : (o : Option Doubted) (session number : ℕ) (call : Call) (reply : Reply) → keeps_doubt reply ≡ true → KeepsDoubt (change_in_doubt o) (CallEvent session number call reply Unchanged)
-misuse-keeps None session number call reply keeps = tt
-misuse-keeps (Some d) session number call reply keeps = keeps
-
 pub plain-no-file : (reply : Reply) → IsPlain reply → fault_in_reply reply ≡ None
 plain-no-file Done is = refl
 plain-no-file (Handle number) is = refl
@@ -120,20 +98,6 @@ plain-no-file Corrupt is = refl
 plain-no-file (NotAvailable cause) is = absurd is
 plain-no-file (CounterSpent counter) is = refl
 plain-no-file NoMemory is = refl
-
--- what is not done closes nothing
-pub undone-leaves : (handle : ℕ) (reply : Reply) → (reply ≡ Done → ⊥) → LeavesHandles (Close handle) reply
-undone-leaves handle Done undone = absurd (undone refl)
-undone-leaves handle (Handle number) undone = tt
-undone-leaves handle (Found id size) undone = tt
-undone-leaves handle (Refused code) undone = tt
-undone-leaves handle (Misuse reason) undone = tt
-undone-leaves handle (Content bytes) undone = tt
-undone-leaves handle (Info size position flags attributes) undone = tt
-undone-leaves handle Corrupt undone = tt
-undone-leaves handle (NotAvailable cause) undone = tt
-undone-leaves handle (CounterSpent counter) undone = tt
-undone-leaves handle NoMemory undone = tt
 
 same-table : {F R : Type 0} (old new : GateValue F R) → new ≡ old → new ≡ record old { open_handles = new.open_handles }
 same-table old new same = subst (λ (g : GateValue _ _). g ≡ record old { open_handles = g.open_handles }) (sym same) refl

@@ -12,9 +12,9 @@ ghost use Rattle.gate_calls.specs.Seen.{HasSeen};
 ghost use Rattle.gate_calls.specs.Served.{IsLeft, IsServed, IsServedAlone, ServesAlone, ServesByRules};
 
 use crate::by_rules::{answer_on_object, tell};
+use crate::deciding::{is_new_enumerator, misuse};
 use crate::holding::held_up;
 use crate::moving::{close, enum_free, enum_new, enum_next, enum_reset, enum_start, seek};
-use crate::deciding::{is_new_enumerator, misuse};
 use crate::served::Answer;
 use crate::settling::settle;
 use call_history::Session;
@@ -105,6 +105,7 @@ fn answer_early<F: StoreFile + Drop, R: RpmbPort + Drop, L: StoreName, E: Entrop
         L.store call.now gate.old gate.new session.old session.new result }
     ensures room { IfOk result (λ answer. IsNone answer → 1 ≤ gate.new.journal.spare) }
 {
+    // Whether a new enumerator would be one too many is told only as it is made.
     if is_new_enumerator(call) || gate.doubt().is_none() {
         return match settle(gate, session) {
             Ok(()) => Ok(None),
@@ -123,7 +124,8 @@ fn answer_early<F: StoreFile + Drop, R: RpmbPort + Drop, L: StoreName, E: Entrop
 ///
 /// # Errors
 ///
-/// Memory ran out.
+/// Memory ran out. So is a new enumerator answered while a commit in doubt cannot be resolved, since nobody can tell yet whether the
+/// call is a misuse. The session is as it was but that it may have been shown the history.
 pub fn answer_alone<F: StoreFile + Drop, R: RpmbPort + Drop, L: StoreName, E: Entropy>(
     alloc: Global,
     gate: &mut LockedGate<F, R, L>,

@@ -44,12 +44,7 @@ pub(crate) fn tell<F: StoreFile + Drop, R: RpmbPort + Drop, L: StoreName, E: Ent
 }
 
 // Answers a call on an object, where the rules do.
-pub(crate) fn answer_on_object<
-    F: StoreFile + Drop,
-    R: RpmbPort + Drop,
-    L: StoreName,
-    E: Entropy,
->(
+pub(crate) fn answer_on_object<F: StoreFile + Drop, R: RpmbPort + Drop, L: StoreName, E: Entropy>(
     alloc: Global,
     gate: &mut LockedGate<F, R, L>,
     session: &mut Session<E>,

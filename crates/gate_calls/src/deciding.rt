@@ -43,9 +43,7 @@ pub(crate) fn ruling<C: Catalog>(catalog: &C, session: &Session, call: &Call) ->
             flags,
             attributes,
             bytes,
-        } => answered(call_rules::create(
-            catalog, session, *id, *flags, attributes, bytes,
-        )),
+        } => answered(call_rules::create(catalog, session, *id, *flags, attributes, bytes)),
         Call::Open { id, flags } => answered(call_rules::open(catalog, session, *id, *flags)),
         Call::Read { handle, size: _ } => answered(call_rules::read(catalog, session, *handle)),
         Call::Write { handle, bytes } => {

@@ -55,7 +55,16 @@ pub(crate) fn seek<F: StoreFile + Drop, R: RpmbPort + Drop, L: StoreName, E: Ent
     ensures plain { IsPlain result.reply }
 {
     let reply = call_rules::seek(&*gate, session.state_mut(), handle, offset, whence);
-    tell(gate, session, Call::Seek { handle, offset, whence }, reply)
+    tell(
+        gate,
+        session,
+        Call::Seek {
+            handle,
+            offset,
+            whence,
+        },
+        reply,
+    )
 }
 
 // Makes an enumerator.

@@ -1,5 +1,5 @@
 -- What is shown and settled first goes on in the answer.
-use Rattle.std.proofs.Common.{Option, Some, None, Result, Ok, Err, ap, ◌∙◌, subst}
+use Rattle.std.proofs.Common.{Option, Ok, ap, ◌∙◌, subst}
 use Rattle.gate_calls.specs.declared.served.Answer.{Answer}
 use Rattle.gate_calls.specs.Served.{ServesAlone}
 use Rattle.gate_calls.proofs.Serving.{serves-after-show, serves-behind, unserved-as}

@@ -25,4 +25,3 @@ returns-in-EnumReset g c = λ s i m.
 pub returns-in-EnumFree : goal.returns-in-EnumFree
 returns-in-EnumFree g c = λ s i m.
     misuse-as s i c.args.session.now c.args.call.now _ c.unless_enumerator-in-EnumFree.result _ c.in-EnumFree.is c.unless_enumerator-in-EnumFree.ensures (free-misuse s i c.args.session.now m.session c.in-EnumFree.number)
-

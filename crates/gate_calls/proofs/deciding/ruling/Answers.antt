@@ -1,10 +1,6 @@
 -- A read and a truncate are ruled whatever the size.
-use Rattle.std.proofs.Common.{◌≡◌, false, Option, IfSome, IsNone, sym, subst}
-use Rattle.tee_types.specs.declared.call.Call.{Call}
+use Rattle.std.proofs.Common.{Option, IsNone, subst}
 use Rattle.tee_types.specs.declared.reply.Reply.{Reply}
-use Rattle.store_model.specs.Calls.{reply_of}
-use Rattle.store_model.specs.Files.{is_misuse}
-use Rattle.call_rules.specs.Told.{IsTold}
 use Rattle.gate_calls.proofs.Rulings.{decided-needs, decided-told, ruled-as, proper-as}
 use Rattle.gate_calls.proofs.deciding.ruling.Goals as goal
 
@@ -25,4 +21,3 @@ pub returns-in-Truncate-clause-proper : goal.returns-in-Truncate-clause-proper
 returns-in-Truncate-clause-proper g c = λ on s i m none.
     proper-as s i c.args.call.now _ c.in-Truncate.is
     (decided-needs c.truncate.result _ _ (λ found is. is.proper) (c.truncate.ensures.resizes s i c.in-Truncate.size m) (subst (λ (o : Option Reply). IsNone o) c.answered-in-Truncate.ensures none))
-
