@@ -1,14 +1,11 @@
 -- What always holds of the gate holds behind a ready commit that was made, or that is in doubt.
-use Rattle.std.proofs.Common.{◌≡◌, ◌≤◌, ◌<◌, ℕ, Bool, true, false, List, [], ◌∷◌, Option, Some, None, length, inl, inr, refl, sym, ap, ◌∙◌, subst}
+use Rattle.std.proofs.Common.{◌≡◌, ◌≤◌, ◌<◌, ℕ, List, [], ◌∷◌, Option, Some, None, length, refl, sym, ap, ◌∙◌, subst}
 use Rattle.tee_types.specs.declared.call.Call.{Call}
 use Rattle.tee_types.specs.declared.reply.Cause.{Cause}
 use Rattle.tee_types.specs.declared.reply.Reply.{Reply}
 use Rattle.tee_types.specs.declared.reply.Reply.TheVariants.{NotAvailable}
-use Rattle.store_model.specs.declared.event.Event.TheVariants.{Call as CallEvent}
-use Rattle.store_model.specs.declared.event.Mark.TheVariants.{Unchanged, Made, Doubtful}
+use Rattle.store_model.specs.declared.event.Mark.TheVariants.{Made, Doubtful}
 use Rattle.store_model.specs.Doubt.{Doubt}
-use Rattle.store_model.specs.Legal.{IsLegalAnswer, is_commit_due, mark_of}
-use Rattle.store_model.specs.Legal.IsLegalAnswer.{Answered, Unavailable, Doubted, FoundCorrupt, Spent}
 use Rattle.store_model.specs.Record.{Tag, file_of}
 use Rattle.store_model.specs.Standing.{Standing}
 use Rattle.open_table.specs.Table.{TableState}
@@ -20,10 +17,11 @@ use Rattle.crash_core.specs.EntryChanges.{Clear, EntryChange, Put, changed, file
 use Rattle.core_parts.specs.Listed.{IsTagOfChange}
 use Rattle.suppositions.specs.Guesses.{Guess}
 use Rattle.suppositions.specs.Stores.{Store, standing_at}
-use Rattle.suppositions.specs.Answered.{AreAnswered, IsAnsweredAt}
+use Rattle.suppositions.specs.Answered.{AreAnswered}
 use Rattle.suppositions.proofs.Answers.{answered-front, answered-last, standing-snoc}
 use Rattle.suppositions.proofs.Mending.{none_some, some_same}
 use Rattle.call_history.specs.Journals.{IsJournal}
+use Rattle.call_history.proofs.MadeCommits.{made_due}
 use Rattle.gate_ties.specs.Ties.{IsTied}
 use Rattle.machine_shape.specs.OpenHandles.{AreOpen}
 use Rattle.machine_shape.proofs.EventOpens.{doubtful-event, made-event}
@@ -37,30 +35,6 @@ use Rattle.locked_gate.specs.LockedGates.{IsClosingTied, IsLockedGate, change_in
 use Rattle.locked_gate.specs.Commits.{IsReadyCommit, call_record, made_versions, tag_of}
 use Rattle.locked_gate.proofs.ReadyCommits.{notes_undone}
 use Rattle.locked_gate.proofs.CommitEnds.{doubtful_tied, made_tied, makes_entries}
-
--- what is marked as made is a commit of the machine
-marked_due : (counter n : ℕ) (b : Bool) → Made n ≡ mark_of counter b → b ≡ true
-marked_due counter n true is = refl
-marked_due counter n false is = absurd (cc (is))
-
-answered_due : (dishonest : List ℕ) (s : Standing) (session : ℕ) (call : Call) (reply : Reply) (n : ℕ) (file : Option ℕ) → IsLegalAnswer dishonest s session call reply (Made n) file
-    → is_commit_due s session call ≡ true
-answered_due dishonest s session call reply n file (Answered answer) = marked_due s.counter n (is_commit_due s session call) answer.marked
-answered_due dishonest s session call reply n file (Unavailable answer) = absurd (cc (answer.marked))
-answered_due dishonest s session call reply n file (Doubted answer) = absurd (cc (answer.marked))
-answered_due dishonest s session call reply n file (FoundCorrupt answer) = absurd (cc (answer.marked))
-answered_due dishonest s session call reply n file (Spent answer) = absurd (cc (answer.marked))
-
-pub made_due : (store : Store) (guess : Guess) (before : List HistoryRecord) (session number : ℕ) (call : Call) (reply : Reply) (n : ℕ) (slot : SlotView) (versions : TagVersions)
-    → IsAnsweredAt store guess before (call_record session number call reply (Made n) slot versions) → is_commit_due (standing_at store guess before) session call ≡ true
-made_due store guess before session number call reply n slot versions (inl legal) =
-    answered_due guess.dishonest (standing_at store guess before) session call reply n (Some slot.file) legal.legal.answer
-made_due store guess before session number call reply n slot versions (inr clash) =
-    let given = clash.told.given in
-    let both : CallEvent session number call reply (Made n) ≡ CallEvent given.session given.number given.call given.reply given.mark = given.is in
-    let mark : Made n ≡ given.mark = cc (both) in
-    let unmarked : Made n ≡ Unchanged = mark ∙ clash.told.unchanged in
-    absurd (cc (unmarked))
 
 -- the file that is put is the tag's
 puts_own : (entries : List (Option DirEntry)) (change : EntryChange) (tag : Tag Version) → IsTagOfChange entries change tag → (put : ℕ) → file_put change ≡ Some put → tag.file ≡ put
@@ -127,7 +101,7 @@ module _ {F R : Type 0} (store : Store) (gate next : GateValue F R) (view : Gate
         → AreOpen (changed entries (change_of change)) next.open_handles (standing_at store guess after_made.all).state.sessions
     made_open guess answered =
         let front = answered-front store guess view.all (r_made ∷ []) answered in
-        let due = made_due store guess view.all session number call reply n slot (made_versions versions) (answered-last store guess view.all r_made answered) in
+        let due = made_due store guess view.all r_made session number call reply n refl (answered-last store guess view.all r_made answered) in
         let x = makes_entries store view entries gate.counter session number call reply (change_of change) slot versions kept calm_tied known ready guess front due in
         made-event store guess view.all r_made answered entries gate.open_handles next.open_handles (locked.handles guess front) session number slot.file call reply notes n
         (standing_at store guess view.all).counter x.made (change_of change) x.object refl ready.commit.before.distinct x.makes x.enters

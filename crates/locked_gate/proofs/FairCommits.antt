@@ -17,9 +17,9 @@ use Rattle.call_history.specs.Journals.{IsJournal}
 use Rattle.gate_ties.specs.Ties.{IsTied}
 use Rattle.gate_ties.specs.CommitMaps.{IsCommitUnder}
 use Rattle.gate_ties.specs.EventAnswers.{IsUnmade}
+use Rattle.gate_ties.proofs.CommitTags.{commit_tagged}
 use Rattle.gate_ties.proofs.LegalEvents.{unmade_legal}
 use Rattle.locked_gate.specs.Commits.{IsDueUnder, IsReadyCommit, call_record, tag_of, unmade_versions}
-use Rattle.locked_gate.proofs.CommitTags.{commit_tagged}
 
 -- why a commit was not made says so of the machine's counter, too
 unmade_there : (there counter : ℕ) (reply : Reply) → there ≡ counter → IsUnmade counter reply → IsUnmade there reply

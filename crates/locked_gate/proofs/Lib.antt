@@ -8,9 +8,11 @@ pub mod Honest
 pub mod SlotAnswers
 pub mod EntryCalls
 pub mod ReadyCommits
-pub mod CommitTags
 pub mod FairCommits
 pub mod CommitEnds
 pub mod CommitGates
-pub mod DoneMoves
+pub mod ReadyChanges
+pub mod ReadyEnds
+pub mod EndedGates
+pub mod Endings
 pub mod Seating

@@ -9,4 +9,5 @@ pub mod EntryCalls
 pub mod Commits
 pub mod CommitLaws
 pub mod Moves
-pub mod DoneCalls
+pub mod Ends
+pub mod Ended

@@ -6,14 +6,12 @@
 
 mod answer;
 mod catalog;
-mod commit;
-mod doubtful;
-mod end_made;
+mod committing;
+mod ending;
 mod ends;
 mod gate;
 pub mod known;
 pub mod laws;
-mod made;
 mod moves;
 mod noting;
 mod resolve;
@@ -22,6 +20,7 @@ mod show;
 mod slot_answer;
 pub mod told;
 
+pub use committing::Committed;
 pub use ends::{MadeVersions, UnmadeVersions};
 pub use gate::{Closing, LockedGate};
 pub use moves::SessionMove;
