@@ -1,14 +1,14 @@
 -- Which calls by a handle, or on an enumerator, are a misuse.
-use Rattle.std.proofs.Common.{◌≡◌, ℕ, ℤ, pos, ◌+ℤ◌, int_lt, Bool, true, false, not, List, [], ◌∷◌, Option, Some, None, IfSome, IsNone, refl, sym, ap, ◌∙◌, subst}
+use Rattle.std.proofs.Common.{◌≡◌, ℕ, ℤ, pos, ◌+ℤ◌, int_lt, Bool, true, false, not, List, [], ◌∷◌, Option, Some, None, refl, sym, ap, ◌∙◌, subst}
 use Rattle.std.specs.List.{list_any}
-use Rattle.std.specs.Option.{option_and_then, option_map}
+use Rattle.std.specs.Option.{option_map}
 use Rattle.tee_types.specs.declared.call.Call.{Call}
 use Rattle.tee_types.specs.declared.call.Call.TheVariants.{Close, Seek, EnumStart, EnumNext, EnumReset, EnumFree}
 use Rattle.tee_types.specs.declared.call.Whence.{Whence}
 use Rattle.tee_types.specs.declared.reply.Reason.{Reason}
 use Rattle.tee_types.specs.declared.reply.Reason.TheVariants.{BadHandle, BadEnumerator}
 use Rattle.tee_types.specs.declared.reply.Reply.{Reply}
-use Rattle.tee_types.specs.declared.reply.Reply.TheVariants.{Done, Handle, Content, Info, Found, Refused, Misuse, Corrupt, NotAvailable, CounterSpent, NoMemory}
+use Rattle.tee_types.specs.declared.reply.Reply.TheVariants.{Done, Refused, Misuse}
 use Rattle.tee_types.specs.declared.reply.Code.TheVariants.{ItemNotFound, Overflow}
 use Rattle.enumerators.specs.declared.cursor.Cursor.{Cursor}
 use Rattle.enumerators.specs.Enumeration.{EnumeratorTable, cursor_at, freed, reset, started}
@@ -24,7 +24,7 @@ use Rattle.call_rules.specs.Told.{IsTold}
 use Rattle.call_rules.proofs.Closing.{close_refused}
 use Rattle.call_rules.proofs.DataCalls.{seek_missed}
 use Rattle.call_rules.proofs.Enumerators.{start_missed, next_missed, reset_missed, free_missed}
-use Rattle.gate_calls.specs.Rulings.{IsMisuse, reason_of, reason_unless}
+use Rattle.gate_calls.specs.Rulings.{IsMisuse, reason_unless}
 
 -- a call by a handle or on an enumerator: that misuse where there is none, and no misuse where there is one
 by-place : {A : Type 0} (s : MachineState) (i : ℕ) (caller : Session) (call : Call) (place : Option A) (reason : Reason)

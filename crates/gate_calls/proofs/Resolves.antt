@@ -1,23 +1,12 @@
 -- How the settling of a commit in doubt went.
-use Rattle.std.proofs.Common.{◌≡◌, ℕ, List, true, false, true≢false, Bool, not, is_some, Option, Some, None, IfSome, Ok, Err, ◌⊎◌, refl, sym, ap, ◌∙◌, subst, inl, inr, option_map}
-use Rattle.disk_model.specs.Faults.{Rose}
-use Rattle.disk_model.specs.State.{FileState}
-use Rattle.rpmb_card.specs.Port.{PortState}
-use Rattle.tee_types.specs.declared.reply.Cause.{Cause}
-use Rattle.tee_types.specs.declared.reply.Cause.TheVariants.{Fault}
-use Rattle.tee_types.specs.declared.reply.Device.TheVariants.{Entropy}
-use Rattle.store_model.specs.Standing.{is_of_card}
+use Rattle.std.proofs.Common.{◌≡◌, ℕ, true, false, true≢false, Bool, not, is_some, Option, Some, None, IfSome, refl, sym, ap, ◌∙◌, subst, option_map}
 use Rattle.history_seats.specs.Views.{GateView}
 use Rattle.suppositions.specs.Stores.{Store}
 use Rattle.call_history.specs.Sessions.{CallerSession, IsCallerOf, session_value}
 use Rattle.call_history.specs.Shown.{BeginsAll, SeesAll}
 use Rattle.call_history.proofs.ShownViews.{shown_extend}
 use Rattle.store_commit.specs.declared.gate.Doubted.{Doubted}
-use Rattle.store_commit.specs.declared.resolve.Resolved.{Resolved}
-use Rattle.locked_gate.specs.LockedGates.{LockedGateValue}
-use Rattle.gate_calls.specs.Resolved.{HasResolved, StaysInDoubt, WasResolved}
 use Rattle.gate_calls.specs.Seen.{GoesOn}
-use Rattle.gate_calls.proofs.Causes.{stays-of-card}
 
 -- what the doubt's number tells of the doubt
 pub none-there : (o : Option Doubted) (number : Option ℕ) (none : Bool) → number ≡ option_map (λ (d : Doubted). d.number) o → is_some number ≡ not none → none ≡ true → o ≡ None

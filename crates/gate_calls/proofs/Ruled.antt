@@ -1,7 +1,6 @@
 -- Sessions that are as a call leaves them that the rules answered.
 use Rattle.std.proofs.Common.{◌≡◌, ◌≤◌, ◌+◌, ℕ, true, List, Option, Some, None, length, refl, sym, ap, ◌∙◌, subst}
 use Rattle.tee_types.specs.declared.call.Call.{Call}
-use Rattle.tee_types.specs.declared.call.Call.TheVariants.{Close}
 use Rattle.tee_types.specs.declared.reply.Reply.{Reply}
 use Rattle.tee_types.specs.declared.reply.Reply.TheVariants.{Done, Handle, Content, Info, Found, Refused, Misuse, Corrupt, NotAvailable, CounterSpent, NoMemory}
 use Rattle.open_table.specs.Table.{TableState}
@@ -10,30 +9,26 @@ use Rattle.store_model.specs.declared.event.Event.TheVariants.{Call as CallEvent
 use Rattle.store_model.specs.declared.event.Mark.TheVariants.{Unchanged}
 use Rattle.store_model.specs.Machine.{MachineState, Session}
 use Rattle.store_model.specs.Record.{fault_in_reply}
-use Rattle.store_model.specs.Standing.{is_undone, keeps_doubt}
+use Rattle.store_model.specs.Standing.{is_undone}
 use Rattle.dir_records.specs.declared.entry.DirEntry.{DirEntry}
 use Rattle.history_seats.specs.Changes.{with_record}
 use Rattle.history_seats.specs.Views.{GateView}
 use Rattle.suppositions.specs.Sessions.{Extends, SessionValue}
 use Rattle.suppositions.specs.Stores.{Store}
-use Rattle.call_history.specs.declared.own_doubt.OwnDoubt.{OwnDoubt}
 use Rattle.call_history.specs.Calls.{alone_record}
 use Rattle.call_history.specs.Sessions.{CallerSession, IsCallerOf, session_value}
 use Rattle.call_history.specs.Shown.{pass_shown}
 use Rattle.call_rules.specs.Matches.{Matches}
 use Rattle.call_rules.specs.Plain.{IsPlain}
 use Rattle.call_rules.specs.Told.{IsTold}
-use Rattle.gate_ties.specs.TieLaws.{KeepsDoubt}
-use Rattle.store_commit.specs.declared.gate.Doubted.{Doubted}
 use Rattle.store_commit.specs.Gates.{GateValue}
 use Rattle.store_commit.specs.Noting.{NotesReply}
 use Rattle.locked_gate.specs.Answering.{LeavesHandles}
 use Rattle.locked_gate.specs.Commits.{IsCalm}
-use Rattle.locked_gate.specs.LockedGates.{LockedGateValue, change_in_doubt}
+use Rattle.locked_gate.specs.LockedGates.{LockedGateValue}
 use Rattle.locked_gate.specs.Ruled.{IsRuled}
 use Rattle.locked_gate.proofs.AloneCalls.{quiet-notes}
 use Rattle.gate_calls.specs.declared.served.Answer.{Answer}
-use Rattle.gate_calls.specs.Seen.{HasSeen}
 use Rattle.gate_calls.specs.Served.{IsServed}
 
 none-some : {A : Type 0} (a : A) → None ≡ Some a → ⊥

@@ -1,18 +1,14 @@
 -- What the rules make of a call on an object.
-use Rattle.std.proofs.Common.{◌≡◌, ℕ, false, true≢false, Option, IfSome, IsNone, sym, ap, ◌∙◌, subst}
+use Rattle.std.proofs.Common.{◌≡◌, ℕ, false, true≢false, Option, IfSome, IsNone, sym, subst}
 use Rattle.tee_types.specs.declared.call.Call.{Call}
-use Rattle.tee_types.specs.declared.call.Call.TheVariants.{Create, Open, Close, Delete}
 use Rattle.tee_types.specs.declared.reply.Reply.{Reply}
-use Rattle.tee_types.specs.declared.reply.Reply.TheVariants.{Done, Handle, Content, Info, Found, Refused, Misuse, Corrupt, NotAvailable, CounterSpent, NoMemory}
 use Rattle.store_model.specs.Calls.{reply_of}
 use Rattle.store_model.specs.Files.{is_misuse}
 use Rattle.store_model.specs.Machine.{MachineState, Session}
 use Rattle.call_rules.specs.declared.decision.Decision.{Decision}
 use Rattle.call_rules.specs.declared.decision.Decision.TheVariants.{Answered, Needs}
 use Rattle.call_rules.specs.Decided.{IfAnswered, IfNeeds, answer_in}
-use Rattle.call_rules.specs.Plain.{IsPlain, IsRefused}
 use Rattle.call_rules.specs.Told.{IsTold}
-use Rattle.locked_gate.specs.Answering.{LeavesHandles}
 
 -- what is said of an answer is said of the reply
 pub decided-told : {T : Type 0} (d : Decision T) (P : Reply → Type 0) → IfAnswered d P → IfSome (answer_in d) P
