@@ -1,12 +1,9 @@
 -- A call that waits for a commit in doubt in vain.
-use Rattle.std.proofs.Common.{◌≡◌, ◌≤◌, ℕ, true, false, List, Option, Some, None, IsSome, length, refl, sym, ap, ◌∙◌, subst, inr}
+use Rattle.std.proofs.Common.{◌≡◌, ℕ, true, false, List, Option, IsSome, refl, inr}
 use Rattle.tee_types.specs.declared.call.Call.{Call}
 use Rattle.tee_types.specs.declared.reply.Cause.{Cause}
-use Rattle.tee_types.specs.declared.reply.Reply.{Reply}
 use Rattle.tee_types.specs.declared.reply.Reply.TheVariants.{NotAvailable}
 use Rattle.open_table.specs.Table.{TableState}
-use Rattle.store_model.specs.declared.event.Event.TheVariants.{Call as CallEvent}
-use Rattle.store_model.specs.declared.event.Mark.TheVariants.{Unchanged}
 use Rattle.store_model.specs.Calls.{reply_of}
 use Rattle.store_model.specs.Files.{is_misuse}
 use Rattle.store_model.specs.Machine.{MachineState}
@@ -19,13 +16,11 @@ use Rattle.suppositions.specs.Answered.{AreAnswered}
 use Rattle.call_history.specs.Calls.{IsMovedBy, IsToldAlone, alone_record}
 use Rattle.call_history.specs.Sessions.{CallerSession}
 use Rattle.call_history.proofs.CallMoves.{unchanged_move}
-use Rattle.gate_ties.specs.TieLaws.{KeepsDoubt}
-use Rattle.store_commit.specs.declared.gate.Doubted.{Doubted}
 use Rattle.store_commit.specs.Gates.{GateValue}
 use Rattle.call_rules.specs.Matches.{Matches}
 use Rattle.locked_gate.specs.declared.gate.Closing.{Closing}
 use Rattle.locked_gate.specs.KnownMachine.{KnowsMachine}
-use Rattle.locked_gate.specs.LockedGates.{IsLockedGate, change_in_doubt}
+use Rattle.locked_gate.specs.LockedGates.{IsLockedGate}
 use Rattle.locked_gate.proofs.Knowing.{shown_stand}
 use Rattle.locked_gate.proofs.Resolving.{doubt-tied, the-doubt}
 use Rattle.gate_calls.specs.Seen.{HasSeen}
@@ -37,12 +32,6 @@ seen-matches {E} store knows entries table s seen known guess answered =
     let of = known guess answered in
     let stands = shown_stand E store knows s seen.caller seen.sees guess answered in
     record { shaped = of.shaped; handles = of.handles; within = stands.within; session = stands.is }
-
--- the reply leaves the doubt
-pub held-keeps : (o : Option Doubted) (session number : ℕ) (call : Call) (cause : Cause) → is_of_card cause ≡ true
-    → KeepsDoubt (change_in_doubt o) (CallEvent session number call (NotAvailable cause) Unchanged)
-held-keeps None session number call cause of_card = tt
-held-keeps (Some d) session number call cause of_card = of_card
 
 module _ {E F R : Type 0} (store : Store) (gate : GateValue F R) (knows : GateView) (closing : Option Closing) (s : CallerSession E) (call : Call) (cause : Cause) (seen : HasSeen store knows s)
     (of_card : is_of_card cause ≡ true) where

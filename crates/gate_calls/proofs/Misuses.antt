@@ -1,14 +1,14 @@
 -- Which calls by a handle, or on an enumerator, are a misuse.
-use Rattle.std.proofs.Common.{◌≡◌, ℕ, ℤ, pos, ◌+ℤ◌, int_lt, Bool, true, false, not, List, [], ◌∷◌, Option, Some, None, IfSome, IsNone, refl, sym, ap, ◌∙◌, subst}
+use Rattle.std.proofs.Common.{◌≡◌, ℕ, ℤ, pos, ◌+ℤ◌, int_lt, Bool, true, false, not, List, [], ◌∷◌, Option, Some, None, refl, sym, ap, ◌∙◌, subst}
 use Rattle.std.specs.List.{list_any}
-use Rattle.std.specs.Option.{option_and_then, option_map}
+use Rattle.std.specs.Option.{option_map}
 use Rattle.tee_types.specs.declared.call.Call.{Call}
 use Rattle.tee_types.specs.declared.call.Call.TheVariants.{Close, Seek, EnumStart, EnumNext, EnumReset, EnumFree}
 use Rattle.tee_types.specs.declared.call.Whence.{Whence}
 use Rattle.tee_types.specs.declared.reply.Reason.{Reason}
 use Rattle.tee_types.specs.declared.reply.Reason.TheVariants.{BadHandle, BadEnumerator}
 use Rattle.tee_types.specs.declared.reply.Reply.{Reply}
-use Rattle.tee_types.specs.declared.reply.Reply.TheVariants.{Done, Handle, Content, Info, Found, Refused, Misuse, Corrupt, NotAvailable, CounterSpent, NoMemory}
+use Rattle.tee_types.specs.declared.reply.Reply.TheVariants.{Done, Refused, Misuse}
 use Rattle.tee_types.specs.declared.reply.Code.TheVariants.{ItemNotFound, Overflow}
 use Rattle.enumerators.specs.declared.cursor.Cursor.{Cursor}
 use Rattle.enumerators.specs.Enumeration.{EnumeratorTable, cursor_at, freed, reset, started}
@@ -24,7 +24,7 @@ use Rattle.call_rules.specs.Told.{IsTold}
 use Rattle.call_rules.proofs.Closing.{close_refused}
 use Rattle.call_rules.proofs.DataCalls.{seek_missed}
 use Rattle.call_rules.proofs.Enumerators.{start_missed, next_missed, reset_missed, free_missed}
-use Rattle.gate_calls.specs.Rulings.{IsMisuse, reason_of, reason_unless}
+use Rattle.gate_calls.specs.Rulings.{IsMisuse, reason_unless}
 
 -- a call by a handle or on an enumerator: that misuse where there is none, and no misuse where there is one
 by-place : {A : Type 0} (s : MachineState) (i : ℕ) (caller : Session) (call : Call) (place : Option A) (reason : Reason)
@@ -133,25 +133,6 @@ module _ (s : MachineState) (i : ℕ) (caller : Session) (is : session_at s i �
 
   pub free-misuse : IsMisuse s i caller (EnumFree number) (reason_unless (cursor_at caller.enumerators number) BadEnumerator)
   free-misuse = by-place s i caller (EnumFree number) (cursor_at caller.enumerators number) BadEnumerator (free_missed s i caller is number) free-proper
-
--- the same of a call on an object
-told-proper : (s : MachineState) (i : ℕ) (caller : Session) (call : Call) (reply : Reply) → is_misuse reply ≡ false → IsTold s i call reply caller → is_misuse (reply_of s i call) ≡ false
-told-proper s i caller call reply proper told = ap (λ (o : Outcome). is_misuse o.reply) told.outcome ∙ proper
-
-pub ruling-misuse : (s : MachineState) (i : ℕ) (caller : Session) (call : Call) (ruling : Option Reply) → IfSome ruling (λ reply. IsTold s i call reply caller)
-    → (IsNone ruling → is_misuse (reply_of s i call) ≡ false) → IsMisuse s i caller call (option_and_then reason_of ruling)
-ruling-misuse s i caller call None told proper = proper refl
-ruling-misuse s i caller call (Some (Misuse reason)) told proper = told
-ruling-misuse s i caller call (Some Done) told proper = told-proper s i caller call Done refl told
-ruling-misuse s i caller call (Some (Handle number)) told proper = told-proper s i caller call (Handle number) refl told
-ruling-misuse s i caller call (Some (Content bytes)) told proper = told-proper s i caller call (Content bytes) refl told
-ruling-misuse s i caller call (Some (Info size position flags attributes)) told proper = told-proper s i caller call (Info size position flags attributes) refl told
-ruling-misuse s i caller call (Some (Found id size)) told proper = told-proper s i caller call (Found id size) refl told
-ruling-misuse s i caller call (Some (Refused code)) told proper = told-proper s i caller call (Refused code) refl told
-ruling-misuse s i caller call (Some Corrupt) told proper = told-proper s i caller call Corrupt refl told
-ruling-misuse s i caller call (Some (NotAvailable cause)) told proper = told-proper s i caller call (NotAvailable cause) refl told
-ruling-misuse s i caller call (Some (CounterSpent counter)) told proper = told-proper s i caller call (CounterSpent counter) refl told
-ruling-misuse s i caller call (Some NoMemory) told proper = told-proper s i caller call NoMemory refl told
 
 -- in other words
 pub misuse-as : (s : MachineState) (i : ℕ) (caller : Session) (call other : Call) (found reason : Option Reason) → call ≡ other → found ≡ reason

@@ -1,6 +1,5 @@
 -- While the gate has no doubt, no session that sees the whole history has one of its own.
-use Rattle.std.proofs.Common.{◌≡◌, ◌≤◌, ℕ, List, Option, Some, None, length, refl, sym, subst}
-use Rattle.dir_records.specs.declared.entry.DirEntry.{DirEntry}
+use Rattle.std.proofs.Common.{◌≡◌, ◌≤◌, ℕ, List, Option, Some, None, refl, sym, subst}
 use Rattle.history_seats.specs.Records.{HistoryRecord}
 use Rattle.history_seats.specs.Settling.{IsOpenDoubt}
 use Rattle.history_seats.specs.Views.{GateView}

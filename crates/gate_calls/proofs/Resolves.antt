@@ -1,25 +1,12 @@
 -- How the settling of a commit in doubt went.
-use Rattle.std.proofs.Common.{◌≡◌, ◌≤◌, ℕ, List, true, false, true≢false, Bool, not, is_some, Option, Some, None, IfSome, Result, Ok, Err, ◌⊎◌, refl, sym, ap, ◌∙◌, subst, inl, inr, option_map}
-use Rattle.disk_model.specs.Faults.{Rose}
-use Rattle.disk_model.specs.State.{FileState}
-use Rattle.rpmb_card.specs.Port.{PortState}
-use Rattle.tee_types.specs.declared.reply.Cause.{Cause}
-use Rattle.tee_types.specs.declared.reply.Cause.TheVariants.{Fault}
-use Rattle.tee_types.specs.declared.reply.Device.TheVariants.{Entropy}
-use Rattle.store_model.specs.declared.event.Event.{Event}
-use Rattle.store_model.specs.Standing.{is_of_card}
+use Rattle.std.proofs.Common.{◌≡◌, ℕ, true, false, true≢false, Bool, not, is_some, Option, Some, None, IfSome, refl, sym, ap, ◌∙◌, subst, option_map}
 use Rattle.history_seats.specs.Views.{GateView}
 use Rattle.suppositions.specs.Stores.{Store}
-use Rattle.suppositions.specs.Sessions.{Extends, SessionValue}
 use Rattle.call_history.specs.Sessions.{CallerSession, IsCallerOf, session_value}
 use Rattle.call_history.specs.Shown.{BeginsAll, SeesAll}
 use Rattle.call_history.proofs.ShownViews.{shown_extend}
 use Rattle.store_commit.specs.declared.gate.Doubted.{Doubted}
-use Rattle.store_commit.specs.declared.resolve.Resolved.{Resolved}
-use Rattle.locked_gate.specs.LockedGates.{LockedGateValue}
-use Rattle.gate_calls.specs.Resolved.{HasResolved, StaysInDoubt, WasResolved}
-use Rattle.gate_calls.specs.Seen.{GoesOn, HasSeen}
-use Rattle.gate_calls.proofs.Causes.{stays-of-card}
+use Rattle.gate_calls.specs.Seen.{GoesOn}
 
 -- what the doubt's number tells of the doubt
 pub none-there : (o : Option Doubted) (number : Option ℕ) (none : Bool) → number ≡ option_map (λ (d : Doubted). d.number) o → is_some number ≡ not none → none ≡ true → o ≡ None
@@ -37,38 +24,6 @@ if-some (Some d) P Q h gives = gives d refl h
 
 pub at-some : (o : Option Doubted) (P : Doubted → Type 0) (d : Doubted) → o ≡ Some d → IfSome o P → P d
 at-some o P d is h = subst (λ (x : Option Doubted). IfSome x P) is h
-
-module _ {F R : Type 0} (of_file : F → FileState) (of_port : R → PortState) where
-  pub was-resolved : (nonce : List ℕ) (old new : LockedGateValue F R) (d : Doubted) → old.gate.doubt ≡ Some d → (how : Resolved)
-      → IfSome old.gate.doubt (λ d. HasResolved of_file of_port nonce d old new (Ok how)) → WasResolved of_file of_port old new
-  was-resolved nonce old new d is how has = record {
-    doubted = d;
-    was = is;
-    nonce = nonce;
-    how = how;
-    resolved = at-some old.gate.doubt (λ d. HasResolved of_file of_port nonce d old new (Ok how)) d is has;
-  }
-
-  module _ (reliable : Type 0) (drew draws : ℕ) where
-    pub stays-undrawn : (old : LockedGateValue F R) (d : Doubted) → old.gate.doubt ≡ Some d → (cause : Cause) → Rose drew draws → cause ≡ Fault Entropy draws → (reliable → ⊥)
-        → StaysInDoubt of_file of_port reliable drew draws old old cause
-    stays-undrawn old d is cause rose carried fails = record { doubted = d; was = is; why = inl (refl, rose, carried, fails) }
-
-    pub stays-unresolved : (nonce : List ℕ) (old new : LockedGateValue F R) (d : Doubted) → old.gate.doubt ≡ Some d → (cause : Cause)
-        → IfSome old.gate.doubt (λ d. HasResolved of_file of_port nonce d old new (Err cause)) → StaysInDoubt of_file of_port reliable drew draws old new cause
-    stays-unresolved nonce old new d is cause has = record {
-      doubted = d;
-      was = is;
-      why = inr (nonce, at-some old.gate.doubt (λ d. HasResolved of_file of_port nonce d old new (Err cause)) d is has);
-    }
-
-    stays-card : (old new : LockedGateValue F R) (cause : Cause) → StaysInDoubt of_file of_port reliable drew draws old new cause → is_of_card cause ≡ true
-    stays-card old new cause stays = by-why stays.why
-      where
-        by-why : ((new ≡ old) × Rose drew draws × (cause ≡ Fault Entropy draws) × (reliable → ⊥)) ⊎ ((nonce : List ℕ) × HasResolved of_file of_port nonce stays.doubted old new (Err cause))
-            → is_of_card cause ≡ true
-        by-why (inl (same, rose, is, fails)) = ap is_of_card is
-        by-why (inr (nonce, has)) = stays-of-card old.gate.host.key old.gate.counter (of_port old.gate.host.port) (of_port new.gate.host.port) cause has.cause
 
 -- the session that was shown the history
 pub shown-goes : {E : Type 0} (store : Store) (knows : GateView) (old new : CallerSession E) → IsCallerOf store old → BeginsAll knows old.pass → SeesAll knows new.pass

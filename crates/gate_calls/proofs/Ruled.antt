@@ -1,7 +1,6 @@
 -- Sessions that are as a call leaves them that the rules answered.
 use Rattle.std.proofs.Common.{◌≡◌, ◌≤◌, ◌+◌, ℕ, true, List, Option, Some, None, length, refl, sym, ap, ◌∙◌, subst}
 use Rattle.tee_types.specs.declared.call.Call.{Call}
-use Rattle.tee_types.specs.declared.call.Call.TheVariants.{Close}
 use Rattle.tee_types.specs.declared.reply.Reply.{Reply}
 use Rattle.tee_types.specs.declared.reply.Reply.TheVariants.{Done, Handle, Content, Info, Found, Refused, Misuse, Corrupt, NotAvailable, CounterSpent, NoMemory}
 use Rattle.open_table.specs.Table.{TableState}
@@ -10,30 +9,26 @@ use Rattle.store_model.specs.declared.event.Event.TheVariants.{Call as CallEvent
 use Rattle.store_model.specs.declared.event.Mark.TheVariants.{Unchanged}
 use Rattle.store_model.specs.Machine.{MachineState, Session}
 use Rattle.store_model.specs.Record.{fault_in_reply}
-use Rattle.store_model.specs.Standing.{is_undone, keeps_doubt}
+use Rattle.store_model.specs.Standing.{is_undone}
 use Rattle.dir_records.specs.declared.entry.DirEntry.{DirEntry}
 use Rattle.history_seats.specs.Changes.{with_record}
 use Rattle.history_seats.specs.Views.{GateView}
 use Rattle.suppositions.specs.Sessions.{Extends, SessionValue}
 use Rattle.suppositions.specs.Stores.{Store}
-use Rattle.call_history.specs.declared.own_doubt.OwnDoubt.{OwnDoubt}
 use Rattle.call_history.specs.Calls.{alone_record}
 use Rattle.call_history.specs.Sessions.{CallerSession, IsCallerOf, session_value}
 use Rattle.call_history.specs.Shown.{pass_shown}
 use Rattle.call_rules.specs.Matches.{Matches}
-use Rattle.call_rules.specs.Plain.{IsPlain, IsRefused}
+use Rattle.call_rules.specs.Plain.{IsPlain}
 use Rattle.call_rules.specs.Told.{IsTold}
-use Rattle.gate_ties.specs.TieLaws.{KeepsDoubt}
-use Rattle.store_commit.specs.declared.gate.Doubted.{Doubted}
 use Rattle.store_commit.specs.Gates.{GateValue}
 use Rattle.store_commit.specs.Noting.{NotesReply}
 use Rattle.locked_gate.specs.Answering.{LeavesHandles}
 use Rattle.locked_gate.specs.Commits.{IsCalm}
-use Rattle.locked_gate.specs.LockedGates.{LockedGateValue, change_in_doubt}
+use Rattle.locked_gate.specs.LockedGates.{LockedGateValue}
 use Rattle.locked_gate.specs.Ruled.{IsRuled}
 use Rattle.locked_gate.proofs.AloneCalls.{quiet-notes}
 use Rattle.gate_calls.specs.declared.served.Answer.{Answer}
-use Rattle.gate_calls.specs.Seen.{HasSeen}
 use Rattle.gate_calls.specs.Served.{IsServed}
 
 none-some : {A : Type 0} (a : A) → None ≡ Some a → ⊥
@@ -50,19 +45,6 @@ module _ {E : Type 0} (store : Store) (knows : GateView) (entries : List (Option
     application = application;
     undone = undone;
     keeps = λ doubt is. absurd (none-some doubt (sym calm.settled ∙ is));
-    told = λ m matches. told m s.number matches;
-  }
-
-  -- a session that stays, and whose own doubt does
-  pub standing-ruled : HasSeen store knows s → ((doubt : OwnDoubt) → s.doubt ≡ Some doubt → keeps_doubt reply ≡ true)
-      → ((m : MachineState) (i : ℕ) → Matches entries table s.state m i → IsTold m i call reply s.state) → IsRuled store knows entries table call reply s
-  standing-ruled seen keeps told = record {
-    before = s.state;
-    was = record { session = seen.caller.session; doubt = seen.caller.doubt };
-    sees = seen.sees;
-    application = refl;
-    undone = λ undone. refl;
-    keeps = keeps;
     told = λ m matches. told m s.number matches;
   }
 
@@ -99,15 +81,6 @@ moved-served store call answer old new s after state x = record {
   closing = x.closing;
 }
 
--- no doubt is there to be kept
-pub idle-keeps : (o : Option Doubted) (event : Event) → o ≡ None → KeepsDoubt (change_in_doubt o) event
-idle-keeps o event idle = subst (λ (x : Option Doubted). KeepsDoubt (change_in_doubt x) event) (sym idle) tt
-
--- a misuse keeps it
-pub misuse-keeps : (o : Option Doubted) (session number : ℕ) (call : Call) (reply : Reply) → keeps_doubt reply ≡ true → KeepsDoubt (change_in_doubt o) (CallEvent session number call reply Unchanged)
-misuse-keeps None session number call reply keeps = tt
-misuse-keeps (Some d) session number call reply keeps = keeps
-
 pub plain-no-file : (reply : Reply) → IsPlain reply → fault_in_reply reply ≡ None
 plain-no-file Done is = refl
 plain-no-file (Handle number) is = refl
@@ -120,20 +93,6 @@ plain-no-file Corrupt is = refl
 plain-no-file (NotAvailable cause) is = absurd is
 plain-no-file (CounterSpent counter) is = refl
 plain-no-file NoMemory is = refl
-
--- what is not done closes nothing
-pub undone-leaves : (handle : ℕ) (reply : Reply) → (reply ≡ Done → ⊥) → LeavesHandles (Close handle) reply
-undone-leaves handle Done undone = absurd (undone refl)
-undone-leaves handle (Handle number) undone = tt
-undone-leaves handle (Found id size) undone = tt
-undone-leaves handle (Refused code) undone = tt
-undone-leaves handle (Misuse reason) undone = tt
-undone-leaves handle (Content bytes) undone = tt
-undone-leaves handle (Info size position flags attributes) undone = tt
-undone-leaves handle Corrupt undone = tt
-undone-leaves handle (NotAvailable cause) undone = tt
-undone-leaves handle (CounterSpent counter) undone = tt
-undone-leaves handle NoMemory undone = tt
 
 same-table : {F R : Type 0} (old new : GateValue F R) → new ≡ old → new ≡ record old { open_handles = new.open_handles }
 same-table old new same = subst (λ (g : GateValue _ _). g ≡ record old { open_handles = g.open_handles }) (sym same) refl

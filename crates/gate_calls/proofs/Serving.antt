@@ -4,10 +4,8 @@ use Rattle.disk_model.specs.State.{FileState}
 use Rattle.rpmb_card.specs.Port.{PortState}
 use Rattle.tee_types.specs.declared.call.Call.{Call}
 use Rattle.tee_types.specs.declared.reply.Cause.{Cause}
-use Rattle.store_model.specs.declared.event.Event.{Event}
 use Rattle.store_model.specs.declared.event.Event.TheVariants.{Call as CallEvent}
 use Rattle.store_model.specs.declared.event.Mark.TheVariants.{Unchanged}
-use Rattle.history_seats.specs.Views.{GateView}
 use Rattle.history_seats.specs.Changes.{with_record}
 use Rattle.suppositions.specs.Sessions.{Extends}
 use Rattle.suppositions.specs.Stores.{Store}
@@ -20,7 +18,7 @@ use Rattle.gate_calls.specs.declared.served.Answer.{Answer}
 use Rattle.gate_calls.specs.Resolved.{IsSettled, StaysInDoubt, WasResolved}
 use Rattle.gate_calls.specs.Seen.{GoesOn}
 use Rattle.gate_calls.proofs.Resolves.{shown-goes}
-use Rattle.gate_calls.specs.Served.{HeldUp, IsLeft, IsServed, IsServedAlone, IsUnserved, Ruled, ServesAlone, ServesByRules}
+use Rattle.gate_calls.specs.Served.{IsLeft, IsServed, IsUnserved, Ruled, ServesAlone, ServesByRules}
 
 module _ {E F R : Type 0} (store : Store) (before between : CallerSession E) (goes_on : GoesOn store before between) (number : between.number ≡ before.number) (made : between.made ≡ before.made) where
   pub served-from : (call : Call) (answer : Answer) (old new : LockedGateValue F R) (after : CallerSession E) → IsServed store call answer old new between after

@@ -35,7 +35,8 @@ fn answer_by_rules<F: StoreFile + Drop, R: RpmbPort + Drop, L: StoreName, E: Ent
     requires room { 1 ≤ gate.old.journal.spare }
     requires idle { gate.old.gate.doubt ≡ None }
     requires calm { IsCalm L.store gate.old.journal.knows session.old }
-    ensures { ServesByRules L.store call.now gate.old gate.new session.old session.new result }
+    ensures serves { ServesByRules L.store call.now gate.old gate.new session.old session.new result }
+    ensures entropy { session.new.entropy ≡ session.old.entropy }
 {
     match call {
         Call::Close { handle } => Ok(Some(close(gate, session, *handle))),
@@ -66,6 +67,7 @@ fn answer_misuse<F: StoreFile + Drop, R: RpmbPort + Drop, L: StoreName, E: Entro
         → IsTold s i call (Reply.Misuse reason) session.old.state }
     ensures served { IsServed L.store call result gate.old gate.new session.old session.new }
     ensures reply { result.reply ≡ Reply.Misuse reason }
+    ensures entropy { session.new.entropy ≡ session.old.entropy }
 {
     tell(gate, session, call, Reply::Misuse(reason))
 }
@@ -85,6 +87,8 @@ fn settle_for<F: StoreFile + Drop, R: RpmbPort + Drop, L: StoreName, E: Entropy>
     ensures room { IsNone result → 1 ≤ gate.new.journal.spare }
     ensures served { IfSome result (λ answer. IsServedAlone F.state R.state (E.is_reliable session.old.entropy) (E.faults session.old.entropy) (E.faults session.new.entropy)
         L.store call answer gate.old gate.new session.old session.new) }
+    ensures counted { E.faults session.old.entropy ≤ E.faults session.new.entropy }
+    ensures reliable { E.is_reliable session.old.entropy → E.is_reliable session.new.entropy }
 {
     match settle(gate, session) {
         Ok(()) => None,
@@ -104,7 +108,10 @@ fn answer_early<F: StoreFile + Drop, R: RpmbPort + Drop, L: StoreName, E: Entrop
     ensures serves { ServesAlone F.state R.state (E.is_reliable session.old.entropy) (E.faults session.old.entropy) (E.faults session.new.entropy)
         L.store call.now gate.old gate.new session.old session.new result }
     ensures room { IfOk result (λ answer. IsNone answer → 1 ≤ gate.new.journal.spare) }
+    ensures counted { E.faults session.old.entropy ≤ E.faults session.new.entropy }
+    ensures reliable { E.is_reliable session.old.entropy → E.is_reliable session.new.entropy }
 {
+    // Whether a new enumerator would be one too many is told only as it is made.
     if is_new_enumerator(call) || gate.doubt().is_none() {
         return match settle(gate, session) {
             Ok(()) => Ok(None),
@@ -123,7 +130,8 @@ fn answer_early<F: StoreFile + Drop, R: RpmbPort + Drop, L: StoreName, E: Entrop
 ///
 /// # Errors
 ///
-/// Memory ran out.
+/// Memory ran out. So is a new enumerator answered while a commit in doubt cannot be resolved, since nobody can tell yet whether the
+/// call is a misuse. The session is as it was but that it may have been shown the history.
 pub fn answer_alone<F: StoreFile + Drop, R: RpmbPort + Drop, L: StoreName, E: Entropy>(
     alloc: Global,
     gate: &mut LockedGate<F, R, L>,
@@ -135,6 +143,8 @@ pub fn answer_alone<F: StoreFile + Drop, R: RpmbPort + Drop, L: StoreName, E: En
     ensures serves { ServesAlone F.state R.state (E.is_reliable session.old.entropy) (E.faults session.old.entropy) (E.faults session.new.entropy)
         L.store call.now gate.old gate.new session.old session.new result }
     ensures room { IfOk result (λ answer. IsNone answer → 1 ≤ gate.new.journal.spare) }
+    ensures counted { E.faults session.old.entropy ≤ E.faults session.new.entropy }
+    ensures reliable { E.is_reliable session.old.entropy → E.is_reliable session.new.entropy }
 {
     gate.show(None, session);
     if let Some(answer) = answer_early(alloc, gate, session, call)? {

@@ -37,6 +37,7 @@ pub(crate) fn tell<F: StoreFile + Drop, R: RpmbPort + Drop, L: StoreName, E: Ent
     requires handles { LeavesHandles call reply }
     ensures served { IsServed L.store call result gate.old gate.new session.old session.new }
     ensures reply { result.reply ≡ reply }
+    ensures entropy { session.new.entropy ≡ session.old.entropy }
 {
     let (reply, told) = twice(reply);
     let place = gate.answer_ruled(session, call, reply);
@@ -53,7 +54,8 @@ pub(crate) fn answer_on_object<F: StoreFile + Drop, R: RpmbPort + Drop, L: Store
     requires room { 1 ≤ gate.old.journal.spare }
     requires idle { gate.old.gate.doubt ≡ None }
     requires calm { IsCalm L.store gate.old.journal.knows session.old }
-    ensures { ServesByRules L.store call.now gate.old gate.new session.old session.new result }
+    ensures serves { ServesByRules L.store call.now gate.old gate.new session.old session.new result }
+    ensures entropy { session.new.entropy ≡ session.old.entropy }
 {
     let Some(reply) = ruling(&*gate, session.state(), call) else {
         return Ok(None);

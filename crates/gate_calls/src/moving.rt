@@ -26,6 +26,7 @@ pub(crate) fn close<F: StoreFile + Drop, R: RpmbPort + Drop, L: StoreName, E: En
     requires calm { IsCalm L.store gate.old.journal.knows session.old }
     ensures served { IsServed L.store (CloseCall handle) result gate.old gate.new session.old session.new }
     ensures plain { IsPlain result.reply }
+    ensures entropy { session.new.entropy ≡ session.old.entropy }
 {
     let reply = call_rules::close(session.state_mut(), handle);
     if let Reply::Done = reply {
@@ -53,6 +54,7 @@ pub(crate) fn seek<F: StoreFile + Drop, R: RpmbPort + Drop, L: StoreName, E: Ent
     requires calm { IsCalm L.store gate.old.journal.knows session.old }
     ensures served { IsServed L.store (SeekCall handle offset whence) result gate.old gate.new session.old session.new }
     ensures plain { IsPlain result.reply }
+    ensures entropy { session.new.entropy ≡ session.old.entropy }
 {
     let reply = call_rules::seek(&*gate, session.state_mut(), handle, offset, whence);
     tell(
@@ -78,6 +80,7 @@ pub(crate) fn enum_new<F: StoreFile + Drop, R: RpmbPort + Drop, L: StoreName, E:
     ensures served { IfOk result (λ answer. IsServed L.store EnumNewCall answer gate.old gate.new session.old session.new) }
     ensures plain { IfOk result (λ answer. IsPlain answer.reply) }
     ensures err { OnErr result ((gate.new ≡ gate.old) × (session.new ≡ session.old)) }
+    ensures entropy { session.new.entropy ≡ session.old.entropy }
 {
     let reply = call_rules::enum_new(session.state_mut())?;
     Ok(tell(gate, session, Call::EnumNew, reply))
@@ -94,6 +97,7 @@ pub(crate) fn enum_start<F: StoreFile + Drop, R: RpmbPort + Drop, L: StoreName, 
     requires calm { IsCalm L.store gate.old.journal.knows session.old }
     ensures served { IsServed L.store (EnumStartCall number) result gate.old gate.new session.old session.new }
     ensures plain { IsPlain result.reply }
+    ensures entropy { session.new.entropy ≡ session.old.entropy }
 {
     let reply = call_rules::enum_start(&*gate, session.state_mut(), number);
     tell(gate, session, Call::EnumStart { number }, reply)
@@ -110,6 +114,7 @@ pub(crate) fn enum_next<F: StoreFile + Drop, R: RpmbPort + Drop, L: StoreName, E
     requires calm { IsCalm L.store gate.old.journal.knows session.old }
     ensures served { IsServed L.store (EnumNextCall number) result gate.old gate.new session.old session.new }
     ensures plain { IsPlain result.reply }
+    ensures entropy { session.new.entropy ≡ session.old.entropy }
 {
     let reply = call_rules::enum_next(&*gate, session.state_mut(), number);
     tell(gate, session, Call::EnumNext { number }, reply)
@@ -126,6 +131,7 @@ pub(crate) fn enum_reset<F: StoreFile + Drop, R: RpmbPort + Drop, L: StoreName, 
     requires calm { IsCalm L.store gate.old.journal.knows session.old }
     ensures served { IsServed L.store (EnumResetCall number) result gate.old gate.new session.old session.new }
     ensures plain { IsPlain result.reply }
+    ensures entropy { session.new.entropy ≡ session.old.entropy }
 {
     let reply = call_rules::enum_reset(session.state_mut(), number);
     tell(gate, session, Call::EnumReset { number }, reply)
@@ -142,6 +148,7 @@ pub(crate) fn enum_free<F: StoreFile + Drop, R: RpmbPort + Drop, L: StoreName, E
     requires calm { IsCalm L.store gate.old.journal.knows session.old }
     ensures served { IsServed L.store (EnumFreeCall number) result gate.old gate.new session.old session.new }
     ensures plain { IsPlain result.reply }
+    ensures entropy { session.new.entropy ≡ session.old.entropy }
 {
     let reply = call_rules::enum_free(session.state_mut(), number);
     tell(gate, session, Call::EnumFree { number }, reply)

@@ -1,5 +1,5 @@
 -- What is shown and settled first goes on in the answer.
-use Rattle.std.proofs.Common.{Option, Some, None, Result, Ok, Err, ap, ◌∙◌, subst}
+use Rattle.std.proofs.Common.{Option, Ok, ap, ◌∙◌, subst}
 use Rattle.gate_calls.specs.declared.served.Answer.{Answer}
 use Rattle.gate_calls.specs.Served.{ServesAlone}
 use Rattle.gate_calls.proofs.Serving.{serves-after-show, serves-behind, unserved-as}
@@ -39,4 +39,4 @@ returns-clause-serves g c =
     g.L.StoreName.store c.args.call.now c.args.gate.now c.answer_early.new.gate first last r) (c.in_ok-answer.was ∙ ap (λ (o : Option Answer). Ok o) c.in_default.is) early in
     serves-behind g.F.StoreFile.state g.R.RpmbPort.state (g.E.Entropy.is_reliable first.entropy) (g.E.Entropy.faults first.entropy)
     (g.E.Entropy.faults c.answer_by_rules.new.session.entropy) g.L.StoreName.store c.args.call.now c.args.gate.now c.answer_early.new.gate c.answer_by_rules.new.gate first last
-    c.answer_by_rules.new.session c.answer_by_rules.result left c.answer_by_rules.ensures
+    c.answer_by_rules.new.session c.answer_by_rules.result left c.answer_by_rules.ensures.serves

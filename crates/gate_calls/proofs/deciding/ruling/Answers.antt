@@ -1,10 +1,6 @@
 -- A read and a truncate are ruled whatever the size.
-use Rattle.std.proofs.Common.{◌≡◌, false, Option, IfSome, IsNone, sym, subst}
-use Rattle.tee_types.specs.declared.call.Call.{Call}
+use Rattle.std.proofs.Common.{Option, IsNone, subst}
 use Rattle.tee_types.specs.declared.reply.Reply.{Reply}
-use Rattle.store_model.specs.Calls.{reply_of}
-use Rattle.store_model.specs.Files.{is_misuse}
-use Rattle.call_rules.specs.Told.{IsTold}
 use Rattle.gate_calls.proofs.Rulings.{decided-needs, decided-told, ruled-as, proper-as}
 use Rattle.gate_calls.proofs.deciding.ruling.Goals as goal
 

@@ -1,8 +1,5 @@
 -- What the read of the counter tells, in one record.
-use Rattle.std.proofs.Common.{IfSome}
-use Rattle.store_commit.specs.Gates.{gate_sides}
-use Rattle.store_commit.specs.Resolving.{Resolves, ResolvesHolds}
-use Rattle.gate_calls.specs.Resolved.{HasResolved}
+use Rattle.store_commit.specs.Resolving.{ResolvesHolds}
 use Rattle.gate_calls.proofs.Resolves.{at-some, if-some}
 use Rattle.gate_calls.proofs.settling.resolve_once.Goals as goal
 
