@@ -118,11 +118,11 @@ module _ {F R : Type 0} (store : Store) (gate : LockedGateValue F R) (locked : I
       let file_is : mid.file ≡ old.file = ap (λ (s : SlotValue). s.file) is ∙ (met-still knows old).file in
       let reads : ReadsAtMost old.file new.file result = subst (λ (f : FileState). ReadsAtMost f new.file result) file_is (reads-at_most mid.holds mid new tsk e result filled) in
       record {
-    version = at.0;
-    at = at-stays knows mid new e at.0 same at.1;
-    loads = version at.0 at.1.gives;
-    same = same ∙ ap (λ (s : SlotValue). record s { file = new.file; holds = new.holds }) is;
-    filled = subst (λ (s : SlotValue). FillsOrStays s.holds s new tsk e result) is filled;
-    rests = reads.rests;
-    cause = reads.cause;
-  }
+        version = at.0;
+        at = at-stays knows mid new e at.0 same at.1;
+        loads = version at.0 at.1.gives;
+        same = same ∙ ap (λ (s : SlotValue). record s { file = new.file; holds = new.holds }) is;
+        filled = subst (λ (s : SlotValue). FillsOrStays s.holds s new tsk e result) is filled;
+        rests = reads.rests;
+        cause = reads.cause;
+      }
