@@ -134,6 +134,21 @@ impl<E: Entropy> Session<E> {
         self.made += 1;
     }
 
+    /// The machine's session.
+    pub fn state(&self) -> &SessionState
+        ensures { result.now ≡ self.now.state }
+    {
+        &self.state
+    }
+
+    /// The machine's session, which a call moves.
+    pub fn state_mut(&mut self) -> &mut SessionState
+        ensures value { result.now ≡ self.old.state }
+        ensures* writes_back { sem 𝓛 (Lends (the_row E.row) state_row self.entry result (λ w. record self.old { state = w })) }
+    {
+        &mut self.state
+    }
+
     /// What it draws random bytes from.
     pub fn entropy_mut(&mut self) -> &mut E
         ensures value { result.now ≡ self.old.entropy }
