@@ -1,10 +1,11 @@
 -- What a phase leaves, once the store is no longer served.
-use Rattle.std.specs.Prelude.{◌≡◌, ◌⊎◌, ◌<◌, ℕ, List, length, Option, None, slice_index_or}
+use Rattle.std.specs.Prelude.{◌≡◌, ◌⊎◌, ◌<◌, ℕ, List, [], length, Option, None, slice_index_or}
 use Rattle.disk_model.specs.State.{FileState}
 use Rattle.hmac_keys.specs.KeyTable.{rpmb_key}
 use Rattle.rpmb_card.specs.Card.{CardState}
 use Rattle.rpmb_card.specs.Port.{PortState}
 use Rattle.rpmb_host.specs.Honest.{HasCard}
+use Rattle.store_model.specs.declared.event.Event.{Event}
 use Rattle.store_model.specs.History.{AreNumbered, count_of}
 use Rattle.store_model.specs.LegalHistory.{doubt_of}
 use Rattle.store_model.specs.Record.{events_of}
@@ -52,3 +53,10 @@ pub record LeavesStore (store : Store) (view : GateView) (files : ℕ → FileSt
   pub answered : IsAnsweredOrEnds store view files
   pub mounts : PicturesMountAfter store view files port
   pub doubted : IsDoubtLeft store view doubt
+
+-- So of a phase that no call was made in.
+pub record ClosesUnserved (store : Store) (files : ℕ → FileState) (port : PortState) (doubt : Option ℕ) (events : List Event) : Type 0 where
+  pub view : GateView
+  pub empty : view.all ≡ []
+  pub events_are : events ≡ []
+  pub leaves : LeavesStore store view files port doubt
