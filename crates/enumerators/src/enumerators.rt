@@ -44,6 +44,13 @@ impl Enumerators {
         }
     }
 
+    /// Whether no further enumerator may be given: 64 are live, or all 4,294,967,295 numbers were given.
+    pub fn is_full(&self) -> bool
+        ensures { result ≡ has_all self.now }
+    {
+        MAX_ENUMERATORS <= self.live.len() || u32::MAX <= self.next
+    }
+
     /// Gives an enumerator that is not started, and tells its number: TEE_AllocatePersistentObjectEnumerator.
     /// `TooMany` comes exactly where 64 are live or all 4,294,967,295 numbers were given. After `NoMemory` all is as it was.
     pub fn add(&mut self) -> Result<u32, EnumFault>
@@ -54,7 +61,7 @@ impl Enumerators {
         ensures fault { IfErr result (λ fault. fault ≡ (if has_all self.old then EnumFault.TooMany else EnumFault.NoMemory)) }
         ensures err { OnErr result (self.new ≡ self.old) }
     {
-        if MAX_ENUMERATORS <= self.live.len() || u32::MAX <= self.next {
+        if self.is_full() {
             return Err(EnumFault::TooMany);
         }
         let number = self.next;

@@ -159,6 +159,13 @@ impl Session {
         self.enumerators = Enumerators::new(alloc);
     }
 
+    /// Whether no further enumerator may be given.
+    pub fn has_all_enumerators(&self) -> bool
+        ensures { result ≡ has_all self.now.enumerators }
+    {
+        self.enumerators.is_full()
+    }
+
     /// Gives an enumerator that is not started, and tells its number.
     pub fn add_enumerator(&mut self) -> Result<u32, EnumFault>
         ensures number { IfOk result (λ number. number ≡ self.old.enumerators.next) }
