@@ -80,6 +80,13 @@ impl Session {
         MAX_HANDLES <= self.handles.len() || u32::MAX <= self.next_handle
     }
 
+    /// The number of the next handle that is given.
+    pub fn next_handle(&self) -> u32
+        ensures { result ≡ self.now.next_handle }
+    {
+        self.next_handle
+    }
+
     /// Gives a handle on that object, at position 0, and tells its number.
     pub fn open(&mut self, name: ObjectName, flags: Flags) -> u32
         requires { has_all_handles self.old ≡ false }
