@@ -101,7 +101,7 @@ part_blocks key tree a b c asked r k before after A B (Failed count) goes is ear
 part_blocks key tree a b c asked r k before after A B (BadHead long greatest) goes is earlier answer = tt
 part_blocks key tree a b c asked r k before after A B (Short end need) goes is earlier answer = tt
 part_blocks key tree a b c asked r k before after A B (Damaged n want found) goes is earlier answer = tt
-part_blocks key tree a b c asked r k before after A B (NoEntropy count) goes is earlier answer = tt
+part_blocks key tree a b c asked r k before after A B (NoEntropy count) goes is earlier answer = absurd answer
 part_blocks key tree a b c asked r k before after A B NoMemory goes is earlier answer = tt
 
 -- and what lies behind the range stays

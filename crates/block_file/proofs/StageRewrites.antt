@@ -25,7 +25,7 @@ use Rattle.page_bytes.specs.Pages.{page_at}
 use Rattle.page_bytes.specs.Ranges.{end_block, first_block, meets, needs}
 use Rattle.page_bytes.proofs.Content.{meets-blocks, not-meets-before, not-meets-behind}
 use Rattle.block_file.specs.NewPages.{AreNewPages, IsRewriting, Reaches}
-use Rattle.block_file.specs.Reads.{BlocksAnswer}
+use Rattle.block_file.specs.Reads.{BlocksAnswer, WasRead}
 use Rattle.block_file.specs.Stages.{LeavesRewritten, SealsRange, WritesRange, changed_of}
 use Rattle.block_file.proofs.ChangeLists.{AreChanges-run, page_for-missed}
 use Rattle.block_file.proofs.NewPages.{new_page_first}
@@ -96,18 +96,22 @@ module _ (key : List ℕ) (tree : Loaded) (r : ByteRange) (at : ℕ) (bytes : Li
       (omega (arith, low, begins), omega (arith, high, new, ends, forward)))
       (λ k low high. let page = made.pages k low (omega arith) in subst (λ (o : Option (List ℕ)). IsSome o) (sym page.1) refl)
 
-  -- those that the change needs were read
-  pub blocks_read : (c : FileState) (A : Type 0) (result : Result A TreeFault) → GoesOn b c → IfErr result IsDeviceFault → BlocksAnswer key tree a c (needs r) result
-  blocks_read c A (Ok done) goes fault = λ k needed.
+  -- a block that the change needs was read before its page was made
+  needed_read : (c : FileState) → GoesOn b c → (k : ℕ) → needs r k ≡ true → WasRead key tree a c k
+  needed_read c goes k needed =
       let stays = needed_stays r size k reaches needed in
       let page = made.pages k (omega (arith, stays.0, begins)) (omega (arith, stays.1, ends)) in
       (page.2.over, page_first key tree a b c k page.2.over goes (page.2.read needed))
+
+  -- those that the change needs were read, also where a draw failed
+  pub blocks_read : (c : FileState) (A : Type 0) (result : Result A TreeFault) → GoesOn b c → IfErr result IsDeviceFault → BlocksAnswer key tree a c (needs r) result
+  blocks_read c A (Ok done) goes fault = needed_read c goes
   blocks_read c A (Err (BadTag bad want found)) goes fault = absurd fault
   blocks_read c A (Err (Failed count)) goes fault = tt
   blocks_read c A (Err (BadHead long greatest)) goes fault = tt
   blocks_read c A (Err (Short end need)) goes fault = tt
   blocks_read c A (Err (Damaged n want found)) goes fault = tt
-  blocks_read c A (Err (NoEntropy count)) goes fault = tt
+  blocks_read c A (Err (NoEntropy count)) goes fault = needed_read c goes
   blocks_read c A (Err NoMemory) goes fault = tt
 
   module _ (told : Told a b) (root next : RootRef) (after : List ℕ) (verified : IsVerified root tree) (old_size : r.size ≡ tree.head.length) (many : length tree.nodes ≡ greatest_of r.size)

@@ -36,10 +36,12 @@ pub record IsFirstBad (key : List ℕ) (tree : Loaded) (old new : FileState) (as
   pub earlier : (j : ℕ) → j < k → asked j ≡ true → WasRead key tree old new j
   pub bad : IsBad key tree new k want found
 
--- A call that reads the blocks that are asked, in their order, succeeds where each was read, and names the first that is bad.
+-- A call that reads the blocks that are asked, in their order, succeeds where each was read, and names the first that is bad. It draws
+-- once each was read: so each was, too, where a draw failed.
 abbrev pub BlocksAnswer : (key : List ℕ) → Loaded → (old new : FileState) → (asked : ℕ → Bool) → {A : Type 0} → Result A TreeFault → Type 0
 BlocksAnswer key tree old new asked (Ok answer) = (k : ℕ) → asked k ≡ true → WasRead key tree old new k
 BlocksAnswer key tree old new asked (Err (BadTag k want found)) = IsFirstBad key tree old new asked k want found
+BlocksAnswer key tree old new asked (Err (NoEntropy count)) = (k : ℕ) → asked k ≡ true → WasRead key tree old new k
 BlocksAnswer key tree old new asked (Err fault) = Unit {0}
 
 -- These bytes, from a place on, were read: each block that has one of them was read as one page, and they are the bytes of these

@@ -186,8 +186,8 @@ impl<F: StoreFile> BlockFile<F> {
     /// # Errors
     ///
     /// `BadTag` names the first of these blocks that has not the tag of its node, as the file reads when the call ends; nothing
-    /// was drawn or written then, nor for `NoMemory`. `NoEntropy` where a draw failed, before anything was written. Besides
-    /// `Failed`, where a call of the file failed. No stage is open then.
+    /// was drawn or written then, nor for `NoMemory`. `NoEntropy` where a draw failed, once each of these blocks was read and
+    /// before anything was written. Besides `Failed`, where a call of the file failed. No stage is open then.
     pub fn stage_write<E: Entropy>(
         &mut self,
         alloc: Global,

@@ -1,6 +1,6 @@
 //! Calls on the data of an open object.
 
-ghost use Rattle.std.specs.Prelude.{◌≡◌, ◌+◌, ◌≤◌, ℕ, [], ◌∷◌, true, false, Some, pos, ◌+ℤ◌, int_lt, IfSome, IsNone, MatchOption};
+ghost use Rattle.std.specs.Prelude.{length, ◌==◌, ◌≡◌, ◌+◌, ◌≤◌, ℕ, [], ◌∷◌, true, false, Some, pos, ◌+ℤ◌, int_lt, IfSome, IsNone, MatchOption};
 ghost use Rattle.store_model.specs.Object.{Contents};
 ghost use Rattle.store_model.specs.Machine.{MachineState, first_refusal};
 ghost use Rattle.store_model.specs.Standing.{is_undone};
@@ -46,6 +46,7 @@ pub fn write<C: Catalog>(
         → IfNeeds result (λ found. IsOfObject s i (Call.Write number bytes.now) found.handle.name found.held.entry.size
         (write_from s i number bytes.now found.handle)) }
     ensures found { IfNeeds result (IsRightful (C.entries catalog.now) session.now number WRITE) }
+    ensures some { IfNeeds result (λ found. (length bytes.now == 0) ≡ false) }
     ensures plain { IfAnswered result IsPlain }
 {
     match rightful_object(catalog, session, number, WRITE) {

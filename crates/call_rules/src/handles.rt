@@ -1,6 +1,6 @@
 //! Calls that give handles and take them back.
 
-ghost use Rattle.std.specs.Prelude.{◌≡◌, ℕ, true, false, Some, IfSome};
+ghost use Rattle.std.specs.Prelude.{◌≡◌, ◌≤◌, ℕ, true, false, Some, length, IfSome, IsNone};
 ghost use Rattle.dir_index.specs.Index.{named};
 ghost use Rattle.store_model.specs.Machine.{MachineState, session_at, name_in, first_refusal, has_all_handles};
 ghost use Rattle.store_model.specs.Standing.{is_undone};
@@ -59,6 +59,7 @@ fn create_refusal(
     ensures rows { result ≡ first_refusal (create_rows flags (has_all_handles session.now) attributes held busy) }
     ensures refused { IfSome result (λ reply. is_refusal reply ≡ true) }
     ensures refusal { IfSome result IsRefused }
+    ensures short { IsNone result → attributes ≤ 2048 }
 {
     if !flags.known() {
         return Some(Reply::Misuse(Reason::BadFlags));
@@ -112,6 +113,7 @@ pub fn create<C: Catalog>(
         → IfNeeds result (λ _. reply_of s i (Call.Create id flags attributes.now bytes.now) ≡ Reply.Handle session.now.next_handle) }
     ensures place { IfNeeds result (IsNewPlace (C.entries catalog.now) (named session.now.application id)) }
     ensures few { IfNeeds result (λ _. has_all_handles session.now ≡ false) }
+    ensures fits { IfNeeds result (λ _. (length attributes.now ≤ 2048) × (length bytes.now ≤ 1044480)) }
     ensures refused { IfAnswered result IsRefused }
 {
     let found = catalog.look(session.app(), id);

@@ -3,19 +3,19 @@ use Rattle.std.proofs.Common.{◌≡◌, ℕ, ℤ, pos, ◌+ℤ◌, int_lt, Bool
 use Rattle.std.specs.List.{list_any}
 use Rattle.std.specs.Option.{option_map}
 use Rattle.tee_types.specs.declared.call.Call.{Call}
-use Rattle.tee_types.specs.declared.call.Call.TheVariants.{Close, Seek, EnumStart, EnumNext, EnumReset, EnumFree}
+use Rattle.tee_types.specs.declared.call.Call.TheVariants.{Close, Seek, EnumNew, EnumStart, EnumNext, EnumReset, EnumFree}
 use Rattle.tee_types.specs.declared.call.Whence.{Whence}
 use Rattle.tee_types.specs.declared.reply.Reason.{Reason}
-use Rattle.tee_types.specs.declared.reply.Reason.TheVariants.{BadHandle, BadEnumerator}
+use Rattle.tee_types.specs.declared.reply.Reason.TheVariants.{BadHandle, BadEnumerator, TooMany}
 use Rattle.tee_types.specs.declared.reply.Reply.{Reply}
-use Rattle.tee_types.specs.declared.reply.Reply.TheVariants.{Done, Refused, Misuse}
+use Rattle.tee_types.specs.declared.reply.Reply.TheVariants.{Done, Handle as HandleReply, Refused, Misuse}
 use Rattle.tee_types.specs.declared.reply.Code.TheVariants.{ItemNotFound, Overflow}
 use Rattle.enumerators.specs.declared.cursor.Cursor.{Cursor}
-use Rattle.enumerators.specs.Enumeration.{EnumeratorTable, cursor_at, freed, reset, started}
+use Rattle.enumerators.specs.Enumeration.{EnumeratorTable, allocated, cursor_at, freed, has_all, reset, started}
 use Rattle.store_model.specs.declared.session.Handle.{Handle as HandleValue}
 use Rattle.store_model.specs.Calls.{reply_of}
 use Rattle.store_model.specs.Data.{at_least_zero, greatest_position, seek_base, seek_of, with_position}
-use Rattle.store_model.specs.Enumerating.{by_cursor, enum_free_of, enum_gives, enum_next_of, enum_reset_of, enum_start_of, is_of, next_object, shown, with_enumerators}
+use Rattle.store_model.specs.Enumerating.{by_cursor, enum_free_of, enum_gives, enum_new_of, enum_next_of, enum_reset_of, enum_start_of, is_of, next_object, shown, with_enumerators}
 use Rattle.store_model.specs.Object.{size_at}
 use Rattle.store_model.specs.Files.{is_misuse}
 use Rattle.store_model.specs.Handles.{close_of}
@@ -23,8 +23,8 @@ use Rattle.store_model.specs.Machine.{MachineState, Outcome, Session, by_handle,
 use Rattle.call_rules.specs.Told.{IsTold}
 use Rattle.call_rules.proofs.Closing.{close_refused}
 use Rattle.call_rules.proofs.DataCalls.{seek_missed}
-use Rattle.call_rules.proofs.Enumerators.{start_missed, next_missed, reset_missed, free_missed}
-use Rattle.gate_calls.specs.Rulings.{IsMisuse, reason_unless}
+use Rattle.call_rules.proofs.Enumerators.{new_full, start_missed, next_missed, reset_missed, free_missed}
+use Rattle.gate_calls.specs.Rulings.{IsMisuse, reason_unless, reason_where}
 
 -- a call by a handle or on an enumerator: that misuse where there is none, and no misuse where there is one
 by-place : {A : Type 0} (s : MachineState) (i : ℕ) (caller : Session) (call : Call) (place : Option A) (reason : Reason)
@@ -133,6 +133,23 @@ module _ (s : MachineState) (i : ℕ) (caller : Session) (is : session_at s i �
 
   pub free-misuse : IsMisuse s i caller (EnumFree number) (reason_unless (cursor_at caller.enumerators number) BadEnumerator)
   free-misuse = by-place s i caller (EnumFree number) (cursor_at caller.enumerators number) BadEnumerator (free_missed s i caller is number) free-proper
+
+module _ (s : MachineState) (i : ℕ) (caller : Session) (is : session_at s i ≡ caller) where
+  abbrev made : EnumeratorTable → Outcome
+  made table = record { reply = HandleReply table.next; next = with_enumerators s i (allocated table) }
+
+  new-proper : has_all caller.enumerators ≡ false → is_misuse (reply_of s i EnumNew) ≡ false
+  unfolding enum_new_of
+  new-proper room =
+      ap (λ (x : Session). is_misuse (unless_refused ((has_all x.enumerators, Misuse TooMany) ∷ []) s (made x.enumerators)).reply) is
+      ∙ ap (λ (b : Bool). is_misuse (unless_refused ((b, Misuse TooMany) ∷ []) s (made caller.enumerators)).reply) room
+
+  new-cases : (full : Bool) → has_all caller.enumerators ≡ full → IsMisuse s i caller EnumNew (reason_where full TooMany)
+  new-cases true full = new_full s i caller is full caller refl
+  new-cases false room = new-proper room
+
+  pub new-misuse : IsMisuse s i caller EnumNew (reason_where (has_all caller.enumerators) TooMany)
+  new-misuse = new-cases (has_all caller.enumerators) refl
 
 -- in other words
 pub misuse-as : (s : MachineState) (i : ℕ) (caller : Session) (call other : Call) (found reason : Option Reason) → call ≡ other → found ≡ reason

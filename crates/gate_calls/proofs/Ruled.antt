@@ -28,7 +28,7 @@ use Rattle.locked_gate.specs.Commits.{IsCalm}
 use Rattle.locked_gate.specs.LockedGates.{LockedGateValue}
 use Rattle.locked_gate.specs.Ruled.{IsRuled}
 use Rattle.locked_gate.proofs.AloneCalls.{quiet-notes}
-use Rattle.gate_calls.specs.declared.served.Answer.{Answer}
+use Rattle.locked_gate.specs.declared.answered.Answer.{Answer}
 use Rattle.gate_calls.specs.Served.{IsServed}
 
 none-some : {A : Type 0} (a : A) → None ≡ Some a → ⊥

@@ -14,7 +14,7 @@ use Rattle.call_history.specs.Sessions.{CallerSession, IsCallerOf, session_value
 use Rattle.call_history.specs.Shown.{BeginsAll, SeesAll, shown}
 use Rattle.store_commit.specs.Noting.{NotesReply}
 use Rattle.locked_gate.specs.LockedGates.{LockedGateValue}
-use Rattle.gate_calls.specs.declared.served.Answer.{Answer}
+use Rattle.locked_gate.specs.declared.answered.Answer.{Answer}
 use Rattle.gate_calls.specs.Resolved.{IsSettled, StaysInDoubt, WasResolved}
 use Rattle.gate_calls.specs.Seen.{GoesOn}
 use Rattle.gate_calls.proofs.Resolves.{shown-goes}

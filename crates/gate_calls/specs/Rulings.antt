@@ -1,7 +1,7 @@
 -- What the rules make of a call before anything is done.
 use Rattle.std.specs.Prelude.{◌≡◌, ℕ, Bool, true, false, Option, Some, None}
 use Rattle.tee_types.specs.declared.call.Call.{Call}
-use Rattle.tee_types.specs.declared.call.Call.TheVariants.{Create, Open, Read, Write, Truncate, Rename, Delete, Info, EnumNew}
+use Rattle.tee_types.specs.declared.call.Call.TheVariants.{Create, Open, Read, Write, Truncate, Rename, Delete, Info}
 use Rattle.tee_types.specs.declared.reply.Reason.{Reason}
 use Rattle.tee_types.specs.declared.reply.Reply.{Reply}
 use Rattle.tee_types.specs.declared.reply.Reply.TheVariants.{Misuse}
@@ -22,10 +22,6 @@ is_on_object (Delete handle) = true
 is_on_object (Info handle) = true
 is_on_object _ = false
 
-abbrev pub is_new_enumerator : Call → Bool
-is_new_enumerator EnumNew = true
-is_new_enumerator _ = false
-
 -- The machine answers the call with that misuse; or it is none.
 abbrev pub IsMisuse : MachineState → (session : ℕ) → Session → Call → Option Reason → Type 0
 IsMisuse s i caller call (Some reason) = IsTold s i call (Misuse reason) caller
@@ -39,3 +35,8 @@ reason_of _ = None
 abbrev pub reason_unless : {A : Type 0} → Option A → Reason → Option Reason
 reason_unless None reason = Some reason
 reason_unless (Some a) reason = None
+
+-- that reason, where the test holds
+abbrev pub reason_where : Bool → Reason → Option Reason
+reason_where true reason = Some reason
+reason_where false reason = None

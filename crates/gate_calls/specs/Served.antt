@@ -18,7 +18,7 @@ use Rattle.store_commit.specs.Noting.{NotesReply}
 use Rattle.call_rules.specs.Plain.{IsPlain}
 use Rattle.locked_gate.specs.Commits.{IsCalm}
 use Rattle.locked_gate.specs.LockedGates.{LockedGateValue}
-use Rattle.gate_calls.specs.declared.served.Answer.{Answer}
+use Rattle.locked_gate.specs.declared.answered.Answer.{Answer}
 use Rattle.gate_calls.specs.Resolved.{IsSettled, StaysInDoubt, WasResolved}
 use Rattle.gate_calls.specs.Seen.{GoesOn}
 

@@ -1,6 +1,6 @@
 //! The calls, and the answers, that the gate gives alone.
 
-ghost use Rattle.std.specs.Prelude.{◌≡◌, ◌≤◌, ℕ, false, None, IfOk, IfSome, IsNone, IsSome};
+ghost use Rattle.std.specs.Prelude.{◌≡◌, ◌≤◌, ℕ, true, false, None, IfOk, IfSome, IsNone, IsSome};
 ghost use Rattle.store_model.specs.Calls.{reply_of};
 ghost use Rattle.store_model.specs.Files.{is_misuse};
 ghost use Rattle.store_model.specs.Machine.{MachineState};
@@ -8,26 +8,25 @@ ghost use Rattle.call_history.specs.Sessions.{IsCallerOf};
 ghost use Rattle.call_rules.specs.Matches.{Matches};
 ghost use Rattle.call_rules.specs.Told.{IsTold};
 ghost use Rattle.locked_gate.specs.Commits.{IsCalm};
+ghost use Rattle.gate_calls.specs.Rulings.{is_on_object};
 ghost use Rattle.gate_calls.specs.Seen.{HasSeen};
 ghost use Rattle.gate_calls.specs.Served.{IsLeft, IsServed, IsServedAlone, ServesAlone, ServesByRules};
 
-use crate::by_rules::{answer_on_object, tell};
-use crate::deciding::{is_new_enumerator, misuse};
+use crate::by_rules::tell;
+use crate::deciding::misuse;
 use crate::holding::held_up;
 use crate::moving::{close, enum_free, enum_new, enum_next, enum_reset, enum_start, seek};
-use crate::served::Answer;
 use crate::settling::settle;
 use call_history::Session;
-use locked_gate::LockedGate;
+use locked_gate::{Answer, LockedGate};
 use rpmb_card::RpmbPort;
 use std::alloc::Global;
 use suppositions::StoreName;
 use tee_ports::{Entropy, StoreFile};
 use tee_types::{Call, NoMemory, Reason, Reply};
 
-// Answers a call by the rules, while no commit is in doubt.
+// Answers a call that is on no object by the rules, while no commit is in doubt.
 fn answer_by_rules<F: StoreFile + Drop, R: RpmbPort + Drop, L: StoreName, E: Entropy>(
-    alloc: Global,
     gate: &mut LockedGate<F, R, L>,
     session: &mut Session<E>,
     call: &Call,
@@ -36,6 +35,7 @@ fn answer_by_rules<F: StoreFile + Drop, R: RpmbPort + Drop, L: StoreName, E: Ent
     requires idle { gate.old.gate.doubt ≡ None }
     requires calm { IsCalm L.store gate.old.journal.knows session.old }
     ensures serves { ServesByRules L.store call.now gate.old gate.new session.old session.new result }
+    ensures left { IfOk result (λ answer. IsNone answer → is_on_object call.now ≡ true) }
     ensures entropy { session.new.entropy ≡ session.old.entropy }
 {
     match call {
@@ -50,7 +50,7 @@ fn answer_by_rules<F: StoreFile + Drop, R: RpmbPort + Drop, L: StoreName, E: Ent
         Call::EnumNext { number } => Ok(Some(enum_next(gate, session, *number))),
         Call::EnumReset { number } => Ok(Some(enum_reset(gate, session, *number))),
         Call::EnumFree { number } => Ok(Some(enum_free(gate, session, *number))),
-        _ => answer_on_object(alloc, gate, session, call),
+        _ => Ok(None),
     }
 }
 
@@ -111,12 +111,11 @@ fn answer_early<F: StoreFile + Drop, R: RpmbPort + Drop, L: StoreName, E: Entrop
     ensures counted { E.faults session.old.entropy ≤ E.faults session.new.entropy }
     ensures reliable { E.is_reliable session.old.entropy → E.is_reliable session.new.entropy }
 {
-    // Whether a new enumerator would be one too many is told only as it is made.
-    if is_new_enumerator(call) || gate.doubt().is_none() {
-        return match settle(gate, session) {
-            Ok(()) => Ok(None),
-            Err(_) => Err(NoMemory {}),
+    if gate.doubt().is_none() {
+        let Ok(()) = settle(gate, session) else {
+            unreachable!()
         };
+        return Ok(None);
     }
     let kept = call.copy(alloc)?;
     if let Some(reason) = misuse(&*gate, session.state(), call) {
@@ -125,13 +124,12 @@ fn answer_early<F: StoreFile + Drop, R: RpmbPort + Drop, L: StoreName, E: Entrop
     Ok(settle_for(gate, session, kept))
 }
 
-/// Serves a call as far as the gate does alone: the answer, or none where the call needs an object's file. Then no commit is in doubt any
-/// more, and the session was shown the history.
+/// Serves a call as far as the gate does alone: the answer, or none where the call is on an object and no misuse was found before. Then no
+/// commit is in doubt any more, and the session was shown the history.
 ///
 /// # Errors
 ///
-/// Memory ran out. So is a new enumerator answered while a commit in doubt cannot be resolved, since nobody can tell yet whether the
-/// call is a misuse. The session is as it was but that it may have been shown the history.
+/// Memory ran out. The session is as it was but that it may have been shown the history.
 pub fn answer_alone<F: StoreFile + Drop, R: RpmbPort + Drop, L: StoreName, E: Entropy>(
     alloc: Global,
     gate: &mut LockedGate<F, R, L>,
@@ -143,6 +141,7 @@ pub fn answer_alone<F: StoreFile + Drop, R: RpmbPort + Drop, L: StoreName, E: En
     ensures serves { ServesAlone F.state R.state (E.is_reliable session.old.entropy) (E.faults session.old.entropy) (E.faults session.new.entropy)
         L.store call.now gate.old gate.new session.old session.new result }
     ensures room { IfOk result (λ answer. IsNone answer → 1 ≤ gate.new.journal.spare) }
+    ensures left { IfOk result (λ answer. IsNone answer → is_on_object call.now ≡ true) }
     ensures counted { E.faults session.old.entropy ≤ E.faults session.new.entropy }
     ensures reliable { E.is_reliable session.old.entropy → E.is_reliable session.new.entropy }
 {
@@ -150,5 +149,5 @@ pub fn answer_alone<F: StoreFile + Drop, R: RpmbPort + Drop, L: StoreName, E: En
     if let Some(answer) = answer_early(alloc, gate, session, call)? {
         return Ok(Some(answer));
     }
-    answer_by_rules(alloc, gate, session, call)
+    answer_by_rules(gate, session, call)
 }

@@ -1,26 +1,26 @@
 //! Calls that the rules answer, and that leave the session as it is.
 
-ghost use Rattle.std.specs.Prelude.{◌≡◌, ◌≤◌, length, None};
+ghost use Rattle.std.specs.Prelude.{◌≡◌, ◌≤◌, ℕ, length, None};
 ghost use Rattle.store_model.specs.declared.event.Event.TheVariants.{Call as CallEvent};
 ghost use Rattle.store_model.specs.declared.event.Mark.TheVariants.{Unchanged};
+ghost use Rattle.store_model.specs.Machine.{MachineState};
+ghost use Rattle.call_rules.specs.Matches.{Matches};
 ghost use Rattle.call_rules.specs.Plain.{IsPlain};
+ghost use Rattle.call_rules.specs.Told.{IsTold};
 ghost use Rattle.gate_ties.specs.TieLaws.{KeepsDoubt};
 ghost use Rattle.locked_gate.specs.Answering.{LeavesHandles};
 ghost use Rattle.locked_gate.specs.Commits.{IsCalm};
 ghost use Rattle.locked_gate.specs.LockedGates.{change_in_doubt};
 ghost use Rattle.locked_gate.specs.Ruled.{IsRuled};
-ghost use Rattle.gate_calls.specs.Rulings.{is_on_object};
-ghost use Rattle.gate_calls.specs.Served.{IsServed, ServesByRules};
+ghost use Rattle.gate_calls.specs.Served.{IsServed};
 
-use crate::deciding::ruling;
-use crate::served::{Answer, twice};
+use crate::served::twice;
 use call_history::Session;
-use locked_gate::LockedGate;
+use locked_gate::{Answer, LockedGate};
 use rpmb_card::RpmbPort;
-use std::alloc::Global;
 use suppositions::StoreName;
 use tee_ports::{Entropy, StoreFile};
-use tee_types::{Call, NoMemory, Reply};
+use tee_types::{Call, Reply};
 
 // Appends a call that the rules answered. The session is as the call leaves it.
 pub(crate) fn tell<F: StoreFile + Drop, R: RpmbPort + Drop, L: StoreName, E: Entropy>(
@@ -44,22 +44,24 @@ pub(crate) fn tell<F: StoreFile + Drop, R: RpmbPort + Drop, L: StoreName, E: Ent
     Answer { place, reply: told }
 }
 
-// Answers a call on an object, where the rules do.
-pub(crate) fn answer_on_object<F: StoreFile + Drop, R: RpmbPort + Drop, L: StoreName, E: Entropy>(
-    alloc: Global,
+/// Answers a call on an object that the rules answered whole, while no commit is in doubt. The session, which saw the history, stays as it
+/// is.
+pub fn answer_ruled<F: StoreFile + Drop, R: RpmbPort + Drop, L: StoreName, E: Entropy>(
     gate: &mut LockedGate<F, R, L>,
     session: &mut Session<E>,
-    call: &Call,
-) -> Result<Option<Answer>, NoMemory>
+    call: Call,
+    reply: Reply,
+) -> Answer
     requires room { 1 ≤ gate.old.journal.spare }
     requires idle { gate.old.gate.doubt ≡ None }
     requires calm { IsCalm L.store gate.old.journal.knows session.old }
-    ensures serves { ServesByRules L.store call.now gate.old gate.new session.old session.new result }
+    requires told { (s : MachineState) (i : ℕ) → Matches gate.old.gate.dir.dir.entries gate.old.gate.open_handles session.old.state s i
+        → IsTold s i call reply session.old.state }
+    requires plain { IsPlain reply }
+    requires handles { LeavesHandles call reply }
+    ensures served { IsServed L.store call result gate.old gate.new session.old session.new }
+    ensures reply { result.reply ≡ reply }
     ensures entropy { session.new.entropy ≡ session.old.entropy }
 {
-    let Some(reply) = ruling(&*gate, session.state(), call) else {
-        return Ok(None);
-    };
-    let kept = call.copy(alloc)?;
-    Ok(Some(tell(gate, session, kept, reply)))
+    tell(gate, session, call, reply)
 }

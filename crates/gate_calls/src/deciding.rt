@@ -2,7 +2,7 @@
 
 ghost use Rattle.std.specs.Prelude.{◌≡◌, ℕ, true, false, IfSome, IsNone};
 ghost use Rattle.std.specs.Option.{option_and_then};
-ghost use Rattle.enumerators.specs.Enumeration.{cursor_at};
+ghost use Rattle.enumerators.specs.Enumeration.{cursor_at, has_all};
 ghost use Rattle.store_model.specs.Calls.{reply_of};
 ghost use Rattle.store_model.specs.Files.{is_misuse};
 ghost use Rattle.store_model.specs.Machine.{MachineState, handle_at};
@@ -11,7 +11,7 @@ ghost use Rattle.call_rules.specs.Matches.{Matches};
 ghost use Rattle.call_rules.specs.Plain.{IsPlain};
 ghost use Rattle.call_rules.specs.Told.{IsTold};
 ghost use Rattle.locked_gate.specs.Answering.{LeavesHandles};
-ghost use Rattle.gate_calls.specs.Rulings.{IsMisuse, is_new_enumerator, is_on_object, reason_of, reason_unless};
+ghost use Rattle.gate_calls.specs.Rulings.{IsMisuse, is_on_object, reason_of, reason_unless, reason_where};
 
 use call_rules::{Catalog, Decision};
 use store_model::Session;
@@ -91,19 +91,19 @@ fn unless_enumerator(session: &Session, number: u32) -> Option<Reason>
     }
 }
 
-/// Whether the call makes an enumerator.
-pub(crate) fn is_new_enumerator(call: &Call) -> bool
-    ensures { result ≡ is_new_enumerator call.now }
+// A misuse, where the session may have no further enumerator.
+fn where_full(session: &Session) -> Option<Reason>
+    ensures { result ≡ reason_where (has_all session.now.enumerators) Reason.TooMany }
 {
-    match call {
-        Call::EnumNew => true,
-        _ => false,
+    if session.has_all_enumerators() {
+        Some(Reason::TooMany)
+    } else {
+        None
     }
 }
 
 /// Why the call is a misuse, if it is one.
 pub(crate) fn misuse<C: Catalog>(catalog: &C, session: &Session, call: &Call) -> Option<Reason>
-    requires { is_new_enumerator call.now ≡ false }
     ensures { (s : MachineState) (i : ℕ) → Matches (C.entries catalog.now) (C.handles catalog.now) session.now s i
         → IsMisuse s i session.now call.now result }
 {
@@ -118,7 +118,7 @@ pub(crate) fn misuse<C: Catalog>(catalog: &C, session: &Session, call: &Call) ->
         Call::EnumNext { number } => unless_enumerator(session, *number),
         Call::EnumReset { number } => unless_enumerator(session, *number),
         Call::EnumFree { number } => unless_enumerator(session, *number),
-        Call::EnumNew => None,
+        Call::EnumNew => where_full(session),
         Call::Create {
             id: _,
             flags: _,

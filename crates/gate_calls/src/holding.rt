@@ -10,9 +10,8 @@ ghost use Rattle.call_rules.specs.Matches.{Matches};
 ghost use Rattle.gate_calls.specs.Seen.{HasSeen};
 ghost use Rattle.gate_calls.specs.Served.{IsServed};
 
-use crate::served::Answer;
 use call_history::Session;
-use locked_gate::LockedGate;
+use locked_gate::{Answer, LockedGate};
 use rpmb_card::RpmbPort;
 use suppositions::StoreName;
 use tee_ports::{Entropy, StoreFile};

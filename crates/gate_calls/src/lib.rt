@@ -14,6 +14,6 @@ mod served;
 mod settling;
 
 pub use alone::answer_alone;
+pub use by_rules::answer_ruled;
 pub use holding::held_up;
-pub use served::Answer;
 pub use settling::settle;

@@ -7,9 +7,8 @@ ghost use Rattle.locked_gate.specs.Commits.{IsCalm};
 ghost use Rattle.gate_calls.specs.Served.{IsServed};
 
 use crate::by_rules::tell;
-use crate::served::Answer;
 use call_history::Session;
-use locked_gate::LockedGate;
+use locked_gate::{Answer, LockedGate};
 use rpmb_card::RpmbPort;
 use suppositions::StoreName;
 use tee_ports::{Entropy, StoreFile};

@@ -35,6 +35,7 @@ use Rattle.locked_gate.specs.declared.moves.SessionMove.{SessionMove}
 use Rattle.locked_gate.specs.declared.moves.SessionMove.TheVariants.{Stays, Opens, Replaces, Closes}
 use Rattle.locked_gate.specs.Commits.{IsCalm, IsReadyCommit, call_record, made_versions, unmade_versions}
 use Rattle.locked_gate.specs.Ended.{MayAppend, MayEnd}
+use Rattle.locked_gate.specs.Ends.{IsCommitEnd}
 use Rattle.locked_gate.specs.Moves.{moved_by}
 use Rattle.locked_gate.proofs.CommitEnds.{doubtful_fair, doubtful_right, made_fair, made_right}
 use Rattle.locked_gate.proofs.FairCommits.{unmade_fair, unmade_undone}
@@ -64,6 +65,19 @@ made_unspent n counter spent is = let e : Made n ≡ Spent = spent.1 is in cc (e
 
 doubtful_unspent : (n counter : ℕ) (cause : Cause) → (Doubtful n cause ≡ Spent) ↔ (counter ≡ last_counter) → counter ≢ last_counter
 doubtful_unspent n counter cause spent is = let e : Doubtful n cause ≡ Spent = spent.1 is in cc (e)
+
+-- such an end comes of a commit at that counter
+pub commit_end : (old new : Sides) (change : EntryChange) (key : List ℕ) (before after : Counted) (end : CommitEnd) → old.counter < 2 ^ 32 → Leaves old new change end
+    → EndCause key old.counter before after end → (end ≡ Spent) ↔ (old.counter ≡ last_counter) → IsCommitEnd old.counter end
+commit_end old new change key before after (Made n) within leaves cause spent =
+    (leaves.number, subst (λ (m : ℕ). m < 2 ^ 32) (sym leaves.number) (next_fits old.counter within (made_unspent n old.counter spent)))
+commit_end old new change key before after (Dropped why) within leaves cause spent = cause_spares key old.counter before after why cause
+commit_end old new change key before after (Doubtful n why) within leaves cause spent = (
+  leaves.number,
+  subst (λ (m : ℕ). m < 2 ^ 32) (sym leaves.number) (next_fits old.counter within (doubtful_unspent n old.counter why spent)),
+  cause_spares key old.counter before after why cause.0,
+)
+commit_end old new change key before after Spent within leaves cause spent = spent.0 refl
 
 -- a record with a right tag, whose reply accuses no object's file, fits
 fits_tagged : (store : Store) (view : GateView) (session number : ℕ) (call : Call) (told : Reply) (mark : Mark) (slot : SlotView) (versions : TagVersions) → view.mounted ≡ Some store.mounted

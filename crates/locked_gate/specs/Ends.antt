@@ -1,5 +1,5 @@
 -- How a commit's end is told, and what becomes of its session.
-use Rattle.std.specs.Prelude.{◌≡◌, ℕ, List, Option, Some}
+use Rattle.std.specs.Prelude.{◌≡◌, ℕ, ◌+◌, ◌<◌, ◌^◌, List, None, Option, Some}
 use Rattle.tee_types.specs.declared.call.Call.{Call}
 use Rattle.tee_types.specs.declared.call.Call.TheVariants.{Create}
 use Rattle.tee_types.specs.declared.reply.Reply.{Reply}
@@ -10,6 +10,7 @@ use Rattle.store_model.specs.declared.event.Event.TheVariants.{Call as CallEvent
 use Rattle.store_model.specs.declared.event.Mark.{Mark}
 use Rattle.store_model.specs.declared.event.Mark.TheVariants.{Unchanged, Made as MarkedMade, Doubtful as MarkedDoubtful}
 use Rattle.store_model.specs.Machine.{Session}
+use Rattle.store_model.specs.Record.{file_at_fault}
 use Rattle.open_table.specs.Table.{TableState}
 use Rattle.history_seats.specs.Records.{HistoryRecord}
 use Rattle.history_seats.specs.Changes.{TagVersions}
@@ -26,6 +27,13 @@ use Rattle.locked_gate.specs.declared.moves.SessionMove.{SessionMove}
 use Rattle.locked_gate.specs.Commits.{call_record, made_versions, unmade_versions}
 use Rattle.locked_gate.specs.LockedGates.{closing_of}
 use Rattle.locked_gate.specs.Moves.{moved_by}
+
+-- Such an end comes of a commit at that counter: its number is the next one, and no object's file is accused.
+abbrev pub IsCommitEnd : (counter : ℕ) → CommitEnd → Type 0
+IsCommitEnd counter (Made n) = (n ≡ counter + 1) × (n < 2 ^ 32)
+IsCommitEnd counter (Dropped cause) = file_at_fault cause ≡ None
+IsCommitEnd counter (Doubtful n cause) = (n ≡ counter + 1) × (n < 2 ^ 32) × (file_at_fault cause ≡ None)
+IsCommitEnd counter Spent = counter ≡ last_counter
 
 -- the reply: the machine's own where the commit was made, else why it was not, or why that is not known
 abbrev pub reply_told : CommitEnd → Reply → Reply

@@ -18,7 +18,7 @@ ghost use Rattle.call_history.specs.Calls.{LeavesSession, pass_view};
 ghost use Rattle.call_history.specs.Sessions.{IsCallerOf, session_value};
 ghost use Rattle.call_history.specs.Shown.{pass_shown};
 ghost use Rattle.locked_gate.specs.Commits.{IsCalm, IsReadyCommit};
-ghost use Rattle.locked_gate.specs.Ends.{HandlesBehind, HoldsNewFile, closing_behind, doubt_behind, end_event, end_record, reply_told, state_behind};
+ghost use Rattle.locked_gate.specs.Ends.{HandlesBehind, HoldsNewFile, IsCommitEnd, closing_behind, doubt_behind, end_event, end_record, reply_told, state_behind};
 ghost use Rattle.locked_gate.specs.Moves.{MayMove, moved_by};
 
 use crate::ending::write_end;
@@ -113,6 +113,7 @@ impl<F: StoreFile + Drop, R: RpmbPort + Drop, L: StoreName> LockedGate<F, R, L> 
         ensures room { self.old.gate.room ≤ self.new.gate.room + 1 }
         ensures throughout { Throughout (gate_sides F.state R.state self.old.gate) (gate_sides F.state R.state self.new.gate) }
         ensures steps { Steps (gate_sides F.state R.state self.old.gate) (gate_sides F.state R.state self.new.gate) change result.end }
+        ensures end { IsCommitEnd self.old.gate.counter result.end }
         ensures spent { (result.end ≡ Spent) ↔ (self.old.gate.counter ≡ last_counter) }
         ensures reliable { E.is_reliable session.old.entropy → E.is_reliable session.new.entropy }
         ensures drawn { E.is_reliable session.old.entropy → EndNotDrawn result.end }

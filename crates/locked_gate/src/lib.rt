@@ -5,6 +5,7 @@
 #![tactic(auto)]
 
 mod answer;
+mod answered;
 mod catalog;
 mod committing;
 mod ending;
@@ -20,6 +21,7 @@ mod show;
 mod slot_answer;
 pub mod told;
 
+pub use answered::Answer;
 pub use committing::Committed;
 pub use ends::{MadeVersions, UnmadeVersions};
 pub use gate::{Closing, LockedGate};

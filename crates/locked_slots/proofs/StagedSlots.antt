@@ -18,14 +18,16 @@ use Rattle.object_file.specs.Changes.{adopted}
 use Rattle.object_file.specs.Held.{held_in}
 use Rattle.object_file.specs.Value.{size_in}
 use Rattle.object_slots.specs.declared.fault.SlotFault.{SlotFault}
+use Rattle.object_slots.specs.declared.fault.SlotFault.TheVariants.{Corrupt, Failed, NoEntropy, NoMemory}
 use Rattle.object_slots.specs.Reads.{CorruptAnswer}
-use Rattle.object_slots.specs.Stages.{DataChange, IsStageOf, StagesObject}
+use Rattle.object_slots.specs.Stages.{DataChange, IsStageOf, StageFault, StagesObject}
+use Rattle.object_slots.proofs.GiveLaws.{changes_give}
 use Rattle.object_slots.specs.Value.{HasStage, HeldObject, Holding, SlotValue, live, staged, with_stage, without_stage}
 use Rattle.locked_slots.specs.Objects.{IsObjectOf, IsOfVersion}
 use Rattle.locked_slots.specs.KnownFor.{own_version}
 use Rattle.locked_slots.specs.LockedSlots.{IsLockedSlot, IsSlotOf}
 use Rattle.locked_slots.specs.Reads.{GivesVersion}
-use Rattle.locked_slots.specs.Stages.{IsMadeOverGiven, IsStagedSlot, StageLeaves, StagesVersion, VersionChange}
+use Rattle.locked_slots.specs.Stages.{IfUndrawn, IsMadeOverGiven, IsStagedSlot, StageLeaves, StagesVersion, VersionChange}
 use Rattle.locked_slots.proofs.Contents.{gives_seat, slot_object}
 use Rattle.locked_slots.proofs.NextVersions.{changed, of_changed, of_spelt, spelt, version_spelt}
 use Rattle.locked_slots.proofs.HonestChanges.{next_spelling, page_met, page_missed, page_spelling, seal_missed}
@@ -89,6 +91,16 @@ module _ (store : Store) (old new : SlotValue) (o : HeldObject) (c : DataChange)
     corrupt honest x sound =
         subst (λ (y : Contents × (ℕ → Bool)). CorruptAnswer y.0 y.1 result) (λ i. (held x sound honest i, of.asked i))
         (stages.corrupt ((own.holds None).sound.told honest, inl honest))
+
+    -- where a draw failed, what the change needs was read
+    given_undrawn : (fault : SlotFault) → StageFault old.file new.file o (needs c.range) Undrawn fault
+        → IfUndrawn {A = RootRef} (Err fault) (Gave (wrap_of store.keys v) v.root v.size (λ k. (k == 0) || needs change.range k))
+    given_undrawn (NoEntropy count) refused =
+        subst (λ (x : RootRef × ℕ × ByteRange). Gave (wrap_of store.keys v) x.0 x.1 (λ k. (k == 0) || needs x.2 k)) (λ i. (sym object.root i, sym object.size i, of.range i))
+        (changes_give (wrap_of store.keys v) old.file new.file o c object.key object.long object.verified of.behind object.front refused.1)
+    given_undrawn Corrupt refused = tt
+    given_undrawn NoMemory refused = tt
+    given_undrawn (Failed count) refused = tt
 
     -- the stage, with the next version
     module _ (root : RootRef) (s : Staged) (stage : IsStageOf old.file new.file o c root s) (is_held : new.holds ≡ staged o s) where
@@ -186,10 +198,12 @@ module _ (store : Store) (old new : SlotValue) (o : HeldObject) (c : DataChange)
   stages_version (Ok root) stages = record {
     leaves = next_leaves (Ok root) stages root stages.leaves.0 stages.leaves.2 stages.leaves.1;
     corrupt = corrupt (Ok root) stages;
+    undrawn = tt;
   }
   stages_version (Err fault) stages = record {
     leaves =
         subst (IsLockedSlot store)
         ((λ i. record old { file = new.file; holds = sym stages.leaves i; doubt = sym calmly i }) ∙ sym same) (unstaged (Err fault) stages);
     corrupt = corrupt (Err fault) stages;
+    undrawn = given_undrawn (Err fault) stages fault stages.refused;
   }

@@ -15,6 +15,7 @@ use Rattle.suppositions.specs.Spellings.{Spelling, page_spelt, spelling_of, wrap
 use Rattle.suppositions.specs.Stores.{Store}
 use Rattle.suppositions.specs.WriteLaws.{IsMadeOver}
 use Rattle.object_slots.specs.declared.fault.SlotFault.{SlotFault}
+use Rattle.object_slots.specs.declared.fault.SlotFault.TheVariants.{NoEntropy}
 use Rattle.object_slots.specs.Reads.{CorruptAnswer}
 use Rattle.object_slots.specs.Value.{HasStage, SlotValue, with_stage, without_stage}
 use Rattle.locked_slots.specs.Objects.{IsOfVersion}
@@ -94,7 +95,14 @@ abbrev pub StageLeaves : Store → (new : SlotValue) → (v : Version) → Versi
 StageLeaves store new v change (Ok root) = (next : Version) × IsStagedSlot store new next × IsNextVersion store.keys new.file v next change root
 StageLeaves store new v change (Err fault) = IsLockedSlot store new
 
--- What a stage of a change answers. It is refused as corrupt where a block that it needs is bad, as an honest file has it.
+-- where a draw failed
+abbrev pub IfUndrawn : {A : Type 0} → Result A SlotFault → Type 0 → Type 0
+IfUndrawn (Err (NoEntropy count)) P = P
+IfUndrawn result P = Unit {0}
+
+-- What a stage of a change answers. It is refused as corrupt where a block that it needs is bad, as an honest file has it. Where a draw
+-- failed the file, honest or not, had given block 0 and each block that the change needs.
 pub record StagesVersion (store : Store) (new : SlotValue) (v : Version) (change : VersionChange) (result : Result RootRef SlotFault) : Type 0 where
   pub leaves : StageLeaves store new v change result
   pub corrupt : IsTrue new.file.honest → (c : Contents) → v.object ≡ Sound c → CorruptAnswer c change.asked result
+  pub undrawn : IfUndrawn result (Gave (wrap_of store.keys v) v.root v.size (λ k. (k == 0) || needs change.range k))

@@ -21,8 +21,8 @@ use tee_ports::{Entropy, StoreFile};
 ///
 /// # Errors
 ///
-/// `Corrupt` where a block that would keep old bytes beside the new ones is bad; besides `Failed`, `NoEntropy` and `NoMemory`. The slot may
-/// stand behind its lock then.
+/// `Corrupt` where a block that would keep old bytes beside the new ones is bad; `NoEntropy` where a draw failed, once these blocks were
+/// read; besides `Failed` and `NoMemory`. The slot may stand behind its lock then.
 pub fn stage_write<F: StoreFile + Drop, E: Entropy, L: StoreName>(
     alloc: Global,
     slot: &mut Slot<F>,

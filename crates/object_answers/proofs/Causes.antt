@@ -1,5 +1,5 @@
 -- Why a reply accuses the object's file, over two calls of the file.
-use Rattle.std.proofs.Common.{◌≡◌, ◌≤◌, ℕ, Some, IsTrue, inl, inr, refl, sym, ap, ◌∙◌, subst}
+use Rattle.std.proofs.Common.{◌≡◌, ℕ, Some, refl, sym, ◌∙◌, subst}
 use Rattle.disk_model.specs.Calls.{GoesOn, Rests}
 use Rattle.disk_model.specs.Faults.{Rose}
 use Rattle.disk_model.specs.State.{FileState}

@@ -3,7 +3,7 @@ use Rattle.std.proofs.Common.{◌≡◌, ◌<◌, ◌^◌, ℕ, false, List, Opt
 use Rattle.tee_types.specs.declared.call.Call.{Call}
 use Rattle.tee_types.specs.declared.call.Call.TheVariants.{Info, Open, Read}
 use Rattle.tee_types.specs.declared.reply.Cause.TheVariants.{Fault}
-use Rattle.tee_types.specs.declared.reply.Device.TheVariants.{File}
+use Rattle.tee_types.specs.declared.reply.Device.TheVariants.{Entropy, File}
 use Rattle.tee_types.specs.declared.reply.Reply.{Reply}
 use Rattle.tee_types.specs.declared.reply.Reply.TheVariants.{Corrupt, Handle as HandleReply, NotAvailable}
 use Rattle.store_model.specs.Files.{object_named}
@@ -20,10 +20,10 @@ use Rattle.crash_core.specs.DirectoryLaws.{AreEntries}
 use Rattle.crash_core.specs.Entries.{name_of}
 use Rattle.crash_core.specs.EntryLists.{entry_at}
 use Rattle.suppositions.specs.Answered.{AreAnswered, IsFairAt, IsLegalAt}
-use Rattle.suppositions.specs.Given.{Tells, position_by, spelling_given}
+use Rattle.suppositions.specs.Given.{Gave, Tells, is_asked, position_by, spelling_given}
 use Rattle.suppositions.specs.Guesses.{Guess}
 use Rattle.suppositions.specs.ReadLaws.{IsAdmitted}
-use Rattle.suppositions.specs.Spellings.{Spelling}
+use Rattle.suppositions.specs.Spellings.{Spelling, wrap_of}
 use Rattle.suppositions.specs.Stores.{Store, standing_at}
 use Rattle.suppositions.proofs.Mending.{none_some, some_same}
 use Rattle.gate_ties.specs.EventAnswers.{unchanged_record}
@@ -33,19 +33,20 @@ use Rattle.call_history.specs.Sessions.{CallerSession}
 use Rattle.object_slots.specs.Value.{SlotValue}
 use Rattle.locked_slots.specs.LockedSlots.{IsLockedSlot, IsSlotOf}
 use Rattle.locked_gate.specs.declared.gate.Closing.{Closing}
-use Rattle.locked_gate.specs.KnownMachine.{IsSessionAt, KnowsMachine}
+use Rattle.locked_gate.specs.KnownMachine.{KnowsMachine}
 use Rattle.locked_gate.specs.LockedGates.{IsLockedGate}
 use Rattle.locked_gate.specs.SlotAnswers.{MayBeTold, slot_record}
 use Rattle.locked_gate.specs.Told.{Answers, IsAdmittedOr, IsOnFile, IsToldBy, told_record}
 use Rattle.locked_gate.proofs.EntryCalls.{entry_calls}
 use Rattle.locked_gate.proofs.FairAnswers.{failed_files, refused_files, told_files}
 use Rattle.locked_gate.proofs.Honest.{honest_answers}
-use Rattle.locked_gate.proofs.Knowing.{shown_stand}
 use Rattle.object_answers.specs.EntryCalls.{AdmitsIfTold, IsEntryCall}
-use Rattle.object_answers.specs.FileAnswers.{Fails, IsFileAnswer, Refuses, Tells as FileTells}
+use Rattle.object_answers.specs.FileAnswers.{Fails, IsFileAnswer, Refuses, Tells as FileTells, Undrawn}
 use Rattle.object_answers.specs.Serving.{MayBeServed}
+use Rattle.object_answers.specs.Undrawn.{IsSpared, IsUndrawn}
 use Rattle.object_answers.proofs.AnswerMoves.{here-matches}
 use Rattle.object_answers.proofs.Meetings.{own-seat}
+use Rattle.object_answers.proofs.UndrawnCalls.{undrawn-fair, undrawn-legal}
 
 -- A reply that tells of an object is no refusal, and accuses no device.
 untold_corrupt : (sp : Spelling) (size attributes position : ℕ) (call : Call) → Tells sp size attributes position call Corrupt → ⊥
@@ -147,6 +148,20 @@ module _ {F R E : Type 0} (store : Store) (gate : GateValue F R) (knows : GateVi
         (sym (is ∙ ap (λ (n : ℕ). NotAvailable (Fault (File n) count)) may.at.file))
         (failed_files store guess knows.all s.number s.made call e.file e.generation count v on-file)
 
+    -- A draw failed.
+    module _ (count : ℕ) (is : reply ≡ NotAvailable (Fault Entropy count)) (by : IsUndrawn store slot.file v may.position call) where
+      undrawn-told : IsFairAt store guess knows.all told
+      undrawn-told =
+          subst (λ (p : Reply). IsFairAt store guess knows.all (told_record s.number s.made call p e.file e.generation v)) (sym is)
+          (undrawn-fair store guess knows.all s.number s.made call e.file e.generation count v on-file by.changes
+          (subst (λ (p : ℕ). Gave (wrap_of store.keys v) v.root v.size (is_asked v.size p call)) (sym on.at) by.gave))
+
+      undrawn-honest : IsTrue slot.file.honest → is_in slot.number guess.dishonest ≡ false → IsLegalAt store guess knows.all told
+      undrawn-honest honest off =
+          subst (λ (p : Reply). IsLegalAt store guess knows.all (told_record s.number s.made call p e.file e.generation v)) (sym is)
+          (undrawn-legal store guess knows.all s.number s.made call e.file e.generation count v on-file (ap (λ (n : ℕ). is_in n guess.dishonest) (sym may.at.file) ∙ off)
+          (subst (λ (p : ℕ). IsSpared v.object p call) (sym on.at) (by.spared honest)))
+
     -- it is fair whatever the file is
     fair-by : IsFileAnswer store slot.file slot.number v may.position call reply → IsFairAt store guess knows.all told
     fair-by (FileTells is honest) = told_files store guess knows.all s.number s.made call reply e.file e.generation v on-file (told-by is) (admitted is)
@@ -154,6 +169,7 @@ module _ {F R E : Type 0} (store : Store) (gate : GateValue F R) (knows : GateVi
         subst (λ (p : Reply). IsFairAt store guess knows.all (told_record s.number s.made call p e.file e.generation v)) (sym is)
         (refused_files store guess knows.all s.number s.made call e.file e.generation v on-file)
     fair-by (Fails count is) = λ answered owed. inl (inl (failed-told count is))
+    fair-by (Undrawn count is by) = undrawn-told count is by
 
     -- and legal where the file is honest, now and under the supposition
     legal-by : IsTrue slot.file.honest → is_in slot.number guess.dishonest ≡ false → IsFileAnswer store slot.file slot.number v may.position call reply → IsLegalAt store guess knows.all told
@@ -164,12 +180,14 @@ module _ {F R E : Type 0} (store : Store) (gate : GateValue F R) (knows : GateVi
         honest_answers store guess knows.all s.number s.made call reply e.file e.generation v on-file (ap (λ (n : ℕ). is_in n guess.dishonest) (sym may.at.file) ∙ off) (answers-by (own_ honest))
         (subst (IsAdmittedOr here.state s.number v.size call) (sym is) tt)
     legal-by honest off (Fails count is) = failed-told count is
+    legal-by honest off (Undrawn count is by) = undrawn-honest count is by honest off
 
   -- the reply accuses no other file
   fault-is : IsFileAnswer store slot.file slot.number v may.position call reply → (n : ℕ) → fault_in_reply reply ≡ Some n → n ≡ view.file
   fault-is (FileTells is honest) n at = absurd (faultless (spelling_given is.gave) v.size v.attributes may.position call reply is.tells n at)
   fault-is (Refuses is honest) n at = absurd (none_some n (ap fault_in_reply (sym is) ∙ at))
   fault-is (Fails count is) n at = sym (some_same slot.number n (ap fault_in_reply (sym is) ∙ at)) ∙ sym own-view.own
+  fault-is (Undrawn count is by) n at = absurd (none_some n (ap fault_in_reply (sym is) ∙ at))
 
   pub answer-told : MayBeTold store gate.doubt gate.dir.dir.entries knows view s.number s.made call reply
   answer-told = record {

@@ -4,7 +4,11 @@ pub mod LoadedEntries
 pub mod Causes
 pub mod ReadyEntries
 pub mod AnswerMoves
+pub mod UndrawnCalls
 pub mod EntryAnswers
 pub mod OwnAnswers
 pub mod ServedCalls
 pub mod ReadAnswers
+pub mod UndoneAnswers
+pub mod InfoAnswers
+pub mod OpenAnswers

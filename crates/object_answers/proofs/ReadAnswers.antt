@@ -50,7 +50,7 @@ use Rattle.locked_slots.proofs.Contents.{slot_object}
 use Rattle.locked_gate.specs.Commits.{IsCalm}
 use Rattle.locked_gate.specs.Told.{Answers, DependsOnFile, IsToldBy}
 use Rattle.object_answers.specs.Faults.{reply_of_fault}
-use Rattle.object_answers.specs.FileAnswers.{Fails, IsFileAnswer, Refuses, Tells as FileTells}
+use Rattle.object_answers.specs.FileAnswers.{Fails, IsFileAnswer, Refuses, Tells as FileTells, Undrawn}
 use Rattle.object_answers.specs.EntryCalls.{AdmitsIfTold, IsEntryCall, MeansAlike}
 use Rattle.object_answers.specs.Meeting.{IsAtEntry}
 use Rattle.object_answers.specs.Ready.{IsReadyEntry}
@@ -261,6 +261,7 @@ read-kind : (store : Store) (file : FileState) (n : ℕ) (v : Version) (at numbe
 read-kind store file n v at number count reply (FileTells by honest) = inr (told-kind store v at number count reply by)
 read-kind store file n v at number count reply (Refuses is honest) = inl (ap is_undone is)
 read-kind store file n v at number count reply (Fails many is) = inl (ap is_undone is)
+read-kind store file n v at number count reply (Undrawn many is by) = absurd by.changes
 
 undone-stays : (s : Session) (number : ℕ) (handle : Handle) (reply : Reply) → is_undone reply ≡ true → read_session s number handle reply ≡ s
 undone-stays s number handle (Content bytes) undone = absurd (true≢false (sym undone))

@@ -1,5 +1,5 @@
 -- An entry's object that was loaded, or could not be.
-use Rattle.std.proofs.Common.{◌≡◌, ℕ, true, List, Some, None, Result, Ok, Err, IsTrue, refl, sym, ap, ◌∙◌, subst}
+use Rattle.std.proofs.Common.{◌≡◌, ℕ, true, List, Some, None, Result, Ok, Err, sym, ap, ◌∙◌, subst}
 use Rattle.tee_types.specs.declared.call.Call.{Call}
 use Rattle.tee_types.specs.declared.reply.Cause.TheVariants.{Fault}
 use Rattle.tee_types.specs.declared.reply.Device.TheVariants.{File}

@@ -1,53 +1,40 @@
--- Sessions that were shown the history, and calls that were served.
-use Rattle.std.proofs.Common.{◌≡◌, Some, sym, ap, ◌∙◌}
+-- Calls that were served.
+use Rattle.std.proofs.Common.{◌≡◌, ◌≤◌, ◌+◌, ℕ, length, Some, refl, sym, ap, subst}
 use Rattle.tee_types.specs.declared.call.Call.{Call}
-use Rattle.store_model.specs.Machine.{Session}
-use Rattle.history_seats.specs.Views.{GateView}
+use Rattle.tee_types.specs.declared.reply.Reply.{Reply}
+use Rattle.store_model.specs.declared.event.Event.TheVariants.{Call as CallEvent}
+use Rattle.store_model.specs.declared.event.Mark.TheVariants.{Unchanged}
+use Rattle.history_seats.specs.Changes.{with_record}
+use Rattle.history_seats.specs.Views.{SlotView}
+use Rattle.suppositions.specs.Sessions.{Extends}
 use Rattle.suppositions.specs.Stores.{Store}
-use Rattle.call_history.specs.Sessions.{CallerSession}
-use Rattle.call_history.specs.Shown.{SeesAll, doubt_learnt, pass_shown, shown, state_learnt}
-use Rattle.locked_gate.specs.Commits.{IsCalm}
+use Rattle.call_history.specs.Sessions.{CallerSession, IsCallerOf, session_value}
+use Rattle.call_history.specs.Shown.{pass_shown}
+use Rattle.store_commit.specs.Noting.{NotesReply}
 use Rattle.locked_gate.specs.LockedGates.{LockedGateValue}
-use Rattle.object_answers.specs.declared.answer.Answer.{Answer}
+use Rattle.locked_gate.specs.SlotAnswers.{slot_record}
 use Rattle.object_answers.specs.Served.{IsServed}
 
--- a session that sees the whole history already, and has no commit in doubt, is as it was
-pub shown-again : {E : Type 0} (store : Store) (knows : GateView) (s : CallerSession E) → IsCalm store knows s → shown knows s ≡ s
-shown-again store knows s calmly =
-    let sees : SeesAll knows s.pass = calmly.sees in
-    let seat : pass_shown knows s.pass ≡ s.pass =
-    ap (pass_shown knows) sees.is
-    ∙ (λ i. Some (record sees.seat { knows = record sees.seat.knows { seen = sym sees.whole i; decided = sym sees.place i } }))
-    ∙ sym sees.is in
-    let state : state_learnt knows s.state s.doubt ≡ s.state = ap (state_learnt knows s.state) calmly.settled in
-    let doubt : doubt_learnt knows s.doubt ≡ s.doubt = ap (doubt_learnt knows) calmly.settled ∙ sym calmly.settled in
-    λ i. record { pass = seat i; number = s.number; made = s.made; state = state i; doubt = doubt i; entropy = s.entropy }
-
--- what was served is so whatever the session's state was
-pub served-from : {F R E : Type 0} (store : Store) (old new : LockedGateValue F R) (was now : CallerSession E) (state : Session) (call : Call) (answer : Answer)
-    → IsServed store old new (record was { state = state }) now call answer → IsServed store old new was now call answer
-served-from store old new was now state call answer served =
-    let x = served.extends in
-    record {
-      place = served.place;
-      extends = record {
-        old = x.old;
-        new = x.new;
-        was = x.was;
-        is = x.is;
-        between = x.between;
-        last = x.last;
-        extends = x.extends;
-        event_is = x.event_is;
-        none_between = x.none_between;
-        at = x.at;
-        fair = x.fair;
-        number = x.number;
-      };
-      whole = served.whole;
-      last = served.last;
-      event = served.event;
-      knows = served.knows;
-      gate = served.gate;
-      closing = served.closing;
-    }
+-- An answer that was appended with a slot's seat was served.
+module _ {F R E : Type 0} (store : Store) (old new : LockedGateValue F R) (s now : CallerSession E) (view : SlotView) (file place : ℕ) (call : Call) (reply told : Reply) where
+  pub answer-served : view.file ≡ file → told ≡ reply → place ≡ length old.journal.knows.all
+      → Extends store (session_value s) (session_value now) (CallEvent s.number s.made call reply Unchanged) place → IsCallerOf store now
+      → now ≡ record s { pass = pass_shown new.journal.knows s.pass; made = s.made + 1 }
+      → new.journal.knows ≡ with_record (slot_record store old.journal.knows view s.number s.made call reply) old.journal.knows → old.journal.spare ≤ new.journal.spare + 1
+      → new.gate ≡ record old.gate { open_handles = new.gate.open_handles } → NotesReply old.gate.open_handles new.gate.open_handles view.file s.number call reply
+      → new.closing ≡ old.closing → IsServed store old new s now file call (record { place = place; reply = told })
+  answer-served own copied at extends whole moved knows spare gate notes closing =
+      subst (λ (r : Reply). IsServed store old new s now file call (record { place = place; reply = r })) (sym copied) (record {
+        place = at;
+        extends = extends;
+        whole = whole;
+        made = ap (λ (x : CallerSession E). x.made) moved;
+        last = slot_record store old.journal.knows view s.number s.made call reply;
+        event = refl;
+        tagged = ap Some own;
+        knows = knows;
+        spare = spare;
+        gate = gate;
+        notes = subst (λ (n : ℕ). NotesReply old.gate.open_handles new.gate.open_handles n s.number call reply) own notes;
+        closing = closing;
+      })

@@ -1,4 +1,4 @@
--- Why a reply accuses the object's file, or does not.
+-- Why the reply to a call that draws nothing accuses the object's file, or does not.
 use Rattle.std.specs.Prelude.{◌≡◌, ℕ}
 use Rattle.disk_model.specs.State.{FileState}
 use Rattle.htree_file.specs.Answers.{FileFailed, FilePassed}

@@ -3,7 +3,7 @@ use Rattle.std.specs.Prelude.{◌≡◌, ℕ, IsTrue}
 use Rattle.disk_model.specs.State.{FileState}
 use Rattle.tee_types.specs.declared.call.Call.{Call}
 use Rattle.tee_types.specs.declared.reply.Cause.TheVariants.{Fault}
-use Rattle.tee_types.specs.declared.reply.Device.TheVariants.{File}
+use Rattle.tee_types.specs.declared.reply.Device.TheVariants.{Entropy, File}
 use Rattle.tee_types.specs.declared.reply.Reply.{Reply}
 use Rattle.tee_types.specs.declared.reply.Reply.TheVariants.{Corrupt, NotAvailable}
 use Rattle.dir_records.specs.declared.entry.DirEntry.{DirEntry}
@@ -14,6 +14,7 @@ use Rattle.object_slots.specs.Value.{SlotValue}
 use Rattle.locked_gate.specs.Told.{Answers, IsToldBy}
 use Rattle.object_answers.specs.Causes.{HasToldCause}
 use Rattle.object_answers.specs.Meeting.{IsAtEntry}
+use Rattle.object_answers.specs.Undrawn.{IsUndrawn}
 
 -- The reply to a call, at that position, on the object of a version in the file of that number.
 pub data IsFileAnswer (store : Store) (file : FileState) (number : ℕ) (v : Version) (position : ℕ) (call : Call) (reply : Reply) : Type 0 where
@@ -23,6 +24,8 @@ pub data IsFileAnswer (store : Store) (file : FileState) (number : ℕ) (v : Ver
   Refuses : reply ≡ Corrupt → (IsTrue file.honest → Answers v.object position call reply) → IsFileAnswer store file number v position call reply
   -- it failed
   Fails : (count : ℕ) → reply ≡ NotAvailable (Fault (File number) count) → IsFileAnswer store file number v position call reply
+  -- it gave what a change has to know, and a draw failed then
+  Undrawn : (count : ℕ) → reply ≡ NotAvailable (Fault Entropy count) → IsUndrawn store file v position call → IsFileAnswer store file number v position call reply
 
 -- The same, as the slot of an entry's file gives it: by the entry's version, and with its cause in the file's counts from `was` on.
 pub record AnswersEntry (store : Store) (gate : GateView) (was : FileState) (slot : SlotValue) (e : DirEntry) (position : ℕ) (call : Call) (reply : Reply) : Type 0 where

@@ -2,9 +2,11 @@ pub mod Meeting
 pub mod Loading
 pub mod Causes
 pub mod Faults
+pub mod Undrawn
 pub mod FileAnswers
 pub mod Ready
 pub mod Reading
+pub mod Describing
 pub mod EntryCalls
 pub mod Serving
 pub mod Served

@@ -1,5 +1,5 @@
 -- What a Read answers, by what the object's file gave.
-use Rattle.std.specs.Prelude.{◌≡◌, ◌+◌, ◌<◌, ◌^◌, ℕ, length}
+use Rattle.std.specs.Prelude.{◌+◌, ◌<◌, ◌^◌, ℕ, length}
 use Rattle.disk_model.specs.State.{FileState}
 use Rattle.tee_types.specs.declared.call.Call.TheVariants.{Read}
 use Rattle.tee_types.specs.declared.reply.Reply.{Reply}

@@ -4,17 +4,20 @@
 //! file is asked; the answer is appended with the slot's seat.
 #![tactic(auto)]
 
-mod answer;
+mod describing;
 mod fault;
 mod loading;
 mod meeting;
+mod opening;
 mod reading;
 mod ready;
 mod telling;
 
-pub use answer::Answer;
+pub use describing::info;
 pub use fault::fault_reply;
 pub use loading::load;
+pub use meeting::meet;
+pub use opening::open;
 pub use reading::read;
 pub use ready::load_or_reply;
 pub use telling::tell;

@@ -46,7 +46,7 @@ fn learn<F: StoreFile + Drop, R: RpmbPort + Drop, L: StoreName>(
 }
 
 /// Shows a session and a slot the whole history. Both learn what became of their own commits in doubt.
-pub(crate) fn meet<F: StoreFile + Drop, R: RpmbPort + Drop, L: StoreName, E: Entropy>(
+pub fn meet<F: StoreFile + Drop, R: RpmbPort + Drop, L: StoreName, E: Entropy>(
     gate: &mut LockedGate<F, R, L>,
     slot: &mut Slot<F>,
     session: &mut Session<E>,

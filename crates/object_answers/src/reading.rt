@@ -16,14 +16,13 @@ ghost use Rattle.object_answers.specs.Causes.{HasToldCause};
 ghost use Rattle.object_answers.specs.Reading.{EndsAtPosition, ReadsAnswer, ReadsEntry, read_session};
 ghost use Rattle.object_answers.specs.Served.{IsServedOrNot};
 
-use crate::answer::Answer;
 use crate::fault::fault_reply;
 use crate::ready::load_or_reply;
 use crate::telling::tell;
 use call_history::Session;
 use call_rules::OpenObject;
 use dir_records::DirEntry;
-use locked_gate::LockedGate;
+use locked_gate::{Answer, LockedGate};
 use locked_slots::LockedSlot;
 use object_slots::Slot;
 use rpmb_card::RpmbPort;
@@ -124,8 +123,9 @@ pub fn read<F: StoreFile + Drop, R: RpmbPort + Drop, L: StoreName, E: Entropy>(
     requires found { IsRightful gate.old.gate.dir.dir.entries session.old.state handle read_bit found.now }
     requires file { slot.old.number ≡ found.now.held.entry.file }
     requires key { tsk.now ≡ object_key L.store.keys found.now.held.entry.app }
-    ensures served { IsServedOrNot L.store gate.old gate.new session.old session.new (Call.Read handle count) result }
+    ensures served { IsServedOrNot L.store gate.old gate.new session.old session.new slot.old.number (Call.Read handle count) result }
     ensures number { slot.new.number ≡ slot.old.number }
+    ensures entropy { session.new.entropy ≡ session.old.entropy }
     // The object's file was read at most. The reply accuses it where it failed, and no other.
     ensures rests { Rests slot.old.file slot.new.file }
     ensures cause { IfOk result (λ answer. HasToldCause slot.old.file slot.new.file slot.old.number answer.reply) }

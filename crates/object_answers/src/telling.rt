@@ -4,9 +4,8 @@ ghost use Rattle.std.specs.Prelude.{◌≡◌, ◌≤◌};
 ghost use Rattle.object_answers.specs.Served.{IsServed};
 ghost use Rattle.object_answers.specs.Serving.{MayBeServed};
 
-use crate::answer::Answer;
 use call_history::Session;
-use locked_gate::LockedGate;
+use locked_gate::{Answer, LockedGate};
 use locked_slots::LockedSlot;
 use rpmb_card::RpmbPort;
 use suppositions::StoreName;
@@ -27,8 +26,9 @@ pub fn tell<F: StoreFile + Drop, R: RpmbPort + Drop, L: StoreName, E: Entropy>(
     requires handle { 1 ≤ gate.old.gate.open_handles.spare }
     requires copied { told ≡ reply }
     requires may { MayBeServed L.store gate.old.gate gate.old.journal.knows slot.old call reply session.old }
-    ensures served { IsServed L.store gate.old gate.new session.old session.new call result }
+    ensures served { IsServed L.store gate.old gate.new session.old session.new slot.old.number call result }
     ensures reply { result.reply ≡ reply }
+    ensures entropy { session.new.entropy ≡ session.old.entropy }
     ensures number { slot.new.number ≡ slot.old.number }
     ensures file { slot.new.file ≡ slot.old.file }
 {

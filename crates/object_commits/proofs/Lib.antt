@@ -12,3 +12,5 @@ pub mod WholeSlots
 pub mod NewFiles
 pub mod Creates
 pub mod SettledSlots
+pub mod BroughtCommits
+pub mod Chosen

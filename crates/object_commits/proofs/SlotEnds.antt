@@ -28,14 +28,14 @@ use Rattle.history_seats.specs.Versions.{version_of}
 use Rattle.history_seats.specs.Views.{GateView, Sight, SlotView}
 use Rattle.locked_gate.proofs.ReadyCommits.{unmade_tag}
 use Rattle.locked_gate.specs.Commits.{IsDueUnder, IsReadyCommit, call_record, made_versions, tag_of, unmade_versions}
-use Rattle.locked_gate.specs.Ends.{end_event, mark_told, reply_told, versions_told}
+use Rattle.locked_gate.specs.Ends.{IsCommitEnd, end_event, mark_told, reply_told, versions_told}
 use Rattle.locked_gate.specs.LockedGates.{change_in_doubt}
 use Rattle.locked_slots.proofs.OwnRecords.{doubtful_keep, made_keep, own_after}
 use Rattle.locked_slots.specs.KnownFor.{own_version}
 use Rattle.locked_slots.specs.LockedSlots.{IsContentOf, IsLockedSlot, IsSlotOf}
 use Rattle.locked_slots.specs.OwnEvents.{IsOwnEvent, own_record, seat_after}
 use Rattle.object_commits.specs.EndLaws.{CommitsEndSlots, EndedSlotsAreLocked}
-use Rattle.object_commits.specs.Ends.{IsEndAt, slot_behind}
+use Rattle.object_commits.specs.Ends.{slot_behind}
 use Rattle.object_slots.specs.Value.{SlotValue, with_stage, without_stage}
 use Rattle.store_commit.specs.declared.change.CommitEnd.{CommitEnd}
 use Rattle.store_commit.specs.declared.change.CommitEnd.TheVariants.{Doubtful as DoubtfulEnd, Dropped, Made as MadeEnd, Spent}
@@ -112,7 +112,7 @@ module _ (store : Store) (knows : GateView) (entries : List (Option DirEntry)) (
     next_number : (n : ℕ) → n ≡ counter + 1 → n < 2 ^ 32 → counter + 1 < 2 ^ 32
     next_number n is low = subst (λ (k : ℕ). k < 2 ^ 32) is low
 
-    pub end_legal : (end : CommitEnd) → IsEndAt counter end
+    pub end_legal : (end : CommitEnd) → IsCommitEnd counter end
         → IsLegalAt store guess knows.all (call_record session number call (reply_told end reply) (mark_told end) slot (versions_told end versions))
     end_legal (MadeEnd n) at_end =
         subst (λ (k : ℕ). IsLegalAt store guess knows.all (call_record session number call reply (Made k) slot (made_versions versions))) (sym at_end.0)

@@ -5,13 +5,13 @@ use Rattle.crash_core.specs.EntryChanges.{EntryChange}
 use Rattle.history_seats.specs.Changes.{TagVersions, slot_renewed}
 use Rattle.history_seats.specs.Views.{GateView, Sight, SlotView}
 use Rattle.locked_gate.specs.Commits.{IsCalm}
-use Rattle.locked_gate.specs.Ends.{end_event, versions_told}
+use Rattle.locked_gate.specs.Ends.{IsCommitEnd, end_event, versions_told}
 use Rattle.locked_gate.specs.LockedGates.{IsLockedGate}
 use Rattle.locked_gate.specs.declared.gate.Closing.{Closing}
 use Rattle.locked_slots.specs.LockedSlots.{IsLockedSlot}
 use Rattle.locked_slots.specs.OwnEvents.{IsOwnEvent, seat_after}
 use Rattle.object_commits.specs.BroughtSlots.{IsBroughtSlot, SeesWhole}
-use Rattle.object_commits.specs.Ends.{IsEndAt, slot_behind}
+use Rattle.object_commits.specs.Ends.{slot_behind}
 use Rattle.object_commits.specs.SlotCommits.{IsSlotCommit}
 use Rattle.object_slots.specs.Value.{SlotValue}
 use Rattle.store_commit.specs.Gates.{GateValue}
@@ -41,7 +41,7 @@ CommitsEndSlots F R E =
     (store : Store) (gate : GateValue F R) (knows : GateView) (closing : Option Closing) (caller : CallerSession E) (call : Call) (reply : Reply) (change : EntryChange) (slot : SlotValue) (seat : Sight SlotView)
     (versions : TagVersions) (end : CommitEnd) → IsLockedGate store gate knows closing → gate.doubt ≡ None → IsCalm store knows caller
     → IsSlotCommit store knows gate.dir.dir.entries gate.counter caller.number caller.made call reply change slot.file seat.knows versions → IsBroughtSlot store slot seat versions
-    → SeesWhole knows seat → IsEndAt gate.counter end
+    → SeesWhole knows seat → IsCommitEnd gate.counter end
     → IsEndedSlot store slot (seat_after knows seat (end_event end caller.number caller.made call reply) (versions_told end versions)) end (length knows.all)
 
 -- Behind it the slot may stand behind its lock.

@@ -1,18 +1,9 @@
 -- The ends of a commit, on the side of its slot.
-use Rattle.std.specs.Prelude.{None, Option, Some, ℕ, ◌+◌, ◌<◌, ◌^◌, ◌≡◌}
+use Rattle.std.specs.Prelude.{None, Option, Some, ℕ}
 use Rattle.history_seats.specs.Views.{Sight, SlotView}
 use Rattle.object_slots.specs.Value.{Holding, SlotValue, with_stage, without_stage}
-use Rattle.rpmb_card.specs.Protocol.{last_counter}
 use Rattle.store_commit.specs.declared.change.CommitEnd.{CommitEnd}
 use Rattle.store_commit.specs.declared.change.CommitEnd.TheVariants.{Doubtful, Dropped, Made, Spent}
-use Rattle.store_model.specs.Record.{file_at_fault}
-
--- Such an end comes of a commit at that counter: its number is the next one, and no object's file is accused.
-abbrev pub IsEndAt : (counter : ℕ) → CommitEnd → Type 0
-IsEndAt counter (Made n) = (n ≡ counter + 1) × (n < 2 ^ 32)
-IsEndAt counter (Dropped cause) = file_at_fault cause ≡ None
-IsEndAt counter (Doubtful n cause) = (n ≡ counter + 1) × (n < 2 ^ 32) × (file_at_fault cause ≡ None)
-IsEndAt counter Spent = counter ≡ last_counter
 
 -- what the slot holds behind it
 abbrev pub holds_behind : Holding → CommitEnd → Holding

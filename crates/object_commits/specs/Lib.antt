@@ -7,3 +7,4 @@ pub mod NameLaws
 pub mod CreateLaws
 pub mod Ends
 pub mod EndLaws
+pub mod Bringing

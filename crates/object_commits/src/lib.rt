@@ -5,9 +5,11 @@
 //! commit is made, or it is not, or it is in doubt; and the slot adopts its stage, or gives it up, or keeps it until the doubt is resolved.
 #![tactic(auto)]
 
+mod bringing;
 mod laws;
 mod settling;
 
+pub use bringing::bring;
 pub use laws::{
     commits_end_slots, creates_may_commit, deletes_may_commit, ended_slots_are_locked,
     handles_are_own, new_seats_are_locked, new_slots_are_brought, renames_may_commit,

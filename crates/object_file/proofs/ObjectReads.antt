@@ -120,7 +120,8 @@ corrupt_answer root key tree old new at n c (Err (Failed count)) verified few ba
 corrupt_answer root key tree old new at n c (Err (BadHead long greatest)) verified few bad rests first told = tt
 corrupt_answer root key tree old new at n c (Err (Short end need)) verified few bad rests first told = tt
 corrupt_answer root key tree old new at n c (Err (Damaged node want found)) verified few bad rests first told = tt
-corrupt_answer root key tree old new at n c (Err (NoEntropy count)) verified few bad rests first told = tt
+corrupt_answer root key tree old new at n c (Err (NoEntropy count)) verified few bad rests read told =
+    ap (list_any (meets_block at (at + n))) bad ∙ read_sound root key tree old new at n verified few told read
 corrupt_answer root key tree old new at n c (Err NoMemory) verified few bad rests first told = tt
 
 -- and what bytes it gives

@@ -1,5 +1,6 @@
 -- What the stage of a change of bytes leaves of the object in them.
-use Rattle.std.proofs.Common.{◌≡◌, ◌∙◌, ℕ, ◌+◌, ◌*◌, ◌<◌, ◌≤◌, max, List, length, Option, Result, Ok, Err, true, IfErr, IsSome, ap, sym, subst, refl, arith}
+use Rattle.std.proofs.Common.{◌≡◌, ◌∙◌, ℕ, ◌+◌, ◌*◌, ◌<◌, ◌≤◌, max, List, length, Option, Result, Ok, Err, true, false, IfErr, IsSome, ap, sym, subst, refl, arith}
+use Rattle.std.specs.List.{list_any}
 use Rattle.aes_block.specs.WrappedKey.{unwrapped_of}
 use Rattle.disk_model.specs.Bytes.{after_resize, after_write}
 use Rattle.disk_model.specs.State.{FileState}
@@ -19,7 +20,7 @@ use Rattle.page_bytes.specs.declared.range.ByteRange.{ByteRange}
 use Rattle.page_bytes.specs.Pages.{page_at}
 use Rattle.page_bytes.specs.Ranges.{needs, resize_range, write_range}
 use Rattle.page_bytes.proofs.Content.{length-after_write, length-bytes_from}
-use Rattle.block_file.specs.Reads.{BlocksAnswer, IsBadTag, IsEarlyFault}
+use Rattle.block_file.specs.Reads.{BlocksAnswer, IsBadTag, IsEarlyFault, WasRead}
 use Rattle.block_file.specs.Stages.{IsAfter, LeavesBytes, bytes_in}
 use Rattle.store_model.specs.Data.{needs_block, resized_contents, written_contents}
 use Rattle.store_model.specs.Object.{Contents, Damaged, Sound}
@@ -115,13 +116,17 @@ module _ (key : List ℕ) (root : RootRef) (tree : Loaded) (a c : FileState) (si
   long : length pages ≡ length tree.nodes
   long = length-row (page_in a.reads key tree) (length tree.nodes)
 
-  -- a change of the object asks for the blocks that its tree needs
-  pub corrupt_change : (attributes bytes : List ℕ) (A : Type 0) (result : Result A TreeFault) → BlocksAnswer key tree a c (needs range) result → IfErr result (λ e. IsBadTag e → Rests a c)
-      → CorruptAnswer (record { attributes = attributes; bytes = bytes; bad = bad_blocks pages }) (needs_block size first last) result
-  corrupt_change attributes bytes A (Ok done) blocks early = bad-needed pages size first last (λ k one lt needed.
+  -- where the blocks that it needs were read, none of them is bad
+  none_bad : ((k : ℕ) → needs range k ≡ true → WasRead key tree a c k) → list_any (needs_block size first last) (bad_blocks pages) ≡ false
+  none_bad blocks = bad-needed pages size first last (λ k one lt needed.
       let read = blocks k needed in
       let stands = page_stands key tree a c k read.0 told read.1 in
       subst (λ (o : Option (List ℕ)). IsSome o) (sym (page_is k (subst (λ (n : ℕ). k < n) long lt) ∙ stands)) refl)
+
+  -- a change of the object asks for the blocks that its tree needs
+  pub corrupt_change : (attributes bytes : List ℕ) (A : Type 0) (result : Result A TreeFault) → BlocksAnswer key tree a c (needs range) result → IfErr result (λ e. IsBadTag e → Rests a c)
+      → CorruptAnswer (record { attributes = attributes; bytes = bytes; bad = bad_blocks pages }) (needs_block size first last) result
+  corrupt_change attributes bytes A (Ok done) blocks early = none_bad blocks
   corrupt_change attributes bytes A (Err (BadTag k want found)) blocks early =
       let within = needed_within k blocks.is_asked in
       let bad = bad_stands key tree a c k want found (early tt) told blocks.bad in
@@ -130,7 +135,7 @@ module _ (key : List ℕ) (root : RootRef) (tree : Loaded) (a c : FileState) (si
   corrupt_change attributes bytes A (Err (BadHead n m)) blocks early = tt
   corrupt_change attributes bytes A (Err (Short end need)) blocks early = tt
   corrupt_change attributes bytes A (Err (DamagedNode n want found)) blocks early = tt
-  corrupt_change attributes bytes A (Err (NoEntropy count)) blocks early = tt
+  corrupt_change attributes bytes A (Err (NoEntropy count)) blocks early = none_bad blocks
   corrupt_change attributes bytes A (Err NoMemory) blocks early = tt
 
 -- a bad block was found by reads alone

@@ -55,10 +55,10 @@ read_change (Short end need) kind = absurd kind
 read_change (Damaged n want found) kind = absurd kind
 read_change (BadTag k want found) kind = tt
 
--- a bad tag is a bad block
+-- a bad tag is a bad block; where a draw failed none of those that were asked is bad
 pub corrupt_fault : (c : Contents) (asked : ℕ → Bool) (A B : Type 0) (fault : TreeFault) → IsChangeFault fault → TreeCorrupt c asked {A = A} (Err fault) → CorruptAnswer {A = B} c asked (Err (slot_fault fault))
 corrupt_fault c asked A B (TreeFailed count) kind was = tt
-corrupt_fault c asked A B (TreeNoEntropy count) kind was = tt
+corrupt_fault c asked A B (TreeNoEntropy count) kind was = was
 corrupt_fault c asked A B TreeNoMemory kind was = tt
 corrupt_fault c asked A B (BadHead long greatest) kind was = absurd kind
 corrupt_fault c asked A B (Short end need) kind was = absurd kind

@@ -117,11 +117,11 @@ needed_data : (r : ByteRange) (k : ℕ) → 4096 ≤ r.first → needs r k ≡ t
 needed_data r k behind is = grind (arith, behind, is)
 
 pub changes_give : ChangesGive
-changes_give wrap old new o c root s key long verified behind front stage =
+changes_give wrap old new o c key long verified behind front read =
     record {
       tree = o.tree.tree;
       verified = verified;
       long = long;
-      block = block wrap old new o key front (needs c.range) stage.read;
-      good = good_blocks wrap old new o key front (needs c.range) stage.read (λ k is. needed_data c.range k behind is);
+      block = block wrap old new o key front (needs c.range) read;
+      good = good_blocks wrap old new o key front (needs c.range) read (λ k is. needed_data c.range k behind is);
     }

@@ -95,7 +95,7 @@ module _ (o : HeldObject) (c : DataChange) (Undrawn : Type 0) where
   stage_fault : (old new : FileState) (stage : Option Staged) (A : Type 0) (fault : TreeFault) → IsChangeFault fault → OpensStage old new o c stage Undrawn {A = A} (Err fault)
       → StageFault old new o (needs c.range) Undrawn (slot_fault fault)
   stage_fault old new stage A (TreeFailed count) kind opens = tt
-  stage_fault old new stage A (TreeNoEntropy count) kind opens = opens.undrawn tt
+  stage_fault old new stage A (TreeNoEntropy count) kind opens = (opens.undrawn tt, opens.blocks)
   stage_fault old new stage A TreeNoMemory kind opens = opens.early tt
   stage_fault old new stage A (BadHead long greatest) kind opens = absurd kind
   stage_fault old new stage A (Short end need) kind opens = absurd kind

@@ -1,18 +1,17 @@
 -- What a slot's file gave for a read or a change, whatever the file is.
-use Rattle.std.specs.Prelude.{◌≡◌, ℕ, ◌+◌, ◌≤◌, ◌==◌, ◌||◌, List, length, take, Ok}
+use Rattle.std.specs.Prelude.{◌≡◌, ℕ, ◌+◌, ◌≤◌, ◌==◌, ◌||◌, List, length, take, true, Ok}
 use Rattle.disk_model.specs.State.{FileState}
 use Rattle.aes_block.specs.WrappedKey.{unwrapped_of}
-use Rattle.node_image.specs.declared.node.RootRef.{RootRef}
 use Rattle.htree_file.specs.Opening.{IsVerified}
-use Rattle.htree_file.specs.Value.{Staged}
 use Rattle.page_bytes.specs.Ranges.{needs}
+use Rattle.block_file.specs.Reads.{WasRead}
 use Rattle.tee_types.specs.declared.call.Call.TheVariants.{Read}
 use Rattle.tee_types.specs.declared.reply.Reply.TheVariants.{Content}
 use Rattle.suppositions.specs.Given.{Gave, Tells, is_asked, spelling_given}
 use Rattle.object_file.specs.Value.{size_in}
 use Rattle.object_slots.specs.Fronts.{HasFront}
 use Rattle.object_slots.specs.Reads.{ReadsObject}
-use Rattle.object_slots.specs.Stages.{DataChange, IsStageOf}
+use Rattle.object_slots.specs.Stages.{DataChange}
 use Rattle.object_slots.specs.Value.{HeldObject}
 
 -- A read that succeeds was given each block that it asked, and block 0 when the object was loaded or made; and the bytes are those that
@@ -24,9 +23,9 @@ ReadsTell =
     → (gave : Gave wrap o.tree.root (size_in o) (is_asked (size_in o) at (Read handle (length before))))
     × Tells (spelling_given gave) (size_in o) (length o.attributes) at (Read handle (length before)) (Content (take n after))
 
--- So was a change that was staged given each block that it needs.
+-- So was a change given each block that it needs, where these were read: for a stage, and where a draw failed.
 abbrev pub ChangesGive : Type 0
 ChangesGive =
-    (wrap : List ℕ) (old new : FileState) (o : HeldObject) (c : DataChange) (root : RootRef) (s : Staged) → o.tree.key ≡ unwrapped_of wrap o.tree.tree.head.wrapped
-    → o.tree.tree.head.length ≡ 4096 + size_in o → IsVerified o.tree.root o.tree.tree → 4096 ≤ c.range.first → HasFront o → IsStageOf old new o c root s
-    → Gave wrap o.tree.root (size_in o) (λ k. (k == 0) || needs c.range k)
+    (wrap : List ℕ) (old new : FileState) (o : HeldObject) (c : DataChange) → o.tree.key ≡ unwrapped_of wrap o.tree.tree.head.wrapped
+    → o.tree.tree.head.length ≡ 4096 + size_in o → IsVerified o.tree.root o.tree.tree → 4096 ≤ c.range.first → HasFront o
+    → ((k : ℕ) → needs c.range k ≡ true → WasRead o.tree.key o.tree.tree old new k) → Gave wrap o.tree.root (size_in o) (λ k. (k == 0) || needs c.range k)

@@ -12,7 +12,7 @@ use Rattle.store_model.specs.Data.{bytes_at, meets_block}
 use Rattle.object_file.specs.Held.{held_in}
 use Rattle.object_file.specs.Value.{size_in}
 use Rattle.object_slots.specs.declared.fault.SlotFault.{SlotFault}
-use Rattle.object_slots.specs.declared.fault.SlotFault.TheVariants.{Corrupt, Failed}
+use Rattle.object_slots.specs.declared.fault.SlotFault.TheVariants.{Corrupt, Failed, NoEntropy}
 use Rattle.object_slots.specs.Faults.{HasCause}
 use Rattle.object_slots.specs.Steps.{ReadSteps}
 use Rattle.object_slots.specs.Value.{HeldObject}
@@ -24,10 +24,12 @@ pub record HasBadBlock (old new : FileState) (o : HeldObject) (asked : ℕ → B
   pub found : List ℕ
   pub bad : IsFirstBad o.tree.key o.tree.tree old new asked block want found
 
--- A call that asks for blocks of an object's data succeeds where none of them is bad. Corrupt is answered where one is.
+-- A call that asks for blocks of an object's data succeeds where none of them is bad, and draws only where none is. Corrupt is answered
+-- where one is.
 abbrev pub CorruptAnswer : {A : Type 0} → Contents → (asked : ℕ → Bool) → Result A SlotFault → Type 0
 CorruptAnswer c asked (Ok answer) = list_any asked c.bad ≡ false
 CorruptAnswer c asked (Err Corrupt) = list_any asked c.bad ≡ true
+CorruptAnswer c asked (Err (NoEntropy count)) = list_any asked c.bad ≡ false
 CorruptAnswer c asked (Err fault) = Unit {0}
 
 -- how many bytes a read gives

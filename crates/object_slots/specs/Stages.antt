@@ -95,11 +95,12 @@ pub record IsStageOf (old new : FileState) (o : HeldObject) (c : DataChange) (ro
   -- in every image that an honest file may leave
   pub firm : IsTrue new.honest → load_of old.reads o.tree.root ≡ Ok o.tree.tree → IsFirm new s.root s.tree
 
--- why a change is refused: nothing was written or drawn where a block is bad or memory ran out, and nothing written where a draw failed
+-- Why a change is refused: nothing was written or drawn where a block is bad or memory ran out. Where a draw failed nothing was written,
+-- and each block that the change needs was read.
 abbrev pub StageFault : (old new : FileState) → HeldObject → (asked : ℕ → Bool) → (Undrawn : Type 0) → SlotFault → Type 0
 StageFault old new o asked Undrawn Corrupt = HasBadBlock old new o asked × Rests old new × Undrawn
 StageFault old new o asked Undrawn NoMemory = Rests old new × Undrawn
-StageFault old new o asked Undrawn (NoEntropy count) = Rests old new
+StageFault old new o asked Undrawn (NoEntropy count) = Rests old new × ((k : ℕ) → asked k ≡ true → WasRead o.tree.key o.tree.tree old new k)
 StageFault old new o asked Undrawn (Failed count) = Unit {0}
 
 abbrev pub StageLeaves : (old new : FileState) → HeldObject → DataChange → Holding → Result RootRef SlotFault → Type 0

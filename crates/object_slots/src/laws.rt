@@ -49,7 +49,7 @@ pub fn reads_tell()
     ensures { ReadsTell }
 {}
 
-/// So was a change that was staged given each block that it needs.
+/// So was a change given each block that it needs, where these were read: for a stage, and where a draw failed.
 pub fn changes_give()
     ensures { ChangesGive }
 {}

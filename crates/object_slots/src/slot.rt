@@ -268,7 +268,8 @@ impl<F: StoreFile + Drop> Slot<F> {
     /// # Errors
     ///
     /// `Corrupt` where a block that would keep old bytes beside the new ones is bad; nothing was drawn or written then, nor for
-    /// `NoMemory`. `NoEntropy` where a draw failed, before anything was written. Besides `Failed`. No stage is open then.
+    /// `NoMemory`. `NoEntropy` where a draw failed, once the blocks that the change needs were read and before anything was
+    /// written. Besides `Failed`. No stage is open then.
     pub fn stage_write<E: Entropy>(
         &mut self,
         alloc: Global,

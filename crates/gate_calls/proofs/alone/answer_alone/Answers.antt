@@ -1,6 +1,6 @@
 -- What is shown and settled first goes on in the answer.
 use Rattle.std.proofs.Common.{Option, Ok, ap, ◌∙◌, subst}
-use Rattle.gate_calls.specs.declared.served.Answer.{Answer}
+use Rattle.locked_gate.specs.declared.answered.Answer.{Answer}
 use Rattle.gate_calls.specs.Served.{ServesAlone}
 use Rattle.gate_calls.proofs.Serving.{serves-after-show, serves-behind, unserved-as}
 use Rattle.gate_calls.proofs.alone.answer_alone.Goals as goal

@@ -1,5 +1,5 @@
 -- Which call is a misuse.
-use Rattle.gate_calls.proofs.Misuses.{close-misuse, free-misuse, misuse-as, next-misuse, reset-misuse, seek-misuse, start-misuse}
+use Rattle.gate_calls.proofs.Misuses.{close-misuse, free-misuse, misuse-as, new-misuse, next-misuse, reset-misuse, seek-misuse, start-misuse}
 use Rattle.gate_calls.proofs.deciding.misuse.Goals as goal
 
 pub returns-in-Close : goal.returns-in-Close
@@ -9,6 +9,10 @@ returns-in-Close g c = λ s i m.
 pub returns-in-Seek : goal.returns-in-Seek
 returns-in-Seek g c = λ s i m.
     misuse-as s i c.args.session.now c.args.call.now _ c.unless_handle-in-Seek.result _ c.in-Seek.is c.unless_handle-in-Seek.ensures (seek-misuse s i c.args.session.now m.session c.in-Seek.handle _ _)
+
+pub returns-in-EnumNew : goal.returns-in-EnumNew
+returns-in-EnumNew g c = λ s i m.
+    misuse-as s i c.args.session.now c.args.call.now _ c.where_full.result _ c.in-EnumNew.is c.where_full.ensures (new-misuse s i c.args.session.now m.session)
 
 pub returns-in-EnumStart : goal.returns-in-EnumStart
 returns-in-EnumStart g c = λ s i m.

@@ -1,7 +1,6 @@
 -- The entry's object was loaded and read, or could not be.
-use Rattle.std.proofs.Common.{None, Some, sym, ap, subst}
+use Rattle.std.proofs.Common.{None, sym, subst}
 use Rattle.disk_model.specs.Calls.{GoesOn, Rests}
-use Rattle.disk_model.specs.State.{FileState}
 use Rattle.object_slots.specs.Value.{SlotValue}
 use Rattle.object_answers.specs.Ready.{IsReadyEntry}
 use Rattle.object_answers.proofs.Causes.{rests-then}

@@ -9,7 +9,9 @@ use Rattle.locked_slots.proofs.Contents.{seat_same}
 use Rattle.locked_gate.specs.SlotAnswers.{MayBeTold, slot_record}
 use Rattle.object_answers.proofs.AnswerMoves.{answer-moves}
 use Rattle.object_answers.proofs.EntryAnswers.{answer-told}
+use Rattle.object_answers.proofs.Meetings.{own-seat}
 use Rattle.object_answers.proofs.OwnAnswers.{answer-keeps, answered-seat}
+use Rattle.object_answers.proofs.ServedCalls.{answer-served}
 use Rattle.object_answers.proofs.telling.tell.Goals as goal
 
 pub answer_with-place-requires-clause-told : goal.answer_with-place-requires-clause-told
@@ -61,3 +63,14 @@ invariant_of-slot g c =
     ∙ ap (λ (x : Sight SlotView). record slot { seat = Some x }) back in
     subst (IsLockedSlot store) (sym is)
     (answer-keeps store gate.gate knows gate.closing c.doubt-doubt.ensures.locked c.doubt-doubt.ensures.entries c.doubt-doubt.ensures.machine low slot own c.args.call c.args.reply s may)
+
+pub returns-clause-served : goal.returns-clause-served
+returns-clause-served g c =
+    let store = g.L.StoreName.store in
+    let slot = c.args.slot.now in
+    let lent = c.lend_seat-seat.result in
+    let own : IsLockedSlot store slot = subst (IsLockedSlot store) c.slot.view_is c.slot.invariant in
+    let seat : slot.seat ≡ Some lent = sym (ap (λ (x : SlotValue). x.seat) c.slot.view_is) ∙ c.lend_seat-seat.ensures.seat in
+    let told = c.answer_with-place.ensures in
+    answer-served store c.args.gate.now c.answer_with-place.new.self c.args.session.now c.answer_with-place.new.session lent.knows slot.number c.answer_with-place.result.0 c.args.call c.args.reply c.args.told
+    (own-seat store slot lent seat own).own c.requires.copied told.place told.extends told.whole told.session told.knows told.spare told.gate told.notes told.closing

@@ -16,7 +16,8 @@ use Rattle.locked_gate.specs.LockedGates.{IsLockedGate, LockedGateValue, change_
 use Rattle.locked_gate.specs.Moves.{moved_by}
 use Rattle.locked_gate.proofs.EndedGates.{ended_locked}
 use Rattle.locked_gate.proofs.ReadyChanges.{change_fits, change_taken}
-use Rattle.locked_gate.proofs.ReadyEnds.{may_end}
+use Rattle.locked_gate.specs.Ends.{IsCommitEnd}
+use Rattle.locked_gate.proofs.ReadyEnds.{commit_end, may_end}
 use Rattle.locked_gate.proofs.gate.LockedGate.commit.Goals as goal
 
 pub commit-end-requires-clause-fits : goal.commit-end-requires-clause-fits
@@ -60,6 +61,16 @@ write_end-place-requires-clause-ends g c =
     (counts (g.F.StoreFile.state gate.dir.file) (g.R.RpmbPort.state gate.host.port) (g.E.Entropy.faults c.entropy_mut.result.now))
     (counts (g.F.StoreFile.state c.commit-end.new.self.dir.file) (g.R.RpmbPort.state c.commit-end.new.self.host.port) (g.E.Entropy.faults c.commit-end.new.entropy))
     end within c.commit-end.ensures.leaves c.commit-end.ensures.cause c.commit-end.ensures.spent
+
+pub returns-clause-end : goal.returns-clause-end
+returns-clause-end g c =
+    let gate = c.self.inside.gate in
+    let within : gate.counter < 2 ^ 32 = subst (λ (n : ℕ). n < 2 ^ 32) c.counter-counter.ensures c.counter-counter.type_inv in
+    subst (λ (v : LockedGateValue g.row.F.Denot g.row.R.Denot). IsCommitEnd v.gate.counter c.commit-end.result) c.self.view_is
+    (commit_end (gate_sides g.F.StoreFile.state g.R.RpmbPort.state gate) (gate_sides g.F.StoreFile.state g.R.RpmbPort.state c.commit-end.new.self) c.args.change gate.host.key
+    (counts (g.F.StoreFile.state gate.dir.file) (g.R.RpmbPort.state gate.host.port) (g.E.Entropy.faults c.entropy_mut.result.now))
+    (counts (g.F.StoreFile.state c.commit-end.new.self.dir.file) (g.R.RpmbPort.state c.commit-end.new.self.host.port) (g.E.Entropy.faults c.commit-end.new.entropy))
+    c.commit-end.result within c.commit-end.ensures.leaves c.commit-end.ensures.cause c.commit-end.ensures.spent)
 
 pub invariant_of-self : goal.invariant_of-self
 invariant_of-self g c =

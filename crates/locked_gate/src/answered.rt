@@ -1,11 +1,11 @@
-//! What a call is answered.
+//! What a call was answered.
 
 use tee_types::Reply;
 
-/// What a call is answered.
+/// What a call was answered, and the place of its event in the history.
 #[derive(Debug, Drop)]
 pub struct Answer {
-    /// The place of its event in the history.
+    /// The place.
     pub place: u64,
     /// The reply.
     pub reply: Reply,

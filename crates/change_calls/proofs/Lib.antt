@@ -1,0 +1,12 @@
+pub mod Replies
+pub mod Appends
+pub mod MeantCalls
+pub mod Refusals
+pub mod MeantChanges
+pub mod MovedSessions
+pub mod Failures
+pub mod Unstaged
+pub mod BroughtChanges
+pub mod Results
+pub mod Tried
+pub mod Answered

@@ -1,0 +1,6 @@
+pub mod Replies
+pub mod Causes
+pub mod Appending
+pub mod Meant
+pub mod Renewed
+pub mod Changed

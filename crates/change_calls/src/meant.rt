@@ -1,0 +1,73 @@
+//! Calls on an open object that are answered whatever its bytes are.
+
+ghost use Rattle.std.specs.Prelude.{◌≡◌, ◌≤◌, ℕ, None, Some};
+ghost use Rattle.change_calls.specs.Meant.{IsMeantAnyhow};
+ghost use Rattle.change_calls.specs.Replies.{IsDoneOrRefused};
+ghost use Rattle.crash_core.specs.EntryLists.{entry_at};
+ghost use Rattle.history_seats.specs.Records.{Version};
+ghost use Rattle.locked_gate.specs.Commits.{IsCalm};
+ghost use Rattle.object_answers.specs.Meeting.{IsAtEntry};
+ghost use Rattle.object_answers.specs.Served.{IsServed};
+
+use crate::appending::append;
+use call_history::Session;
+use dir_records::DirEntry;
+use locked_gate::{Answer, LockedGate};
+use locked_slots::LockedSlot;
+use object_answers::meet;
+use rpmb_card::RpmbPort;
+use suppositions::StoreName;
+use tee_ports::{Entropy, StoreFile};
+use tee_types::{Call, Reply};
+
+// Shows the whole history to the slot of an entry's file, whose session saw it already. Nothing is loaded.
+fn attend<F: StoreFile + Drop, R: RpmbPort + Drop, L: StoreName, E: Entropy>(
+    gate: &mut LockedGate<F, R, L>,
+    slot: &mut LockedSlot<F, L>,
+    session: &mut Session<E>,
+    entry: &DirEntry,
+)
+    requires idle { gate.old.gate.doubt ≡ None }
+    requires calm { IsCalm L.store gate.old.journal.knows session.old }
+    requires entry { (index : ℕ) × (entry_at gate.old.gate.dir.dir.entries index ≡ Some entry.now) }
+    requires file { slot.old.number ≡ entry.now.file }
+    ensures gate { gate.new ≡ gate.old }
+    ensures session { session.new ≡ session.old }
+    ensures number { slot.new.number ≡ slot.old.number }
+    ensures file { slot.new.file ≡ slot.old.file }
+    ensures at { (v : Version) × IsAtEntry gate.old.journal.knows slot.new entry.now v }
+{
+    // Tells what always holds of the gate.
+    let _doubt = gate.doubt();
+    meet(gate, &mut slot.slot, session);
+}
+
+// Answers a call on the object of an entry as the machine does, whatever the object's bytes are.
+pub(crate) fn answer_meant<F: StoreFile + Drop, R: RpmbPort + Drop, L: StoreName, E: Entropy>(
+    gate: &mut LockedGate<F, R, L>,
+    slot: &mut LockedSlot<F, L>,
+    session: &mut Session<E>,
+    entry: &DirEntry,
+    call: Call,
+    reply: Reply,
+) -> Answer
+    requires room { 1 ≤ gate.old.journal.spare }
+    requires handle { 1 ≤ gate.old.gate.open_handles.spare }
+    requires idle { gate.old.gate.doubt ≡ None }
+    requires calm { IsCalm L.store gate.old.journal.knows session.old }
+    requires entry { (index : ℕ) × (entry_at gate.old.gate.dir.dir.entries index ≡ Some entry.now) }
+    requires file { slot.old.number ≡ entry.now.file }
+    requires kind { IsDoneOrRefused reply }
+    requires meant { IsMeantAnyhow gate.old.gate session.old entry.now call reply }
+    ensures served { IsServed L.store gate.old gate.new session.old session.new slot.old.number call result }
+    ensures reply { result.reply ≡ reply }
+    ensures number { slot.new.number ≡ slot.old.number }
+    ensures file { slot.new.file ≡ slot.old.file }
+    ensures entropy { session.new.entropy ≡ session.old.entropy }
+{
+    attend(gate, slot, session, entry);
+    // Tell what always holds of the gate.
+    let _doubt = gate.doubt();
+    let _counter = gate.counter();
+    append(gate, slot, session, call, reply)
+}

@@ -1,0 +1,45 @@
+-- The session behind a create whose commit is made has the new handle.
+use Rattle.std.proofs.Common.{List, [], ap, length, subst, sym, true, ℕ, ◌<◌, ◌∙◌, ◌≡◌}
+use Rattle.std.proofs.lemmas.List.{get_or-set_same}
+use Rattle.call_history.specs.Calls.{LeavesSession}
+use Rattle.call_history.specs.Sessions.{CallerSession}
+use Rattle.create_calls.specs.Rules.{NewObject, create_call}
+use Rattle.history_seats.specs.Views.{GateView}
+use Rattle.locked_gate.proofs.Knowing.{shown_stand}
+use Rattle.locked_gate.specs.Commits.{IsCalm}
+use Rattle.locked_gate.specs.Moves.{moved_by}
+use Rattle.locked_gate.specs.declared.moves.SessionMove.TheVariants.{Opens}
+use Rattle.machine_shape.proofs.MadeOpens.{create-done}
+use Rattle.store_model.proofs.MadeChanges.{unrefused}
+use Rattle.store_model.specs.Calls.{is_commit, reply_of, state_after}
+use Rattle.store_model.specs.Machine.{MachineState, Outcome, Session, new_session, session_at}
+use Rattle.suppositions.specs.Stores.{Store, standing_at}
+use Rattle.tee_types.specs.Rights.{without_overwrite}
+use Rattle.tee_types.specs.declared.call.Call.{Call}
+use Rattle.tee_types.specs.declared.flags.Flags.{Flags}
+
+-- the session with a handle on the new object
+abbrev pub with_new_handle : Session → NewObject → Session
+with_new_handle s new = moved_by s (Opens (record { app = s.application; id = new.id }) (without_overwrite new.flags))
+
+created_session : (s : MachineState) (i : ℕ) (new : NewObject) → i < length s.sessions → is_commit s i (create_call new) (reply_of s i (create_call new)) ≡ true
+    → session_at (state_after s i (create_call new)) i ≡ with_new_handle (session_at s i) new
+created_session s i new within due =
+    ap (λ (o : Outcome). session_at o.next i) (create-done s i new.id new.flags new.attributes new.bytes (unrefused s i (create_call new) due))
+    ∙ get_or-set_same s.sessions i (with_new_handle (session_at s i) new) (new_session []) within
+
+pub create_leaves : {E : Type 0} (store : Store) (knows : GateView) (caller : CallerSession E) (new : NewObject) → IsCalm store knows caller
+    → LeavesSession store knows caller.number (create_call new) (with_new_handle caller.state new)
+create_leaves {E = E} store knows caller new calm guess answered due =
+    let here = standing_at store guess knows.all in
+    let stands = shown_stand E store knows caller calm.caller calm.sees guess answered in
+    created_session here.state caller.number new stands.within due ∙ ap (λ (x : Session). with_new_handle x new) stands.is
+
+-- so it does of the session that drew from its generator
+pub drawn_leaves : {E : Type 0} (store : Store) (knows : GateView) (was mid : CallerSession E) (new : NewObject) (call : Call) (app : List ℕ) (flags : Flags) → mid ≡ record was { entropy = mid.entropy } → IsCalm store knows was
+    → call ≡ create_call new → app ≡ mid.state.application → flags ≡ without_overwrite new.flags
+    → LeavesSession store knows mid.number call (moved_by mid.state (Opens (record { app = app; id = new.id }) flags))
+drawn_leaves {E = E} store knows was mid new call app flags drawn calm is of bits =
+    subst (λ (p : CallerSession E × Call × List ℕ × Flags). LeavesSession store knows p.0.number p.1 (moved_by p.0.state (Opens (record { app = p.2; id = new.id }) p.3)))
+    (λ i. (sym drawn i, sym is i, sym (of ∙ ap (λ (s : CallerSession E). s.state.application) drawn) i, sym bits i))
+    (create_leaves store knows was new calm)

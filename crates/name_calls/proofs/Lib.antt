@@ -1,0 +1,2 @@
+pub mod BroughtNames
+pub mod NameMoves

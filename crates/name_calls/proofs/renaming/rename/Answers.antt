@@ -1,0 +1,57 @@
+-- The rename may be brought with its slot; and where the object is another application's, no supposition answers the history.
+use Rattle.std.proofs.Common.{◌≡◌, ℕ, List, rules, sym, ap, ◌∙◌, subst}
+use Rattle.call_history.specs.Calls.{LeavesSession}
+use Rattle.call_history.specs.Sessions.{CallerSession}
+use Rattle.history_seats.specs.Changes.{TagVersions}
+use Rattle.locked_gate.specs.LockedGates.{LockedGateValue}
+use Rattle.locked_gate.specs.Moves.{moved_by}
+use Rattle.locked_gate.specs.declared.moves.SessionMove.{SessionMove}
+use Rattle.object_commits.proofs.Names.{handles_own}
+use Rattle.object_commits.specs.Bringing.{IsBrought}
+use Rattle.object_commits.specs.NameLaws.{kept_versions}
+use Rattle.store_commit.specs.Changes.{change_of}
+use Rattle.store_commit.specs.declared.change.EntryChange.{EntryChange}
+use Rattle.store_model.specs.declared.name.ObjectName.{ObjectName}
+use Rattle.tee_types.specs.declared.call.Call.TheVariants.{Rename}
+use Rattle.tee_types.specs.declared.reply.Reply.TheVariants.{Done}
+use Rattle.dir_index.specs.Index.{named}
+use Rattle.name_calls.proofs.BroughtNames.{rename-brought}
+use Rattle.name_calls.proofs.NameMoves.{rename-moves}
+use Rattle.name_calls.specs.NameChanges.{rename_step}
+use Rattle.name_calls.proofs.renaming.rename.Goals as goal
+
+pub bring-requires-clause-brought : goal.bring-requires-clause-brought
+bring-requires-clause-brought g c =
+    let store = g.L.StoreName.store in
+    let gate = c.args.gate.now in
+    let found = c.args.found.now in
+    let met = c.meet_entry.ensures in
+    let slot = c.meet_entry.new.slot in
+    let same : found.held.entry.app ≡ c.app-app.result = search rules in
+    subst (λ (x : LockedGateValue g.row.F.Denot g.row.R.Denot × CallerSession g.row.E.Denot × EntryChange).
+    (versions : TagVersions) × IsBrought store x.0.gate x.0.journal.knows slot x.1 (Rename c.args.handle c.args.id) Done (change_of x.2) versions)
+    (λ i. (sym met.gate i, sym met.session i, sym c.change_for.ensures i)) (
+      kept_versions met.at.0,
+      rename-brought store gate.gate gate.journal.knows gate.closing met.known met.entries c.requires.idle c.args.session.now c.requires.calm c.args.handle found c.requires.found.opened
+          slot met.locked met.at.0 met.at.1 c.args.id c.requires.renames c.requires.unnamed (same ∙ c.app-app.ensures),
+    )
+
+pub bring-requires-clause-moved : goal.bring-requires-clause-moved
+bring-requires-clause-moved g c =
+    let store = g.L.StoreName.store in
+    let gate = c.args.gate.now in
+    let met = c.meet_entry.ensures in
+    let step : c.step_for.result ≡ rename_step c.args.found.now c.args.handle (named c.args.session.now.state.application c.args.id) =
+    c.step_for.ensures ∙ ap (λ (a : List ℕ). rename_step c.args.found.now c.args.handle (named a c.args.id)) c.app-app.ensures in
+    subst (λ (x : LockedGateValue g.row.F.Denot g.row.R.Denot × CallerSession g.row.E.Denot × SessionMove).
+    LeavesSession store x.0.journal.knows x.1.number (Rename c.args.handle c.args.id) (moved_by x.1.state x.2))
+    (λ i. (sym met.gate i, sym met.session i, sym step i))
+    (rename-moves store gate.journal.knows gate.gate.dir.dir.entries gate.gate.open_handles met.machine c.args.session.now c.requires.calm c.args.handle c.args.found.now c.requires.found
+    c.args.id c.requires.unnamed)
+
+pub returns-then-ne-clause-unanswered : goal.returns-then-ne-clause-unanswered
+returns-then-ne-clause-unanswered g c =
+    let found = c.args.found.now in
+    let apart : found.held.entry.app ≡ c.app-app.result → ⊥ = search rules in
+    let own = handles_own g.row.E.Denot g.L.StoreName.store c.args.gate.now.journal.knows c.args.session.now c.args.handle found.handle c.requires.calm c.requires.found.opened.live in
+    λ guess answered. apart (ap (λ (n : ObjectName). n.app) c.requires.found.opened.named.1 ∙ own guess answered ∙ sym c.app-app.ensures)
