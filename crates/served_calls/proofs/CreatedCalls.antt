@@ -1,0 +1,196 @@
+-- What a create leaves of the store that serves it.
+use Rattle.std.proofs.Common.{◌≡◌, ◌<◌, ◌++◌, ◌∷◌, ◌+◌, [], ℕ, List, Err, None, Ok, Result, Some, length, slice_index_or, refl, sym, ap, ◌∙◌, subst, inl, inr}
+use Rattle.std.specs.Prelude.{slice_set}
+use Rattle.call_history.specs.Sessions.{CallerSession, IsCallerOf}
+use Rattle.call_rules.specs.declared.decision.NewPlace.{NewPlace}
+use Rattle.create_calls.specs.Created.{Creates, IsAnsweredOrNot, IsBroughtNew, IsUntold}
+use Rattle.create_calls.specs.Created.IsAnswered.{Brought, Unmade}
+use Rattle.create_calls.specs.Reserving.{given_back}
+use Rattle.create_calls.specs.Rules.{NewObject, create_call}
+use Rattle.create_calls.specs.Seating.{reseated}
+use Rattle.create_calls.specs.Unmade.{IsToldUnmade, UnmadeCause}
+use Rattle.disk_model.specs.Calls.{GoesOn as FileGoesOn}
+use Rattle.disk_model.specs.State.{FileState}
+use Rattle.history_seats.specs.Records.{HistoryRecord}
+use Rattle.history_seats.specs.Views.{GateView}
+use Rattle.locked_gate.specs.declared.answered.Answer.{Answer}
+use Rattle.locked_gate.specs.LockedGates.{LockedGateValue}
+use Rattle.object_commits.specs.CreateLaws.{index_of_place, new_entry}
+use Rattle.object_slots.specs.Value.{SlotValue}
+use Rattle.rpmb_card.specs.Port.{PortState}
+use Rattle.store_commit.specs.Gates.{GateValue}
+use Rattle.store_commit.specs.Holds.{file_held}
+use Rattle.store_commit.specs.declared.change.EntryChange.{EntryChange}
+use Rattle.store_commit.specs.declared.change.EntryChange.TheVariants.{Put}
+use Rattle.store_model.specs.declared.event.Mark.TheVariants.{Unchanged}
+use Rattle.core_parts.specs.Joined.{IsObjectFile}
+use Rattle.suppositions.specs.Stores.{Store}
+use Rattle.tee_types.specs.declared.call.Call.{Call}
+use Rattle.tee_types.specs.declared.reply.Cause.TheVariants.{CardResult, Fault, Frame}
+use Rattle.tee_types.specs.declared.reply.Device.TheVariants.{Card, Dir, Entropy, File}
+use Rattle.tee_types.specs.declared.reply.Reply.{Reply}
+use Rattle.tee_types.specs.declared.reply.Reply.TheVariants.{CounterSpent, Handle, NotAvailable}
+use Rattle.served_calls.specs.Appended.{AppendsCall}
+use Rattle.served_calls.specs.Devices.{AccusesRightly, Devices, Grows}
+use Rattle.served_calls.specs.Held.{HoldsForDoubt}
+use Rattle.served_calls.specs.Slots.{AreSlots}
+use Rattle.served_calls.specs.Standing.{ServesObject, Serving, devices_in}
+use Rattle.served_calls.proofs.ChangedCalls.{change_accuses}
+use Rattle.served_calls.proofs.CommittedCalls.{committed_appends, committed_grows, end_accuses, unheld}
+use Rattle.served_calls.proofs.Counting.{grows_le}
+use Rattle.served_calls.proofs.HeldFiles.{IsHeldAlone, committed_holds, quiet_given, reserved_alone}
+use Rattle.served_calls.proofs.ToldCalls.{GatesGrow, is_object_file, none_appended, serves_err, serves_ok}
+
+-- the gate once the session holds that file
+abbrev pub reserved : {F R : Type 0} → (session file : ℕ) → LockedGateValue F R → LockedGateValue F R
+reserved session file g = record g { gate = record g.gate { holds = slice_set g.gate.holds session (Some file) } }
+
+-- the same event, between gates with the same histories
+moved_appends : {F R E : Type 0} (store : Store) (old new from to : LockedGateValue F R) (was now : CallerSession E) (call : Call) (answer : Answer)
+    → from.journal.knows.all ≡ old.journal.knows.all → new.journal.knows.all ≡ to.journal.knows.all → AppendsCall store from to was now call answer → AppendsCall store old new was now call answer
+moved_appends store old new from to was now call answer began ended a = record {
+  mark = a.mark;
+  extends = a.extends;
+  whole = a.whole;
+  made = a.made;
+  place = a.place ∙ ap length began;
+  last = a.last;
+  event = a.event;
+  tagged = a.tagged;
+  all = ended ∙ a.all ∙ ap (λ (l : List HistoryRecord). l ++ a.last ∷ []) began;
+}
+
+unmade_drawn : (counter file : ℕ) (old new : FileState) (Reliable : Type 0) (drew draws : ℕ) (reply : Reply) → UnmadeCause counter file old new Reliable drew draws reply → Grows drew draws
+unmade_drawn counter file old new Reliable drew draws (NotAvailable (Fault (File n) count)) cause = inl cause.2
+unmade_drawn counter file old new Reliable drew draws (NotAvailable (Fault Entropy count)) cause = inr cause.1
+unmade_drawn counter file old new Reliable drew draws (NotAvailable (Fault Dir count)) cause = absurd cause
+unmade_drawn counter file old new Reliable drew draws (NotAvailable (Fault Card count)) cause = absurd cause
+unmade_drawn counter file old new Reliable drew draws (NotAvailable (Frame fault)) cause = absurd cause
+unmade_drawn counter file old new Reliable drew draws (NotAvailable (CardResult result)) cause = absurd cause
+unmade_drawn counter file old new Reliable drew draws (CounterSpent last) cause = inl cause.3
+unmade_drawn counter file old new Reliable drew draws reply cause = absurd cause
+
+module _ {F R E : Type 0} (of_file : F → FileState) (of_port : R → PortState) (draws : E → ℕ) (store : Store) (old behind : LockedGateValue F R) (slots : List SlotValue) (place : ℕ) (before after : SlotValue)
+    (was now : CallerSession E) (are : AreSlots slots) (within : place < length slots) (stands : before ≡ slice_index_or slots place before) (same : after.number ≡ before.number)
+    (idle : old.gate.doubt ≡ None) (held : HoldsForDoubt old.gate) (holds : file_held (slice_set old.gate.holds was.number (Some before.number)) was.number ≡ Some before.number)
+    (file : Grows (before.file).faults (after.file).faults) where
+  abbrev new : LockedGateValue F R
+  new = given_back was.number behind
+
+  -- the gate as the create begins
+  abbrev mid : LockedGateValue F R
+  mid = reseated store before.number (reserved was.number before.number old)
+
+  abbrev from : Serving F R E
+  from = record { gate = old; slots = slots; session = was }
+
+  abbrev to : Serving F R E
+  to = record { gate = new; slots = slice_set slots place after; session = now }
+
+  abbrev d0 : Devices
+  d0 = devices_in of_file of_port draws from
+
+  abbrev d1 : Devices
+  d1 = devices_in of_file of_port draws to
+
+  alone : IsHeldAlone was.number before.number mid.gate.holds
+  alone = reserved_alone old.gate.holds was.number before.number (unheld old.gate held idle) holds
+
+  object_file : IsObjectFile before.number
+  object_file = is_object_file of_file of_port draws store old new slots place before after was now are within stands same
+
+  brought_serves : (object : NewObject) (new_place : NewPlace) (Reliable : Type 0) (answer : Answer) (X : Type 0)
+      → IsBroughtNew of_file of_port store mid behind before.number was now object new_place Reliable (draws was.entropy) (draws now.entropy) answer
+      → ServesObject of_file of_port draws {X = X} store from to (create_call object) (Ok answer)
+  brought_serves object new_place Reliable answer X b =
+      let own : Reply = Handle was.state.next_handle in
+      let change : EntryChange = Put (index_of_place new_place) (new_entry was.state.application object.id b.view b.next) in
+      let c = b.committed in
+      let grows : GatesGrow of_file of_port draws mid.gate behind.gate was now =
+      committed_grows of_file of_port draws store mid behind before.number was now (create_call object) own change Reliable answer object_file c in
+      serves_ok of_file of_port draws store old new slots place before after was now are within stands same (create_call object) answer
+      (moved_appends store old new mid behind was now (create_call object) answer refl refl
+      (committed_appends of_file of_port draws store mid behind before.number was now (create_call object) own change Reliable answer object_file c))
+      (subst (AccusesRightly d0 d1) (sym c.reply) (end_accuses of_file of_port draws mid behind slots (slice_set slots place after) was now c.end own c.gate.counts_are tt))
+      (committed_holds was.number before.number behind change c.end mid.gate.holds alone c.gate.holds c.gate.doubt (ap (λ (n : ℕ). Some n) b.file_is))
+      (record { dir = grows.dir; card = grows.card; drawn = grows.drawn }) file X
+
+  unmade_accuses : (counter : ℕ) (Reliable : Type 0) (reply : Reply) → UnmadeCause counter before.number before.file after.file Reliable (draws was.entropy) (draws now.entropy) reply
+      → AccusesRightly d0 d1 reply
+  unmade_accuses counter Reliable (NotAvailable (Fault (File n) count)) cause =
+      change_accuses of_file of_port draws store old new slots place before after was now are within stands same Reliable (NotAvailable (Fault (File n) count)) cause
+  unmade_accuses counter Reliable (NotAvailable (Fault Entropy count)) cause = (cause.1, cause.2)
+  unmade_accuses counter Reliable (NotAvailable (Fault Dir count)) cause = absurd cause
+  unmade_accuses counter Reliable (NotAvailable (Fault Card count)) cause = absurd cause
+  unmade_accuses counter Reliable (NotAvailable (Frame fault)) cause = absurd cause
+  unmade_accuses counter Reliable (NotAvailable (CardResult result)) cause = absurd cause
+  unmade_accuses counter Reliable reply cause = tt
+
+  unmade_appends : (call : Call) (answer : Answer) → IsToldUnmade store mid behind before.number was now call answer → AppendsCall store mid behind was now call answer
+  unmade_appends call answer t = record {
+    mark = Unchanged;
+    extends = t.extends;
+    whole = t.whole;
+    made = t.made;
+    place = t.place;
+    last = t.last;
+    event = t.event;
+    tagged = λ other is_tag. subst IsObjectFile (some_number other (sym t.tagged ∙ is_tag)) object_file;
+    all = ap (λ (k : GateView). k.all) t.knows;
+  }
+    where
+      some_number : (other : ℕ) → Some before.number ≡ Some other → before.number ≡ other
+      some_number other e = cc
+
+  unmade_serves : (call : Call) (counter : ℕ) (Reliable : Type 0) (answer : Answer) (X : Type 0) → IsToldUnmade store mid behind before.number was now call answer
+      → UnmadeCause counter before.number before.file after.file Reliable (draws was.entropy) (draws now.entropy) answer.reply
+      → ServesObject of_file of_port draws {X = X} store from to call (Ok answer)
+  unmade_serves call counter Reliable answer X t cause =
+      serves_ok of_file of_port draws store old new slots place before after was now are within stands same call answer
+      (moved_appends store old new mid behind was now call answer refl refl (unmade_appends call answer t)) (unmade_accuses counter Reliable answer.reply cause)
+      (quiet_given was.number before.number behind mid.gate.holds alone (ap (λ (g : GateValue F R). g.holds) t.gate) (ap (λ (g : GateValue F R). g.doubt) t.gate ∙ idle)) (record {
+        dir = inl (ap (λ (g : GateValue F R). (of_file g.dir.file).faults) t.gate);
+        card = inl (ap (λ (g : GateValue F R). (of_port g.host.port).faults) t.gate);
+        drawn = unmade_drawn counter before.number before.file after.file Reliable (draws was.entropy) (draws now.entropy) answer.reply cause;
+      }) file X
+
+  untold_serves : (call : Call) (X : Type 0) (e : X) → IsUntold mid behind before.file after.file was now (draws was.entropy) (draws now.entropy) → IsCallerOf store was
+      → ServesObject of_file of_port draws {X = X} store from to call (Err e)
+  untold_serves call X e u caller =
+      serves_err of_file of_port draws store old new slots place before after was now are within stands same call X e
+      (none_appended store old new was now caller (ap (λ (g : LockedGateValue F R). g.journal.knows.all) u.gate) u.session)
+      (quiet_given was.number before.number behind mid.gate.holds alone (ap (λ (g : LockedGateValue F R). g.gate.holds) u.gate) (ap (λ (g : LockedGateValue F R). g.gate.doubt) u.gate ∙ idle))
+      (record {
+        dir = inl (ap (λ (g : LockedGateValue F R). (of_file g.gate.dir.file).faults) u.gate);
+        card = inl (ap (λ (g : LockedGateValue F R). (of_port g.gate.host.port).faults) u.gate);
+        drawn = inl u.undrawn;
+      }) file
+
+  answered_serves : (object : NewObject) (new_place : NewPlace) (Reliable X : Type 0) (result : Result Answer X) → IsCallerOf store was
+      → IsAnsweredOrNot of_file of_port store mid behind before.number before.file after.file was now object new_place Reliable (draws was.entropy) (draws now.entropy) result
+      → ServesObject of_file of_port draws store from to (create_call object) result
+  answered_serves object new_place Reliable X (Ok answer) caller (Brought b passed) = brought_serves object new_place Reliable answer X b
+  answered_serves object new_place Reliable X (Ok answer) caller (Unmade t cause) = unmade_serves (create_call object) mid.gate.counter Reliable answer X t cause
+  answered_serves object new_place Reliable X (Err e) caller untold = untold_serves (create_call object) X e untold caller
+
+-- a create with the slot of the file that was reserved, of which memory may have run out
+pub created_serves : {F R E : Type 0} (of_file : F → FileState) (of_port : R → PortState) (draws : E → ℕ) (store : Store) (old mid new : LockedGateValue F R) (slots : List SlotValue) (place : ℕ) (before after : SlotValue)
+    (was now : CallerSession E) → AreSlots slots → place < length slots → before ≡ slice_index_or slots place before → after.number ≡ before.number → old.gate.doubt ≡ None → HoldsForDoubt old.gate
+    → (file : ℕ) → place + 1 ≡ file → file_held mid.gate.holds was.number ≡ Some file → mid ≡ reserved was.number file old → FileGoesOn before.file after.file
+    → IsCallerOf store was → (object : NewObject) (new_place : NewPlace) (Reliable X : Type 0) (result : Result Answer X)
+    → Creates of_file of_port store mid new before.number before.file after.file was now object new_place Reliable (draws was.entropy) (draws now.entropy) result
+    → ServesObject of_file of_port draws store (record { gate = old; slots = slots; session = was }) (record { gate = new; slots = slice_set slots place after; session = now }) (create_call object) result
+created_serves of_file of_port draws store old mid new slots place before after was now are within stands same idle held file at is_held is goes caller object new_place Reliable X result creates =
+    let own : file ≡ before.number = sym at ∙ sym (are.numbered place before within) ∙ ap (λ (s : SlotValue). s.number) (sym stands) in
+    let begins : mid ≡ reserved was.number before.number old = subst (λ (n : ℕ). mid ≡ reserved was.number n old) own is in
+    let holds : file_held (slice_set old.gate.holds was.number (Some before.number)) was.number ≡ Some before.number =
+    ap (λ (g : LockedGateValue _ _). file_held g.gate.holds was.number) (sym begins) ∙ is_held ∙ ap (λ (n : ℕ). Some n) own in
+    let c : Creates of_file of_port store (reserved was.number before.number old) new before.number before.file after.file was now object new_place Reliable (draws was.entropy) (draws now.entropy) result =
+    subst
+    (λ (m : LockedGateValue _ _). Creates of_file of_port store m new before.number before.file after.file was now object new_place Reliable (draws was.entropy) (draws now.entropy) result) begins creates in
+    subst
+    (λ (n : LockedGateValue _ _). ServesObject of_file of_port draws store (record { gate = old; slots = slots; session = was }) (record { gate = n; slots = slice_set slots place after; session = now })
+    (create_call object) result)
+    (sym c.given_back)
+    (answered_serves of_file of_port draws store old c.behind slots place before after was now are within stands same idle held holds
+    (grows_le (before.file).faults (after.file).faults goes.faults) object new_place Reliable X result caller c.answered)

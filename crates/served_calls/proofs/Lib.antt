@@ -1,0 +1,9 @@
+pub mod SlotLists
+pub mod Counting
+pub mod ToldCalls
+pub mod CommittedCalls
+pub mod ChangedCalls
+pub mod HeldFiles
+pub mod CreatedCalls
+pub mod Settling
+pub mod WholeCalls

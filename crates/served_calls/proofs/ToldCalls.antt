@@ -1,0 +1,167 @@
+-- What a call on an object leaves of the store that serves it.
+use Rattle.std.proofs.Common.{◌≡◌, ◌+◌, ◌-◌, ◌<◌, ℕ, List, Err, IfOk, Ok, Result, Some, length, slice_index_or, refl, sym, ap, ◌∙◌, subst, inl, arith}
+use Rattle.std.specs.Prelude.{slice_set}
+use Rattle.std.proofs.lemmas.List.{get_or_default}
+use Rattle.call_history.specs.Sessions.{CallerSession, IsCallerOf, session_value}
+use Rattle.core_parts.specs.Joined.{IsObjectFile}
+use Rattle.disk_model.specs.Calls.{GoesOn as FileGoesOn}
+use Rattle.disk_model.specs.Faults.{Rose}
+use Rattle.disk_model.specs.State.{FileState}
+use Rattle.history_seats.specs.Views.{GateView}
+use Rattle.htree_file.specs.Answers.{FileFailed}
+use Rattle.locked_gate.specs.declared.answered.Answer.{Answer}
+use Rattle.locked_gate.specs.LockedGates.{LockedGateValue}
+use Rattle.object_answers.specs.Causes.{HasToldCause}
+use Rattle.object_answers.specs.Served.{IsServed, IsServedOrNot}
+use Rattle.object_slots.specs.Value.{SlotValue}
+use Rattle.rpmb_card.specs.Port.{PortState}
+use Rattle.store_commit.specs.Gates.{GateValue}
+use Rattle.store_model.specs.declared.event.Mark.TheVariants.{Unchanged}
+use Rattle.suppositions.specs.Sessions.{Extends}
+use Rattle.suppositions.specs.Stores.{Store}
+use Rattle.tee_types.specs.declared.call.Call.{Call}
+use Rattle.tee_types.specs.declared.reply.Cause.TheVariants.{CardResult, Fault, Frame}
+use Rattle.tee_types.specs.declared.reply.Device.TheVariants.{Card, Dir, Entropy, File}
+use Rattle.tee_types.specs.declared.reply.Reply.{Reply}
+use Rattle.tee_types.specs.declared.reply.Reply.TheVariants.{NotAvailable}
+use Rattle.served_calls.specs.Appended.{AppendsCall, AppendsNone}
+use Rattle.served_calls.specs.Devices.{AccusesRightly, CountsGrow, Devices, Grows, file_in, no_slot}
+use Rattle.served_calls.specs.Held.{HoldsForDoubt}
+use Rattle.served_calls.specs.Slots.{AreSlots}
+use Rattle.served_calls.specs.Standing.{ServesObject, Serving, devices_in}
+use Rattle.served_calls.proofs.Counting.{grows_le}
+use Rattle.served_calls.proofs.SlotLists.{file_changed, files_grow, slots_after}
+
+-- the counts of the gate's devices and of the session's entropy stand still or rise
+pub record GatesGrow {F R E : Type 0} (of_file : F → FileState) (of_port : R → PortState) (draws : E → ℕ) (old new : GateValue F R) (was now : CallerSession E) : Type 0 where
+  pub dir : Grows (of_file old.dir.file).faults (of_file new.dir.file).faults
+  pub card : Grows (of_port old.host.port).faults (of_port new.host.port).faults
+  pub drawn : Grows (draws was.entropy) (draws now.entropy)
+
+-- a gate of which at most the table of open handles changed, and a session that drew nothing
+pub quiet_grows : {F R E : Type 0} (of_file : F → FileState) (of_port : R → PortState) (draws : E → ℕ) (old new : GateValue F R) (was now : CallerSession E)
+    → new ≡ record old { open_handles = new.open_handles } → draws now.entropy ≡ draws was.entropy → GatesGrow of_file of_port draws old new was now
+quiet_grows of_file of_port draws old new was now same undrawn = record {
+  dir = inl (ap (λ (g : GateValue _ _). (of_file g.dir.file).faults) same);
+  card = inl (ap (λ (g : GateValue _ _). (of_port g.host.port).faults) same);
+  drawn = inl undrawn;
+}
+
+pub quiet_holds : {F R : Type 0} (old new : GateValue F R) → new ≡ record old { open_handles = new.open_handles } → HoldsForDoubt old → HoldsForDoubt new
+quiet_holds old new same held = subst (λ (g : GateValue _ _). HoldsForDoubt g) (sym same) held
+
+-- A session that was shown the history is as before, where it is the same.
+pub none_appended : {F R E : Type 0} (store : Store) (old new : LockedGateValue F R) (was now : CallerSession E) → IsCallerOf store was → new.journal.knows.all ≡ old.journal.knows.all
+    → now ≡ record was { entropy = now.entropy } → AppendsNone store old new was now
+none_appended store old new was now caller same session = record {
+  all = same;
+  whole = subst (IsCallerOf store) (sym session) (record { session = caller.session; doubt = caller.doubt });
+  number = ap (λ (s : CallerSession _). s.number) session;
+  made = ap (λ (s : CallerSession _). s.made) session;
+  goes_on = λ after event place x. subst (λ (s : CallerSession _). Extends store (session_value s) after event place) session x;
+}
+
+pub same_gate : {F R : Type 0} (old new : GateValue F R) → new ≡ old → new ≡ record old { open_handles = new.open_handles }
+same_gate old new same = subst (λ (g : GateValue _ _). g ≡ record old { open_handles = g.open_handles }) (sym same) refl
+
+-- One slot was used.
+module _ {F R E : Type 0} (of_file : F → FileState) (of_port : R → PortState) (draws : E → ℕ) (store : Store) (old new : LockedGateValue F R) (slots : List SlotValue) (place : ℕ) (before after : SlotValue)
+    (was now : CallerSession E) (are : AreSlots slots) (within : place < length slots) (stands : before ≡ slice_index_or slots place before) (same : after.number ≡ before.number) where
+  abbrev pub from : Serving F R E
+  from = record { gate = old; slots = slots; session = was }
+
+  abbrev pub to : Serving F R E
+  to = record { gate = new; slots = slice_set slots place after; session = now }
+
+  abbrev d0 : Devices
+  d0 = devices_in of_file of_port draws from
+
+  abbrev d1 : Devices
+  d1 = devices_in of_file of_port draws to
+
+  is : slice_index_or slots place no_slot ≡ before
+  is = get_or_default slots place no_slot before within ∙ sym stands
+
+  numbered : before.number ≡ place + 1
+  numbered = ap (λ (x : SlotValue). x.number) (sym is) ∙ are.numbered place no_slot within
+
+  slots_to : AreSlots (slice_set slots place after)
+  slots_to = slots_after slots place after are within (same ∙ numbered)
+
+  -- the slot's file, by its number
+  pub file_from : (n : ℕ) → n ≡ before.number → file_in slots n ≡ before.file
+  file_from n own = let here : n - 1 ≡ place = omega (arith, own, numbered) in
+      ap (λ (k : ℕ). (slice_index_or slots k no_slot).file) here ∙ ap (λ (x : SlotValue). x.file) is
+
+  pub file_to : (n : ℕ) → n ≡ before.number → file_in (slice_set slots place after) n ≡ after.file
+  file_to n own = file_changed slots place after are within n (omega (arith, own, numbered))
+
+  pub is_object_file : IsObjectFile before.number
+  is_object_file = (omega (arith, numbered), omega (arith, numbered, within, are.many))
+
+  grow : GatesGrow of_file of_port draws old.gate new.gate was now → Grows (before.file).faults (after.file).faults → CountsGrow d0 d1
+  grow gates file Dir = gates.dir
+  grow gates file (File n) = files_grow slots place after are within before is file n
+  grow gates file Card = gates.card
+  grow gates file Entropy = gates.drawn
+
+  -- a reply that the slot's file gave
+  pub told_accuses : (reply : Reply) → HasToldCause before.file after.file before.number reply → AccusesRightly d0 d1 reply
+  told_accuses (NotAvailable (Fault (File n) count)) told =
+      let failed : FileFailed before.file after.file count = told.1 in (
+        subst (λ (p : FileState × FileState). Rose (p.0).faults (p.1).faults) (λ i. (sym (file_from n told.0) i, sym (file_to n told.0) i)) failed.rose,
+        failed.carried ∙ ap (λ (f : FileState). f.faults) (sym (file_to n told.0)),
+      )
+  told_accuses (NotAvailable (Fault Dir count)) told = absurd told
+  told_accuses (NotAvailable (Fault Card count)) told = absurd told
+  told_accuses (NotAvailable (Fault Entropy count)) told = absurd told
+  told_accuses (NotAvailable (Frame fault)) told = absurd told
+  told_accuses (NotAvailable (CardResult result)) told = absurd told
+  told_accuses reply told = tt
+
+  pub serves_ok : (call : Call) (answer : Answer) → AppendsCall store old new was now call answer → AccusesRightly d0 d1 answer.reply → HoldsForDoubt new.gate
+      → GatesGrow of_file of_port draws old.gate new.gate was now → Grows (before.file).faults (after.file).faults → (X : Type 0)
+      → ServesObject of_file of_port draws {X = X} store from to call (Ok answer)
+  serves_ok call answer appends accuses held gates file X =
+      record { answers = record { appends = appends; accuses = accuses }; slots = slots_to; held = held; grow = grow gates file }
+
+  pub serves_err : (call : Call) (X : Type 0) (e : X) → AppendsNone store old new was now → HoldsForDoubt new.gate → GatesGrow of_file of_port draws old.gate new.gate was now
+      → Grows (before.file).faults (after.file).faults → ServesObject of_file of_port draws {X = X} store from to call (Err e)
+  serves_err call X e none held gates file = record { answers = none; slots = slots_to; held = held; grow = grow gates file }
+
+  -- the event of an answer that the slot's file gave
+  pub served_appends : (call : Call) (answer : Answer) → IsServed store old new was now before.number call answer → AppendsCall store old new was now call answer
+  served_appends call answer s = record {
+    mark = Unchanged;
+    extends = s.extends;
+    whole = s.whole;
+    made = s.made;
+    place = s.place;
+    last = s.last;
+    event = s.event;
+    tagged = λ file is_tag. subst IsObjectFile (some_number file (sym s.tagged ∙ is_tag)) is_object_file;
+    all = ap (λ (k : GateView). k.all) s.knows;
+  }
+    where
+      some_number : (file : ℕ) → Some before.number ≡ Some file → before.number ≡ file
+      some_number file e = cc
+
+  -- memory ran out before anything was done
+  pub stays_serves : (call : Call) (X : Type 0) (e : X) → (new ≡ old) × (now ≡ was) → IsCallerOf store was → Grows (before.file).faults (after.file).faults → HoldsForDoubt old.gate
+      → ServesObject of_file of_port draws {X = X} store from to call (Err e)
+  stays_serves call X e stays caller file held =
+      let gate : new.gate ≡ old.gate = ap (λ (g : LockedGateValue F R). g.gate) stays.0 in
+      serves_err call X e
+      (none_appended store old new was now caller (ap (λ (g : LockedGateValue F R). g.journal.knows.all) stays.0) (subst (λ (s : CallerSession E). s ≡ record was { entropy = s.entropy }) (sym stays.1) refl))
+      (subst (λ (g : GateValue F R). HoldsForDoubt g) (sym gate) held)
+      (quiet_grows of_file of_port draws old.gate new.gate was now (same_gate old.gate new.gate gate) (ap (λ (s : CallerSession E). draws s.entropy) stays.1))
+      file
+
+  -- the call was answered as its object's file gave it, or memory ran out
+  pub told_serves : (call : Call) (X : Type 0) (result : Result Answer X) → IsServedOrNot store old new was now before.number call result → IsCallerOf store was
+      → FileGoesOn before.file after.file → IfOk result (λ answer. HasToldCause before.file after.file before.number answer.reply) → now.entropy ≡ was.entropy → HoldsForDoubt old.gate
+      → ServesObject of_file of_port draws store from to call result
+  told_serves call X (Ok answer) served caller goes cause entropy held =
+      serves_ok call answer (served_appends call answer served) (told_accuses answer.reply cause) (quiet_holds old.gate new.gate served.gate held)
+      (quiet_grows of_file of_port draws old.gate new.gate was now served.gate (ap draws entropy)) (grows_le (before.file).faults (after.file).faults goes.faults) X
+  told_serves call X (Err e) served caller goes cause entropy held = stays_serves call X e served caller (grows_le (before.file).faults (after.file).faults goes.faults) held

@@ -1,0 +1,65 @@
+-- What a served call is answered, and what it leaves of the history: at most the landing of the commit that was in doubt, and then the call.
+use Rattle.std.specs.Prelude.{Err, List, None, Ok, Option, Result, Some, [], length, ℕ, ◌+◌, ◌++◌, ◌∷◌, ◌≡◌}
+use Rattle.call_history.specs.Sessions.{CallerSession, IsCallerOf, session_value}
+use Rattle.disk_model.specs.State.{FileState}
+use Rattle.gate_calls.specs.Seen.{GoesOn}
+use Rattle.locked_gate.specs.declared.answered.Answer.{Answer}
+use Rattle.locked_gate.specs.LockedGates.{LockedGateValue}
+use Rattle.rpmb_card.specs.Port.{PortState}
+use Rattle.served_calls.specs.Devices.{AccusesRightly, CountsGrow}
+use Rattle.served_calls.specs.Held.{HoldsForDoubt}
+use Rattle.served_calls.specs.Slots.{AreOfObjectFiles, AreSlots}
+use Rattle.served_calls.specs.Standing.{Serving, devices_in}
+use Rattle.store_model.specs.Record.{events_of}
+use Rattle.store_model.specs.declared.event.Event.{Event}
+use Rattle.store_model.specs.declared.event.Event.TheVariants.{Call as CallEvent, Landed}
+use Rattle.store_model.specs.declared.event.Mark.{Mark}
+use Rattle.suppositions.specs.Sessions.{Extends}
+use Rattle.suppositions.specs.Stores.{Store}
+use Rattle.tee_types.specs.declared.call.Call.{Call}
+
+-- the event of the commit in doubt that landed, if it did
+abbrev pub landing_events : Option ℕ → List Event
+landing_events None = []
+landing_events (Some commit) = Landed commit ∷ []
+
+-- the events of a gate's history
+abbrev pub events_at : {F R : Type 0} → LockedGateValue F R → List Event
+events_at gate = events_of gate.journal.knows.all
+
+-- The history goes on, where a commit in doubt landed with its landing, and then with the session's next event, at that place.
+pub record GoesOnWith {F R E : Type 0} (store : Store) (old new : LockedGateValue F R) (was now : CallerSession E) (call : Call) (answer : Answer) : Type 0 where
+  pub landed : Option ℕ
+  pub mark : Mark
+  pub extends : Extends store (session_value was) (session_value now) (CallEvent was.number was.made call answer.reply mark) answer.place
+  pub whole : IsCallerOf store now
+  pub made : now.made ≡ was.made + 1
+  pub place : answer.place ≡ length (events_at old ++ landing_events landed)
+  pub events : events_at new ≡ (events_at old ++ landing_events landed) ++ CallEvent was.number was.made call answer.reply mark ∷ []
+
+-- The session has no event more; a commit in doubt may have landed.
+pub record GoesOnWithout {F R E : Type 0} (store : Store) (old new : LockedGateValue F R) (was now : CallerSession E) : Type 0 where
+  pub landed : Option ℕ
+  pub whole : IsCallerOf store now
+  pub number : now.number ≡ was.number
+  pub made : now.made ≡ was.made
+  pub goes_on : GoesOn store was now
+  pub events : events_at new ≡ events_at old ++ landing_events landed
+
+module _ {F R E : Type 0} (of_file : F → FileState) (of_port : R → PortState) (draws : E → ℕ) where
+  -- A device that the reply accuses counted a fault in the call, and the reply carries its count.
+  pub record IsAnswered (store : Store) (old new : Serving F R E) (call : Call) (answer : Answer) : Type 0 where
+    pub goes_on : GoesOnWith store old.gate new.gate old.session new.session call answer
+    pub accuses : AccusesRightly (devices_in of_file of_port draws old) (devices_in of_file of_port draws new) answer.reply
+
+  abbrev pub IsAnsweredOrNot : {X : Type 0} → Store → (old new : Serving F R E) → Call → Result Answer X → Type 0
+  IsAnsweredOrNot store old new call (Ok answer) = IsAnswered store old new call answer
+  IsAnsweredOrNot store old new call (Err none) = GoesOnWithout store old.gate new.gate old.session new.session
+
+  -- What a call leaves.
+  pub record ServesCall {X : Type 0} (store : Store) (old new : Serving F R E) (call : Call) (result : Result Answer X) : Type 0 where
+    pub answers : IsAnsweredOrNot store old new call result
+    pub slots : AreSlots new.slots
+    pub tagged : AreOfObjectFiles old.gate.journal.knows.all → AreOfObjectFiles new.gate.journal.knows.all
+    pub held : HoldsForDoubt new.gate.gate
+    pub grow : CountsGrow (devices_in of_file of_port draws old) (devices_in of_file of_port draws new)

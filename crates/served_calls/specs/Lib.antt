@@ -1,0 +1,6 @@
+pub mod Slots
+pub mod Held
+pub mod Devices
+pub mod Standing
+pub mod Appended
+pub mod Answered

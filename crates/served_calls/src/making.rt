@@ -1,0 +1,101 @@
+//! Calls that give a handle.
+
+ghost use Rattle.std.specs.Prelude.{◌≡◌, ◌≤◌, length, None};
+ghost use Rattle.hmac_keys.specs.KeyTable.{ssk};
+ghost use Rattle.locked_gate.specs.Commits.{IsCalm};
+ghost use Rattle.served_calls.specs.Held.{HoldsForDoubt};
+ghost use Rattle.served_calls.specs.Slots.{AreSlots};
+ghost use Rattle.served_calls.specs.Standing.{ServesObject};
+
+use crate::placing::place_of;
+use crate::ruled::answer;
+use call_history::Session;
+use call_rules::Decision;
+use hmac_keys::tsk;
+use locked_gate::{Answer, LockedGate};
+use locked_slots::LockedSlot;
+use rpmb_card::RpmbPort;
+use std::alloc::Global;
+use suppositions::StoreName;
+use tee_ports::{Entropy, StoreFile};
+use tee_types::{Bytes, Call, Flags, NoMemory, ObjectId};
+
+/// TEE_OpenPersistentObject: the object of that identifier, with those flags.
+pub(crate) fn open<F: StoreFile + Drop, R: RpmbPort + Drop, L: StoreName, E: Entropy>(
+    alloc: Global,
+    gate: &mut LockedGate<F, R, L>,
+    slots: &mut Vec<LockedSlot<F, L>>,
+    storage_key: &[u8; 32],
+    session: &mut Session<E>,
+    id: ObjectId,
+    flags: Flags,
+) -> Result<Answer, NoMemory>
+    requires names { 1 ≤ gate.old.gate.room }
+    requires handles { 1 ≤ gate.old.gate.open_handles.spare }
+    requires events { 1 ≤ gate.old.journal.spare }
+    requires idle { gate.old.gate.doubt ≡ None }
+    requires calm { IsCalm L.store gate.old.journal.knows session.old }
+    requires held { HoldsForDoubt gate.old.gate }
+    requires slots { AreSlots slots.old.items }
+    requires keyed { storage_key.now ≡ ssk L.store.keys.huk L.store.keys.chip }
+    ensures serves { ServesObject F.state R.state E.faults L.store
+        (record { gate = gate.old; slots = slots.old.items; session = session.old })
+        (record { gate = gate.new; slots = slots.new.items; session = session.new }) (Call.Open id flags) result }
+    ensures reliable { E.is_reliable session.old.entropy → E.is_reliable session.new.entropy }
+{
+    let held = match call_rules::open(&*gate, session.state(), id, flags) {
+        Decision::Answered(reply) => return answer(
+            alloc,
+            gate,
+            slots,
+            session,
+            &Call::Open { id, flags },
+            reply,
+        ),
+        Decision::Needs(held) => held,
+    };
+    let place = place_of(&*gate, slots, &held);
+    let key = tsk(storage_key, &held.entry.app.bytes());
+    let slot = &mut slots[place];
+    object_answers::open(alloc, gate, slot, session, &held, &key, id, flags)
+}
+
+/// TEE_CreatePersistentObject: an object of that identifier, with those flags, attributes and data. `call` is that call.
+pub(crate) fn create<F: StoreFile + Drop, R: RpmbPort + Drop, L: StoreName, E: Entropy>(
+    alloc: Global,
+    gate: &mut LockedGate<F, R, L>,
+    slots: &mut Vec<LockedSlot<F, L>>,
+    storage_key: &[u8; 32],
+    session: &mut Session<E>,
+    call: &Call,
+    id: ObjectId,
+    flags: Flags,
+    attributes: &Bytes,
+    bytes: &Bytes,
+) -> Result<Answer, NoMemory>
+    requires names { 1 ≤ gate.old.gate.room }
+    requires handles { 1 ≤ gate.old.gate.open_handles.spare }
+    requires events { 1 ≤ gate.old.journal.spare }
+    requires idle { gate.old.gate.doubt ≡ None }
+    requires calm { IsCalm L.store gate.old.journal.knows session.old }
+    requires held { HoldsForDoubt gate.old.gate }
+    requires slots { AreSlots slots.old.items }
+    requires few { length L.store.mounted.applications ≤ 16 }
+    requires keyed { storage_key.now ≡ ssk L.store.keys.huk L.store.keys.chip }
+    requires call { call.now ≡ Call.Create id flags attributes.now bytes.now }
+    ensures serves { ServesObject F.state R.state E.faults L.store
+        (record { gate = gate.old; slots = slots.old.items; session = session.old })
+        (record { gate = gate.new; slots = slots.new.items; session = session.new }) (Call.Create id flags attributes.now bytes.now) result }
+    ensures reliable { E.is_reliable session.old.entropy → E.is_reliable session.new.entropy }
+{
+    let place = match call_rules::create(&*gate, session.state(), id, flags, attributes, bytes) {
+        Decision::Answered(reply) => return answer(alloc, gate, slots, session, call, reply),
+        Decision::Needs(place) => place,
+    };
+    let file = create_calls::reserve(gate, session);
+    let key = tsk(storage_key, &session.app().bytes());
+    let slot = &mut slots[usize::from(file) - 1];
+    create_calls::create(
+        alloc, gate, slot, session, &place, &key, id, flags, attributes, bytes,
+    )
+}

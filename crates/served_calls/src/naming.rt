@@ -1,0 +1,92 @@
+//! Calls that change an open object's name.
+
+ghost use Rattle.std.specs.Prelude.{◌≡◌, ◌≤◌, None};
+ghost use Rattle.locked_gate.specs.Commits.{IsCalm};
+ghost use Rattle.served_calls.specs.Held.{HoldsForDoubt};
+ghost use Rattle.served_calls.specs.Slots.{AreSlots};
+ghost use Rattle.served_calls.specs.Standing.{ServesObject};
+
+use crate::placing::place_of;
+use crate::ruled::answer;
+use call_history::Session;
+use call_rules::Decision;
+use locked_gate::{Answer, LockedGate};
+use locked_slots::LockedSlot;
+use rpmb_card::RpmbPort;
+use std::alloc::Global;
+use suppositions::StoreName;
+use tee_ports::{Entropy, StoreFile};
+use tee_types::{Call, NoMemory, ObjectId};
+
+/// TEE_RenamePersistentObject: that identifier.
+pub(crate) fn rename<F: StoreFile + Drop, R: RpmbPort + Drop, L: StoreName, E: Entropy>(
+    alloc: Global,
+    gate: &mut LockedGate<F, R, L>,
+    slots: &mut Vec<LockedSlot<F, L>>,
+    session: &mut Session<E>,
+    handle: u32,
+    id: ObjectId,
+) -> Result<Answer, NoMemory>
+    requires names { 1 ≤ gate.old.gate.room }
+    requires handles { 1 ≤ gate.old.gate.open_handles.spare }
+    requires events { 1 ≤ gate.old.journal.spare }
+    requires idle { gate.old.gate.doubt ≡ None }
+    requires calm { IsCalm L.store gate.old.journal.knows session.old }
+    requires held { HoldsForDoubt gate.old.gate }
+    requires slots { AreSlots slots.old.items }
+    ensures serves { ServesObject F.state R.state E.faults L.store
+        (record { gate = gate.old; slots = slots.old.items; session = session.old })
+        (record { gate = gate.new; slots = slots.new.items; session = session.new }) (Call.Rename handle id) result }
+    ensures reliable { E.is_reliable session.old.entropy → E.is_reliable session.new.entropy }
+{
+    let found = match call_rules::rename(&*gate, session.state(), handle, id) {
+        Decision::Answered(reply) => return answer(
+            alloc,
+            gate,
+            slots,
+            session,
+            &Call::Rename { handle, id },
+            reply,
+        ),
+        Decision::Needs(found) => found,
+    };
+    let place = place_of(&*gate, slots, &found.held);
+    let slot = &mut slots[place];
+    name_calls::rename(gate, slot, session, &found, handle, id)
+}
+
+/// TEE_CloseAndDeletePersistentObject1.
+pub(crate) fn delete<F: StoreFile + Drop, R: RpmbPort + Drop, L: StoreName, E: Entropy>(
+    alloc: Global,
+    gate: &mut LockedGate<F, R, L>,
+    slots: &mut Vec<LockedSlot<F, L>>,
+    session: &mut Session<E>,
+    handle: u32,
+) -> Result<Answer, NoMemory>
+    requires names { 1 ≤ gate.old.gate.room }
+    requires handles { 1 ≤ gate.old.gate.open_handles.spare }
+    requires events { 1 ≤ gate.old.journal.spare }
+    requires idle { gate.old.gate.doubt ≡ None }
+    requires calm { IsCalm L.store gate.old.journal.knows session.old }
+    requires held { HoldsForDoubt gate.old.gate }
+    requires slots { AreSlots slots.old.items }
+    ensures serves { ServesObject F.state R.state E.faults L.store
+        (record { gate = gate.old; slots = slots.old.items; session = session.old })
+        (record { gate = gate.new; slots = slots.new.items; session = session.new }) (Call.Delete handle) result }
+    ensures reliable { E.is_reliable session.old.entropy → E.is_reliable session.new.entropy }
+{
+    let found = match call_rules::delete(&*gate, session.state(), handle) {
+        Decision::Answered(reply) => return answer(
+            alloc,
+            gate,
+            slots,
+            session,
+            &Call::Delete { handle },
+            reply,
+        ),
+        Decision::Needs(found) => found,
+    };
+    let place = place_of(&*gate, slots, &found.held);
+    let slot = &mut slots[place];
+    Ok(name_calls::delete(gate, slot, session, &found, handle))
+}

@@ -1,0 +1,100 @@
+//! Calls that tell of an open object.
+
+ghost use Rattle.std.specs.Prelude.{◌≡◌, ◌≤◌, None};
+ghost use Rattle.hmac_keys.specs.KeyTable.{ssk};
+ghost use Rattle.locked_gate.specs.Commits.{IsCalm};
+ghost use Rattle.served_calls.specs.Held.{HoldsForDoubt};
+ghost use Rattle.served_calls.specs.Slots.{AreSlots};
+ghost use Rattle.served_calls.specs.Standing.{ServesObject};
+
+use crate::placing::place_of;
+use crate::ruled::answer;
+use call_history::Session;
+use call_rules::Decision;
+use hmac_keys::tsk;
+use locked_gate::{Answer, LockedGate};
+use locked_slots::LockedSlot;
+use rpmb_card::RpmbPort;
+use std::alloc::Global;
+use suppositions::StoreName;
+use tee_ports::{Entropy, StoreFile};
+use tee_types::{Call, NoMemory};
+
+/// TEE_ReadObjectData: at most so many bytes from the handle's position on.
+pub(crate) fn read<F: StoreFile + Drop, R: RpmbPort + Drop, L: StoreName, E: Entropy>(
+    alloc: Global,
+    gate: &mut LockedGate<F, R, L>,
+    slots: &mut Vec<LockedSlot<F, L>>,
+    storage_key: &[u8; 32],
+    session: &mut Session<E>,
+    handle: u32,
+    size: u32,
+) -> Result<Answer, NoMemory>
+    requires names { 1 ≤ gate.old.gate.room }
+    requires handles { 1 ≤ gate.old.gate.open_handles.spare }
+    requires events { 1 ≤ gate.old.journal.spare }
+    requires idle { gate.old.gate.doubt ≡ None }
+    requires calm { IsCalm L.store gate.old.journal.knows session.old }
+    requires held { HoldsForDoubt gate.old.gate }
+    requires slots { AreSlots slots.old.items }
+    requires keyed { storage_key.now ≡ ssk L.store.keys.huk L.store.keys.chip }
+    ensures serves { ServesObject F.state R.state E.faults L.store
+        (record { gate = gate.old; slots = slots.old.items; session = session.old })
+        (record { gate = gate.new; slots = slots.new.items; session = session.new }) (Call.Read handle size) result }
+    ensures reliable { E.is_reliable session.old.entropy → E.is_reliable session.new.entropy }
+{
+    let found = match call_rules::read(&*gate, session.state(), handle) {
+        Decision::Answered(reply) => return answer(
+            alloc,
+            gate,
+            slots,
+            session,
+            &Call::Read { handle, size },
+            reply,
+        ),
+        Decision::Needs(found) => found,
+    };
+    let place = place_of(&*gate, slots, &found.held);
+    let key = tsk(storage_key, &found.held.entry.app.bytes());
+    let slot = &mut slots[place];
+    object_answers::read(alloc, gate, slot, session, &found, &key, handle, size)
+}
+
+/// TEE_GetObjectInfo1.
+pub(crate) fn info<F: StoreFile + Drop, R: RpmbPort + Drop, L: StoreName, E: Entropy>(
+    alloc: Global,
+    gate: &mut LockedGate<F, R, L>,
+    slots: &mut Vec<LockedSlot<F, L>>,
+    storage_key: &[u8; 32],
+    session: &mut Session<E>,
+    handle: u32,
+) -> Result<Answer, NoMemory>
+    requires names { 1 ≤ gate.old.gate.room }
+    requires handles { 1 ≤ gate.old.gate.open_handles.spare }
+    requires events { 1 ≤ gate.old.journal.spare }
+    requires idle { gate.old.gate.doubt ≡ None }
+    requires calm { IsCalm L.store gate.old.journal.knows session.old }
+    requires held { HoldsForDoubt gate.old.gate }
+    requires slots { AreSlots slots.old.items }
+    requires keyed { storage_key.now ≡ ssk L.store.keys.huk L.store.keys.chip }
+    ensures serves { ServesObject F.state R.state E.faults L.store
+        (record { gate = gate.old; slots = slots.old.items; session = session.old })
+        (record { gate = gate.new; slots = slots.new.items; session = session.new }) (Call.Info handle) result }
+    ensures reliable { E.is_reliable session.old.entropy → E.is_reliable session.new.entropy }
+{
+    let found = match call_rules::info(&*gate, session.state(), handle) {
+        Decision::Answered(reply) => return answer(
+            alloc,
+            gate,
+            slots,
+            session,
+            &Call::Info { handle },
+            reply,
+        ),
+        Decision::Needs(found) => found,
+    };
+    let place = place_of(&*gate, slots, &found.held);
+    let key = tsk(storage_key, &found.held.entry.app.bytes());
+    let slot = &mut slots[place];
+    object_answers::info(alloc, gate, slot, session, &found, &key, handle)
+}

@@ -1,0 +1,49 @@
+//! Calls on objects that the rules answer.
+
+ghost use Rattle.std.specs.Prelude.{◌≡◌, ◌≤◌, ℕ, None};
+ghost use Rattle.store_model.specs.Machine.{MachineState};
+ghost use Rattle.call_rules.specs.Matches.{Matches};
+ghost use Rattle.call_rules.specs.Plain.{IsPlain};
+ghost use Rattle.call_rules.specs.Told.{IsTold};
+ghost use Rattle.locked_gate.specs.Answering.{LeavesHandles};
+ghost use Rattle.locked_gate.specs.Commits.{IsCalm};
+ghost use Rattle.served_calls.specs.Held.{HoldsForDoubt};
+ghost use Rattle.served_calls.specs.Slots.{AreSlots};
+ghost use Rattle.served_calls.specs.Standing.{ServesObject};
+
+use call_history::Session;
+use gate_calls::answer_ruled;
+use locked_gate::{Answer, LockedGate};
+use locked_slots::LockedSlot;
+use rpmb_card::RpmbPort;
+use std::alloc::Global;
+use suppositions::StoreName;
+use tee_ports::{Entropy, StoreFile};
+use tee_types::{Call, NoMemory, Reply};
+
+/// Answers a call on an object as the rules decided. No slot is looked at.
+pub(crate) fn answer<F: StoreFile + Drop, R: RpmbPort + Drop, L: StoreName, E: Entropy>(
+    alloc: Global,
+    gate: &mut LockedGate<F, R, L>,
+    slots: &Vec<LockedSlot<F, L>>,
+    session: &mut Session<E>,
+    call: &Call,
+    reply: Reply,
+) -> Result<Answer, NoMemory>
+    requires room { 1 ≤ gate.old.journal.spare }
+    requires idle { gate.old.gate.doubt ≡ None }
+    requires calm { IsCalm L.store gate.old.journal.knows session.old }
+    requires held { HoldsForDoubt gate.old.gate }
+    requires slots { AreSlots slots.now.items }
+    requires told { (s : MachineState) (i : ℕ) → Matches gate.old.gate.dir.dir.entries gate.old.gate.open_handles session.old.state s i
+        → IsTold s i call.now reply session.old.state }
+    requires plain { IsPlain reply }
+    requires handles { LeavesHandles call.now reply }
+    ensures serves { ServesObject F.state R.state E.faults L.store
+        (record { gate = gate.old; slots = slots.now.items; session = session.old })
+        (record { gate = gate.new; slots = slots.now.items; session = session.new }) call.now result }
+    ensures reliable { E.is_reliable session.old.entropy → E.is_reliable session.new.entropy }
+{
+    let kept = call.copy(alloc)?;
+    Ok(answer_ruled(gate, session, kept, reply))
+}

@@ -1,0 +1,126 @@
+//! The fifteen calls.
+
+ghost use Rattle.std.specs.Prelude.{◌≡◌, ◌≤◌, length, true, None};
+ghost use Rattle.hmac_keys.specs.KeyTable.{ssk};
+ghost use Rattle.call_history.specs.Sessions.{IsCallerOf};
+ghost use Rattle.gate_calls.specs.Rulings.{is_on_object};
+ghost use Rattle.locked_gate.specs.Commits.{IsCalm};
+ghost use Rattle.served_calls.specs.Answered.{ServesCall};
+ghost use Rattle.served_calls.specs.Held.{HoldsForDoubt};
+ghost use Rattle.served_calls.specs.Slots.{AreSlots};
+ghost use Rattle.served_calls.specs.Standing.{ServesObject};
+
+use crate::changing::{truncate, write};
+use crate::making::{create, open};
+use crate::naming::{delete, rename};
+use crate::reading::{info, read};
+use call_history::Session;
+use gate_calls::answer_alone;
+use locked_gate::{Answer, LockedGate};
+use locked_slots::LockedSlot;
+use rpmb_card::RpmbPort;
+use std::alloc::Global;
+use suppositions::StoreName;
+use tee_ports::{Entropy, StoreFile};
+use tee_types::{Call, NoMemory};
+
+// Serves a call on an object, while no commit is in doubt.
+fn serve_object<F: StoreFile + Drop, R: RpmbPort + Drop, L: StoreName, E: Entropy>(
+    alloc: Global,
+    gate: &mut LockedGate<F, R, L>,
+    slots: &mut Vec<LockedSlot<F, L>>,
+    storage_key: &[u8; 32],
+    session: &mut Session<E>,
+    call: &Call,
+) -> Result<Answer, NoMemory>
+    requires names { 1 ≤ gate.old.gate.room }
+    requires handles { 1 ≤ gate.old.gate.open_handles.spare }
+    requires events { 1 ≤ gate.old.journal.spare }
+    requires idle { gate.old.gate.doubt ≡ None }
+    requires calm { IsCalm L.store gate.old.journal.knows session.old }
+    requires held { HoldsForDoubt gate.old.gate }
+    requires slots { AreSlots slots.old.items }
+    requires few { length L.store.mounted.applications ≤ 16 }
+    requires keyed { storage_key.now ≡ ssk L.store.keys.huk L.store.keys.chip }
+    requires on { is_on_object call.now ≡ true }
+    ensures serves { ServesObject F.state R.state E.faults L.store
+        (record { gate = gate.old; slots = slots.old.items; session = session.old })
+        (record { gate = gate.new; slots = slots.new.items; session = session.new }) (call.now) result }
+    ensures reliable { E.is_reliable session.old.entropy → E.is_reliable session.new.entropy }
+{
+    match call {
+        Call::Create {
+            id,
+            flags,
+            attributes,
+            bytes,
+        } => create(
+            alloc,
+            gate,
+            slots,
+            storage_key,
+            session,
+            call,
+            *id,
+            *flags,
+            attributes,
+            bytes,
+        ),
+        Call::Open { id, flags } => open(alloc, gate, slots, storage_key, session, *id, *flags),
+        Call::Read { handle, size } => {
+            read(alloc, gate, slots, storage_key, session, *handle, *size)
+        }
+        Call::Write { handle, bytes } => {
+            write(
+                alloc,
+                gate,
+                slots,
+                storage_key,
+                session,
+                call,
+                *handle,
+                bytes,
+            )
+        }
+        Call::Truncate { handle, size } => {
+            truncate(alloc, gate, slots, storage_key, session, *handle, *size)
+        }
+        Call::Rename { handle, id } => rename(alloc, gate, slots, session, *handle, *id),
+        Call::Delete { handle } => delete(alloc, gate, slots, session, *handle),
+        Call::Info { handle } => info(alloc, gate, slots, storage_key, session, *handle),
+        _ => unreachable!(),
+    }
+}
+
+/// Serves a session's call: room is made, a commit in doubt is resolved unless the call is a misuse, and the call is answered and appended.
+/// `slots` are those of the objects' files, file 1 first; `storage_key` is the key that the applications' keys come from.
+///
+/// # Errors
+///
+/// Memory ran out. Nothing was appended for the call.
+pub fn serve<F: StoreFile + Drop, R: RpmbPort + Drop, L: StoreName, E: Entropy>(
+    alloc: Global,
+    gate: &mut LockedGate<F, R, L>,
+    slots: &mut Vec<LockedSlot<F, L>>,
+    storage_key: &[u8; 32],
+    session: &mut Session<E>,
+    call: &Call,
+) -> Result<Answer, NoMemory>
+    requires caller { IsCallerOf L.store session.old }
+    requires held { HoldsForDoubt gate.old.gate }
+    requires slots { AreSlots slots.old.items }
+    requires few { length L.store.mounted.applications ≤ 16 }
+    requires keyed { storage_key.now ≡ ssk L.store.keys.huk L.store.keys.chip }
+    ensures serves { ServesCall F.state R.state E.faults L.store
+        (record { gate = gate.old; slots = slots.old.items; session = session.old })
+        (record { gate = gate.new; slots = slots.new.items; session = session.new }) call.now result }
+    ensures reliable { E.is_reliable session.old.entropy → E.is_reliable session.new.entropy }
+{
+    gate.reserve()?;
+    if let Some(answer) = answer_alone(alloc, gate, session, call)? {
+        return Ok(answer);
+    }
+    // A landing may have taken of that room.
+    gate.reserve()?;
+    serve_object(alloc, gate, slots, storage_key, session, call)
+}
