@@ -1,5 +1,5 @@
 -- Data blocks that are read one by one.
-use Rattle.std.proofs.Common.{◌≡◌, ◌≢◌, ◌∙◌, ◌+◌, ◌-◌, ◌*◌, ◌/◌, ◌%◌, ◌<◌, ◌≤◌, ◌==◌, ◌||◌, ◌&&◌, nat_lt, nat_le, if◌then◌else◌, min, not, ℕ, Bool, true, false, List, length, get_or, replicate, Option, Some, None, Result, Ok, Err, refl, sym, ap, subst, inl, inr, arith, true≢false}
+use Rattle.std.proofs.Common.{◌≡◌, ◌∙◌, ◌+◌, ◌-◌, ◌*◌, ◌/◌, ◌%◌, ◌<◌, ◌≤◌, ◌==◌, ◌||◌, min, not, ℕ, Bool, true, false, List, length, get_or, replicate, Some, None, Err, refl, sym, ap, subst, inl, inr, arith, true≢false}
 use Rattle.std.proofs.lemmas.Bool.{cases_Bool, cases_eq, cases_lt, eq-eqb, ne_eqb, or_left}
 use Rattle.std.proofs.lemmas.List.{get_or-replicate}
 use Rattle.disk_model.specs.State.{FileState}
@@ -9,14 +9,13 @@ use Rattle.htree_file.specs.declared.fault.TreeFault.{TreeFault}
 use Rattle.htree_file.specs.declared.fault.TreeFault.TheVariants.{BadHead, BadTag, Damaged, Failed, NoEntropy, NoMemory, Short}
 use Rattle.htree_file.specs.Opening.{Loaded}
 use Rattle.htree_file.specs.Pages.{page_in}
-use Rattle.htree_file.specs.Standing.{Told}
 use Rattle.htree_file.specs.Answers.{FaultCause, FileFailed, FilePassed}
 use Rattle.tee_ports.specs.declared.failed.Failed.{Failed as Failure}
 use Rattle.htree_file.proofs.Causes.{fault_then, passed_none, passed_then, rests_none, rests_then, told_then}
 use Rattle.object_file.specs.Value.{ObjectValue, size_in}
 use Rattle.page_bytes.specs.Ranges.{meets}
 use Rattle.page_bytes.proofs.Laying.{byte-put}
-use Rattle.block_file.specs.Reads.{AreBytes, BlocksAnswer, IsPage, IsReadFault}
+use Rattle.block_file.specs.Reads.{AreBytes, BlocksAnswer, IsReadFault}
 use Rattle.block_file.proofs.Reading.{bad_stands, page_first, page_then, told_first}
 use Rattle.tree_paths.specs.declared.node_set.NodeSet.{NodeSet}
 use Rattle.tree_paths.specs.Paths.{holds}

@@ -1,9 +1,8 @@
 -- How many objects the entries name.
-use Rattle.std.proofs.Common.{◌≡◌, ◌≢◌, ◌∙◌, ◌+◌, ◌<◌, ◌≤◌, ℕ, zero, suc, Bool, true, false, cond, take, List, [], ◌∷◌, length, map, get_or, is_some, Option, Some, None, refl, sym, ap, subst, is_eq, arith, true≢false}
-use Rattle.std.specs.Prelude.{count_by, slice_set}
+use Rattle.std.proofs.Common.{◌≡◌, ◌∙◌, ◌+◌, ◌<◌, ◌≤◌, ℕ, suc, Bool, true, false, cond, take, List, [], ◌∷◌, length, get_or, is_some, Option, Some, None, refl, sym, ap, subst, is_eq, arith, true≢false}
+use Rattle.std.specs.Prelude.{count_by}
 use Rattle.std.specs.Int.{from_bool}
 use Rattle.std.specs.Option.{option_map}
-use Rattle.std.specs.BTreeMap.{insert_entry}
 use Rattle.std.specs.declared.cmp.Ordering.TheVariants.{Less, Equal, Greater}
 use Rattle.std.proofs.lemmas.List.{take_all}
 use Rattle.std.proofs.lemmas.List.Sums.{count_by_more_no, count_by_more_yes, sum_by-cons}
@@ -14,9 +13,8 @@ use Rattle.store_model.specs.Object.{Object, ObjectMap, with_object}
 use Rattle.dir_records.specs.declared.entry.DirEntry.{DirEntry}
 use Rattle.crash_core.specs.Entries.{name_of}
 use Rattle.crash_core.specs.EntryLists.{AreDistinct, entry_at}
-use Rattle.crash_core.specs.Holding.{held_at}
 use Rattle.crash_core.specs.Mounting.{Held, all_held_in, held_in, map_of}
-use Rattle.crash_core.proofs.EntryMaps.{Lacks, ins, is_at, rest_lacks}
+use Rattle.crash_core.proofs.EntryMaps.{Lacks, ins, rest_lacks}
 use Rattle.crash_core.proofs.Lists.{map_at}
 
 -- one more object under a name that the map lacks

@@ -1,21 +1,23 @@
 -- What lies behind each lock as a mounted store is served.
-use Rattle.std.proofs.Common.{◌≡◌, ◌+◌, ◌<◌, ◌≤◌, ◌||◌, ℕ, suc, Bool, false, List, [], ◌∷◌, length, map, Option, Some, None, unwrap_or, slice_index_or, refl, sym, ap, ◌∙◌, subst, arith, ne_eqb}
+use Rattle.std.proofs.Common.{◌≡◌, ◌+◌, ◌<◌, ◌≤◌, ◌||◌, ℕ, suc, Bool, List, [], ◌∷◌, length, Option, Some, None, unwrap_or, refl, sym, ap, ◌∙◌, subst, arith, ne_eqb}
 use Rattle.std.specs.Prelude.{Contains}
 use Rattle.disk_model.specs.State.{FileState, Sound}
 use Rattle.atomic_table.specs.Seated.{TableId}
-use Rattle.hmac_keys.specs.KeyTable.{dir_tsk, ssk}
+use Rattle.hmac_keys.specs.KeyTable.{dir_tsk}
 use Rattle.rpmb_card.specs.Port.{PortState}
 use Rattle.dir_records.specs.declared.entry.DirEntry.{DirEntry}
 use Rattle.store_model.specs.Record.{events_of}
-use Rattle.history_seats.specs.Changes.{Told, new_pass, new_slot, with_pass_out, with_slot_out}
-use Rattle.history_seats.specs.Mounts.{Mounted, MountedEntry, Served}
+use Rattle.history_seats.specs.Changes.{new_pass, new_slot, with_pass_out, with_slot_out}
+use Rattle.history_seats.specs.Mounts.{Mounted, Served}
 use Rattle.history_seats.specs.Numbers.{is_in}
 use Rattle.history_seats.specs.Records.{HistoryRecord}
-use Rattle.history_seats.specs.Views.{GateView, PassView, Sight, SlotView, new_gate}
+use Rattle.history_seats.specs.Views.{GateView, Sight, SlotView, new_gate}
 use Rattle.core_parts.specs.Opened.{first_view}
 use Rattle.core_parts.proofs.Contained.{contains_none}
 use Rattle.suppositions.specs.Stores.{Store}
+use Rattle.suppositions.proofs.Mending.{none_some}
 use Rattle.store_commit.specs.Gates.{GateValue}
+use Rattle.store_commit.specs.Holds.{file_held}
 use Rattle.store_commit.specs.declared.gate.Doubted.{Doubted}
 use Rattle.call_history.specs.Journals.{IsJournalOf, told_of}
 use Rattle.gate_ties.specs.Ties.{IsTied}
@@ -32,7 +34,9 @@ use Rattle.object_calls.specs.Files.{files_of}
 use Rattle.object_calls.specs.OpenedStores.{IsStoreOf}
 use Rattle.object_calls.specs.Opening.{IsOpening, OpeningValue, bench_files, entries_in}
 use Rattle.object_calls.specs.Seats.{HasTold, IsSplitting}
-use Rattle.object_calls.specs.Services.{AreFirstSlots, AreNumberedSlots, AreOfObjectFiles, MayBeFirst}
+use Rattle.object_calls.specs.Services.{AreFirstSlots, MayBeFirst}
+use Rattle.served_calls.specs.Held.{HoldsForDoubt}
+use Rattle.served_calls.specs.Slots.{AreNumberedSlots, AreOfObjectFiles}
 use Rattle.object_calls.proofs.Files.{files_sound}
 
 -- THE OPENING
@@ -79,6 +83,10 @@ module _ {F R : Type 0} (state : F → FileState) (port : R → PortState) (soun
 -- a history without events has no tag
 pub none_tagged : (view : GateView) → view.all ≡ [] → AreOfObjectFiles view.all
 none_tagged view empty r file there tag = absurd (contains_none r (subst (λ (l : List HistoryRecord). Contains l r) empty there))
+
+-- a gate whose sessions hold no file
+pub none_held : {F R : Type 0} (gate : GateValue F R) → ((session : ℕ) → file_held gate.holds session ≡ None) → HoldsForDoubt gate
+none_held gate none session file is = absurd (none_some file (sym (none session) ∙ is))
 
 -- THE SEATS
 pub new-splitting : (store : Store) → IsSplitting store new_gate 1

@@ -1,18 +1,13 @@
 -- A bench that was formatted mounts to no objects.
-use Rattle.std.proofs.Common.{◌≡◌, ◌∙◌, ℕ, zero, suc, List, [], ◌∷◌, replicate, get_or, Option, Some, None, Ok, IsTrue, refl, sym, ap, subst}
+use Rattle.std.proofs.Common.{◌≡◌, ◌∙◌, ℕ, zero, suc, List, [], replicate, get_or, Some, None, Ok, refl, sym, ap}
 use Rattle.disk_model.specs.State.{FileState}
 use Rattle.hmac_keys.specs.declared.Keys.{Keys}
-use Rattle.hmac_keys.specs.KeyTable.{rpmb_key}
 use Rattle.rpmb_card.specs.Card.{CardState}
 use Rattle.rpmb_card.specs.Port.{PortState}
-use Rattle.rpmb_host.specs.Honest.{HasCard}
 use Rattle.store_model.specs.Object.{ObjectMap}
-use Rattle.dir_records.specs.declared.entry.DirEntry.{DirEntry}
 use Rattle.crash_core.specs.CardBlock.{root_in}
-use Rattle.crash_core.specs.Mounting.{all_held_in, directory_by, map_of, mounted, mounted_directory, mounted_entries}
-use Rattle.crash_core.specs.Pictures.{IsPictureOf, Picture}
+use Rattle.crash_core.specs.Mounting.{all_held_in, directory_by, map_of, mounted_directory, mounted_entries}
 use Rattle.dir_file.specs.EntryForms.{no_entries}
-use Rattle.store_commit.specs.Blocks.{picture_of}
 use Rattle.store_commit.specs.Formats.{Formats}
 use Rattle.object_calls.specs.Files.{files_of}
 use Rattle.object_calls.specs.Formed.{MountsToNone}

@@ -1,30 +1,25 @@
 -- A store that is no longer served: its gate and its slots are at rest.
-use Rattle.std.proofs.Common.{◌≡◌, ◌==◌, ◌+◌, ◌<◌, ◌≤◌, ◌⊎◌, ◌||◌, ℕ, zero, suc, Bool, true, false, true≢false, List, [], ◌∷◌, ◌++◌, length, Option, Some, None, option_map, IsTrue, inl, inr, refl, sym, ap, ◌∙◌, subst, arith, ne_eqb, eq-eqb}
+use Rattle.std.proofs.Common.{◌≡◌, ◌==◌, ◌+◌, ◌≤◌, ◌⊎◌, ◌||◌, ℕ, zero, suc, Bool, true, false, true≢false, List, [], ◌∷◌, ◌++◌, length, Option, Some, None, option_map, IsTrue, inl, inr, refl, sym, ap, ◌∙◌, subst, arith, ne_eqb, eq-eqb}
 use Rattle.std.specs.Prelude.{Contains, nat_lt}
 use Rattle.std.proofs.lemmas.Bool.{cases_Bool, cases_lt, cond-true, cond-false, le-ltb, lt-ltb, eqb-true}
 use Rattle.disk_model.specs.State.{FileState, Sound}
 use Rattle.tee_types.specs.Limits.{last_file}
-use Rattle.hmac_keys.specs.KeyTable.{rpmb_key}
-use Rattle.rpmb_card.specs.Card.{CardState}
 use Rattle.rpmb_card.specs.Port.{PortState}
 use Rattle.rpmb_host.specs.Honest.{HasCard}
-use Rattle.store_model.specs.Record.{concerns_file, events_of, file_of}
+use Rattle.store_model.specs.Record.{concerns_file, events_of}
 use Rattle.store_model.specs.History.{AreNumbered}
-use Rattle.store_model.specs.LegalHistory.{doubt_of}
 use Rattle.store_model.specs.Doubt.{Doubt}
 use Rattle.history_seats.specs.Numbers.{is_in}
 use Rattle.history_seats.specs.Records.{HistoryRecord, IsUpToDate}
 use Rattle.history_seats.specs.Rule.{SlotFits}
-use Rattle.history_seats.specs.Views.{GateView, SlotView}
-use Rattle.crash_core.specs.Pictures.{IsPictureOf, Picture}
-use Rattle.crash_core.specs.CoreState.{IsTrusted}
+use Rattle.history_seats.specs.Views.{GateView}
+use Rattle.crash_core.specs.Pictures.{IsPictureOf}
 use Rattle.core_parts.specs.SlotParts.{SlotHolds, SlotPart}
 use Rattle.core_parts.specs.Joined.{IsObjectFile}
-use Rattle.core_parts.specs.Finished.{MountsAfter}
 use Rattle.core_parts.proofs.Contained.{contains_first, contains_later, contains_cases, contains_none}
 use Rattle.suppositions.specs.Guesses.{Guess}
 use Rattle.suppositions.specs.Stores.{Store, standing_at}
-use Rattle.suppositions.specs.Answered.{AreAnswered, AreOwnLegal, IsEnded}
+use Rattle.suppositions.specs.Answered.{AreOwnLegal}
 use Rattle.suppositions.proofs.Answers.{own-whole}
 use Rattle.suppositions.proofs.Narrowing.{all_answered}
 use Rattle.store_commit.specs.declared.gate.Doubted.{Doubted}
@@ -33,8 +28,6 @@ use Rattle.store_commit.specs.Holds.{AreHolds}
 use Rattle.store_commit.specs.Sides.{Sides}
 use Rattle.gate_ties.specs.Ties.{DoubtedChange, IsStandingDoubt, IsTied}
 use Rattle.gate_parts.specs.ClosedStores.{AreSlotsOf, SupposesDishonest, dishonest_in, no_slot, slots_of, store_files}
-use Rattle.gate_parts.specs.Phases.{phase_under}
-use Rattle.gate_parts.specs.Resting.{IsGateOf}
 use Rattle.gate_parts.specs.Ties.{doubted_change}
 use Rattle.gate_parts.proofs.ClosedStores.{closed_stores_mount, dishonest_files_are_supposed}
 use Rattle.gate_parts.proofs.Ties.{ties_tell}
@@ -44,7 +37,7 @@ use Rattle.locked_gate.specs.LockedGates.{IsLockedGate, LockedGateValue, change_
 use Rattle.object_calls.specs.Files.{files_of}
 use Rattle.object_calls.specs.Finished.{IsAnsweredOrEnds, IsDoubtLeft, LeavesStore, PicturesMountAfter}
 use Rattle.object_calls.specs.Retiring.{AreRetired, IsRetired}
-use Rattle.object_calls.specs.Services.{AreOfObjectFiles}
+use Rattle.served_calls.specs.Slots.{AreOfObjectFiles}
 use Rattle.object_calls.proofs.Files.{files-past}
 use Rattle.object_calls.proofs.Retirings.{IsSameHistory, numbered_back, retired_back}
 

@@ -1,13 +1,12 @@
 -- What loading an object and reading it whole answers.
-use Rattle.std.proofs.Common.{◌≡◌, ◌⊎◌, ◌∙◌, ◌+◌, ◌-◌, ℕ, List, length, Option, Some, None, Result, Ok, Err, refl, sym, ap, subst, inl, inr, arith}
+use Rattle.std.proofs.Common.{◌≡◌, ◌⊎◌, ◌∙◌, ◌+◌, ℕ, List, length, Result, Ok, Err, refl, sym, ap, subst, inl, inr, arith}
 use Rattle.std.specs.Prelude.{IfOk, IfErr, OnOk}
 use Rattle.aes_block.specs.WrappedKey.{unwrapped_of}
 use Rattle.disk_model.specs.State.{FileState}
 use Rattle.disk_model.specs.Calls.{Rests}
-use Rattle.htree_file.specs.declared.fault.TreeFault.{TreeFault}
 use Rattle.htree_file.specs.declared.fault.TreeFault.TheVariants.{BadHead, BadTag, Damaged as DamagedTree, Failed as FileFault, NoEntropy, NoMemory as NoRoom, Short}
-use Rattle.htree_file.specs.Answers.{FileFailed, FilePassed}
-use Rattle.htree_file.specs.Opening.{IsVerified, Loaded}
+use Rattle.htree_file.specs.Answers.{FilePassed}
+use Rattle.htree_file.specs.Opening.{IsVerified}
 use Rattle.htree_file.specs.Standing.{Told}
 use Rattle.htree_file.proofs.Causes.{fault_then, passed_then, told_then}
 use Rattle.node_image.specs.declared.node.RootRef.{RootRef}
@@ -20,7 +19,7 @@ use Rattle.tee_types.specs.declared.reply.Cause.{Cause}
 use Rattle.tee_types.specs.declared.reply.Cause.TheVariants.{Fault, Frame as OfFrame, CardResult as OfResult}
 use Rattle.tee_types.specs.declared.reply.Device.{Device}
 use Rattle.tee_types.specs.declared.reply.Device.TheVariants.{Dir, File, Card, Entropy}
-use Rattle.store_model.specs.Object.{Object, Damaged as DamagedObject, Sound as SoundObject}
+use Rattle.store_model.specs.Object.{Damaged as DamagedObject, Sound as SoundObject}
 use Rattle.dir_records.specs.declared.entry.DirEntry.{DirEntry}
 use Rattle.crash_core.specs.MountedObject.{mounted_object, root_of}
 use Rattle.object_file.specs.declared.fault.ObjectFault.{ObjectFault}

@@ -1,12 +1,10 @@
 -- The objects of a store that was only read are the same.
-use Rattle.std.proofs.Common.{◌≡◌, ◌≢◌, ◌∙◌, ℕ, List, Option, refl, sym, ap, subst, inl, inr}
+use Rattle.std.proofs.Common.{◌≡◌, ℕ, List, Option, sym, ap, subst, inl, inr}
 use Rattle.std.proofs.lemmas.Bool.{cases_eq}
 use Rattle.disk_model.specs.State.{FileState}
 use Rattle.disk_model.specs.Calls.{Known}
-use Rattle.hmac_keys.specs.declared.Keys.{Keys}
 use Rattle.dir_records.specs.declared.entry.DirEntry.{DirEntry}
 use Rattle.crash_core.specs.Mounting.{all_held_in, map_of}
-use Rattle.crash_core.specs.Opening.{opening_map}
 use Rattle.object_calls.specs.Next.{MapStays, ReadsOne}
 
 -- files that read as before

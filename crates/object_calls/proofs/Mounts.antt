@@ -1,5 +1,5 @@
 -- A bench that is mounted, or refused.
-use Rattle.std.proofs.Common.{◌≡◌, ◌∙◌, ◌<◌, ◌≤◌, ℕ, List, [], ◌∷◌, length, Option, Some, None, refl, sym, ap, subst, arith}
+use Rattle.std.proofs.Common.{◌≡◌, ◌∙◌, ◌<◌, ℕ, List, [], length, None, sym, ap, arith}
 use Rattle.disk_model.specs.State.{FileState, Sound, pending}
 use Rattle.atomic_table.specs.Seated.{TableId}
 use Rattle.hmac_keys.specs.declared.Keys.{Keys}
@@ -9,8 +9,6 @@ use Rattle.tee_types.specs.declared.reply.Cause.{Cause}
 use Rattle.tee_types.specs.declared.reply.Cause.TheVariants.{Fault, Frame as OfFrame, CardResult as OfResult}
 use Rattle.tee_types.specs.declared.reply.Device.{Device}
 use Rattle.tee_types.specs.declared.reply.Device.TheVariants.{Dir, File, Card, Entropy}
-use Rattle.dir_records.specs.declared.entry.DirEntry.{DirEntry}
-use Rattle.crash_core.specs.EntryLists.{entry_at}
 use Rattle.crash_core.specs.Mounting.{mounted_entries}
 use Rattle.crash_core.specs.Opening.{reads_of}
 use Rattle.crash_core.proofs.Doubles.{below}
@@ -27,7 +25,6 @@ use Rattle.object_calls.specs.Syncing.{StopsSyncing, SyncsNamed}
 use Rattle.object_calls.proofs.EntriesOf.{file_from_one}
 use Rattle.object_calls.proofs.Files.{files_behind}
 use Rattle.object_calls.proofs.Openings.{whole_opening}
-use Rattle.object_calls.proofs.Syncs.{stops_bench}
 
 -- THE GATE REFUSED
 module _ {F : Type 0} (state : F → FileState) (old new : List F) (p0 p1 : PortState) (keys : Keys) (drew draws : ℕ) where

@@ -1,5 +1,5 @@
 -- The least of the names so far.
-use Rattle.std.proofs.Common.{◌≡◌, ◌≢◌, ◌∙◌, ◌+◌, ◌<◌, ◌&&◌, if◌then◌else◌, ℕ, Bool, true, false, List, Option, Some, None, length, refl, sym, ap, subst, inl, inr, arith, true≢false}
+use Rattle.std.proofs.Common.{◌≡◌, ◌∙◌, ◌+◌, ◌<◌, ◌&&◌, if◌then◌else◌, ℕ, Bool, true, false, List, Option, Some, None, length, refl, sym, ap, subst, inl, inr, arith, true≢false}
 use Rattle.std.specs.Ordering.{is_le, is_lt, ordering_reverse}
 use Rattle.std.specs.declared.cmp.Ordering.{Ordering}
 use Rattle.std.specs.declared.cmp.Ordering.TheVariants.{Less, Equal, Greater}
@@ -13,7 +13,7 @@ use Rattle.crash_core.specs.Entries.{name_of}
 use Rattle.crash_core.specs.EntryLists.{entry_at}
 use Rattle.crash_core.proofs.Doubles.{below as at_below}
 use Rattle.crash_core.proofs.EntryMaps.{self}
-use Rattle.object_calls.specs.Entries.{IsLeastPast, IsNextEntry, IsNonePast, is_nearer, is_past, nearer_of}
+use Rattle.object_calls.specs.Entries.{IsNextEntry, is_nearer, is_past, nearer_of}
 
 -- the least above among the first entries
 pub record IsLeastBefore (entries : List (Option DirEntry)) (after : Option ObjectName) (count : ℕ) (e : DirEntry) : Type 0 where

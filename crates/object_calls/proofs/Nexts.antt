@@ -1,5 +1,5 @@
 -- What showing the object of an entry says of the next object.
-use Rattle.std.proofs.Common.{◌≡◌, ◌≤◌, ◌-◌, ℕ, List, ◌∷◌, Option, Some, None, Result, Ok, Err, refl, sym, ap, subst}
+use Rattle.std.proofs.Common.{◌≡◌, ◌≤◌, ℕ, List, ◌∷◌, Option, Some, Result, Ok, Err, refl, sym, subst}
 use Rattle.disk_model.specs.State.{FileState}
 use Rattle.hmac_keys.specs.KeyTable.{tsk}
 use Rattle.store_model.specs.declared.name.ObjectName.{ObjectName}

@@ -1,16 +1,13 @@
 -- What is open is what the core machine begins with, and every picture of it mounts.
-use Rattle.std.proofs.Common.{◌≡◌, ◌∙◌, ◌<◌, ℕ, get_or, List, [], ◌∷◌, Option, None, Ok, IsTrue, refl, sym, ap, subst, arith}
+use Rattle.std.proofs.Common.{◌≡◌, ◌∙◌, ◌<◌, ℕ, get_or, List, [], ◌∷◌, None, Ok, refl, sym, ap, subst, arith}
 use Rattle.disk_model.specs.State.{FileState, Sound}
 use Rattle.disk_model.proofs.ImageLaws.{reads_left}
-use Rattle.hmac_keys.specs.declared.Keys.{Keys}
 use Rattle.hmac_keys.specs.KeyTable.{dir_tsk}
-use Rattle.rpmb_card.specs.Card.{CardState}
 use Rattle.rpmb_card.specs.Port.{PortState}
 use Rattle.crash_core.specs.CoreState.{Phase}
 use Rattle.crash_core.specs.DeviceKeys.{directory_key}
 use Rattle.crash_core.specs.Directory.{directory_of}
 use Rattle.crash_core.specs.Opening.{opening_map}
-use Rattle.crash_core.specs.Pictures.{Picture}
 use Rattle.crash_core.specs.Theorem.{MountsTo}
 use Rattle.crash_core.proofs.MountedPictures.{directory_mounts, mounts_whole}
 use Rattle.crash_core.proofs.Openings.{openings_are_starts}

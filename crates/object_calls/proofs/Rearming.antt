@@ -1,20 +1,14 @@
 -- What holds of an opening holds still where nothing more is pending.
-use Rattle.std.proofs.Common.{◌≡◌, ◌≢◌, ◌∙◌, ◌-◌, ◌<◌, ◌≤◌, ℕ, zero, suc, List, [], ◌∷◌, length, get_or, drop, Option, Some, None, Result, Ok, Err, refl, sym, ap, subst, inl, inr, arith}
+use Rattle.std.proofs.Common.{◌≡◌, ◌≢◌, ◌∙◌, ◌-◌, ◌≤◌, ℕ, zero, suc, List, ◌∷◌, length, get_or, drop, Result, Ok, Err, refl, sym, ap, subst, inl, inr, arith}
 use Rattle.std.specs.Prelude.{slice_set, OnErr, OnOk}
 use Rattle.std.proofs.lemmas.Bool.{cases_eq}
 use Rattle.disk_model.specs.State.{FileState, pending, spans_of}
 use Rattle.disk_model.specs.Calls.{Rests}
-use Rattle.dir_records.specs.declared.entry.DirEntry.{DirEntry}
-use Rattle.dir_file.specs.EntryForms.{AreEntriesOf}
-use Rattle.dir_file.specs.View.{DirValue, DirView}
 use Rattle.rpmb_card.specs.Port.{PortState}
 use Rattle.rpmb_host.specs.Calls.{HostState}
 use Rattle.crash_core.specs.CoreState.{put}
-use Rattle.crash_core.specs.EntryLists.{entry_at}
 use Rattle.crash_core.proofs.Lists.{put_each, put_else, put_here}
-use Rattle.hmac_keys.specs.KeyTable.{dir_tsk}
 use Rattle.store_commit.specs.Gates.{GateValue}
-use Rattle.store_commit.specs.Holds.{file_held}
 use Rattle.disk_model.specs.Arms.{Taint}
 use Rattle.disk_model.specs.Controls.{failure_armed, stop_armed, taint_armed}
 use Rattle.tee_types.specs.declared.reply.Device.{Device}

@@ -1,26 +1,23 @@
 -- Seats that are taken in for good: what they knew agreed with the history, whichever of them came before.
-use Rattle.std.proofs.Common.{◌≡◌, ◌+◌, ◌-◌, ◌<◌, ◌≤◌, ℕ, List, [], ◌∷◌, ◌++◌, length, take, get_or, reverse, Option, Some, None, slice_index_or, refl, sym, ap, ◌∙◌, subst, inl, inr, arith}
-use Rattle.std.proofs.lemmas.Bool.{cases_eq, cases_lt}
-use Rattle.std.proofs.lemmas.List.{get_or_default, get_or-take, get_or_append_left, get_or_push, length-append, length-take-le, take-take, take_all}
+use Rattle.std.proofs.Common.{◌≡◌, ◌+◌, ◌-◌, ◌<◌, ◌≤◌, ℕ, List, [], ◌∷◌, ◌++◌, length, take, get_or, reverse, slice_index_or, refl, sym, ap, ◌∙◌, subst, inl, inr, arith}
+use Rattle.std.proofs.lemmas.Bool.{cases_lt}
+use Rattle.std.proofs.lemmas.List.{get_or_default, get_or-take, length-append, length-take-le, take-take, take_all}
 use Rattle.disk_model.specs.State.{FileState}
 use Rattle.store_model.specs.History.{AreNumbered, count_of}
 use Rattle.store_model.specs.Record.{events_of}
-use Rattle.history_seats.specs.Mounts.{Mounted, Served}
 use Rattle.history_seats.specs.Records.{HistoryRecord}
 use Rattle.history_seats.specs.Rule.{PassFits, SlotFits}
-use Rattle.history_seats.specs.Views.{GateView, PassView, Sight, SlotView}
+use Rattle.history_seats.specs.Views.{GateView, PassView, SlotView}
 use Rattle.history_seats.proofs.Keeping.{keep_pass, keep_slot}
 use Rattle.suppositions.specs.Stores.{Store}
 use Rattle.call_history.specs.Journals.{JournalValue}
-use Rattle.call_history.specs.Sessions.{CallerSession, IsCallerOf}
+use Rattle.call_history.specs.Sessions.{CallerSession}
 use Rattle.call_history.specs.Shown.{BeginsAll}
-use Rattle.locked_slots.specs.LockedSlots.{IsSlotOf}
 use Rattle.object_slots.specs.Value.{SlotValue}
 use Rattle.object_calls.specs.Files.{files_of}
 use Rattle.object_calls.specs.Finished.{HasCounted}
 use Rattle.object_calls.specs.Retiring.{AreRetired, IsRetired}
-use Rattle.object_calls.specs.Services.{AreNumberedSlots}
-use Rattle.object_calls.specs.Sessions.{AreCallers}
+use Rattle.served_calls.specs.Slots.{AreNumberedSlots}
 use Rattle.object_calls.proofs.Files.{files-front, files-last}
 use Rattle.object_calls.proofs.Stacks.{all_left, last_left, left_of, rest_left}
 

@@ -1,11 +1,10 @@
 -- Sessions are given their seats, one after the other.
-use Rattle.std.proofs.Common.{◌≡◌, ◌≢◌, ◌+◌, ◌<◌, ◌≤◌, ℕ, List, [], ◌∷◌, length, get_or, set, Some, None, slice_index_or, refl, sym, ap, ◌∙◌, subst, inl, inr, arith}
+use Rattle.std.proofs.Common.{◌≡◌, ◌+◌, ◌<◌, ◌≤◌, ℕ, List, [], length, get_or, Some, slice_index_or, refl, sym, ap, ◌∙◌, subst, inl, inr, arith}
 use Rattle.std.specs.Prelude.{slice_set}
 use Rattle.std.proofs.lemmas.Bool.{cases_eq}
 use Rattle.std.proofs.lemmas.List.{get_or-set_other, get_or-set_same, length-set}
 use Rattle.history_seats.specs.Views.{PassView, Sight}
 use Rattle.suppositions.specs.Stores.{Store}
-use Rattle.call_history.specs.Beginnings.{fresh}
 use Rattle.call_history.specs.Sessions.{CallerSession, IsCallerOf}
 use Rattle.call_history.proofs.ShownViews.{fresh_caller}
 use Rattle.object_calls.specs.Sessions.{AreSeated, AreUnseated, unseated}

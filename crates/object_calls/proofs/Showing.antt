@@ -1,16 +1,15 @@
 -- A loaded object that was read whole is the one that the entry mounts as.
-use Rattle.std.proofs.Common.{◌≡◌, ◌∙◌, ◌+◌, ◌-◌, ◌*◌, ◌/◌, ◌%◌, ◌<◌, ◌≤◌, ◌==◌, not, ℕ, Bool, true, false, List, length, get_or, Option, Some, None, IsSome, Result, Ok, Err, refl, sym, ap, subst, inl, inr, arith, true≢false}
-use Rattle.std.proofs.lemmas.Bool.{cases_Bool, cases_lt, eq-eqb, eqb-true}
+use Rattle.std.proofs.Common.{◌≡◌, ◌∙◌, ◌+◌, ◌-◌, ◌*◌, ◌/◌, ◌%◌, ◌<◌, ◌==◌, not, ℕ, Bool, true, false, List, length, get_or, Option, Some, None, IsSome, refl, sym, ap, subst, inl, inr, arith, true≢false}
+use Rattle.std.proofs.lemmas.Bool.{cases_Bool, eq-eqb, eqb-true}
 use Rattle.std.proofs.lemmas.List.{ext_get_or}
 use Rattle.aes_block.specs.WrappedKey.{unwrapped_of}
 use Rattle.disk_model.specs.State.{FileState}
 use Rattle.disk_model.specs.Calls.{GoesOn, Rests}
 use Rattle.disk_model.proofs.Goings.{first_known}
-use Rattle.htree_file.specs.Answers.{FilePassed}
 use Rattle.htree_file.specs.Opening.{IsVerified, Loaded}
 use Rattle.htree_file.specs.Pages.{page_in}
 use Rattle.htree_file.specs.Standing.{Told}
-use Rattle.htree_file.proofs.Causes.{passed_then, rests_then, told_then}
+use Rattle.htree_file.proofs.Causes.{told_then}
 use Rattle.htree_file.proofs.Sizes.{sized_greatest}
 use Rattle.node_image.specs.declared.node.RootRef.{RootRef}
 use Rattle.node_image.specs.Layout.{greatest_of}
@@ -19,16 +18,15 @@ use Rattle.node_image.proofs.Matching.{length-row}
 use Rattle.page_bytes.specs.Pages.{byte_at, byte_in, bytes_from, page_at}
 use Rattle.page_bytes.proofs.Content.{get_or-bytes_from, length-bytes_from}
 use Rattle.block_file.specs.Reads.{AreBytes}
-use Rattle.block_file.proofs.Reading.{page_first, page_stands, page_then, told_first}
+use Rattle.block_file.proofs.Reading.{page_first, page_stands, page_then}
 use Rattle.tree_paths.specs.declared.node_set.NodeSet.{NodeSet}
 use Rattle.tree_paths.specs.Paths.{holds}
-use Rattle.store_model.specs.Object.{Object, Sound as SoundObject}
 use Rattle.dir_records.specs.declared.entry.DirEntry.{DirEntry}
-use Rattle.crash_core.specs.MountedObject.{bad_blocks, mounted_object, root_of}
+use Rattle.crash_core.specs.MountedObject.{bad_blocks, root_of}
 use Rattle.crash_core.proofs.BadBlocks.{list_any-bad-false, list_any-bad-true}
 use Rattle.object_file.specs.Held.{held_in}
 use Rattle.object_file.specs.Value.{ObjectValue, size_in}
-use Rattle.object_file.proofs.ObjectReads.{page_at-pages, within_tree}
+use Rattle.object_file.proofs.ObjectReads.{page_at-pages}
 use Rattle.object_calls.specs.Shown.{IsReadFrom, ShowsBlock, ShowsContents, ShowsData, data_blocks, is_among}
 
 some_is : (page : Option (List ℕ)) (is : List ℕ) → page ≡ Some is → IsSome page

@@ -1,5 +1,5 @@
 -- A list that is turned over, and then taken from its end: what comes is the list from its front on.
-use Rattle.std.proofs.Common.{◌≡◌, ◌+◌, ◌-◌, ◌<◌, ◌≤◌, ℕ, List, length, take, get_or, reverse, refl, sym, ap, ◌∙◌, arith}
+use Rattle.std.proofs.Common.{◌≡◌, ◌+◌, ◌-◌, ◌<◌, ℕ, List, length, take, get_or, reverse, sym, ap, ◌∙◌, arith}
 use Rattle.std.proofs.lemmas.List.{get_or-reverse, get_or-take, length-reverse, length-take-le, take-take, take_all}
 
 -- what is left of the list once so many were taken

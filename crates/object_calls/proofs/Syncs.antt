@@ -1,5 +1,5 @@
 -- Syncs of the files of objects, one after another.
-use Rattle.std.proofs.Common.{◌≡◌, ◌≢◌, ◌∙◌, ◌+◌, ◌-◌, ◌<◌, ◌≤◌, ℕ, List, [], ◌∷◌, length, get_or, Option, Some, None, Result, Ok, Err, refl, sym, ap, subst, inl, inr, arith}
+use Rattle.std.proofs.Common.{◌≡◌, ◌∙◌, ◌+◌, ◌-◌, ◌≤◌, ℕ, List, ◌∷◌, length, get_or, Option, Some, None, Result, Ok, Err, refl, sym, ap, subst, inl, inr, arith}
 use Rattle.std.specs.Prelude.{slice_set}
 use Rattle.std.proofs.lemmas.Bool.{cases_eq, cases_lt}
 use Rattle.disk_model.specs.Faults.{Rose}
@@ -16,7 +16,7 @@ use Rattle.tee_types.specs.declared.reply.Cause.{Cause}
 use Rattle.tee_types.specs.declared.reply.Cause.TheVariants.{Fault, Frame, CardResult}
 use Rattle.tee_types.specs.declared.reply.Device.TheVariants.{Dir, File, Card, Entropy}
 use Rattle.object_calls.specs.Files.{files_of, object_files}
-use Rattle.object_calls.specs.Syncing.{FileSynced, IsOnlySynced, IsUnnamedBefore, StopsSyncing, SyncAnswer, SyncFailed, SyncsNamed, SyncsOne}
+use Rattle.object_calls.specs.Syncing.{FileSynced, IsOnlySynced, StopsSyncing, SyncFailed, SyncsNamed, SyncsOne}
 use Rattle.object_calls.proofs.Files.{files_behind, object_else, object_get, object_here}
 
 -- ONE FILE

@@ -1,5 +1,5 @@
 -- The arms of the devices of a mounted store.
-use Rattle.std.specs.Prelude.{◌≡◌, ◌≤◌, ℕ, List}
+use Rattle.std.specs.Prelude.{◌≡◌, ◌≤◌, ℕ}
 use Rattle.disk_model.specs.Arms.{Taint}
 use Rattle.disk_model.specs.Controls.{failure_armed, stop_armed, taint_armed}
 use Rattle.disk_model.specs.State.{FileState}

@@ -16,3 +16,4 @@ pub mod Services
 pub mod Serving
 pub mod Retiring
 pub mod Finished
+pub mod Calling

@@ -8,10 +8,10 @@ use Rattle.hmac_keys.specs.KeyTable.{tsk}
 use Rattle.crash_core.specs.Opening.{opening_map}
 use Rattle.store_model.specs.declared.name.ObjectName.{ObjectName}
 use Rattle.dir_records.specs.declared.entry.DirEntry.{DirEntry}
-use Rattle.tee_types.specs.declared.reply.Cause.TheVariants.{Fault, Frame, CardResult as OfResult}
-use Rattle.tee_types.specs.declared.reply.Device.TheVariants.{Dir, File, Card, Entropy}
+use Rattle.tee_types.specs.declared.reply.Cause.TheVariants.{Fault}
+use Rattle.tee_types.specs.declared.reply.Device.TheVariants.{File}
 use Rattle.store_commit.specs.declared.fault.MountFault.{MountFault}
-use Rattle.store_commit.specs.declared.fault.MountFault.TheVariants.{NoStore, CardBlock, Directory, Frame as OfFrame, CardResult, Failed, Spent, NoMemory}
+use Rattle.store_commit.specs.declared.fault.MountFault.TheVariants.{Failed, NoMemory}
 use Rattle.object_calls.specs.declared.shown.Shown.{Shown}
 use Rattle.object_calls.specs.declared.shown.ShownObject.{ShownObject}
 use Rattle.object_calls.specs.Entries.{IsLeastPast, IsNonePast}

@@ -1,5 +1,5 @@
 -- The store that an opening is, under the keys of its device.
-use Rattle.std.specs.Prelude.{◌≡◌, ℕ, List, ◌∷◌, map}
+use Rattle.std.specs.Prelude.{◌≡◌, List, ◌∷◌, map}
 use Rattle.disk_model.specs.State.{FileState}
 use Rattle.hmac_keys.specs.declared.Keys.{Keys}
 use Rattle.rpmb_card.specs.Port.{PortState}

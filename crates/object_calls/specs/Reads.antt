@@ -2,7 +2,7 @@
 use Rattle.std.specs.Prelude.{◌≡◌, ◌≢◌, ◌+◌, ◌*◌, ◌<◌, ℕ, Bool, true, false, not, List, length, get_or, Option, Some, None, Result, Ok, Err}
 use Rattle.disk_model.specs.State.{FileState}
 use Rattle.htree_file.specs.declared.fault.TreeFault.{TreeFault}
-use Rattle.htree_file.specs.declared.fault.TreeFault.TheVariants.{BadHead, BadTag, Damaged as DamagedTree, Failed as FileFault, NoEntropy, NoMemory as NoRoom, Short}
+use Rattle.htree_file.specs.declared.fault.TreeFault.TheVariants.{Failed as FileFault, NoMemory as NoRoom}
 use Rattle.htree_file.specs.Opening.{Loaded}
 use Rattle.htree_file.specs.Pages.{page_in}
 use Rattle.htree_file.specs.Standing.{Told}
@@ -13,7 +13,7 @@ use Rattle.block_file.specs.Reads.{IsPage}
 use Rattle.tee_types.specs.declared.reply.Cause.TheVariants.{Fault}
 use Rattle.tee_types.specs.declared.reply.Device.TheVariants.{File}
 use Rattle.object_file.specs.declared.fault.ObjectFault.{ObjectFault}
-use Rattle.object_file.specs.declared.fault.ObjectFault.TheVariants.{Tree, WrongSize}
+use Rattle.object_file.specs.declared.fault.ObjectFault.TheVariants.{Tree}
 use Rattle.store_commit.specs.declared.fault.MountFault.{MountFault}
 use Rattle.store_commit.specs.declared.fault.MountFault.TheVariants.{Failed, NoMemory}
 use Rattle.object_calls.specs.declared.shown.ShownObject.{ShownObject}

@@ -1,14 +1,13 @@
 -- Why a bench is not mounted, and what is then left of it.
-use Rattle.std.specs.Prelude.{◌≡◌, ◌≤◌, ℕ, List, drop}
+use Rattle.std.specs.Prelude.{◌≡◌, ℕ, List, drop}
 use Rattle.disk_model.specs.State.{FileState}
 use Rattle.hmac_keys.specs.declared.Keys.{Keys}
 use Rattle.rpmb_card.specs.Port.{PortState}
-use Rattle.tee_types.specs.declared.reply.Cause.{Cause}
 use Rattle.tee_types.specs.declared.reply.Cause.TheVariants.{Fault}
 use Rattle.tee_types.specs.declared.reply.Device.TheVariants.{File}
 use Rattle.store_commit.specs.declared.fault.MountFault.{MountFault}
 use Rattle.store_commit.specs.declared.fault.MountFault.TheVariants.{Failed}
-use Rattle.store_commit.specs.Mounts.{LeavesDevices, MountDiffers, MountRefused}
+use Rattle.store_commit.specs.Mounts.{MountDiffers, MountRefused}
 use Rattle.object_calls.specs.Files.{files_of}
 use Rattle.object_calls.specs.Syncing.{StopsSyncing}
 

@@ -1,5 +1,5 @@
 -- A slot that was taken in for good.
-use Rattle.std.specs.Prelude.{◌≡◌, ◌<◌, ◌+◌, ℕ, List, length}
+use Rattle.std.specs.Prelude.{◌<◌, ◌+◌, ℕ, List}
 use Rattle.disk_model.specs.State.{FileState}
 use Rattle.history_seats.specs.Rule.{SlotFits}
 use Rattle.history_seats.specs.Views.{GateView, Sight, SlotView}

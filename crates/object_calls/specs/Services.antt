@@ -1,17 +1,16 @@
 -- What a contract sees of a store that is served, and what always holds of it.
-use Rattle.std.specs.Prelude.{◌≡◌, ◌<◌, ◌≤◌, ◌+◌, ℕ, List, [], length, Option, Some, Contains, slice_index_or}
+use Rattle.std.specs.Prelude.{◌≡◌, ◌<◌, ◌+◌, ◌≤◌, ℕ, List, length, Option, slice_index_or}
 use Rattle.disk_model.specs.State.{FileState}
 use Rattle.hmac_keys.specs.KeyTable.{ssk}
 use Rattle.dir_records.specs.declared.entry.DirEntry.{DirEntry}
-use Rattle.store_model.specs.Record.{file_of}
-use Rattle.history_seats.specs.Records.{HistoryRecord}
-use Rattle.core_parts.specs.Joined.{IsObjectFile}
 use Rattle.suppositions.specs.Stores.{Store}
 use Rattle.object_slots.specs.Value.{SlotValue}
 use Rattle.locked_gate.specs.LockedGates.{LockedGateValue}
 use Rattle.locked_slots.specs.LockedSlots.{IsLockedSlot}
 use Rattle.locked_slots.specs.Opening.{first_slot}
 use Rattle.mounted_store.specs.Generations.{generation_in}
+use Rattle.served_calls.specs.Held.{HoldsForDoubt}
+use Rattle.served_calls.specs.Slots.{AreOfObjectFiles, AreSlots}
 use Rattle.object_calls.specs.Files.{files_of}
 
 -- the gate, the slots of the files, file 1 first, and the key that the applications' keys come from
@@ -32,17 +31,10 @@ MayBeFirst store entries state files = (i : ℕ) → i < length files → IsLock
 abbrev pub AreFirstSlots : {F : Type 0} → Store → List (Option DirEntry) → (F → FileState) → List F → (count : ℕ) → List SlotValue → Type 0
 AreFirstSlots store entries state files count slots = (i : ℕ) (d : SlotValue) → i < count → slice_index_or slots i d ≡ slot_for store entries state files i
 
--- each tag names the file of an object
-abbrev pub AreOfObjectFiles : List HistoryRecord → Type 0
-AreOfObjectFiles records = (r : HistoryRecord) (file : ℕ) → Contains records r → file_of r ≡ Some file → IsObjectFile file
-
--- the slot at each place is that of its file, file 1 first
-abbrev pub AreNumberedSlots : List SlotValue → Type 0
-AreNumberedSlots slots = (i : ℕ) (d : SlotValue) → i < length slots → (slice_index_or slots i d).number ≡ i + 1
-
 -- What always holds of a store that is served, beside what holds behind its locks.
 pub record IsService {F R : Type 0} (store : Store) (gate : LockedGateValue F R) (slots : List SlotValue) (storage_key : List ℕ) : Type 0 where
-  pub many : length slots ≡ 272
-  pub numbered : AreNumberedSlots slots
+  pub slots_are : AreSlots slots
+  pub held : HoldsForDoubt gate.gate
   pub tagged : AreOfObjectFiles gate.journal.knows.all
   pub keyed : storage_key ≡ ssk store.keys.huk store.keys.chip
+  pub few : length store.mounted.applications ≤ 16

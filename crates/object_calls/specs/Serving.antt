@@ -1,12 +1,9 @@
 -- What serving a mounted store begins with.
-use Rattle.std.specs.Prelude.{◌≡◌, ◌<◌, ℕ, None, slice_index_or}
+use Rattle.std.specs.Prelude.{◌≡◌, None}
 use Rattle.disk_model.specs.State.{FileState}
 use Rattle.suppositions.specs.Stores.{Store}
-use Rattle.object_slots.specs.Value.{SlotValue}
-use Rattle.locked_slots.specs.Opening.{first_slot}
-use Rattle.mounted_store.specs.Generations.{generation_in}
 use Rattle.mounted_store.specs.MountLaws.{IsFirstView}
-use Rattle.object_calls.specs.Opening.{OpeningValue, bench_files, entries_in}
+use Rattle.object_calls.specs.Opening.{OpeningValue, entries_in}
 use Rattle.object_calls.specs.Services.{AreFirstSlots, ServiceValue}
 
 -- The gate is the opening's, there is no event, and the slot of each file is free, of the generation of the entry that names the file, or 0.

@@ -1,5 +1,5 @@
 -- An object as it is shown, and what was read of its file.
-use Rattle.std.specs.Prelude.{◌≡◌, ◌+◌, ◌-◌, ◌*◌, ◌/◌, ◌<◌, ◌≤◌, ◌==◌, ℕ, Bool, true, false, not, List, length, get_or, Some, None}
+use Rattle.std.specs.Prelude.{◌≡◌, ◌+◌, ◌-◌, ◌*◌, ◌/◌, ◌<◌, ◌≤◌, ◌==◌, ℕ, Bool, true, false, not, List, length, get_or, None}
 use Rattle.std.specs.List.{list_any}
 use Rattle.aes_block.specs.WrappedKey.{unwrapped_of}
 use Rattle.disk_model.specs.State.{FileState}

@@ -7,8 +7,8 @@ use Rattle.htree_file.specs.Answers.{FileFailed, FilePassed}
 use Rattle.dir_records.specs.declared.entry.DirEntry.{DirEntry}
 use Rattle.crash_core.specs.EntryLists.{entry_at}
 use Rattle.tee_types.specs.declared.reply.Cause.{Cause}
-use Rattle.tee_types.specs.declared.reply.Cause.TheVariants.{Fault, Frame, CardResult}
-use Rattle.tee_types.specs.declared.reply.Device.TheVariants.{Dir, File, Card, Entropy}
+use Rattle.tee_types.specs.declared.reply.Cause.TheVariants.{Fault}
+use Rattle.tee_types.specs.declared.reply.Device.TheVariants.{File}
 
 -- nothing was asked of the file but reads and syncs
 pub record IsOnlySynced (old new : FileState) : Type 0 where

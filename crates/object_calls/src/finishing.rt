@@ -12,7 +12,7 @@ ghost use Rattle.locked_slots.specs.LockedSlots.{IsSlotOf};
 ghost use Rattle.object_calls.specs.Files.{files_of};
 ghost use Rattle.object_calls.specs.Finished.{HaveCounted, LeavesStore};
 ghost use Rattle.object_calls.specs.Retiring.{AreRetired, IsRetired};
-ghost use Rattle.object_calls.specs.Services.{AreNumberedSlots};
+ghost use Rattle.served_calls.specs.Slots.{AreNumberedSlots};
 ghost use Rattle.object_calls.specs.Sessions.{AreCallers};
 
 use crate::bench::{Bench, with_dir};

@@ -8,6 +8,7 @@
 
 mod arms;
 mod bench;
+mod calling;
 mod data;
 mod finishing;
 mod forming;
@@ -23,6 +24,7 @@ mod splitting;
 mod syncing;
 
 pub use bench::{Bench, BlockRead, FILES, Halted};
+pub use calling::Answer;
 pub use finishing::Closed;
 pub use forming::format;
 pub use mounting::mount;

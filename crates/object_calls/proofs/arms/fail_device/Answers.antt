@@ -1,4 +1,4 @@
-use Rattle.std.proofs.Common.{◌≡◌, ◌≤◌, ◌-◌, ◌∷◌, ap, get_or, subst, sym, arith, OnOk}
+use Rattle.std.proofs.Common.{◌≡◌, ◌-◌, ◌∷◌, ap, get_or, subst, sym, arith}
 use Rattle.std.specs.Prelude.{slice_set}
 use Rattle.disk_model.specs.Controls.{failure_armed}
 use Rattle.object_calls.specs.Arming.{FailsOnBench, IsOnBench, StayDevices}

@@ -1,4 +1,4 @@
-use Rattle.std.proofs.Common.{◌≤◌, ◌-◌, ◌∷◌, ap, get_or, subst, sym, arith}
+use Rattle.std.proofs.Common.{◌-◌, ◌∷◌, ap, get_or, subst, sym, arith}
 use Rattle.disk_model.specs.Controls.{stop_armed}
 use Rattle.object_calls.specs.Arming.{IsOnBench, StopsOnBench}
 use Rattle.object_calls.specs.Files.{files_of}

@@ -1,4 +1,4 @@
-use Rattle.std.proofs.Common.{◌≡◌, ◌≤◌, ◌-◌, ◌∷◌, ap, get_or, subst, sym, arith, OnOk}
+use Rattle.std.proofs.Common.{◌≡◌, ◌-◌, ◌∷◌, ap, get_or, subst, sym, arith}
 use Rattle.std.specs.Prelude.{slice_set}
 use Rattle.disk_model.specs.Arms.{Taint}
 use Rattle.disk_model.specs.Controls.{taint_armed}

@@ -1,4 +1,4 @@
-use Rattle.std.proofs.Common.{◌≡◌, ◌∙◌, ◌+◌, ◌-◌, ◌*◌, ◌<◌, ◌≤◌, ℕ, List, length, min, refl, sym, ap, arith}
+use Rattle.std.proofs.Common.{◌≡◌, ◌∙◌, ◌+◌, ◌-◌, ◌*◌, ◌<◌, ◌≤◌, ℕ, List, length, min, refl, arith}
 use Rattle.object_file.specs.Value.{size_in}
 use Rattle.page_bytes.proofs.Laying.{length-part}
 use Rattle.store_commit.proofs.Syncing.{ok_map}

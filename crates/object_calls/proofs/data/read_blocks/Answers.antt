@@ -1,4 +1,4 @@
-use Rattle.std.proofs.Common.{◌≡◌, ◌∙◌, List, length}
+use Rattle.std.proofs.Common.{◌≡◌, ◌∙◌, length}
 use Rattle.object_file.specs.Value.{size_in}
 use Rattle.object_calls.proofs.Blocks.{reads_more}
 use Rattle.object_calls.proofs.data.read_blocks.Goals as goal

@@ -1,4 +1,4 @@
-use Rattle.std.proofs.Common.{◌≡◌, ◌∙◌, ◌+◌, ◌-◌, ◌*◌, ◌<◌, ◌≤◌, ℕ, List, length, min, replicate, None, refl, sym, ap, arith}
+use Rattle.std.proofs.Common.{◌≡◌, ◌∙◌, ◌-◌, ◌*◌, ◌<◌, ◌≤◌, ℕ, List, length, min, replicate, None, refl, sym, ap, arith}
 use Rattle.object_file.specs.Value.{size_in}
 use Rattle.object_calls.specs.Reads.{failure_in}
 use Rattle.object_calls.proofs.Blocks.{part_bad, part_good}

@@ -1,5 +1,4 @@
-use Rattle.std.proofs.Common.{◌≡◌, ◌∙◌, [], ◌∷◌, List, length, Err, sym, ap, subst}
-use Rattle.store_commit.specs.Gates.{gate_sides}
+use Rattle.std.proofs.Common.{◌≡◌, ◌∙◌, [], ◌∷◌, List, length, sym, ap, subst}
 use Rattle.object_calls.specs.Begins.{IsWholeOpening, MountsAsRead}
 use Rattle.object_calls.specs.Files.{files_of, object_files}
 use Rattle.object_calls.specs.Opening.{IsOpening, OpeningValue, bench_files, entries_in}

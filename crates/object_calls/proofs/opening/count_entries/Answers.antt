@@ -1,5 +1,4 @@
-use Rattle.std.proofs.Common.{◌∙◌, is_some, ap, sym, arith}
-use Rattle.object_calls.proofs.Counting.{count_next, count_none, count_whole}
+use Rattle.object_calls.proofs.Counting.{count_none}
 use Rattle.object_calls.proofs.opening.count_entries.Goals as goal
 
 pub loop-index-init : goal.loop-index-init

@@ -1,5 +1,3 @@
-use Rattle.std.proofs.Common.{◌≡◌, ◌≤◌, take, is_some}
-use Rattle.std.specs.Prelude.{count_by}
 use Rattle.object_calls.proofs.Counting.{IsCount}
 use Rattle.object_calls.proofs.opening.count_entries.Given as goal
 

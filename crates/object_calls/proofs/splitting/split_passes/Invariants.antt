@@ -1,4 +1,4 @@
-use Rattle.std.proofs.Common.{◌≡◌, ◌≤◌, ◌<◌, ℕ, length, slice_index_or}
+use Rattle.std.proofs.Common.{◌≡◌}
 use Rattle.object_calls.specs.Seats.{HasTold}
 use Rattle.object_calls.proofs.Seating.{AreSeatedBelow}
 use Rattle.object_calls.proofs.splitting.split_passes.Given as goal

@@ -1,5 +1,4 @@
 use Rattle.std.proofs.Common.{rules, ◌≡◌, ◌+◌, ◌-◌, ◌<◌, ◌∙◌, ℕ, [], ◌∷◌, ◌++◌, length, take, get_or, vec_len, sym, ap, subst, arith}
-use Rattle.object_slots.specs.Value.{SlotValue}
 use Rattle.suppositions.proofs.Mending.{some_same}
 use Rattle.object_calls.specs.Seats.{IsSplitting}
 use Rattle.object_calls.proofs.SplitFiles.{may_be_next, none_split, one_split}

@@ -1,6 +1,5 @@
-use Rattle.std.proofs.Common.{◌≡◌, ◌+◌, ◌-◌, ◌∙◌, ℕ, Err, sym, subst}
+use Rattle.std.proofs.Common.{◌+◌, ◌-◌, ◌∙◌, sym, subst}
 use Rattle.std.proofs.lemmas.Result.{err_from_is_err_and}
-use Rattle.disk_model.specs.State.{Sound}
 use Rattle.object_calls.specs.Files.{object_files}
 use Rattle.object_calls.specs.Syncing.{SyncsNamed}
 use Rattle.object_calls.proofs.EntriesOf.{file_from_one, form_at}

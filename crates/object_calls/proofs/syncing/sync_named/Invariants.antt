@@ -1,4 +1,3 @@
-use Rattle.std.proofs.Common.{ℕ}
 use Rattle.object_calls.specs.Files.{object_files}
 use Rattle.object_calls.specs.Syncing.{SyncsNamed}
 use Rattle.object_calls.proofs.syncing.sync_named.Given as goal

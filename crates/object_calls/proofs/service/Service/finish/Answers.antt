@@ -1,4 +1,4 @@
-use Rattle.std.proofs.Common.{◌≡◌, ◌∙◌, ◌∷◌, ℕ, List, length, Option, option_map, refl, sym, ap, subst}
+use Rattle.std.proofs.Common.{◌≡◌, ◌∙◌, option_map, sym, ap, subst}
 use Rattle.history_seats.specs.Views.{GateView}
 use Rattle.store_commit.specs.Gates.{DoubtStands, GateValue, gate_sides}
 use Rattle.store_commit.specs.Holds.{AreHolds}

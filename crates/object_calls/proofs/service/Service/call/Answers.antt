@@ -1,0 +1,35 @@
+-- What the call leaves keeps the service whole, and is its answer.
+use Rattle.std.proofs.Common.{ℕ, Option, refl, sym, subst}
+use Rattle.tee_types.specs.declared.reply.Reply.{Reply}
+use Rattle.object_calls.specs.Calling.{AnswersCall}
+use Rattle.object_calls.specs.Services.{ServiceValue}
+use Rattle.object_calls.proofs.service.Service.call.Goals as goal
+use Rattle.object_calls.proofs.service.Service.call.Goals.{in-Err, in-Ok}
+
+pub invariant_of-self : goal.invariant_of-self
+invariant_of-self g c =
+    let was = c.self.invariant.0 in
+    let done = c.serve.ensures.serves in
+    (record { slots_are = done.slots; held = done.held; tagged = done.tagged was.tagged; keyed = was.keyed; few = was.few }, c.self.invariant.1, c.self.invariant.2)
+
+pub returns-clause-answers : goal.returns-clause-answers
+returns-clause-answers g c =
+    let i = c.self.inside in
+    let store = g.L.StoreName.store in
+    let of_file = g.F.StoreFile.state in
+    let of_port = g.R.RpmbPort.state in
+    let faults = g.E.Entropy.faults in
+    let was : ServiceValue g.row.F.Denot g.row.R.Denot = record { gate = i.gate; slots = i.slots.items; storage_key = i.storage_key } in
+    let now : ServiceValue g.row.F.Denot g.row.R.Denot = record { gate = c.serve.new.gate; slots = c.serve.new.slots.items; storage_key = i.storage_key } in
+    subst
+    (λ (s : ServiceValue g.row.F.Denot g.row.R.Denot). AnswersCall of_file of_port faults store s now c.args.session.now c.serve.new.session c.args.call.now c.match-serve.result.place c.match-serve.result.reply)
+    c.self.view_is (elim c.match-serve.branch [
+      | in-Ok w ↦
+          let done = w.in-Ok.ensures.serves in
+          subst (λ (p : Option ℕ × Reply). AnswersCall of_file of_port faults store was now c.args.session.now c.serve.new.session c.args.call.now p.0 p.1)
+          (λ j. ((sym w.result-is j).place, (sym w.result-is j).reply)) (record { at = done.answers; grow = done.grow; storage_key = refl })
+      | in-Err w ↦
+          let done = w.in-Err.ensures.serves in
+          subst (λ (p : Option ℕ × Reply). AnswersCall of_file of_port faults store was now c.args.session.now c.serve.new.session c.args.call.now p.0 p.1)
+          (λ j. ((sym w.result-is j).place, (sym w.result-is j).reply)) (record { at = (refl, done.answers); grow = done.grow; storage_key = refl })
+    ])
