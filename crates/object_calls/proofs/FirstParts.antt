@@ -34,10 +34,11 @@ use Rattle.object_calls.specs.Files.{files_of}
 use Rattle.object_calls.specs.OpenedStores.{IsStoreOf}
 use Rattle.object_calls.specs.Opening.{IsOpening, OpeningValue, bench_files, entries_in}
 use Rattle.object_calls.specs.Seats.{HasTold, IsSplitting}
-use Rattle.object_calls.specs.Services.{AreFirstSlots, MayBeFirst}
+use Rattle.object_calls.specs.Services.{AreFirstSlots, MayBeFirst, OpensAsHonest}
 use Rattle.served_calls.specs.Held.{HoldsForDoubt}
 use Rattle.served_calls.specs.Slots.{AreNumberedSlots, AreOfObjectFiles}
 use Rattle.object_calls.proofs.Files.{files_sound}
+use Rattle.object_calls.proofs.HonestOpenings.{opens_as_honest}
 
 -- THE OPENING
 module _ {F R : Type 0} (state : F → FileState) (port : R → PortState) (sound : (f : F) → Sound (state f)) (store : Store) (o : OpeningValue F R)
@@ -50,6 +51,9 @@ module _ {F R : Type 0} (state : F → FileState) (port : R → PortState) (soun
     told = ap (λ (s : Store). s.mounted.entries) of.is;
     objects = ap (λ (s : Store). s.objects) of.is;
   }
+
+  pub first_opens : OpensAsHonest store
+  first_opens = opens_as_honest store (bench_files state o) (entries_in o) mounted_store
 
   pub may_be_first : MayBeFirst store (entries_in o) state o.files
   may_be_first i within =

@@ -1,25 +1,32 @@
 -- A store that is no longer served: its gate and its slots are at rest.
 use Rattle.std.proofs.Common.{◌≡◌, ◌==◌, ◌+◌, ◌≤◌, ◌⊎◌, ◌||◌, ℕ, zero, suc, Bool, true, false, true≢false, List, [], ◌∷◌, ◌++◌, length, Option, Some, None, option_map, IsTrue, inl, inr, refl, sym, ap, ◌∙◌, subst, arith, ne_eqb, eq-eqb}
-use Rattle.std.specs.Prelude.{Contains, nat_lt}
+use Rattle.std.specs.Prelude.{Contains, drop, nat_lt}
 use Rattle.std.proofs.lemmas.Bool.{cases_Bool, cases_lt, cond-true, cond-false, le-ltb, lt-ltb, eqb-true}
 use Rattle.disk_model.specs.State.{FileState, Sound}
 use Rattle.tee_types.specs.Limits.{last_file}
+use Rattle.hmac_keys.specs.KeyTable.{rpmb_key}
+use Rattle.rpmb_card.specs.Card.{CardState}
 use Rattle.rpmb_card.specs.Port.{PortState}
 use Rattle.rpmb_host.specs.Honest.{HasCard}
+use Rattle.store_model.specs.Legal.{IsLegalFrom}
+use Rattle.store_model.specs.LegalHistory.{IsLegal, doubt_of, opening_with}
+use Rattle.store_model.specs.Object.{ObjectMap}
 use Rattle.store_model.specs.Record.{concerns_file, events_of}
+use Rattle.store_model.specs.Sound.{IsObjectMap}
+use Rattle.store_model.specs.Standing.{Standing, replay}
 use Rattle.store_model.specs.History.{AreNumbered}
 use Rattle.store_model.specs.Doubt.{Doubt}
 use Rattle.history_seats.specs.Numbers.{is_in}
 use Rattle.history_seats.specs.Records.{HistoryRecord, IsUpToDate}
 use Rattle.history_seats.specs.Rule.{SlotFits}
 use Rattle.history_seats.specs.Views.{GateView}
-use Rattle.crash_core.specs.Pictures.{IsPictureOf}
+use Rattle.crash_core.specs.Pictures.{IsPictureOf, Picture}
 use Rattle.core_parts.specs.SlotParts.{SlotHolds, SlotPart}
 use Rattle.core_parts.specs.Joined.{IsObjectFile}
 use Rattle.core_parts.proofs.Contained.{contains_first, contains_later, contains_cases, contains_none}
-use Rattle.suppositions.specs.Guesses.{Guess}
-use Rattle.suppositions.specs.Stores.{Store, standing_at}
-use Rattle.suppositions.specs.Answered.{AreOwnLegal}
+use Rattle.suppositions.specs.Guesses.{Guess, nothing_back}
+use Rattle.suppositions.specs.Stores.{Store, phase_of, standing_at}
+use Rattle.suppositions.specs.Answered.{AreAnswered, AreOwnLegal}
 use Rattle.suppositions.proofs.Answers.{own-whole}
 use Rattle.suppositions.proofs.Narrowing.{all_answered}
 use Rattle.store_commit.specs.declared.gate.Doubted.{Doubted}
@@ -27,18 +34,21 @@ use Rattle.store_commit.specs.Gates.{DoubtStands, GateValue, gate_sides}
 use Rattle.store_commit.specs.Holds.{AreHolds}
 use Rattle.store_commit.specs.Sides.{Sides}
 use Rattle.gate_ties.specs.Ties.{DoubtedChange, IsStandingDoubt, IsTied}
-use Rattle.gate_parts.specs.ClosedStores.{AreSlotsOf, SupposesDishonest, dishonest_in, no_slot, slots_of, store_files}
+use Rattle.gate_parts.specs.ClosedStores.{AreSlotsOf, IsClosedStore, SupposesDishonest, dishonest_in, no_slot, slots_of, store_files}
 use Rattle.gate_parts.specs.Ties.{doubted_change}
-use Rattle.gate_parts.proofs.ClosedStores.{closed_stores_mount, dishonest_files_are_supposed}
+use Rattle.gate_parts.proofs.ClosedStores.{closed_stores_mount, dishonest_files_are_supposed, honest_stores_mount}
 use Rattle.gate_parts.proofs.Ties.{ties_tell}
 use Rattle.object_slots.specs.Steps.{part}
 use Rattle.locked_gate.specs.declared.gate.Closing.{Closing}
 use Rattle.locked_gate.specs.LockedGates.{IsLockedGate, LockedGateValue, change_in_doubt}
 use Rattle.object_calls.specs.Files.{files_of}
-use Rattle.object_calls.specs.Finished.{IsAnsweredOrEnds, IsDoubtLeft, LeavesStore, PicturesMountAfter}
-use Rattle.object_calls.specs.Retiring.{AreRetired, IsRetired}
+use Rattle.object_calls.specs.Finished.{AreAllHonest, GivesBack, IsAnsweredOrEnds, IsDoubtLeft, IsMapLeft, LeavesHonest, LeavesStore, PicturesMountAfter, end_standing}
+use Rattle.object_calls.specs.Retiring.{AreFilesOf, AreRetired, IsRetired}
+use Rattle.object_calls.specs.Services.{OpensAsHonest, ServiceValue}
 use Rattle.served_calls.specs.Slots.{AreOfObjectFiles}
 use Rattle.object_calls.proofs.Files.{files-past}
+use Rattle.object_calls.proofs.HonestHistories.{all_answered as all_answered_honest, events_legal}
+use Rattle.object_calls.proofs.HonestOpenings.{altered-same}
 use Rattle.object_calls.proofs.Retirings.{IsSameHistory, numbered_back, retired_back}
 
 -- a number that is in a list is contained in it, and the other way round
@@ -83,7 +93,7 @@ doubt_words (Some d) = refl
 
 module _ {F R : Type 0} (state : F → FileState) (port : R → PortState) (sound : (f : F) → Sound (state f)) (store : Store) (gate : GateValue F R) (view : GateView)
     (closing : Option Closing) (others : List F) (locked : IsLockedGate store gate view closing) (stands : DoubtStands (gate_sides state port gate) gate.doubt)
-    (held : AreHolds gate.dir.dir.entries gate.holds) (tagged : AreOfObjectFiles view.all) (many : length others ≡ 272) (retired : AreRetired store view state 272 others) where
+    (held : AreHolds gate.dir.dir.entries gate.holds) (tagged : AreOfObjectFiles view.all) (many : length others ≡ 272) (retired : AreRetired store view state 272 others) (opens : OpensAsHonest store) where
   abbrev g : Sides
   g = gate_sides state port gate
 
@@ -144,9 +154,12 @@ module _ {F R : Type 0} (state : F → FileState) (port : R → PortState) (soun
       subst (λ (n : ℕ). IsUpToDate (concerns_file n) r.seat.knows.seen view.all) r.own.own r.fits.sees.begins in
       own-whole store guess file r.seat.knows.seen view.all begins (r.own.legal honest guess off)
 
+  off_of : (guess : Guess) (file : ℕ) → (IsObjectFile file → ⊥) → AreOwnLegal store guess file view.all
+  off_of guess file off front r back split names answered = absurd (off (tagged r file (subst (λ (l : List HistoryRecord). Contains l r) split (contains_between front r back)) names))
+
   own_legal : (guess : Guess) → guess.dishonest ≡ dishonest_in files → (file : ℕ) → Contains guess.dishonest file ⊎ AreOwnLegal store guess file view.all
   own_legal guess is file = elim (object_or_not file) [
-    | inr off ↦ inr (λ front r back split names answered. absurd (off (tagged r file (subst (λ (l : List HistoryRecord). Contains l r) split (contains_between front r back)) names)))
+    | inr off ↦ inr (off_of guess file off)
     | inl own ↦ elim (cases_Bool (is_in file guess.dishonest)) [
       | inl among ↦ inl (in-contains file guess.dishonest among)
       | inr off ↦
@@ -162,21 +175,24 @@ module _ {F R : Type 0} (state : F → FileState) (port : R → PortState) (soun
   tied_words : IsTied store view gate.dir.dir.entries gate.counter (option_map doubted_change gate.doubt)
   tied_words = subst (λ (d : Option DoubtedChange). IsTied store view gate.dir.dir.entries gate.counter d) (doubt_words gate.doubt) locked.tied
 
+  closed : (guess : Guess) (card : CardState) → SupposesDishonest guess (store_files g slots) → AreAnswered store guess view.all
+      → HasCard (port gate.host.port) (rpmb_key store.keys.huk) card → IsClosedStore store guess g gate.doubt gate.holds card view slots
+  closed guess card dishonest answered has = record {
+    gate = record {
+      tsk = locked.directory_key;
+      sound = sound gate.dir.file;
+      stands = stands;
+      held = held;
+      told = record { own = card; has = subst (λ (k : List ℕ). HasCard (port gate.host.port) k card) (sym locked.card_key) has; same = record { key = refl; counter = refl; blocks = refl } };
+    };
+    tied = ties_tell store guess view gate.dir.dir.entries gate.counter gate.doubt locked.journal.mounted tied_words answered (locked.journal.in_step guess answered);
+    slots_hold = slots_hold;
+    dishonest = dishonest;
+  }
+
   mounts_after : PicturesMountAfter store view files (port gate.host.port)
   mounts_after guess card picture is answered has left trusted =
-      closed_stores_mount store guess g gate.doubt gate.holds card view slots picture
-      (record {
-        gate = record {
-          tsk = locked.directory_key;
-          sound = sound gate.dir.file;
-          stands = stands;
-          held = held;
-          told = record { own = card; has = subst (λ (k : List ℕ). HasCard (port gate.host.port) k card) (sym locked.card_key) has; same = record { key = refl; counter = refl; blocks = refl } };
-        };
-        tied = ties_tell store guess view gate.dir.dir.entries gate.counter gate.doubt locked.journal.mounted tied_words answered (locked.journal.in_step guess answered);
-        slots_hold = slots_hold;
-        dishonest = supposed guess is;
-      })
+      closed_stores_mount store guess g gate.doubt gate.holds card view slots picture (closed guess card (supposed guess is) answered has)
       (subst (λ (f : ℕ → FileState). IsPictureOf f card picture) (sym same_files) left) trusted
 
   doubt_by : (doubt : Option Doubted) → IsTied store view gate.dir.dir.entries gate.counter (change_in_doubt doubt) → IsDoubtLeft store view (option_map (λ d. d.number) doubt)
@@ -185,23 +201,86 @@ module _ {F R : Type 0} (state : F → FileState) (port : R → PortState) (soun
       let s : IsStandingDoubt (standing_at store guess view.all) gate.dir.dir.entries _ = tied.doubt.stands guess answered in
       inl (ap (λ (n : ℕ). Some n) (sym s.number) ∙ ap (option_map (λ (x : Doubt). x.commit)) (sym s.is_open))
 
+  doubted_is : (doubt : Option ℕ) → doubt ≡ option_map (λ d. d.number) gate.doubt → IsDoubtLeft store view doubt
+  doubted_is doubt is = subst (IsDoubtLeft store view) (sym is) (doubt_by gate.doubt locked.tied)
+
+  -- WHERE EVERY FILE IS HONEST
+  abbrev plain : Guess
+  plain = nothing_back []
+
+  standing_is : standing_at store plain view.all ≡ end_standing store view
+  standing_is = ap (λ (m : ObjectMap). replay (opening_with (phase_of store) m) view.all) (opens plain refl)
+
+  module _ (honest : AreAllHonest files) where
+    own_each : (file : ℕ) → AreOwnLegal store plain file view.all
+    own_each file = elim (object_or_not file) [
+      | inr off ↦ off_of plain file off
+      | inl own ↦ own_of plain file own (honest file) refl
+    ]
+
+    answered_plain : AreAnswered store plain view.all
+    answered_plain = all_answered_honest store plain view.all (locked.journal.fair plain) own_each
+
+    supposed_plain : SupposesDishonest plain (store_files g slots)
+    supposed_plain file within off = subst (λ (s : FileState). IsTrue s.honest) (sym (same_file file)) (honest file)
+
+    map_left : (card : CardState) (picture : Picture) → HasCard (port gate.host.port) (rpmb_key store.keys.huk) card → IsPictureOf files card picture
+        → IsMapLeft store.keys picture (end_standing store view)
+    map_left card picture has left =
+        subst (IsMapLeft store.keys picture) standing_is
+        (honest_stores_mount store plain g gate.doubt gate.holds card view slots picture (closed plain card supposed_plain answered_plain has)
+        (subst (λ (f : ℕ → FileState). IsPictureOf f card picture) (sym same_files) left) (λ file. contains_none file))
+
+    leaves_honest : (doubt : Option ℕ) → IsDoubtLeft store view doubt → LeavesHonest store view files (port gate.host.port) doubt
+    leaves_honest doubt doubted = record {
+      events_legal = subst (λ (m : ObjectMap). IsLegalFrom [] (opening_with (phase_of store) m) view.all) (opens plain refl)
+          (events_legal store plain view.all (locked.journal.fair plain) own_each);
+      doubt_left = subst (λ (s : Standing). (doubt ≡ doubt_of s) ⊎ (doubt ≡ None)) standing_is (doubted plain answered_plain);
+      mounts = map_left;
+    }
+
+  legal_of : (doubt : Option ℕ) → AreNumbered (events_of view.all) → LeavesHonest store view files (port gate.host.port) doubt → IsObjectMap store.objects
+      → IsLegal (phase_of store) [] view.all doubt
+  legal_of doubt numbered left is = record {
+    opens = is;
+    begins = store.objects;
+    begins_sound = is;
+    altered = altered-same (phase_of store).files view.all store.objects;
+    events_legal = left.events_legal;
+    doubt_left = left.doubt_left;
+    numbered = numbered;
+  }
+
   pub leaves : (doubt : Option ℕ) → doubt ≡ option_map (λ d. d.number) gate.doubt → AreNumbered (events_of view.all) → LeavesStore store view files (port gate.host.port) doubt
   leaves doubt is numbered = record {
     numbered = numbered;
     answered = answered_or;
     mounts = mounts_after;
-    doubted = subst (IsDoubtLeft store view) (sym is) (doubt_by gate.doubt locked.tied);
+    doubted = doubted_is doubt is;
+    honest = λ honest. leaves_honest honest doubt (doubted_is doubt is);
+    legal = λ honest map. legal_of doubt numbered (leaves_honest honest doubt (doubted_is doubt is)) map;
   }
 
 -- The parts of a service that is finished: its gate, its history once the sessions' seats were taken in, and its files.
 module _ {F R : Type 0} (state : F → FileState) (port : R → PortState) (sound : (f : F) → Sound (state f)) (store : Store) (s : LockedGateValue F R) (later : GateView)
     (locked : IsLockedGate store s.gate s.journal.knows s.closing) (tagged : AreOfObjectFiles s.journal.knows.all) (same : IsSameHistory s.journal.knows later)
-    (others : List F) (many : length others ≡ 272) (retired : AreRetired store later state 272 others) (numbered : AreNumbered (events_of later.all)) where
+    (others : List F) (many : length others ≡ 272) (retired : AreRetired store later state 272 others) (numbered : AreNumbered (events_of later.all)) (opens : OpensAsHonest store) where
   pub leaves_parts : DoubtStands (gate_sides state port s.gate) s.gate.doubt → AreHolds s.gate.dir.dir.entries s.gate.holds → (doubt : Option ℕ)
       → doubt ≡ option_map (λ d. d.number) s.gate.doubt → (dir : F) (card : R) (files : List F) → dir ≡ s.gate.dir.file → card ≡ s.gate.host.port → files ≡ dir ∷ others
       → LeavesStore store s.journal.knows (files_of state files) (port card) doubt
   leaves_parts stands held doubt doubt_is dir card files dir_is card_is files_are =
       let all = leaves state port sound store s.gate s.journal.knows s.closing others locked stands held tagged many
-      (λ i within. retired_back s.journal.knows later same store (i + 1) (files_of state others i) (retired i within)) doubt doubt_is (numbered_back s.journal.knows later same numbered) in
+      (λ i within. retired_back s.journal.knows later same store (i + 1) (files_of state others i) (retired i within)) opens doubt doubt_is (numbered_back s.journal.knows later same numbered) in
       subst (λ (l : List F). LeavesStore store s.journal.knows (files_of state l) (port card) doubt) (sym (files_are ∙ ap (λ (f : F). f ∷ others) dir_is))
       (subst (λ (r : R). LeavesStore store s.journal.knows (files_of state (s.gate.dir.file ∷ others)) (port r) doubt) (sym card_is) all)
+
+-- The devices of a service, once they are given back.
+pub gives_back : {F R : Type 0} (state : F → FileState) (s : ServiceValue F R) (dir : F) (others files : List F) (card : R) → dir ≡ s.gate.gate.dir.file
+    → card ≡ s.gate.gate.host.port → files ≡ dir ∷ others → AreFilesOf state s.slots 272 others → GivesBack state s files card
+gives_back {F} state s dir others files card dir_is card_is files_are each = record {
+  dir = files_are ∙ (λ i. dir_is i ∷ sym (ap (drop 1) files_are) i);
+  each = λ i d within.
+      let next : i + 1 ≡ suc i = omega arith in
+      ap (files_of state files) next ∙ ap (λ (l : List F). files_of state l (suc i)) files_are ∙ each i d within;
+  port = card_is;
+}

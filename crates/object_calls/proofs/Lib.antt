@@ -11,10 +11,15 @@ pub mod Rearming
 pub mod Nexts
 pub mod MapStays
 pub mod FormedBench
+pub mod CipherBytes
+pub mod NamedEntries
+pub mod ObjectMaps
 pub mod Mounts
+pub mod HonestOpenings
 pub mod FirstParts
 pub mod Stacks
 pub mod SplitFiles
 pub mod Seating
 pub mod Retirings
+pub mod HonestHistories
 pub mod LeftStores

@@ -1,9 +1,10 @@
 -- A bench that is mounted, or refused.
-use Rattle.std.proofs.Common.{◌≡◌, ◌∙◌, ◌<◌, ℕ, List, [], length, None, sym, ap, arith}
+use Rattle.std.proofs.Common.{◌≡◌, ◌∙◌, ◌<◌, ℕ, List, [], length, None, inr, sym, ap, subst, arith}
 use Rattle.disk_model.specs.State.{FileState, Sound, pending}
+use Rattle.htree_file.specs.Answers.{FilePassed}
 use Rattle.atomic_table.specs.Seated.{TableId}
 use Rattle.hmac_keys.specs.declared.Keys.{Keys}
-use Rattle.hmac_keys.specs.KeyTable.{dir_tsk, ssk}
+use Rattle.hmac_keys.specs.KeyTable.{dir_tsk, rpmb_key, ssk}
 use Rattle.rpmb_card.specs.Port.{PortState}
 use Rattle.tee_types.specs.declared.reply.Cause.{Cause}
 use Rattle.tee_types.specs.declared.reply.Cause.TheVariants.{Fault, Frame as OfFrame, CardResult as OfResult}
@@ -12,18 +13,21 @@ use Rattle.tee_types.specs.declared.reply.Device.TheVariants.{Dir, File, Card, E
 use Rattle.crash_core.specs.Mounting.{mounted_entries}
 use Rattle.crash_core.specs.Opening.{reads_of}
 use Rattle.crash_core.proofs.Doubles.{below}
+use Rattle.store_commit.specs.Causes.{Counted, counts}
+use Rattle.store_commit.specs.Counts.{NoneRose, RefusalCounts}
 use Rattle.store_commit.specs.Gates.{GateValue, gate_sides}
 use Rattle.store_commit.specs.Holds.{file_held}
-use Rattle.store_commit.specs.Mounts.{OpensGate}
+use Rattle.store_commit.specs.Mounts.{HasRootRead, MountHeard, MountRefused, OpensGate}
 use Rattle.store_commit.specs.declared.fault.MountFault.{MountFault}
 use Rattle.store_commit.specs.declared.fault.MountFault.TheVariants.{NoStore, CardBlock, Directory, Frame, CardResult, Failed, Spent, NoMemory}
 use Rattle.object_calls.specs.Begins.{IsWholeOpening, MountsAsRead}
 use Rattle.object_calls.specs.Files.{files_of, object_files}
 use Rattle.object_calls.specs.Opening.{IsKeyed, IsOpening, OpeningValue, bench_files}
-use Rattle.object_calls.specs.Refusals.{BenchRefused, GateRefuses}
+use Rattle.object_calls.specs.Refusals.{BenchCounts, BenchHeard, BenchRefused, GateRefuses}
 use Rattle.object_calls.specs.Syncing.{StopsSyncing, SyncsNamed}
 use Rattle.object_calls.proofs.EntriesOf.{file_from_one}
 use Rattle.object_calls.proofs.Files.{files_behind}
+use Rattle.object_calls.proofs.NamedEntries.{directory_identified}
 use Rattle.object_calls.proofs.Openings.{whole_opening}
 
 -- THE GATE REFUSED
@@ -61,6 +65,85 @@ module _ {F : Type 0} (state : F → FileState) (old new : List F) (p0 p1 : Port
   sync_refused (OfFrame fault) s = absurd s.failed
   sync_refused (OfResult result) s = absurd s.failed
 
+-- WHAT WAS HEARD AND COUNTED
+module _ (file : FileState) (p0 p1 : PortState) (keys : Keys) where
+  heard_by_device : (old : FileState) (drew draws : ℕ) (device : Device) (count : ℕ) → MountRefused old file p0 p1 keys drew draws (Failed (Fault device count))
+      → MountHeard file p0 p1 keys (Failed (Fault device count)) → BenchHeard file p0 p1 keys (Failed (Fault device count))
+  heard_by_device old drew draws Dir count refused heard = heard
+  heard_by_device old drew draws (File n) count refused heard = absurd refused
+  heard_by_device old drew draws Card count refused heard = heard
+  heard_by_device old drew draws Entropy count refused heard = heard
+
+  heard_by_cause : (old : FileState) (drew draws : ℕ) (cause : Cause) → MountRefused old file p0 p1 keys drew draws (Failed cause) → MountHeard file p0 p1 keys (Failed cause)
+      → BenchHeard file p0 p1 keys (Failed cause)
+  heard_by_cause old drew draws (Fault device count) refused heard = heard_by_device old drew draws device count refused heard
+  heard_by_cause old drew draws (OfFrame fault) refused heard = heard
+  heard_by_cause old drew draws (OfResult result) refused heard = heard
+
+  pub gate_heard : (old : FileState) (drew draws : ℕ) (fault : MountFault) → MountRefused old file p0 p1 keys drew draws fault → MountHeard file p0 p1 keys fault
+      → BenchHeard file p0 p1 keys fault
+  gate_heard old drew draws NoStore refused heard = heard
+  gate_heard old drew draws (CardBlock byte) refused heard = heard
+  gate_heard old drew draws (Directory fault) refused heard = heard
+  gate_heard old drew draws (Frame fault) refused heard = heard
+  gate_heard old drew draws (CardResult result) refused heard = heard
+  gate_heard old drew draws (Failed cause) refused heard = heard_by_cause old drew draws cause refused heard
+  gate_heard old drew draws Spent refused heard = heard
+  gate_heard old drew draws NoMemory refused heard = inr heard
+
+  sync_heard_by : (was now : ℕ → FileState) (device : Device) (count : ℕ) → StopsSyncing was now (Fault device count) → HasRootRead (rpmb_key keys.huk) p0 p1
+      → BenchHeard file p0 p1 keys (Failed (Fault device count))
+  sync_heard_by was now Dir count s read = absurd s.failed
+  sync_heard_by was now (File n) count s read = read
+  sync_heard_by was now Card count s read = absurd s.failed
+  sync_heard_by was now Entropy count s read = absurd s.failed
+
+  pub sync_heard : (was now : ℕ → FileState) (cause : Cause) → StopsSyncing was now cause → HasRootRead (rpmb_key keys.huk) p0 p1 → BenchHeard file p0 p1 keys (Failed cause)
+  sync_heard was now (Fault device count) s read = sync_heard_by was now device count s read
+  sync_heard was now (OfFrame fault) s read = absurd s.failed
+  sync_heard was now (OfResult result) s read = absurd s.failed
+
+module _ (old new : Counted) where
+  counts_by_device : (device : Device) (count : ℕ) → RefusalCounts old new (Failed (Fault device count)) → BenchCounts old new (Failed (Fault device count))
+  counts_by_device Dir count counted = counted
+  counts_by_device (File n) count counted = absurd counted
+  counts_by_device Card count counted = counted
+  counts_by_device Entropy count counted = counted
+
+  counts_by_cause : (cause : Cause) → RefusalCounts old new (Failed cause) → BenchCounts old new (Failed cause)
+  counts_by_cause (Fault device count) counted = counts_by_device device count counted
+  counts_by_cause (OfFrame fault) counted = counted
+  counts_by_cause (OfResult result) counted = counted
+
+  pub gate_counts : (fault : MountFault) → RefusalCounts old new fault → BenchCounts old new fault
+  gate_counts NoStore counted = counted
+  gate_counts (CardBlock byte) counted = counted
+  gate_counts (Directory fault) counted = counted
+  gate_counts (Frame fault) counted = counted
+  gate_counts (CardResult result) counted = counted
+  gate_counts (Failed cause) counted = counts_by_cause cause counted
+  gate_counts Spent counted = counted
+  gate_counts NoMemory counted = counted
+
+  sync_counts_by : (was now : ℕ → FileState) (device : Device) (count : ℕ) → StopsSyncing was now (Fault device count) → NoneRose old new → BenchCounts old new (Failed (Fault device count))
+  sync_counts_by was now Dir count s none = absurd s.failed
+  sync_counts_by was now (File n) count s none = none
+  sync_counts_by was now Card count s none = absurd s.failed
+  sync_counts_by was now Entropy count s none = absurd s.failed
+
+  pub sync_counts : (was now : ℕ → FileState) (cause : Cause) → StopsSyncing was now cause → NoneRose old new → BenchCounts old new (Failed cause)
+  sync_counts was now (Fault device count) s none = sync_counts_by was now device count s none
+  sync_counts was now (OfFrame fault) s none = absurd s.failed
+  sync_counts was now (OfResult result) s none = absurd s.failed
+
+-- of what is the same
+pub none_rose_at : (a b c d : FileState) (p q r : PortState) (m n : ℕ) → a ≡ c → b ≡ d → q ≡ r → NoneRose (counts c p m) (counts d r n) → NoneRose (counts a p m) (counts b q n)
+none_rose_at a b c d p q r m n a_is b_is q_is none = record {
+  file = subst (λ (x : FileState). FilePassed x b) (sym a_is) (subst (FilePassed c) (sym b_is) none.file);
+  card = ap (λ (x : PortState). x.faults) q_is ∙ none.card;
+  draws = none.draws;
+}
+
 -- THE OPENING
 module _ {F R : Type 0} (state : F → FileState) (port : R → PortState) (old : FileState) (p0 : PortState) (keys : Keys) (g : GateValue F R) (files : List F) (was : ℕ → FileState) (storage_key : List ℕ)
     (opens : OpensGate old p0 keys (gate_sides state port g)) (key : storage_key ≡ ssk keys.huk keys.chip) (table : TableId) where
@@ -73,6 +156,7 @@ module _ {F R : Type 0} (state : F → FileState) (port : R → PortState) (old 
     whole = whole;
     keyed = opens.tsk_is ∙ ap dir_tsk (sym key);
     entries = opens.settled.entries;
+    identified = directory_identified _ g.dir.dir.entries opens.pages.reads;
     settled = opens.unwritten;
     synced = λ index e at.
         let within : index < 256 = omega (arith, opens.settled.entries.whole, below g.dir.dir.entries index e at) in

@@ -35,6 +35,7 @@ module _ {F R : Type 0} (state : F → FileState) (old : GateValue F R) (files :
     whole = many ∙ is.whole;
     keyed = is.keyed;
     entries = is.entries;
+    identified = is.identified;
     settled = same 0 ∙ is.settled;
     synced = λ index e at. same e.file ∙ is.synced index e at;
   }

@@ -16,7 +16,7 @@ use Rattle.call_history.specs.Shown.{BeginsAll}
 use Rattle.object_slots.specs.Value.{SlotValue}
 use Rattle.object_calls.specs.Files.{files_of}
 use Rattle.object_calls.specs.Finished.{HasCounted}
-use Rattle.object_calls.specs.Retiring.{AreRetired, IsRetired}
+use Rattle.object_calls.specs.Retiring.{AreFilesOf, AreRetired, IsRetired}
 use Rattle.served_calls.specs.Slots.{AreNumberedSlots}
 use Rattle.object_calls.proofs.Files.{files-front, files-last}
 use Rattle.object_calls.proofs.Stacks.{all_left, last_left, left_of, rest_left}
@@ -137,6 +137,7 @@ pub record AreFirstRetired {F : Type 0} (store : Store) (state : F → FileState
   pub same : IsSameHistory view now
   pub left_are : left ≡ left_of slots (length files)
   pub retired : AreRetired store view state (length files) files
+  pub files_are : AreFilesOf state slots (length files) files
   pub numbered : 0 < length files → AreNumbered (events_of view.all)
 
 module _ {F : Type 0} (store : Store) (state : F → FileState) (slots : List SlotValue) (view : GateView) where
@@ -145,23 +146,25 @@ module _ {F : Type 0} (store : Store) (state : F → FileState) (slots : List Sl
     same = same_itself view;
     left_are = is ∙ all_left slots ∙ ap (left_of slots) (sym none);
     retired = λ i within. absurd (omega (arith, within, none));
+    files_are = λ i d within. absurd (omega (arith, within, none));
     numbered = λ some. absurd (omega (arith, some, none));
   }
 
   module _ (now : GateView) (left : List SlotValue) (files : List F) (s : AreFirstRetired store state slots view now left files) (more : length files < length slots) where
     pub one_retired : AreNumberedSlots slots → (after : GateView) (slot : SlotValue) (file : F) (left_after : List SlotValue) (files_after : List F)
         → slot ≡ get_or left (length left - 1) slot → left_after ≡ take (length left - 1) left → files_after ≡ files ++ file ∷ [] → IsRetired store now slot.number (state file)
-        → AreNumbered (events_of now.all) → IsSameHistory now after → AreFirstRetired store state slots view after left_after files_after
-    one_retired places after slot file left_after files_after is left_is files_is r numbered next =
+        → state file ≡ slot.file → AreNumbered (events_of now.all) → IsSameHistory now after → AreFirstRetired store state slots view after left_after files_after
+    one_retired places after slot file left_after files_after is left_is files_is r same_file numbered next =
         let count : length files_after ≡ length files + 1 = ap length files_is ∙ length-append files (file ∷ []) in
-        let number : slot.number ≡ length files + 1 =
-        ap (λ (x : SlotValue). x.number) (last_left slots left (length files) s.left_are slot more is) ∙ places (length files) slot more in
+        let last : slot ≡ slice_index_or slots (length files) slot = last_left slots left (length files) s.left_are slot more is in
+        let number : slot.number ≡ length files + 1 = ap (λ (x : SlotValue). x.number) last ∙ places (length files) slot more in
         let own : IsRetired store view (length files + 1) (state file) =
         subst (λ (n : ℕ). IsRetired store view n (state file)) number (retired_back view now s.same store slot.number (state file) r) in
         record {
           same = same_then view now after s.same next;
           left_are = left_is ∙ rest_left slots left (length files) s.left_are more ∙ ap (left_of slots) (sym count);
           retired = λ i within. subst (λ (l : List F). IsRetired store view (i + 1) (files_of state l i)) (sym files_is) (at_place own i (omega (arith, within, count)));
+          files_are = λ i d within. ap (λ (l : List F). files_of state l i) files_is ∙ file_at (same_file ∙ ap (λ (x : SlotValue). x.file) last) i d (omega (arith, within, count));
           numbered = λ some. numbered_back view now s.same numbered;
         }
       where
@@ -172,4 +175,14 @@ module _ {F : Type 0} (store : Store) (state : F → FileState) (slots : List Sl
               let same : length files ≡ i = omega (arith, within, last) in
               subst (λ (k : ℕ). IsRetired store view (k + 1) (files_of state (files ++ file ∷ []) k)) same
               (subst (IsRetired store view (length files + 1)) (sym (files-last state files file)) own)
+        ]
+
+        file_at : state file ≡ (slice_index_or slots (length files) slot).file → (i : ℕ) (d : SlotValue) → i < length files + 1
+            → files_of state (files ++ file ∷ []) i ≡ (slice_index_or slots i d).file
+        file_at own i d within = elim (cases_lt i (length files)) [
+          | inl before ↦ files-front state files (file ∷ []) i before ∙ s.files_are i d before
+          | inr last ↦
+              let same : length files ≡ i = omega (arith, within, last) in
+              subst (λ (k : ℕ). files_of state (files ++ file ∷ []) k ≡ (slice_index_or slots k d).file) same
+              (files-last state files file ∙ own ∙ ap (λ (x : SlotValue). x.file) (get_or_default slots (length files) slot d more))
         ]

@@ -1,25 +1,35 @@
 -- What a phase leaves, once the store is no longer served.
-use Rattle.std.specs.Prelude.{◌≡◌, ◌⊎◌, ◌<◌, ℕ, List, [], length, Option, None, slice_index_or}
+use Rattle.std.specs.Prelude.{◌≡◌, ◌⊎◌, ◌<◌, ◌+◌, ℕ, List, [], ◌∷◌, drop, length, Option, Some, None, Ok, slice_index_or, IsTrue}
 use Rattle.disk_model.specs.State.{FileState}
+use Rattle.hmac_keys.specs.declared.Keys.{Keys}
 use Rattle.hmac_keys.specs.KeyTable.{rpmb_key}
 use Rattle.rpmb_card.specs.Card.{CardState}
 use Rattle.rpmb_card.specs.Port.{PortState}
 use Rattle.rpmb_host.specs.Honest.{HasCard}
 use Rattle.store_model.specs.declared.event.Event.{Event}
 use Rattle.store_model.specs.History.{AreNumbered, count_of}
-use Rattle.store_model.specs.LegalHistory.{doubt_of}
+use Rattle.store_model.specs.Commits.{with_doubt}
+use Rattle.store_model.specs.Legal.{IsLegalFrom}
+use Rattle.store_model.specs.LegalHistory.{IsLegal, doubt_of}
+use Rattle.store_model.specs.Object.{ObjectMap}
 use Rattle.store_model.specs.Record.{events_of}
+use Rattle.store_model.specs.Sound.{IsObjectMap}
+use Rattle.store_model.specs.Standing.{Standing, opening, replay}
 use Rattle.history_seats.specs.Views.{GateView}
+use Rattle.crash_core.specs.Mounting.{mounted}
 use Rattle.crash_core.specs.Pictures.{IsPictureOf, Picture}
 use Rattle.crash_core.specs.CoreState.{IsTrusted}
 use Rattle.core_parts.specs.Finished.{MountsAfter}
 use Rattle.suppositions.specs.Guesses.{Guess}
-use Rattle.suppositions.specs.Stores.{Store, standing_at}
+use Rattle.suppositions.specs.Stores.{Store, phase_of, standing_at}
 use Rattle.suppositions.specs.Answered.{AreAnswered, IsEnded}
 use Rattle.call_history.specs.Sessions.{CallerSession}
 use Rattle.call_history.specs.Shown.{BeginsAll}
 use Rattle.gate_parts.specs.ClosedStores.{dishonest_in}
 use Rattle.gate_parts.specs.Phases.{phase_under}
+use Rattle.object_slots.specs.Value.{SlotValue}
+use Rattle.object_calls.specs.Files.{files_of}
+use Rattle.object_calls.specs.Services.{ServiceValue}
 
 -- Under a supposition with just those files as not honest that are not, the history is answered, or the promises end at a first event.
 abbrev pub IsAnsweredOrEnds : Store → GateView → (ℕ → FileState) → Type 0
@@ -47,12 +57,42 @@ pub record HasCounted {E : Type 0} (view : GateView) (s : CallerSession E) : Typ
 abbrev pub HaveCounted : {E : Type 0} → GateView → List (CallerSession E) → Type 0
 HaveCounted {E} view sessions = (i : ℕ) (d : CallerSession E) → i < length sessions → HasCounted view (slice_index_or sessions i d)
 
+-- every file is honest
+abbrev pub AreAllHonest : (ℕ → FileState) → Type 0
+AreAllHonest files = (file : ℕ) → IsTrue (files file).honest
+
+-- where the history stands at its end, from the objects that the phase opened with
+abbrev pub end_standing : Store → GateView → Standing
+end_standing store view = replay (opening (phase_of store)) view.all
+
+-- the picture mounts to the map of that standing, or to that with the commit in doubt
+abbrev pub IsMapLeft : Keys → Picture → Standing → Type 0
+IsMapLeft keys picture s =
+    (mounted keys picture ≡ Ok (s.state).objects) ⊎ ((objects : ObjectMap) × (with_doubt s ≡ Some objects) × (mounted keys picture ≡ Ok objects))
+
+-- Where every file is honest: each event is legal from the objects that the phase opened with, and every picture of the files and the card
+-- mounts to the map that the history leaves, or to that with the commit in doubt.
+pub record LeavesHonest (store : Store) (view : GateView) (files : ℕ → FileState) (port : PortState) (doubt : Option ℕ) : Type 0 where
+  pub events_legal : IsLegalFrom [] (opening (phase_of store)) view.all
+  pub doubt_left : (doubt ≡ doubt_of (end_standing store view)) ⊎ (doubt ≡ None)
+  pub mounts : (card : CardState) (picture : Picture) → HasCard port (rpmb_key store.keys.huk) card → IsPictureOf files card picture
+      → IsMapLeft store.keys picture (end_standing store view)
+
 -- What is said of a store once its phase has ended: of the events in order, the files, the card and the doubt.
 pub record LeavesStore (store : Store) (view : GateView) (files : ℕ → FileState) (port : PortState) (doubt : Option ℕ) : Type 0 where
   pub numbered : AreNumbered (events_of view.all)
   pub answered : IsAnsweredOrEnds store view files
   pub mounts : PicturesMountAfter store view files port
   pub doubted : IsDoubtLeft store view doubt
+  pub honest : AreAllHonest files → LeavesHonest store view files port doubt
+  -- so the history is a legal one of the phase
+  pub legal : AreAllHonest files → IsObjectMap store.objects → IsLegal (phase_of store) [] view.all doubt
+
+-- The devices that are given back are those that were served, in their places: the directory's file first.
+pub record GivesBack {F R : Type 0} (state : F → FileState) (s : ServiceValue F R) (files : List F) (card : R) : Type 0 where
+  pub dir : files ≡ s.gate.gate.dir.file ∷ drop 1 files
+  pub each : (i : ℕ) (d : SlotValue) → i < 272 → files_of state files (i + 1) ≡ (slice_index_or s.slots i d).file
+  pub port : card ≡ s.gate.gate.host.port
 
 -- So of a phase that no call was made in.
 pub record ClosesUnserved (store : Store) (files : ℕ → FileState) (port : PortState) (doubt : Option ℕ) (events : List Event) : Type 0 where

@@ -17,3 +17,4 @@ pub mod Serving
 pub mod Retiring
 pub mod Finished
 pub mod Calling
+pub mod ObjectMaps

@@ -1,6 +1,7 @@
 -- What a contract sees of a store that is mounted.
 use Rattle.std.specs.Prelude.{◌≡◌, ℕ, List, [], ◌∷◌, length, Option, Some, None}
 use Rattle.disk_model.specs.State.{FileState, pending}
+use Rattle.tee_types.specs.Identifier.{IsIdentifier}
 use Rattle.atomic_table.specs.Seated.{TableId}
 use Rattle.hmac_keys.specs.declared.Keys.{Keys}
 use Rattle.hmac_keys.specs.KeyTable.{dir_tsk, rpmb_key, ssk}
@@ -36,6 +37,10 @@ pub record IsKeyed {F R : Type 0} (keys : Keys) (o : OpeningValue F R) : Type 0 
   pub storage : o.storage_key ≡ ssk keys.huk keys.chip
   pub card : o.gate.host.key ≡ rpmb_key keys.huk
 
+-- each entry has an identifier of an object
+abbrev pub AreIdentified : List (Option DirEntry) → Type 0
+AreIdentified entries = (index : ℕ) (e : DirEntry) → entry_at entries index ≡ Some e → IsIdentifier e.id
+
 -- What holds of a store that is mounted and that no call was served from: no commit is in doubt, no handle is open, no file is held; and
 -- nothing is pending on the directory's file, nor on a file that an entry names.
 pub record IsOpening {F R : Type 0} (state : F → FileState) (gate : GateValue F R) (files : List F) (storage_key : List ℕ) : Type 0 where
@@ -45,5 +50,6 @@ pub record IsOpening {F R : Type 0} (state : F → FileState) (gate : GateValue 
   pub whole : length files ≡ 272
   pub keyed : gate.dir.dir.tsk ≡ dir_tsk storage_key
   pub entries : AreEntriesOf gate.dir.dir.entries
+  pub identified : AreIdentified gate.dir.dir.entries
   pub settled : pending (state gate.dir.file) ≡ []
   pub synced : (index : ℕ) (e : DirEntry) → entry_at gate.dir.dir.entries index ≡ Some e → pending (files_of state (gate.dir.file ∷ files) e.file) ≡ []

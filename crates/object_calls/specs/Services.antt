@@ -1,9 +1,10 @@
 -- What a contract sees of a store that is served, and what always holds of it.
-use Rattle.std.specs.Prelude.{◌≡◌, ◌<◌, ◌+◌, ◌≤◌, ℕ, List, length, Option, slice_index_or}
+use Rattle.std.specs.Prelude.{◌≡◌, ◌<◌, ◌+◌, ◌≤◌, ℕ, List, [], length, Option, slice_index_or}
 use Rattle.disk_model.specs.State.{FileState}
 use Rattle.hmac_keys.specs.KeyTable.{ssk}
 use Rattle.dir_records.specs.declared.entry.DirEntry.{DirEntry}
-use Rattle.suppositions.specs.Stores.{Store}
+use Rattle.suppositions.specs.Guesses.{Guess}
+use Rattle.suppositions.specs.Stores.{Store, objects_under}
 use Rattle.object_slots.specs.Value.{SlotValue}
 use Rattle.locked_gate.specs.LockedGates.{LockedGateValue}
 use Rattle.locked_slots.specs.LockedSlots.{IsLockedSlot}
@@ -31,6 +32,10 @@ MayBeFirst store entries state files = (i : ℕ) → i < length files → IsLock
 abbrev pub AreFirstSlots : {F : Type 0} → Store → List (Option DirEntry) → (F → FileState) → List F → (count : ℕ) → List SlotValue → Type 0
 AreFirstSlots store entries state files count slots = (i : ℕ) (d : SlotValue) → i < count → slice_index_or slots i d ≡ slot_for store entries state files i
 
+-- No supposition by which all files are honest has other objects at the opening than the store's.
+abbrev pub OpensAsHonest : Store → Type 0
+OpensAsHonest store = (guess : Guess) → guess.dishonest ≡ [] → objects_under store guess ≡ store.objects
+
 -- What always holds of a store that is served, beside what holds behind its locks.
 pub record IsService {F R : Type 0} (store : Store) (gate : LockedGateValue F R) (slots : List SlotValue) (storage_key : List ℕ) : Type 0 where
   pub slots_are : AreSlots slots
@@ -38,3 +43,4 @@ pub record IsService {F R : Type 0} (store : Store) (gate : LockedGateValue F R)
   pub tagged : AreOfObjectFiles gate.journal.knows.all
   pub keyed : storage_key ≡ ssk store.keys.huk store.keys.chip
   pub few : length store.mounted.applications ≤ 16
+  pub opens : OpensAsHonest store

@@ -10,8 +10,8 @@ ghost use Rattle.history_seats.specs.Views.{Sight, SlotView};
 ghost use Rattle.call_history.specs.Sessions.{IsCallerOf};
 ghost use Rattle.locked_slots.specs.LockedSlots.{IsSlotOf};
 ghost use Rattle.object_calls.specs.Files.{files_of};
-ghost use Rattle.object_calls.specs.Finished.{HaveCounted, LeavesStore};
-ghost use Rattle.object_calls.specs.Retiring.{AreRetired, IsRetired};
+ghost use Rattle.object_calls.specs.Finished.{GivesBack, HaveCounted, LeavesStore};
+ghost use Rattle.object_calls.specs.Retiring.{AreFilesOf, AreRetired, IsRetired};
 ghost use Rattle.served_calls.specs.Slots.{AreNumberedSlots};
 ghost use Rattle.object_calls.specs.Sessions.{AreCallers};
 
@@ -59,6 +59,7 @@ fn retire_slot<F: StoreFile + Drop, L: StoreName>(
 ) -> F
     ensures journal { journal.new ≡ record journal.old { knows = record journal.old.knows { files = journal.new.knows.files } } }
     ensures retired { IsRetired L.store journal.old.knows slot.number (F.state result) }
+    ensures file { F.state result ≡ slot.file }
     ensures numbered { AreNumbered (events_of journal.old.knows.all) }
 {
     let SlotParts { file, seat } = slot.into_slot().into_parts();
@@ -78,6 +79,7 @@ fn retire_slots<F: StoreFile + Drop, L: StoreName>(
     requires room { 273 ≤ vec_capacity room }
     ensures journal { journal.new ≡ record journal.old { knows = record journal.old.knows { files = journal.new.knows.files } } }
     ensures retired { AreRetired L.store journal.old.knows F.state 272 result.items }
+    ensures files { AreFilesOf F.state slots.items 272 result.items }
     ensures numbered { AreNumbered (events_of journal.old.knows.all) }
     ensures many { vec_len result ≡ 272 }
     ensures room { vec_len result < vec_capacity result }
@@ -99,6 +101,8 @@ impl<F: StoreFile + Drop, R: RpmbPort + Drop, L: StoreName> Service<F, R, L> {
         ensures counted { HaveCounted self.gate.journal.knows sessions.items }
         ensures doubt { result.doubt ≡ option_map (λ d. d.number) self.gate.gate.doubt }
         ensures whole { vec_len result.bench.files ≡ 273 }
+        // Its devices are those of the service, with what they counted.
+        ensures gives { GivesBack F.state self result.bench.files.items result.bench.card }
         ensures leaves { LeavesStore L.store self.gate.journal.knows (files_of F.state result.bench.files.items) (R.state result.bench.card) result.doubt }
     {
         let Service {

@@ -1,12 +1,14 @@
 //! Mounting a store.
 
 ghost use Rattle.std.specs.Prelude.{◌≡◌, [], vec_len, IfErr, IfOk};
+ghost use Rattle.htree_file.specs.Answers.{FilePassed};
+ghost use Rattle.store_commit.specs.Causes.{counts};
 ghost use Rattle.store_commit.specs.Gates.{gate_sides};
 ghost use Rattle.store_commit.specs.Mounts.{LeavesDevices, OpensGate};
 ghost use Rattle.object_calls.specs.Begins.{IsWholeOpening, MountsAsRead};
 ghost use Rattle.object_calls.specs.Files.{files_of};
 ghost use Rattle.object_calls.specs.Opening.{IsKeyed, bench_files, entries_in};
-ghost use Rattle.object_calls.specs.Refusals.{BenchRefused};
+ghost use Rattle.object_calls.specs.Refusals.{BenchCounts, BenchHeard, BenchRefused};
 ghost use Rattle.object_calls.specs.Syncing.{SyncsNamed};
 
 use crate::bench::{Bench, Halted, take_dir, with_dir};
@@ -44,6 +46,14 @@ pub fn mount<F: StoreFile + Drop, R: RpmbPort + Drop, E: Entropy>(
     ensures leaves { IfErr result (λ h. LeavesDevices (files_of F.state bench.files.items 0) (files_of F.state h.bench.files.items 0)
         (R.state bench.card) (R.state h.bench.card)) }
     ensures whole { IfErr result (λ h. vec_len h.bench.files ≡ 273) }
+    // What was heard of the card, whatever it is.
+    ensures heard { IfErr result (λ h. BenchHeard (files_of F.state h.bench.files.items 0) (R.state bench.card) (R.state h.bench.card) keys.now h.fault) }
+    // No count rose where the bench is mounted; of the files of objects `files` says it.
+    ensures undrawn { IfOk result (λ o. E.faults entropy.new ≡ E.faults entropy.old) }
+    ensures dir_passed { IfOk result (λ o. FilePassed (files_of F.state bench.files.items 0) (bench_files F.state o 0)) }
+    ensures card_passed { IfOk result (λ o. (R.state o.gate.host.port).faults ≡ (R.state bench.card).faults) }
+    ensures counts { IfErr result (λ h. BenchCounts (counts (files_of F.state bench.files.items 0) (R.state bench.card) (E.faults entropy.old))
+        (counts (files_of F.state h.bench.files.items 0) (R.state h.bench.card) (E.faults entropy.new)) h.fault) }
     ensures reliable { E.is_reliable entropy.old → E.is_reliable entropy.new }
 {
     let Ok((table, seat)) = HistoryTable::make(alloc) else {

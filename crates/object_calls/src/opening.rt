@@ -5,6 +5,7 @@ ghost use Rattle.std.specs.Vec.{vec_capacity};
 ghost use Rattle.hmac_keys.specs.declared.Keys.{Keys};
 ghost use Rattle.crash_core.specs.Opening.{opening_map};
 ghost use Rattle.object_calls.specs.Begins.{IsWholeOpening};
+ghost use Rattle.object_calls.specs.ObjectMaps.{OpensObjectMap};
 ghost use Rattle.object_calls.specs.Opening.{IsOpening, bench_files, entries_in};
 ghost use Rattle.object_calls.specs.Seats.{IsUnused};
 
@@ -97,6 +98,8 @@ impl<F: StoreFile + Drop, R: RpmbPort + Drop> Opening<F, R> {
     pub fn objects(&self) -> u16
         ensures entries { result ≡ count_by is_some (entries_in self.now) }
         ensures objects { (keys : Keys) → length (opening_map keys (bench_files F.state self.now) (entries_in self.now)) ≡ result }
+        // They are a map of objects, where the files read as bytes.
+        ensures map { OpensObjectMap F.state self.now }
         // What always holds of an opening.
         ensures opening { IsOpening F.state self.now.gate self.now.files self.now.storage_key }
     {

@@ -1,5 +1,5 @@
--- Printed forms and the text of short runs, computed from the definitions.
-use Rattle.std.proofs.Common.{◌≡◌, List, [], ◌∷◌, map, pos, negsuc, refl}
+-- Printed forms and the text of a short phase, computed from the definitions.
+use Rattle.std.proofs.Common.{◌≡◌, List, [], ◌∷◌, ◌++◌, map, pos, negsuc, refl}
 use Rattle.std.specs.Prelude.{codes}
 use Rattle.std.specs.Fmt.{digits}
 use Rattle.hex.specs.Hex.{encode_with}
@@ -8,17 +8,16 @@ use Rattle.tee_types.specs.declared.call.Whence.TheVariants.{Set, Cur, End}
 use Rattle.tee_types.specs.declared.reply.Reply.TheVariants.{Done, Handle, Content, Info as InfoReply, Found, Refused, Misuse, Corrupt, NotAvailable, CounterSpent, NoMemory}
 use Rattle.tee_types.specs.declared.reply.Code.TheVariants.{NoSpace}
 use Rattle.tee_types.specs.declared.reply.Reason.TheVariants.{TooMany}
-use Rattle.tee_types.specs.declared.reply.Device.TheVariants.{Dir, File}
+use Rattle.tee_types.specs.declared.reply.Device.TheVariants.{Dir, File, Card}
 use Rattle.tee_types.specs.declared.reply.Cause.TheVariants.{Fault, CardResult}
 use Rattle.store_model.specs.declared.event.Event.{Event}
 use Rattle.store_model.specs.declared.event.Event.TheVariants.{Call as CallEvent, Landed}
 use Rattle.store_model.specs.declared.event.Mark.TheVariants.{Unchanged, Made}
-use Rattle.script_text.specs.declared.script.Control.TheVariants.{Serial, Phase}
-use Rattle.script_text.specs.declared.script.Step.{Step}
-use Rattle.script_text.specs.declared.script.Step.TheVariants.{Call as CallStep, Control as ControlStep}
+use Rattle.script_text.specs.declared.script.Arm.TheVariants.{Stop, Fail, Lose}
+use Rattle.script_text.specs.declared.script.Control.TheVariants.{Serial, Phase, Arm as ArmControl, Crash, List as ListControl}
 use Rattle.script_text.specs.Script.{ScriptValue}
 use Rattle.run_text.specs.Forms.{flags_text, call_text, reply_text}
-use Rattle.run_text.specs.Text.{Serve, Do, event_text, events_text, phase_line, acts_of, script_output}
+use Rattle.run_text.specs.Text.{event_text, events_text, phase_line, control_line}
 
 calls : map call_text
     (Create (0x6b ∷ []) (record { bits = 1 }) (0 ∷ []) [] ∷ Open (0x6b ∷ []) (record { bits = 0x8 }) ∷ Close 0 ∷ Read 0 4
@@ -45,21 +44,12 @@ replies : map reply_text
 unfolding digits encode_with flags_text reply_text
 replies = refl
 
-abbrev script_a : List Step → ScriptValue
-script_a steps = record { applications = record { name = codes "a"; app = [] } ∷ []; steps = steps }
+abbrev names_of_a : ScriptValue
+names_of_a = record { applications = record { name = codes "a"; app = [] } ∷ []; steps = [] }
 
-landed : event_text (script_a []) 12 (Landed 3) ≡ codes "12 - landed 3\n"
+landed : event_text names_of_a 12 (Landed 3) ≡ codes "12 - landed 3\n"
 unfolding digits event_text
 landed = refl
-
--- the text of a run
-abbrev first_steps : List Step
-first_steps =
-    CallStep 0 (Create (0x6b ∷ []) (record { bits = 1 }) (0 ∷ []) [])
-    ∷ CallStep 0 (Read 0 4)
-    ∷ CallStep 0 (Close 0)
-    ∷ CallStep 0 (Open (0x6b ∷ []) (record { bits = 1 }))
-    ∷ []
 
 abbrev first_events : List Event
 first_events =
@@ -69,31 +59,16 @@ first_events =
     ∷ CallEvent 0 3 (Open (0x6b ∷ []) (record { bits = 1 })) (Handle 1) Unchanged
     ∷ []
 
-first_output : script_output (script_a first_steps) (record { opening = []; events = first_events } ∷ [])
+-- the text of a phase
+first_output : phase_line 0 0 ++ events_text names_of_a 0 first_events
     ≡ codes "# phase 0 serial objects 0\n0 a create 6b r 00 - -> ok 0\n1 a read 0 4 -> ok -\n2 a close 0 -> ok\n3 a open 6b r -> ok 1\n"
 unfolding digits encode_with flags_text call_text reply_text event_text events_text phase_line
 first_output = refl
 
--- controls on either side of a phase, and a phase without calls, which is not run
-abbrev steps_of_two_phases : List Step
-steps_of_two_phases =
-    ControlStep Serial ∷ CallStep 0 EnumNew ∷ CallStep 0 (EnumFree 0) ∷ ControlStep Phase ∷ ControlStep Phase ∷ CallStep 0 EnumNew ∷ []
-
-acts_of_two_phases : acts_of steps_of_two_phases
-    ≡ Do Serial ∷ Serve (CallStep 0 EnumNew ∷ CallStep 0 (EnumFree 0) ∷ []) ∷ Do Phase ∷ Do Phase ∷ Serve (CallStep 0 EnumNew ∷ []) ∷ []
-acts_of_two_phases = refl
-
-output_of_two_phases : script_output (script_a steps_of_two_phases)
-    (record { opening = []; events = CallEvent 0 0 EnumNew (Handle 0) Unchanged ∷ CallEvent 0 1 (EnumFree 0) Done Unchanged ∷ [] }
-    ∷ record { opening = []; events = CallEvent 0 2 EnumNew (Handle 0) Unchanged ∷ [] }
-    ∷ [])
-    ≡ codes "# serial\n# phase 0 serial objects 0\n0 a enum -> ok 0\n1 a free 0 -> ok\n# phase\n# phase\n# phase 1 serial objects 0\n0 a enum -> ok 0\n"
-unfolding digits call_text reply_text event_text events_text phase_line
-output_of_two_phases = refl
-
--- the second phase was not run
-output_of_one_phase : script_output (script_a steps_of_two_phases)
-    (record { opening = []; events = CallEvent 0 0 EnumNew (Handle 0) Unchanged ∷ CallEvent 0 1 (EnumFree 0) Done Unchanged ∷ [] } ∷ [])
-    ≡ codes "# serial\n# phase 0 serial objects 0\n0 a enum -> ok 0\n1 a free 0 -> ok\n# phase\n# phase\n"
-unfolding digits call_text reply_text event_text events_text phase_line
-output_of_one_phase = refl
+controls : map control_line
+    (Serial ∷ Phase ∷ ArmControl (Stop Dir 5) ∷ ArmControl (Stop (File 12) 0) ∷ ArmControl (Fail Card 3) ∷ ArmControl (Fail (File 272) 4294967295)
+    ∷ ArmControl (Lose 1) ∷ Crash 7 ∷ Crash 18446744073709551615 ∷ ListControl ∷ [])
+    ≡ codes "# serial\n" ∷ codes "# phase\n" ∷ codes "# stop dir 5\n" ∷ codes "# stop 12 0\n" ∷ codes "# fail card 3\n" ∷ codes "# fail 272 4294967295\n"
+    ∷ codes "# lose card 1\n" ∷ codes "# crash 7\n" ∷ codes "# crash 18446744073709551615\n" ∷ codes "# list\n" ∷ []
+unfolding digits
+controls = refl

@@ -20,7 +20,9 @@ use Rattle.tee_types.specs.declared.reply.Cause.{Cause}
 use Rattle.tee_types.specs.declared.reply.Cause.TheVariants.{Fault, Frame, CardResult}
 use Rattle.tee_types.specs.Rights.{read_bit, write_bit, write_meta_bit, share_read_bit, share_write_bit, overwrite_bit, has, is_known}
 use Rattle.script_text.specs.declared.script.Control.{Control}
-use Rattle.script_text.specs.declared.script.Control.TheVariants.{Serial, Phase}
+use Rattle.script_text.specs.declared.script.Control.TheVariants.{Serial, Phase, Arm as ArmControl, Crash, List as ListControl}
+use Rattle.script_text.specs.declared.script.Arm.{Arm}
+use Rattle.script_text.specs.declared.script.Arm.TheVariants.{Stop, Fail, Lose}
 
 -- bytes in hex, small letters; no bytes as `-`
 abbrev pub bytes_text : List ℕ → List ℕ
@@ -70,10 +72,26 @@ call_text (EnumNext number) = codes "next " ++ decimal number
 call_text (EnumReset number) = codes "reset " ++ decimal number
 call_text (EnumFree number) = codes "free " ++ decimal number
 
+-- a device as controls name it
+abbrev pub device_word : Device → List ℕ
+device_word Dir = codes "dir"
+device_word (File number) = decimal number
+device_word Card = codes "card"
+device_word Entropy = codes "entropy"
+
+-- the words of the control that arms a device
+abbrev pub arm_text : Arm → List ℕ
+arm_text (Stop device calls) = codes "stop " ++ device_word device ++ codes " " ++ decimal calls
+arm_text (Fail device call) = codes "fail " ++ device_word device ++ codes " " ++ decimal call
+arm_text (Lose call) = codes "lose card " ++ decimal call
+
 -- the words of a control
 abbrev pub control_text : Control → List ℕ
 control_text Serial = codes "serial"
 control_text Phase = codes "phase"
+control_text (ArmControl arm) = arm_text arm
+control_text (Crash seed) = codes "crash " ++ decimal seed
+control_text ListControl = codes "list"
 
 abbrev pub code_text : Code → List ℕ
 code_text AccessConflict = codes "ACCESS_CONFLICT"

@@ -9,7 +9,7 @@ use itoa::Buffer;
 use tee_types::{Flags, NoMemory, OVERWRITE, READ, SHARE_READ, SHARE_WRITE, WRITE, WRITE_META};
 
 /// Appends a piece of text. A refusal leaves the text.
-pub(crate) fn put(out: &mut Vec<u8>, piece: &[u8]) -> Result<(), NoMemory>
+pub fn put(out: &mut Vec<u8>, piece: &[u8]) -> Result<(), NoMemory>
     ensures ok { OnOk result (out.new.items ≡ out.old.items ++ piece.now) }
     ensures kept { take (length out.old.items) out.new.items ≡ out.old.items }
 {
@@ -17,7 +17,7 @@ pub(crate) fn put(out: &mut Vec<u8>, piece: &[u8]) -> Result<(), NoMemory>
 }
 
 /// Appends a number in decimal.
-pub(crate) fn put_number(out: &mut Vec<u8>, number: u64) -> Result<(), NoMemory>
+pub fn put_number(out: &mut Vec<u8>, number: u64) -> Result<(), NoMemory>
     ensures ok { OnOk result (out.new.items ≡ out.old.items ++ decimal number) }
     ensures kept { take (length out.old.items) out.new.items ≡ out.old.items }
 {
@@ -35,7 +35,7 @@ pub(crate) fn put_signed(out: &mut Vec<u8>, number: i64) -> Result<(), NoMemory>
 }
 
 /// Appends bytes in hex, small letters.
-pub(crate) fn put_hex(out: &mut Vec<u8>, bytes: &[u8]) -> Result<(), NoMemory>
+pub fn put_hex(out: &mut Vec<u8>, bytes: &[u8]) -> Result<(), NoMemory>
     ensures ok { OnOk result (out.new.items ≡ out.old.items ++ encode_lower bytes.now) }
     ensures kept { take (length out.old.items) out.new.items ≡ out.old.items }
 {
@@ -49,7 +49,7 @@ pub(crate) fn put_hex(out: &mut Vec<u8>, bytes: &[u8]) -> Result<(), NoMemory>
 }
 
 /// Appends bytes in hex, or `-` for none.
-pub(crate) fn put_bytes(out: &mut Vec<u8>, bytes: &[u8]) -> Result<(), NoMemory>
+pub fn put_bytes(out: &mut Vec<u8>, bytes: &[u8]) -> Result<(), NoMemory>
     ensures ok { OnOk result (out.new.items ≡ out.old.items ++ bytes_text bytes.now) }
     ensures kept { take (length out.old.items) out.new.items ≡ out.old.items }
 {
@@ -127,7 +127,7 @@ pub(crate) fn put_two(out: &mut Vec<u8>, first: &[u8], second: &[u8]) -> Result<
 }
 
 /// Appends a word, and bytes behind it, in hex, small letters.
-pub(crate) fn put_word_hex(out: &mut Vec<u8>, word: &[u8], bytes: &[u8]) -> Result<(), NoMemory>
+pub fn put_word_hex(out: &mut Vec<u8>, word: &[u8], bytes: &[u8]) -> Result<(), NoMemory>
     ensures ok { OnOk result (out.new.items ≡ out.old.items ++ word.now ++ encode_lower bytes.now) }
     ensures kept { take (length out.old.items) out.new.items ≡ out.old.items }
 {
@@ -136,7 +136,7 @@ pub(crate) fn put_word_hex(out: &mut Vec<u8>, word: &[u8], bytes: &[u8]) -> Resu
 }
 
 /// Appends a word, and bytes behind it, in hex, or `-` for none.
-pub(crate) fn put_word_bytes(out: &mut Vec<u8>, word: &[u8], bytes: &[u8]) -> Result<(), NoMemory>
+pub fn put_word_bytes(out: &mut Vec<u8>, word: &[u8], bytes: &[u8]) -> Result<(), NoMemory>
     ensures ok { OnOk result (out.new.items ≡ out.old.items ++ word.now ++ bytes_text bytes.now) }
     ensures kept { take (length out.old.items) out.new.items ≡ out.old.items }
 {
@@ -145,7 +145,7 @@ pub(crate) fn put_word_bytes(out: &mut Vec<u8>, word: &[u8], bytes: &[u8]) -> Re
 }
 
 /// Appends a word, and a number behind it.
-pub(crate) fn put_word_number(out: &mut Vec<u8>, word: &[u8], number: u64) -> Result<(), NoMemory>
+pub fn put_word_number(out: &mut Vec<u8>, word: &[u8], number: u64) -> Result<(), NoMemory>
     ensures ok { OnOk result (out.new.items ≡ out.old.items ++ word.now ++ decimal number) }
     ensures kept { take (length out.old.items) out.new.items ≡ out.old.items }
 {

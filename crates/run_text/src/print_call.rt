@@ -1,15 +1,15 @@
 //! Writing a call and a control.
 
-ghost use Rattle.std.specs.Prelude.{◌≡◌, ◌++◌, length, take, OnOk};
+ghost use Rattle.std.specs.Prelude.{◌≡◌, ◌++◌, length, take, codes, decimal, OnOk};
 ghost use Rattle.tee_types.specs.declared.call.Call.TheVariants.{Create, Open, Rename, Seek, Write};
-ghost use Rattle.run_text.specs.Forms.{call_text, control_text, whence_text};
+ghost use Rattle.run_text.specs.Forms.{arm_text, call_text, control_text, device_word, whence_text};
 
 use crate::append::{
-    put, put_two, put_word_bytes, put_word_flags, put_word_hex, put_word_number, put_word_numbers,
-    put_word_signed,
+    put, put_number, put_two, put_word_bytes, put_word_flags, put_word_hex, put_word_number,
+    put_word_numbers, put_word_signed,
 };
-use script_text::Control;
-use tee_types::{Bytes, Call, Flags, NoMemory, ObjectId, Whence};
+use script_text::{Arm, Control};
+use tee_types::{Bytes, Call, Device, Flags, NoMemory, ObjectId, Whence};
 
 /// The name of the place from which a seek counts.
 fn whence_name(whence: Whence) -> &'static [u8]
@@ -115,6 +115,46 @@ pub(crate) fn put_call(out: &mut Vec<u8>, call: &Call) -> Result<(), NoMemory>
     }
 }
 
+/// Appends a device as controls name it.
+fn put_device_word(out: &mut Vec<u8>, device: Device) -> Result<(), NoMemory>
+    ensures ok { OnOk result (out.new.items ≡ out.old.items ++ device_word device) }
+    ensures kept { take (length out.old.items) out.new.items ≡ out.old.items }
+{
+    match device {
+        Device::Dir => put(out, b"dir"),
+        Device::File(number) => put_number(out, number as u64),
+        Device::Card => put(out, b"card"),
+        Device::Entropy => put(out, b"entropy"),
+    }
+}
+
+/// Appends a word, a device and a number.
+fn put_device_number(
+    out: &mut Vec<u8>,
+    word: &[u8],
+    device: Device,
+    number: u32,
+) -> Result<(), NoMemory>
+    ensures ok { OnOk result (out.new.items ≡ out.old.items ++ word.now ++ device_word device ++ codes " " ++ decimal number) }
+    ensures kept { take (length out.old.items) out.new.items ≡ out.old.items }
+{
+    put(out, word)?;
+    put_device_word(out, device)?;
+    put_word_number(out, b" ", number as u64)
+}
+
+/// Appends the words of a control that arms a device.
+fn put_arm(out: &mut Vec<u8>, arm: Arm) -> Result<(), NoMemory>
+    ensures ok { OnOk result (out.new.items ≡ out.old.items ++ arm_text arm) }
+    ensures kept { take (length out.old.items) out.new.items ≡ out.old.items }
+{
+    match arm {
+        Arm::Stop { device, calls } => put_device_number(out, b"stop ", device, calls),
+        Arm::Fail { device, call } => put_device_number(out, b"fail ", device, call),
+        Arm::Lose { call } => put_word_number(out, b"lose card ", call as u64),
+    }
+}
+
 /// Appends a control.
 pub(crate) fn put_control(out: &mut Vec<u8>, control: &Control) -> Result<(), NoMemory>
     ensures ok { OnOk result (out.new.items ≡ out.old.items ++ control_text control.now) }
@@ -123,5 +163,8 @@ pub(crate) fn put_control(out: &mut Vec<u8>, control: &Control) -> Result<(), No
     match control {
         Control::Serial => put(out, b"serial"),
         Control::Phase => put(out, b"phase"),
+        Control::Arm(arm) => put_arm(out, *arm),
+        Control::Crash { seed } => put_word_number(out, b"crash ", *seed),
+        Control::List => put(out, b"list"),
     }
 }

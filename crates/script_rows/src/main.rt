@@ -6,7 +6,8 @@
 //! what must be put, where empty lines are passed over. What stands before the first row is passed over, too.
 //!
 //! A setting is `= words WORD..` (the command line, else `run`), `= source fails N` (its call N), `= sink holds N` (so many bytes),
-//! or `= padded to N` (empty lines behind the script, up to so many bytes).
+//! `= padded to N` (empty lines behind the script, up to so many bytes), `= card fails N` (its exchange N), `= same bench` (the one that the row
+//! before left, else devices that were never used), or `= worn` (the card's write counter is at its end).
 //!
 //! In a line `{TEXT*N}` stands for N times that text, `{xNN}` for the byte of two hex digits, and `{end}` at its end says that no
 //! newline follows. A line `for A to B: TEXT` stands for one line for each number, where `{n}` is the number and `{n:04x}` its
@@ -17,28 +18,34 @@
 
 use anyhow::Context;
 use row::Row;
-use trial::difference;
+use sim_bench::SimBench;
+use trial::{difference, run_row};
 
+mod bench;
+mod ends;
 mod marks;
 mod replies;
 mod row;
 mod settings;
 mod trial;
 
-/// How many rows were run, and how many of them differ.
+/// How many rows were run, how many of them differ, and the bench that the last one left.
 #[derive(Drop)]
 struct Count {
     rows: u64,
     differ: u64,
+    bench: Option<SimBench>,
 }
 
 /// Runs a row, and prints its line where it differs.
 fn try_row(rt: &(impl Print + AllocGlobal), count: &mut Count, row: &Row) -> anyhow::Result<()> {
     count.rows = count.rows.saturating_add(1);
-    if let Some(text) = difference(rt.alloc(), row)? {
+    let ran = run_row(rt.alloc(), row, count.bench.take())?;
+    if let Some(text) = difference(rt.alloc(), row, &ran)? {
         count.differ = count.differ.saturating_add(1);
         println!(rt; "{}: {text}", row.name.as_str())?;
     }
+    count.bench = Some(ran.bench);
     Ok(())
 }
 
@@ -60,7 +67,11 @@ fn take_line(
 }
 
 fn main(rt: HostRuntime) -> anyhow::Result<()> {
-    let mut count = Count { rows: 0, differ: 0 };
+    let mut count = Count {
+        rows: 0,
+        differ: 0,
+        bench: None,
+    };
     let mut row = None;
     let mut number = 0u64;
     for line in rt.lines(rt.alloc()) {

@@ -3,7 +3,7 @@
 use anyhow::Context;
 use std::alloc::{AllocError, Global};
 
-/// The command line, when the source fails, how much the sink holds, and how long the script is.
+/// The command line, when the source fails, how much the sink holds, how long the script is, and what is done to the bench before.
 #[derive(Drop)]
 pub struct Settings {
     /// The words behind the program's name.
@@ -14,16 +14,25 @@ pub struct Settings {
     pub room: usize,
     /// The least number of bytes of the script.
     pub length: usize,
+    /// The exchange of the card that fails; 0 is none.
+    pub card_fails: u64,
+    /// The run goes over the bench that the row before left.
+    pub same_bench: bool,
+    /// The card's write counter is at its end.
+    pub is_worn: bool,
 }
 
 impl Settings {
-    /// The form `run`, a source that never fails and a sink with much room.
+    /// The form `run`, a source that never fails, a sink with much room, and devices that were never used.
     pub fn usual(alloc: Global) -> Result<Settings, AllocError> {
         Ok(Settings {
             words: vec![in alloc; String::from_str(alloc, "run")?]?,
             failing: 0,
             room: 1 << 20,
             length: 0,
+            card_fails: 0,
+            same_bench: false,
+            is_worn: false,
         })
     }
 
@@ -37,8 +46,20 @@ impl Settings {
             self.room = room.parse::<usize>().context("not a number")?;
         } else if let Some(length) = line.strip_prefix("padded to ") {
             self.length = length.parse::<usize>().context("not a number")?;
+        } else if let Some(call) = line.strip_prefix("card fails ") {
+            self.card_fails = call.parse::<u64>().context("not a number")?;
         } else {
-            anyhow::bail!("not a setting");
+            self.take_bench(line)?;
+        }
+        Ok(())
+    }
+
+    // Takes a line on the bench, which has no number.
+    fn take_bench(&mut self, line: &str) -> anyhow::Result<()> {
+        match line {
+            "same bench" => self.same_bench = true,
+            "worn" => self.is_worn = true,
+            _ => anyhow::bail!("not a setting"),
         }
         Ok(())
     }

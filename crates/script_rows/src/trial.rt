@@ -1,48 +1,60 @@
 // The run of a row, beside what it must do.
 
+use crate::bench::bench_for;
+use crate::ends::status_text;
 use crate::row::Row;
+use bench_run::{RunEnd, Status, run};
+use seed_words::SeedEntropy;
+use sim_bench::{SimBench, simulator_keys};
 use std::alloc::{AllocError, Global};
-use store_run::{Excess, Status, run};
 use tee_ports::{MemSink, MemSource};
 
-/// What differs in the run of the row, or none.
-pub fn difference(alloc: Global, row: &Row) -> Result<Option<String>, AllocError> {
-    let (status, put) = ran(alloc, row)?;
-    let status = status_text(alloc, status)?;
-    if status != row.status {
-        let text = format!(in alloc; "{} in place of {}", status.as_str(), row.status.as_str())?;
-        return Ok(Some(text));
-    }
-    if put == row.output {
-        return Ok(None);
-    }
-    Ok(Some(other_line(alloc, text_of(&row.output), text_of(&put))?))
+/// How a row's run ended: its status, what it put, and the bench that it left.
+#[derive(Drop)]
+pub struct Ran {
+    status: Status,
+    put: Vec<u8>,
+    /// The bench.
+    pub bench: SimBench,
 }
 
-// How the row's run ends, and what it puts.
-fn ran(alloc: Global, row: &Row) -> Result<(Status, Vec<u8>), AllocError> {
+/// Runs the script of a row, over a new bench or over the one that the row before left.
+pub fn run_row(alloc: Global, row: &Row, before: Option<SimBench>) -> anyhow::Result<Ran> {
+    let bench = bench_for(alloc, &row.settings, before)?;
     let mut script = row.script.to_vec(alloc)?;
     if script.len() < row.settings.length {
         script.resize(row.settings.length, b'\n')?;
     }
     let mut source = MemSource::new(alloc, &script, &[row.settings.failing])?;
     let mut sink = MemSink::new(alloc, row.settings.room, &[])?;
-    let status = run(alloc, &row.settings.words, &mut source, &mut sink);
-    Ok((status, sink.bytes().to_vec(alloc)?))
+    let mut entropy = SeedEntropy::from_seed(&[0; 32]);
+    let RunEnd { status, bench } = run(
+        alloc,
+        &row.settings.words,
+        &mut source,
+        &mut sink,
+        bench,
+        &simulator_keys(),
+        &mut entropy,
+    );
+    Ok(Ran {
+        status,
+        put: sink.bytes().to_vec(alloc)?,
+        bench,
+    })
 }
 
-// A status in the words of a row.
-fn status_text(alloc: Global, status: Status) -> Result<String, AllocError> {
-    match status {
-        Status::Done => String::from_str(alloc, "status 0"),
-        Status::Usage => String::from_str(alloc, "status 2"),
-        Status::BadLine(line) => format!(in alloc; "status 3 line {line}"),
-        Status::ReadFault => String::from_str(alloc, "status 4"),
-        Status::WriteFault => String::from_str(alloc, "status 5"),
-        Status::TooLong(Excess::Bytes) => String::from_str(alloc, "status 8 bytes"),
-        Status::TooLong(Excess::Apps(apps)) => format!(in alloc; "status 8 apps {apps}"),
-        Status::NoMemory => String::from_str(alloc, "status 9"),
+/// What differs in the run of the row, or none.
+pub fn difference(alloc: Global, row: &Row, ran: &Ran) -> Result<Option<String>, AllocError> {
+    let status = status_text(alloc, &ran.status)?;
+    if status != row.status {
+        let text = format!(in alloc; "{} in place of {}", status.as_str(), row.status.as_str())?;
+        return Ok(Some(text));
     }
+    if ran.put == row.output {
+        return Ok(None);
+    }
+    Ok(Some(other_line(alloc, text_of(&row.output), text_of(&ran.put))?))
 }
 
 fn text_of(bytes: &[u8]) -> &str {

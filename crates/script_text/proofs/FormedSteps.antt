@@ -12,9 +12,11 @@ use Rattle.script_text.specs.Lines.{lines_of, words_of, is_ascii}
 use Rattle.script_text.specs.Words.{same_word, uuid_of}
 use Rattle.script_text.specs.Script.{ScriptValue, no_script}
 use Rattle.script_text.specs.Calls.{call_words}
-use Rattle.script_text.specs.Grammar.{place_of, with_step, call_line, may_declare, app_line, control_of, step_line, words_line, line_of, script_from, few_applications}
+use Rattle.script_text.specs.Controls.{control_of}
+use Rattle.script_text.specs.Grammar.{place_of, with_step, call_line, may_declare, app_line, step_line, words_line, line_of, script_from, few_applications}
 use Rattle.script_text.specs.Laws.{IsFormed, ScriptsCallWell}
 use Rattle.script_text.proofs.FormedCalls.{call-formed, from_bind, cond-some}
+use Rattle.script_text.proofs.FormedControls.{control-formed}
 
 abbrev AreFormed : ScriptValue → Type 0
 AreFormed script = All IsFormed script.steps
@@ -44,11 +46,11 @@ app_line-formed above (name ∷ uuid ∷ more ∷ words) script formed is = absu
 
 step_line-formed : (above : ScriptValue) (word : List ℕ) (words : List (List ℕ)) (script : ScriptValue) → AreFormed above → step_line above word words ≡ Some script → AreFormed script
 unfolding step_line
-step_line-formed above word words script formed is = one (control_of word words) is
+step_line-formed above word words script formed is = one (control_of word words) (λ control found. control-formed word words control found) is
   where
-    one : (o : Option Control) → elim o as (λ _. Option ScriptValue) [ Some control ↦ Some (with_step above (ControlStep control)) | None ↦ call_line above word words ] ≡ Some script → AreFormed script
-    one (Some control) is = let same : with_step above (ControlStep control) ≡ script = cc (is) in step-more above (ControlStep control) script tt formed same
-    one None is = call_line-formed above word words script formed is
+    one : (o : Option Control) → ((control : Control) → o ≡ Some control → IsFormed (ControlStep control)) → elim o as (λ _. Option ScriptValue) [ Some control ↦ Some (with_step above (ControlStep control)) | None ↦ call_line above word words ] ≡ Some script → AreFormed script
+    one (Some control) fine is = let same : with_step above (ControlStep control) ≡ script = cc (is) in step-more above (ControlStep control) script (fine control refl) formed same
+    one None fine is = call_line-formed above word words script formed is
 
 words_line-formed : (above : ScriptValue) (words : List (List ℕ)) (script : ScriptValue) → AreFormed above → words_line above words ≡ Some script → AreFormed script
 unfolding words_line

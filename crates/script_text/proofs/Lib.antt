@@ -5,4 +5,5 @@ pub mod Digits
 pub mod OneLine
 pub mod Rows
 pub mod FormedCalls
+pub mod FormedControls
 pub mod FormedSteps

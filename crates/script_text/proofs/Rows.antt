@@ -7,16 +7,19 @@ use Rattle.uuid.specs.Text.{by_index}
 use Rattle.tee_types.specs.declared.call.Call.{Call}
 use Rattle.tee_types.specs.declared.call.Call.TheVariants.{Create, Open, Close, Read, Write, Truncate, Seek, Rename, Delete, Info, EnumNew, EnumStart, EnumNext, EnumReset, EnumFree}
 use Rattle.tee_types.specs.declared.call.Whence.TheVariants.{Set, Cur, End}
+use Rattle.tee_types.specs.declared.reply.Device.TheVariants.{Dir, File, Card}
 use Rattle.script_text.specs.declared.reading.ScriptFault.{ScriptFault}
 use Rattle.script_text.specs.declared.reading.ScriptFault.TheVariants.{BadLine, TooManyApps}
-use Rattle.script_text.specs.declared.script.Control.TheVariants.{Serial, Phase}
+use Rattle.script_text.specs.declared.script.Arm.TheVariants.{Stop, Fail, Lose}
+use Rattle.script_text.specs.declared.script.Control.TheVariants.{Serial, Phase, Arm as ArmControl, Crash, List as ListControl}
 use Rattle.script_text.specs.declared.script.Step.{Step}
 use Rattle.script_text.specs.declared.script.Step.TheVariants.{Call as CallStep, Control as ControlStep}
 use Rattle.script_text.specs.Lines.{words_of}
-use Rattle.script_text.specs.Words.{is_name, id_of, bytes_of, numeral_of, offset_of, whence_of, letter_flags_of, bits_of, flags_of}
+use Rattle.script_text.specs.Words.{is_name, id_of, bytes_of, numeral_of, positive_of, device_of, offset_of, whence_of, letter_flags_of, bits_of, flags_of}
 use Rattle.script_text.specs.Script.{ScriptValue, no_script}
 use Rattle.script_text.specs.Calls.{create_words, open_words, write_words, seek_words, rename_words, one_number, two_numbers, verb_of, call_words}
-use Rattle.script_text.specs.Grammar.{call_line, app_line, control_of, step_line, words_line, line_of, script_from, script_of}
+use Rattle.script_text.specs.Controls.{stop_words, fail_words, lose_words, crash_words, control_verb_of, control_of}
+use Rattle.script_text.specs.Grammar.{call_line, app_line, step_line, words_line, line_of, script_from, script_of}
 
 abbrev app : List ℕ
 app = 0 ∷ 0 ∷ 0 ∷ 0 ∷ 0 ∷ 0 ∷ 0 ∷ 0 ∷ 0 ∷ 0 ∷ 0 ∷ 0 ∷ 0 ∷ 0 ∷ 0 ∷ 1 ∷ []
@@ -40,7 +43,7 @@ first_object : below
     ∷ codes "a create 6b r 00 -\na read 0 4\na close 0\na open 6b r"
     ∷ [])
     ≡ replicate 2 (calls (Create (0x6b ∷ []) (record { bits = 1 }) (0 ∷ []) [] ∷ Read 0 4 ∷ Close 0 ∷ Open (0x6b ∷ []) (record { bits = 1 }) ∷ []))
-unfolding words_of is_name id_of bytes_of numeral_of letter_flags_of bits_of flags_of create_words open_words one_number two_numbers verb_of call_words call_line app_line control_of step_line words_line line_of script_from decode_pairs by_index
+unfolding words_of is_name id_of bytes_of numeral_of letter_flags_of bits_of flags_of create_words open_words one_number two_numbers verb_of call_words call_line app_line control_verb_of control_of step_line words_line line_of script_from decode_pairs by_index
 first_object = refl
 
 empty_script : script_of [] ≡ Ok no_script
@@ -55,7 +58,7 @@ each_call : below
     ∷ EnumStart 6 ∷ EnumNext 7 ∷ EnumReset 8 ∷ EnumFree 9 ∷ [])
     ∷ calls (Seek 0 (pos 4095) Set ∷ Seek 0 (negsuc 8) Cur ∷ Seek 0 (negsuc 1) End ∷ Seek 0 (pos 7) Cur ∷ Seek 0 (pos 0) Set ∷ [])
     ∷ []
-unfolding words_of is_name id_of bytes_of numeral_of offset_of whence_of write_words seek_words rename_words one_number two_numbers verb_of call_words call_line app_line control_of step_line words_line line_of script_from decode_pairs by_index
+unfolding words_of is_name id_of bytes_of numeral_of offset_of whence_of write_words seek_words rename_words one_number two_numbers verb_of call_words call_line app_line control_verb_of control_of step_line words_line line_of script_from decode_pairs by_index
 each_call = refl
 
 -- zeros in front and capital hex digits are good, and so are 64 bytes of an identifier and the greatest number
@@ -72,7 +75,7 @@ good_words : below
     ∷ calls (Create (0x6b ∷ []) (record { bits = 0x437 }) [] (0 ∷ 255 ∷ []) ∷ [])
     ∷ calls (map (λ bits. Open (0x6b ∷ []) (record { bits = bits })) (0x8 ∷ 0x400 ∷ 0xffffffff ∷ 0 ∷ []))
     ∷ []
-unfolding words_of is_name id_of bytes_of numeral_of letter_flags_of bits_of flags_of create_words open_words one_number two_numbers verb_of call_words call_line app_line control_of step_line words_line line_of script_from decode_pairs by_index
+unfolding words_of is_name id_of bytes_of numeral_of letter_flags_of bits_of flags_of create_words open_words one_number two_numbers verb_of call_words call_line app_line control_verb_of control_of step_line words_line line_of script_from decode_pairs by_index
 good_words = refl
 
 bad_words : below
@@ -82,7 +85,7 @@ bad_words : below
     ∷ "a seek 0 - set" ∷ "a seek 0 + set" ∷ "a seek 0 +-1 set" ∷ "a seek 0 0 SET" ∷ "a seek 0 0 begin" ∷ "a Close 0" ∷ "a write 0 f" ∷ [])
     ++ (codes "a create " ++ replicate 130 48 ++ codes " r - -") ∷ [])
     ≡ replicate 24 (Err (BadLine 2))
-unfolding words_of is_name id_of bytes_of numeral_of offset_of whence_of letter_flags_of bits_of flags_of create_words open_words write_words seek_words one_number two_numbers verb_of call_words call_line app_line control_of step_line words_line line_of script_from decode_pairs by_index
+unfolding words_of is_name id_of bytes_of numeral_of offset_of whence_of letter_flags_of bits_of flags_of create_words open_words write_words seek_words one_number two_numbers verb_of call_words call_line app_line control_verb_of control_of step_line words_line line_of script_from decode_pairs by_index
 bad_words = refl
 
 offsets : map offset_of
@@ -94,10 +97,10 @@ offsets = refl
 -- an unknown word, an undeclared application, too few words and too many, and words whose lines are not built
 bad_forms : below
     (map codes
-    ("a wrote 0 ff" ∷ "b open 6b r" ∷ "a" ∷ "a close" ∷ "a close 0 0" ∷ "a enum 0" ∷ "a seek 0 0" ∷ "a # 0" ∷ "serial a" ∷ "phase 0" ∷ "threads" ∷ "list"
-    ∷ "stop card 1" ∷ "fail dir 1" ∷ "lose card 1" ∷ "taint 1 1 0 00" ∷ "flip 1 0 00" ∷ "crash 0" ∷ "save m" ∷ "restore 1 m" ∷ []))
-    ≡ replicate 20 (Err (BadLine 2))
-unfolding words_of is_name id_of bytes_of numeral_of offset_of whence_of letter_flags_of bits_of flags_of open_words seek_words one_number two_numbers verb_of call_words call_line app_line control_of step_line words_line line_of script_from decode_pairs by_index
+    ("a wrote 0 ff" ∷ "b open 6b r" ∷ "a" ∷ "a close" ∷ "a close 0 0" ∷ "a enum 0" ∷ "a seek 0 0" ∷ "a # 0" ∷ "serial a" ∷ "phase 0" ∷ "threads"
+    ∷ "taint 1 1 0 00" ∷ "flip 1 0 00" ∷ "save m" ∷ "restore 1 m" ∷ []))
+    ≡ replicate 15 (Err (BadLine 2))
+unfolding words_of is_name id_of bytes_of numeral_of offset_of whence_of letter_flags_of bits_of flags_of open_words seek_words one_number two_numbers verb_of call_words call_line app_line control_verb_of control_of step_line words_line line_of script_from decode_pairs by_index
 bad_forms = refl
 
 -- further spaces and tabs, a CR before the LF, lines without a word, and comments
@@ -109,7 +112,7 @@ good_separators : below
     ∷ (codes "# a\n\t #a create\n#" ++ 0 ∷ 13 ∷ 127 ∷ codes "\na close 0")
     ∷ [])
     ≡ replicate 5 (calls (Close 0 ∷ []))
-unfolding words_of is_name numeral_of one_number verb_of call_words call_line app_line control_of step_line words_line line_of script_from by_index
+unfolding words_of is_name numeral_of one_number verb_of call_words call_line app_line control_verb_of control_of step_line words_line line_of script_from by_index
 good_separators = refl
 
 -- a CR that stands before no LF, other bytes that are not of words, and a byte past ASCII, in a comment too
@@ -123,7 +126,7 @@ bad_separators : below
     ∷ (codes " " ++ 255 ∷ codes "#")
     ∷ [])
     ≡ replicate 7 (Err (BadLine 2))
-unfolding words_of is_name numeral_of one_number verb_of call_words call_line app_line control_of step_line words_line line_of script_from by_index
+unfolding words_of is_name numeral_of one_number verb_of call_words call_line app_line control_verb_of control_of step_line words_line line_of script_from by_index
 bad_separators = refl
 
 -- controls stand where they are, also above an application
@@ -133,8 +136,27 @@ controls : below
       applications = record { name = codes "a"; app = app } ∷ record { name = codes "b"; app = app } ∷ [];
       steps = ControlStep Serial ∷ ControlStep Phase ∷ CallStep 1 EnumNew ∷ ControlStep Phase ∷ CallStep 0 EnumNew ∷ [];
     }) ∷ []
-unfolding words_of is_name verb_of call_words call_line app_line control_of step_line words_line line_of script_from by_index
+unfolding words_of is_name verb_of call_words call_line app_line control_verb_of control_of step_line words_line line_of script_from by_index
 controls = refl
+
+-- the controls that arm a device, crash the files and show the objects; zeros may lead
+arms : below
+    (codes "stop dir 0\nstop card 5\nstop 272 04294967295\nfail 001 1\nfail dir 4294967295\nlose card 2\n list\ncrash 0\ncrash 018446744073709551615" ∷ [])
+    ≡ Ok (script_a (map ControlStep
+    (ArmControl (Stop Dir 0) ∷ ArmControl (Stop Card 5) ∷ ArmControl (Stop (File 272) 4294967295) ∷ ArmControl (Fail (File 1) 1) ∷ ArmControl (Fail Dir 4294967295)
+    ∷ ArmControl (Lose 2) ∷ ListControl ∷ Crash 0 ∷ Crash 18446744073709551615 ∷ []))) ∷ []
+unfolding words_of is_name numeral_of positive_of device_of stop_words fail_words lose_words crash_words control_verb_of control_of app_line step_line words_line line_of script_from by_index
+arms = refl
+
+-- no device, no number, a number past its bounds, too few words and too many
+bad_arms : below
+    (map codes
+    ("stop 0 1" ∷ "stop 273 1" ∷ "stop entropy 1" ∷ "stop Dir 1" ∷ "stop file 1" ∷ "stop dir" ∷ "stop dir 1 1" ∷ "stop dir 4294967296" ∷ "stop dir -1" ∷ "stop 0x1 1"
+    ∷ "fail dir 0" ∷ "fail card" ∷ "fail 1 4294967296" ∷ "lose card 0" ∷ "lose dir 1" ∷ "lose 1" ∷ "lose card 1 1" ∷ "crash" ∷ "crash 18446744073709551616" ∷ "crash -1"
+    ∷ "crash 1 1" ∷ "list 0" ∷ []))
+    ≡ replicate 22 (Err (BadLine 2))
+unfolding words_of is_name numeral_of positive_of device_of stop_words fail_words lose_words crash_words verb_of call_words call_line app_line control_verb_of control_of step_line words_line line_of script_from by_index
+bad_arms = refl
 
 -- a name again, an application below a call, a word too few and too many, and no UUID
 bad_applications : below
@@ -146,18 +168,18 @@ bad_applications : below
     ∷ [])
     ++ below (codes "a enum\napp b 00000000-0000-0000-0000-000000000002" ∷ [])
     ≡ replicate 5 (Err (BadLine 2)) ++ Err (BadLine 3) ∷ []
-unfolding words_of is_name verb_of call_words call_line app_line control_of step_line words_line line_of script_from by_index
+unfolding words_of is_name verb_of call_words call_line app_line control_verb_of control_of step_line words_line line_of script_from by_index
 bad_applications = refl
 
 -- a call above every application, and the first of two bad lines; comments and empty lines count
 first_bad_line : script_of (codes "a close 0\n") ∷ below (codes "a close 0\na\nb" ∷ codes "\n# a\na close" ∷ [])
     ≡ Err (BadLine 1) ∷ Err (BadLine 3) ∷ Err (BadLine 4) ∷ []
-unfolding words_of is_name numeral_of one_number verb_of call_words call_line app_line control_of step_line words_line line_of script_from by_index
+unfolding words_of is_name numeral_of one_number verb_of call_words call_line app_line control_verb_of control_of step_line words_line line_of script_from by_index
 first_bad_line = refl
 
 -- the last of four lines is cut off
 truncated_script : below (codes "a create 6b rw - -\na read 0 1\na write 0 f" ∷ []) ≡ Err (BadLine 4) ∷ []
-unfolding words_of is_name id_of bytes_of numeral_of letter_flags_of bits_of flags_of create_words write_words two_numbers verb_of call_words call_line app_line control_of step_line words_line line_of script_from decode_pairs by_index
+unfolding words_of is_name id_of bytes_of numeral_of letter_flags_of bits_of flags_of create_words write_words two_numbers verb_of call_words call_line app_line control_verb_of control_of step_line words_line line_of script_from decode_pairs by_index
 truncated_script = refl
 
 -- an application under each of these letters
@@ -166,14 +188,14 @@ applications letters = flat_map (λ letter. codes "app " ++ letter ∷ codes " 0
 
 -- sixteen applications are good, a seventeenth is too many, and a bad line below it wins
 seventeen_applications :
-    script_of (applications (codes "abcdefghijklmnopq")) ∷ script_of (applications (codes "abcdefghijklmnopq") ++ codes "list\n") ∷ []
+    script_of (applications (codes "abcdefghijklmnopq")) ∷ script_of (applications (codes "abcdefghijklmnopq") ++ codes "save\n") ∷ []
     ≡ Err (TooManyApps 17) ∷ Err (BadLine 18) ∷ []
-unfolding words_of is_name verb_of call_words call_line app_line control_of step_line words_line line_of script_from by_index
+unfolding words_of is_name verb_of call_words call_line app_line control_verb_of control_of step_line words_line line_of script_from by_index
 seventeen_applications = refl
 
 sixteen_applications : script_of (applications (codes "abcdefghijklmnop"))
     ≡ Ok (record { applications = map (λ letter. record { name = letter ∷ []; app = app }) (codes "abcdefghijklmnop"); steps = [] })
-unfolding words_of is_name verb_of call_words call_line app_line control_of step_line words_line line_of script_from by_index
+unfolding words_of is_name verb_of call_words call_line app_line control_verb_of control_of step_line words_line line_of script_from by_index
 sixteen_applications = refl
 
 names : map is_name (codes "a" ∷ codes "a_9" ∷ codes "abcdefghijklmnop" ∷ codes "set" ∷ codes "dir" ∷ codes "create" ∷ codes "card" ∷ []) ≡ replicate 7 true

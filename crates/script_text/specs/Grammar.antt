@@ -1,8 +1,6 @@
 -- The grammar of scripts: what each line means under the lines above it.
 use Rattle.std.specs.Prelude.{ℕ, ◌+◌, Bool, not, ◌&&◌, nat_lt, nat_eq, List, [], ◌∷◌, ◌++◌, length, if◌then◌else◌, codes, Option, Some, None, is_none, position, Result, Ok, Err}
 use Rattle.std.specs.List.{starts_with}
-use Rattle.script_text.specs.declared.script.Control.{Control}
-use Rattle.script_text.specs.declared.script.Control.TheVariants.{Serial, Phase}
 use Rattle.script_text.specs.declared.script.Step.{Step}
 use Rattle.script_text.specs.declared.script.Step.TheVariants.{Call as CallStep, Control as ControlStep}
 use Rattle.script_text.specs.declared.reading.ScriptFault.{ScriptFault}
@@ -11,6 +9,7 @@ use Rattle.script_text.specs.Lines.{lines_of, words_of, is_ascii}
 use Rattle.script_text.specs.Words.{same_word, is_name, uuid_of}
 use Rattle.script_text.specs.Script.{Declaration, ScriptValue, no_script, has_call}
 use Rattle.script_text.specs.Calls.{◌>>=◌, call_words}
+use Rattle.script_text.specs.Controls.{control_of}
 
 -- the place of the application of that name
 abbrev pub place_of : List ℕ → List Declaration → Option ℕ
@@ -39,14 +38,6 @@ app_line above (name ∷ uuid ∷ []) =
       Some (record above { applications = above.applications ++ record { name = name; app = app } ∷ [] }))
     else None
 app_line above _ = None
-
--- a control: `serial` or `phase`
-unfoldable pub control_of : List ℕ → List (List ℕ) → Option Control
-control_of word [] =
-    if same_word word (codes "serial") then Some Serial
-    else if same_word word (codes "phase") then Some Phase
-    else None
-control_of word _ = None
 
 -- a control, or a call
 unfoldable pub step_line : ScriptValue → List ℕ → List (List ℕ) → Option ScriptValue

@@ -1,5 +1,5 @@
 -- The forms of words, and the values that they stand for.
-use Rattle.std.specs.Prelude.{ℕ, ◌==◌, ◌+◌, ◌*◌, Bool, not, ◌&&◌, ◌||◌, nat_lt, nat_le, nat_eq, List, [], ◌∷◌, length, drop, if◌then◌else◌, codes, Option, Some, None, count_by, slice_index, ℤ, pos, neg_ℤ}
+use Rattle.std.specs.Prelude.{ℕ, ◌==◌, ◌+◌, ◌*◌, Bool, not, ◌&&◌, ◌||◌, nat_lt, nat_le, nat_eq, List, [], ◌∷◌, length, drop, if◌then◌else◌, codes, Option, Some, None, option_and_then, count_by, slice_index, ℤ, pos, neg_ℤ}
 use Rattle.std.specs.List.{list_any, list_all, starts_with}
 use Rattle.std.specs.Option.{option_map}
 use Rattle.std.specs.Cmp.Lexicographic.{pointwise}
@@ -11,6 +11,8 @@ use Rattle.hex.specs.Hex.{decode_of}
 use Rattle.uuid.specs.Text.{parsed}
 use Rattle.tee_types.specs.declared.flags.Flags.{Flags}
 use Rattle.tee_types.specs.Rights.{read_bit, write_bit, write_meta_bit, share_read_bit, share_write_bit, overwrite_bit}
+use Rattle.tee_types.specs.declared.reply.Device.{Device}
+use Rattle.tee_types.specs.declared.reply.Device.TheVariants.{Dir, File, Card}
 use Rattle.tee_types.specs.declared.call.Whence.{Whence}
 use Rattle.tee_types.specs.declared.call.Whence.TheVariants.{Set, Cur, End}
 
@@ -67,6 +69,29 @@ numeral_of base greatest word =
 -- N: decimal digits, of a number up to 4,294,967,295
 abbrev pub number_of : List ℕ → Option ℕ
 number_of word = numeral_of 10 4294967295 word
+
+-- the number, where it is at least 1
+abbrev pub if_positive : ℕ → Option ℕ
+if_positive number = if nat_le 1 number then Some number else None
+
+-- decimal digits of a number from 1 up to the greatest
+unfoldable pub positive_of : ℕ → List ℕ → Option ℕ
+positive_of greatest word = option_and_then if_positive (numeral_of 10 greatest word)
+
+-- the number of a call of a device: decimal digits, of a number from 1 to 4,294,967,295
+abbrev pub place_of_call : List ℕ → Option ℕ
+place_of_call word = positive_of 4294967295 word
+
+-- SEED: decimal digits, of a number up to 18,446,744,073,709,551,615
+abbrev pub seed_of : List ℕ → Option ℕ
+seed_of word = numeral_of 10 18446744073709551615 word
+
+-- DEVICE: `dir`, `card`, or the number of an object's file, 1 to 272
+unfoldable pub device_of : List ℕ → Option Device
+device_of word =
+    if same_word word (codes "dir") then Some Dir
+    else if same_word word (codes "card") then Some Card
+    else option_map File (positive_of 272 word)
 
 -- OFFSET: `-`, `+` or no sign, then decimal digits, of a number up to 9,223,372,036,854,775,807
 unfoldable pub offset_of : List ℕ → Option ℤ

@@ -2,6 +2,7 @@
 #![tactic(auto)]
 
 mod calls;
+mod controls;
 pub mod laws;
 mod reading;
 mod script;
@@ -9,4 +10,4 @@ mod values;
 mod words;
 
 pub use reading::{MAX_APPLICATIONS, ScriptFault, parse};
-pub use script::{Control, Script, Step};
+pub use script::{Arm, Control, Script, Step};

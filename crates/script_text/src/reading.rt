@@ -3,11 +3,12 @@
 ghost use Rattle.std.specs.Prelude.{◌≡◌, ◌^◌, ◌<◌, ◌≤◌, ◌+◌, length, IfOk, OnOk};
 ghost use Rattle.script_text.specs.Lines.{lines_of, words_of};
 ghost use Rattle.script_text.specs.Script.{ScriptValue, no_script};
-ghost use Rattle.script_text.specs.Grammar.{app_line, call_line, control_of, step_line, words_line, line_of, script_from, script_of};
+ghost use Rattle.script_text.specs.Grammar.{app_line, call_line, step_line, words_line, line_of, script_from, script_of};
 ghost use Rattle.script_text.specs.Parsed.{IsParsed, IsRead, HasGrown};
 
 use crate::calls::call;
-use crate::script::{Control, Script, Step};
+use crate::controls::control;
+use crate::script::{Script, Step};
 use crate::values::{is_name, same, uuid};
 use crate::words::{cut_line, cut_word, is_ascii, two};
 use std::alloc::{AllocError, Global};
@@ -73,23 +74,6 @@ fn add_app(alloc: Global, script: &mut Script, words: &[u8]) -> Result<bool, NoM
     };
     script.declare(Vec::from_slice(alloc, name)?, app)?;
     Ok(true)
-}
-
-/// The control that a line is.
-#[tactic(auto, unfolding(crate::specs::Grammar::control_of))]
-fn control(word: &[u8], words: &[u8]) -> Option<Control>
-    ensures { result ≡ control_of word.now (words_of words.now) }
-{
-    if cut_word(words).is_some() {
-        return None;
-    }
-    if same(word, b"serial") {
-        return Some(Control::Serial);
-    }
-    if same(word, b"phase") {
-        return Some(Control::Phase);
-    }
-    None
 }
 
 /// Adds the step that a line means, a control or a call, and tells whether the line is in the grammar.

@@ -3,7 +3,31 @@
 use indexmap::IndexMap;
 use std::alloc::Global;
 use std::marker::Model;
-use tee_types::{AppId, Call, NoMemory};
+use tee_types::{AppId, Call, Device, NoMemory};
+
+/// What a device is set to do in the next phase. Its calls are counted from 1 since the phase was mounted.
+#[derive(Clone, Copy, Debug, PartialEq, Eq)]
+pub enum Arm {
+    /// The device passes so many calls, and fails all later ones.
+    Stop {
+        /// The device.
+        device: Device,
+        /// How many calls pass.
+        calls: u32,
+    },
+    /// The device fails that call.
+    Fail {
+        /// The device.
+        device: Device,
+        /// The call, from 1.
+        call: u32,
+    },
+    /// The card acts on that call, and its answer is lost.
+    Lose {
+        /// The call, from 1.
+        call: u32,
+    },
+}
 
 /// A line that is no call: it ends the phase above it.
 #[derive(Debug, Drop)]
@@ -12,6 +36,15 @@ pub enum Control {
     Serial,
     /// The phase above ends, and nothing else is done.
     Phase,
+    /// A device is armed for the next phase.
+    Arm(Arm),
+    /// Each file takes one of the images that a crash may leave. Which one follows from the seed.
+    Crash {
+        /// The seed.
+        seed: u64,
+    },
+    /// The store is mounted and its objects are shown.
+    List,
 }
 
 /// One step of a script.

@@ -4,12 +4,12 @@ ghost use Rattle.std.specs.Prelude.{◌≡◌, ◌<◌, ◌≤◌, ◌+◌, ◌=
 ghost use Rattle.std.specs.Char.{digit_value};
 ghost use Rattle.std.specs.Str.Parse.{digits_value};
 ghost use Rattle.std.specs.List.{list_any, list_all};
-ghost use Rattle.script_text.specs.Words.{same_word, is_name, uuid_of, id_of, bytes_of, letter_flags_of, bits_of, flags_of, numeral_of, number_of, offset_of, whence_of, count_of, are_digits, is_digit, is_small_letter, reserved_words};
+ghost use Rattle.script_text.specs.Words.{same_word, is_name, uuid_of, id_of, bytes_of, letter_flags_of, bits_of, flags_of, numeral_of, number_of, positive_of, place_of_call, seed_of, device_of, offset_of, whence_of, count_of, are_digits, is_digit, is_small_letter, reserved_words};
 
 use std::alloc::Global;
 use tee_types::{
-    AppId, Bytes, Flags, NoMemory, OVERWRITE, ObjectId, READ, SHARE_READ, SHARE_WRITE, WRITE,
-    WRITE_META, Whence,
+    AppId, Bytes, Device, Flags, MAX_FILE, NoMemory, OVERWRITE, ObjectId, READ, SHARE_READ,
+    SHARE_WRITE, WRITE, WRITE_META, Whence,
 };
 use uuid::Uuid;
 
@@ -119,30 +119,35 @@ fn are_digits(base: u8, word: &[u8]) -> bool
 }
 
 /// The number of these digits, or `limit` where it is above that.
-fn capped(base: u8, limit: u64, digits: &[u8]) -> u64
+fn capped(base: u8, limit: u128, digits: &[u8]) -> u128
     requires base { 1 ≤ base }
+    requires limit { limit ≤ 2 ^ 64 }
     ensures { result ≡ min (digits_value base digits.now) limit }
 {
     let mut value = 0u128;
     for digit in digits {
-        value = (value * base as u128 + digit_value(*digit) as u128).min(limit as u128);
+        value = (value * base as u128 + digit_value(*digit) as u128).min(limit);
     }
-    value as u64
+    value
 }
 
 /// The number of these digits, at least one, up to the greatest.
 #[tactic(auto, unfolding(crate::specs::Words::numeral_of))]
 fn numeral(word: &[u8], base: u8, greatest: u64) -> Option<u64>
-    requires base { 1 ≤ base }
-    requires greatest { greatest < 2 ^ 63 }
+    requires { 1 ≤ base }
     ensures number { result ≡ numeral_of base greatest word.now }
     ensures within { IfSome result (λ number. number ≤ greatest) }
 {
     if word.is_empty() || !are_digits(base, word) {
         return None;
     }
+    let greatest = greatest as u128;
     let value = capped(base, greatest + 1, word);
-    if value <= greatest { Some(value) } else { None }
+    if value <= greatest {
+        Some(value as u64)
+    } else {
+        None
+    }
 }
 
 /// The number that a word of decimal digits stands for, at most 4,294,967,295.
@@ -151,6 +156,46 @@ pub(crate) fn number(word: &[u8]) -> Option<u32>
 {
     let number = numeral(word, 10, u32::MAX as u64)?;
     Some(number as u32)
+}
+
+/// The number of these decimal digits, from 1 up to the greatest.
+#[tactic(auto, unfolding(crate::specs::Words::positive_of))]
+fn positive(word: &[u8], greatest: u64) -> Option<u64>
+    ensures number { result ≡ positive_of greatest word.now }
+    ensures within { IfSome result (λ number. number ≤ greatest) }
+{
+    let number = numeral(word, 10, greatest)?;
+    if number == 0 { None } else { Some(number) }
+}
+
+/// The number of a call of a device, 1 to 4,294,967,295.
+pub(crate) fn place_of_call(word: &[u8]) -> Option<u32>
+    ensures { result ≡ place_of_call word.now }
+{
+    let place = positive(word, u32::MAX as u64)?;
+    Some(place as u32)
+}
+
+/// The seed that a word of decimal digits stands for.
+pub(crate) fn seed(word: &[u8]) -> Option<u64>
+    ensures { result ≡ seed_of word.now }
+{
+    numeral(word, 10, u64::MAX)
+}
+
+/// The device that a word names: `dir`, `card`, or the number of an object's file.
+#[tactic(auto, unfolding(crate::specs::Words::device_of))]
+pub(crate) fn device(word: &[u8]) -> Option<Device>
+    ensures { result ≡ device_of word.now }
+{
+    if same(word, b"dir") {
+        return Some(Device::Dir);
+    }
+    if same(word, b"card") {
+        return Some(Device::Card);
+    }
+    let file = positive(word, MAX_FILE as u64)?;
+    Some(Device::File(file as u16))
 }
 
 /// The offset that a word stands for.

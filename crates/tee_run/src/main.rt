@@ -1,11 +1,13 @@
-//! Trusted storage, run by scripts: `tee_run run` reads a script from standard input, serves its calls, and
+//! Trusted storage, run by scripts: `tee_run run` reads a script from standard input, serves its calls over a simulated disk and card, and
 //! prints the history of calls and replies.
 #![tactic(auto)]
 
+use bench_run::{RunEnd, Status, run, status_number, status_text};
+use seed_words::SeedEntropy;
+use sim_bench::{blank_bench, simulator_keys};
 use std::env::Env;
 use std::process::ExitCode;
 use std::{env, io};
-use store_run::{Status, run, status_number, status_text};
 use tee_ports::{StdSink, StdSource};
 
 /// The words behind the program's name. Words that can't be read are none.
@@ -17,13 +19,29 @@ fn words_of(rt: &(impl Env + AllocGlobal)) -> Result<Vec<String>, io::Error> {
     Ok(words)
 }
 
+/// Runs the script on standard input over devices that were never used.
+fn run_standard(rt: &HostRuntime, words: &[String]) -> Status {
+    let Ok(bench) = blank_bench(rt.alloc()) else {
+        return Status::NoMemory;
+    };
+    let mut source = StdSource::new(rt.stdin());
+    let mut sink = StdSink::new(rt.stdout());
+    let mut entropy = SeedEntropy::from_seed(&[0; 32]);
+    let RunEnd { status, bench: _ } = run(
+        rt.alloc(),
+        words,
+        &mut source,
+        &mut sink,
+        bench,
+        &simulator_keys(),
+        &mut entropy,
+    );
+    status
+}
+
 fn main(rt: HostRuntime) -> ExitCode {
     let status = match words_of(&rt) {
-        Ok(words) => {
-            let mut source = StdSource::new(rt.stdin());
-            let mut sink = StdSink::new(rt.stdout());
-            run(rt.alloc(), words.as_slice(), &mut source, &mut sink)
-        }
+        Ok(words) => run_standard(&rt, words.as_slice()),
         Err(error) if error.kind() == io::ErrorKind::OutOfMemory => Status::NoMemory,
         Err(_) => Status::Usage,
     };

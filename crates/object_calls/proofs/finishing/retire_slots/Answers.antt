@@ -30,7 +30,7 @@ loop-slot-preserved g c =
       journal = files_then c.args.journal.now l.journal after after.knows.files l.invariant.journal c.retire_slot-file.ensures.journal;
       retired = one_retired g.L.StoreName.store g.F.StoreFile.state c.args.slots.items c.args.journal.now.knows l.journal.knows l.left.items l.files.items l.invariant.retired more
           c.requires.numbered after.knows slot c.retire_slot-file.result c.pop.new.self.items c.push.new.self.items last (c.in-Some.ensures.rest ∙ ap (λ n. take (n - 1) l.left.items) place)
-          pushed c.retire_slot-file.ensures.retired c.retire_slot-file.ensures.numbered (files_same l.journal after after.knows.files c.retire_slot-file.ensures.journal);
+          pushed c.retire_slot-file.ensures.retired c.retire_slot-file.ensures.file c.retire_slot-file.ensures.numbered (files_same l.journal after after.knows.files c.retire_slot-file.ensures.journal);
       count = omega (arith, l.invariant.count, longer, c.in-Some.ensures.cases);
       room = omega (arith, l.invariant.room, c.push.ensures.capacity);
     }

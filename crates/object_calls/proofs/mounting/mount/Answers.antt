@@ -1,11 +1,15 @@
-use Rattle.std.proofs.Common.{◌≡◌, ◌∙◌, [], ◌∷◌, List, length, sym, ap, subst}
+use Rattle.std.proofs.Common.{◌≡◌, ◌∙◌, [], ◌∷◌, List, length, inl, refl, sym, ap, subst}
+use Rattle.hmac_keys.specs.KeyTable.{rpmb_key}
+use Rattle.store_commit.specs.Causes.{counts}
+use Rattle.store_commit.specs.Mounts.{HasRootRead}
+use Rattle.store_commit.specs.Reads.{IsRootRead}
 use Rattle.object_calls.specs.Begins.{IsWholeOpening, MountsAsRead}
 use Rattle.object_calls.specs.Files.{files_of, object_files}
 use Rattle.object_calls.specs.Opening.{IsOpening, OpeningValue, bench_files, entries_in}
 use Rattle.object_calls.specs.Syncing.{StopsSyncing, SyncsNamed}
 use Rattle.object_calls.proofs.EntriesOf.{file_from_one}
 use Rattle.object_calls.proofs.Files.{refilled}
-use Rattle.object_calls.proofs.Mounts.{mounted_of, opening_of, sync_refused, whole_of}
+use Rattle.object_calls.proofs.Mounts.{mounted_of, none_rose_at, opening_of, sync_counts, sync_heard, sync_refused, whole_of}
 use Rattle.object_calls.proofs.Syncs.{stops_bench, syncs_bench}
 use Rattle.object_calls.proofs.mounting.mount.Goals as goal
 
@@ -95,3 +99,43 @@ returns-in-Err-sync_named-clause-refused g c =
     (subst (λ (l : List g.row.F.Denot). StopsSyncing (files_of state l) (files_of state left) cause) (sym c.take_dir-dir.ensures.files)
     (subst (λ (l : List g.row.F.Denot). StopsSyncing (files_of state (took.0 ∷ l)) (files_of state left) cause) c.deref_mut.ensures.value
     (subst (λ (l : List g.row.F.Denot). StopsSyncing (files_of state (took.0 ∷ was)) (files_of state l) cause) (sym is) stops)))
+
+pub returns-in_default-clause-heard : goal.returns-in_default-clause-heard
+returns-in_default-clause-heard g c = inl refl
+
+pub returns-in-Err-sync_named-clause-heard : goal.returns-in-Err-sync_named-clause-heard
+returns-in-Err-sync_named-clause-heard g c =
+    let state = g.F.StoreFile.state in
+    let port = g.R.RpmbPort.state in
+    let gate = c.in-Ok-mount.gate in
+    let p0 = port c.args.bench.card in
+    let key = rpmb_key c.args.keys.now.huk in
+    let card_is : c.close-dir.result.1 ≡ gate.host.port = ap (λ p. p.1) c.close-dir.ensures.gives in
+    let read : HasRootRead key p0 (port c.close-dir.result.1) =
+    record {
+      counter = gate.counter;
+      root = gate.dir.dir.root;
+      read = subst (λ (r : g.row.R.Denot). IsRootRead key p0 (port r) gate.counter gate.dir.dir.root) (sym card_is) c.in-Ok-mount.ensures.opens.heard;
+    } in
+    sync_heard (files_of state c.with_dir-files-in-Err-sync_named.result.items 0) p0 (port c.close-dir.result.1) c.args.keys.now (object_files state c.deref_mut.result.now)
+    (object_files state c.sync_named.new.files) c.in-Err-sync_named.cause c.in-Err-sync_named.ensures read
+
+pub returns-in-Err-sync_named-clause-counts : goal.returns-in-Err-sync_named-clause-counts
+returns-in-Err-sync_named-clause-counts g c =
+    let state = g.F.StoreFile.state in
+    let port = g.R.RpmbPort.state in
+    let gate = c.in-Ok-mount.gate in
+    let took = c.take_dir-dir.result in
+    let left : List g.row.F.Denot = c.with_dir-files-in-Err-sync_named.result.items in
+    let first : List g.row.F.Denot = c.args.bench.files.items in
+    let p0 = port c.args.bench.card in
+    let p1 = port c.close-dir.result.1 in
+    let drew = g.E.Entropy.faults c.args.entropy.now in
+    let draws = g.E.Entropy.faults c.mount.new.entropy in
+    let card_is : c.close-dir.result.1 ≡ gate.host.port = ap (λ p. p.1) c.close-dir.ensures.gives in
+    let dir_is : c.close-dir.result.0 ≡ gate.dir.file = ap (λ p. p.0) c.close-dir.ensures.gives in
+    let was : files_of state first 0 ≡ state took.0 = ap (λ (l : List g.row.F.Denot). files_of state l 0) c.take_dir-dir.ensures.files in
+    let now : files_of state left 0 ≡ state gate.dir.file = ap (λ (l : List g.row.F.Denot). files_of state l 0) c.with_dir-files-in-Err-sync_named.ensures.files ∙ ap state dir_is in
+    sync_counts (counts (files_of state first 0) p0 drew) (counts (files_of state left 0) p1 draws) (object_files state c.deref_mut.result.now)
+    (object_files state c.sync_named.new.files) c.in-Err-sync_named.cause c.in-Err-sync_named.ensures
+    (none_rose_at (files_of state first 0) (files_of state left 0) (state took.0) (state gate.dir.file) p0 p1 (port gate.host.port) drew draws was now (ap port card_is) c.in-Ok-mount.ensures.passed)

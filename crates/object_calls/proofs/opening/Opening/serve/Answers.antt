@@ -13,7 +13,7 @@ use Rattle.object_calls.specs.Seats.{IsSplitting}
 use Rattle.object_calls.specs.Serving.{ServesOpening}
 use Rattle.object_calls.specs.Services.{ServiceValue}
 use Rattle.served_calls.specs.Held.{HoldsForDoubt}
-use Rattle.object_calls.proofs.FirstParts.{first_gate, first_journal, first_numbered, may_be_first, new-splitting, none_held, none_tagged, room_for_all, told_first}
+use Rattle.object_calls.proofs.FirstParts.{first_gate, first_journal, first_numbered, first_opens, may_be_first, new-splitting, none_held, none_tagged, room_for_all, told_first}
 use Rattle.object_calls.proofs.opening.Opening.serve.Goals as goal
 
 pub split_slots-slots-requires-clause-splitting : goal.split_slots-slots-requires-clause-splitting
@@ -57,6 +57,8 @@ pub invariant_of-result : goal.invariant_of-result
 invariant_of-result g c =
     let i = c.self.inside in
     let store = g.L.StoreName.store in
+    let o : OpeningValue g.row.F.Denot g.row.R.Denot =
+    record { gate = i.gate; files = i.files.items; storage_key = i.storage_key; table = i.table; applications = i.applications.items } in
     let of = subst (IsStoreOf g.F.StoreFile.state g.R.RpmbPort.state store) (sym c.self.view_is) c.requires.store in
     let slots = c.split_slots-slots.result.slots in
     let many : length slots.items ≡ 272 = sym slots.ok.0 ∙ c.split_slots-slots.ensures.many in
@@ -73,6 +75,7 @@ invariant_of-result g c =
         tagged = none_tagged gate.journal.knows empty;
         keyed = of.keyed.storage;
         few = subst (λ (n : ℕ). n ≤ 16) (i.applications.ok.0 ∙ sym (ap (λ (s : Store). length s.mounted.applications) of.is)) c.self.invariant.3;
+        opens = first_opens g.F.StoreFile.state g.R.RpmbPort.state g.met.F.StoreFile.sound store o c.self.invariant.0 of;
       },
       c.split_slots-slots.ensures.vacant,
       room_for_all (vec_capacity c.split_slots-slots.result.room) (vec_capacity i.files) (vec_len i.files) (length i.files.items) c.split_slots-slots.ensures.room c.self.invariant.1

@@ -5,9 +5,9 @@ use Rattle.store_commit.specs.Holds.{AreHolds}
 use Rattle.call_history.specs.Journals.{JournalValue}
 use Rattle.locked_gate.specs.LockedGates.{LockedGateValue}
 use Rattle.object_calls.specs.Files.{files_of}
-use Rattle.object_calls.specs.Finished.{HaveCounted, LeavesStore}
+use Rattle.object_calls.specs.Finished.{GivesBack, HaveCounted, LeavesStore}
 use Rattle.object_calls.specs.Services.{ServiceValue}
-use Rattle.object_calls.proofs.LeftStores.{leaves_parts}
+use Rattle.object_calls.proofs.LeftStores.{gives_back, leaves_parts}
 use Rattle.object_calls.proofs.Retirings.{IsSameHistory, sessions_same}
 use Rattle.object_calls.proofs.service.Service.finish.Goals as goal
 
@@ -34,7 +34,7 @@ returns-clause-leaves g c =
     subst (λ (v : ServiceValue g.row.F.Denot g.row.R.Denot). LeavesStore store v.gate.journal.knows (files_of state c.with_dir-files.result.items) (port c.close-dir.result.1) c.doubt-doubt.result)
     c.self.view_is
     (leaves_parts state port g.met.F.StoreFile.sound store s later c.into_parts-gate.ensures.tied c.self.invariant.0.tagged same files.items (sym files.ok.0 ∙ c.retire_slots-files.ensures.many)
-    c.retire_slots-files.ensures.retired c.retire_slots-files.ensures.numbered
+    c.retire_slots-files.ensures.retired c.retire_slots-files.ensures.numbered c.self.invariant.0.opens
     (subst (λ (x : GateValue g.row.F.Denot g.row.R.Denot). DoubtStands (gate_sides state port x) x.doubt) is c.doubt-doubt.ensures.stands)
     (subst (λ (x : GateValue g.row.F.Denot g.row.R.Denot). AreHolds x.dir.dir.entries x.holds) is c.doubt-doubt.ensures.held)
     c.doubt-doubt.result (subst (λ (x : GateValue g.row.F.Denot g.row.R.Denot). c.doubt-doubt.result ≡ option_map (λ d. d.number) x.doubt) is c.doubt-doubt.ensures.number)
@@ -42,3 +42,14 @@ returns-clause-leaves g c =
     (ap (λ p. p.0) c.close-dir.ensures.gives ∙ ap (λ (x : GateValue g.row.F.Denot g.row.R.Denot). x.dir.file) is)
     (ap (λ p. p.1) c.close-dir.ensures.gives ∙ ap (λ (x : GateValue g.row.F.Denot g.row.R.Denot). x.host.port) is)
     c.with_dir-files.ensures.files)
+
+pub returns-clause-gives : goal.returns-clause-gives
+returns-clause-gives g c =
+    let state = g.F.StoreFile.state in
+    let s : ServiceValue g.row.F.Denot g.row.R.Denot = record { gate = c.self.inside.gate; slots = c.self.inside.slots.items; storage_key = c.self.inside.storage_key } in
+    let gate : GateValue g.row.F.Denot g.row.R.Denot = c.into_parts-gate.result.0 in
+    let is : gate ≡ s.gate.gate = c.into_parts-gate.ensures.gate in
+    let files = c.retire_slots-files.result.items in
+    subst (λ (v : ServiceValue g.row.F.Denot g.row.R.Denot). GivesBack state v c.with_dir-files.result.items c.close-dir.result.1) c.self.view_is
+    (gives_back state s c.close-dir.result.0 files c.with_dir-files.result.items c.close-dir.result.1 (ap (λ p. p.0) c.close-dir.ensures.gives ∙ ap (λ (x : GateValue g.row.F.Denot g.row.R.Denot). x.dir.file) is)
+    (ap (λ p. p.1) c.close-dir.ensures.gives ∙ ap (λ (x : GateValue g.row.F.Denot g.row.R.Denot). x.host.port) is) c.with_dir-files.ensures.files c.retire_slots-files.ensures.files)

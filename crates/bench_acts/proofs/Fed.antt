@@ -1,0 +1,12 @@
+-- Files whose counts are the same, list by list.
+use Rattle.std.proofs.Common.{◌≡◌, ℕ, zero, suc, List, [], ◌∷◌, map, refl}
+use Rattle.disk_model.specs.State.{FileState}
+use Rattle.object_calls.specs.Files.{files_of}
+
+pub fed_each : {F : Type 0} (state : F → FileState) (old new : List F) → map (λ f. (state f).starved) new ≡ map (λ f. (state f).starved) old
+    → (file : ℕ) → (files_of state new file).starved ≡ (files_of state old file).starved
+fed_each state [] [] is file = refl
+fed_each state [] (f ∷ new) is file = cc
+fed_each state (f ∷ old) [] is file = cc
+fed_each state (f ∷ old) (g ∷ new) is zero = cc
+fed_each state (f ∷ old) (g ∷ new) is (suc file) = fed_each state old new (cc) file

@@ -1,0 +1,52 @@
+-- A mounted store that is ready is the store that was mounted, under the same keys and with the same objects.
+use Rattle.std.proofs.Common.{◌≡◌, ◌∙◌, ℕ, List, Option, refl, ap}
+use Rattle.disk_model.specs.State.{FileState}
+use Rattle.hmac_keys.specs.declared.Keys.{Keys}
+use Rattle.rpmb_card.specs.Port.{PortState}
+use Rattle.dir_records.specs.declared.entry.DirEntry.{DirEntry}
+use Rattle.store_model.specs.declared.event.Event.{Event}
+use Rattle.crash_core.specs.Opening.{opening_map}
+use Rattle.script_text.specs.declared.script.Arm.{Arm}
+use Rattle.script_text.specs.declared.script.Step.{Step}
+use Rattle.object_calls.specs.OpenedStores.{store_in}
+use Rattle.object_calls.specs.Opening.{IsKeyed, OpeningValue, bench_files, entries_in}
+use Rattle.bench_acts.specs.Benches.{BenchState, opening_state}
+use Rattle.bench_acts.specs.Mounts.{objects_in}
+use Rattle.bench_phases.specs.Arming.{IsReady}
+use Rattle.bench_phases.specs.Closing.{ClosesStore, faults_on}
+use Rattle.bench_phases.specs.Phases.{ServesOpened}
+use Rattle.bench_phases.proofs.Arms.{armed-map, arms_read}
+
+module _ {F R : Type 0} (of_file : F → FileState) (of_port : R → PortState) (applications : List (List ℕ)) (arms : List Arm) (opened armed : OpeningValue F R)
+    (ready : IsReady of_file of_port applications arms opened armed) where
+  pub ready-applications : armed.applications ≡ applications
+  ready-applications = ap (λ (o : OpeningValue F R). o.applications) ready.others
+
+  pub ready-keyed : (keys : Keys) → IsKeyed keys opened → IsKeyed keys armed
+  ready-keyed keys keyed = record {
+    storage = ap (λ (o : OpeningValue F R). o.storage_key) ready.others ∙ keyed.storage;
+    card = ap (λ (o : OpeningValue F R). o.gate.host.key) ready.others ∙ keyed.card;
+  }
+
+  ready-entries : entries_in armed ≡ entries_in opened
+  ready-entries = ap (λ (o : OpeningValue F R). entries_in o) ready.others
+
+  ready-map : (keys : Keys) → objects_in of_file of_port keys armed ≡ objects_in of_file of_port keys opened
+  ready-map keys =
+      ap (λ (entries : List (Option DirEntry)). opening_map keys (bench_files of_file armed) entries) ready-entries
+      ∙ armed-map keys (bench_files of_file opened) (bench_files of_file armed) (entries_in opened)
+      (arms_read arms (opening_state of_file of_port opened) (opening_state of_file of_port armed) ready.arms_are)
+
+  pub serves_opened : (keys : Keys) (calls : List Step) (closed : BenchState) (events : List Event) → IsKeyed keys opened
+      → ClosesStore (store_in keys of_file of_port armed) (faults_on (opening_state of_file of_port armed)) calls closed events
+      → ServesOpened of_file of_port keys applications arms calls opened closed events
+  serves_opened keys calls closed events keyed closes = record {
+    armed = armed;
+    applications_are = ready-applications;
+    arms_are = ready.arms_are;
+    store = store_in keys of_file of_port armed;
+    is_store = record { keyed = ready-keyed keys keyed; is = refl };
+    keys_are = refl;
+    opens = ready-map keys;
+    closes = closes;
+  }

@@ -1,0 +1,38 @@
+use Rattle.std.proofs.Common.{ℕ, List, length, sym, subst}
+use Rattle.object_calls.specs.OpenedStores.{store_in}
+use Rattle.object_calls.specs.Opening.{OpeningValue}
+use Rattle.object_calls.specs.Sessions.{AreUnseated}
+use Rattle.phase_calls.specs.Steps.{AreCalls}
+use Rattle.bench_acts.specs.Benches.{bench_state, opening_state}
+use Rattle.bench_phases.specs.Closing.{ClosesStore, faults_on}
+use Rattle.bench_phases.specs.Phases.{ServesOpened}
+use Rattle.bench_phases.proofs.Ready.{ready-applications, ready-keyed, serves_opened}
+use Rattle.bench_phases.proofs.Results.{if_ok}
+use Rattle.bench_phases.proofs.phase.serve_opened.Goals as goal
+
+pub serve_once-requires-clause-keyed : goal.serve_once-requires-clause-keyed
+serve_once-requires-clause-keyed g c =
+    ready-keyed g.F.StoreFile.state g.R.RpmbPort.state c.args.applications.now c.args.arms.now c.args.opening c.make_ready.new.opening c.in-Ok.ensures.ready c.args.keys.now c.requires.keyed
+
+pub serve_once-requires-clause-sessions : goal.serve_once-requires-clause-sessions
+serve_once-requires-clause-sessions g c =
+    let same = ready-applications g.F.StoreFile.state g.R.RpmbPort.state c.args.applications.now c.args.arms.now c.args.opening c.make_ready.new.opening c.in-Ok.ensures.ready in
+    subst (λ (a : List (List ℕ)). AreUnseated {E = g.row.E.Denot} a c.in-Ok.sessions.items) (sym same) c.in-Ok.ensures.sessions
+
+pub serve_once-requires-clause-calls : goal.serve_once-requires-clause-calls
+serve_once-requires-clause-calls g c =
+    let same = ready-applications g.F.StoreFile.state g.R.RpmbPort.state c.args.applications.now c.args.arms.now c.args.opening c.make_ready.new.opening c.in-Ok.ensures.ready in
+    subst (λ (a : List (List ℕ)). AreCalls (length a) c.args.calls.now) (sym same) c.requires.calls
+
+pub returns-in-Ok-clause-serves : goal.returns-in-Ok-clause-serves
+returns-in-Ok-clause-serves g c =
+    let of_file = g.F.StoreFile.state in
+    let of_port = g.R.RpmbPort.state in
+    let keys = c.args.keys.now in
+    let armed : OpeningValue g.row.F.Denot g.row.R.Denot = c.make_ready.new.opening in
+    if_ok c.serve_once.result
+    (λ x. ClosesStore (store_in keys of_file of_port armed) (faults_on (opening_state of_file of_port armed)) c.args.calls.now (bench_state of_file of_port x.bench) x.history.events)
+    (λ x. ServesOpened of_file of_port keys c.args.applications.now c.args.arms.now c.args.calls.now c.args.opening (bench_state of_file of_port x.bench) x.history.events)
+    (λ x closes. serves_opened of_file of_port c.args.applications.now c.args.arms.now c.args.opening armed c.in-Ok.ensures.ready keys c.args.calls.now (bench_state of_file of_port x.bench) x.history.events
+    c.requires.keyed closes)
+    c.serve_once.ensures.closed

@@ -1,0 +1,49 @@
+use Rattle.std.proofs.Common.{◌≡◌, ◌∙◌, ℕ, List, length, sym, ap, subst}
+use Rattle.store_model.specs.Record.{events_of}
+use Rattle.history_seats.specs.Records.{HistoryRecord}
+use Rattle.suppositions.specs.Stores.{Store}
+use Rattle.call_history.specs.Sessions.{CallerSession}
+use Rattle.object_calls.specs.Sessions.{AreSeated}
+use Rattle.object_calls.proofs.Files.{refilled}
+use Rattle.phase_calls.specs.Steps.{AreCalls}
+use Rattle.object_calls.specs.Services.{ServiceValue}
+use Rattle.phase_calls.specs.Making.{faults_at}
+use Rattle.bench_acts.specs.Benches.{bench_state, opening_state}
+use Rattle.bench_phases.specs.Closing.{ClosesStore, faults_on}
+use Rattle.bench_phases.proofs.Results.{if_ok}
+use Rattle.bench_phases.proofs.Closings.{closes_from}
+use Rattle.bench_phases.proofs.serving.serve_calls.Goals as goal
+
+pub make_and_close-requires-clause-begins : goal.make_and_close-requires-clause-begins
+make_and_close-requires-clause-begins g c = ap (λ (l : List HistoryRecord). events_of l) c.in-Ok.ensures.served.view.empty
+
+pub make_and_close-requires-clause-sessions : goal.make_and_close-requires-clause-sessions
+make_and_close-requires-clause-sessions g c =
+    let sessions = c.args.sessions in
+    let new : List (CallerSession g.row.E.Denot) = c.serve.new.sessions in
+    let long : length sessions.items ≡ sessions.len = sym sessions.ok.0 in
+    let many : length new ≡ sessions.len = c.serve.auto.sessions ∙ c.deref_mut.ensures.len in
+    subst (λ (l : List (CallerSession g.row.E.Denot)). AreSeated g.L.StoreName.store l) (sym (refilled sessions.len sessions.items new long many)) c.in-Ok.ensures.seated
+
+pub make_and_close-requires-clause-calls : goal.make_and_close-requires-clause-calls
+make_and_close-requires-clause-calls g c =
+    let sessions = c.args.sessions in
+    let new : List (CallerSession g.row.E.Denot) = c.serve.new.sessions in
+    let long : length sessions.items ≡ sessions.len = sym sessions.ok.0 in
+    let many : length new ≡ sessions.len = c.serve.auto.sessions ∙ c.deref_mut.ensures.len in
+    let applications : length new ≡ length c.args.opening.applications =
+    c.in-Ok.ensures.seated.many ∙ ap (λ (s : Store). length s.mounted.applications) c.requires.store.is in
+    subst (λ (n : ℕ). AreCalls n c.args.calls.now)
+    (sym (ap (λ (l : List (CallerSession g.row.E.Denot)). length l) (refilled sessions.len sessions.items new long many) ∙ applications)) c.requires.calls
+
+pub returns-in-Ok-clause-closed : goal.returns-in-Ok-clause-closed
+returns-in-Ok-clause-closed g c =
+    let of_file = g.F.StoreFile.state in
+    let of_port = g.R.RpmbPort.state in
+    let store = g.L.StoreName.store in
+    let service : ServiceValue g.row.F.Denot g.row.R.Denot = c.in-Ok.service in
+    if_ok c.make_and_close.result
+    (λ x. ClosesStore store (faults_at of_file of_port g.E.Entropy.faults service) c.args.calls.now (bench_state of_file of_port x.bench) x.history.events)
+    (λ x. ClosesStore store (faults_on (opening_state of_file of_port c.args.opening)) c.args.calls.now (bench_state of_file of_port x.bench) x.history.events)
+    (λ x closes. closes_from of_file of_port g.E.Entropy.faults store c.args.opening service c.args.calls.now (bench_state of_file of_port x.bench) x.history.events c.in-Ok.ensures.served closes)
+    c.make_and_close.ensures.closed

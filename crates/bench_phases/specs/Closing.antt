@@ -1,0 +1,35 @@
+-- A store that was served, and closed.
+use Rattle.std.specs.Prelude.{◌≡◌, ◌<◌, ℕ, List, length, Option}
+use Rattle.tee_types.specs.declared.reply.Device.{Device}
+use Rattle.tee_types.specs.declared.reply.Device.TheVariants.{Card, Dir, Entropy, File}
+use Rattle.store_model.specs.declared.event.Event.{Event}
+use Rattle.store_model.specs.Record.{events_of}
+use Rattle.history_seats.specs.Views.{GateView}
+use Rattle.suppositions.specs.Stores.{Store}
+use Rattle.script_text.specs.declared.script.Step.{Step}
+use Rattle.object_calls.specs.Arming.{IsOnBench}
+use Rattle.object_calls.specs.Finished.{LeavesStore}
+use Rattle.bench_acts.specs.Benches.{BenchState}
+use Rattle.phase_calls.specs.Counts.{Rise, counts_of, draws_of}
+use Rattle.phase_calls.specs.Steps.{ServesSteps}
+
+-- how many faults a device of the bench counted
+abbrev pub faults_on : BenchState → Device → ℕ
+faults_on bench Dir = (bench.files 0).faults
+faults_on bench (File number) = (bench.files number).faults
+faults_on bench Card = bench.card.faults
+faults_on bench Entropy = 0
+
+-- The calls were made and the store was closed. Before the first call each device had counted so many faults.
+pub record ClosesStore (store : Store) (before : Device → ℕ) (calls : List Step) (closed : BenchState) (events : List Event) : Type 0 where
+  -- its history, in which each call is, once and in order
+  pub view : GateView
+  pub events_are : events ≡ events_of view.all
+  pub serves : ServesSteps calls events
+  -- what it leaves: the history is legal, and every picture of the devices mounts to the objects that it leaves
+  pub doubt : Option ℕ
+  pub leaves : LeavesStore store view closed.files closed.card doubt
+  -- each count that a reply carries is of a fault that the device counted in the phase
+  pub counted : (device : Device) → IsOnBench device → Rise (before device) (faults_on closed device) (counts_of device events)
+  -- each count that a reply carries for a session's entropy rose above the one before it
+  pub drawn : (session : ℕ) → session < length store.mounted.applications → (first : ℕ) × (last : ℕ) × Rise first last (draws_of session events)

@@ -1,0 +1,5 @@
+pub mod Arming
+pub mod Disarming
+pub mod Closing
+pub mod Phases
+pub mod Refusals

@@ -1,0 +1,155 @@
+//! A phase.
+
+ghost use Rattle.std.specs.Prelude.{◌≡◌, ◌+◌, ◌*◌, ◌<◌, ◌≤◌, ◌^◌, [], length, vec_len, All, IfErr, IfOk, MatchResult, OnOk};
+ghost use Rattle.script_text.specs.Laws.{IsArm};
+ghost use Rattle.store_model.specs.Object.{ObjectMap};
+ghost use Rattle.object_calls.specs.Opening.{IsKeyed};
+ghost use Rattle.object_calls.specs.Sessions.{AreUnseated};
+ghost use Rattle.phase_calls.specs.Steps.{AreCalls};
+ghost use Rattle.bench_acts.specs.Benches.{bench_state};
+ghost use Rattle.bench_phases.specs.Arming.{IsReady};
+ghost use Rattle.bench_phases.specs.Phases.{RunsPhase, ServesOpened};
+ghost use Rattle.bench_phases.specs.Refusals.{EndsStarved, IsGivenUp};
+
+use crate::arming::arm_devices;
+use crate::disarming::disarm_bench;
+use crate::serving::serve_once;
+use crate::sessions::open_sessions;
+use bench_acts::{is_fed, mount_bench, starved_counts};
+use call_history::Session;
+use hmac_keys::Keys;
+use object_calls::{Bench, Closed, Halted, Opening};
+use rpmb_card::CardRig;
+use script_text::{Arm, Step};
+use std::alloc::Global;
+use store_commit::MountFault;
+use store_model::History;
+use tee_ports::{Entropy, FileRig};
+use tee_types::{AppId, NoMemory};
+
+/// What a phase gives back.
+#[derive(Drop)]
+pub struct PhaseEnd<F, R> {
+    /// The bench, disarmed.
+    pub bench: Bench<F, R>,
+    /// How many objects there were as it was mounted.
+    pub objects: u16,
+    /// The events of all sessions, in their one order.
+    pub history: History,
+}
+
+// A phase was given up for want of memory: its bench is disarmed.
+fn starved_bench<F: FileRig + Drop, R: CardRig + Drop>(bench: Bench<F, R>) -> Halted<F, R>
+    ensures ends { EndsStarved (bench_state F.state R.state result.bench) result.fault }
+    ensures whole { vec_len result.bench.files ≡ vec_len bench.files }
+{
+    Halted {
+        bench: disarm_bench(bench),
+        fault: MountFault::NoMemory,
+    }
+}
+
+// Opens a session for each application, and arms the devices.
+fn make_ready<F: FileRig + Drop, R: CardRig + Drop, E: Entropy>(
+    alloc: Global,
+    opening: &mut Opening<F, R>,
+    entropy: &E,
+    number: u64,
+    applications: &[AppId],
+    arms: &[Arm],
+) -> Result<Vec<Session<E>>, NoMemory>
+    requires none { opening.old.applications ≡ [] }
+    requires few { length applications.now ≤ 16 }
+    requires number { 16 * number + 16 < 2 ^ 32 }
+    requires arms { All IsArm arms.now }
+    ensures sessions { IfOk result (λ s. AreUnseated applications.now s.items) }
+    ensures ready { OnOk result (IsReady F.state R.state applications.now arms.now opening.old opening.new) }
+{
+    let sessions = open_sessions(alloc, opening, entropy, number, applications)?;
+    arm_devices(opening, arms)?;
+    Ok(sessions)
+}
+
+// Serves the calls of a phase on a store that is mounted, and closes it.
+fn serve_opened<F: FileRig + Drop, R: CardRig + Drop, E: Entropy + Drop>(
+    alloc: Global,
+    opening: Opening<F, R>,
+    keys: &Keys,
+    entropy: &E,
+    number: u64,
+    applications: &[AppId],
+    arms: &[Arm],
+    calls: &[Step],
+) -> Result<Closed<F, R>, Bench<F, R>>
+    requires keyed { IsKeyed keys.now opening }
+    requires none { opening.applications ≡ [] }
+    requires few { length applications.now ≤ 16 }
+    requires number { 16 * number + 16 < 2 ^ 32 }
+    requires arms { All IsArm arms.now }
+    requires calls { AreCalls (length applications.now) calls.now }
+    ensures serves { IfOk result (λ c. ServesOpened F.state R.state keys.now applications.now arms.now calls.now opening (bench_state F.state R.state c.bench) c.history.events) }
+    ensures whole { MatchResult result (λ c. vec_len c.bench.files ≡ 273) (λ b. vec_len b.files ≡ 273) }
+{
+    let mut opening = opening;
+    match make_ready(alloc, &mut opening, entropy, number, applications, arms) {
+        Ok(sessions) => serve_once(opening, sessions, keys, calls),
+        Err(NoMemory {}) => Err(opening.close()),
+    }
+}
+
+/// Runs a phase: mounts the bench, opens a session for each application, arms its devices, serves the calls one after another, closes the
+/// store, and disarms the bench. The sessions draw from streams of `entropy`, sixteen for each phase, by the phase's number.
+///
+/// # Errors
+///
+/// As `mount` says, where the bench is not mounted: nothing was armed. `NoMemory`, also where memory ran out in a call of a file: the
+/// bench is disarmed, and the calls of the phase have no history.
+pub fn run_phase<F: FileRig + Drop, R: CardRig + Drop, E: Entropy + Drop>(
+    alloc: Global,
+    bench: Bench<F, R>,
+    keys: &Keys,
+    entropy: &mut E,
+    number: u64,
+    applications: &[AppId],
+    arms: &[Arm],
+    calls: &[Step],
+) -> Result<PhaseEnd<F, R>, Halted<F, R>>
+    requires whole { vec_len bench.files ≡ 273 }
+    requires few { length applications.now ≤ 16 }
+    requires number { 16 * number + 16 < 2 ^ 32 }
+    requires calls { AreCalls (length applications.now) calls.now }
+    requires arms { All IsArm arms.now }
+    ensures runs { IfOk result (λ p. (opening : ObjectMap) × (length opening ≡ p.objects)
+        × RunsPhase F.state R.state keys.now applications.now arms.now calls.now (bench_state F.state R.state bench) (bench_state F.state R.state p.bench) opening p.history.events) }
+    ensures refused { IfErr result (λ h. IsGivenUp keys.now (bench_state F.state R.state bench) (bench_state F.state R.state h.bench) (E.faults entropy.old) (E.faults entropy.new)
+        h.fault) }
+    ensures undrawn { IfOk result (λ p. E.faults entropy.new ≡ E.faults entropy.old) }
+    ensures whole { IfOk result (λ p. vec_len p.bench.files ≡ 273) }
+    ensures whole_err { IfErr result (λ h. vec_len h.bench.files ≡ 273) }
+    ensures reliable { E.is_reliable entropy.old → E.is_reliable entropy.new }
+{
+    let Ok(before) = starved_counts(alloc, &bench.files) else {
+        return Err(starved_bench(bench));
+    };
+    let opening = mount_bench(alloc, bench, keys, entropy)?;
+    let objects = opening.objects();
+    let starved = before.as_slice();
+    match serve_opened(
+        alloc,
+        opening,
+        keys,
+        entropy,
+        number,
+        applications,
+        arms,
+        calls,
+    ) {
+        Ok(closed) if is_fed(closed.bench.files.as_slice(), starved) => Ok(PhaseEnd {
+            bench: disarm_bench(closed.bench),
+            objects,
+            history: closed.history,
+        }),
+        Ok(closed) => Err(starved_bench(closed.bench)),
+        Err(bench) => Err(starved_bench(bench)),
+    }
+}

@@ -1,0 +1,85 @@
+// The calls of a phase, served under a name of its store.
+
+ghost use Rattle.std.specs.Prelude.{◌≡◌, [], length, vec_len, IfOk, MatchResult};
+ghost use Rattle.object_calls.specs.OpenedStores.{IsStoreOf, store_in};
+ghost use Rattle.object_calls.specs.Opening.{IsKeyed};
+ghost use Rattle.object_calls.specs.Sessions.{AreSeated, AreUnseated};
+ghost use Rattle.served_calls.specs.Answered.{events_at};
+ghost use Rattle.phase_calls.specs.Making.{faults_at};
+ghost use Rattle.phase_calls.specs.Steps.{AreCalls};
+ghost use Rattle.bench_acts.specs.Benches.{bench_state, opening_state};
+ghost use Rattle.bench_phases.specs.Closing.{ClosesStore, faults_on};
+
+use call_history::Session;
+use hmac_keys::Keys;
+use object_calls::{Bench, Closed, Opening, Service};
+use phase_calls::make_calls;
+use rpmb_card::RpmbPort;
+use script_text::Step;
+use std::marker::Brand;
+use suppositions::StoreName;
+use tee_ports::{Entropy, StoreFile};
+use tee_types::NoMemory;
+
+// Makes the calls, and closes the store. Where memory runs out the bench is given back alone.
+fn make_and_close<F: StoreFile + Drop, R: RpmbPort + Drop, E: Entropy + Drop, L: StoreName>(
+    service: Service<F, R, L>,
+    sessions: Vec<Session<E>>,
+    calls: &[Step],
+) -> Result<Closed<F, R>, Bench<F, R>>
+    requires begins { events_at service.gate ≡ [] }
+    requires sessions { AreSeated L.store sessions.items }
+    requires calls { AreCalls (length sessions.items) calls.now }
+    ensures closed { IfOk result (λ c. ClosesStore L.store (faults_at F.state R.state E.faults service) calls.now (bench_state F.state R.state c.bench) c.history.events) }
+    ensures whole { MatchResult result (λ c. vec_len c.bench.files ≡ 273) (λ b. vec_len b.files ≡ 273) }
+{
+    let mut service = service;
+    let mut sessions = sessions;
+    let made = make_calls(&mut service, &mut sessions, calls);
+    let closed = service.finish(sessions);
+    match made {
+        Ok(()) => Ok(closed),
+        Err(NoMemory {}) => Err(closed.bench),
+    }
+}
+
+// Serves the store that `L` names, and closes it. Only contracts read the keys: they name the store.
+fn serve_calls<F: StoreFile + Drop, R: RpmbPort + Drop, E: Entropy + Drop, L: StoreName>(
+    opening: Opening<F, R>,
+    sessions: Vec<Session<E>>,
+    _keys: &Keys,
+    calls: &[Step],
+) -> Result<Closed<F, R>, Bench<F, R>>
+    requires store { IsStoreOf F.state R.state L.store opening }
+    requires sessions { AreUnseated opening.applications sessions.items }
+    requires calls { AreCalls (length opening.applications) calls.now }
+    ensures closed { IfOk result (λ c. ClosesStore L.store (faults_on (opening_state F.state R.state opening)) calls.now (bench_state F.state R.state c.bench) c.history.events) }
+    ensures whole { MatchResult result (λ c. vec_len c.bench.files ≡ 273) (λ b. vec_len b.files ≡ 273) }
+{
+    let mut sessions = sessions;
+    match opening.serve::<E, L>(&mut sessions) {
+        Ok(service) => make_and_close(service, sessions, calls),
+        Err(opening) => Err(opening.close()),
+    }
+}
+
+/// Serves a store under a name of its own: makes the calls, one after another, and closes it. The keys are those that it was mounted with.
+///
+/// # Errors
+///
+/// Memory ran out. The bench is given back.
+pub(crate) fn serve_once<F: StoreFile + Drop, R: RpmbPort + Drop, E: Entropy + Drop>(
+    opening: Opening<F, R>,
+    sessions: Vec<Session<E>>,
+    keys: &Keys,
+    calls: &[Step],
+) -> Result<Closed<F, R>, Bench<F, R>>
+    requires keyed { IsKeyed keys.now opening }
+    requires sessions { AreUnseated opening.applications sessions.items }
+    requires calls { AreCalls (length opening.applications) calls.now }
+    ensures closed { IfOk result (λ c. ClosesStore (store_in keys.now F.state R.state opening) (faults_on (opening_state F.state R.state opening)) calls.now
+        (bench_state F.state R.state c.bench) c.history.events) }
+    ensures whole { MatchResult result (λ c. vec_len c.bench.files ≡ 273) (λ b. vec_len b.files ≡ 273) }
+{
+    serve_calls::<F, R, E, Brand>(opening, sessions, keys, calls)
+}

@@ -1,0 +1,16 @@
+use Rattle.std.proofs.Common.{◌≡◌, ◌≤◌, ◌-◌, length}
+use Rattle.bench_run.specs.Points.{point_of}
+use Rattle.bench_run.specs.Ready.{IsReady}
+use Rattle.bench_run.specs.Running.{Advances}
+use Rattle.bench_run.proofs.playing.do_acts.Given as goal
+
+abbrev pub invariant-loop-run : goal.invariant-loop-run
+invariant-loop-run g l = record {
+  advances : Advances g.F.StoreFile.state g.R.RpmbPort.state g.F.FileRig.crash_image l.keys l.script (point_of g.F.StoreFile.state g.R.RpmbPort.state l.script (g.K.Sink.held l.fn.sink) l.fn.run) (point_of g.F.StoreFile.state g.R.RpmbPort.state l.script (g.K.Sink.held l.sink) l.run);
+  ready : IsReady l.script l.run;
+  counted : g.K.Sink.faults l.fn.sink ≤ g.K.Sink.faults l.sink;
+  undrawn : g.E.Entropy.faults l.entropy ≡ g.E.Entropy.faults l.fn.entropy;
+}
+
+abbrev pub decreases-loop-run : goal.decreases-loop-run
+decreases-loop-run g l = length l.script.steps - l.run.at

@@ -1,0 +1,10 @@
+pub mod Text
+pub mod Refusals
+pub mod Trace
+pub mod Course
+pub mod Ending
+pub mod Causes
+pub mod Points
+pub mod Ready
+pub mod Tells
+pub mod Running

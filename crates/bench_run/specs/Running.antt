@@ -1,0 +1,61 @@
+-- A run, act after act, and its end.
+use Rattle.std.specs.Prelude.{ℕ, ◌≡◌, ◌+◌, ◌<◌, List, ◌++◌, Option, vec_len}
+use Rattle.disk_model.specs.State.{FileState}
+use Rattle.hmac_keys.specs.declared.Keys.{Keys}
+use Rattle.rpmb_card.specs.Port.{PortState}
+use Rattle.script_text.specs.Script.{ScriptValue}
+use Rattle.store_commit.specs.declared.fault.MountFault.{MountFault}
+use Rattle.tee_ports.specs.Streams.{Appends}
+use Rattle.bench_acts.specs.Benches.{BenchState, bench_state}
+use Rattle.run_streams.specs.declared.status.Status.{Status}
+use Rattle.run_streams.specs.Sending.{Begins, Sends}
+use Rattle.bench_run.specs.declared.standing.Run.{Run}
+use Rattle.bench_run.specs.declared.standing.RunEnd.{RunEnd}
+use Rattle.bench_run.specs.Text.{Act, RunRecord, acts_of, acts_text, run_output}
+use Rattle.bench_run.specs.Trace.{applications_of}
+use Rattle.bench_run.specs.Course.{Goes}
+use Rattle.bench_run.specs.Ending.{EndsActs, EndsScript}
+use Rattle.bench_run.specs.Points.{Point, arms_behind, phases_in, point_of}
+use Rattle.bench_run.specs.Ready.{IsReady}
+use Rattle.bench_run.specs.Tells.{HasActCause}
+
+module _ {F R : Type 0} (of_file : F → FileState) (of_port : R → PortState) (image : FileState → ℕ → ℕ → List ℕ) where
+  -- Acts were done between the two points; their text was put, or is kept.
+  pub record Advances (keys : Keys) (script : ScriptValue) (old new : Point) : Type 0 where
+    pub done : List Act
+    pub records : List RunRecord
+    pub acts : acts_of old.steps ≡ done ++ acts_of new.steps
+    pub goes : Goes of_file of_port image keys (applications_of script) old.arms done records old.bench new.bench
+    pub arms_are : new.arms ≡ arms_behind old.arms done
+    pub number_is : new.number ≡ old.number + phases_in done
+    pub sent : Sends old.held new.held old.kept new.kept (acts_text script old.number done records)
+
+  -- From that point on the run ended with that status.
+  pub record EndsFrom (drew draws : ℕ) (keys : Keys) (script : ScriptValue) (failed : Type 0) (old : Point) (held : Option (List ℕ)) (given : BenchState) (status : Status) : Type 0 where
+    pub put : List ℕ
+    pub records : List RunRecord
+    pub appended : Appends old.held held put
+    pub begins : Begins put (old.kept ++ acts_text script old.number (acts_of old.steps) records)
+    pub ends : EndsActs of_file of_port image drew draws keys (applications_of script) old.arms (acts_of old.steps) records old.bench given status
+    pub cause : HasActCause failed put (old.kept ++ acts_text script old.number (acts_of old.steps) records) status
+
+  -- One more act was done.
+  pub record GoesOn (keys : Keys) (script : ScriptValue) (held_old held_new : Option (List ℕ)) (run next : Run F R) : Type 0 where
+    pub advances : Advances keys script (point_of of_file of_port script held_old run) (point_of of_file of_port script held_new next)
+    pub ready : IsReady script next
+    pub further : run.at < next.at
+
+  -- The run ended, on a whole bench.
+  pub record EndsAt (drew draws : ℕ) (keys : Keys) (script : ScriptValue) (failed : Type 0) (held_old held_new : Option (List ℕ)) (run : Run F R) (end : RunEnd F R) : Type 0 where
+    pub ends : EndsFrom drew draws keys script failed (point_of of_file of_port script held_old run) held_new (bench_state of_file of_port end.bench) end.status
+    pub whole : vec_len end.bench.files ≡ 273
+
+  -- The run of a script.
+  pub record RunsScript (drew draws : ℕ) (keys : Keys) (script : ScriptValue) (failed : Type 0) (held_old held_new : Option (List ℕ)) (handed given : BenchState) (status : Status) : Type 0 where
+    pub put : List ℕ
+    pub start : Option MountFault
+    pub records : List RunRecord
+    pub appended : Appends held_old held_new put
+    pub begins : Begins put (run_output script start records)
+    pub ends : EndsScript of_file of_port image drew draws keys script start records handed given status
+    pub cause : HasActCause failed put (run_output script start records) status

@@ -1,0 +1,103 @@
+//! Running a phase of a script.
+
+ghost use Rattle.std.specs.Prelude.{◌≡◌, ◌⊎◌, ◌≤◌, ◌+◌, ◌<◌, drop, length, take, vec_len, IfErr, IfOk};
+ghost use Rattle.std.specs.List.{prefix_len};
+ghost use Rattle.script_text.specs.Script.{is_call};
+ghost use Rattle.phase_calls.specs.Steps.{AreCalls};
+ghost use Rattle.tee_ports.specs.Faults.{Rose};
+ghost use Rattle.bench_run.specs.Ready.{IsCallFirst, IsReady, IsSound};
+ghost use Rattle.bench_run.specs.Running.{EndsAt, GoesOn};
+
+use crate::refusing::tell_refusal;
+use crate::standing::{Run, RunEnd};
+use crate::telling::tell_phase;
+use bench_phases::{PhaseEnd, run_phase};
+use hmac_keys::Keys;
+use object_calls::Halted;
+use rpmb_card::CardRig;
+use script_text::{Script, Step};
+use std::alloc::Global;
+use tee_ports::{Entropy, FileRig, Sink};
+
+/// How many calls stand in front of the first control.
+fn calls_length(steps: &[Step]) -> usize
+    ensures length { result ≡ prefix_len is_call steps.now }
+    ensures within { result ≤ length steps.now }
+{
+    for (i, step) in steps.iter().enumerate() {
+        if matches!(step, Step::Control(_)) {
+            return i;
+        }
+    }
+    steps.len()
+}
+
+/// The calls from that step on, up to the next control.
+fn calls_from(script: &Script, at: usize) -> &[Step]
+    requires { at ≤ length script.now.steps }
+    ensures calls { result.now ≡ take (prefix_len is_call (drop at script.now.steps)) (drop at script.now.steps) }
+    ensures count { length result.now ≡ prefix_len is_call (drop at script.now.steps) }
+    ensures within { length result.now ≤ length (drop at script.now.steps) }
+    ensures are_calls { AreCalls (length script.now.applications) result.now }
+{
+    let rest = &script.all_steps()[at..];
+    &rest[..calls_length(rest)]
+}
+
+/// Runs the phase whose calls are the next steps, with the arms that wait, and sends its text.
+pub(crate) fn do_phase<K: Sink, F: FileRig + Drop, R: CardRig + Drop, E: Entropy + Drop>(
+    alloc: Global,
+    script: &Script,
+    run: Run<F, R>,
+    sink: &mut K,
+    keys: &Keys,
+    entropy: &mut E,
+) -> Result<Run<F, R>, RunEnd<F, R>>
+    requires sound { IsSound script.now }
+    requires ready { IsReady script.now run }
+    requires call { IsCallFirst (drop run.at script.now.steps) }
+    ensures ok { IfOk result (GoesOn F.state R.state F.crash_image keys.now script.now (K.held sink.old) (K.held sink.new) run) }
+    ensures err { IfErr result (EndsAt F.state R.state F.crash_image (E.faults entropy.old) (E.faults entropy.new) keys.now script.now (Rose (K.faults sink.old) (K.faults sink.new) ⊎ K.is_full sink.new) (K.held sink.old) (K.held sink.new) run) }
+    ensures counted { K.faults sink.old ≤ K.faults sink.new }
+    ensures undrawn { IfOk result (λ next. E.faults entropy.new ≡ E.faults entropy.old) }
+{
+    let Run {
+        bench,
+        arms,
+        number,
+        at,
+        kept,
+    } = run;
+    let calls = calls_from(script, at);
+    match run_phase(
+        alloc,
+        bench,
+        keys,
+        entropy,
+        number,
+        script.applications(),
+        arms.as_slice(),
+        calls,
+    ) {
+        Ok(
+            PhaseEnd {
+                bench,
+                objects,
+                history,
+            },
+        ) => {
+            let run = Run {
+                bench,
+                arms: Vec::new(alloc),
+                number: number + 1,
+                at: at + calls.len(),
+                kept,
+            };
+            tell_phase(script, number, objects, &history, run, sink)
+        }
+        Err(Halted { bench, fault }) => {
+            let status = tell_refusal(fault, sink, kept);
+            Err(RunEnd { status, bench })
+        }
+    }
+}

@@ -1,0 +1,121 @@
+//! Running the steps of a script, one act after another.
+
+ghost use Rattle.std.specs.Prelude.{◌≡◌, ◌⊎◌, ◌≤◌, ◌<◌, ℕ, length, vec_len, IfErr, IfOk};
+ghost use Rattle.tee_ports.specs.Faults.{Rose};
+ghost use Rattle.bench_acts.specs.Benches.{bench_state};
+ghost use Rattle.bench_run.specs.Ready.{IsReady, IsSound};
+ghost use Rattle.bench_run.specs.Running.{EndsAt, GoesOn, RunsScript};
+
+use crate::acts::do_control;
+use crate::phase::do_phase;
+use crate::refusing::tell_refusal;
+use crate::standing::{Run, RunEnd};
+use bench_acts::open_bench;
+use hmac_keys::Keys;
+use object_calls::{Bench, Halted};
+use rpmb_card::CardRig;
+use run_streams::{Status, flush};
+use script_text::{Script, Step};
+use std::alloc::Global;
+use tee_ports::{Entropy, FileRig, Sink};
+
+/// Does the next act of a script: a phase, or a control.
+fn do_act<K: Sink, F: FileRig + Drop, R: CardRig + Drop, E: Entropy + Drop>(
+    alloc: Global,
+    script: &Script,
+    run: Run<F, R>,
+    sink: &mut K,
+    keys: &Keys,
+    entropy: &mut E,
+) -> Result<Run<F, R>, RunEnd<F, R>>
+    requires sound { IsSound script.now }
+    requires ready { IsReady script.now run }
+    requires some { run.at < length script.now.steps }
+    ensures ok { IfOk result (GoesOn F.state R.state F.crash_image keys.now script.now (K.held sink.old) (K.held sink.new) run) }
+    ensures err { IfErr result (EndsAt F.state R.state F.crash_image (E.faults entropy.old) (E.faults entropy.new) keys.now script.now (Rose (K.faults sink.old) (K.faults sink.new) ⊎ K.is_full sink.new) (K.held sink.old) (K.held sink.new) run) }
+    ensures counted { K.faults sink.old ≤ K.faults sink.new }
+    ensures undrawn { IfOk result (λ next. E.faults entropy.new ≡ E.faults entropy.old) }
+{
+    match &script.all_steps()[run.at] {
+        Step::Control(control) => { do_control(alloc, script, control, run, sink, keys, entropy) }
+        Step::Call { .. } => do_phase(alloc, script, run, sink, keys, entropy),
+    }
+}
+
+/// Puts the text that is left, where every act was done.
+fn finish<K: Sink, F: FileRig + Drop, R: CardRig + Drop>(
+    script: &Script,
+    keys: &Keys,
+    run: Run<F, R>,
+    sink: &mut K,
+) -> RunEnd<F, R>
+    requires ready { IsReady script.now run }
+    requires all { length script.now.steps ≤ run.at }
+    ensures { (drew draws : ℕ) → EndsAt F.state R.state F.crash_image drew draws keys.now script.now (Rose (K.faults sink.old) (K.faults sink.new) ⊎ K.is_full sink.new) (K.held sink.old) (K.held sink.new) run result }
+{
+    let mut run = run;
+    let status = match flush(sink, &mut run.kept, 0) {
+        Ok(()) => Status::Done,
+        Err(status) => status,
+    };
+    RunEnd {
+        status,
+        bench: run.bench,
+    }
+}
+
+/// Does the acts of a script on a bench that was opened.
+fn do_acts<K: Sink, F: FileRig + Drop, R: CardRig + Drop, E: Entropy + Drop>(
+    alloc: Global,
+    script: &Script,
+    run: Run<F, R>,
+    sink: &mut K,
+    keys: &Keys,
+    entropy: &mut E,
+) -> RunEnd<F, R>
+    requires sound { IsSound script.now }
+    requires ready { IsReady script.now run }
+    ensures { EndsAt F.state R.state F.crash_image (E.faults entropy.old) (E.faults entropy.new) keys.now script.now (Rose (K.faults sink.old) (K.faults sink.new) ⊎ K.is_full sink.new) (K.held sink.old) (K.held sink.new) run result }
+{
+    let mut run = run;
+    while run.at < script.all_steps().len() {
+        match do_act(alloc, script, run, sink, keys, entropy) {
+            Ok(next) => run = next,
+            Err(end) => return end,
+        }
+    }
+    finish(script, keys, run, sink)
+}
+
+/// Opens the bench, runs the steps of a script on it, and writes their text.
+pub(crate) fn run_script<K: Sink, F: FileRig + Drop, R: CardRig + Drop, E: Entropy + Drop>(
+    alloc: Global,
+    script: &Script,
+    sink: &mut K,
+    bench: Bench<F, R>,
+    keys: &Keys,
+    entropy: &mut E,
+) -> RunEnd<F, R>
+    requires sound { IsSound script.now }
+    requires whole { vec_len bench.files ≡ 273 }
+    ensures ran { RunsScript F.state R.state F.crash_image (E.faults entropy.old) (E.faults entropy.new) keys.now script.now (Rose (K.faults sink.old) (K.faults sink.new) ⊎ K.is_full sink.new) (K.held sink.old) (K.held sink.new)
+        (bench_state F.state R.state bench) (bench_state F.state R.state result.bench) result.status }
+    ensures whole { vec_len result.bench.files ≡ 273 }
+{
+    match open_bench(alloc, bench, keys, entropy) {
+        Ok(bench) => {
+            let run = Run {
+                bench,
+                arms: Vec::new(alloc),
+                number: 0,
+                at: 0,
+                kept: Vec::new(alloc),
+            };
+            do_acts(alloc, script, run, sink, keys, entropy)
+        }
+        Err(Halted { bench, fault }) => {
+            let status = tell_refusal(fault, sink, Vec::new(alloc));
+            RunEnd { status, bench }
+        }
+    }
+}

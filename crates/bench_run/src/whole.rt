@@ -1,0 +1,136 @@
+//! The top call: a script is read, run on a bench and written.
+
+ghost use Rattle.std.specs.Prelude.{◌≡◌, ◌≤◌, ◌↔◌, ℕ, List, Some, Ok, true, false, length, map, vec_len, MatchResult};
+ghost use Rattle.std.specs.String.{string_bytes};
+ghost use Rattle.tee_ports.specs.Faults.{Rose};
+ghost use Rattle.script_text.specs.Script.{ScriptValue};
+ghost use Rattle.script_text.specs.Grammar.{script_of};
+ghost use Rattle.run_streams.specs.Reading.{status_of, IsScriptError};
+ghost use Rattle.bench_acts.specs.Benches.{bench_state};
+ghost use Rattle.bench_run.specs.Trace.{Trace, IsTraceOf};
+ghost use Rattle.bench_run.specs.Ready.{IsSound};
+ghost use Rattle.bench_run.specs.Ending.{EndsBench};
+ghost use Rattle.bench_run.specs.Causes.{RunsItsScript, HasCause, IsRun, is_run_form};
+
+use crate::playing::run_script;
+use crate::standing::RunEnd;
+use hmac_keys::Keys;
+use object_calls::Bench;
+use rpmb_card::CardRig;
+use run_streams::{Excess, Status, read_text};
+use script_text::{Script, ScriptFault, parse};
+use std::alloc::Global;
+use tee_ports::{Entropy, FileRig, Sink, Source};
+
+/// Whether the words are the one word `run`.
+fn is_run(words: &[String]) -> bool
+    ensures { result ≡ is_run_form (map string_bytes words.now) }
+{
+    match words {
+        [word] => word.as_bytes() == b"run".as_slice(),
+        _ => false,
+    }
+}
+
+/// The status of a text that is no script.
+fn status_of(fault: ScriptFault) -> Status
+    ensures { result ≡ status_of fault }
+{
+    match fault {
+        ScriptFault::BadLine(line) => Status::BadLine(line),
+        ScriptFault::TooManyApps(apps) => Status::TooLong(Excess::Apps(apps)),
+        ScriptFault::NoMemory => Status::NoMemory,
+    }
+}
+
+/// The script that a text is.
+fn read_script(alloc: Global, text: &[u8]) -> Result<Script, Status>
+    requires { length text.now ≤ 16777216 }
+    ensures { MatchResult result
+        (λ script. (script_of text.now ≡ Ok script) × IsSound script)
+        (IsScriptError (script_of text.now)) }
+{
+    match parse(alloc, text) {
+        Ok(script) => Ok(script),
+        Err(fault) => Err(status_of(fault)),
+    }
+}
+
+/// Reads a script, runs it and writes its text.
+fn run_source<S: Source, K: Sink, F: FileRig + Drop, R: CardRig + Drop, E: Entropy + Drop>(
+    alloc: Global,
+    source: &mut S,
+    sink: &mut K,
+    bench: Bench<F, R>,
+    keys: &Keys,
+    entropy: &mut E,
+) -> RunEnd<F, R>
+    requires { vec_len bench.files ≡ 273 }
+    ensures run { (t : Trace)
+        × IsTraceOf (S.left source.old) (S.left source.new) (K.held sink.old) (K.held sink.new) t
+        × HasCause (record {
+          source_failed = Rose (S.faults source.old) (S.faults source.new);
+          source_ended = S.has_ended source.new;
+          sink_failed = Rose (K.faults sink.old) (K.faults sink.new);
+          sink_full = K.is_full sink.new;
+        }) true t result.status
+        × EndsBench F.state R.state F.crash_image (E.faults entropy.old) (E.faults entropy.new) keys.now t (bench_state F.state R.state bench) (bench_state F.state R.state result.bench) result.status }
+    ensures whole { vec_len result.bench.files ≡ 273 }
+{
+    let text = match read_text(alloc, source) {
+        Ok(text) => text,
+        Err(status) => return RunEnd { status, bench },
+    };
+    let script = match read_script(alloc, text.as_slice()) {
+        Ok(script) => script,
+        Err(status) => return RunEnd { status, bench },
+    };
+    drop(text);
+    run_script(alloc, &script, sink, bench, keys, entropy)
+}
+
+/// Does all that the program does: tests the words, reads the script from the source to its end, opens the bench, runs the script's
+/// steps on it, and writes the history to the sink.
+///
+/// `words` are those behind the program's name. A card whose block 0 is blank is formatted. Want of memory is the one status without a
+/// cause. The bench is given back as the run left it; where there is no script, it is as it was.
+pub fn run<S: Source, K: Sink, F: FileRig + Drop, R: CardRig + Drop, E: Entropy + Drop>(
+    alloc: Global,
+    words: &[String],
+    source: &mut S,
+    sink: &mut K,
+    bench: Bench<F, R>,
+    keys: &Keys,
+    entropy: &mut E,
+) -> RunEnd<F, R>
+    requires { vec_len bench.files ≡ 273 }
+    // What was taken, put and recorded, why the run ended so, and what it did to the bench.
+    ensures run { (t : Trace)
+        × IsRun (S.left source.old) (S.left source.new) (K.held sink.old) (K.held sink.new) (record {
+          source_failed = Rose (S.faults source.old) (S.faults source.new);
+          source_ended = S.has_ended source.new;
+          sink_failed = Rose (K.faults sink.old) (K.faults sink.new);
+          sink_full = K.is_full sink.new;
+        }) (is_run_form (map string_bytes words.now)) result.status t
+        × EndsBench F.state R.state F.crash_image (E.faults entropy.old) (E.faults entropy.new) keys.now t (bench_state F.state R.state bench) (bench_state F.state R.state result.bench) result.status }
+
+    // Usage comes exactly where the words are not the one word `run`.
+    ensures usage { (result.status ≡ Status.Usage) ↔ (is_run_form (map string_bytes words.now) ≡ false) }
+
+    // A script within the limit is done, or a mount is refused or fails, or there is no memory, where the source and the sink do not
+    // fail and the sink has room.
+    ensures complete { (bytes : List ℕ) (script : ScriptValue) → is_run_form (map string_bytes words.now) ≡ true
+        → S.left source.old ≡ Some bytes → length bytes ≤ 16777216 → script_of bytes ≡ Ok script
+        → ¬ Rose (S.faults source.old) (S.faults source.new)
+        → ¬ Rose (K.faults sink.old) (K.faults sink.new) → ¬ K.is_full sink.new
+        → RunsItsScript result.status }
+    ensures whole { vec_len result.bench.files ≡ 273 }
+{
+    if !is_run(words) {
+        return RunEnd {
+            status: Status::Usage,
+            bench,
+        };
+    }
+    run_source(alloc, source, sink, bench, keys, entropy)
+}

@@ -1,0 +1,2 @@
+pub mod BadTexts
+pub mod ShownObjects

@@ -1,0 +1,6 @@
+pub mod Rises
+pub mod ServedSteps
+pub mod Tellings
+pub mod Seats
+pub mod OneCall
+pub mod Phases

@@ -1,0 +1,12 @@
+use Rattle.std.proofs.Common.{take}
+use Rattle.object_calls.specs.Sessions.{AreSeated}
+use Rattle.phase_calls.specs.Making.{MakesCalls}
+use Rattle.phase_calls.specs.Reliable.{StayReliable}
+use Rattle.phase_calls.proofs.making.make_calls.Given as goal
+
+abbrev pub invariant-loop-step : goal.invariant-loop-step
+invariant-loop-step g l = record {
+  made : MakesCalls g.F.StoreFile.state g.R.RpmbPort.state g.E.Entropy.faults l.initial.service l.service l.initial.sessions l.sessions (take l.step-index l.calls);
+  seated : AreSeated g.L.StoreName.store l.sessions;
+  reliable : StayReliable g.E.Entropy.is_reliable l.initial.sessions l.sessions;
+}

@@ -1,0 +1,5 @@
+pub mod Steps
+pub mod Counts
+pub mod Making
+pub mod Reliable
+pub mod Laws

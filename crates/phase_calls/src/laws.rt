@@ -1,0 +1,9 @@
+//! Laws of the steps that were served. Each function does nothing: its contract is the law.
+
+ghost use Rattle.phase_calls.specs.Laws.{EventsInOrderServe};
+
+/// Events whose calls are those steps, in order, serve the steps: each application's calls too are its calls of the steps, in order.
+#[tactic(auto, using(crate::proofs::ServedSteps::events_in_order_serve))]
+pub fn events_in_order_serve()
+    ensures { EventsInOrderServe }
+{}

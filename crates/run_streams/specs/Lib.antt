@@ -1,0 +1,3 @@
+pub mod Exit
+pub mod Reading
+pub mod Sending

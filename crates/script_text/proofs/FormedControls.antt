@@ -1,0 +1,122 @@
+-- The controls of a script carry devices of the bench.
+use Rattle.std.proofs.Common.{◌≡◌, ◌≤◌, ◌&&◌, nat_le, ℕ, Bool, true, false, cond, List, [], ◌∷◌, length, refl, subst, Option, Some, None, arith}
+use Rattle.std.specs.Prelude.{codes}
+use Rattle.std.specs.Option.{option_map}
+use Rattle.std.specs.Str.Parse.{digits_value}
+use Rattle.std.proofs.lemmas.Bool.{and_parts}
+use Rattle.std.proofs.lemmas.Bool.Decides.{nat_tests}
+use Rattle.tee_types.specs.declared.reply.Device.{Device}
+use Rattle.tee_types.specs.declared.reply.Device.TheVariants.{Dir, File, Card}
+use Rattle.script_text.specs.declared.controls.ControlVerb.{ControlVerb}
+use Rattle.script_text.specs.declared.controls.ControlVerb.TheVariants.{Serial as SerialVerb, Phase as PhaseVerb, Stop as StopVerb, Fail as FailVerb, Lose as LoseVerb, Crash as CrashVerb, List as ListVerb}
+use Rattle.script_text.specs.declared.script.Arm.{Arm}
+use Rattle.script_text.specs.declared.script.Arm.TheVariants.{Stop, Fail, Lose}
+use Rattle.script_text.specs.declared.script.Control.{Control}
+use Rattle.script_text.specs.declared.script.Control.TheVariants.{Serial, Phase, Arm as ArmControl, Crash, List as ListControl}
+use Rattle.script_text.specs.Words.{same_word, are_digits, numeral_of, number_of, if_positive, positive_of, place_of_call, seed_of, device_of}
+use Rattle.script_text.specs.Controls.{stop_words, fail_words, lose_words, crash_words, alone, arming, control_verb_of, control_words, control_of}
+use Rattle.script_text.specs.Laws.{IsArmable, IsArm, IsControl}
+use Rattle.script_text.proofs.FormedCalls.{from_bind, cond-some}
+
+numeral-most : (base greatest : ℕ) (word : List ℕ) (n : ℕ) → numeral_of base greatest word ≡ Some n → n ≤ greatest
+unfolding numeral_of
+numeral-most base greatest word n is =
+    let parts = cond-some (nat_le 1 (length word) && are_digits base word && nat_le (digits_value base word) greatest) (Some (digits_value base word)) n is in
+    let bounds = and_parts (nat_le 1 (length word) && are_digits base word) (nat_le (digits_value base word) greatest) parts.0 in
+    let same : digits_value base word ≡ n = cc (parts.1) in
+    let within : digits_value base word ≤ greatest = grind (arith, nat_tests, bounds.1) in
+    subst (λ v. v ≤ greatest) same within
+
+positive-least : (number n : ℕ) → if_positive number ≡ Some n → (number ≡ n) × (1 ≤ n)
+positive-least number n is =
+    let parts = cond-some (nat_le 1 number) (Some number) n is in
+    let same : number ≡ n = cc (parts.1) in
+    let least : 1 ≤ number = grind (arith, nat_tests, parts.0) in
+    (same, subst (λ v. 1 ≤ v) same least)
+
+positive-within : (greatest : ℕ) (word : List ℕ) (n : ℕ) → positive_of greatest word ≡ Some n → (1 ≤ n) × (n ≤ greatest)
+unfolding positive_of
+positive-within greatest word n is =
+    let read = from_bind (numeral_of 10 greatest word) if_positive n is in
+    let least = positive-least read.0 n read.2 in
+    (least.1, subst (λ v. v ≤ greatest) least.0 (numeral-most 10 greatest word read.0 read.1))
+
+file-armable : (file : Option ℕ) (device : Device) → ((n : ℕ) → file ≡ Some n → (1 ≤ n) × (n ≤ 272)) → option_map File file ≡ Some device → IsArmable device
+file-armable (Some n) device within is = let same : File n ≡ device = cc (is) in subst IsArmable same (within n refl)
+file-armable None device within is = absurd (cc (is))
+
+device-armable : (word : List ℕ) (device : Device) → device_of word ≡ Some device → IsArmable device
+unfolding device_of
+device-armable word device is = one (same_word word (codes "dir")) (same_word word (codes "card")) is
+  where
+    one : (a b : Bool) → cond a (Some Dir) (cond b (Some Card) (option_map File (positive_of 272 word))) ≡ Some device → IsArmable device
+    one true b is = let same : Dir ≡ device = cc (is) in subst IsArmable same tt
+    one false true is = let same : Card ≡ device = cc (is) in subst IsArmable same tt
+    one false false is = file-armable (positive_of 272 word) device (positive-within 272 word) is
+
+stop-formed : (words : List (List ℕ)) (arm : Arm) → stop_words words ≡ Some arm → IsArm arm
+unfolding stop_words
+stop-formed (device ∷ calls ∷ []) arm is =
+    let d = from_bind (device_of device) _ arm is in
+    let n = from_bind (number_of calls) _ arm d.2 in
+    let same : Stop d.0 n.0 ≡ arm = cc (n.2) in
+    subst IsArm same (device-armable device d.0 d.1)
+stop-formed [] arm is = absurd (cc (is))
+stop-formed (device ∷ []) arm is = absurd (cc (is))
+stop-formed (device ∷ calls ∷ more ∷ words) arm is = absurd (cc (is))
+
+fail-formed : (words : List (List ℕ)) (arm : Arm) → fail_words words ≡ Some arm → IsArm arm
+unfolding fail_words
+fail-formed (device ∷ call ∷ []) arm is =
+    let d = from_bind (device_of device) _ arm is in
+    let n = from_bind (place_of_call call) _ arm d.2 in
+    let same : Fail d.0 n.0 ≡ arm = cc (n.2) in
+    subst IsArm same (device-armable device d.0 d.1, (positive-within 4294967295 call n.0 n.1).0)
+fail-formed [] arm is = absurd (cc (is))
+fail-formed (device ∷ []) arm is = absurd (cc (is))
+fail-formed (device ∷ call ∷ more ∷ words) arm is = absurd (cc (is))
+
+lose-formed : (words : List (List ℕ)) (arm : Arm) → lose_words words ≡ Some arm → IsArm arm
+unfolding lose_words
+lose-formed (card ∷ call ∷ []) arm is =
+    let parts = cond-some (same_word card (codes "card")) _ arm is in
+    let n = from_bind (place_of_call call) _ arm parts.1 in
+    let same : Lose n.0 ≡ arm = cc (n.2) in
+    subst IsArm same (positive-within 4294967295 call n.0 n.1).0
+lose-formed [] arm is = absurd (cc (is))
+lose-formed (card ∷ []) arm is = absurd (cc (is))
+lose-formed (card ∷ call ∷ more ∷ words) arm is = absurd (cc (is))
+
+crash-formed : (words : List (List ℕ)) (control : Control) → crash_words words ≡ Some control → IsControl control
+unfolding crash_words
+crash-formed (seed ∷ []) control is =
+    let s = from_bind (seed_of seed) _ control is in
+    let same : Crash s.0 ≡ control = cc (s.2) in
+    let most : s.0 ≤ 18446744073709551615 = numeral-most 10 18446744073709551615 seed s.0 s.1 in
+    subst IsControl same (omega (arith, most))
+crash-formed [] control is = absurd (cc (is))
+crash-formed (seed ∷ more ∷ words) control is = absurd (cc (is))
+
+alone-formed : (words : List (List ℕ)) (made control : Control) → IsControl made → alone made words ≡ Some control → IsControl control
+alone-formed [] made control fine is = let same : made ≡ control = cc (is) in subst IsControl same fine
+alone-formed (word ∷ words) made control fine is = absurd (cc (is))
+
+arming-formed : (arm : Option Arm) (control : Control) → ((a : Arm) → arm ≡ Some a → IsArm a) → arming arm ≡ Some control → IsControl control
+arming-formed (Some a) control fine is = let same : ArmControl a ≡ control = cc (is) in subst IsControl same (fine a refl)
+arming-formed None control fine is = absurd (cc (is))
+
+verb-formed : (verb : ControlVerb) (words : List (List ℕ)) (control : Control) → control_words verb words ≡ Some control → IsControl control
+verb-formed SerialVerb words control is = alone-formed words Serial control tt is
+verb-formed PhaseVerb words control is = alone-formed words Phase control tt is
+verb-formed StopVerb words control is = arming-formed (stop_words words) control (stop-formed words) is
+verb-formed FailVerb words control is = arming-formed (fail_words words) control (fail-formed words) is
+verb-formed LoseVerb words control is = arming-formed (lose_words words) control (lose-formed words) is
+verb-formed CrashVerb words control is = crash-formed words control is
+verb-formed ListVerb words control is = alone-formed words ListControl control tt is
+
+-- the control of a line is well formed
+pub control-formed : (word : List ℕ) (words : List (List ℕ)) (control : Control) → control_of word words ≡ Some control → IsControl control
+unfolding control_of
+control-formed word words control is =
+    let v = from_bind (control_verb_of word) (λ (v : ControlVerb). control_words v words) control is in
+    verb-formed v.0 words control v.2

@@ -1,0 +1,80 @@
+-- The words of a control.
+use Rattle.std.specs.Prelude.{ℕ, List, [], ◌∷◌, if◌then◌else◌, codes, Option, Some, None}
+use Rattle.std.specs.Map.{lookup}
+use Rattle.script_text.specs.declared.controls.ControlVerb.{ControlVerb}
+use Rattle.script_text.specs.declared.controls.ControlVerb.TheVariants.{Serial as SerialVerb, Phase as PhaseVerb, Stop as StopVerb, Fail as FailVerb, Lose as LoseVerb, Crash as CrashVerb, List as ListVerb}
+use Rattle.script_text.specs.declared.script.Arm.{Arm}
+use Rattle.script_text.specs.declared.script.Arm.TheVariants.{Stop, Fail, Lose}
+use Rattle.script_text.specs.declared.script.Control.{Control}
+use Rattle.script_text.specs.declared.script.Control.TheVariants.{Serial, Phase, Arm as ArmControl, Crash, List as ListControl}
+use Rattle.script_text.specs.Words.{same_word, number_of, place_of_call, seed_of, device_of}
+use Rattle.script_text.specs.Calls.{◌>>=◌}
+
+-- `DEVICE N`: it passes so many calls
+unfoldable pub stop_words : List (List ℕ) → Option Arm
+stop_words (device ∷ calls ∷ []) = do
+  d ← device_of device
+  n ← number_of calls
+  Some (Stop d n)
+stop_words _ = None
+
+-- `DEVICE N`: it fails that call
+unfoldable pub fail_words : List (List ℕ) → Option Arm
+fail_words (device ∷ call ∷ []) = do
+  d ← device_of device
+  n ← place_of_call call
+  Some (Fail d n)
+fail_words _ = None
+
+-- `card N`: its answer to that call is lost
+unfoldable pub lose_words : List (List ℕ) → Option Arm
+lose_words (card ∷ call ∷ []) =
+    if same_word card (codes "card")
+    then (do
+      n ← place_of_call call
+      Some (Lose n))
+    else None
+lose_words _ = None
+
+-- `SEED`
+unfoldable pub crash_words : List (List ℕ) → Option Control
+crash_words (seed ∷ []) = do
+  s ← seed_of seed
+  Some (Crash s)
+crash_words _ = None
+
+-- nothing
+abbrev pub alone : Control → List (List ℕ) → Option Control
+alone control [] = Some control
+alone control _ = None
+
+-- the control that arms a device
+abbrev pub arming : Option Arm → Option Control
+arming arm = do
+  a ← arm
+  Some (ArmControl a)
+
+-- the word of each control
+abbrev pub control_verbs : List (List ℕ × ControlVerb)
+control_verbs =
+    (codes "serial", SerialVerb) ∷ (codes "phase", PhaseVerb) ∷ (codes "stop", StopVerb) ∷ (codes "fail", FailVerb)
+    ∷ (codes "lose", LoseVerb) ∷ (codes "crash", CrashVerb) ∷ (codes "list", ListVerb) ∷ []
+
+unfoldable pub control_verb_of : List ℕ → Option ControlVerb
+control_verb_of word = lookup (same_word word) control_verbs
+
+-- the control of these words behind the verb
+abbrev pub control_words : ControlVerb → List (List ℕ) → Option Control
+control_words SerialVerb words = alone Serial words
+control_words PhaseVerb words = alone Phase words
+control_words StopVerb words = arming (stop_words words)
+control_words FailVerb words = arming (fail_words words)
+control_words LoseVerb words = arming (lose_words words)
+control_words CrashVerb words = crash_words words
+control_words ListVerb words = alone ListControl words
+
+-- the control of a line: its first word, and the words behind it
+unfoldable pub control_of : List ℕ → List (List ℕ) → Option Control
+control_of word words = do
+  verb ← control_verb_of word
+  control_words verb words
