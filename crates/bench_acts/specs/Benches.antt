@@ -1,8 +1,10 @@
 -- What is known of the devices of a bench.
-use Rattle.std.specs.Prelude.{◌≡◌, ◌≤◌, ℕ}
+use Rattle.std.specs.Prelude.{◌≡◌, ◌≤◌, ◌⊎◌, ℕ}
 use Rattle.disk_model.specs.State.{FileState}
 use Rattle.htree_file.specs.Answers.{FilePassed}
 use Rattle.rpmb_card.specs.Port.{PortState}
+use Rattle.store_commit.specs.declared.fault.MountFault.{MountFault}
+use Rattle.store_commit.specs.declared.fault.MountFault.TheVariants.{NoMemory}
 use Rattle.object_calls.specs.declared.bench.Bench.{Bench}
 use Rattle.object_calls.specs.Files.{files_of}
 use Rattle.object_calls.specs.Opening.{OpeningValue, bench_files}
@@ -23,6 +25,14 @@ opening_state of_file of_port o = record { files = bench_files of_file o; card =
 -- In no call of a file did memory run out.
 abbrev pub IsFed : (old new : BenchState) → Type 0
 IsFed old new = (file : ℕ) → (new.files file).starved ≡ (old.files file).starved
+
+-- In a call of a file it did.
+abbrev pub IsStarved : (old new : BenchState) → Type 0
+IsStarved old new = IsFed old new → ⊥
+
+-- What is told where a fault was answered: that fault, if in no call of a file memory ran out; else want of memory.
+abbrev pub TellsFault : (old new : BenchState) → (answered told : MountFault) → Type 0
+TellsFault old new answered told = ((told ≡ answered) × IsFed old new) ⊎ ((told ≡ NoMemory) × IsStarved old new)
 
 -- the files of objects are as they were
 abbrev pub KeepsObjectFiles : (old new : BenchState) → Type 0

@@ -13,7 +13,7 @@ use Rattle.store_commit.specs.declared.fault.MountFault.{MountFault}
 use Rattle.store_commit.specs.declared.fault.MountFault.TheVariants.{Failed, NoMemory}
 use Rattle.object_calls.specs.Opening.{OpeningValue, bench_files, entries_in}
 use Rattle.object_lines.specs.Lines.{objects_text}
-use Rattle.bench_acts.specs.Benches.{BenchState, HasPassed, KeepsDevices, opening_state}
+use Rattle.bench_acts.specs.Benches.{BenchState, HasPassed, IsFed, IsStarved, KeepsDevices, opening_state}
 use Rattle.bench_acts.specs.Listings.{IsCutOff, IsListed, objects_of}
 use Rattle.bench_acts.specs.Mounts.{IsMounted, IsMountRefused, objects_in}
 
@@ -57,11 +57,12 @@ module _ {F R : Type 0} (of_file : F → FileState) (of_port : R → PortState) 
     unmounted : IsMountRefused keys old new drew draws fault → StopsListing keys old new drew draws fault
     unshown : IsCutShort keys old new drew draws fault → StopsListing keys old new drew draws fault
 
-  -- Why nothing is listed: that; or memory ran out before any call, or in a call of a file, whatever was then answered.
+  -- Why nothing is listed: that, and in no call of a file did memory run out; or memory ran out, before any call, or in a call of a file,
+  -- whatever was then answered.
   pub data ListRefusal (keys : Keys) (old new : BenchState) (drew draws : ℕ) (fault : MountFault) : Type 0 where
-    stopped : StopsListing keys old new drew draws fault → ListRefusal keys old new drew draws fault
+    stopped : StopsListing keys old new drew draws fault → IsFed old new → ListRefusal keys old new drew draws fault
     unasked : fault ≡ NoMemory → new ≡ old → ListRefusal keys old new drew draws fault
-    starved : (other : MountFault) → fault ≡ NoMemory → StopsListing keys old new drew draws other → ListRefusal keys old new drew draws fault
+    starved : (other : MountFault) → fault ≡ NoMemory → StopsListing keys old new drew draws other → IsStarved old new → ListRefusal keys old new drew draws fault
 
   pub record IsListRefused (keys : Keys) (old new : BenchState) (drew draws : ℕ) (fault : MountFault) : Type 0 where
     pub why : ListRefusal keys old new drew draws fault

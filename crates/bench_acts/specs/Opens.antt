@@ -16,7 +16,7 @@ use Rattle.store_commit.specs.Counts.{RefusalCounts}
 use Rattle.store_commit.specs.Formats.{FormatHeard, FormatRefused, Formats, IsFormatWritten, LeavesFormat}
 use Rattle.store_commit.specs.Mounts.{CardRefused}
 use Rattle.store_commit.specs.Reads.{AsksBlock, IsBlockRead, OfHost}
-use Rattle.bench_acts.specs.Benches.{BenchState, KeepsObjectFiles}
+use Rattle.bench_acts.specs.Benches.{BenchState, IsFed, IsStarved, KeepsObjectFiles}
 
 -- all bytes are zero
 abbrev pub is_blank : List ℕ → Bool
@@ -72,8 +72,9 @@ pub data StopsOpening (keys : Keys) (old new : BenchState) (drew draws : ℕ) (f
   unformed : (block : List ℕ) (between : BenchState) → is_blank block ≡ true → ReadsBlock keys old between block → IsNotFormed keys between new drew draws fault
       → StopsOpening keys old new drew draws fault
 
--- Why no bench is opened: that; or memory ran out before any call, or in a call of a file, whatever was then answered.
+-- Why no bench is opened: that, and in no call of a file did memory run out; or memory ran out, before any call, or in a call of a file,
+-- whatever was then answered.
 pub data IsOpenRefused (keys : Keys) (old new : BenchState) (drew draws : ℕ) (fault : MountFault) : Type 0 where
-  stopped : StopsOpening keys old new drew draws fault → IsOpenRefused keys old new drew draws fault
+  stopped : StopsOpening keys old new drew draws fault → IsFed old new → IsOpenRefused keys old new drew draws fault
   unasked : fault ≡ NoMemory → new ≡ old → IsOpenRefused keys old new drew draws fault
-  starved : (other : MountFault) → fault ≡ NoMemory → StopsOpening keys old new drew draws other → IsOpenRefused keys old new drew draws fault
+  starved : (other : MountFault) → fault ≡ NoMemory → StopsOpening keys old new drew draws other → IsStarved old new → IsOpenRefused keys old new drew draws fault

@@ -8,7 +8,7 @@ ghost use Rattle.bench_acts.specs.ListedBenches.{IsListRefused, ListsBench, Stop
 ghost use Rattle.bench_acts.specs.Listings.{IsCutOff, IsListed, ListsNext};
 
 use crate::mounting::mount_bench;
-use crate::starving::{is_fed, starved_counts};
+use crate::starving::{starved_counts, tell_fault};
 use hmac_keys::Keys;
 use object_calls::{Bench, Halted, Opening};
 use object_lines::print_object;
@@ -138,13 +138,6 @@ pub fn list_objects<F: FileRig + Drop, R: RpmbPort + Drop, E: Entropy>(
     };
     match list_mounted(alloc, bench, keys, entropy) {
         Ok(listing) => Ok(listing),
-        Err(Halted { bench, fault }) => {
-            let fault = if is_fed(&bench.files, &before) {
-                fault
-            } else {
-                MountFault::NoMemory
-            };
-            Err(Halted { bench, fault })
-        }
+        Err(halted) => Err(tell_fault(halted, &before)),
     }
 }

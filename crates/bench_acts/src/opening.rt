@@ -5,7 +5,7 @@ ghost use Rattle.object_calls.specs.Files.{files_of};
 ghost use Rattle.bench_acts.specs.Benches.{HasPassed, IsFed, bench_state};
 ghost use Rattle.bench_acts.specs.Opens.{FormsBench, IsBlockUnread, IsNotFormed, IsOpenRefused, OpensBench, ReadsBlock, StopsOpening, is_blank};
 
-use crate::starving::{is_fed, starved_counts};
+use crate::starving::{starved_counts, tell_fault};
 use hmac_keys::Keys;
 use object_calls::{Bench, BlockRead, Halted, card_block, format};
 use rpmb_card::RpmbPort;
@@ -116,13 +116,6 @@ pub fn open_bench<F: FileRig + Drop, R: RpmbPort + Drop, E: Entropy>(
     };
     match open_or_form(alloc, bench, keys, entropy) {
         Ok(bench) => Ok(bench),
-        Err(Halted { bench, fault }) => {
-            let fault = if is_fed(&bench.files, &before) {
-                fault
-            } else {
-                MountFault::NoMemory
-            };
-            Err(Halted { bench, fault })
-        }
+        Err(halted) => Err(tell_fault(halted, &before)),
     }
 }

@@ -1,9 +1,13 @@
 //! In how many calls of files memory ran out.
 
-ghost use Rattle.std.specs.Prelude.{◌≡◌, ◌↔◌, ℕ, List, map, IfOk, IsTrue};
+ghost use Rattle.std.specs.Prelude.{◌≡◌, ◌↔◌, ℕ, List, map, vec_len, IfOk, IsTrue};
 ghost use Rattle.object_calls.specs.Files.{files_of};
+ghost use Rattle.bench_acts.specs.Benches.{TellsFault, bench_state};
 
+use object_calls::{Bench, Halted};
+use rpmb_card::RpmbPort;
 use std::alloc::Global;
+use store_commit::MountFault;
 use tee_ports::{FileRig, NoMemory};
 
 /// In how many calls of each file memory ran out, file 0 first.
@@ -29,4 +33,22 @@ pub fn is_fed<F: FileRig>(files: &[F], before: &[u64]) -> bool
         }
     }
     true
+}
+
+/// A bench that was halted, and why: what was answered, where the counts are still those; else for want of memory.
+pub(crate) fn tell_fault<F: FileRig + Drop, R: RpmbPort + Drop>(
+    halted: Halted<F, R>,
+    before: &[u64],
+) -> Halted<F, R>
+    ensures bench { result.bench ≡ halted.bench }
+    ensures told { (old : Bench F R) → vec_len old.files ≡ vec_len halted.bench.files → before.now ≡ map (λ f. (F.state f).starved) old.files.items
+        → TellsFault (bench_state F.state R.state old) (bench_state F.state R.state halted.bench) halted.fault result.fault }
+{
+    if is_fed(&halted.bench.files, before) {
+        return halted;
+    }
+    Halted {
+        bench: halted.bench,
+        fault: MountFault::NoMemory,
+    }
 }

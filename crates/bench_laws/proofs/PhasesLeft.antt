@@ -22,8 +22,8 @@ use Rattle.bench_laws.specs.Left.{HoldsLeft, standing_left}
 use Rattle.bench_laws.proofs.Crashed.{card_of}
 use Rattle.bench_laws.proofs.Replays.{AreAlike, left_alike, replay_alike}
 
-module _ {F R : Type 0} (of_file : F → FileState) (of_port : R → PortState) (keys : Keys) (applications : List (List ℕ)) (arms : List Arm) (calls : List Step) (old new : BenchState)
-    (opening : ObjectMap) (events : List Event) (r : RunsPhase of_file of_port keys applications arms calls old new opening events) where
+module _ {F R : Type 0} (of_file : F → FileState) (of_port : R → PortState) (Reliable : Type 0) (keys : Keys) (applications : List (List ℕ)) (arms : List Arm) (calls : List Step) (old new : BenchState)
+    (opening : ObjectMap) (events : List Event) (r : RunsPhase of_file of_port Reliable keys applications arms calls old new opening events) where
   open r use {closed, disarms}
 
   abbrev s : Store
@@ -69,5 +69,5 @@ module _ {F R : Type 0} (of_file : F → FileState) (of_port : R → PortState) 
           (((((r.serves).closes).leaves).honest closed_honest).mounts card picture (closed_card card has) (closed_picture card picture is)));
     }
 
-pub phases_leave : {F R : Type 0} (of_file : F → FileState) (of_port : R → PortState) → PhasesLeave of_file of_port
-phases_leave of_file of_port keys applications arms calls old new opening events r honest = holds of_file of_port keys applications arms calls old new opening events r honest
+pub phases_leave : {F R : Type 0} (of_file : F → FileState) (of_port : R → PortState) (Reliable : Type 0) → PhasesLeave of_file of_port Reliable
+phases_leave of_file of_port Reliable keys applications arms calls old new opening events r honest = holds of_file of_port Reliable keys applications arms calls old new opening events r honest

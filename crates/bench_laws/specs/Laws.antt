@@ -55,10 +55,10 @@ FormedBenchesHoldNone =
 
 module _ {F R : Type 0} (of_file : F → FileState) (of_port : R → PortState) where
   -- A phase leaves a bench that holds what its history leaves, where every file is honest still.
-  abbrev pub PhasesLeave : Type 0
-  PhasesLeave =
+  abbrev pub PhasesLeave : (Reliable : Type 0) → Type 0
+  PhasesLeave Reliable =
       (keys : Keys) (applications : List (List ℕ)) (arms : List Arm) (calls : List Step) (old new : BenchState) (opening : ObjectMap) (events : List Event)
-      → RunsPhase of_file of_port keys applications arms calls old new opening events → AreAllHonest new.files
+      → RunsPhase of_file of_port Reliable keys applications arms calls old new opening events → AreAllHonest new.files
       → HoldsLeft keys new (standing_left opening applications events)
 
   -- A bench is mounted with objects that it holds.
@@ -70,22 +70,22 @@ module _ {F R : Type 0} (of_file : F → FileState) (of_port : R → PortState) 
 
   -- THE NEXT OPENING: a phase was run, the bench crashed or not, and it was mounted. Where every file was honest as the phase was closed,
   -- and can be followed as the bench is mounted, the objects are those that the phase's history leaves, or those with its commit in doubt.
-  abbrev pub NextOpeningsAreLeft : Type 0
-  NextOpeningsAreLeft =
+  abbrev pub NextOpeningsAreLeft : (Reliable : Type 0) → Type 0
+  NextOpeningsAreLeft Reliable =
       (keys : Keys) (applications : List (List ℕ)) (arms : List Arm) (calls : List Step) (old new : BenchState) (opening : ObjectMap) (events : List Event)
       (between : BenchState) (o : OpeningValue F R) (card : CardState)
-      → RunsPhase of_file of_port keys applications arms calls old new opening events → AreAllHonest new.files → MayCrash new between
+      → RunsPhase of_file of_port Reliable keys applications arms calls old new opening events → AreAllHonest new.files → MayCrash new between
       → AreSound between.files → IsMounted of_file of_port keys between o → AreFollowed between.files (bench_files of_file o)
       → HasCard new.card (rpmb_key keys.huk) card
       → AreLeft (standing_left opening applications events) (objects_in of_file of_port keys o)
 
   -- So the next phase opens with them.
-  abbrev pub NextPhasesOpenWithLeft : Type 0
-  NextPhasesOpenWithLeft =
+  abbrev pub NextPhasesOpenWithLeft : (Reliable : Type 0) → Type 0
+  NextPhasesOpenWithLeft Reliable =
       (keys : Keys) (applications later : List (List ℕ)) (arms more : List Arm) (calls others : List Step) (old new between last : BenchState)
       (opening objects : ObjectMap) (events after : List Event) (card : CardState)
-      → RunsPhase of_file of_port keys applications arms calls old new opening events → AreAllHonest new.files → MayCrash new between
-      → AreSound between.files → (second : RunsPhase of_file of_port keys later more others between last objects after)
+      → RunsPhase of_file of_port Reliable keys applications arms calls old new opening events → AreAllHonest new.files → MayCrash new between
+      → AreSound between.files → (second : RunsPhase of_file of_port Reliable keys later more others between last objects after)
       → AreFollowed between.files (bench_files of_file second.opened) → HasCard new.card (rpmb_key keys.huk) card
       → AreLeft (standing_left opening applications events) objects
 

@@ -7,7 +7,7 @@ ghost use Rattle.bench_laws.specs.Laws.{BlockReadsKeep, CrashesKeep, CrashesKeep
 
 use object_calls::Bench;
 use rpmb_card::RpmbPort;
-use tee_ports::StoreFile;
+use tee_ports::{Entropy, StoreFile};
 
 /// What holds of every file holds of those of every bench.
 pub fn benches_are_sound<F: StoreFile, R: RpmbPort>(bench: &Bench<F, R>)
@@ -57,8 +57,8 @@ pub fn crashes_keep_steady()
 
 /// Where every file is honest, a phase leaves a bench of which every picture mounts to what its history leaves, or to that with its commit
 /// in doubt.
-pub fn phases_leave<F: StoreFile, R: RpmbPort>()
-    ensures { PhasesLeave F.state R.state }
+pub fn phases_leave<F: StoreFile, R: RpmbPort, E: Entropy>(entropy: &E)
+    ensures { PhasesLeave F.state R.state (E.is_reliable entropy.now) }
 {}
 
 /// Such a bench is mounted with just these objects.
@@ -67,13 +67,13 @@ pub fn mounts_open_with_left<F: StoreFile, R: RpmbPort>()
 {}
 
 /// So the mount after a phase, with a crash between them or none, opens with what the phase left, or with that and its commit in doubt.
-pub fn next_openings_are_left<F: StoreFile, R: RpmbPort>()
-    ensures { NextOpeningsAreLeft F.state R.state }
+pub fn next_openings_are_left<F: StoreFile, R: RpmbPort, E: Entropy>(entropy: &E)
+    ensures { NextOpeningsAreLeft F.state R.state (E.is_reliable entropy.now) }
 {}
 
 /// And so does the next phase.
-pub fn next_phases_open_with_left<F: StoreFile, R: RpmbPort>()
-    ensures { NextPhasesOpenWithLeft F.state R.state }
+pub fn next_phases_open_with_left<F: StoreFile, R: RpmbPort, E: Entropy>(entropy: &E)
+    ensures { NextPhasesOpenWithLeft F.state R.state (E.is_reliable entropy.now) }
 {}
 
 /// A list shows what the bench holds.

@@ -1,6 +1,7 @@
 pub mod Disarmed
 pub mod Arms
 pub mod Unseated
+pub mod Draws
 pub mod Closings
 pub mod Ready
 pub mod Fed

@@ -1,5 +1,7 @@
 -- A store that was served, and closed.
-use Rattle.std.specs.Prelude.{◌≡◌, ◌<◌, ℕ, List, length, Option}
+use Rattle.std.specs.Prelude.{◌≡◌, ◌<◌, ℕ, List, [], length, Option}
+use Rattle.disk_model.specs.Calls.{GoesOn}
+use Rattle.hmac_keys.specs.KeyTable.{rpmb_key}
 use Rattle.tee_types.specs.declared.reply.Device.{Device}
 use Rattle.tee_types.specs.declared.reply.Device.TheVariants.{Card, Dir, Entropy, File}
 use Rattle.store_model.specs.declared.event.Event.{Event}
@@ -7,9 +9,11 @@ use Rattle.store_model.specs.Record.{events_of}
 use Rattle.history_seats.specs.Views.{GateView}
 use Rattle.suppositions.specs.Stores.{Store}
 use Rattle.script_text.specs.declared.script.Step.{Step}
+use Rattle.served_calls.specs.Devices.{PortGoesOn}
 use Rattle.object_calls.specs.Arming.{IsOnBench}
 use Rattle.object_calls.specs.Finished.{LeavesStore}
 use Rattle.bench_acts.specs.Benches.{BenchState}
+use Rattle.phase_calls.specs.Cards.{TellsCard}
 use Rattle.phase_calls.specs.Counts.{Rise, counts_of, draws_of}
 use Rattle.phase_calls.specs.Steps.{ServesSteps}
 
@@ -20,8 +24,14 @@ faults_on bench (File number) = (bench.files number).faults
 faults_on bench Card = bench.card.faults
 faults_on bench Entropy = 0
 
--- The calls were made and the store was closed. Before the first call each device had counted so many faults.
-pub record ClosesStore (store : Store) (before : Device → ℕ) (calls : List Step) (closed : BenchState) (events : List Event) : Type 0 where
+-- What is known of the devices goes on: honesty is only lost, a calm file counted a fault only where it found no memory, and a calm port none.
+pub record BenchGoesOn (key : List ℕ) (old new : BenchState) : Type 0 where
+  pub files : (file : ℕ) → file < 273 → GoesOn (old.files file) (new.files file)
+  pub card : PortGoesOn key old.card new.card
+
+-- The calls were made and the store was closed. Its devices were those before the first call. `Reliable` says that no generator of its
+-- sessions ever fails.
+pub record ClosesStore (Reliable : Type 0) (store : Store) (before : BenchState) (calls : List Step) (closed : BenchState) (events : List Event) : Type 0 where
   -- its history, in which each call is, once and in order
   pub view : GateView
   pub events_are : events ≡ events_of view.all
@@ -30,6 +40,10 @@ pub record ClosesStore (store : Store) (before : Device → ℕ) (calls : List S
   pub doubt : Option ℕ
   pub leaves : LeavesStore store view closed.files closed.card doubt
   -- each count that a reply carries is of a fault that the device counted in the phase
-  pub counted : (device : Device) → IsOnBench device → Rise (before device) (faults_on closed device) (counts_of device events)
-  -- each count that a reply carries for a session's entropy rose above the one before it
-  pub drawn : (session : ℕ) → session < length store.mounted.applications → (first : ℕ) × (last : ℕ) × Rise first last (draws_of session events)
+  pub counted : (device : Device) → IsOnBench device → Rise (faults_on before device) (faults_on closed device) (counts_of device events)
+  pub devices : BenchGoesOn (rpmb_key store.keys.huk) before closed
+  -- over a card that has the key no reply carries a frame or its result, and a doubt cost two counts
+  pub card : TellsCard (rpmb_key store.keys.huk) before.card events
+  -- each count that a reply carries for a session's entropy rose above the one before it, and none is carried for one that never fails
+  pub drawn : (session : ℕ) → session < length store.mounted.applications → (last : ℕ) × Rise 0 last (draws_of session events)
+  pub undrawn : Reliable → (session : ℕ) → session < length store.mounted.applications → draws_of session events ≡ []

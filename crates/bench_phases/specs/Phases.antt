@@ -13,10 +13,11 @@ use Rattle.object_calls.specs.Opening.{OpeningValue}
 use Rattle.bench_acts.specs.Benches.{BenchState, HasPassed, IsFed, KeepsDevices, opening_state}
 use Rattle.bench_acts.specs.Mounts.{IsMounted, objects_in}
 use Rattle.bench_phases.specs.Arming.{ArmsAll}
-use Rattle.bench_phases.specs.Closing.{ClosesStore, faults_on}
+use Rattle.bench_phases.specs.Closing.{ClosesStore}
 use Rattle.bench_phases.specs.Disarming.{Disarms}
 
-module _ {F R : Type 0} (of_file : F → FileState) (of_port : R → PortState) where
+-- `Reliable` says that the generator of the phase never fails, nor any stream of it
+module _ {F R : Type 0} (of_file : F → FileState) (of_port : R → PortState) (Reliable : Type 0) where
   -- What was done with a store that was mounted: its sessions were opened, its devices were armed, the calls were made, and it was closed.
   pub record ServesOpened (keys : Keys) (applications : List (List ℕ)) (arms : List Arm) (calls : List Step) (opened : OpeningValue F R) (closed : BenchState) (events : List Event) : Type 0 where
     -- the store, once its sessions were opened and its devices were armed
@@ -27,7 +28,7 @@ module _ {F R : Type 0} (of_file : F → FileState) (of_port : R → PortState) 
     pub is_store : IsStoreOf of_file of_port store armed
     pub keys_are : store.keys ≡ keys
     pub opens : store.objects ≡ objects_in of_file of_port keys opened
-    pub closes : ClosesStore store (faults_on (opening_state of_file of_port armed)) calls closed events
+    pub closes : ClosesStore Reliable store (opening_state of_file of_port armed) calls closed events
 
   -- What a phase was: the bench was mounted, its devices were armed, the calls were made, and the bench was disarmed.
   pub record RunsPhase (keys : Keys) (applications : List (List ℕ)) (arms : List Arm) (calls : List Step) (old new : BenchState) (opening : ObjectMap) (events : List Event) : Type 0 where

@@ -3,7 +3,7 @@ use Rattle.std.specs.Prelude.{◌≡◌, ◌⊎◌, ℕ}
 use Rattle.hmac_keys.specs.declared.Keys.{Keys}
 use Rattle.store_commit.specs.declared.fault.MountFault.{MountFault}
 use Rattle.store_commit.specs.declared.fault.MountFault.TheVariants.{NoMemory}
-use Rattle.bench_acts.specs.Benches.{BenchState}
+use Rattle.bench_acts.specs.Benches.{BenchState, IsFed}
 use Rattle.bench_acts.specs.Mounts.{IsMountRefused}
 use Rattle.bench_phases.specs.Disarming.{Disarms}
 
@@ -13,6 +13,6 @@ pub record EndsStarved (new : BenchState) (fault : MountFault) : Type 0 where
   pub left : BenchState
   pub disarms : Disarms left new
 
--- The bench was not mounted, and nothing was armed; or memory ran out.
+-- The bench was not mounted, nothing was armed, and in no call of a file did memory run out; or memory ran out.
 abbrev pub IsGivenUp : Keys → (old new : BenchState) → (drew draws : ℕ) → MountFault → Type 0
-IsGivenUp keys old new drew draws fault = IsMountRefused keys old new drew draws fault ⊎ EndsStarved new fault
+IsGivenUp keys old new drew draws fault = (IsMountRefused keys old new drew draws fault × IsFed old new) ⊎ EndsStarved new fault

@@ -1,13 +1,15 @@
 //! A phase.
 
-ghost use Rattle.std.specs.Prelude.{◌≡◌, ◌+◌, ◌*◌, ◌<◌, ◌≤◌, ◌^◌, [], length, vec_len, All, IfErr, IfOk, MatchResult, OnOk};
+ghost use Rattle.std.specs.Prelude.{◌≡◌, ◌+◌, ◌*◌, ◌<◌, ◌≤◌, ◌^◌, [], length, map, vec_len, All, IfErr, IfOk, MatchResult, OnOk};
 ghost use Rattle.script_text.specs.Laws.{IsArm};
 ghost use Rattle.store_model.specs.Object.{ObjectMap};
 ghost use Rattle.object_calls.specs.Opening.{IsKeyed};
 ghost use Rattle.object_calls.specs.Sessions.{AreUnseated};
 ghost use Rattle.phase_calls.specs.Steps.{AreCalls};
-ghost use Rattle.bench_acts.specs.Benches.{bench_state};
+ghost use Rattle.bench_acts.specs.Benches.{HasPassed, KeepsDevices, bench_state, opening_state};
+ghost use Rattle.bench_acts.specs.Mounts.{IsMounted};
 ghost use Rattle.bench_phases.specs.Arming.{IsReady};
+ghost use Rattle.bench_phases.specs.Drawing.{AreFresh, AreReliable};
 ghost use Rattle.bench_phases.specs.Phases.{RunsPhase, ServesOpened};
 ghost use Rattle.bench_phases.specs.Refusals.{EndsStarved, IsGivenUp};
 
@@ -49,6 +51,33 @@ fn starved_bench<F: FileRig + Drop, R: CardRig + Drop>(bench: Bench<F, R>) -> Ha
     }
 }
 
+// Mounts the bench. Where memory ran out in a call of a file since the counts were taken, it is given up for that.
+fn mount_fed<F: FileRig + Drop, R: CardRig + Drop, E: Entropy>(
+    alloc: Global,
+    bench: Bench<F, R>,
+    keys: &Keys,
+    entropy: &mut E,
+    before: &[u64],
+) -> Result<Opening<F, R>, Halted<F, R>>
+    requires whole { vec_len bench.files ≡ 273 }
+    requires counted { before.now ≡ map (λ f. (F.state f).starved) bench.files.items }
+    ensures mounts { IfOk result (IsMounted F.state R.state keys.now (bench_state F.state R.state bench)) }
+    ensures keeps { IfOk result (λ o. KeepsDevices (bench_state F.state R.state bench) (opening_state F.state R.state o)) }
+    ensures passed { IfOk result (λ o. HasPassed (bench_state F.state R.state bench) (opening_state F.state R.state o)) }
+    ensures undrawn { IfOk result (λ o. E.faults entropy.new ≡ E.faults entropy.old) }
+    ensures unopened { IfOk result (λ o. o.applications ≡ []) }
+    ensures refused { IfErr result (λ h. IsGivenUp keys.now (bench_state F.state R.state bench) (bench_state F.state R.state h.bench) (E.faults entropy.old) (E.faults entropy.new)
+        h.fault) }
+    ensures whole_err { IfErr result (λ h. vec_len h.bench.files ≡ 273) }
+    ensures reliable { E.is_reliable entropy.old → E.is_reliable entropy.new }
+{
+    match mount_bench(alloc, bench, keys, entropy) {
+        Ok(opening) => Ok(opening),
+        Err(halted) if is_fed(halted.bench.files.as_slice(), before) => Err(halted),
+        Err(halted) => Err(starved_bench(halted.bench)),
+    }
+}
+
 // Opens a session for each application, and arms the devices.
 fn make_ready<F: FileRig + Drop, R: CardRig + Drop, E: Entropy>(
     alloc: Global,
@@ -63,6 +92,8 @@ fn make_ready<F: FileRig + Drop, R: CardRig + Drop, E: Entropy>(
     requires number { 16 * number + 16 < 2 ^ 32 }
     requires arms { All IsArm arms.now }
     ensures sessions { IfOk result (λ s. AreUnseated applications.now s.items) }
+    ensures fresh { IfOk result (λ s. AreFresh E.faults s.items) }
+    ensures reliable { E.is_reliable entropy.now → IfOk result (λ s. AreReliable E.is_reliable s.items) }
     ensures ready { OnOk result (IsReady F.state R.state applications.now arms.now opening.old opening.new) }
 {
     let sessions = open_sessions(alloc, opening, entropy, number, applications)?;
@@ -87,7 +118,7 @@ fn serve_opened<F: FileRig + Drop, R: CardRig + Drop, E: Entropy + Drop>(
     requires number { 16 * number + 16 < 2 ^ 32 }
     requires arms { All IsArm arms.now }
     requires calls { AreCalls (length applications.now) calls.now }
-    ensures serves { IfOk result (λ c. ServesOpened F.state R.state keys.now applications.now arms.now calls.now opening (bench_state F.state R.state c.bench) c.history.events) }
+    ensures serves { IfOk result (λ c. ServesOpened F.state R.state (E.is_reliable entropy.now) keys.now applications.now arms.now calls.now opening (bench_state F.state R.state c.bench) c.history.events) }
     ensures whole { MatchResult result (λ c. vec_len c.bench.files ≡ 273) (λ b. vec_len b.files ≡ 273) }
 {
     let mut opening = opening;
@@ -102,8 +133,8 @@ fn serve_opened<F: FileRig + Drop, R: CardRig + Drop, E: Entropy + Drop>(
 ///
 /// # Errors
 ///
-/// As `mount` says, where the bench is not mounted: nothing was armed. `NoMemory`, also where memory ran out in a call of a file: the
-/// bench is disarmed, and the calls of the phase have no history.
+/// As `mount` says, where the bench is not mounted: nothing was armed. `NoMemory`, also where memory ran out in a call of a file, in the
+/// mount too: the bench is disarmed, and the calls of the phase have no history.
 pub fn run_phase<F: FileRig + Drop, R: CardRig + Drop, E: Entropy + Drop>(
     alloc: Global,
     bench: Bench<F, R>,
@@ -120,7 +151,7 @@ pub fn run_phase<F: FileRig + Drop, R: CardRig + Drop, E: Entropy + Drop>(
     requires calls { AreCalls (length applications.now) calls.now }
     requires arms { All IsArm arms.now }
     ensures runs { IfOk result (λ p. (opening : ObjectMap) × (length opening ≡ p.objects)
-        × RunsPhase F.state R.state keys.now applications.now arms.now calls.now (bench_state F.state R.state bench) (bench_state F.state R.state p.bench) opening p.history.events) }
+        × RunsPhase F.state R.state (E.is_reliable entropy.old) keys.now applications.now arms.now calls.now (bench_state F.state R.state bench) (bench_state F.state R.state p.bench) opening p.history.events) }
     ensures refused { IfErr result (λ h. IsGivenUp keys.now (bench_state F.state R.state bench) (bench_state F.state R.state h.bench) (E.faults entropy.old) (E.faults entropy.new)
         h.fault) }
     ensures undrawn { IfOk result (λ p. E.faults entropy.new ≡ E.faults entropy.old) }
@@ -131,9 +162,9 @@ pub fn run_phase<F: FileRig + Drop, R: CardRig + Drop, E: Entropy + Drop>(
     let Ok(before) = starved_counts(alloc, &bench.files) else {
         return Err(starved_bench(bench));
     };
-    let opening = mount_bench(alloc, bench, keys, entropy)?;
-    let objects = opening.objects();
     let starved = before.as_slice();
+    let opening = mount_fed(alloc, bench, keys, entropy, starved)?;
+    let objects = opening.objects();
     match serve_opened(
         alloc,
         opening,

@@ -5,10 +5,11 @@ ghost use Rattle.object_calls.specs.OpenedStores.{IsStoreOf, store_in};
 ghost use Rattle.object_calls.specs.Opening.{IsKeyed};
 ghost use Rattle.object_calls.specs.Sessions.{AreSeated, AreUnseated};
 ghost use Rattle.served_calls.specs.Answered.{events_at};
-ghost use Rattle.phase_calls.specs.Making.{faults_at};
 ghost use Rattle.phase_calls.specs.Steps.{AreCalls};
-ghost use Rattle.bench_acts.specs.Benches.{bench_state, opening_state};
-ghost use Rattle.bench_phases.specs.Closing.{ClosesStore, faults_on};
+ghost use Rattle.bench_acts.specs.Benches.{BenchState, bench_state, opening_state};
+ghost use Rattle.bench_phases.specs.Closing.{ClosesStore};
+ghost use Rattle.bench_phases.specs.Drawing.{AreFresh, AreReliable};
+ghost use Rattle.bench_phases.specs.Serving.{HasDevices};
 
 use call_history::Session;
 use hmac_keys::Keys;
@@ -30,7 +31,9 @@ fn make_and_close<F: StoreFile + Drop, R: RpmbPort + Drop, E: Entropy + Drop, L:
     requires begins { events_at service.gate ≡ [] }
     requires sessions { AreSeated L.store sessions.items }
     requires calls { AreCalls (length sessions.items) calls.now }
-    ensures closed { IfOk result (λ c. ClosesStore L.store (faults_at F.state R.state E.faults service) calls.now (bench_state F.state R.state c.bench) c.history.events) }
+    requires fresh { AreFresh E.faults sessions.items }
+    ensures closed { (before : BenchState) → HasDevices F.state R.state service before
+        → IfOk result (λ c. ClosesStore (AreReliable E.is_reliable sessions.items) L.store before calls.now (bench_state F.state R.state c.bench) c.history.events) }
     ensures whole { MatchResult result (λ c. vec_len c.bench.files ≡ 273) (λ b. vec_len b.files ≡ 273) }
 {
     let mut service = service;
@@ -53,7 +56,9 @@ fn serve_calls<F: StoreFile + Drop, R: RpmbPort + Drop, E: Entropy + Drop, L: St
     requires store { IsStoreOf F.state R.state L.store opening }
     requires sessions { AreUnseated opening.applications sessions.items }
     requires calls { AreCalls (length opening.applications) calls.now }
-    ensures closed { IfOk result (λ c. ClosesStore L.store (faults_on (opening_state F.state R.state opening)) calls.now (bench_state F.state R.state c.bench) c.history.events) }
+    requires fresh { AreFresh E.faults sessions.items }
+    ensures closed { IfOk result (λ c. ClosesStore (AreReliable E.is_reliable sessions.items) L.store (opening_state F.state R.state opening) calls.now
+        (bench_state F.state R.state c.bench) c.history.events) }
     ensures whole { MatchResult result (λ c. vec_len c.bench.files ≡ 273) (λ b. vec_len b.files ≡ 273) }
 {
     let mut sessions = sessions;
@@ -77,7 +82,8 @@ pub(crate) fn serve_once<F: StoreFile + Drop, R: RpmbPort + Drop, E: Entropy + D
     requires keyed { IsKeyed keys.now opening }
     requires sessions { AreUnseated opening.applications sessions.items }
     requires calls { AreCalls (length opening.applications) calls.now }
-    ensures closed { IfOk result (λ c. ClosesStore (store_in keys.now F.state R.state opening) (faults_on (opening_state F.state R.state opening)) calls.now
+    requires fresh { AreFresh E.faults sessions.items }
+    ensures closed { IfOk result (λ c. ClosesStore (AreReliable E.is_reliable sessions.items) (store_in keys.now F.state R.state opening) (opening_state F.state R.state opening) calls.now
         (bench_state F.state R.state c.bench) c.history.events) }
     ensures whole { MatchResult result (λ c. vec_len c.bench.files ≡ 273) (λ b. vec_len b.files ≡ 273) }
 {

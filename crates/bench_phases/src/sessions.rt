@@ -2,6 +2,7 @@
 
 ghost use Rattle.std.specs.Prelude.{◌≡◌, ◌++◌, ◌∷◌, ◌+◌, ◌*◌, ◌<◌, ◌≤◌, ◌^◌, [], length, IfOk, OnErr, OnOk};
 ghost use Rattle.object_calls.specs.Sessions.{AreUnseated, unseated};
+ghost use Rattle.bench_phases.specs.Drawing.{AreFresh, AreReliable};
 
 use call_history::Session;
 use object_calls::{Opening, SessionFault};
@@ -44,6 +45,8 @@ pub(crate) fn open_sessions<F: StoreFile + Drop, R: RpmbPort + Drop, E: Entropy>
     requires few { length applications.now ≤ 16 }
     requires number { 16 * number + 16 < 2 ^ 32 }
     ensures sessions { IfOk result (λ s. AreUnseated applications.now s.items) }
+    ensures fresh { IfOk result (λ s. AreFresh E.faults s.items) }
+    ensures reliable { E.is_reliable entropy.now → IfOk result (λ s. AreReliable E.is_reliable s.items) }
     ensures opened { OnOk result (opening.new ≡ record opening.old { applications = applications.now }) }
 {
     let mut sessions = Vec::new(alloc);

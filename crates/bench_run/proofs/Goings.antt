@@ -27,9 +27,9 @@ phases_in-append [] acts = omega arith
 phases_in-append (Serve calls ∷ done) acts = omega (arith, phases_in-append done acts)
 phases_in-append (Do control ∷ done) acts = phases_in-append done acts
 
-module _ {F R : Type 0} (of_file : F → FileState) (of_port : R → PortState) (image : FileState → ℕ → ℕ → List ℕ) (keys : Keys) (apps : List (List ℕ)) where
+module _ {F R : Type 0} (of_file : F → FileState) (of_port : R → PortState) (image : FileState → ℕ → ℕ → List ℕ) (Reliable : Type 0) (keys : Keys) (apps : List (List ℕ)) where
   abbrev Goes' : (arms : List Arm) → List Act → List RunRecord → (old new : BenchState) → Type 0
-  Goes' arms acts records old new = Goes of_file of_port image keys apps arms acts records old new
+  Goes' arms acts records old new = Goes of_file of_port image Reliable keys apps arms acts records old new
 
   pub Goes-append : (arms : List Arm) (done acts : List Act) (records more : List RunRecord) (old between new : BenchState) → Goes' arms done records old between → Goes' (arms_behind arms done) acts more between new → Goes' arms (done ++ acts) (records ++ more) old new
   Goes-append arms [] acts [] more old between new h g = subst (λ (b : BenchState). Goes' arms acts more b new) h g

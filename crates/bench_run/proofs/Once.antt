@@ -44,11 +44,11 @@ list_text script number objects lines e = append-nil (control_line ListControl +
 pub phase_text_is : (script : ScriptValue) (number objects : ℕ) (calls : List Step) (phase : PhaseRecord) → length phase.opening ≡ objects → acts_text script number (Serve calls ∷ []) (Ran phase ∷ []) ≡ phase_line number objects ++ events_text script 0 phase.events
 phase_text_is script number objects calls phase e = append-nil (phase_text script number phase) ∙ ap (λ n. phase_line number n ++ events_text script 0 phase.events) e
 
-module _ {F R : Type 0} (of_file : F → FileState) (of_port : R → PortState) (image : FileState → ℕ → ℕ → List ℕ) (keys : Keys) (script : ScriptValue) where
+module _ {F R : Type 0} (of_file : F → FileState) (of_port : R → PortState) (image : FileState → ℕ → ℕ → List ℕ) (Reliable : Type 0) (keys : Keys) (script : ScriptValue) where
   -- What an act did to a run, but for its text: `behind` is the run with the bench, the arms and the place as they are then.
   pub record HasDone (act : Act) (records : List RunRecord) (run behind : Run F R) : Type 0 where
     pub acts : acts_of (drop run.at script.steps) ≡ act ∷ acts_of (drop behind.at script.steps)
-    pub goes : Goes of_file of_port image keys (applications_of script) run.arms.items (act ∷ []) records (bench_state of_file of_port run.bench) (bench_state of_file of_port behind.bench)
+    pub goes : Goes of_file of_port image Reliable keys (applications_of script) run.arms.items (act ∷ []) records (bench_state of_file of_port run.bench) (bench_state of_file of_port behind.bench)
     pub arms_are : behind.arms.items ≡ arms_behind run.arms.items (act ∷ [])
     pub number_is : behind.number ≡ run.number + phases_in (act ∷ [])
     pub kept_is : behind.kept.items ≡ run.kept.items
@@ -57,7 +57,7 @@ module _ {F R : Type 0} (of_file : F → FileState) (of_port : R → PortState) 
 
   -- a control was done: the place is the next one, and the bench and the arms are as the control says
   pub HasDone-control : (control : Control) (records : List RunRecord) (run behind : Run F R) → IsReady script run → IsNext script run (ControlStep control)
-      → Goes of_file of_port image keys (applications_of script) run.arms.items (Do control ∷ []) records (bench_state of_file of_port run.bench) (bench_state of_file of_port behind.bench)
+      → Goes of_file of_port image Reliable keys (applications_of script) run.arms.items (Do control ∷ []) records (bench_state of_file of_port run.bench) (bench_state of_file of_port behind.bench)
       → behind.arms.items ≡ arms_behind run.arms.items (Do control ∷ []) → All IsArm behind.arms.items → vec_len behind.bench.files ≡ 273
       → behind.number ≡ run.number → behind.kept.items ≡ run.kept.items → behind.at ≡ run.at + 1 → HasDone (Do control) records run behind
   HasDone-control control records run behind ready next goes arms_are arms whole number kept at =
@@ -79,7 +79,7 @@ module _ {F R : Type 0} (of_file : F → FileState) (of_port : R → PortState) 
     whole = rw s.bench r.whole;
   }
 
-  pub GoesOn-act : (held_old held_new : Option (List ℕ)) (act : Act) (records : List RunRecord) (run behind next : Run F R) → HasDone act records run behind → IsSent held_old held_new (acts_text script run.number (act ∷ []) records) behind next → GoesOn of_file of_port image keys script held_old held_new run next
+  pub GoesOn-act : (held_old held_new : Option (List ℕ)) (act : Act) (records : List RunRecord) (run behind next : Run F R) → HasDone act records run behind → IsSent held_old held_new (acts_text script run.number (act ∷ []) records) behind next → GoesOn of_file of_port image Reliable keys script held_old held_new run next
   GoesOn-act held_old held_new act records run behind next d s = record {
     advances = record {
       done = act ∷ [];
@@ -94,23 +94,23 @@ module _ {F R : Type 0} (of_file : F → FileState) (of_port : R → PortState) 
     further = omega (arith, s.at, d.further);
   }
 
-module _ {F R : Type 0} (of_file : F → FileState) (of_port : R → PortState) (image : FileState → ℕ → ℕ → List ℕ) (drew draws : ℕ) (keys : Keys) (script : ScriptValue) where
-  pub EndsAt-act : (failed : Type 0) (held_old held_new : Option (List ℕ)) (act : Act) (records : List RunRecord) (run behind : Run F R) (end : RunEnd F R) → HasDone of_file of_port image keys script act records run behind → IsCutOff failed held_old held_new (acts_text script run.number (act ∷ []) records) behind end → EndsAt of_file of_port image drew draws keys script failed held_old held_new run end
+module _ {F R : Type 0} (of_file : F → FileState) (of_port : R → PortState) (image : FileState → ℕ → ℕ → List ℕ) (Reliable : Type 0) (drew draws : ℕ) (keys : Keys) (script : ScriptValue) where
+  pub EndsAt-act : (failed : Type 0) (held_old held_new : Option (List ℕ)) (act : Act) (records : List RunRecord) (run behind : Run F R) (end : RunEnd F R) → HasDone of_file of_port image Reliable keys script act records run behind → IsCutOff failed held_old held_new (acts_text script run.number (act ∷ []) records) behind end → EndsAt of_file of_port image Reliable drew draws keys script failed held_old held_new run end
   EndsAt-act failed held_old held_new act records run behind end d s = record {
     ends = rw s.bench
-        (EndsFrom-text of_file of_port image drew draws keys script failed (point_of of_file of_port script held_old run) held_new (bench_state of_file of_port behind.bench) (act ∷ []) (acts_of (drop behind.at script.steps)) records end.status
+        (EndsFrom-text of_file of_port image Reliable drew draws keys script failed (point_of of_file of_port script held_old run) held_new (bench_state of_file of_port behind.bench) (act ∷ []) (acts_of (drop behind.at script.steps)) records end.status
         d.acts d.goes (subst (λ k. Stops held_old held_new k (acts_text script run.number (act ∷ []) records)) d.kept_is s.stops) s.error);
     whole = rw s.bench d.ready.whole;
   }
 
-  pub EndsAt-refused : (failed : Type 0) (held_old held_new : Option (List ℕ)) (run : Run F R) (end : RunEnd F R) (fault : MountFault) → RefusesFirst of_file of_port image drew draws keys (acts_of (drop run.at script.steps)) (bench_state of_file of_port run.bench) (bench_state of_file of_port end.bench) fault → TellsRefusal failed held_old held_new run.kept.items fault end.status → vec_len end.bench.files ≡ 273 → EndsAt of_file of_port image drew draws keys script failed held_old held_new run end
+  pub EndsAt-refused : (failed : Type 0) (held_old held_new : Option (List ℕ)) (run : Run F R) (end : RunEnd F R) (fault : MountFault) → RefusesFirst of_file of_port image Reliable drew draws keys (acts_of (drop run.at script.steps)) (bench_state of_file of_port run.bench) (bench_state of_file of_port end.bench) fault → TellsRefusal failed held_old held_new run.kept.items fault end.status → vec_len end.bench.files ≡ 273 → EndsAt of_file of_port image Reliable drew draws keys script failed held_old held_new run end
   EndsAt-refused failed held_old held_new run end fault h t whole = record {
-    ends = EndsFrom-refused of_file of_port image drew draws keys script failed (point_of of_file of_port script held_old run) held_new (bench_state of_file of_port end.bench) fault end.status h t;
+    ends = EndsFrom-refused of_file of_port image Reliable drew draws keys script failed (point_of of_file of_port script held_old run) held_new (bench_state of_file of_port end.bench) fault end.status h t;
     whole = whole;
   }
 
-  pub EndsAt-no_memory : (failed : Type 0) (held : Option (List ℕ)) (run : Run F R) (end : RunEnd F R) → end.status ≡ NoMemory → vec_len end.bench.files ≡ 273 → EndsAt of_file of_port image drew draws keys script failed held held run end
+  pub EndsAt-no_memory : (failed : Type 0) (held : Option (List ℕ)) (run : Run F R) (end : RunEnd F R) → end.status ≡ NoMemory → vec_len end.bench.files ≡ 273 → EndsAt of_file of_port image Reliable drew draws keys script failed held held run end
   EndsAt-no_memory failed held run end is whole = record {
-    ends = rw is (EndsFrom-no_memory of_file of_port image drew draws keys script failed (point_of of_file of_port script held run) (bench_state of_file of_port end.bench));
+    ends = rw is (EndsFrom-no_memory of_file of_port image Reliable drew draws keys script failed (point_of of_file of_port script held run) (bench_state of_file of_port end.bench));
     whole = whole;
   }

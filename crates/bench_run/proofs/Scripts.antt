@@ -24,8 +24,8 @@ use Rattle.bench_run.proofs.Endings.{refusal_line-none}
 abbrev pub first_point : Option (List ℕ) → BenchState → ScriptValue → Point
 first_point held bench script = record { held = held; kept = []; bench = bench; steps = script.steps; arms = []; number = 0 }
 
-module _ {F R : Type 0} (of_file : F → FileState) (of_port : R → PortState) (image : FileState → ℕ → ℕ → List ℕ) (drew draws : ℕ) (keys : Keys) (script : ScriptValue) (failed : Type 0) (held_old held_new : Option (List ℕ)) (handed : BenchState) where
-  pub RunsScript-opened : (between given : BenchState) (status : Status) → OpensBench keys handed between → EndsFrom of_file of_port image drew draws keys script failed (first_point held_old between script) held_new given status → RunsScript of_file of_port image drew draws keys script failed held_old held_new handed given status
+module _ {F R : Type 0} (of_file : F → FileState) (of_port : R → PortState) (image : FileState → ℕ → ℕ → List ℕ) (Reliable : Type 0) (drew draws : ℕ) (keys : Keys) (script : ScriptValue) (failed : Type 0) (held_old held_new : Option (List ℕ)) (handed : BenchState) where
+  pub RunsScript-opened : (between given : BenchState) (status : Status) → OpensBench keys handed between → EndsFrom of_file of_port image Reliable drew draws keys script failed (first_point held_old between script) held_new given status → RunsScript of_file of_port image Reliable drew draws keys script failed held_old held_new handed given status
   RunsScript-opened between given status opens e = record {
     put = e.put;
     start = None;
@@ -36,15 +36,15 @@ module _ {F R : Type 0} (of_file : F → FileState) (of_port : R → PortState) 
     cause = e.cause;
   }
 
-  not_opened : (given : BenchState) (fault told : MountFault) → told ≡ fault → IsOpenRefused keys handed given drew draws fault → NotOpened of_file of_port image drew draws keys (Some fault) [] handed given told
-  not_opened given fault told same h = subst (λ (f : MountFault). NotOpened of_file of_port image drew draws keys (Some fault) [] handed given f) (sym same) (record { shown = refl; none = refl; refused = h })
+  not_opened : (given : BenchState) (fault told : MountFault) → told ≡ fault → IsOpenRefused keys handed given drew draws fault → NotOpened of_file of_port image Reliable drew draws keys (Some fault) [] handed given told
+  not_opened given fault told same h = subst (λ (f : MountFault). NotOpened of_file of_port image Reliable drew draws keys (Some fault) [] handed given f) (sym same) (record { shown = refl; none = refl; refused = h })
 
   -- a front of nothing is nothing
   nothing : (put : List ℕ) → Appends held_old held_new put → (rest : List ℕ) → [] ≡ put ++ rest → Appends held_old held_new []
   nothing [] a rest e = a
   nothing (b ∷ put) a rest e = absurd cc
 
-  pub RunsScript-shut : (given : BenchState) (fault : MountFault) (status : Status) → IsOpenRefused keys handed given drew draws fault → TellsRefusal failed held_old held_new [] fault status → RunsScript of_file of_port image drew draws keys script failed held_old held_new handed given status
+  pub RunsScript-shut : (given : BenchState) (fault : MountFault) (status : Status) → IsOpenRefused keys handed given drew draws fault → TellsRefusal failed held_old held_new [] fault status → RunsScript of_file of_port image Reliable drew draws keys script failed held_old held_new handed given status
   RunsScript-shut given fault Done h t = absurd t
   RunsScript-shut given fault Usage h t = absurd t
   RunsScript-shut given fault (BadLine line) h t = absurd t
@@ -93,5 +93,5 @@ module _ {F R : Type 0} (of_file : F → FileState) (of_port : R → PortState) 
 
   -- where no text was kept
   pub RunsScript-unopened : (given : BenchState) (fault : MountFault) (status : Status) → IsOpenRefused keys handed given drew draws fault → (kept : List ℕ) → kept ≡ [] → TellsRefusal failed held_old held_new kept fault status
-      → RunsScript of_file of_port image drew draws keys script failed held_old held_new handed given status
+      → RunsScript of_file of_port image Reliable drew draws keys script failed held_old held_new handed given status
   RunsScript-unopened given fault status refused kept none tells = RunsScript-shut given fault status refused (subst (λ k. TellsRefusal failed held_old held_new k fault status) none tells)

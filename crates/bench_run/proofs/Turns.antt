@@ -36,7 +36,7 @@ use Rattle.bench_run.proofs.Once.{EndsAt-act, EndsAt-refused, GoesOn-act, HasDon
 pub formed-next : (steps rest : List Step) (at : ℕ) (step : Step) → All IsFormed steps → drop at steps ≡ step ∷ rest → IsFormed step
 formed-next steps rest at step all e = subst (All IsFormed) e (All-drop IsFormed at steps all) 0 step (omega arith)
 
-module _ {F R : Type 0} (of_file : F → FileState) (of_port : R → PortState) (image : FileState → ℕ → ℕ → List ℕ) (keys : Keys) (script : ScriptValue) where
+module _ {F R : Type 0} (of_file : F → FileState) (of_port : R → PortState) (image : FileState → ℕ → ℕ → List ℕ) (Reliable : Type 0) (keys : Keys) (script : ScriptValue) where
   -- a run at the next place
   abbrev pub next_place : Run F R → Run F R
   next_place run = record run { at = run.at + 1 }
@@ -45,9 +45,9 @@ module _ {F R : Type 0} (of_file : F → FileState) (of_port : R → PortState) 
   abbrev pub IsMark : Control → Type 0
   IsMark control = (control ≡ Serial) ⊎ (control ≡ Phase)
 
-  pub HasDone-mark : (control : Control) (run : Run F R) → IsMark control → IsReady script run → IsNext script run (ControlStep control) → HasDone of_file of_port image keys script (Do control) [] run (next_place run)
-  HasDone-mark Serial run mark ready next = HasDone-control of_file of_port image keys script Serial [] run (next_place run) ready next refl refl ready.arms ready.whole refl refl refl
-  HasDone-mark Phase run mark ready next = HasDone-control of_file of_port image keys script Phase [] run (next_place run) ready next refl refl ready.arms ready.whole refl refl refl
+  pub HasDone-mark : (control : Control) (run : Run F R) → IsMark control → IsReady script run → IsNext script run (ControlStep control) → HasDone of_file of_port image Reliable keys script (Do control) [] run (next_place run)
+  HasDone-mark Serial run mark ready next = HasDone-control of_file of_port image Reliable keys script Serial [] run (next_place run) ready next refl refl ready.arms ready.whole refl refl refl
+  HasDone-mark Phase run mark ready next = HasDone-control of_file of_port image Reliable keys script Phase [] run (next_place run) ready next refl refl ready.arms ready.whole refl refl refl
   HasDone-mark (ArmControl arm) run mark ready next = absurd (⊎_elim (λ (e : ArmControl arm ≡ Serial). cc) (λ (e : ArmControl arm ≡ Phase). cc) mark)
   HasDone-mark (Crash seed) run mark ready next = absurd (⊎_elim (λ (e : Crash seed ≡ Serial). cc) (λ (e : Crash seed ≡ Phase). cc) mark)
   HasDone-mark ListControl run mark ready next = absurd (⊎_elim (λ (e : ListControl ≡ Serial). cc) (λ (e : ListControl ≡ Phase). cc) mark)
@@ -55,27 +55,27 @@ module _ {F R : Type 0} (of_file : F → FileState) (of_port : R → PortState) 
   pub mark_other : (control : Control) → IsMark control → control ≢ ListControl
   mark_other control mark e = ⊎_elim (λ (is : control ≡ Serial). let x : Serial ≡ ListControl = sym is ∙ e in cc) (λ (is : control ≡ Phase). let x : Phase ≡ ListControl = sym is ∙ e in cc) mark
 
-  pub HasDone-arm : (arm : Arm) (run waits : Run F R) → IsSound script → IsReady script run → IsNext script run (ControlStep (ArmControl arm)) → waits ≡ record run { arms = waits.arms } → waits.arms.items ≡ run.arms.items ++ arm ∷ [] → HasDone of_file of_port image keys script (Do (ArmControl arm)) [] run (next_place waits)
+  pub HasDone-arm : (arm : Arm) (run waits : Run F R) → IsSound script → IsReady script run → IsNext script run (ControlStep (ArmControl arm)) → waits ≡ record run { arms = waits.arms } → waits.arms.items ≡ run.arms.items ++ arm ∷ [] → HasDone of_file of_port image Reliable keys script (Do (ArmControl arm)) [] run (next_place waits)
   HasDone-arm arm run waits sound ready next same arms =
       let of_arm : IsArm arm = formed-next script.steps (drop (run.at + 1) script.steps) run.at (ControlStep (ArmControl arm)) sound.formed next in
       let bench = ap (λ (r : Run F R). r.bench) same in
-      HasDone-control of_file of_port image keys script (ArmControl arm) [] run (next_place waits) ready next
+      HasDone-control of_file of_port image Reliable keys script (ArmControl arm) [] run (next_place waits) ready next
       (ap (bench_state of_file of_port) bench) arms (subst (All IsArm) (sym arms) (All-push IsArm run.arms.items arm ready.arms of_arm))
       (ap (λ b. vec_len b.files) bench ∙ ready.whole) (ap (λ (r : Run F R). r.number) same) (ap (λ (r : Run F R). r.kept.items) same) (ap (λ (r : Run F R). r.at + 1) same)
 
   pub HasDone-crash : (seed : ℕ) (run crashed : Run F R) → IsReady script run → IsNext script run (ControlStep (Crash seed)) → crashed ≡ record run { bench = crashed.bench } → vec_len crashed.bench.files ≡ 273
-      → Crashes image seed (bench_state of_file of_port run.bench) (bench_state of_file of_port crashed.bench) → HasDone of_file of_port image keys script (Do (Crash seed)) [] run (next_place crashed)
+      → Crashes image seed (bench_state of_file of_port run.bench) (bench_state of_file of_port crashed.bench) → HasDone of_file of_port image Reliable keys script (Do (Crash seed)) [] run (next_place crashed)
   HasDone-crash seed run crashed ready next same whole crashes =
       let arms : crashed.arms.items ≡ run.arms.items = ap (λ (r : Run F R). r.arms.items) same in
-      HasDone-control of_file of_port image keys script (Crash seed) [] run (next_place crashed) ready next
+      HasDone-control of_file of_port image Reliable keys script (Crash seed) [] run (next_place crashed) ready next
       (bench_state of_file of_port crashed.bench, crashes, refl) arms (subst (All IsArm) (sym arms) ready.arms)
       whole (ap (λ (r : Run F R). r.number) same) (ap (λ (r : Run F R). r.kept.items) same) (ap (λ (r : Run F R). r.at + 1) same)
 
   pub HasDone-list : (run listed : Run F R) (objects : ObjectMap) (lines : List ℕ) → IsReady script run → IsNext script run (ControlStep ListControl) → listed ≡ record run { bench = listed.bench; at = run.at + 1 } → vec_len listed.bench.files ≡ 273
-      → ListsBench of_file of_port keys (bench_state of_file of_port run.bench) (bench_state of_file of_port listed.bench) objects lines → HasDone of_file of_port image keys script (Do ListControl) (Listed objects ∷ []) run listed
+      → ListsBench of_file of_port keys (bench_state of_file of_port run.bench) (bench_state of_file of_port listed.bench) objects lines → HasDone of_file of_port image Reliable keys script (Do ListControl) (Listed objects ∷ []) run listed
   HasDone-list run listed objects lines ready next same whole lists =
       let arms : listed.arms.items ≡ run.arms.items = ap (λ (r : Run F R). r.arms.items) same in
-      HasDone-control of_file of_port image keys script ListControl (Listed objects ∷ []) run listed ready next
+      HasDone-control of_file of_port image Reliable keys script ListControl (Listed objects ∷ []) run listed ready next
       (bench_state of_file of_port listed.bench, subst (λ t. ListsBench of_file of_port keys (bench_state of_file of_port run.bench) (bench_state of_file of_port listed.bench) objects t) lists.lines_are lists, refl) arms (subst (All IsArm) (sym arms) ready.arms)
       whole (ap (λ (r : Run F R). r.number) same) (ap (λ (r : Run F R). r.kept.items) same) (ap (λ (r : Run F R). r.at) same)
 
@@ -84,9 +84,9 @@ module _ {F R : Type 0} (of_file : F → FileState) (of_port : R → PortState) 
   calls_length run = prefix_len is_call (drop run.at script.steps)
 
   pub HasDone-calls : (run ran : Run F R) (phase : PhaseRecord) → IsReady script run → IsCallFirst (drop run.at script.steps)
-      → RunsPhase of_file of_port keys (applications_of script) run.arms.items (take (calls_length run) (drop run.at script.steps)) (bench_state of_file of_port run.bench) (bench_state of_file of_port ran.bench) phase.opening phase.events
+      → RunsPhase of_file of_port Reliable keys (applications_of script) run.arms.items (take (calls_length run) (drop run.at script.steps)) (bench_state of_file of_port run.bench) (bench_state of_file of_port ran.bench) phase.opening phase.events
       → ran.arms.items ≡ [] → vec_len ran.bench.files ≡ 273 → ran.number ≡ run.number + 1 → ran.kept.items ≡ run.kept.items → ran.at ≡ run.at + calls_length run → calls_length run ≤ length (drop run.at script.steps)
-      → HasDone of_file of_port image keys script (Serve (take (calls_length run) (drop run.at script.steps))) (Ran phase ∷ []) run ran
+      → HasDone of_file of_port image Reliable keys script (Serve (take (calls_length run) (drop run.at script.steps))) (Ran phase ∷ []) run ran
   HasDone-calls run ran phase ready first runs arms whole number kept at within =
       let count = calls_length run in
       let rest = drop run.at script.steps in
@@ -103,26 +103,26 @@ module _ {F R : Type 0} (of_file : F → FileState) (of_port : R → PortState) 
         further = omega (arith, at, some);
       }
 
-  module _ (run behind : Run F R) (r : Result (Run F R) (RunEnd F R)) (held_old held_new : Option (List ℕ)) (act : Act) (records : List RunRecord) (text : List ℕ) (done : HasDone of_file of_port image keys script act records run behind)
+  module _ (run behind : Run F R) (r : Result (Run F R) (RunEnd F R)) (held_old held_new : Option (List ℕ)) (act : Act) (records : List RunRecord) (text : List ℕ) (done : HasDone of_file of_port image Reliable keys script act records run behind)
       (same : acts_text script run.number (act ∷ []) records ≡ text) where
-    pub goes-on : IfOk r (IsSent held_old held_new text behind) → IfOk r (GoesOn of_file of_port image keys script held_old held_new run)
-    goes-on = IfOk-weaker r (IsSent held_old held_new text behind) (GoesOn of_file of_port image keys script held_old held_new run)
-        (λ next sent. GoesOn-act of_file of_port image keys script held_old held_new act records run behind next done (subst (λ t. IsSent held_old held_new t behind next) (sym same) sent))
+    pub goes-on : IfOk r (IsSent held_old held_new text behind) → IfOk r (GoesOn of_file of_port image Reliable keys script held_old held_new run)
+    goes-on = IfOk-weaker r (IsSent held_old held_new text behind) (GoesOn of_file of_port image Reliable keys script held_old held_new run)
+        (λ next sent. GoesOn-act of_file of_port image Reliable keys script held_old held_new act records run behind next done (subst (λ t. IsSent held_old held_new t behind next) (sym same) sent))
 
-    pub cut-off : (drew draws : ℕ) (failed : Type 0) → IfErr r (IsCutOff failed held_old held_new text behind) → IfErr r (EndsAt of_file of_port image drew draws keys script failed held_old held_new run)
-    cut-off drew draws failed = IfErr-weaker r (IsCutOff failed held_old held_new text behind) (EndsAt of_file of_port image drew draws keys script failed held_old held_new run)
-        (λ end cut. EndsAt-act of_file of_port image drew draws keys script failed held_old held_new act records run behind end done (subst (λ t. IsCutOff failed held_old held_new t behind end) (sym same) cut))
+    pub cut-off : (drew draws : ℕ) (failed : Type 0) → IfErr r (IsCutOff failed held_old held_new text behind) → IfErr r (EndsAt of_file of_port image Reliable drew draws keys script failed held_old held_new run)
+    cut-off drew draws failed = IfErr-weaker r (IsCutOff failed held_old held_new text behind) (EndsAt of_file of_port image Reliable drew draws keys script failed held_old held_new run)
+        (λ end cut. EndsAt-act of_file of_port image Reliable drew draws keys script failed held_old held_new act records run behind end done (subst (λ t. IsCutOff failed held_old held_new t behind end) (sym same) cut))
 
   pub EndsAt-list : (drew draws : ℕ) (failed : Type 0) (held_old held_new : Option (List ℕ)) (run : Run F R) (end : RunEnd F R) (fault : MountFault) → IsNext script run (ControlStep ListControl)
       → IsListRefused of_file of_port keys (bench_state of_file of_port run.bench) (bench_state of_file of_port end.bench) drew draws fault → TellsRefusal failed held_old held_new run.kept.items fault end.status → vec_len end.bench.files ≡ 273
-      → EndsAt of_file of_port image drew draws keys script failed held_old held_new run end
+      → EndsAt of_file of_port image Reliable drew draws keys script failed held_old held_new run end
   EndsAt-list drew draws failed held_old held_new run end fault next refused tells whole =
-      EndsAt-refused of_file of_port image drew draws keys script failed held_old held_new run end fault
-      (subst (λ (acts : List Act). RefusesFirst of_file of_port image drew draws keys acts (bench_state of_file of_port run.bench) (bench_state of_file of_port end.bench) fault) (sym (ap acts_of next)) refused) tells whole
+      EndsAt-refused of_file of_port image Reliable drew draws keys script failed held_old held_new run end fault
+      (subst (λ (acts : List Act). RefusesFirst of_file of_port image Reliable drew draws keys acts (bench_state of_file of_port run.bench) (bench_state of_file of_port end.bench) fault) (sym (ap acts_of next)) refused) tells whole
 
   pub EndsAt-calls : (drew draws : ℕ) (failed : Type 0) (held_old held_new : Option (List ℕ)) (run : Run F R) (end : RunEnd F R) (fault : MountFault) → IsCallFirst (drop run.at script.steps)
       → IsGivenUp keys (bench_state of_file of_port run.bench) (bench_state of_file of_port end.bench) drew draws fault → TellsRefusal failed held_old held_new run.kept.items fault end.status → vec_len end.bench.files ≡ 273
-      → EndsAt of_file of_port image drew draws keys script failed held_old held_new run end
+      → EndsAt of_file of_port image Reliable drew draws keys script failed held_old held_new run end
   EndsAt-calls drew draws failed held_old held_new run end fault first refused tells whole =
-      EndsAt-refused of_file of_port image drew draws keys script failed held_old held_new run end fault
-      (subst (λ (acts : List Act). RefusesFirst of_file of_port image drew draws keys acts (bench_state of_file of_port run.bench) (bench_state of_file of_port end.bench) fault) (sym (acts_of-calls (drop run.at script.steps) first)) refused) tells whole
+      EndsAt-refused of_file of_port image Reliable drew draws keys script failed held_old held_new run end fault
+      (subst (λ (acts : List Act). RefusesFirst of_file of_port image Reliable drew draws keys acts (bench_state of_file of_port run.bench) (bench_state of_file of_port end.bench) fault) (sym (acts_of-calls (drop run.at script.steps) first)) refused) tells whole

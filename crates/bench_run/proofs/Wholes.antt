@@ -182,9 +182,9 @@ IsScriptError-fault (BadLineFault line) meant h = h
 IsScriptError-fault (TooManyApps n) meant h = h
 IsScriptError-fault NoMemoryFault meant h = tt
 
-module _ {F R : Type 0} (of_file : F → FileState) (of_port : R → PortState) (image : FileState → ℕ → ℕ → List ℕ) (drew draws : ℕ) (keys : Keys) where
+module _ {F R : Type 0} (of_file : F → FileState) (of_port : R → PortState) (image : FileState → ℕ → ℕ → List ℕ) (Reliable : Type 0) (drew draws : ℕ) (keys : Keys) where
   -- where no script was run, the bench is as it was
-  pub EndsBench-read : (failed : Type 0) (count : ℕ) (t : Trace) (bench : BenchState) (status : Status) → IsReadError failed count status → EndsBench of_file of_port image drew draws keys t bench bench status
+  pub EndsBench-read : (failed : Type 0) (count : ℕ) (t : Trace) (bench : BenchState) (status : Status) → IsReadError failed count status → EndsBench of_file of_port image Reliable drew draws keys t bench bench status
   EndsBench-read failed count t bench Done h = absurd h
   EndsBench-read failed count t bench Usage h = absurd h
   EndsBench-read failed count t bench (BadLine line) h = absurd h
@@ -195,7 +195,7 @@ module _ {F R : Type 0} (of_file : F → FileState) (of_port : R → PortState) 
   EndsBench-read failed count t bench (DeviceFault fault) h = absurd h
   EndsBench-read failed count t bench NoMemory h = tt
 
-  pub EndsBench-script : (meant : Result ScriptValue ScriptFault) (t : Trace) (bench : BenchState) (status : Status) → IsScriptError meant status → EndsBench of_file of_port image drew draws keys t bench bench status
+  pub EndsBench-script : (meant : Result ScriptValue ScriptFault) (t : Trace) (bench : BenchState) (status : Status) → IsScriptError meant status → EndsBench of_file of_port image Reliable drew draws keys t bench bench status
   EndsBench-script meant t bench Done h = absurd h
   EndsBench-script meant t bench Usage h = absurd h
   EndsBench-script meant t bench (BadLine line) h = refl
@@ -207,7 +207,7 @@ module _ {F R : Type 0} (of_file : F → FileState) (of_port : R → PortState) 
   EndsBench-script meant t bench NoMemory h = tt
 
   -- what the run of a script did to the bench
-  pub EndsBench-run : (failed : Type 0) (t : Trace) (script : ScriptValue) (handed given : BenchState) (status : Status) → script_of t.taken ≡ Ok script → EndsScript of_file of_port image drew draws keys script t.start t.records handed given status → HasActCause failed t.put (run_output script t.start t.records) status → EndsBench of_file of_port image drew draws keys t handed given status
+  pub EndsBench-run : (failed : Type 0) (t : Trace) (script : ScriptValue) (handed given : BenchState) (status : Status) → script_of t.taken ≡ Ok script → EndsScript of_file of_port image Reliable drew draws keys script t.start t.records handed given status → HasActCause failed t.put (run_output script t.start t.records) status → EndsBench of_file of_port image Reliable drew draws keys t handed given status
   EndsBench-run failed t script handed given Done is ends h = (script, is, ends)
   EndsBench-run failed t script handed given Usage is ends h = absurd h
   EndsBench-run failed t script handed given (BadLine line) is ends h = absurd h

@@ -14,15 +14,15 @@ use Rattle.bench_phases.specs.Phases.{RunsPhase}
 use Rattle.bench_phases.specs.Refusals.{IsGivenUp}
 use Rattle.bench_run.specs.Text.{Act, Do, Listed, Ran, RunRecord, Serve}
 
--- `image` is what a crash leaves of a file, by the seed and the file's number
-module _ {F R : Type 0} (of_file : F → FileState) (of_port : R → PortState) (image : FileState → ℕ → ℕ → List ℕ) where
+-- `image` is what a crash leaves of a file, by the seed and the file's number; `Reliable` says that the generator of the run never fails
+module _ {F R : Type 0} (of_file : F → FileState) (of_port : R → PortState) (image : FileState → ℕ → ℕ → List ℕ) (Reliable : Type 0) where
   -- The bench goes from the old state to the new one in these acts, of which these are the records. Arms wait for the next phase that is
   -- run: it is run with them, and none is left.
   abbrev pub Goes : Keys → (applications : List (List ℕ)) → (arms : List Arm) → List Act → List RunRecord → (old new : BenchState) → Type 0
   Goes keys applications arms [] [] old new = new ≡ old
   Goes keys applications arms (Serve calls ∷ acts) (Ran phase ∷ records) old new =
       (between : BenchState)
-      × RunsPhase of_file of_port keys applications arms calls old between phase.opening phase.events
+      × RunsPhase of_file of_port Reliable keys applications arms calls old between phase.opening phase.events
       × Goes keys applications [] acts records between new
   Goes keys applications arms (Do Serial ∷ acts) records old new = Goes keys applications arms acts records old new
   Goes keys applications arms (Do Phase ∷ acts) records old new = Goes keys applications arms acts records old new

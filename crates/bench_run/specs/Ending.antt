@@ -15,18 +15,18 @@ use Rattle.bench_run.specs.Trace.{OfScript, Trace, applications_of}
 use Rattle.bench_run.specs.Course.{GoesUntil, GoesUntilRefused}
 
 -- `drew` and `draws`: how many faults the generator of nonces counted before the run and behind it
-module _ {F R : Type 0} (of_file : F → FileState) (of_port : R → PortState) (image : FileState → ℕ → ℕ → List ℕ) where
+module _ {F R : Type 0} (of_file : F → FileState) (of_port : R → PortState) (image : FileState → ℕ → ℕ → List ℕ) (Reliable : Type 0) where
   -- An act was refused, and the last record says why.
   abbrev pub RecordsRefusal : (drew draws : ℕ) → Keys → (applications : List (List ℕ)) → List Arm → List Act → List RunRecord → (old new : BenchState) → MountFault → Type 0
   RecordsRefusal drew draws keys applications arms acts records old new fault =
       (front : List RunRecord) × (records ≡ front ++ Refused fault ∷ [])
-      × GoesUntilRefused of_file of_port image drew draws keys applications arms acts front old new fault
+      × GoesUntilRefused of_file of_port image Reliable drew draws keys applications arms acts front old new fault
 
   -- How far a bench that was opened went through the acts. Where memory ran out nothing is said.
   abbrev pub EndsActs : (drew draws : ℕ) → Keys → (applications : List (List ℕ)) → List Arm → List Act → List RunRecord → (old new : BenchState) → Status → Type 0
-  EndsActs drew draws keys applications arms acts records old new Done = GoesUntil of_file of_port image keys applications arms acts records [] old new
+  EndsActs drew draws keys applications arms acts records old new Done = GoesUntil of_file of_port image Reliable keys applications arms acts records [] old new
   EndsActs drew draws keys applications arms acts records old new WriteFault =
-      ((left : List Act) × GoesUntil of_file of_port image keys applications arms acts records left old new)
+      ((left : List Act) × GoesUntil of_file of_port image Reliable keys applications arms acts records left old new)
       ⊎ ((fault : MountFault) × RecordsRefusal drew draws keys applications arms acts records old new fault)
   EndsActs drew draws keys applications arms acts records old new (MountRefused fault) = RecordsRefusal drew draws keys applications arms acts records old new fault
   EndsActs drew draws keys applications arms acts records old new (DeviceFault fault) = RecordsRefusal drew draws keys applications arms acts records old new fault

@@ -19,13 +19,13 @@ use Rattle.bench_run.specs.Points.{Point, arms_behind, phases_in, point_of}
 use Rattle.bench_run.specs.Ready.{IsReady}
 use Rattle.bench_run.specs.Tells.{HasActCause}
 
-module _ {F R : Type 0} (of_file : F → FileState) (of_port : R → PortState) (image : FileState → ℕ → ℕ → List ℕ) where
+module _ {F R : Type 0} (of_file : F → FileState) (of_port : R → PortState) (image : FileState → ℕ → ℕ → List ℕ) (Reliable : Type 0) where
   -- Acts were done between the two points; their text was put, or is kept.
   pub record Advances (keys : Keys) (script : ScriptValue) (old new : Point) : Type 0 where
     pub done : List Act
     pub records : List RunRecord
     pub acts : acts_of old.steps ≡ done ++ acts_of new.steps
-    pub goes : Goes of_file of_port image keys (applications_of script) old.arms done records old.bench new.bench
+    pub goes : Goes of_file of_port image Reliable keys (applications_of script) old.arms done records old.bench new.bench
     pub arms_are : new.arms ≡ arms_behind old.arms done
     pub number_is : new.number ≡ old.number + phases_in done
     pub sent : Sends old.held new.held old.kept new.kept (acts_text script old.number done records)
@@ -36,7 +36,7 @@ module _ {F R : Type 0} (of_file : F → FileState) (of_port : R → PortState) 
     pub records : List RunRecord
     pub appended : Appends old.held held put
     pub begins : Begins put (old.kept ++ acts_text script old.number (acts_of old.steps) records)
-    pub ends : EndsActs of_file of_port image drew draws keys (applications_of script) old.arms (acts_of old.steps) records old.bench given status
+    pub ends : EndsActs of_file of_port image Reliable drew draws keys (applications_of script) old.arms (acts_of old.steps) records old.bench given status
     pub cause : HasActCause failed put (old.kept ++ acts_text script old.number (acts_of old.steps) records) status
 
   -- One more act was done.
@@ -57,5 +57,5 @@ module _ {F R : Type 0} (of_file : F → FileState) (of_port : R → PortState) 
     pub records : List RunRecord
     pub appended : Appends held_old held_new put
     pub begins : Begins put (run_output script start records)
-    pub ends : EndsScript of_file of_port image drew draws keys script start records handed given status
+    pub ends : EndsScript of_file of_port image Reliable drew draws keys script start records handed given status
     pub cause : HasActCause failed put (run_output script start records) status

@@ -70,12 +70,13 @@ fn do_list<K: Sink, F: FileRig + Drop, R: CardRig + Drop, E: Entropy + Drop>(
 ) -> Result<Run<F, R>, RunEnd<F, R>>
     requires whole { vec_len run.bench.files ≡ 273 }
     requires place { run.at < 16777216 }
-    ensures ok { (script : ScriptValue) → IsReady script run → IsNext script run (ControlStep ListControl)
-        → IfOk result (GoesOn F.state R.state F.crash_image keys.now script (K.held sink.old) (K.held sink.new) run) }
-    ensures err { (script : ScriptValue) → IsReady script run → IsNext script run (ControlStep ListControl)
-        → IfErr result (EndsAt F.state R.state F.crash_image (E.faults entropy.old) (E.faults entropy.new) keys.now script (Rose (K.faults sink.old) (K.faults sink.new) ⊎ K.is_full sink.new) (K.held sink.old) (K.held sink.new) run) }
+    ensures ok { (first : E) → (E.is_reliable first → E.is_reliable entropy.old) → (script : ScriptValue) → IsReady script run → IsNext script run (ControlStep ListControl)
+        → IfOk result (GoesOn F.state R.state F.crash_image (E.is_reliable first) keys.now script (K.held sink.old) (K.held sink.new) run) }
+    ensures err { (first : E) → (E.is_reliable first → E.is_reliable entropy.old) → (script : ScriptValue) → IsReady script run → IsNext script run (ControlStep ListControl)
+        → IfErr result (EndsAt F.state R.state F.crash_image (E.is_reliable first) (E.faults entropy.old) (E.faults entropy.new) keys.now script (Rose (K.faults sink.old) (K.faults sink.new) ⊎ K.is_full sink.new) (K.held sink.old) (K.held sink.new) run) }
     ensures counted { K.faults sink.old ≤ K.faults sink.new }
     ensures undrawn { IfOk result (λ next. E.faults entropy.new ≡ E.faults entropy.old) }
+    ensures reliable { E.is_reliable entropy.old → E.is_reliable entropy.new }
 {
     let Run {
         bench,
@@ -116,10 +117,11 @@ pub(crate) fn do_control<K: Sink, F: FileRig + Drop, R: CardRig + Drop, E: Entro
     requires ready { IsReady script.now run }
     requires next { IsNext script.now run (ControlStep control.now) }
     requires place { run.at < length script.now.steps }
-    ensures ok { IfOk result (GoesOn F.state R.state F.crash_image keys.now script.now (K.held sink.old) (K.held sink.new) run) }
-    ensures err { IfErr result (EndsAt F.state R.state F.crash_image (E.faults entropy.old) (E.faults entropy.new) keys.now script.now (Rose (K.faults sink.old) (K.faults sink.new) ⊎ K.is_full sink.new) (K.held sink.old) (K.held sink.new) run) }
+    ensures ok { (first : E) → (E.is_reliable first → E.is_reliable entropy.old) → IfOk result (GoesOn F.state R.state F.crash_image (E.is_reliable first) keys.now script.now (K.held sink.old) (K.held sink.new) run) }
+    ensures err { (first : E) → (E.is_reliable first → E.is_reliable entropy.old) → IfErr result (EndsAt F.state R.state F.crash_image (E.is_reliable first) (E.faults entropy.old) (E.faults entropy.new) keys.now script.now (Rose (K.faults sink.old) (K.faults sink.new) ⊎ K.is_full sink.new) (K.held sink.old) (K.held sink.new) run) }
     ensures counted { K.faults sink.old ≤ K.faults sink.new }
     ensures undrawn { IfOk result (λ next. E.faults entropy.new ≡ E.faults entropy.old) }
+    ensures reliable { E.is_reliable entropy.old → E.is_reliable entropy.new }
 {
     let mut run = run;
     match control {

@@ -56,10 +56,11 @@ pub(crate) fn do_phase<K: Sink, F: FileRig + Drop, R: CardRig + Drop, E: Entropy
     requires sound { IsSound script.now }
     requires ready { IsReady script.now run }
     requires call { IsCallFirst (drop run.at script.now.steps) }
-    ensures ok { IfOk result (GoesOn F.state R.state F.crash_image keys.now script.now (K.held sink.old) (K.held sink.new) run) }
-    ensures err { IfErr result (EndsAt F.state R.state F.crash_image (E.faults entropy.old) (E.faults entropy.new) keys.now script.now (Rose (K.faults sink.old) (K.faults sink.new) ⊎ K.is_full sink.new) (K.held sink.old) (K.held sink.new) run) }
+    ensures ok { (first : E) → (E.is_reliable first → E.is_reliable entropy.old) → IfOk result (GoesOn F.state R.state F.crash_image (E.is_reliable first) keys.now script.now (K.held sink.old) (K.held sink.new) run) }
+    ensures err { (first : E) → (E.is_reliable first → E.is_reliable entropy.old) → IfErr result (EndsAt F.state R.state F.crash_image (E.is_reliable first) (E.faults entropy.old) (E.faults entropy.new) keys.now script.now (Rose (K.faults sink.old) (K.faults sink.new) ⊎ K.is_full sink.new) (K.held sink.old) (K.held sink.new) run) }
     ensures counted { K.faults sink.old ≤ K.faults sink.new }
     ensures undrawn { IfOk result (λ next. E.faults entropy.new ≡ E.faults entropy.old) }
+    ensures reliable { E.is_reliable entropy.old → E.is_reliable entropy.new }
 {
     let Run {
         bench,

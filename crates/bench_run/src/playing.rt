@@ -31,10 +31,11 @@ fn do_act<K: Sink, F: FileRig + Drop, R: CardRig + Drop, E: Entropy + Drop>(
     requires sound { IsSound script.now }
     requires ready { IsReady script.now run }
     requires some { run.at < length script.now.steps }
-    ensures ok { IfOk result (GoesOn F.state R.state F.crash_image keys.now script.now (K.held sink.old) (K.held sink.new) run) }
-    ensures err { IfErr result (EndsAt F.state R.state F.crash_image (E.faults entropy.old) (E.faults entropy.new) keys.now script.now (Rose (K.faults sink.old) (K.faults sink.new) ⊎ K.is_full sink.new) (K.held sink.old) (K.held sink.new) run) }
+    ensures ok { (first : E) → (E.is_reliable first → E.is_reliable entropy.old) → IfOk result (GoesOn F.state R.state F.crash_image (E.is_reliable first) keys.now script.now (K.held sink.old) (K.held sink.new) run) }
+    ensures err { (first : E) → (E.is_reliable first → E.is_reliable entropy.old) → IfErr result (EndsAt F.state R.state F.crash_image (E.is_reliable first) (E.faults entropy.old) (E.faults entropy.new) keys.now script.now (Rose (K.faults sink.old) (K.faults sink.new) ⊎ K.is_full sink.new) (K.held sink.old) (K.held sink.new) run) }
     ensures counted { K.faults sink.old ≤ K.faults sink.new }
     ensures undrawn { IfOk result (λ next. E.faults entropy.new ≡ E.faults entropy.old) }
+    ensures reliable { E.is_reliable entropy.old → E.is_reliable entropy.new }
 {
     match &script.all_steps()[run.at] {
         Step::Control(control) => { do_control(alloc, script, control, run, sink, keys, entropy) }
@@ -42,16 +43,17 @@ fn do_act<K: Sink, F: FileRig + Drop, R: CardRig + Drop, E: Entropy + Drop>(
     }
 }
 
-/// Puts the text that is left, where every act was done.
-fn finish<K: Sink, F: FileRig + Drop, R: CardRig + Drop>(
+/// Puts the text that is left, where every act was done. Only contracts read the generator.
+fn finish<K: Sink, F: FileRig + Drop, R: CardRig + Drop, E: Entropy>(
     script: &Script,
     keys: &Keys,
     run: Run<F, R>,
     sink: &mut K,
+    _entropy: &E,
 ) -> RunEnd<F, R>
     requires ready { IsReady script.now run }
     requires all { length script.now.steps ≤ run.at }
-    ensures { (drew draws : ℕ) → EndsAt F.state R.state F.crash_image drew draws keys.now script.now (Rose (K.faults sink.old) (K.faults sink.new) ⊎ K.is_full sink.new) (K.held sink.old) (K.held sink.new) run result }
+    ensures { (drew draws : ℕ) (first : E) → EndsAt F.state R.state F.crash_image (E.is_reliable first) drew draws keys.now script.now (Rose (K.faults sink.old) (K.faults sink.new) ⊎ K.is_full sink.new) (K.held sink.old) (K.held sink.new) run result }
 {
     let mut run = run;
     let status = match flush(sink, &mut run.kept, 0) {
@@ -75,7 +77,7 @@ fn do_acts<K: Sink, F: FileRig + Drop, R: CardRig + Drop, E: Entropy + Drop>(
 ) -> RunEnd<F, R>
     requires sound { IsSound script.now }
     requires ready { IsReady script.now run }
-    ensures { EndsAt F.state R.state F.crash_image (E.faults entropy.old) (E.faults entropy.new) keys.now script.now (Rose (K.faults sink.old) (K.faults sink.new) ⊎ K.is_full sink.new) (K.held sink.old) (K.held sink.new) run result }
+    ensures { (first : E) → (E.is_reliable first → E.is_reliable entropy.old) → EndsAt F.state R.state F.crash_image (E.is_reliable first) (E.faults entropy.old) (E.faults entropy.new) keys.now script.now (Rose (K.faults sink.old) (K.faults sink.new) ⊎ K.is_full sink.new) (K.held sink.old) (K.held sink.new) run result }
 {
     let mut run = run;
     while run.at < script.all_steps().len() {
@@ -84,7 +86,7 @@ fn do_acts<K: Sink, F: FileRig + Drop, R: CardRig + Drop, E: Entropy + Drop>(
             Err(end) => return end,
         }
     }
-    finish(script, keys, run, sink)
+    finish(script, keys, run, sink, &*entropy)
 }
 
 /// Opens the bench, runs the steps of a script on it, and writes their text.
@@ -98,7 +100,7 @@ pub(crate) fn run_script<K: Sink, F: FileRig + Drop, R: CardRig + Drop, E: Entro
 ) -> RunEnd<F, R>
     requires sound { IsSound script.now }
     requires whole { vec_len bench.files ≡ 273 }
-    ensures ran { RunsScript F.state R.state F.crash_image (E.faults entropy.old) (E.faults entropy.new) keys.now script.now (Rose (K.faults sink.old) (K.faults sink.new) ⊎ K.is_full sink.new) (K.held sink.old) (K.held sink.new)
+    ensures ran { RunsScript F.state R.state F.crash_image (E.is_reliable entropy.old) (E.faults entropy.old) (E.faults entropy.new) keys.now script.now (Rose (K.faults sink.old) (K.faults sink.new) ⊎ K.is_full sink.new) (K.held sink.old) (K.held sink.new)
         (bench_state F.state R.state bench) (bench_state F.state R.state result.bench) result.status }
     ensures whole { vec_len result.bench.files ≡ 273 }
 {

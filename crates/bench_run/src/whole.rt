@@ -74,7 +74,7 @@ fn run_source<S: Source, K: Sink, F: FileRig + Drop, R: CardRig + Drop, E: Entro
           sink_failed = Rose (K.faults sink.old) (K.faults sink.new);
           sink_full = K.is_full sink.new;
         }) true t result.status
-        × EndsBench F.state R.state F.crash_image (E.faults entropy.old) (E.faults entropy.new) keys.now t (bench_state F.state R.state bench) (bench_state F.state R.state result.bench) result.status }
+        × EndsBench F.state R.state F.crash_image (E.is_reliable entropy.old) (E.faults entropy.old) (E.faults entropy.new) keys.now t (bench_state F.state R.state bench) (bench_state F.state R.state result.bench) result.status }
     ensures whole { vec_len result.bench.files ≡ 273 }
 {
     let text = match read_text(alloc, source) {
@@ -112,7 +112,7 @@ pub fn run<S: Source, K: Sink, F: FileRig + Drop, R: CardRig + Drop, E: Entropy 
           sink_failed = Rose (K.faults sink.old) (K.faults sink.new);
           sink_full = K.is_full sink.new;
         }) (is_run_form (map string_bytes words.now)) result.status t
-        × EndsBench F.state R.state F.crash_image (E.faults entropy.old) (E.faults entropy.new) keys.now t (bench_state F.state R.state bench) (bench_state F.state R.state result.bench) result.status }
+        × EndsBench F.state R.state F.crash_image (E.is_reliable entropy.old) (E.faults entropy.old) (E.faults entropy.new) keys.now t (bench_state F.state R.state bench) (bench_state F.state R.state result.bench) result.status }
 
     // Usage comes exactly where the words are not the one word `run`.
     ensures usage { (result.status ≡ Status.Usage) ↔ (is_run_form (map string_bytes words.now) ≡ false) }

@@ -89,6 +89,7 @@ fn settle_for<F: StoreFile + Drop, R: RpmbPort + Drop, L: StoreName, E: Entropy>
         L.store call answer gate.old gate.new session.old session.new) }
     ensures counted { E.faults session.old.entropy ≤ E.faults session.new.entropy }
     ensures reliable { E.is_reliable session.old.entropy → E.is_reliable session.new.entropy }
+    ensures still { E.is_reliable session.old.entropy → E.faults session.new.entropy ≡ E.faults session.old.entropy }
 {
     match settle(gate, session) {
         Ok(()) => None,
@@ -110,6 +111,7 @@ fn answer_early<F: StoreFile + Drop, R: RpmbPort + Drop, L: StoreName, E: Entrop
     ensures room { IfOk result (λ answer. IsNone answer → 1 ≤ gate.new.journal.spare) }
     ensures counted { E.faults session.old.entropy ≤ E.faults session.new.entropy }
     ensures reliable { E.is_reliable session.old.entropy → E.is_reliable session.new.entropy }
+    ensures still { E.is_reliable session.old.entropy → E.faults session.new.entropy ≡ E.faults session.old.entropy }
 {
     if gate.doubt().is_none() {
         let Ok(()) = settle(gate, session) else {
@@ -144,6 +146,7 @@ pub fn answer_alone<F: StoreFile + Drop, R: RpmbPort + Drop, L: StoreName, E: En
     ensures left { IfOk result (λ answer. IsNone answer → is_on_object call.now ≡ true) }
     ensures counted { E.faults session.old.entropy ≤ E.faults session.new.entropy }
     ensures reliable { E.is_reliable session.old.entropy → E.is_reliable session.new.entropy }
+    ensures still { E.is_reliable session.old.entropy → E.faults session.new.entropy ≡ E.faults session.old.entropy }
 {
     gate.show(None, session);
     if let Some(answer) = answer_early(alloc, gate, session, call)? {

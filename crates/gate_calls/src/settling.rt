@@ -20,6 +20,7 @@ fn draw_nonce<E: Entropy>(entropy: &mut E) -> Result<[u8; 16], Cause>
     ensures reliable { E.is_reliable entropy.old → IsOk result × E.is_reliable entropy.new }
     ensures cause { DrawnCause (E.faults entropy.old) (E.faults entropy.new) result }
     ensures counted { E.faults entropy.old ≤ E.faults entropy.new }
+    ensures still { E.is_reliable entropy.old → E.faults entropy.new ≡ E.faults entropy.old }
 {
     let mut nonce = [0; 16];
     match entropy.draw(&mut nonce) {
@@ -68,6 +69,8 @@ pub fn settle<F: StoreFile + Drop, R: RpmbPort + Drop, L: StoreName, E: Entropy>
     ensures made { session.new.made ≡ session.old.made }
     ensures counted { E.faults session.old.entropy ≤ E.faults session.new.entropy }
     ensures reliable { E.is_reliable session.old.entropy → E.is_reliable session.new.entropy }
+    // A generator that never fails counts no fault.
+    ensures still { E.is_reliable session.old.entropy → E.faults session.new.entropy ≡ E.faults session.old.entropy }
 {
     if gate.doubt().is_none() {
         return Ok(());

@@ -3,6 +3,7 @@
 ghost use Rattle.std.specs.Prelude.{◌≡◌, ◌≤◌, OnOk};
 ghost use Rattle.std.specs.Option.{option_map};
 ghost use Rattle.crash_core.specs.DirectoryLaws.{AreEntries};
+ghost use Rattle.store_commit.specs.Gates.{DoubtStands, gate_sides};
 ghost use Rattle.locked_gate.specs.KnownMachine.{KnowsMachine};
 
 use call_history::Journal;
@@ -78,6 +79,8 @@ impl<F: StoreFile + Drop, R: RpmbPort + Drop, L: StoreName> LockedGate<F, R, L> 
         ensures locked { IsLockedGate L.store self.now.gate self.now.journal.knows self.now.closing }
         ensures entries { AreEntries self.now.gate.dir.dir.entries }
         ensures machine { KnowsMachine L.store self.now.journal.knows self.now.gate.dir.dir.entries self.now.gate.open_handles }
+        // How directory and card stand to each other.
+        ensures stands { DoubtStands (gate_sides F.state R.state self.now.gate) self.now.gate.doubt }
     {
         self.gate.doubt()
     }

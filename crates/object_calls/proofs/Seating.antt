@@ -2,22 +2,23 @@
 use Rattle.std.proofs.Common.{◌≡◌, ◌+◌, ◌<◌, ◌≤◌, ℕ, List, [], length, get_or, Some, slice_index_or, refl, sym, ap, ◌∙◌, subst, inl, inr, arith}
 use Rattle.std.specs.Prelude.{slice_set}
 use Rattle.std.proofs.lemmas.Bool.{cases_eq}
-use Rattle.std.proofs.lemmas.List.{get_or-set_other, get_or-set_same, length-set}
+use Rattle.std.proofs.lemmas.List.{get_or-set_other, get_or-set_same, get_or_default, length-set}
 use Rattle.history_seats.specs.Views.{PassView, Sight}
 use Rattle.suppositions.specs.Stores.{Store}
 use Rattle.call_history.specs.Sessions.{CallerSession, IsCallerOf}
 use Rattle.call_history.proofs.ShownViews.{fresh_caller}
-use Rattle.object_calls.specs.Sessions.{AreSeated, AreUnseated, unseated}
+use Rattle.object_calls.specs.Sessions.{AreSeated, AreUnseated, DrawAlike, unseated}
 
 -- the sessions below that number are the store's, and the others are as they were
 pub record AreSeatedBelow {E : Type 0} (store : Store) (old : List (CallerSession E)) (count : ℕ) (new : List (CallerSession E)) : Type 0 where
   pub many : length new ≡ length old
   pub each : (i : ℕ) (d : CallerSession E) → i < count → IsCallerOf store (slice_index_or new i d) × ((slice_index_or new i d).number ≡ i)
   pub others : (i : ℕ) (d : CallerSession E) → count ≤ i → slice_index_or new i d ≡ slice_index_or old i d
+  pub draw : DrawAlike old new
 
 module _ {E : Type 0} (store : Store) (old : List (CallerSession E)) where
   pub none_seated : AreSeatedBelow store old 0 old
-  none_seated = record { many = refl; each = λ i d within. absurd (omega (arith, within)); others = λ i d from. refl }
+  none_seated = record { many = refl; each = λ i d within. absurd (omega (arith, within)); others = λ i d from. refl; draw = λ i d. refl }
 
   -- one more session has its seat
   pub one_seated : (count : ℕ) (new after : List (CallerSession E)) (pass : Sight PassView) (session : CallerSession E) → AreSeatedBelow store old count new → count < length old
@@ -39,6 +40,17 @@ module _ {E : Type 0} (store : Store) (old : List (CallerSession E)) where
     others = λ i d from.
         ap (λ (l : List (CallerSession E)). get_or l i d) after_is ∙ get_or-set_other new count i (record session { pass = Some pass }) d (λ same. omega (arith, from, same))
         ∙ s.others i d (omega (arith, from));
+    draw = λ i d. elim (cases_eq i count) [
+      | inl here ↦
+          ap (λ (l : List (CallerSession E)). (get_or l i d).entropy) after_is
+          ∙ ap (λ (k : ℕ). (get_or (slice_set new count (record session { pass = Some pass })) k d).entropy) here
+          ∙ ap (λ (x : CallerSession E). x.entropy) (get_or-set_same new count (record session { pass = Some pass }) d (omega (arith, within, s.many)))
+          ∙ ap (λ (x : CallerSession E). x.entropy) (is ∙ s.others count session (omega arith) ∙ get_or_default old count session d within)
+          ∙ ap (λ (k : ℕ). (slice_index_or old k d).entropy) (sym here)
+      | inr other ↦
+          ap (λ (l : List (CallerSession E)). (get_or l i d).entropy) after_is
+          ∙ ap (λ (x : CallerSession E). x.entropy) (get_or-set_other new count i (record session { pass = Some pass }) d other) ∙ s.draw i d
+    ];
   }
     where
       as_new : session ≡ unseated count (slice_index_or store.mounted.applications count []) session.entropy

@@ -2,10 +2,11 @@
 use Rattle.std.specs.Prelude.{None, Option, Some, ℕ, ◌≡◌}
 use Rattle.call_history.specs.Sessions.{CallerSession}
 use Rattle.disk_model.specs.State.{FileState}
+use Rattle.hmac_keys.specs.KeyTable.{rpmb_key}
 use Rattle.object_calls.specs.Services.{ServiceValue}
 use Rattle.rpmb_card.specs.Port.{PortState}
 use Rattle.served_calls.specs.Answered.{GoesOnWithout, IsAnswered}
-use Rattle.served_calls.specs.Devices.{CountsGrow}
+use Rattle.served_calls.specs.Devices.{DevicesGoOn}
 use Rattle.served_calls.specs.Standing.{Serving, devices_in}
 use Rattle.suppositions.specs.Stores.{Store}
 use Rattle.tee_types.specs.declared.call.Call.{Call}
@@ -22,8 +23,8 @@ module _ {F R E : Type 0} (of_file : F → FileState) (of_port : R → PortState
   AnswersAt store old new call (Some place) reply = IsAnswered of_file of_port draws store old new call (record { place = place; reply = reply })
   AnswersAt store old new call None reply = (reply ≡ NoMemory) × GoesOnWithout store old.gate new.gate old.session new.session
 
-  -- What a call leaves of the service and of its session. No count of faults falls.
+  -- What a call leaves of the service, of its devices and of its session.
   pub record AnswersCall (store : Store) (old new : ServiceValue F R) (was now : CallerSession E) (call : Call) (place : Option ℕ) (reply : Reply) : Type 0 where
     pub at : AnswersAt store (serving old was) (serving new now) call place reply
-    pub grow : CountsGrow (devices_in of_file of_port draws (serving old was)) (devices_in of_file of_port draws (serving new now))
+    pub devices : DevicesGoOn (rpmb_key store.keys.huk) (devices_in of_file of_port draws (serving old was)) (devices_in of_file of_port draws (serving new now))
     pub storage_key : new.storage_key ≡ old.storage_key

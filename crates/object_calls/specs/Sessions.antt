@@ -30,3 +30,7 @@ pub record AreSeated {E : Type 0} (store : Store) (sessions : List (CallerSessio
   pub many : length sessions ≡ length store.mounted.applications
   pub each : AreCallers store sessions
   pub numbered : (i : ℕ) (d : CallerSession E) → i < length sessions → (slice_index_or sessions i d).number ≡ i
+
+-- each session draws from what it drew from
+abbrev pub DrawAlike : {E : Type 0} → (was now : List (CallerSession E)) → Type 0
+DrawAlike {E} was now = (i : ℕ) (d : CallerSession E) → (slice_index_or now i d).entropy ≡ (slice_index_or was i d).entropy

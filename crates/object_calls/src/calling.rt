@@ -1,5 +1,6 @@
 //! How a served store answers a call.
 
+ghost use Rattle.std.specs.Prelude.{◌≡◌};
 ghost use Rattle.call_history.specs.Sessions.{IsCallerOf};
 ghost use Rattle.object_calls.specs.Calling.{AnswersCall};
 
@@ -29,6 +30,8 @@ impl<F: StoreFile + Drop, R: RpmbPort + Drop, L: StoreName> Service<F, R, L> {
         requires { IsCallerOf L.store session.old }
         ensures answers { AnswersCall F.state R.state E.faults L.store self.old self.new session.old session.new call.now result.place result.reply }
         ensures reliable { E.is_reliable session.old.entropy → E.is_reliable session.new.entropy }
+        // A generator that never fails counts no fault.
+        ensures still { E.is_reliable session.old.entropy → E.faults session.new.entropy ≡ E.faults session.old.entropy }
     {
         match serve(
             self.alloc,

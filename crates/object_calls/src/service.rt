@@ -5,7 +5,7 @@ ghost use Rattle.std.specs.Vec.{vec_capacity};
 ghost use Rattle.object_calls.specs.OpenedStores.{IsStoreOf};
 ghost use Rattle.object_calls.specs.Serving.{ServesOpening};
 ghost use Rattle.object_calls.specs.Services.{IsService, ServiceValue};
-ghost use Rattle.object_calls.specs.Sessions.{AreSeated, AreUnseated};
+ghost use Rattle.object_calls.specs.Sessions.{AreSeated, AreUnseated, DrawAlike};
 
 use crate::bench::FILES;
 use crate::opening::Opening;
@@ -59,6 +59,7 @@ impl<F: StoreFile + Drop, R: RpmbPort + Drop> Opening<F, R> {
         requires sessions { AreUnseated self.applications sessions.old }
         ensures served { IfOk result (ServesOpening F.state L.store self) }
         ensures seated { OnOk result (AreSeated L.store sessions.new) }
+        ensures draw { OnOk result (DrawAlike sessions.old sessions.new) }
         ensures refused { IfErr result (λ opening. opening ≡ self) }
         ensures unseated { OnErr result (sessions.new ≡ sessions.old) }
     {

@@ -4,6 +4,7 @@ use Rattle.std.specs.Prelude.{slice_set}
 use Rattle.std.proofs.lemmas.Bool.{cases_eq, ne_eqb}
 use Rattle.std.proofs.lemmas.List.{get_or-set_other, get_or-set_same, get_or_default}
 use Rattle.disk_model.specs.State.{FileState}
+use Rattle.hmac_keys.specs.KeyTable.{rpmb_key}
 use Rattle.rpmb_card.specs.Port.{PortState}
 use Rattle.tee_types.specs.declared.call.Call.{Call}
 use Rattle.tee_types.specs.declared.reply.Device.{Device}
@@ -16,15 +17,17 @@ use Rattle.script_text.specs.declared.script.Step.TheVariants.{Call as CallStep}
 use Rattle.suppositions.specs.Stores.{Store}
 use Rattle.call_history.specs.Sessions.{CallerSession}
 use Rattle.served_calls.specs.Answered.{events_at, landing_events}
-use Rattle.served_calls.specs.Devices.{Devices, faults_of}
+use Rattle.served_calls.specs.Devices.{CountsGrow, Devices, DevicesGoOn, faults_of}
 use Rattle.served_calls.specs.Standing.{devices_in}
+use Rattle.served_calls.proofs.Counting.{counts_grow}
 use Rattle.object_calls.specs.Arming.{IsOnBench}
 use Rattle.object_calls.specs.Calling.{AnswersCall, serving}
 use Rattle.object_calls.specs.Services.{ServiceValue}
 use Rattle.object_calls.specs.Sessions.{AreSeated}
 use Rattle.phase_calls.specs.Counts.{Rise, counts_of, draws_of, told_of}
-use Rattle.phase_calls.specs.Making.{MakesCalls, faults_at}
+use Rattle.phase_calls.specs.Making.{MakesCalls, bench_devices, faults_at}
 use Rattle.phase_calls.specs.Steps.{steps_served}
+use Rattle.phase_calls.proofs.Cards.{TellsCard-call, TellsCard-landing}
 use Rattle.phase_calls.proofs.Seats.{seated_with}
 use Rattle.phase_calls.proofs.Tellings.{Rise-told_of}
 
@@ -79,6 +82,16 @@ module _ {F R E : Type 0} (of_file : F → FileState) (of_port : R → PortState
   abbrev Answered : Option ℕ → Type 0
   Answered place = AnswersCall of_file of_port draws store old new caller after call place reply
 
+  abbrev key : List ℕ
+  key = rpmb_key store.keys.huk
+
+  grows : DevicesGoOn key before behind → CountsGrow before behind
+  grows goes_on = counts_grow key before behind goes_on
+
+  -- but for the session's entropy, the devices are those of the bench
+  bench_goes_on : DevicesGoOn key before behind → DevicesGoOn key (bench_devices of_file of_port old) (bench_devices of_file of_port new)
+  bench_goes_on goes_on = record { dir = goes_on.dir; file = goes_on.file; card = goes_on.card; draws = inl refl }
+
   number_is : caller.number ≡ app
   number_is = seated.numbered app found within
 
@@ -109,11 +122,11 @@ module _ {F R E : Type 0} (of_file : F → FileState) (of_port : R → PortState
   ]
 
   -- the call was answered, and has its event
-  pub made_one : (place : ℕ) → Answered (Some place) → MakesCalls of_file of_port draws old new was now (CallStep app call ∷ [])
+  pub made_one : (place : ℕ) → Answered (Some place) → MakesCalls of_file of_port draws store old new was now (CallStep app call ∷ [])
   made_one place answered =
       let goes_on = answered.at.goes_on in
       let told : (device : Device) → Rise (faults_of before device) (faults_of behind device) (told_of device reply) =
-      λ device. Rise-told_of before behind device reply answered.at.accuses (answered.grow device) in
+      λ device. Rise-told_of key before behind device reply answered.at.accuses (grows answered.devices device) in
       record {
         added = added_by app caller.made call reply goes_on.mark goes_on.landed;
         events = goes_on.events
@@ -126,11 +139,13 @@ module _ {F R E : Type 0} (of_file : F → FileState) (of_port : R → PortState
         drawn = λ session d below.
             subst (Rise (draws (get_or was session d).entropy) (draws (get_or now session d).entropy)) (sym (draws_of-call app caller.made call reply goes_on.mark session goes_on.landed))
             (drew (told_of Entropy reply) (told Entropy) session d);
+        devices = bench_goes_on answered.devices;
+        card = TellsCard-call key before behind goes_on.landed app caller.made call reply goes_on.mark answered.at.accuses answered.at.costs;
         storage_key = answered.storage_key;
       }
 
   -- memory ran out, and the call has none
-  pub made_none : Answered None → MakesCalls of_file of_port draws old new was now []
+  pub made_none : Answered None → MakesCalls of_file of_port draws store old new was now []
   made_none answered =
       let goes_on = answered.at.1 in
       record {
@@ -139,10 +154,12 @@ module _ {F R E : Type 0} (of_file : F → FileState) (of_port : R → PortState
         served = steps_served-landing goes_on.landed;
         counted = λ device on.
             subst (Rise (faults_at of_file of_port draws old device) (faults_at of_file of_port draws new device)) (sym (counts_of-landing device goes_on.landed))
-            (on_bench device on [] (answered.grow device));
+            (on_bench device on [] (grows answered.devices device));
         drawn = λ session d below.
             subst (Rise (draws (get_or was session d).entropy) (draws (get_or now session d).entropy)) (sym (draws_of-landing session goes_on.landed))
             (drew_none session d);
+        devices = bench_goes_on answered.devices;
+        card = TellsCard-landing key (of_port old.gate.gate.host.port) goes_on.landed;
         storage_key = answered.storage_key;
       }
     where
@@ -153,7 +170,7 @@ module _ {F R E : Type 0} (of_file : F → FileState) (of_port : R → PortState
       drew_none : (session : ℕ) (d : CallerSession E) → Rise (draws (get_or was session d).entropy) (draws (get_or now session d).entropy) []
       drew_none session d =
           subst (Rise (draws (get_or was session d).entropy) (draws (get_or now session d).entropy)) (either_way (app == session) [])
-          (drew [] (answered.grow Entropy) session d)
+          (drew [] (grows answered.devices Entropy) session d)
 
   pub seated_behind : (place : Option ℕ) → Answered place → AreSeated store now
   seated_behind (Some place) answered =

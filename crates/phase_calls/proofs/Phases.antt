@@ -3,22 +3,28 @@ use Rattle.std.proofs.Common.{◌≡◌, ◌<◌, ◌+◌, ℕ, List, [], ◌∷
 use Rattle.std.proofs.lemmas.List.{take_more, append-nil}
 use Rattle.disk_model.specs.State.{FileState}
 use Rattle.rpmb_card.specs.Port.{PortState}
+use Rattle.hmac_keys.specs.KeyTable.{rpmb_key}
+use Rattle.suppositions.specs.Stores.{Store}
+use Rattle.served_calls.proofs.Counting.{devices_go_on_none, devices_go_on_then}
 use Rattle.tee_types.specs.declared.reply.Device.{Device}
+use Rattle.tee_types.specs.declared.reply.Device.TheVariants.{Card}
 use Rattle.store_model.specs.declared.event.Event.{Event}
 use Rattle.script_text.specs.declared.script.Step.{Step}
 use Rattle.call_history.specs.Sessions.{CallerSession}
 use Rattle.served_calls.specs.Answered.{events_at}
 use Rattle.object_calls.specs.Arming.{IsOnBench}
 use Rattle.object_calls.specs.Services.{ServiceValue}
+use Rattle.phase_calls.specs.Cards.{TellsCard}
 use Rattle.phase_calls.specs.Counts.{Rise, counts_of, draws_of}
-use Rattle.phase_calls.specs.Making.{MakesCalls, MakesFront, faults_at}
+use Rattle.phase_calls.specs.Making.{MakesCalls, MakesFront, bench_devices, faults_at}
 use Rattle.phase_calls.specs.Steps.{ServesSteps, steps_served}
+use Rattle.phase_calls.proofs.Cards.{TellsCard-append, TellsCard-none}
 use Rattle.phase_calls.proofs.Rises.{Rise-append}
 use Rattle.phase_calls.proofs.ServedSteps.{counts_of-append, draws_of-append, events_in_order_serve, steps_served-append}
 
-module _ {F R E : Type 0} (of_file : F → FileState) (of_port : R → PortState) (draws : E → ℕ) where
+module _ {F R E : Type 0} (of_file : F → FileState) (of_port : R → PortState) (draws : E → ℕ) (store : Store) where
   abbrev Makes : (old new : ServiceValue F R) → (was now : List (CallerSession E)) → List Step → Type 0
-  Makes old new was now calls = MakesCalls of_file of_port draws old new was now calls
+  Makes old new was now calls = MakesCalls of_file of_port draws store old new was now calls
 
   pub makes_none : (s : ServiceValue F R) (sessions : List (CallerSession E)) → Makes s s sessions sessions []
   makes_none s sessions = record {
@@ -27,6 +33,8 @@ module _ {F R E : Type 0} (of_file : F → FileState) (of_port : R → PortState
     served = refl;
     counted = λ device on. inl refl;
     drawn = λ session d below. inl refl;
+    devices = devices_go_on_none (rpmb_key store.keys.huk) (bench_devices of_file of_port s);
+    card = TellsCard-none (rpmb_key store.keys.huk) (of_port s.gate.gate.host.port);
     storage_key = refl;
   }
 
@@ -42,6 +50,8 @@ module _ {F R E : Type 0} (of_file : F → FileState) (of_port : R → PortState
       drawn = λ session d below.
           subst (Rise (draws (get_or was session d).entropy) (draws (get_or now session d).entropy)) (sym (draws_of-append session a.added b.added))
           (Rise-append _ _ _ (draws_of session a.added) (draws_of session b.added) (a.drawn session d below) (b.drawn session d (subst (λ n. session < n) (sym many) below)));
+      devices = devices_go_on_then (rpmb_key store.keys.huk) (bench_devices of_file of_port old) (bench_devices of_file of_port between) (bench_devices of_file of_port new) a.devices b.devices;
+      card = TellsCard-append (rpmb_key store.keys.huk) (of_port old.gate.gate.host.port) (of_port between.gate.gate.host.port) a.added b.added a.devices.card (a.counted Card tt) a.card b.card;
       storage_key = b.storage_key ∙ a.storage_key;
     }
 
@@ -54,7 +64,7 @@ module _ {F R E : Type 0} (of_file : F → FileState) (of_port : R → PortState
 
     -- memory ran out in the next of them
     pub makes_front : (calls : List Step) (index : ℕ) → index < length calls → length middle ≡ length was
-        → Makes old between was middle (take index calls) → Makes between new middle now [] → MakesFront of_file of_port draws old new was now calls
+        → Makes old between was middle (take index calls) → Makes between new middle now [] → MakesFront of_file of_port draws store old new was now calls
     makes_front calls index below many a b =
         (index, below, subst (Makes old new was now) (append-nil (take index calls)) (makes_then (take index calls) [] many a b))
 
@@ -71,6 +81,9 @@ module _ {F R E : Type 0} (of_file : F → FileState) (of_port : R → PortState
         → Rise (draws (get_or was session d).entropy) (draws (get_or now session d).entropy) (draws_of session (events_at new.gate))
     drawn_in_all session d below =
         subst (λ events. Rise (draws (get_or was session d).entropy) (draws (get_or now session d).entropy) (draws_of session events)) (sym all_added) (made.drawn session d below)
+
+    pub card_in_all : TellsCard (rpmb_key store.keys.huk) (of_port old.gate.gate.host.port) (events_at new.gate)
+    card_in_all = subst (TellsCard (rpmb_key store.keys.huk) (of_port old.gate.gate.host.port)) (sym all_added) made.card
 
     pub serves_made : ServesSteps calls (events_at new.gate)
     serves_made = events_in_order_serve calls (events_at new.gate) (ap steps_served all_added ∙ made.served)

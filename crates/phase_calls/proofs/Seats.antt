@@ -1,5 +1,5 @@
 -- The sessions of a store behind a call of one of them.
-use Rattle.std.proofs.Common.{◌≡◌, ◌<◌, ℕ, List, length, get_or, sym, ◌∙◌, subst, inl, inr}
+use Rattle.std.proofs.Common.{◌≡◌, ◌<◌, ℕ, List, length, get_or, refl, sym, ap, ◌∙◌, subst, inl, inr}
 use Rattle.std.specs.Prelude.{slice_set}
 use Rattle.std.proofs.lemmas.Bool.{cases_eq}
 use Rattle.std.proofs.lemmas.List.{get_or-set_other, get_or-set_same, get_or_default, length-set}
@@ -25,21 +25,27 @@ module _ {E : Type 0} (was : List (CallerSession E)) (app : ℕ) (within : app <
         numbered = λ i d below. each_with (λ k s. s.number ≡ k) number seated.numbered i d (subst (λ n. i < n) many below);
       }
 
-  pub reliable_with : (is_reliable : E → Type 0) (found : CallerSession E) → (is_reliable (get_or was app found).entropy → is_reliable after.entropy)
-      → StayReliable is_reliable was (slice_set was app after)
-  reliable_with is_reliable found lasts session d below = elim (cases_eq session app) [
-    | inl same ↦ λ reliable.
-        let before : is_reliable (get_or was app found).entropy =
-        subst (λ (s : CallerSession E). is_reliable s.entropy) (get_or_default was app d found within) (subst (λ k. is_reliable (get_or was k d).entropy) same reliable) in
-        subst (λ k. is_reliable (get_or (slice_set was app after) k d).entropy) (sym same)
-        (subst (λ (s : CallerSession E). is_reliable s.entropy) (sym (get_or-set_same was app after d within)) (lasts before))
-    | inr other ↦ subst (λ (s : CallerSession E). is_reliable s.entropy) (sym (get_or-set_other was app session after d other))
+  -- the caller's entropy may have changed, and every other session is as it was
+  pub reliable_with : (is_reliable : E → Type 0) (draws : E → ℕ) (found : CallerSession E) → (is_reliable (get_or was app found).entropy → is_reliable after.entropy)
+      → (is_reliable (get_or was app found).entropy → draws after.entropy ≡ draws (get_or was app found).entropy) → StayReliable is_reliable draws was (slice_set was app after)
+  reliable_with is_reliable draws found lasts still session d below = elim (cases_eq session app) [
+    | inl same ↦
+        let first : get_or was session d ≡ get_or was app found = ap (λ k. get_or was k d) same ∙ get_or_default was app d found within in
+        let last : get_or (slice_set was app after) session d ≡ after = ap (λ k. get_or (slice_set was app after) k d) same ∙ get_or-set_same was app after d within in
+        subst (λ (s : CallerSession E). is_reliable s.entropy → is_reliable (get_or (slice_set was app after) session d).entropy × (draws (get_or (slice_set was app after) session d).entropy ≡ draws s.entropy)) (sym first)
+        (subst (λ (s : CallerSession E). is_reliable (get_or was app found).entropy → is_reliable s.entropy × (draws s.entropy ≡ draws (get_or was app found).entropy)) (sym last)
+        (λ reliable. (lasts reliable, still reliable)))
+    | inr other ↦
+        subst (λ (s : CallerSession E). is_reliable (get_or was session d).entropy → is_reliable s.entropy × (draws s.entropy ≡ draws (get_or was session d).entropy))
+        (sym (get_or-set_other was app session after d other)) (λ reliable. (reliable, refl))
   ]
 
-pub StayReliable-none : {E : Type 0} (is_reliable : E → Type 0) (sessions : List (CallerSession E)) → StayReliable is_reliable sessions sessions
-StayReliable-none is_reliable sessions session d below reliable = reliable
+pub StayReliable-none : {E : Type 0} (is_reliable : E → Type 0) (draws : E → ℕ) (sessions : List (CallerSession E)) → StayReliable is_reliable draws sessions sessions
+StayReliable-none is_reliable draws sessions session d below reliable = (reliable, refl)
 
-pub StayReliable-then : {E : Type 0} (is_reliable : E → Type 0) (was between now : List (CallerSession E)) → length between ≡ length was
-    → StayReliable is_reliable was between → StayReliable is_reliable between now → StayReliable is_reliable was now
-StayReliable-then is_reliable was between now many first then session d below reliable =
-    then session d (subst (λ n. session < n) (sym many) below) (first session d below reliable)
+pub StayReliable-then : {E : Type 0} (is_reliable : E → Type 0) (draws : E → ℕ) (was between now : List (CallerSession E)) → length between ≡ length was
+    → StayReliable is_reliable draws was between → StayReliable is_reliable draws between now → StayReliable is_reliable draws was now
+StayReliable-then is_reliable draws was between now many first then session d below reliable =
+    let middle = first session d below reliable in
+    let last = then session d (subst (λ n. session < n) (sym many) below) middle.0 in
+    (last.0, last.1 ∙ middle.1)

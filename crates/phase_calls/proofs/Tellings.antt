@@ -18,7 +18,7 @@ same_device-is Card Card same = refl
 same_device-is Entropy Entropy same = refl
 same_device-is m n same = absurd (false≢true same)
 
-module _ (old new : Devices) (device : Device) where
+module _ (key : List ℕ) (old new : Devices) (device : Device) where
   abbrev RiseBy : List ℕ → Type 0
   RiseBy counts = Rise (faults_of old device) (faults_of new device) counts
 
@@ -30,6 +30,6 @@ module _ (old new : Devices) (device : Device) where
   accused other count false same told grows = grows
 
   -- the device counted what the reply carries for it
-  pub Rise-told_of : (reply : Reply) → AccusesRightly old new reply → Grows (faults_of old device) (faults_of new device) → RiseBy (told_of device reply)
+  pub Rise-told_of : (reply : Reply) → AccusesRightly key old new reply → Grows (faults_of old device) (faults_of new device) → RiseBy (told_of device reply)
   Rise-told_of (NotAvailable (Fault other count)) told grows = accused other count (same_device device other) refl told grows
   Rise-told_of reply told grows = grows

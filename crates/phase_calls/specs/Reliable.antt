@@ -1,9 +1,9 @@
 -- The entropy of sessions that never fails.
-use Rattle.std.specs.Prelude.{ℕ, ◌<◌, List, length, slice_index_or}
+use Rattle.std.specs.Prelude.{ℕ, ◌≡◌, ◌<◌, List, length, slice_index_or}
 use Rattle.call_history.specs.Sessions.{CallerSession}
 
--- each session's entropy that never fails still never does
-abbrev pub StayReliable : {E : Type 0} → (E → Type 0) → (was now : List (CallerSession E)) → Type 0
-StayReliable {E} is_reliable was now =
-    (session : ℕ) (d : CallerSession E) → session < length was
-    → is_reliable (slice_index_or was session d).entropy → is_reliable (slice_index_or now session d).entropy
+-- Each session's entropy that never fails still never does, and counts no fault.
+abbrev pub StayReliable : {E : Type 0} → (is_reliable : E → Type 0) → (draws : E → ℕ) → (was now : List (CallerSession E)) → Type 0
+StayReliable {E} is_reliable draws was now =
+    (session : ℕ) (d : CallerSession E) → session < length was → is_reliable (slice_index_or was session d).entropy
+    → is_reliable (slice_index_or now session d).entropy × (draws (slice_index_or now session d).entropy ≡ draws (slice_index_or was session d).entropy)

@@ -26,10 +26,10 @@ fn make_call<F: StoreFile + Drop, R: RpmbPort + Drop, E: Entropy + Drop, L: Stor
 ) -> Result<(), NoMemory>
     requires sessions { AreSeated L.store sessions.old }
     requires app { app < length sessions.old }
-    ensures made { OnOk result (MakesCalls F.state R.state E.faults service.old service.new sessions.old sessions.new (CallStep app call.now ∷ [])) }
-    ensures stopped { OnErr result (MakesCalls F.state R.state E.faults service.old service.new sessions.old sessions.new []) }
+    ensures made { OnOk result (MakesCalls F.state R.state E.faults L.store service.old service.new sessions.old sessions.new (CallStep app call.now ∷ [])) }
+    ensures stopped { OnErr result (MakesCalls F.state R.state E.faults L.store service.old service.new sessions.old sessions.new []) }
     ensures sessions { AreSeated L.store sessions.new }
-    ensures reliable { StayReliable E.is_reliable sessions.old sessions.new }
+    ensures reliable { StayReliable E.is_reliable E.faults sessions.old sessions.new }
 {
     let answer = service.call(&mut sessions[app as usize], call);
     match answer.place {
@@ -47,10 +47,10 @@ fn make_step<F: StoreFile + Drop, R: RpmbPort + Drop, E: Entropy + Drop, L: Stor
     requires sessions { AreSeated L.store sessions.old }
     requires call { is_call step.now ≡ true }
     requires placed { IsPlaced (length sessions.old) step.now }
-    ensures made { OnOk result (MakesCalls F.state R.state E.faults service.old service.new sessions.old sessions.new (step.now ∷ [])) }
-    ensures stopped { OnErr result (MakesCalls F.state R.state E.faults service.old service.new sessions.old sessions.new []) }
+    ensures made { OnOk result (MakesCalls F.state R.state E.faults L.store service.old service.new sessions.old sessions.new (step.now ∷ [])) }
+    ensures stopped { OnErr result (MakesCalls F.state R.state E.faults L.store service.old service.new sessions.old sessions.new []) }
     ensures sessions { AreSeated L.store sessions.new }
-    ensures reliable { StayReliable E.is_reliable sessions.old sessions.new }
+    ensures reliable { StayReliable E.is_reliable E.faults sessions.old sessions.new }
 {
     match step {
         Step::Call { app, call } => make_call(service, sessions, *app, call),
@@ -72,11 +72,11 @@ pub fn make_calls<F: StoreFile + Drop, R: RpmbPort + Drop, E: Entropy + Drop, L:
 ) -> Result<(), NoMemory>
     requires sessions { AreSeated L.store sessions.old }
     requires calls { AreCalls (length sessions.old) calls.now }
-    ensures made { OnOk result (MakesCalls F.state R.state E.faults service.old service.new sessions.old sessions.new calls.now) }
+    ensures made { OnOk result (MakesCalls F.state R.state E.faults L.store service.old service.new sessions.old sessions.new calls.now) }
     ensures serves { OnOk result (events_at service.old.gate ≡ [] → ServesSteps calls.now (events_at service.new.gate)) }
-    ensures stopped { OnErr result (MakesFront F.state R.state E.faults service.old service.new sessions.old sessions.new calls.now) }
+    ensures stopped { OnErr result (MakesFront F.state R.state E.faults L.store service.old service.new sessions.old sessions.new calls.now) }
     ensures sessions { AreSeated L.store sessions.new }
-    ensures reliable { StayReliable E.is_reliable sessions.old sessions.new }
+    ensures reliable { StayReliable E.is_reliable E.faults sessions.old sessions.new }
 {
     for step in calls {
         make_step(service, sessions, step)?;

@@ -8,11 +8,13 @@ use Rattle.locked_gate.specs.declared.answered.Answer.{Answer}
 use Rattle.locked_gate.specs.Ends.{mark_told, reply_told}
 use Rattle.locked_gate.specs.LockedGates.{LockedGateValue}
 use Rattle.object_commits.specs.Bringing.{IsCommitted}
+use Rattle.rpmb_card.specs.Card.{CardState}
 use Rattle.rpmb_card.specs.Port.{PortState}
-use Rattle.store_commit.specs.Causes.{Counted, counts}
+use Rattle.rpmb_host.specs.Honest.{HadCard, HasCard}
+use Rattle.store_commit.specs.Causes.{CauseStands, Counted, EndCause, NoCard, counts}
 use Rattle.store_commit.specs.Changes.{change_of}
 use Rattle.store_commit.specs.Counts.{CauseCounts, DoubtCounts, EndCounts, RoseAlone}
-use Rattle.store_commit.specs.Gates.{GateValue, LeavesHolds, file_in_doubt}
+use Rattle.store_commit.specs.Gates.{GateValue, LeavesHolds, file_in_doubt, gate_sides}
 use Rattle.crash_core.specs.EntryChanges.{file_put}
 use Rattle.store_commit.specs.Holds.{EndsHold, file_held, unless_file}
 use Rattle.store_commit.specs.declared.change.CommitEnd.{CommitEnd}
@@ -30,10 +32,12 @@ use Rattle.tee_types.specs.declared.reply.Reply.{Reply}
 use Rattle.tee_types.specs.declared.reply.Reply.TheVariants.{NotAvailable}
 use Rattle.object_slots.specs.Value.{SlotValue}
 use Rattle.served_calls.specs.Appended.{AppendsCall}
-use Rattle.served_calls.specs.Devices.{AccusesRightly, Devices, devices_of}
+use Rattle.served_calls.specs.Devices.{AccusesRightly, CostsDoubt, Devices, TellsNoCard, devices_of}
 use Rattle.served_calls.specs.Held.{HoldsForDoubt}
-use Rattle.served_calls.proofs.Counting.{GateGrows, end_grows}
-use Rattle.served_calls.proofs.ToldCalls.{GatesGrow}
+use Rattle.served_calls.specs.Ready.{KnowsCard}
+use Rattle.served_calls.proofs.Cards.{no_card_told, steps_told}
+use Rattle.served_calls.proofs.Counting.{GateGrows, end_grows, end_still}
+use Rattle.served_calls.proofs.ToldCalls.{GatesGoOn}
 
 -- The event.
 module _ {F R E : Type 0} (of_file : F → FileState) (of_port : R → PortState) (draws : E → ℕ) (store : Store) (old new : LockedGateValue F R) (file : ℕ) (was now : CallerSession E) (call : Call) (own : Reply)
@@ -55,52 +59,89 @@ module _ {F R E : Type 0} (of_file : F → FileState) (of_port : R → PortState
       some_number : (other : ℕ) → Some file ≡ Some other → file ≡ other
       some_number other e = cc
 
-  abbrev before : Counted
-  before = counts (of_file old.gate.dir.file) (of_port old.gate.host.port) (draws was.entropy)
+  pub committed_mark : committed_appends.mark ≡ mark_told c.end
+  unfolding committed_appends
+  committed_mark = refl
 
-  abbrev after : Counted
-  after = counts (of_file new.gate.dir.file) (of_port new.gate.host.port) (draws now.entropy)
-
-  pub committed_grows : GatesGrow of_file of_port draws old.gate new.gate was now
-  committed_grows =
-      let grows : GateGrows before after = end_grows before after c.end c.gate.counts_are in
-      record { dir = grows.dir; card = grows.card; drawn = grows.draws }
-
--- A reply to it accuses no device but one whose count rose: those of the gate and of the session.
-module _ {F R E : Type 0} (of_file : F → FileState) (of_port : R → PortState) (draws : E → ℕ) (old new : LockedGateValue F R) (from to : List SlotValue) (was now : CallerSession E) where
-  abbrev d0 : Devices
-  d0 = devices_of of_file of_port old.gate from (draws was.entropy)
-
-  abbrev d1 : Devices
-  d1 = devices_of of_file of_port new.gate to (draws now.entropy)
-
+-- What it leaves of the devices.
+module _ {F R E : Type 0} (of_file : F → FileState) (of_port : R → PortState) (draws : E → ℕ) (store : Store) (old new : LockedGateValue F R) (file : ℕ) (was now : CallerSession E) (call : Call) (own : Reply)
+    (change : EntryChange) (Reliable : Type 0) (answer : Answer) (c : IsCommitted of_file of_port store old new file was now call own change Reliable (draws was.entropy) (draws now.entropy) answer) where
   abbrev c0 : Counted
   c0 = counts (of_file old.gate.dir.file) (of_port old.gate.host.port) (draws was.entropy)
 
   abbrev c1 : Counted
   c1 = counts (of_file new.gate.dir.file) (of_port new.gate.host.port) (draws now.entropy)
 
-  rose_accuses : (device : Device) (count : ℕ) → RoseAlone c0 c1 device count → AccusesRightly d0 d1 (NotAvailable (Fault device count))
+  -- where no generator that never fails was used, its count stands still
+  pub committed_still : Reliable → draws now.entropy ≡ draws was.entropy
+  committed_still reliable = end_still c0 c1 c.end (c.gate.drawn reliable) c.gate.counts_are
+
+  module _ (key : List ℕ) (known : KnowsCard (of_port old.gate.host.port) old.gate.host.key key old.gate.counter) where
+    committed_told : (card : CardState) → HasCard (of_port old.gate.host.port) key card → HadCard (of_port new.gate.host.port) key
+    committed_told card has =
+        subst (HadCard (of_port new.gate.host.port)) (c.gate.throughout.key ∙ known.keyed)
+        (steps_told (gate_sides of_file of_port old.gate) (gate_sides of_file of_port new.gate) change c.end c.gate.steps card
+        (subst (λ (k : List ℕ). HasCard (of_port old.gate.host.port) k card) (sym known.keyed) has))
+
+    pub committed_goes_on : GatesGoOn of_file of_port draws key old.gate new.gate was now
+    committed_goes_on =
+        let grows : GateGrows c0 c1 = end_grows c0 c1 c.end c.gate.counts_are in
+        record {
+          dir = c.gate.throughout.keeps.goes_on;
+          card = record { told = committed_told; calm = λ is. (c.gate.calm is).0; counted = grows.card };
+          drawn = grows.draws;
+        }
+
+-- A reply to it accuses no device but one whose count rose: those of the gate and of the session. A frame, or a result of the card, is told
+-- where no card is that has the key.
+module _ {F R E : Type 0} (of_file : F → FileState) (of_port : R → PortState) (draws : E → ℕ) (old new : LockedGateValue F R) (from to : List SlotValue) (was now : CallerSession E)
+    (key : List ℕ) (known : KnowsCard (of_port old.gate.host.port) old.gate.host.key key old.gate.counter) where
+  abbrev d0 : Devices
+  d0 = devices_of of_file of_port old.gate from (draws was.entropy)
+
+  abbrev d1 : Devices
+  d1 = devices_of of_file of_port new.gate to (draws now.entropy)
+
+  abbrev b0 : Counted
+  b0 = counts (of_file old.gate.dir.file) (of_port old.gate.host.port) (draws was.entropy)
+
+  abbrev b1 : Counted
+  b1 = counts (of_file new.gate.dir.file) (of_port new.gate.host.port) (draws now.entropy)
+
+  rose_accuses : (device : Device) (count : ℕ) → RoseAlone b0 b1 device count → AccusesRightly key d0 d1 (NotAvailable (Fault device count))
   rose_accuses Dir count rose = (rose.0.rose, rose.0.carried)
   rose_accuses (File n) count rose = absurd rose
   rose_accuses Card count rose = (rose.0, rose.1)
   rose_accuses Entropy count rose = (rose.0, rose.1)
 
-  dropped_accuses : (cause : Cause) → CauseCounts c0 c1 cause → AccusesRightly d0 d1 (NotAvailable cause)
-  dropped_accuses (Fault device count) rose = rose_accuses device count rose
-  dropped_accuses (Frame fault) rose = tt
-  dropped_accuses (CardResult result) rose = tt
+  none_told : NoCard (of_port old.gate.host.port) old.gate.host.key old.gate.counter → TellsNoCard (of_port old.gate.host.port) key
+  none_told none =
+      no_card_told (of_port old.gate.host.port) key old.gate.counter known.counted
+      (subst (λ (k : List ℕ). NoCard (of_port old.gate.host.port) k old.gate.counter) known.keyed none)
 
-  doubted_accuses : (cause : Cause) → DoubtCounts c0 c1 cause → AccusesRightly d0 d1 (NotAvailable cause)
-  doubted_accuses (Fault device count) rose = rose_accuses device count rose
-  doubted_accuses (Frame fault) rose = tt
-  doubted_accuses (CardResult result) rose = tt
+  dropped_accuses : (cause : Cause) → CauseCounts b0 b1 cause → CauseStands old.gate.host.key old.gate.counter b0 b1 cause → AccusesRightly key d0 d1 (NotAvailable cause)
+  dropped_accuses (Fault device count) rose stands = rose_accuses device count rose
+  dropped_accuses (Frame fault) rose stands = none_told stands
+  dropped_accuses (CardResult result) rose stands = none_told stands
 
-  pub end_accuses : (end : CommitEnd) (own : Reply) → EndCounts c0 c1 end → AccusesRightly d0 d1 own → AccusesRightly d0 d1 (reply_told end own)
-  end_accuses (Made n) own rose accuses = accuses
-  end_accuses (Dropped cause) own rose accuses = dropped_accuses cause rose
-  end_accuses (Doubtful n cause) own rose accuses = doubted_accuses cause rose
-  end_accuses Spent own rose accuses = tt
+  doubted_accuses : (cause : Cause) → DoubtCounts b0 b1 cause → CauseStands old.gate.host.key old.gate.counter b0 b1 cause → AccusesRightly key d0 d1 (NotAvailable cause)
+  doubted_accuses (Fault device count) rose stands = rose_accuses device count rose
+  doubted_accuses (Frame fault) rose stands = none_told stands
+  doubted_accuses (CardResult result) rose stands = none_told stands
+
+  pub end_accuses : (end : CommitEnd) (own : Reply) → EndCounts b0 b1 end → EndCause old.gate.host.key old.gate.counter b0 b1 end → AccusesRightly key d0 d1 own
+      → AccusesRightly key d0 d1 (reply_told end own)
+  end_accuses (Made n) own rose cause accuses = accuses
+  end_accuses (Dropped why) own rose cause accuses = dropped_accuses why rose cause
+  end_accuses (Doubtful n why) own rose cause accuses = doubted_accuses why rose cause.0
+  end_accuses Spent own rose cause accuses = tt
+
+  -- a doubt cost two counts, where the card is told
+  pub end_costs : (end : CommitEnd) → EndCause old.gate.host.key old.gate.counter b0 b1 end → CostsDoubt key d0 d1 (mark_told end)
+  end_costs (Made n) cause = tt
+  end_costs (Dropped why) cause = tt
+  end_costs (Doubtful n why) cause = λ card has. cause.1 card (subst (λ (k : List ℕ). HasCard (of_port old.gate.host.port) k card) (sym known.keyed) has) (known.counted card has)
+  end_costs Spent cause = tt
 
 -- The files that are held behind it.
 pub not_some : (o : Option ℕ) → ((x : ℕ) → o ≡ Some x → ⊥) → o ≡ None

@@ -12,6 +12,7 @@ use Rattle.create_calls.specs.Unmade.{IsToldUnmade, UnmadeCause}
 use Rattle.disk_model.specs.Calls.{GoesOn as FileGoesOn}
 use Rattle.disk_model.specs.State.{FileState}
 use Rattle.history_seats.specs.Records.{HistoryRecord}
+use Rattle.hmac_keys.specs.KeyTable.{rpmb_key}
 use Rattle.history_seats.specs.Views.{GateView}
 use Rattle.locked_gate.specs.declared.answered.Answer.{Answer}
 use Rattle.locked_gate.specs.LockedGates.{LockedGateValue}
@@ -31,15 +32,15 @@ use Rattle.tee_types.specs.declared.reply.Device.TheVariants.{Card, Dir, Entropy
 use Rattle.tee_types.specs.declared.reply.Reply.{Reply}
 use Rattle.tee_types.specs.declared.reply.Reply.TheVariants.{CounterSpent, Handle, NotAvailable}
 use Rattle.served_calls.specs.Appended.{AppendsCall}
-use Rattle.served_calls.specs.Devices.{AccusesRightly, Devices, Grows}
+use Rattle.served_calls.specs.Devices.{AccusesRightly, CostsDoubt, Devices, Grows}
 use Rattle.served_calls.specs.Held.{HoldsForDoubt}
+use Rattle.served_calls.specs.Ready.{KnowsCard}
 use Rattle.served_calls.specs.Slots.{AreSlots}
 use Rattle.served_calls.specs.Standing.{ServesObject, Serving, devices_in}
 use Rattle.served_calls.proofs.ChangedCalls.{change_accuses}
-use Rattle.served_calls.proofs.CommittedCalls.{committed_appends, committed_grows, end_accuses, unheld}
-use Rattle.served_calls.proofs.Counting.{grows_le}
+use Rattle.served_calls.proofs.CommittedCalls.{committed_appends, committed_goes_on, committed_mark, committed_still, end_accuses, end_costs, unheld}
 use Rattle.served_calls.proofs.HeldFiles.{IsHeldAlone, committed_holds, quiet_given, reserved_alone}
-use Rattle.served_calls.proofs.ToldCalls.{GatesGrow, is_object_file, none_appended, serves_err, serves_ok}
+use Rattle.served_calls.proofs.ToldCalls.{GatesGoOn, is_object_file, none_appended, quiet_goes_on, same_gate, serves_err, serves_ok}
 
 -- the gate once the session holds that file
 abbrev pub reserved : {F R : Type 0} → (session file : ℕ) → LockedGateValue F R → LockedGateValue F R
@@ -70,10 +71,20 @@ unmade_drawn counter file old new Reliable drew draws (NotAvailable (CardResult 
 unmade_drawn counter file old new Reliable drew draws (CounterSpent last) cause = inl cause.3
 unmade_drawn counter file old new Reliable drew draws reply cause = absurd cause
 
+unmade_still : (counter file : ℕ) (old new : FileState) (Reliable : Type 0) (drew draws : ℕ) (reply : Reply) → UnmadeCause counter file old new Reliable drew draws reply → Reliable → draws ≡ drew
+unmade_still counter file old new Reliable drew draws (NotAvailable (Fault (File n) count)) cause reliable = cause.2
+unmade_still counter file old new Reliable drew draws (NotAvailable (Fault Entropy count)) cause reliable = absurd (cause.3 reliable)
+unmade_still counter file old new Reliable drew draws (NotAvailable (Fault Dir count)) cause reliable = absurd cause
+unmade_still counter file old new Reliable drew draws (NotAvailable (Fault Card count)) cause reliable = absurd cause
+unmade_still counter file old new Reliable drew draws (NotAvailable (Frame fault)) cause reliable = absurd cause
+unmade_still counter file old new Reliable drew draws (NotAvailable (CardResult result)) cause reliable = absurd cause
+unmade_still counter file old new Reliable drew draws (CounterSpent last) cause reliable = cause.3
+unmade_still counter file old new Reliable drew draws reply cause reliable = absurd cause
+
 module _ {F R E : Type 0} (of_file : F → FileState) (of_port : R → PortState) (draws : E → ℕ) (store : Store) (old behind : LockedGateValue F R) (slots : List SlotValue) (place : ℕ) (before after : SlotValue)
     (was now : CallerSession E) (are : AreSlots slots) (within : place < length slots) (stands : before ≡ slice_index_or slots place before) (same : after.number ≡ before.number)
     (idle : old.gate.doubt ≡ None) (held : HoldsForDoubt old.gate) (holds : file_held (slice_set old.gate.holds was.number (Some before.number)) was.number ≡ Some before.number)
-    (file : Grows (before.file).faults (after.file).faults) where
+    (file : FileGoesOn before.file after.file) (known : KnowsCard (of_port old.gate.host.port) old.gate.host.key (rpmb_key store.keys.huk) old.gate.counter) where
   abbrev new : LockedGateValue F R
   new = given_back was.number behind
 
@@ -87,6 +98,9 @@ module _ {F R E : Type 0} (of_file : F → FileState) (of_port : R → PortState
   abbrev to : Serving F R E
   to = record { gate = new; slots = slice_set slots place after; session = now }
 
+  abbrev key : List ℕ
+  key = rpmb_key store.keys.huk
+
   abbrev d0 : Devices
   d0 = devices_in of_file of_port draws from
 
@@ -99,24 +113,31 @@ module _ {F R E : Type 0} (of_file : F → FileState) (of_port : R → PortState
   object_file : IsObjectFile before.number
   object_file = is_object_file of_file of_port draws store old new slots place before after was now are within stands same
 
+  -- the same between the gates as they were and are
+  moved_goes_on : GatesGoOn of_file of_port draws key mid.gate behind.gate was now → GatesGoOn of_file of_port draws key old.gate new.gate was now
+  moved_goes_on g = record { dir = g.dir; card = g.card; drawn = g.drawn }
+
   brought_serves : (object : NewObject) (new_place : NewPlace) (Reliable : Type 0) (answer : Answer) (X : Type 0)
       → IsBroughtNew of_file of_port store mid behind before.number was now object new_place Reliable (draws was.entropy) (draws now.entropy) answer
       → ServesObject of_file of_port draws {X = X} store from to (create_call object) (Ok answer)
+  unfolding moved_appends
   brought_serves object new_place Reliable answer X b =
       let own : Reply = Handle was.state.next_handle in
       let change : EntryChange = Put (index_of_place new_place) (new_entry was.state.application object.id b.view b.next) in
       let c = b.committed in
-      let grows : GatesGrow of_file of_port draws mid.gate behind.gate was now =
-      committed_grows of_file of_port draws store mid behind before.number was now (create_call object) own change Reliable answer object_file c in
       serves_ok of_file of_port draws store old new slots place before after was now are within stands same (create_call object) answer
       (moved_appends store old new mid behind was now (create_call object) answer refl refl
       (committed_appends of_file of_port draws store mid behind before.number was now (create_call object) own change Reliable answer object_file c))
-      (subst (AccusesRightly d0 d1) (sym c.reply) (end_accuses of_file of_port draws mid behind slots (slice_set slots place after) was now c.end own c.gate.counts_are tt))
+      (subst (AccusesRightly key d0 d1) (sym c.reply)
+      (end_accuses of_file of_port draws mid behind slots (slice_set slots place after) was now key known c.end own c.gate.counts_are c.gate.cause tt))
+      (subst (CostsDoubt key d0 d1)
+      (sym (committed_mark of_file of_port draws store mid behind before.number was now (create_call object) own change Reliable answer object_file c))
+      (end_costs of_file of_port draws mid behind slots (slice_set slots place after) was now key known c.end c.gate.cause))
       (committed_holds was.number before.number behind change c.end mid.gate.holds alone c.gate.holds c.gate.doubt (ap (λ (n : ℕ). Some n) b.file_is))
-      (record { dir = grows.dir; card = grows.card; drawn = grows.drawn }) file X
+      (moved_goes_on (committed_goes_on of_file of_port draws store mid behind before.number was now (create_call object) own change Reliable answer c key known)) file X
 
   unmade_accuses : (counter : ℕ) (Reliable : Type 0) (reply : Reply) → UnmadeCause counter before.number before.file after.file Reliable (draws was.entropy) (draws now.entropy) reply
-      → AccusesRightly d0 d1 reply
+      → AccusesRightly key d0 d1 reply
   unmade_accuses counter Reliable (NotAvailable (Fault (File n) count)) cause =
       change_accuses of_file of_port draws store old new slots place before after was now are within stands same Reliable (NotAvailable (Fault (File n) count)) cause
   unmade_accuses counter Reliable (NotAvailable (Fault Entropy count)) cause = (cause.1, cause.2)
@@ -145,14 +166,14 @@ module _ {F R E : Type 0} (of_file : F → FileState) (of_port : R → PortState
   unmade_serves : (call : Call) (counter : ℕ) (Reliable : Type 0) (answer : Answer) (X : Type 0) → IsToldUnmade store mid behind before.number was now call answer
       → UnmadeCause counter before.number before.file after.file Reliable (draws was.entropy) (draws now.entropy) answer.reply
       → ServesObject of_file of_port draws {X = X} store from to call (Ok answer)
+  unfolding moved_appends unmade_appends
   unmade_serves call counter Reliable answer X t cause =
       serves_ok of_file of_port draws store old new slots place before after was now are within stands same call answer
-      (moved_appends store old new mid behind was now call answer refl refl (unmade_appends call answer t)) (unmade_accuses counter Reliable answer.reply cause)
-      (quiet_given was.number before.number behind mid.gate.holds alone (ap (λ (g : GateValue F R). g.holds) t.gate) (ap (λ (g : GateValue F R). g.doubt) t.gate ∙ idle)) (record {
-        dir = inl (ap (λ (g : GateValue F R). (of_file g.dir.file).faults) t.gate);
-        card = inl (ap (λ (g : GateValue F R). (of_port g.host.port).faults) t.gate);
-        drawn = unmade_drawn counter before.number before.file after.file Reliable (draws was.entropy) (draws now.entropy) answer.reply cause;
-      }) file X
+      (moved_appends store old new mid behind was now call answer refl refl (unmade_appends call answer t)) (unmade_accuses counter Reliable answer.reply cause) tt
+      (quiet_given was.number before.number behind mid.gate.holds alone (ap (λ (g : GateValue F R). g.holds) t.gate) (ap (λ (g : GateValue F R). g.doubt) t.gate ∙ idle))
+      (moved_goes_on (quiet_goes_on of_file of_port draws key mid.gate behind.gate was now t.gate
+      (unmade_drawn counter before.number before.file after.file Reliable (draws was.entropy) (draws now.entropy) answer.reply cause)))
+      file X
 
   untold_serves : (call : Call) (X : Type 0) (e : X) → IsUntold mid behind before.file after.file was now (draws was.entropy) (draws now.entropy) → IsCallerOf store was
       → ServesObject of_file of_port draws {X = X} store from to call (Err e)
@@ -160,11 +181,9 @@ module _ {F R E : Type 0} (of_file : F → FileState) (of_port : R → PortState
       serves_err of_file of_port draws store old new slots place before after was now are within stands same call X e
       (none_appended store old new was now caller (ap (λ (g : LockedGateValue F R). g.journal.knows.all) u.gate) u.session)
       (quiet_given was.number before.number behind mid.gate.holds alone (ap (λ (g : LockedGateValue F R). g.gate.holds) u.gate) (ap (λ (g : LockedGateValue F R). g.gate.doubt) u.gate ∙ idle))
-      (record {
-        dir = inl (ap (λ (g : LockedGateValue F R). (of_file g.gate.dir.file).faults) u.gate);
-        card = inl (ap (λ (g : LockedGateValue F R). (of_port g.gate.host.port).faults) u.gate);
-        drawn = inl u.undrawn;
-      }) file
+      (moved_goes_on (quiet_goes_on of_file of_port draws key mid.gate behind.gate was now
+      (same_gate mid.gate behind.gate (ap (λ (g : LockedGateValue F R). g.gate) u.gate)) (inl u.undrawn)))
+      file
 
   answered_serves : (object : NewObject) (new_place : NewPlace) (Reliable X : Type 0) (result : Result Answer X) → IsCallerOf store was
       → IsAnsweredOrNot of_file of_port store mid behind before.number before.file after.file was now object new_place Reliable (draws was.entropy) (draws now.entropy) result
@@ -177,10 +196,11 @@ module _ {F R E : Type 0} (of_file : F → FileState) (of_port : R → PortState
 pub created_serves : {F R E : Type 0} (of_file : F → FileState) (of_port : R → PortState) (draws : E → ℕ) (store : Store) (old mid new : LockedGateValue F R) (slots : List SlotValue) (place : ℕ) (before after : SlotValue)
     (was now : CallerSession E) → AreSlots slots → place < length slots → before ≡ slice_index_or slots place before → after.number ≡ before.number → old.gate.doubt ≡ None → HoldsForDoubt old.gate
     → (file : ℕ) → place + 1 ≡ file → file_held mid.gate.holds was.number ≡ Some file → mid ≡ reserved was.number file old → FileGoesOn before.file after.file
-    → IsCallerOf store was → (object : NewObject) (new_place : NewPlace) (Reliable X : Type 0) (result : Result Answer X)
+    → IsCallerOf store was → KnowsCard (of_port old.gate.host.port) old.gate.host.key (rpmb_key store.keys.huk) old.gate.counter
+    → (object : NewObject) (new_place : NewPlace) (Reliable X : Type 0) (result : Result Answer X)
     → Creates of_file of_port store mid new before.number before.file after.file was now object new_place Reliable (draws was.entropy) (draws now.entropy) result
     → ServesObject of_file of_port draws store (record { gate = old; slots = slots; session = was }) (record { gate = new; slots = slice_set slots place after; session = now }) (create_call object) result
-created_serves of_file of_port draws store old mid new slots place before after was now are within stands same idle held file at is_held is goes caller object new_place Reliable X result creates =
+created_serves of_file of_port draws store old mid new slots place before after was now are within stands same idle held file at is_held is goes caller known object new_place Reliable X result creates =
     let own : file ≡ before.number = sym at ∙ sym (are.numbered place before within) ∙ ap (λ (s : SlotValue). s.number) (sym stands) in
     let begins : mid ≡ reserved was.number before.number old = subst (λ (n : ℕ). mid ≡ reserved was.number n old) own is in
     let holds : file_held (slice_set old.gate.holds was.number (Some before.number)) was.number ≡ Some before.number =
@@ -192,5 +212,22 @@ created_serves of_file of_port draws store old mid new slots place before after 
     (λ (n : LockedGateValue _ _). ServesObject of_file of_port draws store (record { gate = old; slots = slots; session = was }) (record { gate = n; slots = slice_set slots place after; session = now })
     (create_call object) result)
     (sym c.given_back)
-    (answered_serves of_file of_port draws store old c.behind slots place before after was now are within stands same idle held holds
-    (grows_le (before.file).faults (after.file).faults goes.faults) object new_place Reliable X result caller c.answered)
+    (answered_serves of_file of_port draws store old c.behind slots place before after was now are within stands same idle held holds goes known object new_place Reliable X result caller c.answered)
+
+created_answered_still : {F R E : Type 0} (of_file : F → FileState) (of_port : R → PortState) (draws : E → ℕ) (store : Store) (old new : LockedGateValue F R) (file : ℕ) (before after : FileState)
+    (was now : CallerSession E) (object : NewObject) (new_place : NewPlace) (Reliable X : Type 0) (result : Result Answer X)
+    → IsAnsweredOrNot of_file of_port store old new file before after was now object new_place Reliable (draws was.entropy) (draws now.entropy) result → Reliable
+    → draws now.entropy ≡ draws was.entropy
+created_answered_still of_file of_port draws store old new file before after was now object new_place Reliable X (Ok answer) (Brought b passed) reliable =
+    committed_still of_file of_port draws store old new file was now (create_call object) (Handle was.state.next_handle)
+    (Put (index_of_place new_place) (new_entry was.state.application object.id b.view b.next)) Reliable answer b.committed reliable
+created_answered_still of_file of_port draws store old new file before after was now object new_place Reliable X (Ok answer) (Unmade t cause) reliable =
+    unmade_still old.gate.counter file before after Reliable (draws was.entropy) (draws now.entropy) answer.reply cause reliable
+created_answered_still of_file of_port draws store old new file before after was now object new_place Reliable X (Err e) untold reliable = untold.undrawn
+
+pub created_still : {F R E : Type 0} (of_file : F → FileState) (of_port : R → PortState) (draws : E → ℕ) (store : Store) (old new : LockedGateValue F R) (file : ℕ) (before after : FileState)
+    (was now : CallerSession E) (object : NewObject) (new_place : NewPlace) (Reliable X : Type 0) (result : Result Answer X)
+    → Creates of_file of_port store old new file before after was now object new_place Reliable (draws was.entropy) (draws now.entropy) result → Reliable
+    → draws now.entropy ≡ draws was.entropy
+created_still of_file of_port draws store old new file before after was now object new_place Reliable X result c reliable =
+    created_answered_still of_file of_port draws store (reseated store file old) c.behind file before after was now object new_place Reliable X result c.answered reliable

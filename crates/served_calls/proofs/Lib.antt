@@ -1,9 +1,11 @@
 pub mod SlotLists
 pub mod Counting
+pub mod Cards
 pub mod ToldCalls
 pub mod CommittedCalls
 pub mod ChangedCalls
 pub mod HeldFiles
 pub mod CreatedCalls
 pub mod Settling
+pub mod RuledCalls
 pub mod WholeCalls

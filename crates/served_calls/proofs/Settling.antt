@@ -5,6 +5,7 @@ use Rattle.std.proofs.lemmas.List.{append-nil, map-append}
 use Rattle.std.proofs.lemmas.List.Elements.{Contains-push_cases}
 use Rattle.core_parts.specs.Joined.{IsObjectFile}
 use Rattle.crash_core.specs.EntryChanges.{file_put}
+use Rattle.disk_model.specs.Calls.{GoesOn}
 use Rattle.disk_model.specs.State.{FileState}
 use Rattle.gate_calls.specs.Resolved.{HasResolved, IsSettled, StaysInDoubt, WasResolved}
 use Rattle.history_seats.specs.Changes.{landing_of}
@@ -21,11 +22,11 @@ use Rattle.store_commit.specs.declared.resolve.Resolved.TheVariants.{Dropped, La
 use Rattle.store_model.specs.Record.{events_of, file_of}
 use Rattle.tee_types.specs.declared.reply.Cause.{Cause}
 use Rattle.served_calls.specs.Answered.{events_at, landing_events}
-use Rattle.served_calls.specs.Devices.{Grows}
+use Rattle.served_calls.specs.Devices.{PortGoesOn}
 use Rattle.served_calls.specs.Held.{HoldsForDoubt}
 use Rattle.served_calls.specs.Slots.{AreOfObjectFiles}
 use Rattle.served_calls.proofs.CommittedCalls.{none_some}
-use Rattle.served_calls.proofs.Counting.{grows_le}
+use Rattle.served_calls.proofs.Counting.{grows_le, same_file_goes_on, same_port_goes_on}
 
 -- records and one more, whose tag, if it has one, names an object's file
 pub tagged_more : (records : List HistoryRecord) (last : HistoryRecord) → ((file : ℕ) → file_of last ≡ Some file → IsObjectFile file) → AreOfObjectFiles records → AreOfObjectFiles (records ++ last ∷ [])
@@ -54,25 +55,25 @@ freed : (put : Option ℕ) (old new : List (Option ℕ)) → EndsHold put old ne
 freed None old new ends only s f is = none_some f (only s f (ap (λ (l : List (Option ℕ)). file_held l s) (sym ends) ∙ is))
 freed (Some put) old new ends only s f is = freed_one put f (file_held old s) (only s) (sym (ends s) ∙ is)
 
-module _ {F R : Type 0} (of_file : F → FileState) (of_port : R → PortState) where
-  -- The history has at most one landing more. No file is held but for a doubt, and no count of the gate's devices fell.
+module _ {F R : Type 0} (of_file : F → FileState) (of_port : R → PortState) (key : List ℕ) where
+  -- The history has at most one landing more. No file is held but for a doubt, and the gate's devices go on.
   pub record Settles (old mid : LockedGateValue F R) : Type 0 where
     pub landed : Option ℕ
     pub events : events_at mid ≡ events_at old ++ landing_events landed
     pub tagged : AreOfObjectFiles old.journal.knows.all → AreOfObjectFiles mid.journal.knows.all
     pub held : HoldsForDoubt old.gate → HoldsForDoubt mid.gate
-    pub dir : Grows (of_file old.gate.dir.file).faults (of_file mid.gate.dir.file).faults
-    pub card : Grows (of_port old.gate.host.port).faults (of_port mid.gate.host.port).faults
+    pub dir : GoesOn (of_file old.gate.dir.file) (of_file mid.gate.dir.file)
+    pub card : PortGoesOn key (of_port old.gate.host.port) (of_port mid.gate.host.port)
 
   -- nothing was told of the doubt
   pub quiet_settles : (old mid : LockedGateValue F R) → mid.journal.knows.all ≡ old.journal.knows.all → mid.gate.holds ≡ old.gate.holds → mid.gate.doubt ≡ old.gate.doubt
-      → of_file mid.gate.dir.file ≡ of_file old.gate.dir.file → Grows (of_port old.gate.host.port).faults (of_port mid.gate.host.port).faults → Settles old mid
+      → of_file mid.gate.dir.file ≡ of_file old.gate.dir.file → PortGoesOn key (of_port old.gate.host.port) (of_port mid.gate.host.port) → Settles old mid
   quiet_settles old mid all holds doubt dir card = record {
     landed = None;
     events = ap (λ (l : List HistoryRecord). events_of l) all ∙ sym (append-nil (events_at old));
     tagged = λ files. subst AreOfObjectFiles (sym all) files;
     held = λ held s f is. ap file_in_doubt doubt ∙ held s f (ap (λ (l : List (Option ℕ)). file_held l s) (sym holds) ∙ is);
-    dir = inl (ap (λ (s : FileState). s.faults) dir);
+    dir = same_file_goes_on (of_file old.gate.dir.file) (of_file mid.gate.dir.file) dir;
     card = card;
   }
 
@@ -80,11 +81,15 @@ module _ {F R : Type 0} (of_file : F → FileState) (of_port : R → PortState) 
   same_settles old mid same =
       quiet_settles old mid (ap (λ (g : LockedGateValue F R). g.journal.knows.all) same) (ap (λ (g : LockedGateValue F R). g.gate.holds) same)
       (ap (λ (g : LockedGateValue F R). g.gate.doubt) same) (ap (λ (g : LockedGateValue F R). of_file g.gate.dir.file) same)
-      (inl (ap (λ (g : LockedGateValue F R). (of_port g.gate.host.port).faults) same))
+      (same_port_goes_on key (of_port old.gate.host.port) (of_port mid.gate.host.port) (ap (λ (g : LockedGateValue F R). of_port g.gate.host.port) same))
 
-  card_grows : (nonce : List ℕ) (d : Doubted) (old mid : LockedGateValue F R) (result : Result Resolved Cause) → HasResolved of_file of_port nonce d old mid result
-      → Grows (of_port old.gate.host.port).faults (of_port mid.gate.host.port).faults
-  card_grows nonce d old mid result r = grows_le (of_port old.gate.host.port).faults (of_port mid.gate.host.port).faults r.answered.exchanged.counted
+  card_goes_on : (nonce : List ℕ) (d : Doubted) (old mid : LockedGateValue F R) (result : Result Resolved Cause) → HasResolved of_file of_port nonce d old mid result
+      → PortGoesOn key (of_port old.gate.host.port) (of_port mid.gate.host.port)
+  card_goes_on nonce d old mid result r = record {
+    told = λ card has. (card, record { told = r.card ∙ has.told; keyed = has.keyed });
+    calm = λ is. (r.calm is).0;
+    counted = grows_le (of_port old.gate.host.port).faults (of_port mid.gate.host.port).faults r.answered.exchanged.counted;
+  }
 
   -- the holds, once the doubt ended either way
   resolved_held : (nonce : List ℕ) (d : Doubted) (old mid : LockedGateValue F R) (how : Resolved) → old.gate.doubt ≡ Some d → HasResolved of_file of_port nonce d old mid (Ok how)
@@ -98,16 +103,16 @@ module _ {F R : Type 0} (of_file : F → FileState) (of_port : R → PortState) 
     events = ap (λ (k : GateView). events_of k.all) r.knows ∙ events_more old.journal.knows.all (landing_of n);
     tagged = λ files. subst (λ (k : GateView). AreOfObjectFiles k.all) (sym r.knows) (tagged_more old.journal.knows.all (landing_of n) (λ file is. absurd (none_some file is)) files);
     held = resolved_held nonce d old mid (Landed n) was r;
-    dir = inl (ap (λ (s : FileState). s.faults) r.file);
-    card = card_grows nonce d old mid (Ok (Landed n)) r;
+    dir = same_file_goes_on (of_file old.gate.dir.file) (of_file mid.gate.dir.file) r.file;
+    card = card_goes_on nonce d old mid (Ok (Landed n)) r;
   }
   resolved_settles nonce d old mid (Dropped n) was r = record {
     landed = None;
     events = ap (λ (k : GateView). events_of k.all) r.knows ∙ sym (append-nil (events_at old));
     tagged = λ files. subst (λ (k : GateView). AreOfObjectFiles k.all) (sym r.knows) files;
     held = resolved_held nonce d old mid (Dropped n) was r;
-    dir = inl (ap (λ (s : FileState). s.faults) r.file);
-    card = card_grows nonce d old mid (Ok (Dropped n)) r;
+    dir = same_file_goes_on (of_file old.gate.dir.file) (of_file mid.gate.dir.file) r.file;
+    card = card_goes_on nonce d old mid (Ok (Dropped n)) r;
   }
 
   pub was_settles : (old mid : LockedGateValue F R) → WasResolved of_file of_port old mid → Settles old mid
@@ -121,7 +126,7 @@ module _ {F R : Type 0} (of_file : F → FileState) (of_port : R → PortState) 
   stays_settles Reliable drew draws old mid cause stays = elim stays.why [
     | inl same ↦ same_settles old mid same.0
     | inr read ↦
-        quiet_settles old mid (ap (λ (k : GateView). k.all) read.1.knows) read.1.holds read.1.doubt read.1.file (card_grows read.0 stays.doubted old mid (Err cause) read.1)
+        quiet_settles old mid (ap (λ (k : GateView). k.all) read.1.knows) read.1.holds read.1.doubt read.1.file (card_goes_on read.0 stays.doubted old mid (Err cause) read.1)
   ]
 
   -- room was made before
@@ -132,8 +137,8 @@ module _ {F R : Type 0} (of_file : F → FileState) (of_port : R → PortState) 
     events = s.events ∙ ap (λ (k : GateView). events_of k.all ++ landing_events s.landed) knows;
     tagged = λ files. s.tagged (subst (λ (k : GateView). AreOfObjectFiles k.all) (sym knows) files);
     held = λ held. s.held (subst (λ (g : GateValue F R). HoldsForDoubt g) (sym gate) held);
-    dir = subst (λ (g : GateValue F R). Grows (of_file g.dir.file).faults (of_file mid.gate.dir.file).faults) gate s.dir;
-    card = subst (λ (g : GateValue F R). Grows (of_port g.host.port).faults (of_port mid.gate.host.port).faults) gate s.card;
+    dir = subst (λ (g : GateValue F R). GoesOn (of_file g.dir.file) (of_file mid.gate.dir.file)) gate s.dir;
+    card = subst (λ (g : GateValue F R). PortGoesOn key (of_port g.host.port) (of_port mid.gate.host.port)) gate s.card;
   }
 
   -- room was made behind
@@ -144,6 +149,6 @@ module _ {F R : Type 0} (of_file : F → FileState) (of_port : R → PortState) 
     events = ap (λ (k : GateView). events_of k.all) knows ∙ s.events;
     tagged = λ files. subst (λ (k : GateView). AreOfObjectFiles k.all) (sym knows) (s.tagged files);
     held = λ held. subst (λ (g : GateValue F R). HoldsForDoubt g) (sym gate) (s.held held);
-    dir = subst (λ (g : GateValue F R). Grows (of_file old.gate.dir.file).faults (of_file g.dir.file).faults) (sym gate) s.dir;
-    card = subst (λ (g : GateValue F R). Grows (of_port old.gate.host.port).faults (of_port g.host.port).faults) (sym gate) s.card;
+    dir = subst (λ (g : GateValue F R). GoesOn (of_file old.gate.dir.file) (of_file g.dir.file)) (sym gate) s.dir;
+    card = subst (λ (g : GateValue F R). PortGoesOn key (of_port old.gate.host.port) (of_port g.host.port)) (sym gate) s.card;
   }

@@ -3,10 +3,12 @@ use Rattle.std.proofs.Common.{◌≡◌, ◌≢◌, ◌+◌, ◌-◌, ◌<◌, �
 use Rattle.std.specs.Prelude.{slice_set}
 use Rattle.std.proofs.lemmas.Bool.{cases_eq}
 use Rattle.std.proofs.lemmas.List.{get_or-set_other, get_or-set_same, length-set}
+use Rattle.disk_model.specs.Calls.{GoesOn}
 use Rattle.disk_model.specs.State.{FileState}
 use Rattle.object_slots.specs.Value.{SlotValue}
-use Rattle.served_calls.specs.Devices.{Grows, file_in, no_slot}
+use Rattle.served_calls.specs.Devices.{file_in, no_slot}
 use Rattle.served_calls.specs.Slots.{AreSlots}
+use Rattle.served_calls.proofs.Counting.{same_file_goes_on}
 
 module _ (slots : List SlotValue) (place : ℕ) (new : SlotValue) (are : AreSlots slots) (within : place < length slots) where
   pub slots_after : new.number ≡ place + 1 → AreSlots (slice_set slots place new)
@@ -30,12 +32,11 @@ module _ (slots : List SlotValue) (place : ℕ) (new : SlotValue) (are : AreSlot
   pub file_kept : (n : ℕ) → n - 1 ≢ place → file_in (slice_set slots place new) n ≡ file_in slots n
   file_kept n other = ap (λ (x : SlotValue). x.file) (get_or-set_other slots place (n - 1) new no_slot other)
 
-  -- no file's count falls, where that of the changed slot's does not
-  pub files_grow : (old : SlotValue) → slice_index_or slots place no_slot ≡ old → Grows (old.file).faults (new.file).faults → (n : ℕ)
-      → Grows (file_in slots n).faults (file_in (slice_set slots place new) n).faults
-  files_grow old is grows n = elim (cases_eq (n - 1) place) [
+  -- each file goes on, where the changed slot's does
+  pub files_go_on : (old : SlotValue) → slice_index_or slots place no_slot ≡ old → GoesOn old.file new.file → (n : ℕ) → GoesOn (file_in slots n) (file_in (slice_set slots place new) n)
+  files_go_on old is goes_on n = elim (cases_eq (n - 1) place) [
     | inl here ↦
         let was : file_in slots n ≡ old.file = ap (λ (k : ℕ). (slice_index_or slots k no_slot).file) here ∙ ap (λ (x : SlotValue). x.file) is in
-        subst (λ (p : FileState × FileState). Grows (p.0).faults (p.1).faults) (λ i. (sym was i, sym (file_changed n here) i)) grows
-    | inr other ↦ inl (ap (λ (f : FileState). f.faults) (file_kept n other))
+        subst (λ (p : FileState × FileState). GoesOn p.0 p.1) (λ i. (sym was i, sym (file_changed n here) i)) goes_on
+    | inr other ↦ same_file_goes_on (file_in slots n) (file_in (slice_set slots place new) n) (file_kept n other)
   ]

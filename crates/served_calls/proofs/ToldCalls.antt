@@ -8,6 +8,7 @@ use Rattle.disk_model.specs.Calls.{GoesOn as FileGoesOn}
 use Rattle.disk_model.specs.Faults.{Rose}
 use Rattle.disk_model.specs.State.{FileState}
 use Rattle.history_seats.specs.Views.{GateView}
+use Rattle.hmac_keys.specs.KeyTable.{rpmb_key}
 use Rattle.htree_file.specs.Answers.{FileFailed}
 use Rattle.locked_gate.specs.declared.answered.Answer.{Answer}
 use Rattle.locked_gate.specs.LockedGates.{LockedGateValue}
@@ -25,26 +26,26 @@ use Rattle.tee_types.specs.declared.reply.Device.TheVariants.{Card, Dir, Entropy
 use Rattle.tee_types.specs.declared.reply.Reply.{Reply}
 use Rattle.tee_types.specs.declared.reply.Reply.TheVariants.{NotAvailable}
 use Rattle.served_calls.specs.Appended.{AppendsCall, AppendsNone}
-use Rattle.served_calls.specs.Devices.{AccusesRightly, CountsGrow, Devices, Grows, file_in, no_slot}
+use Rattle.served_calls.specs.Devices.{AccusesRightly, CostsDoubt, Devices, DevicesGoOn, Grows, PortGoesOn, file_in, no_slot}
 use Rattle.served_calls.specs.Held.{HoldsForDoubt}
 use Rattle.served_calls.specs.Slots.{AreSlots}
 use Rattle.served_calls.specs.Standing.{ServesObject, Serving, devices_in}
-use Rattle.served_calls.proofs.Counting.{grows_le}
-use Rattle.served_calls.proofs.SlotLists.{file_changed, files_grow, slots_after}
+use Rattle.served_calls.proofs.Counting.{same_file_goes_on, same_port_goes_on}
+use Rattle.served_calls.proofs.SlotLists.{file_changed, files_go_on, slots_after}
 
--- the counts of the gate's devices and of the session's entropy stand still or rise
-pub record GatesGrow {F R E : Type 0} (of_file : F → FileState) (of_port : R → PortState) (draws : E → ℕ) (old new : GateValue F R) (was now : CallerSession E) : Type 0 where
-  pub dir : Grows (of_file old.dir.file).faults (of_file new.dir.file).faults
-  pub card : Grows (of_port old.host.port).faults (of_port new.host.port).faults
+-- the gate's devices go on, and the count of the session's entropy stands still or rose
+pub record GatesGoOn {F R E : Type 0} (of_file : F → FileState) (of_port : R → PortState) (draws : E → ℕ) (key : List ℕ) (old new : GateValue F R) (was now : CallerSession E) : Type 0 where
+  pub dir : FileGoesOn (of_file old.dir.file) (of_file new.dir.file)
+  pub card : PortGoesOn key (of_port old.host.port) (of_port new.host.port)
   pub drawn : Grows (draws was.entropy) (draws now.entropy)
 
--- a gate of which at most the table of open handles changed, and a session that drew nothing
-pub quiet_grows : {F R E : Type 0} (of_file : F → FileState) (of_port : R → PortState) (draws : E → ℕ) (old new : GateValue F R) (was now : CallerSession E)
-    → new ≡ record old { open_handles = new.open_handles } → draws now.entropy ≡ draws was.entropy → GatesGrow of_file of_port draws old new was now
-quiet_grows of_file of_port draws old new was now same undrawn = record {
-  dir = inl (ap (λ (g : GateValue _ _). (of_file g.dir.file).faults) same);
-  card = inl (ap (λ (g : GateValue _ _). (of_port g.host.port).faults) same);
-  drawn = inl undrawn;
+-- a gate of which at most the table of open handles changed
+pub quiet_goes_on : {F R E : Type 0} (of_file : F → FileState) (of_port : R → PortState) (draws : E → ℕ) (key : List ℕ) (old new : GateValue F R) (was now : CallerSession E)
+    → new ≡ record old { open_handles = new.open_handles } → Grows (draws was.entropy) (draws now.entropy) → GatesGoOn of_file of_port draws key old new was now
+quiet_goes_on of_file of_port draws key old new was now same drawn = record {
+  dir = same_file_goes_on (of_file old.dir.file) (of_file new.dir.file) (ap (λ (g : GateValue _ _). of_file g.dir.file) same);
+  card = same_port_goes_on key (of_port old.host.port) (of_port new.host.port) (ap (λ (g : GateValue _ _). of_port g.host.port) same);
+  drawn = drawn;
 }
 
 pub quiet_holds : {F R : Type 0} (old new : GateValue F R) → new ≡ record old { open_handles = new.open_handles } → HoldsForDoubt old → HoldsForDoubt new
@@ -73,6 +74,9 @@ module _ {F R E : Type 0} (of_file : F → FileState) (of_port : R → PortState
   abbrev pub to : Serving F R E
   to = record { gate = new; slots = slice_set slots place after; session = now }
 
+  abbrev key : List ℕ
+  key = rpmb_key store.keys.huk
+
   abbrev d0 : Devices
   d0 = devices_in of_file of_port draws from
 
@@ -99,14 +103,11 @@ module _ {F R E : Type 0} (of_file : F → FileState) (of_port : R → PortState
   pub is_object_file : IsObjectFile before.number
   is_object_file = (omega (arith, numbered), omega (arith, numbered, within, are.many))
 
-  grow : GatesGrow of_file of_port draws old.gate new.gate was now → Grows (before.file).faults (after.file).faults → CountsGrow d0 d1
-  grow gates file Dir = gates.dir
-  grow gates file (File n) = files_grow slots place after are within before is file n
-  grow gates file Card = gates.card
-  grow gates file Entropy = gates.drawn
+  goes_on : GatesGoOn of_file of_port draws key old.gate new.gate was now → FileGoesOn before.file after.file → DevicesGoOn key d0 d1
+  goes_on gates file = record { dir = gates.dir; file = files_go_on slots place after are within before is file; card = gates.card; draws = gates.drawn }
 
   -- a reply that the slot's file gave
-  pub told_accuses : (reply : Reply) → HasToldCause before.file after.file before.number reply → AccusesRightly d0 d1 reply
+  pub told_accuses : (reply : Reply) → HasToldCause before.file after.file before.number reply → AccusesRightly key d0 d1 reply
   told_accuses (NotAvailable (Fault (File n) count)) told =
       let failed : FileFailed before.file after.file count = told.1 in (
         subst (λ (p : FileState × FileState). Rose (p.0).faults (p.1).faults) (λ i. (sym (file_from n told.0) i, sym (file_to n told.0) i)) failed.rose,
@@ -119,15 +120,15 @@ module _ {F R E : Type 0} (of_file : F → FileState) (of_port : R → PortState
   told_accuses (NotAvailable (CardResult result)) told = absurd told
   told_accuses reply told = tt
 
-  pub serves_ok : (call : Call) (answer : Answer) → AppendsCall store old new was now call answer → AccusesRightly d0 d1 answer.reply → HoldsForDoubt new.gate
-      → GatesGrow of_file of_port draws old.gate new.gate was now → Grows (before.file).faults (after.file).faults → (X : Type 0)
+  pub serves_ok : (call : Call) (answer : Answer) → (appends : AppendsCall store old new was now call answer) → AccusesRightly key d0 d1 answer.reply → CostsDoubt key d0 d1 appends.mark
+      → HoldsForDoubt new.gate → GatesGoOn of_file of_port draws key old.gate new.gate was now → FileGoesOn before.file after.file → (X : Type 0)
       → ServesObject of_file of_port draws {X = X} store from to call (Ok answer)
-  serves_ok call answer appends accuses held gates file X =
-      record { answers = record { appends = appends; accuses = accuses }; slots = slots_to; held = held; grow = grow gates file }
+  serves_ok call answer appends accuses costs held gates file X =
+      record { answers = record { appends = appends; accuses = accuses; costs = costs }; slots = slots_to; held = held; devices = goes_on gates file }
 
-  pub serves_err : (call : Call) (X : Type 0) (e : X) → AppendsNone store old new was now → HoldsForDoubt new.gate → GatesGrow of_file of_port draws old.gate new.gate was now
-      → Grows (before.file).faults (after.file).faults → ServesObject of_file of_port draws {X = X} store from to call (Err e)
-  serves_err call X e none held gates file = record { answers = none; slots = slots_to; held = held; grow = grow gates file }
+  pub serves_err : (call : Call) (X : Type 0) (e : X) → AppendsNone store old new was now → HoldsForDoubt new.gate → GatesGoOn of_file of_port draws key old.gate new.gate was now
+      → FileGoesOn before.file after.file → ServesObject of_file of_port draws {X = X} store from to call (Err e)
+  serves_err call X e none held gates file = record { answers = none; slots = slots_to; held = held; devices = goes_on gates file }
 
   -- the event of an answer that the slot's file gave
   pub served_appends : (call : Call) (answer : Answer) → IsServed store old new was now before.number call answer → AppendsCall store old new was now call answer
@@ -146,22 +147,27 @@ module _ {F R E : Type 0} (of_file : F → FileState) (of_port : R → PortState
       some_number : (file : ℕ) → Some before.number ≡ Some file → before.number ≡ file
       some_number file e = cc
 
+  -- it changed nothing
+  pub served_quiet : (call : Call) (answer : Answer) (s : IsServed store old new was now before.number call answer) → CostsDoubt key d0 d1 (served_appends call answer s).mark
+  unfolding served_appends
+  served_quiet call answer s = tt
+
   -- memory ran out before anything was done
-  pub stays_serves : (call : Call) (X : Type 0) (e : X) → (new ≡ old) × (now ≡ was) → IsCallerOf store was → Grows (before.file).faults (after.file).faults → HoldsForDoubt old.gate
+  pub stays_serves : (call : Call) (X : Type 0) (e : X) → (new ≡ old) × (now ≡ was) → IsCallerOf store was → FileGoesOn before.file after.file → HoldsForDoubt old.gate
       → ServesObject of_file of_port draws {X = X} store from to call (Err e)
   stays_serves call X e stays caller file held =
       let gate : new.gate ≡ old.gate = ap (λ (g : LockedGateValue F R). g.gate) stays.0 in
       serves_err call X e
       (none_appended store old new was now caller (ap (λ (g : LockedGateValue F R). g.journal.knows.all) stays.0) (subst (λ (s : CallerSession E). s ≡ record was { entropy = s.entropy }) (sym stays.1) refl))
       (subst (λ (g : GateValue F R). HoldsForDoubt g) (sym gate) held)
-      (quiet_grows of_file of_port draws old.gate new.gate was now (same_gate old.gate new.gate gate) (ap (λ (s : CallerSession E). draws s.entropy) stays.1))
+      (quiet_goes_on of_file of_port draws key old.gate new.gate was now (same_gate old.gate new.gate gate) (inl (ap (λ (s : CallerSession E). draws s.entropy) stays.1)))
       file
 
   -- the call was answered as its object's file gave it, or memory ran out
   pub told_serves : (call : Call) (X : Type 0) (result : Result Answer X) → IsServedOrNot store old new was now before.number call result → IsCallerOf store was
       → FileGoesOn before.file after.file → IfOk result (λ answer. HasToldCause before.file after.file before.number answer.reply) → now.entropy ≡ was.entropy → HoldsForDoubt old.gate
       → ServesObject of_file of_port draws store from to call result
-  told_serves call X (Ok answer) served caller goes cause entropy held =
-      serves_ok call answer (served_appends call answer served) (told_accuses answer.reply cause) (quiet_holds old.gate new.gate served.gate held)
-      (quiet_grows of_file of_port draws old.gate new.gate was now served.gate (ap draws entropy)) (grows_le (before.file).faults (after.file).faults goes.faults) X
-  told_serves call X (Err e) served caller goes cause entropy held = stays_serves call X e served caller (grows_le (before.file).faults (after.file).faults goes.faults) held
+  told_serves call X (Ok answer) served caller file cause entropy held =
+      serves_ok call answer (served_appends call answer served) (told_accuses answer.reply cause) (served_quiet call answer served) (quiet_holds old.gate new.gate served.gate held)
+      (quiet_goes_on of_file of_port draws key old.gate new.gate was now served.gate (inl (ap draws entropy))) file X
+  told_serves call X (Err e) served caller file cause entropy held = stays_serves call X e served caller file held

@@ -1,11 +1,12 @@
 -- A served call, from a commit in doubt to its answer.
-use Rattle.std.proofs.Common.{◌≡◌, ◌+◌, ◌++◌, ◌∷◌, ◌≤◌, [], ℕ, true, List, Err, Ok, Result, length, refl, sym, ap, ◌∙◌, subst, inl, inr, arith}
+use Rattle.std.proofs.Common.{◌≡◌, ◌+◌, ◌++◌, ◌∷◌, ◌≤◌, ◌⊎◌, [], ℕ, true, List, Err, Ok, Result, Some, length, refl, sym, ap, ◌∙◌, subst, inl, inr}
 use Rattle.std.proofs.lemmas.List.{length-map}
-use Rattle.call_history.specs.Calls.{alone_record}
 use Rattle.call_history.specs.Sessions.{CallerSession, IsCallerOf, session_value}
 use Rattle.call_rules.specs.Plain.{IsPlain}
+use Rattle.disk_model.specs.Calls.{GoesOn as FileGoesOn}
 use Rattle.disk_model.specs.Faults.{Rose}
 use Rattle.disk_model.specs.State.{FileState}
+use Rattle.disk_model.proofs.Goings.{goes_on_none}
 use Rattle.gate_calls.specs.Resolved.{StaysInDoubt}
 use Rattle.gate_calls.specs.Seen.{GoesOn}
 use Rattle.gate_calls.specs.Served.{IsServed, IsServedAlone, IsUnserved, Precedes}
@@ -15,13 +16,18 @@ use Rattle.history_seats.specs.Views.{GateView}
 use Rattle.locked_gate.specs.declared.answered.Answer.{Answer}
 use Rattle.locked_gate.specs.LockedGates.{LockedGateValue}
 use Rattle.object_slots.specs.Value.{SlotValue}
+use Rattle.hmac_keys.specs.KeyTable.{rpmb_key}
+use Rattle.rpmb_card.specs.Card.{CardState}
 use Rattle.rpmb_card.specs.Port.{PortState}
+use Rattle.rpmb_host.specs.Honest.{HasCard}
 use Rattle.store_commit.specs.CardCauses.{IsOfFrame}
-use Rattle.store_commit.specs.Gates.{GateValue}
+use Rattle.store_commit.specs.Gates.{DoubtStands, GateValue, gate_sides}
+use Rattle.store_commit.specs.declared.gate.Doubted.{Doubted}
 use Rattle.store_model.specs.Files.{is_misuse}
 use Rattle.store_model.specs.Record.{events_of}
 use Rattle.store_model.specs.declared.event.Event.TheVariants.{Call as CallEvent}
-use Rattle.store_model.specs.declared.event.Mark.TheVariants.{Unchanged}
+use Rattle.store_model.specs.declared.event.Mark.{Mark}
+use Rattle.store_model.specs.declared.event.Mark.TheVariants.{Doubtful, Made, Unchanged}
 use Rattle.suppositions.specs.Sessions.{Extends}
 use Rattle.suppositions.specs.Stores.{Store}
 use Rattle.tee_types.specs.declared.call.Call.{Call}
@@ -32,38 +38,44 @@ use Rattle.tee_types.specs.declared.reply.Reply.{Reply}
 use Rattle.tee_types.specs.declared.reply.Reply.TheVariants.{NotAvailable}
 use Rattle.served_calls.specs.Answered.{GoesOnWith, GoesOnWithout, ServesCall}
 use Rattle.served_calls.specs.Appended.{AppendsCall}
-use Rattle.served_calls.specs.Devices.{AccusesRightly, CountsGrow, Devices, Grows, faults_of}
+use Rattle.served_calls.specs.Devices.{AccusesRightly, CostsDoubt, Devices, DevicesGoOn, PortGoesOn, TellsNoCard, faults_of, file_in}
 use Rattle.served_calls.specs.Held.{HoldsForDoubt}
 use Rattle.served_calls.specs.Slots.{AreOfObjectFiles, AreSlots}
 use Rattle.served_calls.specs.Standing.{ServesObject, Serving, devices_in}
 use Rattle.served_calls.proofs.CommittedCalls.{none_some}
-use Rattle.served_calls.proofs.Counting.{grows_le}
+use Rattle.served_calls.proofs.Cards.{doubted_counts}
+use Rattle.served_calls.proofs.Counting.{counts_grow, devices_go_on_then, grows_le, grows_rose, grows_twice}
 use Rattle.served_calls.proofs.Settling.{Settles, events_more, reserved_settles, same_settles, settled_settles, stays_settles, tagged_more, was_settles}
+use Rattle.served_calls.proofs.RuledCalls.{plain_accuses, ruled_appends}
 use Rattle.served_calls.proofs.ToldCalls.{quiet_holds}
 
-rose_rose : (a b c : ℕ) → Rose a b → Rose b c → Rose a c
-rose_rose a b c first second = omega (arith, first, second)
+-- the key of the store's card
+abbrev card_key : Store → List ℕ
+card_key store = rpmb_key store.keys.huk
 
-pub grows_rose : (a b c : ℕ) → Grows a b → Rose b c → Rose a c
-grows_rose a b c (inl same) rose = subst (λ (n : ℕ). Rose n c) same rose
-grows_rose a b c (inr first) rose = rose_rose a b c first rose
+none_since : (key : List ℕ) (old new : PortState) → PortGoesOn key old new → TellsNoCard new key → TellsNoCard old key
+none_since key old new goes_on none card has = let then = goes_on.told card has in none then.0 then.1
 
-pub grows_grows : (a b c : ℕ) → Grows a b → Grows b c → Grows a c
-grows_grows a b c first (inl same) = subst (λ (n : ℕ). Grows a n) (sym same) first
-grows_grows a b c first (inr rose) = inr (grows_rose a b c first rose)
+-- what a reply accuses counted a fault since before, too; and no card that has the key was told before, where none was then
+accuses_since : (key : List ℕ) (before mid after : Devices) → DevicesGoOn key before mid → (reply : Reply) → AccusesRightly key mid after reply → AccusesRightly key before after reply
+accuses_since key before mid after goes_on (NotAvailable (Fault device count)) a =
+    (grows_rose (faults_of before device) (faults_of mid device) (faults_of after device) (counts_grow key before mid goes_on device) a.0, a.1)
+accuses_since key before mid after goes_on (NotAvailable (Frame fault)) a = none_since key before.card mid.card goes_on.card a
+accuses_since key before mid after goes_on (NotAvailable (CardResult result)) a = none_since key before.card mid.card goes_on.card a
+accuses_since key before mid after goes_on reply a = tt
 
--- what a reply accuses counted a fault since before, too
-accuses_since : (before mid after : Devices) → CountsGrow before mid → (reply : Reply) → AccusesRightly mid after reply → AccusesRightly before after reply
-accuses_since before mid after grow (NotAvailable (Fault device count)) a =
-    (grows_rose (faults_of before device) (faults_of mid device) (faults_of after device) (grow device) a.0, a.1)
-accuses_since before mid after grow (NotAvailable (Frame fault)) a = tt
-accuses_since before mid after grow (NotAvailable (CardResult result)) a = tt
-accuses_since before mid after grow reply a = tt
+-- so a doubt's price was paid since before
+costs_since : (key : List ℕ) (before mid after : Devices) → DevicesGoOn key before mid → (mark : Mark) → CostsDoubt key mid after mark → CostsDoubt key before after mark
+costs_since key before mid after goes_on Unchanged costs = tt
+costs_since key before mid after goes_on (Made n) costs = tt
+costs_since key before mid after goes_on (Doubtful n) costs = λ card has.
+    let then = goes_on.card.told card has in
+    grows_twice before.card mid.card after.card goes_on.card.counted (costs then.0 then.1)
 
 length_events : (records : List HistoryRecord) → length records ≡ length (events_of records)
 length_events records = sym (length-map records (λ (r : HistoryRecord). r.event))
 
-module _ {F R E : Type 0} (of_file : F → FileState) (of_port : R → PortState) (draws : E → ℕ) (store : Store) (old mid new : LockedGateValue F R) (was now : CallerSession E) (settled : Settles of_file of_port old mid) where
+module _ {F R E : Type 0} (of_file : F → FileState) (of_port : R → PortState) (draws : E → ℕ) (store : Store) (old mid new : LockedGateValue F R) (was now : CallerSession E) (settled : Settles of_file of_port (card_key store) old mid) where
   -- the call's event follows the landing
   appends_goes_on : (shown : CallerSession E) (call : Call) (answer : Answer) → shown.number ≡ was.number → shown.made ≡ was.made → GoesOn store was shown
       → AppendsCall store mid new shown now call answer → GoesOnWith store old new was now call answer
@@ -92,33 +104,39 @@ module _ {F R E : Type 0} (of_file : F → FileState) (of_port : R → PortState
 
 -- A call that was left to an object's file.
 module _ {F R E : Type 0} (of_file : F → FileState) (of_port : R → PortState) (draws : E → ℕ) (store : Store) (old mid new : LockedGateValue F R) (slots after : List SlotValue) (was shown now : CallerSession E)
-    (settled : Settles of_file of_port old mid) (drawn : draws was.entropy ≤ draws shown.entropy) (number : shown.number ≡ was.number) (made : shown.made ≡ was.made) (goes_on : GoesOn store was shown) where
+    (settled : Settles of_file of_port (card_key store) old mid) (drawn : draws was.entropy ≤ draws shown.entropy) (number : shown.number ≡ was.number) (made : shown.made ≡ was.made) (goes_on : GoesOn store was shown) where
   abbrev d0 : Devices
   d0 = devices_in of_file of_port draws (record { gate = old; slots = slots; session = was })
 
   abbrev dm : Devices
   dm = devices_in of_file of_port draws (record { gate = mid; slots = slots; session = shown })
 
-  before_grow : CountsGrow d0 dm
-  before_grow Dir = settled.dir
-  before_grow (File n) = inl refl
-  before_grow Card = settled.card
-  before_grow Entropy = grows_le (draws was.entropy) (draws shown.entropy) drawn
+  abbrev da : Devices
+  da = devices_in of_file of_port draws (record { gate = new; slots = after; session = now })
+
+  began : DevicesGoOn (card_key store) d0 dm
+  began = record {
+    dir = settled.dir;
+    file = λ n. goes_on_none (file_in slots n);
+    card = settled.card;
+    draws = grows_le (draws was.entropy) (draws shown.entropy) drawn;
+  }
 
   pub object_serves : (call : Call) (X : Type 0) (result : Result Answer X)
       → ServesObject of_file of_port draws store (record { gate = mid; slots = slots; session = shown }) (record { gate = new; slots = after; session = now }) call result
       → ServesCall of_file of_port draws store (record { gate = old; slots = slots; session = was }) (record { gate = new; slots = after; session = now }) call result
+  unfolding appends_goes_on
   object_serves call X (Ok answer) s = record {
     answers = record {
       goes_on = appends_goes_on of_file of_port draws store old mid new was now settled shown call answer number made goes_on s.answers.appends;
-      accuses = accuses_since d0 dm (devices_in of_file of_port draws (record { gate = new; slots = after; session = now })) before_grow answer.reply s.answers.accuses;
+      accuses = accuses_since (card_key store) d0 dm da began answer.reply s.answers.accuses;
+      costs = costs_since (card_key store) d0 dm da began s.answers.appends.mark s.answers.costs;
     };
     slots = s.slots;
     tagged = λ files. subst AreOfObjectFiles (sym s.answers.appends.all)
         (tagged_more mid.journal.knows.all s.answers.appends.last s.answers.appends.tagged (settled.tagged files));
     held = s.held;
-    grow = λ device. grows_grows (faults_of d0 device) (faults_of dm device) (faults_of (devices_in of_file of_port draws (record { gate = new; slots = after; session = now })) device)
-        (before_grow device) (s.grow device);
+    devices = devices_go_on_then (card_key store) d0 dm da began s.devices;
   }
   object_serves call X (Err e) s = record {
     answers = none_goes_on of_file of_port draws store old mid new was now settled s.answers.whole (s.answers.number ∙ number) (s.answers.made ∙ made)
@@ -126,14 +144,14 @@ module _ {F R E : Type 0} (of_file : F → FileState) (of_port : R → PortState
     slots = s.slots;
     tagged = λ files. subst AreOfObjectFiles (sym s.answers.all) (settled.tagged files);
     held = s.held;
-    grow = λ device. grows_grows (faults_of d0 device) (faults_of dm device) (faults_of (devices_in of_file of_port draws (record { gate = new; slots = after; session = now })) device)
-        (before_grow device) (s.grow device);
+    devices = devices_go_on_then (card_key store) d0 dm da began s.devices;
   }
 
 -- A call that the gate answered alone, or memory ran out.
 module _ {F R E : Type 0} (of_file : F → FileState) (of_port : R → PortState) (draws : E → ℕ) (store : Store) (first old new : LockedGateValue F R) (slots : List SlotValue) (was now : CallerSession E)
     (ready : old.gate ≡ record first.gate { open_handles = old.gate.open_handles; room = old.gate.room }) (knows : old.journal.knows ≡ first.journal.knows) (Reliable : Type 0)
-    (are : AreSlots slots) (holds : HoldsForDoubt first.gate) (drawn : draws was.entropy ≤ draws now.entropy) where
+    (are : AreSlots slots) (holds : HoldsForDoubt first.gate) (drawn : draws was.entropy ≤ draws now.entropy)
+    (keyed : first.gate.host.key ≡ card_key store) (stands : DoubtStands (gate_sides of_file of_port first.gate) first.gate.doubt) where
   abbrev from : Serving F R E
   from = record { gate = first; slots = slots; session = was }
 
@@ -146,97 +164,94 @@ module _ {F R E : Type 0} (of_file : F → FileState) (of_port : R → PortState
   abbrev d2 : Devices
   d2 = devices_in of_file of_port draws to
 
-  alone_grow : (between : LockedGateValue F R) → Settles of_file of_port first between → new.gate ≡ record between.gate { open_handles = new.gate.open_handles } → CountsGrow d1 d2
-  alone_grow between s same Dir = subst (λ (g : GateValue F R). Grows (of_file first.gate.dir.file).faults (of_file g.dir.file).faults) (sym same) s.dir
-  alone_grow between s same (File n) = inl refl
-  alone_grow between s same Card = subst (λ (g : GateValue F R). Grows (of_port first.gate.host.port).faults (of_port g.host.port).faults) (sym same) s.card
-  alone_grow between s same Entropy = grows_le (draws was.entropy) (draws now.entropy) drawn
-
-  served_alone_appends : (between : LockedGateValue F R) (call : Call) (answer : Answer) → IsServed store call answer between new was now → AppendsCall store between new was now call answer
-  served_alone_appends between call answer s = record {
-    mark = Unchanged;
-    extends = s.extends;
-    whole = s.caller;
-    made = s.made;
-    place = s.place;
-    last = alone_record was.number was.made call answer.reply;
-    event = refl;
-    tagged = λ file is. absurd (none_some file is);
-    all = ap (λ (k : GateView). k.all) s.knows;
+  alone_goes_on : (between : LockedGateValue F R) → Settles of_file of_port (card_key store) first between → new.gate ≡ record between.gate { open_handles = new.gate.open_handles } → DevicesGoOn (card_key store) d1 d2
+  alone_goes_on between s same = record {
+    dir = subst (λ (g : GateValue F R). FileGoesOn (of_file first.gate.dir.file) (of_file g.dir.file)) (sym same) s.dir;
+    file = λ n. goes_on_none (file_in slots n);
+    card = subst (λ (g : GateValue F R). PortGoesOn (card_key store) (of_port first.gate.host.port) (of_port g.host.port)) (sym same) s.card;
+    draws = grows_le (draws was.entropy) (draws now.entropy) drawn;
   }
 
-  -- why a commit is in doubt still
-  frame_accuses : (cause : Cause) → IsOfFrame cause → AccusesRightly d1 d2 (NotAvailable cause)
-  frame_accuses (Frame fault) is = tt
-  frame_accuses (CardResult result) is = tt
-  frame_accuses (Fault device count) is = absurd is
+  -- why a commit is in doubt still: a card that is told with the key would have one of the two counters
+  doubted_none : (d : Doubted) → old.gate.doubt ≡ Some d
+      → ((card : CardState) → HasCard (of_port old.gate.host.port) old.gate.host.key card → (card.counter ≡ old.gate.counter) ⊎ (card.counter ≡ old.gate.counter + 1) → ⊥)
+      → TellsNoCard (of_port first.gate.host.port) (card_key store)
+  doubted_none d was none card has =
+      let began : first.gate.doubt ≡ Some d = sym (ap (λ (g : GateValue F R). g.doubt) ready) ∙ was in
+      let had : HasCard (of_port first.gate.host.port) first.gate.host.key card = subst (λ (k : List ℕ). HasCard (of_port first.gate.host.port) k card) (sym keyed) has in
+      let counts = doubted_counts (gate_sides of_file of_port first.gate) d (subst (DoubtStands (gate_sides of_file of_port first.gate)) began stands) card had in
+      subst
+      (λ (g : GateValue F R). HasCard (of_port g.host.port) g.host.key card → (card.counter ≡ g.counter) ⊎ (card.counter ≡ g.counter + 1) → ⊥) ready (none card) had counts
+
+  frame_accuses : (cause : Cause) → IsOfFrame cause → TellsNoCard (of_port first.gate.host.port) (card_key store) → AccusesRightly (card_key store) d1 d2 (NotAvailable cause)
+  frame_accuses (Frame fault) is none = none
+  frame_accuses (CardResult result) is none = none
+  frame_accuses (Fault device count) is none = absurd is
 
   doubt_accuses : (between : LockedGateValue F R) (cause : Cause) → StaysInDoubt of_file of_port Reliable (draws was.entropy) (draws now.entropy) old between cause
-      → new.gate ≡ record between.gate { open_handles = new.gate.open_handles } → AccusesRightly d1 d2 (NotAvailable cause)
+      → new.gate ≡ record between.gate { open_handles = new.gate.open_handles } → AccusesRightly (card_key store) d1 d2 (NotAvailable cause)
   doubt_accuses between cause stays same = elim stays.why [
-    | inl drew ↦ subst (λ (c : Cause). AccusesRightly d1 d2 (NotAvailable c)) (sym drew.2) (drew.1, refl)
+    | inl drew ↦ subst (λ (c : Cause). AccusesRightly (card_key store) d1 d2 (NotAvailable c)) (sym drew.2) (drew.1, refl)
     | inr read ↦ elim read.1.cause [
       | inl rose ↦
           let began : (of_port old.gate.host.port).faults ≡ (of_port first.gate.host.port).faults = ap (λ (g : GateValue F R). (of_port g.host.port).faults) ready in
           let ended : (of_port new.gate.host.port).faults ≡ (of_port between.gate.host.port).faults = ap (λ (g : GateValue F R). (of_port g.host.port).faults) same in
-          subst (λ (c : Cause). AccusesRightly d1 d2 (NotAvailable c)) (sym rose.1) (subst (λ (p : ℕ × ℕ). Rose p.0 p.1) (λ i. (began i, sym ended i)) rose.0, sym ended)
-      | inr none ↦ frame_accuses cause none.1
+          subst (λ (c : Cause). AccusesRightly (card_key store) d1 d2 (NotAvailable c)) (sym rose.1) (subst (λ (p : ℕ × ℕ). Rose p.0 p.1) (λ i. (began i, sym ended i)) rose.0, sym ended)
+      | inr none ↦ frame_accuses cause none.1 (doubted_none stays.doubted stays.was none.0)
     ]
   ]
 
-  misuse_accuses : (reply : Reply) → is_misuse reply ≡ true → AccusesRightly d1 d2 reply
+  misuse_accuses : (reply : Reply) → is_misuse reply ≡ true → AccusesRightly (card_key store) d1 d2 reply
   misuse_accuses (NotAvailable cause) is = cc
   misuse_accuses reply is = tt
 
-  plain_accuses : (reply : Reply) → IsPlain reply → AccusesRightly d1 d2 reply
-  plain_accuses (NotAvailable cause) is = absurd is
-  plain_accuses reply is = tt
-
   precedes_accuses : (between : LockedGateValue F R) (reply : Reply) → Precedes of_file of_port Reliable (draws was.entropy) (draws now.entropy) old between reply
-      → new.gate ≡ record between.gate { open_handles = new.gate.open_handles } → AccusesRightly d1 d2 reply
+      → new.gate ≡ record between.gate { open_handles = new.gate.open_handles } → AccusesRightly (card_key store) d1 d2 reply
   precedes_accuses between reply (Misused same is) gate = misuse_accuses reply is
-  precedes_accuses between reply (Ruled settled plain) gate = plain_accuses reply plain
-  precedes_accuses between reply (HeldUp cause stays is) gate = subst (AccusesRightly d1 d2) (sym is) (doubt_accuses between cause stays gate)
+  precedes_accuses between reply (Ruled settled plain) gate = plain_accuses (card_key store) d1 d2 reply plain
+  precedes_accuses between reply (HeldUp cause stays is) gate = subst (AccusesRightly (card_key store) d1 d2) (sym is) (doubt_accuses between cause stays gate)
 
-  precedes_settles : (between : LockedGateValue F R) (reply : Reply) → Precedes of_file of_port Reliable (draws was.entropy) (draws now.entropy) old between reply → Settles of_file of_port old between
-  precedes_settles between reply (Misused same is) = same_settles of_file of_port old between same
-  precedes_settles between reply (Ruled settled plain) = settled_settles of_file of_port old between settled
-  precedes_settles between reply (HeldUp cause stays is) = stays_settles of_file of_port Reliable (draws was.entropy) (draws now.entropy) old between cause stays
+  precedes_settles : (between : LockedGateValue F R) (reply : Reply) → Precedes of_file of_port Reliable (draws was.entropy) (draws now.entropy) old between reply → Settles of_file of_port (card_key store) old between
+  precedes_settles between reply (Misused same is) = same_settles of_file of_port (card_key store) old between same
+  precedes_settles between reply (Ruled settled plain) = settled_settles of_file of_port (card_key store) old between settled
+  precedes_settles between reply (HeldUp cause stays is) = stays_settles of_file of_port (card_key store) Reliable (draws was.entropy) (draws now.entropy) old between cause stays
 
   pub alone_serves : (call : Call) (answer : Answer) (X : Type 0) → IsServedAlone of_file of_port Reliable (draws was.entropy) (draws now.entropy) store call answer old new was now
       → ServesCall of_file of_port draws {X = X} store from to call (Ok answer)
+  unfolding appends_goes_on ruled_appends
   alone_serves call answer X s =
-      let settled : Settles of_file of_port first s.between = reserved_settles of_file of_port first old s.between ready knows (precedes_settles s.between answer.reply s.precedes) in
-      let a : AppendsCall store s.between new was now call answer = served_alone_appends s.between call answer s.served in
+      let settled : Settles of_file of_port (card_key store) first s.between = reserved_settles of_file of_port (card_key store) first old s.between ready knows (precedes_settles s.between answer.reply s.precedes) in
+      let a : AppendsCall store s.between new was now call answer = ruled_appends store s.between new was now call answer s.served in
       record {
         answers = record {
           goes_on = appends_goes_on of_file of_port draws store first s.between new was now settled was call answer refl refl (λ end event place x. x) a;
           accuses = precedes_accuses s.between answer.reply s.precedes s.served.gate;
+          costs = tt;
         };
         slots = are;
         tagged = λ files. subst AreOfObjectFiles (sym a.all) (tagged_more s.between.journal.knows.all a.last a.tagged (settled.tagged files));
         held = quiet_holds s.between.gate new.gate s.served.gate (settled.held holds);
-        grow = alone_grow s.between settled s.served.gate;
+        devices = alone_goes_on s.between settled s.served.gate;
       }
 
   -- the gate as memory ran out
-  pub none_serves : (call : Call) (X : Type 0) (e : X) → Settles of_file of_port first new → IsCallerOf store now → now.number ≡ was.number → now.made ≡ was.made → GoesOn store was now
+  pub none_serves : (call : Call) (X : Type 0) (e : X) → Settles of_file of_port (card_key store) first new → IsCallerOf store now → now.number ≡ was.number → now.made ≡ was.made → GoesOn store was now
       → ServesCall of_file of_port draws {X = X} store from to call (Err e)
   none_serves call X e settled caller number made goes_on = record {
     answers = none_goes_on of_file of_port draws store first new new was now settled caller number made goes_on refl;
     slots = are;
     tagged = settled.tagged;
     held = settled.held holds;
-    grow = alone_grow new settled refl;
+    devices = alone_goes_on new settled refl;
   }
 
   pub unserved_serves : (call : Call) (X : Type 0) (e : X) → IsUnserved of_file of_port Reliable (draws was.entropy) (draws now.entropy) store old new was now
       → ServesCall of_file of_port draws {X = X} store from to call (Err e)
   unserved_serves call X e u =
-      none_serves call X e (reserved_settles of_file of_port first old new ready knows (elim u.gate [
-        | inl same ↦ same_settles of_file of_port old new same
+      none_serves call X e (reserved_settles of_file of_port (card_key store) first old new ready knows (elim u.gate [
+        | inl same ↦ same_settles of_file of_port (card_key store) old new same
         | inr other ↦ elim other [
-          | inl w ↦ was_settles of_file of_port old new w
-          | inr doubt ↦ stays_settles of_file of_port Reliable (draws was.entropy) (draws now.entropy) old new doubt.0 doubt.1
+          | inl w ↦ was_settles of_file of_port (card_key store) old new w
+          | inr doubt ↦ stays_settles of_file of_port (card_key store) Reliable (draws was.entropy) (draws now.entropy) old new doubt.0 doubt.1
         ]
       ])) u.caller u.number u.made u.goes_on

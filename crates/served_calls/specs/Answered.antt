@@ -3,10 +3,11 @@ use Rattle.std.specs.Prelude.{Err, List, None, Ok, Option, Result, Some, [], len
 use Rattle.call_history.specs.Sessions.{CallerSession, IsCallerOf, session_value}
 use Rattle.disk_model.specs.State.{FileState}
 use Rattle.gate_calls.specs.Seen.{GoesOn}
+use Rattle.hmac_keys.specs.KeyTable.{rpmb_key}
 use Rattle.locked_gate.specs.declared.answered.Answer.{Answer}
 use Rattle.locked_gate.specs.LockedGates.{LockedGateValue}
 use Rattle.rpmb_card.specs.Port.{PortState}
-use Rattle.served_calls.specs.Devices.{AccusesRightly, CountsGrow}
+use Rattle.served_calls.specs.Devices.{AccusesRightly, CostsDoubt, DevicesGoOn}
 use Rattle.served_calls.specs.Held.{HoldsForDoubt}
 use Rattle.served_calls.specs.Slots.{AreOfObjectFiles, AreSlots}
 use Rattle.served_calls.specs.Standing.{Serving, devices_in}
@@ -47,10 +48,12 @@ pub record GoesOnWithout {F R E : Type 0} (store : Store) (old new : LockedGateV
   pub events : events_at new ≡ events_at old ++ landing_events landed
 
 module _ {F R E : Type 0} (of_file : F → FileState) (of_port : R → PortState) (draws : E → ℕ) where
-  -- A device that the reply accuses counted a fault in the call, and the reply carries its count.
+  -- A device that the reply accuses counted a fault in the call, and the reply carries its count. A frame, or a result of the card, is told
+  -- only where no card is that has the key, and a doubt over such a card cost two counts.
   pub record IsAnswered (store : Store) (old new : Serving F R E) (call : Call) (answer : Answer) : Type 0 where
     pub goes_on : GoesOnWith store old.gate new.gate old.session new.session call answer
-    pub accuses : AccusesRightly (devices_in of_file of_port draws old) (devices_in of_file of_port draws new) answer.reply
+    pub accuses : AccusesRightly (rpmb_key store.keys.huk) (devices_in of_file of_port draws old) (devices_in of_file of_port draws new) answer.reply
+    pub costs : CostsDoubt (rpmb_key store.keys.huk) (devices_in of_file of_port draws old) (devices_in of_file of_port draws new) goes_on.mark
 
   abbrev pub IsAnsweredOrNot : {X : Type 0} → Store → (old new : Serving F R E) → Call → Result Answer X → Type 0
   IsAnsweredOrNot store old new call (Ok answer) = IsAnswered store old new call answer
@@ -62,4 +65,4 @@ module _ {F R E : Type 0} (of_file : F → FileState) (of_port : R → PortState
     pub slots : AreSlots new.slots
     pub tagged : AreOfObjectFiles old.gate.journal.knows.all → AreOfObjectFiles new.gate.journal.knows.all
     pub held : HoldsForDoubt new.gate.gate
-    pub grow : CountsGrow (devices_in of_file of_port draws old) (devices_in of_file of_port draws new)
+    pub devices : DevicesGoOn (rpmb_key store.keys.huk) (devices_in of_file of_port draws old) (devices_in of_file of_port draws new)

@@ -1,12 +1,18 @@
--- The devices of a store that is served, and their counts of faults.
-use Rattle.std.specs.Prelude.{List, None, slice_index_or, ℕ, ◌-◌, ◌≡◌, ◌⊎◌}
+-- The devices of a store that is served, their counts of faults, and what a call leaves of them.
+use Rattle.std.specs.Prelude.{IsTrue, List, None, slice_index_or, ℕ, ◌-◌, ◌≡◌, ◌⊎◌}
+use Rattle.disk_model.specs.Calls.{GoesOn}
 use Rattle.disk_model.specs.Faults.{Rose}
 use Rattle.disk_model.specs.State.{FileState}
 use Rattle.object_slots.specs.Inside.{no_file}
 use Rattle.object_slots.specs.Value.{SlotValue, free}
+use Rattle.rpmb_card.specs.Card.{CardState}
 use Rattle.rpmb_card.specs.Port.{PortState}
+use Rattle.rpmb_host.specs.Honest.{HadCard, HasCard}
+use Rattle.store_commit.specs.Causes.{StaysCalm, TwiceRose}
 use Rattle.store_commit.specs.Gates.{GateValue}
-use Rattle.tee_types.specs.declared.reply.Cause.TheVariants.{Fault}
+use Rattle.store_model.specs.declared.event.Mark.{Mark}
+use Rattle.store_model.specs.declared.event.Mark.TheVariants.{Doubtful}
+use Rattle.tee_types.specs.declared.reply.Cause.TheVariants.{CardResult, Fault, Frame}
 use Rattle.tee_types.specs.declared.reply.Device.{Device}
 use Rattle.tee_types.specs.declared.reply.Device.TheVariants.{Card, Dir, Entropy, File}
 use Rattle.tee_types.specs.declared.reply.Reply.{Reply}
@@ -37,10 +43,22 @@ faults_of d (File number) = (d.file number).faults
 faults_of d Card = d.card.faults
 faults_of d Entropy = d.draws
 
--- a device that a reply accuses counted a fault, and the reply carries its count
-abbrev pub AccusesRightly : (old new : Devices) → Reply → Type 0
-AccusesRightly old new (NotAvailable (Fault device count)) = Rose (faults_of old device) (faults_of new device) × (count ≡ faults_of new device)
-AccusesRightly old new reply = Unit {0}
+-- the port tells no card that has the key
+abbrev pub TellsNoCard : PortState → (key : List ℕ) → Type 0
+TellsNoCard port key = (card : CardState) → HasCard port key card → ⊥
+
+-- A device that a reply accuses counted a fault, and the reply carries its count. A frame, or a result of the card, is the cause only where
+-- the port tells no card that has the key.
+abbrev pub AccusesRightly : (key : List ℕ) → (old new : Devices) → Reply → Type 0
+AccusesRightly key old new (NotAvailable (Fault device count)) = Rose (faults_of old device) (faults_of new device) × (count ≡ faults_of new device)
+AccusesRightly key old new (NotAvailable (Frame fault)) = TellsNoCard old.card key
+AccusesRightly key old new (NotAvailable (CardResult result)) = TellsNoCard old.card key
+AccusesRightly key old new reply = Unit {0}
+
+-- a commit in doubt over a card that has the key cost two counts of its port at least
+abbrev pub CostsDoubt : (key : List ℕ) → (old new : Devices) → Mark → Type 0
+CostsDoubt key old new (Doubtful commit) = (card : CardState) → HasCard old.card key card → TwiceRose old.card new.card
+CostsDoubt key old new mark = Unit {0}
 
 -- a count stands still, or it rose
 abbrev pub Grows : (old new : ℕ) → Type 0
@@ -49,3 +67,16 @@ Grows old new = (new ≡ old) ⊎ Rose old new
 -- so does each
 abbrev pub CountsGrow : (old new : Devices) → Type 0
 CountsGrow old new = (device : Device) → Grows (faults_of old device) (faults_of new device)
+
+-- The port tells a card that has the key where it did before; a calm one stays calm and counts no fault; its count stands still, or it rose.
+pub record PortGoesOn (key : List ℕ) (old new : PortState) : Type 0 where
+  pub told : (card : CardState) → HasCard old key card → HadCard new key
+  pub calm : IsTrue old.calm → StaysCalm old new
+  pub counted : Grows old.faults new.faults
+
+-- What a call leaves of the devices: the meanings of each go on.
+pub record DevicesGoOn (key : List ℕ) (old new : Devices) : Type 0 where
+  pub dir : GoesOn old.dir new.dir
+  pub file : (number : ℕ) → GoesOn (old.file number) (new.file number)
+  pub card : PortGoesOn key old.card new.card
+  pub draws : Grows old.draws new.draws

@@ -2,9 +2,7 @@
 
 ghost use Rattle.std.specs.Prelude.{◌≡◌, ◌≤◌, length, None};
 ghost use Rattle.hmac_keys.specs.KeyTable.{ssk};
-ghost use Rattle.locked_gate.specs.Commits.{IsCalm};
-ghost use Rattle.served_calls.specs.Held.{HoldsForDoubt};
-ghost use Rattle.served_calls.specs.Slots.{AreSlots};
+ghost use Rattle.served_calls.specs.Ready.{IsReady};
 ghost use Rattle.served_calls.specs.Standing.{ServesObject};
 
 use crate::placing::place_of;
@@ -30,18 +28,13 @@ pub(crate) fn open<F: StoreFile + Drop, R: RpmbPort + Drop, L: StoreName, E: Ent
     id: ObjectId,
     flags: Flags,
 ) -> Result<Answer, NoMemory>
-    requires names { 1 ≤ gate.old.gate.room }
-    requires handles { 1 ≤ gate.old.gate.open_handles.spare }
-    requires events { 1 ≤ gate.old.journal.spare }
-    requires idle { gate.old.gate.doubt ≡ None }
-    requires calm { IsCalm L.store gate.old.journal.knows session.old }
-    requires held { HoldsForDoubt gate.old.gate }
-    requires slots { AreSlots slots.old.items }
+    requires ready { IsReady R.state L.store gate.old slots.old.items session.old }
     requires keyed { storage_key.now ≡ ssk L.store.keys.huk L.store.keys.chip }
     ensures serves { ServesObject F.state R.state E.faults L.store
         (record { gate = gate.old; slots = slots.old.items; session = session.old })
         (record { gate = gate.new; slots = slots.new.items; session = session.new }) (Call.Open id flags) result }
     ensures reliable { E.is_reliable session.old.entropy → E.is_reliable session.new.entropy }
+    ensures still { E.is_reliable session.old.entropy → E.faults session.new.entropy ≡ E.faults session.old.entropy }
 {
     let held = match call_rules::open(&*gate, session.state(), id, flags) {
         Decision::Answered(reply) => return answer(
@@ -73,13 +66,7 @@ pub(crate) fn create<F: StoreFile + Drop, R: RpmbPort + Drop, L: StoreName, E: E
     attributes: &Bytes,
     bytes: &Bytes,
 ) -> Result<Answer, NoMemory>
-    requires names { 1 ≤ gate.old.gate.room }
-    requires handles { 1 ≤ gate.old.gate.open_handles.spare }
-    requires events { 1 ≤ gate.old.journal.spare }
-    requires idle { gate.old.gate.doubt ≡ None }
-    requires calm { IsCalm L.store gate.old.journal.knows session.old }
-    requires held { HoldsForDoubt gate.old.gate }
-    requires slots { AreSlots slots.old.items }
+    requires ready { IsReady R.state L.store gate.old slots.old.items session.old }
     requires few { length L.store.mounted.applications ≤ 16 }
     requires keyed { storage_key.now ≡ ssk L.store.keys.huk L.store.keys.chip }
     requires call { call.now ≡ Call.Create id flags attributes.now bytes.now }
@@ -87,6 +74,7 @@ pub(crate) fn create<F: StoreFile + Drop, R: RpmbPort + Drop, L: StoreName, E: E
         (record { gate = gate.old; slots = slots.old.items; session = session.old })
         (record { gate = gate.new; slots = slots.new.items; session = session.new }) (Call.Create id flags attributes.now bytes.now) result }
     ensures reliable { E.is_reliable session.old.entropy → E.is_reliable session.new.entropy }
+    ensures still { E.is_reliable session.old.entropy → E.faults session.new.entropy ≡ E.faults session.old.entropy }
 {
     let place = match call_rules::create(&*gate, session.state(), id, flags, attributes, bytes) {
         Decision::Answered(reply) => return answer(alloc, gate, slots, session, call, reply),

@@ -1,9 +1,7 @@
 //! Calls that change an open object's name.
 
 ghost use Rattle.std.specs.Prelude.{◌≡◌, ◌≤◌, None};
-ghost use Rattle.locked_gate.specs.Commits.{IsCalm};
-ghost use Rattle.served_calls.specs.Held.{HoldsForDoubt};
-ghost use Rattle.served_calls.specs.Slots.{AreSlots};
+ghost use Rattle.served_calls.specs.Ready.{IsReady};
 ghost use Rattle.served_calls.specs.Standing.{ServesObject};
 
 use crate::placing::place_of;
@@ -27,17 +25,12 @@ pub(crate) fn rename<F: StoreFile + Drop, R: RpmbPort + Drop, L: StoreName, E: E
     handle: u32,
     id: ObjectId,
 ) -> Result<Answer, NoMemory>
-    requires names { 1 ≤ gate.old.gate.room }
-    requires handles { 1 ≤ gate.old.gate.open_handles.spare }
-    requires events { 1 ≤ gate.old.journal.spare }
-    requires idle { gate.old.gate.doubt ≡ None }
-    requires calm { IsCalm L.store gate.old.journal.knows session.old }
-    requires held { HoldsForDoubt gate.old.gate }
-    requires slots { AreSlots slots.old.items }
+    requires ready { IsReady R.state L.store gate.old slots.old.items session.old }
     ensures serves { ServesObject F.state R.state E.faults L.store
         (record { gate = gate.old; slots = slots.old.items; session = session.old })
         (record { gate = gate.new; slots = slots.new.items; session = session.new }) (Call.Rename handle id) result }
     ensures reliable { E.is_reliable session.old.entropy → E.is_reliable session.new.entropy }
+    ensures still { E.is_reliable session.old.entropy → E.faults session.new.entropy ≡ E.faults session.old.entropy }
 {
     let found = match call_rules::rename(&*gate, session.state(), handle, id) {
         Decision::Answered(reply) => return answer(
@@ -63,17 +56,12 @@ pub(crate) fn delete<F: StoreFile + Drop, R: RpmbPort + Drop, L: StoreName, E: E
     session: &mut Session<E>,
     handle: u32,
 ) -> Result<Answer, NoMemory>
-    requires names { 1 ≤ gate.old.gate.room }
-    requires handles { 1 ≤ gate.old.gate.open_handles.spare }
-    requires events { 1 ≤ gate.old.journal.spare }
-    requires idle { gate.old.gate.doubt ≡ None }
-    requires calm { IsCalm L.store gate.old.journal.knows session.old }
-    requires held { HoldsForDoubt gate.old.gate }
-    requires slots { AreSlots slots.old.items }
+    requires ready { IsReady R.state L.store gate.old slots.old.items session.old }
     ensures serves { ServesObject F.state R.state E.faults L.store
         (record { gate = gate.old; slots = slots.old.items; session = session.old })
         (record { gate = gate.new; slots = slots.new.items; session = session.new }) (Call.Delete handle) result }
     ensures reliable { E.is_reliable session.old.entropy → E.is_reliable session.new.entropy }
+    ensures still { E.is_reliable session.old.entropy → E.faults session.new.entropy ≡ E.faults session.old.entropy }
 {
     let found = match call_rules::delete(&*gate, session.state(), handle) {
         Decision::Answered(reply) => return answer(

@@ -6,9 +6,7 @@ ghost use Rattle.call_rules.specs.Matches.{Matches};
 ghost use Rattle.call_rules.specs.Plain.{IsPlain};
 ghost use Rattle.call_rules.specs.Told.{IsTold};
 ghost use Rattle.locked_gate.specs.Answering.{LeavesHandles};
-ghost use Rattle.locked_gate.specs.Commits.{IsCalm};
-ghost use Rattle.served_calls.specs.Held.{HoldsForDoubt};
-ghost use Rattle.served_calls.specs.Slots.{AreSlots};
+ghost use Rattle.served_calls.specs.Ready.{IsReady};
 ghost use Rattle.served_calls.specs.Standing.{ServesObject};
 
 use call_history::Session;
@@ -30,11 +28,7 @@ pub(crate) fn answer<F: StoreFile + Drop, R: RpmbPort + Drop, L: StoreName, E: E
     call: &Call,
     reply: Reply,
 ) -> Result<Answer, NoMemory>
-    requires room { 1 ≤ gate.old.journal.spare }
-    requires idle { gate.old.gate.doubt ≡ None }
-    requires calm { IsCalm L.store gate.old.journal.knows session.old }
-    requires held { HoldsForDoubt gate.old.gate }
-    requires slots { AreSlots slots.now.items }
+    requires ready { IsReady R.state L.store gate.old slots.now.items session.old }
     requires told { (s : MachineState) (i : ℕ) → Matches gate.old.gate.dir.dir.entries gate.old.gate.open_handles session.old.state s i
         → IsTold s i call.now reply session.old.state }
     requires plain { IsPlain reply }
@@ -43,6 +37,7 @@ pub(crate) fn answer<F: StoreFile + Drop, R: RpmbPort + Drop, L: StoreName, E: E
         (record { gate = gate.old; slots = slots.now.items; session = session.old })
         (record { gate = gate.new; slots = slots.now.items; session = session.new }) call.now result }
     ensures reliable { E.is_reliable session.old.entropy → E.is_reliable session.new.entropy }
+    ensures still { E.is_reliable session.old.entropy → E.faults session.new.entropy ≡ E.faults session.old.entropy }
 {
     let kept = call.copy(alloc)?;
     Ok(answer_ruled(gate, session, kept, reply))

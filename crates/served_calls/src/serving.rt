@@ -4,9 +4,9 @@ ghost use Rattle.std.specs.Prelude.{◌≡◌, ◌≤◌, length, true, None};
 ghost use Rattle.hmac_keys.specs.KeyTable.{ssk};
 ghost use Rattle.call_history.specs.Sessions.{IsCallerOf};
 ghost use Rattle.gate_calls.specs.Rulings.{is_on_object};
-ghost use Rattle.locked_gate.specs.Commits.{IsCalm};
 ghost use Rattle.served_calls.specs.Answered.{ServesCall};
 ghost use Rattle.served_calls.specs.Held.{HoldsForDoubt};
+ghost use Rattle.served_calls.specs.Ready.{IsReady};
 ghost use Rattle.served_calls.specs.Slots.{AreSlots};
 ghost use Rattle.served_calls.specs.Standing.{ServesObject};
 
@@ -33,13 +33,7 @@ fn serve_object<F: StoreFile + Drop, R: RpmbPort + Drop, L: StoreName, E: Entrop
     session: &mut Session<E>,
     call: &Call,
 ) -> Result<Answer, NoMemory>
-    requires names { 1 ≤ gate.old.gate.room }
-    requires handles { 1 ≤ gate.old.gate.open_handles.spare }
-    requires events { 1 ≤ gate.old.journal.spare }
-    requires idle { gate.old.gate.doubt ≡ None }
-    requires calm { IsCalm L.store gate.old.journal.knows session.old }
-    requires held { HoldsForDoubt gate.old.gate }
-    requires slots { AreSlots slots.old.items }
+    requires ready { IsReady R.state L.store gate.old slots.old.items session.old }
     requires few { length L.store.mounted.applications ≤ 16 }
     requires keyed { storage_key.now ≡ ssk L.store.keys.huk L.store.keys.chip }
     requires on { is_on_object call.now ≡ true }
@@ -47,6 +41,7 @@ fn serve_object<F: StoreFile + Drop, R: RpmbPort + Drop, L: StoreName, E: Entrop
         (record { gate = gate.old; slots = slots.old.items; session = session.old })
         (record { gate = gate.new; slots = slots.new.items; session = session.new }) (call.now) result }
     ensures reliable { E.is_reliable session.old.entropy → E.is_reliable session.new.entropy }
+    ensures still { E.is_reliable session.old.entropy → E.faults session.new.entropy ≡ E.faults session.old.entropy }
 {
     match call {
         Call::Create {
@@ -115,12 +110,16 @@ pub fn serve<F: StoreFile + Drop, R: RpmbPort + Drop, L: StoreName, E: Entropy>(
         (record { gate = gate.old; slots = slots.old.items; session = session.old })
         (record { gate = gate.new; slots = slots.new.items; session = session.new }) call.now result }
     ensures reliable { E.is_reliable session.old.entropy → E.is_reliable session.new.entropy }
+    ensures still { E.is_reliable session.old.entropy → E.faults session.new.entropy ≡ E.faults session.old.entropy }
 {
+    // Tells how the gate and the card stand to each other.
+    let _doubt = gate.doubt();
     gate.reserve()?;
     if let Some(answer) = answer_alone(alloc, gate, session, call)? {
         return Ok(answer);
     }
     // A landing may have taken of that room.
     gate.reserve()?;
+    let _settled = gate.doubt();
     serve_object(alloc, gate, slots, storage_key, session, call)
 }

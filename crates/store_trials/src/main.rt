@@ -5,6 +5,8 @@
 //! An act is tried once for each call that may fail, in each way and with each seed of a crash. Then the store is mounted again and all its objects
 //! are read. Where the act was done they are those that it leaves, and where it was not they are those of before; where nobody could tell, they are
 //! one of both. The numbers of calls are found by running, until none fails that was set to.
+//!
+//! A last line says how many sessions a mounted store opens before it refuses one.
 #![tactic(auto)]
 
 use acts::Act;
@@ -15,6 +17,7 @@ mod commits;
 mod devices;
 mod mishaps;
 mod objects;
+mod sessions;
 mod shown;
 mod stores;
 mod tally;
@@ -45,6 +48,15 @@ fn print_row(rt: &impl Print, name: &str, tally: &Tally) -> anyhow::Result<()> {
     Ok(())
 }
 
+// Prints how many sessions are opened.
+fn print_sessions(rt: &impl Print, opened: u32) -> anyhow::Result<()> {
+    println!(rt;
+        "sessions: {opened} opened, the {}th refused",
+        opened.saturating_add(1)
+    )?;
+    Ok(())
+}
+
 fn main(rt: HostRuntime) -> anyhow::Result<()> {
     print_head(&rt)?;
     let mut lost = 0u64;
@@ -54,5 +66,5 @@ fn main(rt: HostRuntime) -> anyhow::Result<()> {
         lost = lost.saturating_add(tally.lost);
     }
     println!(rt; "{lost} lost")?;
-    Ok(())
+    print_sessions(&rt, sessions::opened(rt.alloc())?)
 }

@@ -1,10 +1,10 @@
-use Rattle.std.proofs.Common.{refl, sym, subst}
+use Rattle.std.proofs.Common.{◌∙◌, List, map, refl, sym, ap, subst, inl, inr}
 use Rattle.store_commit.specs.declared.fault.MountFault.{MountFault}
+use Rattle.object_calls.specs.declared.bench.Bench.{Bench}
 use Rattle.bench_acts.specs.Benches.{HasPassed, bench_state}
-use Rattle.bench_acts.specs.Opens.{StopsOpening, starved, stopped, unasked}
+use Rattle.bench_acts.specs.Opens.{IsOpenRefused, StopsOpening, starved, stopped, unasked}
 use Rattle.bench_acts.proofs.OpenedBenches.{opens_passed}
 use Rattle.bench_acts.proofs.opening.open_bench.Goals as goal
-use Rattle.bench_acts.proofs.opening.open_bench.Goals.{then-is_fed, else-is_fed}
 
 pub returns-in_default-clause-refused : goal.returns-in_default-clause-refused
 returns-in_default-clause-refused g c = unasked refl refl
@@ -26,9 +26,13 @@ returns-clause-refused g c =
     let drew = g.E.Entropy.faults c.args.entropy.now in
     let draws = g.E.Entropy.faults c.open_or_form.new.entropy in
     let old = view c.args.bench in
-    let new = view c.in-Err.field-0.bench in
-    let stops : StopsOpening c.args.keys.now old new drew draws c.in-Err.field-0.fault = c.in-Err.ensures.answer in
-    elim c.if-is_fed.branch [
-      | then-is_fed w ↦ stopped (subst (λ (f : MountFault). StopsOpening c.args.keys.now old new drew draws f) (sym w.fault-is) stops)
-      | else-is_fed w ↦ starved c.in-Err.field-0.fault w.fault-is stops
-    ]
+    let halted = c.in-Err.halted in
+    let new = view halted.bench in
+    let stops : StopsOpening c.args.keys.now old new drew draws halted.fault = c.in-Err.ensures.answer in
+    let counted = c.deref-in-Err.ensures.value ∙ c.in-Ok.ensures ∙ ap (λ (l : List g.row.F.Denot). map (λ f. (g.F.StoreFile.state f).starved) l) c.deref.ensures.value in
+    let told = c.tell_fault.ensures.told c.args.bench (c.requires ∙ sym c.in-Err.ensures.whole_err) counted in
+    let refused : IsOpenRefused c.args.keys.now old new drew draws c.tell_fault.result.fault = elim told [
+      | inl fed ↦ stopped (subst (λ (f : MountFault). StopsOpening c.args.keys.now old new drew draws f) (sym fed.0) stops) fed.1
+      | inr gone ↦ starved halted.fault gone.0 stops gone.1
+    ] in
+    subst (λ (b : Bench g.row.F.Denot g.row.R.Denot). IsOpenRefused c.args.keys.now old (view b) drew draws c.tell_fault.result.fault) (sym c.tell_fault.ensures.bench) refused

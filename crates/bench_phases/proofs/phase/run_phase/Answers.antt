@@ -4,6 +4,7 @@ use Rattle.object_calls.specs.Opening.{OpeningValue}
 use Rattle.bench_acts.specs.Benches.{bench_state}
 use Rattle.bench_acts.specs.Mounts.{objects_in}
 use Rattle.bench_phases.proofs.Fed.{fed_disarmed}
+use Rattle.bench_phases.proofs.Ready.{serves_where}
 use Rattle.bench_phases.proofs.phase.run_phase.Goals as goal
 
 pub returns-in-Ok-serve_opened-clause-runs : goal.returns-in-Ok-serve_opened-clause-runs
@@ -28,7 +29,8 @@ returns-in-Ok-serve_opened-clause-runs g c =
         passed = mounted.passed;
         objects = refl;
         closed = bench_state of_file of_port closed.bench;
-        serves = c.in-Ok-serve_opened.ensures.serves;
+        serves = serves_where of_file of_port (g.E.Entropy.is_reliable c.mount_fed.new.entropy) (g.E.Entropy.is_reliable c.args.entropy.now) keys c.args.applications.now c.args.arms.now
+            c.args.calls.now opened (bench_state of_file of_port closed.bench) closed.history.events c.mount_fed.ensures.reliable c.in-Ok-serve_opened.ensures.serves;
         disarms = c.disarm_bench.ensures.disarms;
         fed = fed_disarmed (bench_state of_file of_port c.args.bench) (bench_state of_file of_port closed.bench) (bench_state of_file of_port c.disarm_bench.result) fed
             c.disarm_bench.ensures.disarms;

@@ -4,8 +4,10 @@ use Rattle.object_calls.specs.Opening.{OpeningValue}
 use Rattle.object_calls.specs.Sessions.{AreUnseated}
 use Rattle.phase_calls.specs.Steps.{AreCalls}
 use Rattle.bench_acts.specs.Benches.{bench_state, opening_state}
-use Rattle.bench_phases.specs.Closing.{ClosesStore, faults_on}
+use Rattle.bench_phases.specs.Closing.{ClosesStore}
+use Rattle.bench_phases.specs.Drawing.{AreReliable}
 use Rattle.bench_phases.specs.Phases.{ServesOpened}
+use Rattle.bench_phases.proofs.Closings.{closes_where}
 use Rattle.bench_phases.proofs.Ready.{ready-applications, ready-keyed, serves_opened}
 use Rattle.bench_phases.proofs.Results.{if_ok}
 use Rattle.bench_phases.proofs.phase.serve_opened.Goals as goal
@@ -30,9 +32,13 @@ returns-in-Ok-clause-serves g c =
     let of_port = g.R.RpmbPort.state in
     let keys = c.args.keys.now in
     let armed : OpeningValue g.row.F.Denot g.row.R.Denot = c.make_ready.new.opening in
+    let reliable = g.E.Entropy.is_reliable c.args.entropy.now in
+    let sessions = AreReliable g.E.Entropy.is_reliable c.in-Ok.sessions.items in
     if_ok c.serve_once.result
-    (λ x. ClosesStore (store_in keys of_file of_port armed) (faults_on (opening_state of_file of_port armed)) c.args.calls.now (bench_state of_file of_port x.bench) x.history.events)
-    (λ x. ServesOpened of_file of_port keys c.args.applications.now c.args.arms.now c.args.calls.now c.args.opening (bench_state of_file of_port x.bench) x.history.events)
-    (λ x closes. serves_opened of_file of_port c.args.applications.now c.args.arms.now c.args.opening armed c.in-Ok.ensures.ready keys c.args.calls.now (bench_state of_file of_port x.bench) x.history.events
-    c.requires.keyed closes)
+    (λ x. ClosesStore sessions (store_in keys of_file of_port armed) (opening_state of_file of_port armed) c.args.calls.now (bench_state of_file of_port x.bench) x.history.events)
+    (λ x. ServesOpened of_file of_port reliable keys c.args.applications.now c.args.arms.now c.args.calls.now c.args.opening (bench_state of_file of_port x.bench) x.history.events)
+    (λ x closes. serves_opened of_file of_port c.args.applications.now c.args.arms.now c.args.opening armed c.in-Ok.ensures.ready reliable keys c.args.calls.now (bench_state of_file of_port x.bench)
+    x.history.events c.requires.keyed
+    (closes_where sessions reliable (store_in keys of_file of_port armed) (opening_state of_file of_port armed) c.args.calls.now (bench_state of_file of_port x.bench) x.history.events
+    c.in-Ok.ensures.reliable closes))
     c.serve_once.ensures.closed

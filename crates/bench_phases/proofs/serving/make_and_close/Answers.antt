@@ -3,7 +3,10 @@ use Rattle.call_history.specs.Sessions.{CallerSession}
 use Rattle.object_calls.specs.Sessions.{AreCallers}
 use Rattle.object_calls.proofs.Files.{refilled}
 use Rattle.phase_calls.specs.Steps.{AreCalls}
-use Rattle.bench_phases.proofs.Closings.{closes_store}
+use Rattle.bench_acts.specs.Benches.{bench_state}
+use Rattle.bench_phases.specs.Closing.{ClosesStore}
+use Rattle.bench_phases.specs.Drawing.{AreFresh, AreReliable}
+use Rattle.bench_phases.proofs.Closings.{closes_store, ends_devices}
 use Rattle.bench_phases.proofs.serving.make_and_close.Goals as goal
 
 pub make_calls-made-requires-clause-calls : goal.make_calls-made-requires-clause-calls
@@ -19,11 +22,19 @@ finish-closed-requires g c =
     subst (λ (l : List (CallerSession g.row.E.Denot)). AreCallers g.L.StoreName.store l) (sym (refilled sessions.len sessions.items new long many)) c.make_calls-made.ensures.sessions.each
 
 pub returns-in-Ok-clause-closed : goal.returns-in-Ok-clause-closed
-returns-in-Ok-clause-closed g c =
+returns-in-Ok-clause-closed g c = λ before has.
+    let of_file = g.F.StoreFile.state in
+    let of_port = g.R.RpmbPort.state in
+    let store = g.L.StoreName.store in
     let was : List (CallerSession g.row.E.Denot) = c.deref_mut.result.now in
+    let same : was ≡ c.args.sessions.items = c.deref_mut.ensures.value in
     let made = c.make_calls-made in
     let closed = c.finish-closed in
-    closes_store g.F.StoreFile.state g.R.RpmbPort.state g.E.Entropy.faults g.L.StoreName.store c.args.service made.new.service was made.new.sessions c.args.calls.now
-    closed.result.bench.files.items closed.result.bench.card closed.result.doubt closed.result.history.events
-    (ap (λ (l : List (CallerSession g.row.E.Denot)). length l) c.deref_mut.ensures.value ∙ c.requires.sessions.many) c.requires.begins c.in-Ok.ensures.made c.in-Ok.ensures.serves
-    closed.ensures.events closed.ensures.gives closed.ensures.leaves
+    subst
+    (λ (l : List (CallerSession g.row.E.Denot)). ClosesStore (AreReliable g.E.Entropy.is_reliable l) store before c.args.calls.now (bench_state of_file of_port closed.result.bench) closed.result.history.events)
+    same
+    (closes_store of_file of_port g.E.Entropy.faults g.E.Entropy.is_reliable store c.args.service made.new.service before (bench_state of_file of_port closed.result.bench) was made.new.sessions
+    c.args.calls.now has (ends_devices of_file of_port made.new.service closed.result.bench.files.items closed.result.bench.card closed.ensures.gives) c.in-Ok.ensures.made closed.result.doubt
+    closed.result.history.events (ap (λ (l : List (CallerSession g.row.E.Denot)). length l) same ∙ c.requires.sessions.many)
+    (subst (λ (l : List (CallerSession g.row.E.Denot)). AreFresh g.E.Entropy.faults l) (sym same) c.requires.fresh) made.ensures.reliable c.requires.begins c.in-Ok.ensures.serves
+    closed.ensures.events closed.ensures.leaves)

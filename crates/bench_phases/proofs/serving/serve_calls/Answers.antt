@@ -1,17 +1,18 @@
-use Rattle.std.proofs.Common.{◌≡◌, ◌∙◌, ℕ, List, length, sym, ap, subst}
+use Rattle.std.proofs.Common.{◌≡◌, ◌∙◌, ◌++◌, ℕ, List, drop, length, take, sym, ap, subst}
 use Rattle.store_model.specs.Record.{events_of}
 use Rattle.history_seats.specs.Records.{HistoryRecord}
 use Rattle.suppositions.specs.Stores.{Store}
 use Rattle.call_history.specs.Sessions.{CallerSession}
-use Rattle.object_calls.specs.Sessions.{AreSeated}
+use Rattle.object_calls.specs.Sessions.{AreSeated, DrawAlike}
 use Rattle.object_calls.proofs.Files.{refilled}
 use Rattle.phase_calls.specs.Steps.{AreCalls}
 use Rattle.object_calls.specs.Services.{ServiceValue}
-use Rattle.phase_calls.specs.Making.{faults_at}
 use Rattle.bench_acts.specs.Benches.{bench_state, opening_state}
-use Rattle.bench_phases.specs.Closing.{ClosesStore, faults_on}
+use Rattle.bench_phases.specs.Closing.{ClosesStore}
+use Rattle.bench_phases.specs.Drawing.{AreFresh, AreReliable}
 use Rattle.bench_phases.proofs.Results.{if_ok}
-use Rattle.bench_phases.proofs.Closings.{closes_from}
+use Rattle.bench_phases.proofs.Closings.{begins_devices, closes_where}
+use Rattle.bench_phases.proofs.Draws.{fresh_alike, reliable_alike}
 use Rattle.bench_phases.proofs.serving.serve_calls.Goals as goal
 
 pub make_and_close-requires-clause-begins : goal.make_and_close-requires-clause-begins
@@ -36,14 +37,35 @@ make_and_close-requires-clause-calls g c =
     subst (λ (n : ℕ). AreCalls n c.args.calls.now)
     (sym (ap (λ (l : List (CallerSession g.row.E.Denot)). length l) (refilled sessions.len sessions.items new long many) ∙ applications)) c.requires.calls
 
+pub make_and_close-requires-clause-fresh : goal.make_and_close-requires-clause-fresh
+make_and_close-requires-clause-fresh g c =
+    let sessions = c.args.sessions in
+    let new : List (CallerSession g.row.E.Denot) = c.serve.new.sessions in
+    let long : length sessions.items ≡ sessions.len = sym sessions.ok.0 in
+    let many : length new ≡ sessions.len = c.serve.auto.sessions ∙ c.deref_mut.ensures.len in
+    let same : c.deref_mut.result.now ≡ sessions.items = c.deref_mut.ensures.value in
+    subst (λ (l : List (CallerSession g.row.E.Denot)). AreFresh g.E.Entropy.faults l) (sym (refilled sessions.len sessions.items new long many))
+    (fresh_alike g.E.Entropy.faults sessions.items new (many ∙ sym long) (subst (λ (l : List (CallerSession g.row.E.Denot)). DrawAlike l new) same c.in-Ok.ensures.draw) c.requires.fresh)
+
 pub returns-in-Ok-clause-closed : goal.returns-in-Ok-clause-closed
 returns-in-Ok-clause-closed g c =
     let of_file = g.F.StoreFile.state in
     let of_port = g.R.RpmbPort.state in
     let store = g.L.StoreName.store in
+    let is_reliable = g.E.Entropy.is_reliable in
+    let sessions = c.args.sessions in
+    let new : List (CallerSession g.row.E.Denot) = c.serve.new.sessions in
+    let long : length sessions.items ≡ sessions.len = sym sessions.ok.0 in
+    let many : length new ≡ sessions.len = c.serve.auto.sessions ∙ c.deref_mut.ensures.len in
+    let same : c.deref_mut.result.now ≡ sessions.items = c.deref_mut.ensures.value in
     let service : ServiceValue g.row.F.Denot g.row.R.Denot = c.in-Ok.service in
+    let before = opening_state of_file of_port c.args.opening in
+    let after : List (CallerSession g.row.E.Denot) = take sessions.len (new ++ drop (length new) sessions.items) in
     if_ok c.make_and_close.result
-    (λ x. ClosesStore store (faults_at of_file of_port g.E.Entropy.faults service) c.args.calls.now (bench_state of_file of_port x.bench) x.history.events)
-    (λ x. ClosesStore store (faults_on (opening_state of_file of_port c.args.opening)) c.args.calls.now (bench_state of_file of_port x.bench) x.history.events)
-    (λ x closes. closes_from of_file of_port g.E.Entropy.faults store c.args.opening service c.args.calls.now (bench_state of_file of_port x.bench) x.history.events c.in-Ok.ensures.served closes)
-    c.make_and_close.ensures.closed
+    (λ x. ClosesStore (AreReliable is_reliable after) store before c.args.calls.now (bench_state of_file of_port x.bench) x.history.events)
+    (λ x. ClosesStore (AreReliable is_reliable sessions.items) store before c.args.calls.now (bench_state of_file of_port x.bench) x.history.events)
+    (λ x closes. closes_where (AreReliable is_reliable after) (AreReliable is_reliable sessions.items) store before c.args.calls.now (bench_state of_file of_port x.bench) x.history.events
+    (λ reliable. subst (λ (l : List (CallerSession g.row.E.Denot)). AreReliable is_reliable l) (sym (refilled sessions.len sessions.items new long many))
+    (reliable_alike is_reliable sessions.items new (many ∙ sym long) (subst (λ (l : List (CallerSession g.row.E.Denot)). DrawAlike l new) same c.in-Ok.ensures.draw) reliable))
+    closes)
+    (c.make_and_close.ensures.closed before (begins_devices of_file of_port store c.args.opening service c.in-Ok.ensures.served))

@@ -9,63 +9,63 @@ use Rattle.bench_run.proofs.Turns.{HasDone-arm, HasDone-crash, HasDone-mark, cut
 use Rattle.bench_run.proofs.acts.do_control.Goals as goal
 
 pub returns-in-Ok-clause-ok : goal.returns-in-Ok-clause-ok
-returns-in-Ok-clause-ok g c =
+returns-in-Ok-clause-ok g c = λ first lasts.
     let run = c.args.run in
     let script = c.args.script.now in
     let step = subst (λ (x : Control). IsNext script run (ControlStep x)) c.in-Arm.is c.requires.next in
-    let done = HasDone-arm g.F.StoreFile.state g.R.RpmbPort.state g.F.FileRig.crash_image c.args.keys.now script c.in-Arm.arm run c.in-Ok.run' c.requires.sound c.requires.ready step c.in-Ok.ensures.waits c.in-Ok.ensures.arms in
+    let done = HasDone-arm g.F.StoreFile.state g.R.RpmbPort.state g.F.FileRig.crash_image (g.E.Entropy.is_reliable first) c.args.keys.now script c.in-Arm.arm run c.in-Ok.run' c.requires.sound c.requires.ready step c.in-Ok.ensures.waits c.in-Ok.ensures.arms in
     let text = ap (λ (x : Control). control_line x) (sym c.in-Arm.is) in
-    goes-on g.F.StoreFile.state g.R.RpmbPort.state g.F.FileRig.crash_image c.args.keys.now script run _ c.tell_control.result _ _ _ _ _ done (control_text script run.number (ArmControl c.in-Arm.arm) (λ e. cc) ∙ text) c.tell_control.ensures.ok
+    goes-on g.F.StoreFile.state g.R.RpmbPort.state g.F.FileRig.crash_image (g.E.Entropy.is_reliable first) c.args.keys.now script run _ c.tell_control.result _ _ _ _ _ done (control_text script run.number (ArmControl c.in-Arm.arm) (λ e. cc) ∙ text) c.tell_control.ensures.ok
 
 pub returns-in-Ok-clause-err : goal.returns-in-Ok-clause-err
-returns-in-Ok-clause-err g c =
+returns-in-Ok-clause-err g c = λ first lasts.
     let run = c.args.run in
     let script = c.args.script.now in
     let step = subst (λ (x : Control). IsNext script run (ControlStep x)) c.in-Arm.is c.requires.next in
-    let done = HasDone-arm g.F.StoreFile.state g.R.RpmbPort.state g.F.FileRig.crash_image c.args.keys.now script c.in-Arm.arm run c.in-Ok.run' c.requires.sound c.requires.ready step c.in-Ok.ensures.waits c.in-Ok.ensures.arms in
+    let done = HasDone-arm g.F.StoreFile.state g.R.RpmbPort.state g.F.FileRig.crash_image (g.E.Entropy.is_reliable first) c.args.keys.now script c.in-Arm.arm run c.in-Ok.run' c.requires.sound c.requires.ready step c.in-Ok.ensures.waits c.in-Ok.ensures.arms in
     let text = ap (λ (x : Control). control_line x) (sym c.in-Arm.is) in
-    cut-off g.F.StoreFile.state g.R.RpmbPort.state g.F.FileRig.crash_image c.args.keys.now script run _ c.tell_control.result _ _ _ _ _ done (control_text script run.number (ArmControl c.in-Arm.arm) (λ e. cc) ∙ text) _ _ _ c.tell_control.ensures.err
+    cut-off g.F.StoreFile.state g.R.RpmbPort.state g.F.FileRig.crash_image (g.E.Entropy.is_reliable first) c.args.keys.now script run _ c.tell_control.result _ _ _ _ _ done (control_text script run.number (ArmControl c.in-Arm.arm) (λ e. cc) ∙ text) _ _ _ c.tell_control.ensures.err
 
 pub returns-in-Err-clause-err : goal.returns-in-Err-clause-err
-returns-in-Err-clause-err g c =
-    EndsAt-no_memory g.F.StoreFile.state g.R.RpmbPort.state g.F.FileRig.crash_image _ _ c.args.keys.now c.args.script.now _ _ c.args.run c.in-Err.end (ap (λ e. e.status) c.in-Err.ensures.err) (ap (λ e. vec_len e.bench.files) c.in-Err.ensures.err ∙ c.requires.ready.whole)
+returns-in-Err-clause-err g c = λ first lasts.
+    EndsAt-no_memory g.F.StoreFile.state g.R.RpmbPort.state g.F.FileRig.crash_image (g.E.Entropy.is_reliable first) _ _ c.args.keys.now c.args.script.now _ _ c.args.run c.in-Err.end (ap (λ e. e.status) c.in-Err.ensures.err) (ap (λ e. vec_len e.bench.files) c.in-Err.ensures.err ∙ c.requires.ready.whole)
 
 pub returns-in-Ok-crash_bench-clause-ok : goal.returns-in-Ok-crash_bench-clause-ok
-returns-in-Ok-crash_bench-clause-ok g c =
+returns-in-Ok-crash_bench-clause-ok g c = λ first lasts.
     let run = c.args.run in
     let script = c.args.script.now in
     let step = subst (λ (x : Control). IsNext script run (ControlStep x)) c.in-Crash.is c.requires.next in
-    let done = HasDone-crash g.F.StoreFile.state g.R.RpmbPort.state g.F.FileRig.crash_image c.args.keys.now script c.in-Crash.seed run c.in-Ok-crash_bench.run' c.requires.ready step c.in-Ok-crash_bench.ensures.others c.in-Ok-crash_bench.ensures.whole c.in-Ok-crash_bench.ensures.crashes in
+    let done = HasDone-crash g.F.StoreFile.state g.R.RpmbPort.state g.F.FileRig.crash_image (g.E.Entropy.is_reliable first) c.args.keys.now script c.in-Crash.seed run c.in-Ok-crash_bench.run' c.requires.ready step c.in-Ok-crash_bench.ensures.others c.in-Ok-crash_bench.ensures.whole c.in-Ok-crash_bench.ensures.crashes in
     let text = ap (λ (x : Control). control_line x) (sym c.in-Crash.is) in
-    goes-on g.F.StoreFile.state g.R.RpmbPort.state g.F.FileRig.crash_image c.args.keys.now script run _ c.tell_control-in-Ok-crash_bench.result _ _ _ _ _ done (control_text script run.number (Crash c.in-Crash.seed) (λ e. cc) ∙ text) c.tell_control-in-Ok-crash_bench.ensures.ok
+    goes-on g.F.StoreFile.state g.R.RpmbPort.state g.F.FileRig.crash_image (g.E.Entropy.is_reliable first) c.args.keys.now script run _ c.tell_control-in-Ok-crash_bench.result _ _ _ _ _ done (control_text script run.number (Crash c.in-Crash.seed) (λ e. cc) ∙ text) c.tell_control-in-Ok-crash_bench.ensures.ok
 
 pub returns-in-Ok-crash_bench-clause-err : goal.returns-in-Ok-crash_bench-clause-err
-returns-in-Ok-crash_bench-clause-err g c =
+returns-in-Ok-crash_bench-clause-err g c = λ first lasts.
     let run = c.args.run in
     let script = c.args.script.now in
     let step = subst (λ (x : Control). IsNext script run (ControlStep x)) c.in-Crash.is c.requires.next in
-    let done = HasDone-crash g.F.StoreFile.state g.R.RpmbPort.state g.F.FileRig.crash_image c.args.keys.now script c.in-Crash.seed run c.in-Ok-crash_bench.run' c.requires.ready step c.in-Ok-crash_bench.ensures.others c.in-Ok-crash_bench.ensures.whole c.in-Ok-crash_bench.ensures.crashes in
+    let done = HasDone-crash g.F.StoreFile.state g.R.RpmbPort.state g.F.FileRig.crash_image (g.E.Entropy.is_reliable first) c.args.keys.now script c.in-Crash.seed run c.in-Ok-crash_bench.run' c.requires.ready step c.in-Ok-crash_bench.ensures.others c.in-Ok-crash_bench.ensures.whole c.in-Ok-crash_bench.ensures.crashes in
     let text = ap (λ (x : Control). control_line x) (sym c.in-Crash.is) in
-    cut-off g.F.StoreFile.state g.R.RpmbPort.state g.F.FileRig.crash_image c.args.keys.now script run _ c.tell_control-in-Ok-crash_bench.result _ _ _ _ _ done (control_text script run.number (Crash c.in-Crash.seed) (λ e. cc) ∙ text) _ _ _ c.tell_control-in-Ok-crash_bench.ensures.err
+    cut-off g.F.StoreFile.state g.R.RpmbPort.state g.F.FileRig.crash_image (g.E.Entropy.is_reliable first) c.args.keys.now script run _ c.tell_control-in-Ok-crash_bench.result _ _ _ _ _ done (control_text script run.number (Crash c.in-Crash.seed) (λ e. cc) ∙ text) _ _ _ c.tell_control-in-Ok-crash_bench.ensures.err
 
 pub returns-in-Err-crash_bench-clause-err : goal.returns-in-Err-crash_bench-clause-err
-returns-in-Err-crash_bench-clause-err g c =
-    EndsAt-no_memory g.F.StoreFile.state g.R.RpmbPort.state g.F.FileRig.crash_image _ _ c.args.keys.now c.args.script.now _ _ c.args.run c.in-Err-crash_bench.end c.in-Err-crash_bench.ensures.err c.in-Err-crash_bench.ensures.whole_err
+returns-in-Err-crash_bench-clause-err g c = λ first lasts.
+    EndsAt-no_memory g.F.StoreFile.state g.R.RpmbPort.state g.F.FileRig.crash_image (g.E.Entropy.is_reliable first) _ _ c.args.keys.now c.args.script.now _ _ c.args.run c.in-Err-crash_bench.end c.in-Err-crash_bench.ensures.err c.in-Err-crash_bench.ensures.whole_err
 
 pub returns-in-Serial-clause-ok : goal.returns-in-Serial-clause-ok
-returns-in-Serial-clause-ok g c =
+returns-in-Serial-clause-ok g c = λ first lasts.
     let run = c.args.run in
     let script = c.args.script.now in
     let control = c.args.control.now in
-    let done = HasDone-mark g.F.StoreFile.state g.R.RpmbPort.state g.F.FileRig.crash_image c.args.keys.now script control run c.in-Serial.is c.requires.ready c.requires.next in
-    let text = control_text script run.number control (mark_other g.F.StoreFile.state g.R.RpmbPort.state g.F.FileRig.crash_image c.args.keys.now script control c.in-Serial.is) in
-    goes-on g.F.StoreFile.state g.R.RpmbPort.state g.F.FileRig.crash_image c.args.keys.now script run _ c.tell_control-in-Serial.result _ _ _ _ _ done text c.tell_control-in-Serial.ensures.ok
+    let done = HasDone-mark g.F.StoreFile.state g.R.RpmbPort.state g.F.FileRig.crash_image (g.E.Entropy.is_reliable first) c.args.keys.now script control run c.in-Serial.is c.requires.ready c.requires.next in
+    let text = control_text script run.number control (mark_other g.F.StoreFile.state g.R.RpmbPort.state g.F.FileRig.crash_image (g.E.Entropy.is_reliable first) c.args.keys.now script control c.in-Serial.is) in
+    goes-on g.F.StoreFile.state g.R.RpmbPort.state g.F.FileRig.crash_image (g.E.Entropy.is_reliable first) c.args.keys.now script run _ c.tell_control-in-Serial.result _ _ _ _ _ done text c.tell_control-in-Serial.ensures.ok
 
 pub returns-in-Serial-clause-err : goal.returns-in-Serial-clause-err
-returns-in-Serial-clause-err g c =
+returns-in-Serial-clause-err g c = λ first lasts.
     let run = c.args.run in
     let script = c.args.script.now in
     let control = c.args.control.now in
-    let done = HasDone-mark g.F.StoreFile.state g.R.RpmbPort.state g.F.FileRig.crash_image c.args.keys.now script control run c.in-Serial.is c.requires.ready c.requires.next in
-    let text = control_text script run.number control (mark_other g.F.StoreFile.state g.R.RpmbPort.state g.F.FileRig.crash_image c.args.keys.now script control c.in-Serial.is) in
-    cut-off g.F.StoreFile.state g.R.RpmbPort.state g.F.FileRig.crash_image c.args.keys.now script run _ c.tell_control-in-Serial.result _ _ _ _ _ done text _ _ _ c.tell_control-in-Serial.ensures.err
+    let done = HasDone-mark g.F.StoreFile.state g.R.RpmbPort.state g.F.FileRig.crash_image (g.E.Entropy.is_reliable first) c.args.keys.now script control run c.in-Serial.is c.requires.ready c.requires.next in
+    let text = control_text script run.number control (mark_other g.F.StoreFile.state g.R.RpmbPort.state g.F.FileRig.crash_image (g.E.Entropy.is_reliable first) c.args.keys.now script control c.in-Serial.is) in
+    cut-off g.F.StoreFile.state g.R.RpmbPort.state g.F.FileRig.crash_image (g.E.Entropy.is_reliable first) c.args.keys.now script run _ c.tell_control-in-Serial.result _ _ _ _ _ done text _ _ _ c.tell_control-in-Serial.ensures.err

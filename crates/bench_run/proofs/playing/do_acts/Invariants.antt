@@ -6,9 +6,11 @@ use Rattle.bench_run.proofs.playing.do_acts.Given as goal
 
 abbrev pub invariant-loop-run : goal.invariant-loop-run
 invariant-loop-run g l = record {
-  advances : Advances g.F.StoreFile.state g.R.RpmbPort.state g.F.FileRig.crash_image l.keys l.script (point_of g.F.StoreFile.state g.R.RpmbPort.state l.script (g.K.Sink.held l.fn.sink) l.fn.run) (point_of g.F.StoreFile.state g.R.RpmbPort.state l.script (g.K.Sink.held l.sink) l.run);
+  advances : (first : g.row.E.Denot) → (g.E.Entropy.is_reliable first → g.E.Entropy.is_reliable l.fn.entropy)
+      → Advances g.F.StoreFile.state g.R.RpmbPort.state g.F.FileRig.crash_image (g.E.Entropy.is_reliable first) l.keys l.script (point_of g.F.StoreFile.state g.R.RpmbPort.state l.script (g.K.Sink.held l.fn.sink) l.fn.run) (point_of g.F.StoreFile.state g.R.RpmbPort.state l.script (g.K.Sink.held l.sink) l.run);
   ready : IsReady l.script l.run;
   counted : g.K.Sink.faults l.fn.sink ≤ g.K.Sink.faults l.sink;
+  reliable : g.E.Entropy.is_reliable l.fn.entropy → g.E.Entropy.is_reliable l.entropy;
   undrawn : g.E.Entropy.faults l.entropy ≡ g.E.Entropy.faults l.fn.entropy;
 }
 

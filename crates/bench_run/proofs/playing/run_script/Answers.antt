@@ -8,10 +8,10 @@ use Rattle.bench_run.proofs.playing.run_script.Goals as goal
 pub returns-in-Ok-clause-ran : goal.returns-in-Ok-clause-ran
 returns-in-Ok-clause-ran g c =
     let run : Run g.row.F.Denot g.row.R.Denot = record { bench = c.in-Ok.bench; arms = c.new.result; number = 0; at = 0; kept = c.new-in-Ok.result } in
-    RunsScript-opened g.F.StoreFile.state g.R.RpmbPort.state g.F.FileRig.crash_image _ _ c.args.keys.now c.args.script.now _ _ _ _ _ (bench_state g.F.StoreFile.state g.R.RpmbPort.state c.do_acts.result.bench) c.do_acts.result.status c.in-Ok.ensures.opens
-    (EndsFrom-first g.F.StoreFile.state g.R.RpmbPort.state g.F.FileRig.crash_image c.args.keys.now c.args.script.now _ _ _ _ _ _ run _ c.do_acts.result.status c.in-Ok.ensures.undrawn refl refl c.new.ensures.items c.new-in-Ok.ensures.items c.do_acts.ensures.ends)
+    RunsScript-opened g.F.StoreFile.state g.R.RpmbPort.state g.F.FileRig.crash_image _ _ _ c.args.keys.now c.args.script.now _ _ _ _ _ (bench_state g.F.StoreFile.state g.R.RpmbPort.state c.do_acts.result.bench) c.do_acts.result.status c.in-Ok.ensures.opens
+    (EndsFrom-first g.F.StoreFile.state g.R.RpmbPort.state g.F.FileRig.crash_image _ c.args.keys.now c.args.script.now _ _ _ _ _ _ run _ c.do_acts.result.status c.in-Ok.ensures.undrawn refl refl c.new.ensures.items c.new-in-Ok.ensures.items (c.do_acts.ensures c.args.entropy.now c.open_bench.ensures.reliable).ends)
 
 pub returns-in-Err-clause-ran : goal.returns-in-Err-clause-ran
 returns-in-Err-clause-ran g c =
-    RunsScript-unopened g.F.StoreFile.state g.R.RpmbPort.state g.F.FileRig.crash_image _ _ c.args.keys.now c.args.script.now _ _ _ _ _ c.in-Err.field-0.fault c.tell_refusal-status.result c.in-Err.ensures.refused
+    RunsScript-unopened g.F.StoreFile.state g.R.RpmbPort.state g.F.FileRig.crash_image _ _ _ c.args.keys.now c.args.script.now _ _ _ _ _ c.in-Err.field-0.fault c.tell_refusal-status.result c.in-Err.ensures.refused
     c.new-in-Err.result.items c.new-in-Err.ensures.items c.tell_refusal-status.ensures.tells

@@ -11,7 +11,7 @@ returns-in-Err-clause-run g c =
       silent r.0,
       IsTraceOf-silent _ _ _ r.0 r.1 r.2,
       HasCause-read _ r.0 c.in-Err.status r.3,
-      EndsBench-read g.F.StoreFile.state g.R.RpmbPort.state g.F.FileRig.crash_image _ _ c.args.keys.now _ _ (silent r.0) _ c.in-Err.status r.3,
+      EndsBench-read g.F.StoreFile.state g.R.RpmbPort.state g.F.FileRig.crash_image _ _ _ c.args.keys.now _ _ (silent r.0) _ c.in-Err.status r.3,
     )
 
 pub returns-in-Err-read_script-clause-run : goal.returns-in-Err-read_script-clause-run
@@ -22,7 +22,7 @@ returns-in-Err-read_script-clause-run g c =
       silent r.0,
       IsTraceOf-silent _ _ _ r.0 r.1 r.2,
       HasCause-script _ r.0 c.in-Err-read_script.status error (r.3.1, r.3.2),
-      EndsBench-script g.F.StoreFile.state g.R.RpmbPort.state g.F.FileRig.crash_image _ _ c.args.keys.now (script_of r.0) (silent r.0) _ c.in-Err-read_script.status error,
+      EndsBench-script g.F.StoreFile.state g.R.RpmbPort.state g.F.FileRig.crash_image _ _ _ c.args.keys.now (script_of r.0) (silent r.0) _ c.in-Err-read_script.status error,
     )
 
 pub returns-clause-run : goal.returns-clause-run
@@ -37,5 +37,5 @@ returns-clause-run g c =
       t,
       record { taken = r.1; bounded = r.2; put = x.appended; text = inr (script, is, x.begins) },
       HasCause-act _ t script status x.cause (r.3.1, r.3.2) is,
-      EndsBench-run g.F.StoreFile.state g.R.RpmbPort.state g.F.FileRig.crash_image _ _ c.args.keys.now _ t script _ _ status is x.ends x.cause,
+      EndsBench-run g.F.StoreFile.state g.R.RpmbPort.state g.F.FileRig.crash_image _ _ _ c.args.keys.now _ t script _ _ status is x.ends x.cause,
     )

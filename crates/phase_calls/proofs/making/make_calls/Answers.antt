@@ -8,9 +8,9 @@ use Rattle.phase_calls.proofs.making.make_calls.Goals as goal
 
 pub loop-step-init : goal.loop-step-init
 loop-step-init g c = record {
-  made = makes_none g.F.StoreFile.state g.R.RpmbPort.state g.E.Entropy.faults c.args.service.now c.args.sessions.now;
+  made = makes_none g.F.StoreFile.state g.R.RpmbPort.state g.E.Entropy.faults g.L.StoreName.store c.args.service.now c.args.sessions.now;
   seated = c.requires.sessions;
-  reliable = StayReliable-none g.E.Entropy.is_reliable c.args.sessions.now;
+  reliable = StayReliable-none g.E.Entropy.is_reliable g.E.Entropy.faults c.args.sessions.now;
 }
 
 pub loop-step-preserved : goal.loop-step-preserved
@@ -20,10 +20,10 @@ loop-step-preserved g c =
     let after = c.make_step.new in
     let many = l.invariant.seated.many ∙ sym c.requires.sessions.many in
     record {
-      made = makes_more g.F.StoreFile.state g.R.RpmbPort.state g.E.Entropy.faults a.service.now l.service after.service a.sessions.now l.sessions after.sessions a.calls.now
+      made = makes_more g.F.StoreFile.state g.R.RpmbPort.state g.E.Entropy.faults g.L.StoreName.store a.service.now l.service after.service a.sessions.now l.sessions after.sessions a.calls.now
           l.step-index c.step-item.result c.loop-step-test.true c.step-item.is many l.invariant.made c.in_ok-make_step.ensures.made;
       seated = c.make_step.ensures.sessions;
-      reliable = StayReliable-then g.E.Entropy.is_reliable a.sessions.now l.sessions after.sessions many l.invariant.reliable c.make_step.ensures.reliable;
+      reliable = StayReliable-then g.E.Entropy.is_reliable g.E.Entropy.faults a.sessions.now l.sessions after.sessions many l.invariant.reliable c.make_step.ensures.reliable;
     }
 
 pub returns-in_err-make_step-clause-stopped : goal.returns-in_err-make_step-clause-stopped
@@ -34,7 +34,7 @@ returns-in_err-make_step-clause-stopped g c =
     let many = l.invariant.seated.many ∙ sym c.requires.sessions.many in
     let p = err_from_is_err_and c.from_residual.result c.from_residual.ensures.1 in
     rw (p.1)
-    (makes_front g.F.StoreFile.state g.R.RpmbPort.state g.E.Entropy.faults a.service.now l.service after.service a.sessions.now l.sessions after.sessions a.calls.now
+    (makes_front g.F.StoreFile.state g.R.RpmbPort.state g.E.Entropy.faults g.L.StoreName.store a.service.now l.service after.service a.sessions.now l.sessions after.sessions a.calls.now
     l.step-index c.loop-step-test.true many l.invariant.made c.in_err-make_step.ensures.stopped)
 
 pub returns-clause-serves : goal.returns-clause-serves
@@ -43,5 +43,5 @@ returns-clause-serves g c =
     let l = c.loop-step in
     let whole = take_all l.step-index a.calls.now (omega (arith, c.loop-step-test.false)) in
     λ none.
-    serves_made g.F.StoreFile.state g.R.RpmbPort.state g.E.Entropy.faults a.service.now l.service a.sessions.now l.sessions a.calls.now
-    (subst (MakesCalls g.F.StoreFile.state g.R.RpmbPort.state g.E.Entropy.faults a.service.now l.service a.sessions.now l.sessions) whole l.invariant.made) none
+    serves_made g.F.StoreFile.state g.R.RpmbPort.state g.E.Entropy.faults g.L.StoreName.store a.service.now l.service a.sessions.now l.sessions a.calls.now
+    (subst (MakesCalls g.F.StoreFile.state g.R.RpmbPort.state g.E.Entropy.faults g.L.StoreName.store a.service.now l.service a.sessions.now l.sessions) whole l.invariant.made) none

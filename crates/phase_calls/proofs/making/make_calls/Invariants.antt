@@ -6,7 +6,7 @@ use Rattle.phase_calls.proofs.making.make_calls.Given as goal
 
 abbrev pub invariant-loop-step : goal.invariant-loop-step
 invariant-loop-step g l = record {
-  made : MakesCalls g.F.StoreFile.state g.R.RpmbPort.state g.E.Entropy.faults l.initial.service l.service l.initial.sessions l.sessions (take l.step-index l.calls);
+  made : MakesCalls g.F.StoreFile.state g.R.RpmbPort.state g.E.Entropy.faults g.L.StoreName.store l.initial.service l.service l.initial.sessions l.sessions (take l.step-index l.calls);
   seated : AreSeated g.L.StoreName.store l.sessions;
-  reliable : StayReliable g.E.Entropy.is_reliable l.initial.sessions l.sessions;
+  reliable : StayReliable g.E.Entropy.is_reliable g.E.Entropy.faults l.initial.sessions l.sessions;
 }

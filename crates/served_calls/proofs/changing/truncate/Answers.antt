@@ -4,7 +4,7 @@ use Rattle.call_rules.specs.Matches.{Matches}
 use Rattle.call_rules.specs.Told.{IsTold}
 use Rattle.store_model.specs.Machine.{MachineState, Session}
 use Rattle.tee_types.specs.declared.call.Call.TheVariants.{Truncate}
-use Rattle.served_calls.proofs.ChangedCalls.{changed_serves}
+use Rattle.served_calls.proofs.ChangedCalls.{changed_serves, changed_still}
 use Rattle.served_calls.proofs.changing.truncate.Goals as goal
 
 pub answer-requires-clause-told : goal.answer-requires-clause-told
@@ -18,5 +18,11 @@ pub returns-clause-serves : goal.returns-clause-serves
 returns-clause-serves g c =
     let done = c.truncate-2 in
     changed_serves g.F.StoreFile.state g.R.RpmbPort.state g.E.Entropy.faults g.L.StoreName.store c.args.gate.now done.new.gate c.args.slots.now.items c.place_of-place.result
-    c.index_mut-slot.result.now done.new.slot c.args.session.now done.new.session c.requires.slots c.place_of-place.ensures.within c.index_mut-slot.ensures.value
-    done.ensures.number (Truncate c.args.handle c.args.size) _ _ _ _ done.result done.ensures.changed c.requires.calm.caller done.ensures.goes_on c.requires.idle c.requires.held
+    c.index_mut-slot.result.now done.new.slot c.args.session.now done.new.session c.requires.ready.slots_are c.place_of-place.ensures.within c.index_mut-slot.ensures.value
+    done.ensures.number (Truncate c.args.handle c.args.size) _ _ _ _ done.result done.ensures.changed c.requires.ready.calm.caller done.ensures.goes_on c.requires.ready.known c.requires.ready.idle c.requires.ready.held
+
+pub returns-clause-still : goal.returns-clause-still
+returns-clause-still g c =
+    let done = c.truncate-2 in
+    changed_still g.F.StoreFile.state g.R.RpmbPort.state g.E.Entropy.faults g.L.StoreName.store c.args.gate.now done.new.gate c.index_mut-slot.result.now done.new.slot
+    c.args.session.now done.new.session (Truncate c.args.handle c.args.size) _ _ _ _ done.result done.ensures.changed

@@ -3,7 +3,7 @@ use Rattle.std.proofs.Common.{ℕ, List, subst}
 use Rattle.std.specs.Prelude.{slice_set}
 use Rattle.tee_types.specs.declared.call.Call.TheVariants.{Write}
 use Rattle.served_calls.specs.Standing.{ServesObject}
-use Rattle.served_calls.proofs.ChangedCalls.{changed_serves}
+use Rattle.served_calls.proofs.ChangedCalls.{changed_serves, changed_still}
 use Rattle.served_calls.proofs.changing.write.Goals as goal
 
 pub returns-clause-serves : goal.returns-clause-serves
@@ -17,5 +17,11 @@ returns-clause-serves g c =
     (record { gate = done.new.gate; slots = slice_set was_slots c.place_of-place.result done.new.slot; session = done.new.session }) (Write c.args.handle bytes) done.result)
     c.as_slice.ensures
     (changed_serves g.F.StoreFile.state g.R.RpmbPort.state g.E.Entropy.faults g.L.StoreName.store was_gate done.new.gate was_slots c.place_of-place.result
-    c.index_mut-slot.result.now done.new.slot c.args.session.now done.new.session c.requires.slots c.place_of-place.ensures.within c.index_mut-slot.ensures.value
-    done.ensures.number (Write c.args.handle c.as_slice.result.now) _ _ _ _ done.result done.ensures.changed c.requires.calm.caller done.ensures.goes_on c.requires.idle c.requires.held)
+    c.index_mut-slot.result.now done.new.slot c.args.session.now done.new.session c.requires.ready.slots_are c.place_of-place.ensures.within c.index_mut-slot.ensures.value
+    done.ensures.number (Write c.args.handle c.as_slice.result.now) _ _ _ _ done.result done.ensures.changed c.requires.ready.calm.caller done.ensures.goes_on c.requires.ready.known c.requires.ready.idle c.requires.ready.held)
+
+pub returns-clause-still : goal.returns-clause-still
+returns-clause-still g c =
+    let done = c.write-2 in
+    changed_still g.F.StoreFile.state g.R.RpmbPort.state g.E.Entropy.faults g.L.StoreName.store c.args.gate.now done.new.gate c.index_mut-slot.result.now done.new.slot
+    c.args.session.now done.new.session (Write c.args.handle c.as_slice.result.now) _ _ _ _ done.result done.ensures.changed

@@ -3,7 +3,7 @@ use Rattle.std.proofs.Common.{◌≡◌, ◌+◌, ◌-◌, ◌<◌, arith, lengt
 use Rattle.create_calls.specs.Rules.{MayCreate, NewObject}
 use Rattle.locked_gate.specs.LockedGates.{LockedGateValue}
 use Rattle.store_model.specs.Machine.{Session}
-use Rattle.served_calls.proofs.CreatedCalls.{created_serves}
+use Rattle.served_calls.proofs.CreatedCalls.{created_serves, created_still}
 use Rattle.served_calls.proofs.making.create.Goals as goal
 
 pub create-requires-2-clause-may : goal.create-requires-2-clause-may
@@ -23,8 +23,15 @@ returns-clause-serves g c =
     let file = c.reserve-file.result in
     let place = c.from.result - 1 in
     let at : place + 1 ≡ file = omega (arith, c.from.ensures, c.reserve-file.ensures.reserved.numbered.0) in
-    let within : place < length slots = omega (arith, at, c.reserve-file.ensures.reserved.numbered.1, c.requires.slots.many) in
+    let within : place < length slots = omega (arith, at, c.reserve-file.ensures.reserved.numbered.1, c.requires.ready.slots_are.many) in
     created_serves g.F.StoreFile.state g.R.RpmbPort.state g.E.Entropy.faults g.L.StoreName.store c.args.gate.now c.reserve-file.new.gate done.new.gate slots place
-    c.index_mut-slot.result.now done.new.slot c.args.session.now done.new.session c.requires.slots within c.index_mut-slot.ensures.value done.ensures.number
-    c.requires.idle c.requires.held file at c.reserve-file.ensures.reserved.held c.reserve-file.ensures.same done.ensures.goes_on c.requires.calm.caller
+    c.index_mut-slot.result.now done.new.slot c.args.session.now done.new.session c.requires.ready.slots_are within c.index_mut-slot.ensures.value done.ensures.number
+    c.requires.ready.idle c.requires.ready.held file at c.reserve-file.ensures.reserved.held c.reserve-file.ensures.same done.ensures.goes_on c.requires.ready.calm.caller c.requires.ready.known
+    (record { id = c.args.id; flags = c.args.flags; attributes = c.args.attributes.now; bytes = c.args.bytes.now }) c.in-Needs.place _ _ done.result done.ensures.creates
+
+pub returns-clause-still : goal.returns-clause-still
+returns-clause-still g c =
+    let done = c.create-2 in
+    created_still g.F.StoreFile.state g.R.RpmbPort.state g.E.Entropy.faults g.L.StoreName.store c.reserve-file.new.gate done.new.gate c.index_mut-slot.result.now.number
+    c.index_mut-slot.result.now.file done.new.slot.file c.args.session.now done.new.session
     (record { id = c.args.id; flags = c.args.flags; attributes = c.args.attributes.now; bytes = c.args.bytes.now }) c.in-Needs.place _ _ done.result done.ensures.creates

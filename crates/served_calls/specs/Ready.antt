@@ -1,0 +1,29 @@
+-- When a gate and slots are ready for a session's call on an object.
+use Rattle.std.specs.Prelude.{List, None, ℕ, ◌≡◌, ◌≤◌}
+use Rattle.call_history.specs.Sessions.{CallerSession}
+use Rattle.hmac_keys.specs.KeyTable.{rpmb_key}
+use Rattle.locked_gate.specs.Commits.{IsCalm}
+use Rattle.locked_gate.specs.LockedGates.{LockedGateValue}
+use Rattle.object_slots.specs.Value.{SlotValue}
+use Rattle.rpmb_card.specs.Card.{CardState}
+use Rattle.rpmb_card.specs.Port.{PortState}
+use Rattle.rpmb_host.specs.Honest.{HasCard}
+use Rattle.served_calls.specs.Held.{HoldsForDoubt}
+use Rattle.served_calls.specs.Slots.{AreSlots}
+use Rattle.suppositions.specs.Stores.{Store}
+
+-- The host has that key, and a card that is told with it has the gate's counter.
+pub record KnowsCard (port : PortState) (host key : List ℕ) (counter : ℕ) : Type 0 where
+  pub keyed : host ≡ key
+  pub counted : (card : CardState) → HasCard port key card → card.counter ≡ counter
+
+-- There is room for the call's event and for what it may bring, no commit is in doubt, and the session saw the history.
+pub record IsReady {F R E : Type 0} (of_port : R → PortState) (store : Store) (gate : LockedGateValue F R) (slots : List SlotValue) (session : CallerSession E) : Type 0 where
+  pub names : 1 ≤ gate.gate.room
+  pub handles : 1 ≤ gate.gate.open_handles.spare
+  pub events : 1 ≤ gate.journal.spare
+  pub idle : gate.gate.doubt ≡ None
+  pub calm : IsCalm store gate.journal.knows session
+  pub held : HoldsForDoubt gate.gate
+  pub slots_are : AreSlots slots
+  pub known : KnowsCard (of_port gate.gate.host.port) gate.gate.host.key (rpmb_key store.keys.huk) gate.gate.counter
