@@ -1,7 +1,6 @@
 //! The bench that a run begins with.
 
-ghost use Rattle.std.specs.Prelude.{◌≡◌, vec_len, IfErr, IfOk, IsTrue, MatchResult};
-ghost use Rattle.object_calls.specs.Files.{files_of};
+ghost use Rattle.std.specs.Prelude.{◌≡◌, vec_len, IfErr, IfOk, MatchResult};
 ghost use Rattle.bench_acts.specs.Benches.{HasPassed, IsFed, bench_state};
 ghost use Rattle.bench_acts.specs.Opens.{FormsBench, IsBlockUnread, IsNotFormed, IsOpenRefused, OpensBench, ReadsBlock, StopsOpening, is_blank};
 

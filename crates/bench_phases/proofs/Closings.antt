@@ -1,5 +1,5 @@
 -- A store that was served is closed: what its devices are, before its calls and behind them.
-use Rattle.std.proofs.Common.{◌≡◌, ◌∙◌, ◌+◌, ◌-◌, ◌<◌, ◌≤◌, ℕ, zero, suc, List, [], ◌∷◌, ◌++◌, length, slice_index_or, Option, sym, ap, subst, arith}
+use Rattle.std.proofs.Common.{◌≡◌, ◌∙◌, ◌+◌, ◌-◌, ◌<◌, ℕ, zero, suc, List, [], ◌++◌, length, Option, sym, ap, subst, arith}
 use Rattle.disk_model.specs.Calls.{GoesOn}
 use Rattle.disk_model.specs.State.{FileState}
 use Rattle.hmac_keys.specs.KeyTable.{rpmb_key}

@@ -2,7 +2,6 @@
 use Rattle.std.proofs.Common.{◌≡◌, ◌∙◌, ◌<◌, ◌≤◌, ℕ, List, [], ◌∷◌, ◌++◌, length, slice_index_or, refl, sym, ap, subst, inl, inr, arith}
 use Rattle.std.proofs.lemmas.Bool.{cases_eq}
 use Rattle.std.proofs.lemmas.List.{get_or_append_left, get_or_push, length_push}
-use Rattle.disk_model.specs.Faults.{Rose}
 use Rattle.call_history.specs.Sessions.{CallerSession}
 use Rattle.object_calls.specs.Sessions.{DrawAlike}
 use Rattle.phase_calls.specs.Counts.{Rise}

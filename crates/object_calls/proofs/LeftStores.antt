@@ -254,6 +254,7 @@ module _ {F R : Type 0} (state : F → FileState) (port : R → PortState) (soun
   pub leaves : (doubt : Option ℕ) → doubt ≡ option_map (λ d. d.number) gate.doubt → AreNumbered (events_of view.all) → LeavesStore store view files (port gate.host.port) doubt
   leaves doubt is numbered = record {
     numbered = numbered;
+    tagged = tagged;
     answered = answered_or;
     mounts = mounts_after;
     doubted = doubted_is doubt is;

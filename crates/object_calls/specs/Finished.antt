@@ -28,6 +28,7 @@ use Rattle.call_history.specs.Shown.{BeginsAll}
 use Rattle.gate_parts.specs.ClosedStores.{dishonest_in}
 use Rattle.gate_parts.specs.Phases.{phase_under}
 use Rattle.object_slots.specs.Value.{SlotValue}
+use Rattle.served_calls.specs.Slots.{AreOfObjectFiles}
 use Rattle.object_calls.specs.Files.{files_of}
 use Rattle.object_calls.specs.Services.{ServiceValue}
 
@@ -81,6 +82,8 @@ pub record LeavesHonest (store : Store) (view : GateView) (files : ℕ → FileS
 -- What is said of a store once its phase has ended: of the events in order, the files, the card and the doubt.
 pub record LeavesStore (store : Store) (view : GateView) (files : ℕ → FileState) (port : PortState) (doubt : Option ℕ) : Type 0 where
   pub numbered : AreNumbered (events_of view.all)
+  -- the tags name files of objects
+  pub tagged : AreOfObjectFiles view.all
   pub answered : IsAnsweredOrEnds store view files
   pub mounts : PicturesMountAfter store view files port
   pub doubted : IsDoubtLeft store view doubt

@@ -1,19 +1,19 @@
 -- What events tell of the card, one list of them behind another.
-use Rattle.std.proofs.Common.{◌≡◌, ◌≤◌, ℕ, List, [], ◌∷◌, ◌++◌, None, Option, Some, refl, subst, sym, inl, inr, arith}
-use Rattle.disk_model.specs.Faults.{Rose, next_count}
+use Rattle.std.proofs.Common.{◌≤◌, ℕ, List, [], ◌∷◌, ◌++◌, None, Option, Some, refl, subst, sym, inl, inr, arith}
+use Rattle.disk_model.specs.Faults.{next_count}
 use Rattle.rpmb_card.specs.Port.{PortState}
 use Rattle.rpmb_host.specs.Honest.{HadCard}
 use Rattle.tee_types.specs.declared.call.Call.{Call}
 use Rattle.tee_types.specs.declared.reply.Cause.TheVariants.{CardResult, Fault, Frame}
-use Rattle.tee_types.specs.declared.reply.Device.TheVariants.{Card, Dir, Entropy, File}
+use Rattle.tee_types.specs.declared.reply.Device.TheVariants.{Card}
 use Rattle.tee_types.specs.declared.reply.Reply.{Reply}
 use Rattle.tee_types.specs.declared.reply.Reply.TheVariants.{NotAvailable}
 use Rattle.store_model.specs.declared.event.Event.{Event}
 use Rattle.store_model.specs.declared.event.Event.TheVariants.{Call as CallEvent, Landed}
 use Rattle.store_model.specs.declared.event.Mark.{Mark}
-use Rattle.store_model.specs.declared.event.Mark.TheVariants.{Doubtful, Made, Unchanged}
+use Rattle.store_model.specs.declared.event.Mark.TheVariants.{Doubtful}
 use Rattle.served_calls.specs.Answered.{landing_events}
-use Rattle.served_calls.specs.Devices.{AccusesRightly, CostsDoubt, Devices, Grows, PortGoesOn, TellsNoCard}
+use Rattle.served_calls.specs.Devices.{AccusesRightly, CostsDoubt, Devices, Grows, PortGoesOn}
 use Rattle.phase_calls.specs.Cards.{CostsTwo, DoubtsCost, IsNoFrame, TellNoFrame, TellsCard, count_told}
 use Rattle.phase_calls.specs.Counts.{Rise, counts_of, told_of}
 

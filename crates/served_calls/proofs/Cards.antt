@@ -1,5 +1,5 @@
 -- The card that a port tells, over a commit and over the settling of one in doubt.
-use Rattle.std.proofs.Common.{◌≡◌, ◌+◌, ◌⊎◌, ℕ, List, None, Some, sym, ◌∙◌, subst, inl, inr}
+use Rattle.std.proofs.Common.{◌≡◌, ◌+◌, ◌⊎◌, ℕ, List, None, Some, sym, subst, inl, inr}
 use Rattle.node_image.specs.declared.node.RootRef.{RootRef}
 use Rattle.rpmb_card.specs.Card.{CardState}
 use Rattle.rpmb_card.specs.Port.{PortState}

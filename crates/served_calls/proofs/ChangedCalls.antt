@@ -18,7 +18,6 @@ use Rattle.locked_gate.specs.LockedGates.{LockedGateValue}
 use Rattle.object_commits.specs.Bringing.{IsCommitted}
 use Rattle.object_slots.specs.Value.{SlotValue}
 use Rattle.rpmb_card.specs.Port.{PortState}
-use Rattle.store_commit.specs.Gates.{GateValue}
 use Rattle.store_commit.specs.declared.change.EntryChange.{EntryChange}
 use Rattle.store_commit.specs.declared.look.Held.{Held}
 use Rattle.suppositions.specs.Stores.{Store}

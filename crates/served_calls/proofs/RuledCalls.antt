@@ -1,5 +1,5 @@
 -- A call on an object that the rules answered, as a call that is served.
-use Rattle.std.proofs.Common.{◌≡◌, ℕ, List, Ok, refl, ap, subst, sym, inl}
+use Rattle.std.proofs.Common.{◌≡◌, ℕ, List, Ok, refl, ap, inl}
 use Rattle.call_history.specs.Calls.{alone_record}
 use Rattle.call_history.specs.Sessions.{CallerSession}
 use Rattle.call_rules.specs.Plain.{IsPlain}

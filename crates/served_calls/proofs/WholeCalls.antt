@@ -2,17 +2,15 @@
 use Rattle.std.proofs.Common.{◌≡◌, ◌+◌, ◌++◌, ◌∷◌, ◌≤◌, ◌⊎◌, [], ℕ, true, List, Err, Ok, Result, Some, length, refl, sym, ap, ◌∙◌, subst, inl, inr}
 use Rattle.std.proofs.lemmas.List.{length-map}
 use Rattle.call_history.specs.Sessions.{CallerSession, IsCallerOf, session_value}
-use Rattle.call_rules.specs.Plain.{IsPlain}
 use Rattle.disk_model.specs.Calls.{GoesOn as FileGoesOn}
 use Rattle.disk_model.specs.Faults.{Rose}
 use Rattle.disk_model.specs.State.{FileState}
 use Rattle.disk_model.proofs.Goings.{goes_on_none}
 use Rattle.gate_calls.specs.Resolved.{StaysInDoubt}
 use Rattle.gate_calls.specs.Seen.{GoesOn}
-use Rattle.gate_calls.specs.Served.{IsServed, IsServedAlone, IsUnserved, Precedes}
+use Rattle.gate_calls.specs.Served.{IsServedAlone, IsUnserved, Precedes}
 use Rattle.gate_calls.specs.Served.Precedes.{HeldUp, Misused, Ruled}
 use Rattle.history_seats.specs.Records.{HistoryRecord}
-use Rattle.history_seats.specs.Views.{GateView}
 use Rattle.locked_gate.specs.declared.answered.Answer.{Answer}
 use Rattle.locked_gate.specs.LockedGates.{LockedGateValue}
 use Rattle.object_slots.specs.Value.{SlotValue}
@@ -33,7 +31,6 @@ use Rattle.suppositions.specs.Stores.{Store}
 use Rattle.tee_types.specs.declared.call.Call.{Call}
 use Rattle.tee_types.specs.declared.reply.Cause.{Cause}
 use Rattle.tee_types.specs.declared.reply.Cause.TheVariants.{CardResult, Fault, Frame}
-use Rattle.tee_types.specs.declared.reply.Device.TheVariants.{Card, Dir, Entropy, File}
 use Rattle.tee_types.specs.declared.reply.Reply.{Reply}
 use Rattle.tee_types.specs.declared.reply.Reply.TheVariants.{NotAvailable}
 use Rattle.served_calls.specs.Answered.{GoesOnWith, GoesOnWithout, ServesCall}
@@ -42,7 +39,6 @@ use Rattle.served_calls.specs.Devices.{AccusesRightly, CostsDoubt, Devices, Devi
 use Rattle.served_calls.specs.Held.{HoldsForDoubt}
 use Rattle.served_calls.specs.Slots.{AreOfObjectFiles, AreSlots}
 use Rattle.served_calls.specs.Standing.{ServesObject, Serving, devices_in}
-use Rattle.served_calls.proofs.CommittedCalls.{none_some}
 use Rattle.served_calls.proofs.Cards.{doubted_counts}
 use Rattle.served_calls.proofs.Counting.{counts_grow, devices_go_on_then, grows_le, grows_rose, grows_twice}
 use Rattle.served_calls.proofs.Settling.{Settles, events_more, reserved_settles, same_settles, settled_settles, stays_settles, tagged_more, was_settles}

@@ -1,6 +1,6 @@
 //! Calls that give a handle.
 
-ghost use Rattle.std.specs.Prelude.{◌≡◌, ◌≤◌, length, None};
+ghost use Rattle.std.specs.Prelude.{◌≡◌, ◌≤◌, length};
 ghost use Rattle.hmac_keys.specs.KeyTable.{ssk};
 ghost use Rattle.served_calls.specs.Ready.{IsReady};
 ghost use Rattle.served_calls.specs.Standing.{ServesObject};

@@ -1,6 +1,6 @@
 //! Calls that change an open object's name.
 
-ghost use Rattle.std.specs.Prelude.{◌≡◌, ◌≤◌, None};
+ghost use Rattle.std.specs.Prelude.{◌≡◌};
 ghost use Rattle.served_calls.specs.Ready.{IsReady};
 ghost use Rattle.served_calls.specs.Standing.{ServesObject};
 

@@ -1,6 +1,6 @@
 //! Calls that tell of an open object.
 
-ghost use Rattle.std.specs.Prelude.{◌≡◌, ◌≤◌, None};
+ghost use Rattle.std.specs.Prelude.{◌≡◌};
 ghost use Rattle.hmac_keys.specs.KeyTable.{ssk};
 ghost use Rattle.served_calls.specs.Ready.{IsReady};
 ghost use Rattle.served_calls.specs.Standing.{ServesObject};

@@ -16,7 +16,7 @@ returns-clause-told g c = λ old many counted.
       refl,
       λ fed.
           let long : length old.files.items ≡ length c.args.halted.bench.files.items = sym old.files.ok.0 ∙ many ∙ c.args.halted.bench.files.ok.0 in
-    let same = ap counts c.deref.ensures.value ∙ fed_counts state old.files.items c.args.halted.bench.files.items long fed ∙ sym counted in
+          let same = ap counts c.deref.ensures.value ∙ fed_counts state old.files.items c.args.halted.bench.files.items long fed ∙ sym counted in
           let yes = c.is_fed.ensures.same.1 same in
           cc,
     )

@@ -1,5 +1,5 @@
 -- The rules answered the call.
-use Rattle.std.proofs.Common.{ap, subst, sym}
+use Rattle.std.proofs.Common.{subst, sym}
 use Rattle.call_rules.specs.Plain.{IsPlain}
 use Rattle.gate_calls.specs.Served.{IsServed}
 use Rattle.tee_types.specs.declared.call.Call.{Call}
