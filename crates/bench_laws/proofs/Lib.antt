@@ -4,3 +4,6 @@ pub mod Opened
 pub mod PhasesLeft
 pub mod Mounted
 pub mod Listed
+pub mod Untold
+pub mod QuietPhases
+pub mod NotRefused

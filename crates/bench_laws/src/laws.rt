@@ -3,6 +3,8 @@
 ghost use Rattle.object_calls.specs.declared.bench.Bench.{Bench};
 ghost use Rattle.bench_acts.specs.Benches.{bench_state};
 ghost use Rattle.bench_laws.specs.Between.{AreSound};
+ghost use Rattle.bench_laws.specs.Mounting.{MountingBenchesAreNotRefused};
+ghost use Rattle.bench_laws.specs.Quiet.{QuietPhasesAreOfMachine};
 ghost use Rattle.bench_laws.specs.Laws.{BlockReadsKeep, CrashesKeep, CrashesKeepSteady, CrashesMayBe, DisarmedFilesAreSteady, FormedBenchesHoldNone, ListsKeep, ListsShowLeft, MountsOpenWithLeft, NextOpeningsAreLeft, NextPhasesOpenWithLeft, NothingMayBe, PhasesLeave};
 
 use object_calls::Bench;
@@ -84,4 +86,15 @@ pub fn lists_show_left<F: StoreFile, R: RpmbPort>()
 /// A list leaves what the bench holds.
 pub fn lists_keep<F: StoreFile, R: RpmbPort>()
     ensures { ListsKeep F.state R.state }
+{}
+
+/// A phase on devices that do not fail, for which nothing is armed: the machine answers each of its calls.
+pub fn quiet_phases_are_of_machine<F: StoreFile, R: RpmbPort, E: Entropy>(entropy: &E)
+    ensures { QuietPhasesAreOfMachine F.state R.state (E.is_reliable entropy.now) }
+{}
+
+/// A bench that mounts is not refused.
+#[tactic(auto, using(crate::proofs::NotRefused::mounting_benches_are_not_refused))]
+pub fn mounting_benches_are_not_refused()
+    ensures { MountingBenchesAreNotRefused }
 {}
