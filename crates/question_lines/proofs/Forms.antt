@@ -1,18 +1,22 @@
 -- Words that have a form, and words that have none.
-use Rattle.std.proofs.Common.{not, true≢false, zero, suc, ◌≡◌, ◌≢◌, ℕ, ◌^◌, ◌<◌, ◌≤◌, Bool, true, false, ◌||◌, List, [], ◌∷◌, length, refl, sym, ap, ◌∙◌, subst, arith, Bor, add-one, get_or, take, map, ◌+◌}
+use Rattle.std.proofs.Common.{not, inl, inr, ◌/◌, ◌%◌, true≢false, zero, suc, ◌≡◌, ◌≢◌, ℕ, ◌^◌, ◌<◌, ◌≤◌, Bool, true, false, ◌||◌, List, [], ◌∷◌, length, refl, sym, ap, ◌∙◌, subst, arith, Bor, add-one, get_or, take, map, ◌+◌}
 use Rattle.std.specs.Prelude.{bytes_eq, codes, decimal, is_ok, IsTrue, IsFalse}
 use Rattle.std.specs.Prelude.{Result, Ok, Err}
 use Rattle.std.specs.Str.Parse.{ParsesUnsigned}
 use Rattle.std.proofs.lemmas.Fmt.{decimal_is_IsNumeral, parse-decimal}
 use Rattle.std.proofs.lemmas.Slice.Eq.{bytes_eq-Decides}
 use Rattle.std.proofs.lemmas.Result.{OkIff-at_ok}
-use Rattle.std.proofs.lemmas.Bool.{and_from, and_left, and_parts, and_right}
+use Rattle.std.proofs.lemmas.Bool.{and_from, and_left, and_parts, and_right, cases_eq}
 use borrow.Author.Tests.{leb-true, le-leb, ltb-true, lt-ltb}
 use Rattle.hex.specs.declared.error.FromHexError.{FromHexError}
-use Rattle.hex.specs.Hex.{decode_of}
-use Rattle.hex.proofs.HexLemmas.{decode_of-ok}
+use Rattle.hex.specs.declared.error.FromHexError.TheVariants.{InvalidStringLength, OddLength}
+use Rattle.hex.specs.Hex.{decode_of, decode_sized}
+use Rattle.hex.proofs.HexLemmas.{decode_of-ok, decode_pairs-err, decode_sized-odd, decode_sized-other}
+use Rattle.hex.proofs.Pairs.{decode_sized-pairs}
 use Rattle.node_image.specs.Layout.{greatest_of}
 use Rattle.std.proofs.lemmas.Bool.Decides.{Decides-eqb}
+use Rattle.question_lines.specs.declared.lines.Unreadable.TheVariants.{Form}
+use Rattle.question_lines.specs.Refusals.{unreadable_by}
 use Rattle.question_lines.specs.Words.{IsArgument}
 use Rattle.question_lines.specs.Forms.{has_its_pages, is_iv, is_array, are_arrays, is_argument, number_in, is_number}
 
@@ -102,6 +106,25 @@ number_taken word r n parsed is e =
     let p = OkIff-at_ok r _ _ n parsed is in number_of_decimal word n (subst (λ k. k < 2 ^ 64) (sym p.1) p.0.1) e
 
 -- arrays
+
+-- where a word is no such array, it was the form that was bad, and no memory was wanted
+pub array_not_read : (word : List ℕ) (count : ℕ) (error : FromHexError) → decode_sized word count ≡ Err error → unreadable_by error ≡ Form
+array_not_read word count error bad =
+    elim (cases_eq (length word % 2) 1) [
+      | inl odd ↦
+          let is : error ≡ OddLength = cc (bad, decode_sized-odd word count odd) in
+          ap unreadable_by is
+      | inr other ↦
+          let even : length word % 2 ≡ 0 = omega arith in
+          elim (cases_eq (length word / 2) count) [
+            | inl half ↦
+                let is = (decode_pairs-err 0 word error even (sym (decode_sized-pairs word count even half) ∙ bad)).1 in
+                ap unreadable_by is
+            | inr longer ↦
+                let is : error ≡ InvalidStringLength = cc (bad, decode_sized-other word count even longer) in
+                ap unreadable_by is
+          ]
+    ]
 
 -- one more array
 pub arrays_more : (count : ℕ) (words : List (Bor (List ℕ))) (i : ℕ) (d : Bor (List ℕ)) → i < length words

@@ -12,11 +12,11 @@ use crate::lines::{
 use crate::questions::{Argument, ObjectImage, Parts, TreeImage, TreePages, WornCard};
 use std::alloc::Global;
 
-/// A word of bytes in hex.
+/// A word of bytes in hex. It takes no memory.
 pub fn one_array<const N: usize>(words: &[&str]) -> Result<[u8; N], Unreadable>
     ensures value { IfOk result (λ bytes. IsOneArray (map (λ w. w.now) words.now) bytes) }
     ensures form { MatchResult result (λ _. IsTrue (is_one_array N (map (λ w. w.now) words.now)))
-        (λ e. e ≡ Form → IsFalse (is_one_array N (map (λ w. w.now) words.now))) }
+        (λ e. (e ≡ Form) × IsFalse (is_one_array N (map (λ w. w.now) words.now))) }
 {
     let [word] = words else {
         return Err(Unreadable::Form);
@@ -24,13 +24,13 @@ pub fn one_array<const N: usize>(words: &[&str]) -> Result<[u8; N], Unreadable>
     array_of(word)
 }
 
-/// Two words of bytes in hex.
+/// Two words of bytes in hex. It takes no memory.
 pub fn two_arrays<const M: usize, const N: usize>(
     words: &[&str],
 ) -> Result<([u8; M], [u8; N]), Unreadable>
     ensures value { IfOk result (λ pair. AreTwoArrays (map (λ w. w.now) words.now) pair.0 pair.1) }
     ensures form { MatchResult result (λ _. IsTrue (are_two_arrays M N (map (λ w. w.now) words.now)))
-        (λ e. e ≡ Form → IsFalse (are_two_arrays M N (map (λ w. w.now) words.now))) }
+        (λ e. (e ≡ Form) × IsFalse (are_two_arrays M N (map (λ w. w.now) words.now))) }
 {
     let [first, second] = words else {
         return Err(Unreadable::Form);
