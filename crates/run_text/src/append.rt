@@ -1,6 +1,6 @@
 //! Appending to the text of a run: numbers, bytes and flags.
 
-ghost use Rattle.std.specs.Prelude.{◌≡◌, ◌++◌, length, take, codes, decimal, OnOk};
+ghost use Rattle.std.specs.Prelude.{◌≡◌, ◌++◌, length, take, codes, decimal, OnOk, OnErr};
 ghost use Rattle.std.specs.Fmt.{signed_decimal};
 ghost use Rattle.hex.specs.Hex.{encode_lower};
 ghost use Rattle.run_text.specs.Forms.{bytes_text, flags_text, letters_text, letter};
@@ -11,6 +11,7 @@ use tee_types::{Flags, NoMemory, OVERWRITE, READ, SHARE_READ, SHARE_WRITE, WRITE
 /// Appends a piece of text. A refusal leaves the text.
 pub fn put(out: &mut Vec<u8>, piece: &[u8]) -> Result<(), NoMemory>
     ensures ok { OnOk result (out.new.items ≡ out.old.items ++ piece.now) }
+    ensures err { OnErr result (out.new.items ≡ out.old.items) }
     ensures kept { take (length out.old.items) out.new.items ≡ out.old.items }
 {
     out.extend_from_slice(piece)
