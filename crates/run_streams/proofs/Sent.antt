@@ -2,14 +2,11 @@
 use Rattle.std.proofs.Common.{◌≡◌, ◌+◌, ◌<◌, ◌≤◌, ℕ, List, [], ◌∷◌, ◌++◌, length, take, drop, get_or, Option, sym, ap, ◌∙◌, append_assoc, arith, suc, subst, slice_get, Some, Result, Ok, Err, OnErr}
 use Rattle.std.proofs.lemmas.List.{append-nil, take_more, take-append-drop, length-take-le, take_all}
 use Rattle.std.proofs.lemmas.Option.{get_or_from_slice_get}
-use Rattle.tee_ports.proofs.Streams.{Appends-none, Appends-append}
+use Rattle.tee_ports.proofs.Streams.{Appends-append}
 use Rattle.store_model.specs.declared.event.Event.{Event}
 use Rattle.script_text.specs.Script.{ScriptValue}
 use Rattle.run_text.specs.Text.{event_text, events_text, phase_line}
 use Rattle.run_streams.specs.Sending.{Sends, Stops}
-
-pub Sends-none : (held : Option (List ℕ)) (kept new text : List ℕ) → new ≡ kept ++ text → Sends held held kept new text
-Sends-none held kept new text e = ([], Appends-none held, sym e)
 
 -- a front and the rest of one text, and then a second text
 append_behind : (kept first second front rest : List ℕ) → kept ++ first ≡ front ++ rest → kept ++ (first ++ second) ≡ front ++ (rest ++ second)

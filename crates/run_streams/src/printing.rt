@@ -24,8 +24,28 @@ fn send_event<K: Sink>(
     ensures err { OnErr result (Stops (K.held sink.old) (K.held sink.new) kept.old.items (event_text script.now place event.now)) }
     ensures error { IfErr result (IsWriteError (Rose (K.faults sink.old) (K.faults sink.new) ⊎ K.is_full sink.new)) }
     ensures counted { K.faults sink.old ≤ K.faults sink.new }
+    // Less than a piece stays kept.
+    ensures small { OnOk result (length kept.new.items < PIECE) }
 {
     print_event(place, script, event, kept)?;
+    flush(sink, kept, PIECE)
+}
+
+/// Sends the line before a phase's history.
+fn send_header<K: Sink>(
+    number: u64,
+    objects: u16,
+    sink: &mut K,
+    kept: &mut Vec<u8>,
+) -> Result<(), Status>
+    ensures ok { OnOk result (Sends (K.held sink.old) (K.held sink.new) kept.old.items kept.new.items (phase_line number objects)) }
+    ensures err { OnErr result (Stops (K.held sink.old) (K.held sink.new) kept.old.items (phase_line number objects)) }
+    ensures error { IfErr result (IsWriteError (Rose (K.faults sink.old) (K.faults sink.new) ⊎ K.is_full sink.new)) }
+    ensures counted { K.faults sink.old ≤ K.faults sink.new }
+    // Less than a piece stays kept.
+    ensures small { OnOk result (length kept.new.items < PIECE) }
+{
+    print_phase(number, objects, kept)?;
     flush(sink, kept, PIECE)
 }
 
@@ -44,8 +64,10 @@ pub fn send_phase<K: Sink>(
         (phase_line number objects ++ events_text script.now 0 history.now.events)) }
     ensures error { IfErr result (IsWriteError (Rose (K.faults sink.old) (K.faults sink.new) ⊎ K.is_full sink.new)) }
     ensures counted { K.faults sink.old ≤ K.faults sink.new }
+    // Less than a piece stays kept.
+    ensures small { OnOk result (length kept.new.items < PIECE) }
 {
-    print_phase(number, objects, kept)?;
+    send_header(number, objects, sink, kept)?;
     for place in 0..history.len() {
         let event = event_at(history, place);
         send_event(script, place, event, sink, kept)?;
@@ -63,6 +85,8 @@ pub fn send_control<K: Sink>(
     ensures err { OnErr result (Stops (K.held sink.old) (K.held sink.new) kept.old.items (control_line control.now)) }
     ensures error { IfErr result (IsWriteError (Rose (K.faults sink.old) (K.faults sink.new) ⊎ K.is_full sink.new)) }
     ensures counted { K.faults sink.old ≤ K.faults sink.new }
+    // Less than a piece stays kept.
+    ensures small { OnOk result (length kept.new.items < PIECE) }
 {
     print_control(control, kept)?;
     flush(sink, kept, PIECE)
@@ -74,6 +98,8 @@ pub fn send_lines<K: Sink>(lines: &[u8], sink: &mut K, kept: &mut Vec<u8>) -> Re
     ensures err { OnErr result (Stops (K.held sink.old) (K.held sink.new) kept.old.items lines.now) }
     ensures error { IfErr result (IsWriteError (Rose (K.faults sink.old) (K.faults sink.new) ⊎ K.is_full sink.new)) }
     ensures counted { K.faults sink.old ≤ K.faults sink.new }
+    // Less than a piece stays kept.
+    ensures small { OnOk result (length kept.new.items < PIECE) }
 {
     kept.extend_from_slice(lines)?;
     flush(sink, kept, PIECE)

@@ -40,6 +40,7 @@ pub fn flush<K: Sink>(sink: &mut K, kept: &mut Vec<u8>, at_least: usize) -> Resu
     ensures few { length kept.old.items < at_least
         → IsOk result × (sink.new ≡ sink.old) × (kept.new.items ≡ kept.old.items) }
     ensures all { OnOk result (at_least ≤ length kept.old.items → kept.new.items ≡ []) }
+    ensures small { OnOk result (1 ≤ at_least → length kept.new.items < at_least) }
     ensures err { OnErr result (Stops (K.held sink.old) (K.held sink.new) kept.old.items []) }
     // No memory is taken.
     ensures fault { IfErr result (λ status. status ≡ Status.WriteFault) }
