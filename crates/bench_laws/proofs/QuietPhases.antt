@@ -22,7 +22,8 @@ use Rattle.phase_calls.specs.Counts.{Rise, counts_of}
 use Rattle.bench_acts.specs.Benches.{BenchState, opening_state}
 use Rattle.bench_phases.specs.Closing.{faults_on}
 use Rattle.bench_phases.specs.Phases.{RunsPhase}
-use Rattle.bench_laws.specs.Quiet.{AreOfMachine, IsQuiet, QuietPhasesAreOfMachine}
+use Rattle.bench_laws.specs.Quiet.{AreOfMachine, IsQuiet, IsQuietFile, QuietPhasesAreOfMachine}
+use Rattle.bench_laws.proofs.Mounted.{mount_goes_on}
 use Rattle.bench_laws.proofs.Untold.{Rise-still, Untold, of_machine_all}
 
 not_risen : (n m : ℕ) → m ≡ n → n < 2 ^ 64 - 1 → Rose n m → ⊥
@@ -30,7 +31,7 @@ not_risen n m same below rose = omega (arith, same, below, rose)
 
 module _ {F R : Type 0} (of_file : F → FileState) (of_port : R → PortState) (Reliable : Type 0) (keys : Keys) (applications : List (List ℕ)) (calls : List Step) (old new : BenchState)
     (objects : ObjectMap) (events : List Event) (r : RunsPhase of_file of_port Reliable keys applications [] calls old new objects events)
-    (quiet : IsQuiet keys (opening_state of_file of_port (r.serves).armed)) (reliable : Reliable) (honest : AreAllHonest new.files) where
+    (was_quiet : IsQuiet keys old) (reliable : Reliable) (honest : AreAllHonest new.files) where
   open r use {closed}
 
   abbrev armed : BenchState
@@ -38,6 +39,35 @@ module _ {F R : Type 0} (of_file : F → FileState) (of_port : R → PortState) 
 
   abbrev s : Store
   s = (r.serves).store
+
+  abbrev opened : BenchState
+  opened = opening_state of_file of_port r.opened
+
+  opened_file : (file : ℕ) → file < 273 → IsQuietFile (opened.files file)
+  opened_file file within =
+      let was = was_quiet.files file within in record {
+        calm = (mount_goes_on of_file of_port keys old r.opened r.mounts file).calm was.calm;
+        faults = subst (λ (n : ℕ). n < 2 ^ 64 - 1) (sym ((r.passed).files file).faults) was.faults;
+        starved = subst (λ (n : ℕ). n < 2 ^ 64 - 1) (sym ((r.passed).files file).starved) was.starved;
+      }
+
+  opened_calm : IsTrue (opened.card).calm
+  opened_calm =
+      let read = (((r.mounts).gate).heard).read in
+      (((read.second).asks).exchanged).stays_calm ((((read.first).asks).exchanged).stays_calm was_quiet.calm)
+
+  opened_card : HadCard opened.card (rpmb_key keys.huk)
+  opened_card = let had = was_quiet.card in (had.0, record { told = (r.keeps).card ∙ (had.1).told; keyed = (had.1).keyed })
+
+  -- a mount leaves a quiet bench quiet, and nothing is armed
+  quiet : IsQuiet keys armed
+  quiet =
+      let same = ((r.serves).arms_are).1 in record {
+        files = λ file within. subst IsQuietFile (sym (((r.serves).arms_are).0 file)) (opened_file file within);
+        calm = subst (λ (p : PortState). IsTrue p.calm) (sym same) opened_calm;
+        faults = subst (λ (p : PortState). p.faults < 2 ^ 64 - 1) (sym same) (subst (λ (n : ℕ). n < 2 ^ 64 - 1) (sym (r.passed).card) was_quiet.faults);
+        card = subst (λ (p : PortState). HadCard p (rpmb_key keys.huk)) (sym same) opened_card;
+      }
 
   -- in no call of a file did memory run out
   starved_same : (file : ℕ) → (closed.files file).starved ≡ (armed.files file).starved

@@ -14,7 +14,7 @@ use Rattle.store_model.specs.Standing.{Standing, opening, standing_after}
 use Rattle.suppositions.specs.Stores.{phase_of}
 use Rattle.script_text.specs.declared.script.Step.{Step}
 use Rattle.object_calls.specs.Finished.{AreAllHonest}
-use Rattle.bench_acts.specs.Benches.{BenchState, opening_state}
+use Rattle.bench_acts.specs.Benches.{BenchState}
 use Rattle.bench_phases.specs.Phases.{RunsPhase}
 
 -- A file that fails only for want of memory, and whose counts are below the last value of 64 bits.
@@ -41,10 +41,9 @@ abbrev pub AreOfMachine : {Root : Type 0} → Standing → List (Record Root) �
 AreOfMachine s [] = Unit {0}
 AreOfMachine s (r ∷ records) = IsOfMachine s r.event × AreOfMachine (standing_after s r.event (file_of r)) records
 
--- A phase for which nothing is armed, whose devices are quiet as its calls begin, whose generator never fails, and that leaves every file
--- honest: each call is answered as the machine does, but for commits where the counter is at its end.
+-- A phase of a quiet bench for which nothing is armed, whose generator never fails, and that leaves every file honest: each call is answered
+-- as the machine does, but for commits where the counter is at its end.
 abbrev pub QuietPhasesAreOfMachine : {F R : Type 0} → (F → FileState) → (R → PortState) → (Reliable : Type 0) → Type 0
 QuietPhasesAreOfMachine {F} {R} of_file of_port Reliable =
     (keys : Keys) (applications : List (List ℕ)) (calls : List Step) (old new : BenchState) (objects : ObjectMap) (events : List Event)
-    → (r : RunsPhase of_file of_port Reliable keys applications [] calls old new objects events) → IsQuiet keys (opening_state of_file of_port (r.serves).armed)
-    → Reliable → AreAllHonest new.files → AreOfMachine (opening (phase_of (r.serves).store)) (((r.serves).closes).view).all
+    → (r : RunsPhase of_file of_port Reliable keys applications [] calls old new objects events) → IsQuiet keys old → Reliable → AreAllHonest new.files → AreOfMachine (opening (phase_of (r.serves).store)) (((r.serves).closes).view).all
