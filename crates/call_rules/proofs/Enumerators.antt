@@ -1,5 +1,5 @@
 -- Calls on enumerators: what they are refused with, and what they do.
-use Rattle.std.proofs.Common.{◌≡◌, ◌∙◌, ℕ, Bool, true, false, not, cond, List, [], ◌∷◌, Option, Some, None, refl, sym, ap}
+use Rattle.std.proofs.Common.{◌≡◌, ◌∙◌, ℕ, Bool, true, false, not, List, [], ◌∷◌, Option, Some, None, refl, sym, ap}
 use Rattle.std.specs.List.{list_any}
 use Rattle.std.specs.Option.{option_map}
 use Rattle.tee_types.specs.declared.call.Call.TheVariants.{EnumNew, EnumStart, EnumNext, EnumReset, EnumFree}
@@ -9,7 +9,6 @@ use Rattle.tee_types.specs.declared.reply.Code.TheVariants.{ItemNotFound}
 use Rattle.tee_types.specs.declared.reply.Reason.TheVariants.{BadEnumerator, TooMany}
 use Rattle.enumerators.specs.declared.cursor.Cursor.{Cursor}
 use Rattle.enumerators.specs.declared.cursor.Cursor.TheVariants.{Idle, First, After}
-use Rattle.enumerators.specs.declared.cursor.EnumFault.TheVariants.{TooMany as AllGiven, NoMemory as NoRoom}
 use Rattle.enumerators.specs.Enumeration.{EnumeratorTable, cursor_at, has_all, allocated, started, reset, advanced, freed}
 use Rattle.store_model.specs.Object.{ObjectMap}
 use Rattle.store_model.specs.Machine.{Session, MachineState, Outcome, session_at, with_session, unless_refused}
@@ -31,10 +30,6 @@ pub next_is : (entries : List (Option DirEntry)) (objects : ObjectMap) → HasSh
 next_is entries objects shape app Idle next is = sym (ap (option_map shown_entry) is)
 next_is entries objects shape app First next is = next_objects entries objects app None next shape is
 next_is entries objects shape app (After id) next is = next_objects entries objects app (Some id) next shape is
-
-pub full_of : (b : Bool) → AllGiven ≡ cond b AllGiven NoRoom → b ≡ true
-full_of true h = refl
-full_of false h = absurd (cc (h))
 
 module _ (s : MachineState) (i : ℕ) (caller : Session) (is : session_at s i ≡ caller) where
   -- a live enumerator's call is done, of another it is refused

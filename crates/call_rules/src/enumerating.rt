@@ -1,6 +1,7 @@
 //! Calls on the enumerators of a session.
 
-ghost use Rattle.std.specs.Prelude.{◌≡◌, ℕ, true, IfOk, OnErr};
+ghost use Rattle.std.specs.Prelude.{◌≡◌, ℕ, false, true, IfOk, OnErr};
+ghost use Rattle.enumerators.specs.Enumeration.{has_all};
 ghost use Rattle.store_model.specs.Machine.{MachineState, session_at};
 ghost use Rattle.store_model.specs.Standing.{is_undone};
 ghost use Rattle.call_rules.specs.Matches.{Matches};
@@ -10,7 +11,7 @@ ghost use Rattle.call_rules.specs.Nexts.{IsNextBy};
 
 use crate::catalog::Catalog;
 use dir_records::DirEntry;
-use enumerators::{Cursor, EnumFault};
+use enumerators::Cursor;
 use store_model::Session;
 use tee_types::{AppId, Call, Code, NoMemory, Reason, Reply};
 
@@ -22,10 +23,14 @@ pub fn enum_new(session: &mut Session) -> Result<Reply, NoMemory>
     ensures application { session.new.application ≡ session.old.application }
     ensures plain { IfOk result IsPlain }
     ensures err { OnErr result (session.new ≡ session.old) }
+    // Where the session has all its enumerators nothing is taken, and no memory is asked for.
+    ensures room { OnErr result (has_all session.old.enumerators ≡ false) }
 {
+    if session.has_all_enumerators() {
+        return Ok(Reply::Misuse(Reason::TooMany));
+    }
     match session.add_enumerator() {
         Ok(number) => Ok(Reply::Handle(number)),
-        Err(EnumFault::TooMany) => Ok(Reply::Misuse(Reason::TooMany)),
         Err(_) => Err(NoMemory {}),
     }
 }

@@ -1,9 +1,11 @@
 -- A change that was staged is brought to the gate with the slot of its object.
-use Rattle.std.proofs.Common.{List, None, Ok, Option, Some, ap, false, length, max, subst, sym, ℕ, ◌+◌, ◌==◌, ◌∙◌, ◌≡◌, ◌≤◌}
+use Rattle.std.proofs.Common.{List, None, Option, Some, ap, false, length, max, subst, sym, ℕ, ◌+◌, ◌==◌, ◌∙◌, ◌≡◌, ◌≤◌}
 use Rattle.call_history.specs.Sessions.{CallerSession}
 use Rattle.call_rules.specs.Objects.{IsRightful}
 use Rattle.call_rules.specs.declared.decision.OpenObject.{OpenObject}
 use Rattle.change_calls.specs.Renewed.{renewal, renewed_entry}
+use Rattle.change_calls.specs.Staging.{IsStagedChange, StagesChange, resizing, writing}
+use Rattle.change_calls.specs.declared.staged.Staged.TheVariants.{Root}
 use Rattle.crash_core.specs.DirectoryLaws.{AreEntries}
 use Rattle.crash_core.specs.EntryChanges.{Put}
 use Rattle.dir_records.specs.declared.entry.DirEntry.{DirEntry}
@@ -18,19 +20,19 @@ use Rattle.locked_gate.specs.declared.gate.Closing.{Closing}
 use Rattle.locked_slots.proofs.Contents.{seat_same}
 use Rattle.locked_slots.specs.KnownFor.{own_version}
 use Rattle.locked_slots.specs.LockedSlots.{IsSlotOf}
-use Rattle.locked_slots.specs.Stages.{IsStagedSlot, StagesVersion, VersionChange, resize_of, write_of}
+use Rattle.locked_slots.specs.Stages.{IsStagedSlot, VersionChange, resize_of, write_of}
 use Rattle.node_image.specs.declared.node.RootRef.{RootRef}
 use Rattle.object_answers.proofs.Meetings.{own-seat}
 use Rattle.object_answers.proofs.OwnAnswers.{whole-fits}
 use Rattle.object_answers.specs.Meeting.{IsAtEntry}
-use Rattle.object_commits.proofs.BroughtSlots.{staged_brought, stages_versions}
+use Rattle.object_commits.proofs.BroughtSlots.{staged_brought}
 use Rattle.object_commits.proofs.Truncations.{truncations_commit}
 use Rattle.object_commits.proofs.Writes.{writes_commit}
 use Rattle.object_commits.specs.AtObject.{IsAtObject}
 use Rattle.object_commits.specs.Bringing.{IsBrought}
 use Rattle.object_commits.specs.SlotCommits.{IsSlotCommit}
-use Rattle.object_commits.specs.StagedVersions.{IsStagedVersion, change_versions, changed_entry}
-use Rattle.object_slots.specs.Value.{IsHolding, SlotValue, without_stage}
+use Rattle.object_commits.specs.StagedVersions.{change_versions, changed_entry}
+use Rattle.object_slots.specs.Value.{SlotValue, without_stage}
 use Rattle.store_commit.specs.Changes.{change_of}
 use Rattle.store_commit.specs.Gates.{GateValue}
 use Rattle.suppositions.specs.Stores.{Store}
@@ -41,7 +43,7 @@ use Rattle.tee_types.specs.declared.reply.Reply.TheVariants.{Done}
 
 module _ {F R E : Type 0} (store : Store) (gate : GateValue F R) (knows : GateView) (closing : Option Closing) (locked : IsLockedGate store gate knows closing) (are : AreEntries gate.dir.dir.entries)
     (idle : gate.doubt ≡ None) (s : CallerSession E) (calmly : IsCalm store knows s) (number : ℕ) (found : OpenObject) (rightful : IsRightful gate.dir.dir.entries s.state number write_bit found) (slot : SlotValue)
-    (v : Version) (at : IsAtEntry knows slot found.held.entry v) (holding : IsHolding slot.holds) (root : RootRef) where
+    (v : Version) (at : IsAtEntry knows slot found.held.entry v) (root : RootRef) where
   abbrev e : DirEntry
   e = found.held.entry
 
@@ -55,18 +57,12 @@ module _ {F R E : Type 0} (store : Store) (gate : GateValue F R) (knows : GateVi
   gives = ap (λ (x : Sight SlotView). own_version x.knows) (sym (seat_same at.gives.seat seat (sym at.gives.is ∙ at.sees.is))) ∙ at.gives.gives
 
   -- whatever the change is
-  module _ (change : VersionChange) (stages : StagesVersion store slot v change (Ok root)) where
+  module _ (change : VersionChange) (stages : IsStagedChange store slot v change root) where
     abbrev next : Version
-    next = (stages_versions store slot v change root stages holding).0
-
-    staged_slot : IsStagedSlot store slot next
-    staged_slot = (stages_versions store slot v change root stages holding).1
-
-    pub staged_version : IsStagedVersion store.keys slot.file v next change root
-    staged_version = (stages_versions store slot v change root stages holding).2
+    next = stages.next
 
     mine : IsSlotOf store slot.number slot.file seat
-    mine = own-seat store (record slot { holds = without_stage slot.holds }) seat at.sees.is staged_slot.before
+    mine = own-seat store (record slot { holds = without_stage slot.holds }) seat at.sees.is stages.staged.before
 
     seated : slot ≡ record slot { seat = Some seat }
     seated = λ i. record slot { seat = at.sees.is i }
@@ -92,13 +88,13 @@ module _ {F R E : Type 0} (store : Store) (gate : GateValue F R) (knows : GateVi
       is = at.sees.is;
       number = mine.own;
       commit = commit;
-      brought = staged_brought store slot seat v next (subst (λ (x : SlotValue). IsStagedSlot store x next) seated staged_slot) gives;
+      brought = staged_brought store slot seat v next (subst (λ (x : SlotValue). IsStagedSlot store x next) seated stages.staged) gives;
       sees = record { sound = at.sound; fits = whole-fits store knows slot.number slot at.sees mine locked.journal at.sound; whole = at.sees.whole };
     }
 
     -- the entry, by the reference and the size that are told
     renews : (size : ℕ) → next.size ≡ size → changed_entry e next ≡ renewed_entry e root size
-    renews size is = λ i. record e { version = (staged_version.follows.root_is i).version; hash = (staged_version.follows.root_is i).hash; size = is i }
+    renews size is = λ i. record e { version = (stages.version.follows.root_is i).version; hash = (stages.version.follows.root_is i).hash; size = is i }
 
     pub brings_renewed : (size : ℕ) → next.size ≡ size → (call : Call)
         → IsSlotCommit store knows gate.dir.dir.entries gate.counter s.number s.made call Done (Put found.held.index (changed_entry e next)) slot.file seat.knows (change_versions v next)
@@ -106,20 +102,20 @@ module _ {F R E : Type 0} (store : Store) (gate : GateValue F R) (knows : GateVi
     brings_renewed size is call commit =
         (change_versions v next, subst (λ (x : DirEntry). IsBrought store gate knows slot s call Done (Put found.held.index x) (change_versions v next)) (renews size is) (brings call commit))
 
-  pub write_brought : (bytes : List ℕ) → (length bytes == 0) ≡ false → found.handle.position + length bytes ≤ 1044480 → StagesVersion store slot v (write_of v.size found.handle.position bytes) (Ok root)
+  pub write_brought : (bytes : List ℕ) → (length bytes == 0) ≡ false → found.handle.position + length bytes ≤ 1044480
+      → StagesChange store slot v (writing found.handle.position bytes) (Root root)
       → (versions : TagVersions) × IsBrought store gate knows slot s (Write number bytes) Done (change_of (renewal found.held root (max e.size (found.handle.position + length bytes)))) versions
   write_brought bytes some fits stages =
       let change : VersionChange = write_of v.size found.handle.position bytes in
-      let staged = staged_version change stages in
-      brings_renewed change stages (max e.size (found.handle.position + length bytes)) (staged.follows.size ∙ ap (λ (n : ℕ). max n (found.handle.position + length bytes)) sized) (Write number bytes)
+      brings_renewed change stages (max e.size (found.handle.position + length bytes))
+      (stages.version.follows.size ∙ ap (λ (n : ℕ). max n (found.handle.position + length bytes)) sized) (Write number bytes)
       (writes_commit F R E store gate knows closing s number found seat.knows v (next change stages) slot.file root bytes (at_object change stages)
-      (record { right = rightful.has_right; some = some; fits = fits }) staged)
+      (record { right = rightful.has_right; some = some; fits = fits }) stages.version)
 
-  pub truncate_brought : (size : ℕ) → (size == e.size) ≡ false → size ≤ 1044480 → StagesVersion store slot v (resize_of v.size size) (Ok root)
+  pub truncate_brought : (size : ℕ) → (size == e.size) ≡ false → size ≤ 1044480 → StagesChange store slot v (resizing size) (Root root)
       → (versions : TagVersions) × IsBrought store gate knows slot s (Truncate number size) Done (change_of (renewal found.held root size)) versions
   truncate_brought size other fits stages =
       let change : VersionChange = resize_of v.size size in
-      let staged = staged_version change stages in
-      brings_renewed change stages size staged.follows.size (Truncate number size)
+      brings_renewed change stages size stages.version.follows.size (Truncate number size)
       (truncations_commit F R E store gate knows closing s number found seat.knows v (next change stages) slot.file root size (at_object change stages)
-      (record { right = rightful.has_right; other = ap (λ (n : ℕ). size == n) sized ∙ other; fits = fits }) staged)
+      (record { right = rightful.has_right; other = ap (λ (n : ℕ). size == n) sized ∙ other; fits = fits }) stages.version)

@@ -6,6 +6,10 @@ pub mod MeantChanges
 pub mod MovedSessions
 pub mod Failures
 pub mod Unstaged
+pub mod Slots
+pub mod StagedChanges
+pub mod MetStages
+pub mod Unloaded
 pub mod BroughtChanges
 pub mod Results
 pub mod Tried

@@ -1,41 +1,29 @@
 -- What a change answered, over the calls of which it is made.
-use Rattle.std.proofs.Common.{Err, Ok, Result, subst, ℕ, ◌∙◌, ◌≡◌}
+use Rattle.std.proofs.Common.{subst, ℕ, ◌∙◌, ◌≡◌}
 use Rattle.call_history.specs.Sessions.{CallerSession}
-use Rattle.change_calls.specs.Causes.{HasChangeCause}
-use Rattle.change_calls.specs.Changed.{Brought, Failed, IsChangedOrNot, IsTried, IsTriedOrNot, Tried}
+use Rattle.change_calls.specs.Causes.{HasChangeCause, HasStageCause}
+use Rattle.change_calls.specs.declared.staged.Staged.{Staged}
+use Rattle.change_calls.specs.declared.staged.Staged.TheVariants.{Root, Unstaged}
 use Rattle.disk_model.specs.Calls.{GoesOn}
 use Rattle.disk_model.specs.Faults.{Rose}
 use Rattle.disk_model.specs.State.{FileState}
-use Rattle.history_seats.specs.Views.{GateView}
 use Rattle.htree_file.specs.Answers.{FileFailed, FilePassed}
-use Rattle.locked_gate.specs.Commits.{IsCalm}
 use Rattle.locked_gate.specs.LockedGates.{LockedGateValue}
 use Rattle.locked_gate.specs.declared.answered.Answer.{Answer}
 use Rattle.object_answers.specs.Causes.{HasToldCause}
 use Rattle.object_answers.specs.Served.{IsServed}
 use Rattle.object_commits.specs.Bringing.{CommitsGate, IsCommitted}
-use Rattle.object_slots.specs.Value.{SlotValue}
 use Rattle.rpmb_card.specs.Port.{PortState}
 use Rattle.store_commit.specs.Causes.{EndCause, counts}
 use Rattle.store_commit.specs.Counts.{EndCounts}
 use Rattle.store_commit.specs.declared.change.CommitEnd.{CommitEnd}
 use Rattle.store_commit.specs.declared.change.EntryChange.{EntryChange}
-use Rattle.store_commit.specs.declared.look.Held.{Held}
 use Rattle.suppositions.specs.Stores.{Store}
 use Rattle.tee_types.specs.declared.call.Call.{Call}
 use Rattle.tee_types.specs.declared.reply.Cause.TheVariants.{Fault}
 use Rattle.tee_types.specs.declared.reply.Device.TheVariants.{Entropy, File}
 use Rattle.tee_types.specs.declared.reply.Reply.TheVariants.{NotAvailable}
 use Rattle.tee_types.specs.declared.reply.Reply.{Reply}
-
--- A session whose entropy drew is as calm as before.
-pub drawn_calm : {E : Type 0} (store : Store) (knows : GateView) (s : CallerSession E) (entropy : E) → IsCalm store knows s → IsCalm store knows (record s { entropy = entropy })
-drawn_calm store knows s entropy calmly = record {
-  caller = record { session = calmly.caller.session; doubt = calmly.caller.doubt };
-  sees = calmly.sees;
-  settled = calmly.settled;
-  within = calmly.within;
-}
 
 -- Where the object could not be loaded, nothing was drawn.
 pub told_changes : (old new : FileState) (number : ℕ) (Reliable : Type 0) (drew draws : ℕ) → draws ≡ drew → (reply : Reply) → HasToldCause old new number reply
@@ -46,7 +34,7 @@ told_changes old new number Reliable drew draws undrawn reply cause = (cause, un
 
 -- Behind calls of the file that passed.
 module _ (a b c : FileState) (passed : FilePassed a b) (goes : GoesOn a b) where
-  pub passed_passed : FilePassed b c → FilePassed a c
+  passed_passed : FilePassed b c → FilePassed a c
   passed_passed then_ = record { faults = then_.faults ∙ passed.faults; starved = then_.starved ∙ passed.starved }
 
   passed_failed : (count : ℕ) → FileFailed b c count → FileFailed a c count
@@ -56,11 +44,15 @@ module _ (a b c : FileState) (passed : FilePassed a b) (goes : GoesOn a b) where
     calm = λ calm. subst (λ (n : ℕ). Rose n c.starved) passed.starved (failed.calm (goes.calm calm));
   }
 
-  pub passed_cause : (number : ℕ) (Reliable : Type 0) (drew draws : ℕ) (reply : Reply) → HasChangeCause b c number Reliable drew draws reply → HasChangeCause a c number Reliable drew draws reply
+  passed_cause : (number : ℕ) (Reliable : Type 0) (drew draws : ℕ) (reply : Reply) → HasChangeCause b c number Reliable drew draws reply → HasChangeCause a c number Reliable drew draws reply
   passed_cause number Reliable drew draws (NotAvailable (Fault (File n) count)) cause = (cause.0, passed_failed count cause.1, cause.2)
   passed_cause number Reliable drew draws (NotAvailable (Fault Entropy count)) cause = (passed_passed cause.0, cause.1, cause.2, cause.3)
   passed_cause number Reliable drew draws (NotAvailable other) cause = absurd cause
   passed_cause number Reliable drew draws reply cause = (passed_passed cause.0, cause.1)
+
+  pub passed_stage : (number : ℕ) (Reliable : Type 0) (drew draws : ℕ) (staged : Staged) → HasStageCause b c number Reliable drew draws staged → HasStageCause a c number Reliable drew draws staged
+  passed_stage number Reliable drew draws (Root root) cause = (passed_passed cause.0, cause.1)
+  passed_stage number Reliable drew draws (Unstaged reply) cause = passed_cause number Reliable drew draws reply cause
 
 -- A commit, and a call that was served, of a session whose entropy drew before.
 module _ {F R E : Type 0} (of_file : F → FileState) (of_port : R → PortState) (reliable : E → Type 0) (faults : E → ℕ) (store : Store) (old new : LockedGateValue F R) (number : ℕ) (was now : CallerSession E) (entropy : E)
@@ -126,27 +118,3 @@ module _ {F R E : Type 0} (of_file : F → FileState) (of_port : R → PortState
       spare = x.spare;
       gate = commits_drawn x.end x.gate;
     }
-
--- A change that was tried behind calls of its file that passed, and that left the gate, the slot's number and the session.
-module _ {F R E : Type 0} (of_file : F → FileState) (of_port : R → PortState) (reliable : E → Type 0) (faults : E → ℕ) (store : Store) (old between new : LockedGateValue F R) (from mid to : SlotValue)
-    (was seen now : CallerSession E) (call : Call) (held : Held) (size : ℕ) (passed : FilePassed from.file mid.file) (goes : GoesOn from.file mid.file) where
-  tried_behind : (answer : Answer) → IsTried of_file of_port (reliable was.entropy) (faults was.entropy) (faults now.entropy) store old new from.number mid.file to.file was now call held size answer
-      → IsTried of_file of_port (reliable was.entropy) (faults was.entropy) (faults now.entropy) store old new from.number from.file to.file was now call held size answer
-  tried_behind answer (Failed served kind cause) =
-      Failed served kind (passed_cause from.file mid.file to.file passed goes from.number (reliable was.entropy) (faults was.entropy) (faults now.entropy) answer.reply cause)
-  tried_behind answer (Brought root committed then_) = Brought root committed (passed_passed from.file mid.file to.file passed goes then_)
-
-  changes : {X : Type 0} (result : Result Answer X) → IsTriedOrNot of_file of_port (reliable was.entropy) (faults was.entropy) (faults now.entropy) store old new from.number mid.file to.file was now call held size result
-      → IsChangedOrNot of_file of_port (reliable was.entropy) (faults was.entropy) (faults now.entropy) store old new from to was now call held size result
-  changes (Ok answer) tried = Tried (tried_behind answer tried)
-  changes (Err none) stays = stays
-
-  pub changed_behind : {X : Type 0} → between ≡ old → seen ≡ was → mid.number ≡ from.number → (result : Result Answer X)
-      → IsTriedOrNot of_file of_port (reliable seen.entropy) (faults seen.entropy) (faults now.entropy) store between new mid.number mid.file to.file seen now call held size result
-      → IsChangedOrNot of_file of_port (reliable was.entropy) (faults was.entropy) (faults now.entropy) store old new from to was now call held size result
-  changed_behind same alike own result tried =
-      changes result
-      (subst
-      (λ (x : LockedGateValue F R × CallerSession E × ℕ). IsTriedOrNot of_file of_port (reliable x.1.entropy) (faults x.1.entropy) (faults now.entropy) store x.0 new x.2 mid.file to.file x.1 now call held size
-      result)
-      (λ i. (same i, alike i, own i)) tried)

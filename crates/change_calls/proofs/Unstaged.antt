@@ -1,7 +1,6 @@
 -- Why a change was not staged, in terms of the object's version.
-use Rattle.std.proofs.Common.{Err, IsTrue, List, Some, false, length, max, min, refl, subst, sym, true, ℕ, ◌+◌, ◌==◌, ◌||◌, ◌∙◌, ◌≡◌}
+use Rattle.std.proofs.Common.{Err, IsTrue, List, Some, false, length, max, min, subst, sym, true, ℕ, ◌+◌, ◌==◌, ◌||◌, ◌∙◌, ◌≡◌}
 use Rattle.std.specs.List.{list_any}
-use Rattle.change_calls.specs.Causes.{HasChangeCause}
 use Rattle.change_calls.specs.Replies.{IsFailure, reply_of_stage}
 use Rattle.disk_model.specs.State.{FileState}
 use Rattle.history_seats.specs.Records.{Version}
@@ -9,13 +8,11 @@ use Rattle.hmac_keys.specs.declared.Keys.{Keys}
 use Rattle.locked_gate.specs.Told.{Answers}
 use Rattle.locked_slots.specs.Objects.{IsObjectOf, IsOfVersion}
 use Rattle.locked_slots.specs.Stages.{StagesVersion, VersionChange, resize_of, write_of}
-use Rattle.node_image.specs.declared.node.RootRef.{RootRef}
 use Rattle.object_answers.specs.FileAnswers.{Fails, IsFileAnswer, Refuses, Undrawn}
 use Rattle.object_answers.specs.Loading.{HoldsVersion}
 use Rattle.object_answers.specs.Undrawn.{IsSpared}
 use Rattle.object_file.specs.Held.{held_in, pages_in}
 use Rattle.object_file.specs.Value.{size_in}
-use Rattle.object_slots.specs.Faults.{HasCauses}
 use Rattle.object_slots.specs.Value.{Holding, IsLive, SlotValue, free, live, made, staged}
 use Rattle.object_slots.specs.declared.fault.SlotFault.TheVariants.{Corrupt as IsCorrupt, Failed, NoEntropy, NoMemory}
 use Rattle.object_slots.specs.declared.fault.SlotFault.{SlotFault}
@@ -115,15 +112,3 @@ unstaged_failure file IsCorrupt reply is = subst IsFailure (sym (some_same reply
 unstaged_failure file (Failed count) reply is = subst IsFailure (sym (some_same reply (NotAvailable (Fault (File file) count)) is)) tt
 unstaged_failure file (NoEntropy count) reply is = subst IsFailure (sym (some_same reply (NotAvailable (Fault Entropy count)) is)) tt
 unstaged_failure file NoMemory reply is = absurd (none_some reply (sym is))
-
--- and has its cause
-pub unstaged_cause : (old new : FileState) (number : ℕ) (Reliable Still : Type 0) (drew draws : ℕ) (fault : SlotFault) (reply : Reply) → Some reply ≡ reply_of_stage number fault
-    → HasCauses old new drew draws Reliable Still {A = RootRef} (Err fault) → HasChangeCause old new number Reliable drew draws reply
-unstaged_cause old new number Reliable Still drew draws IsCorrupt reply is causes =
-    subst (HasChangeCause old new number Reliable drew draws) (sym (some_same reply Corrupt is)) (causes.file, causes.drawn)
-unstaged_cause old new number Reliable Still drew draws (Failed count) reply is causes =
-    subst (HasChangeCause old new number Reliable drew draws) (sym (some_same reply (NotAvailable (Fault (File number) count)) is)) (refl, causes.file, causes.drawn)
-unstaged_cause old new number Reliable Still drew draws (NoEntropy count) reply is causes =
-    subst (HasChangeCause old new number Reliable drew draws) (sym (some_same reply (NotAvailable (Fault Entropy count)) is))
-    (causes.file, causes.drawn.0, causes.drawn.1, causes.reliable)
-unstaged_cause old new number Reliable Still drew draws NoMemory reply is causes = absurd (none_some reply (sym is))

@@ -1,5 +1,7 @@
 -- Why a change of an object's data was not staged, by the counts of the devices that it uses.
 use Rattle.std.specs.Prelude.{ℕ, ◌≡◌}
+use Rattle.change_calls.specs.declared.staged.Staged.{Staged}
+use Rattle.change_calls.specs.declared.staged.Staged.TheVariants.{Root, Unstaged}
 use Rattle.disk_model.specs.Faults.{Rose}
 use Rattle.disk_model.specs.State.{FileState}
 use Rattle.htree_file.specs.Answers.{FileFailed, FilePassed}
@@ -21,3 +23,8 @@ module _ (old new : FileState) (number : ℕ) (Reliable : Type 0) (drew draws : 
   abbrev pub HasChangeCause : Reply → Type 0
   HasChangeCause (NotAvailable cause) = AccusesDevice cause
   HasChangeCause reply = FilePassed old new × (draws ≡ drew)
+
+  -- nor is a change staged there
+  abbrev pub HasStageCause : Staged → Type 0
+  HasStageCause (Root root) = FilePassed old new × (draws ≡ drew)
+  HasStageCause (Unstaged reply) = HasChangeCause reply

@@ -4,6 +4,8 @@ use Rattle.call_history.specs.Sessions.{CallerSession}
 use Rattle.change_calls.specs.Causes.{HasChangeCause}
 use Rattle.change_calls.specs.Renewed.{renewal}
 use Rattle.change_calls.specs.Replies.{IsDoneOrRefused, IsFailure}
+use Rattle.change_calls.specs.declared.staged.Staged.{Staged}
+use Rattle.change_calls.specs.declared.staged.Staged.TheVariants.{Root, Unstaged}
 use Rattle.disk_model.specs.State.{FileState}
 use Rattle.htree_file.specs.Answers.{FilePassed}
 use Rattle.locked_gate.specs.LockedGates.{LockedGateValue}
@@ -16,6 +18,7 @@ use Rattle.rpmb_card.specs.Port.{PortState}
 use Rattle.store_commit.specs.declared.look.Held.{Held}
 use Rattle.suppositions.specs.Stores.{Store}
 use Rattle.tee_types.specs.declared.call.Call.{Call}
+use Rattle.tee_types.specs.declared.reply.Reply.{Reply}
 use Rattle.tee_types.specs.declared.reply.Reply.TheVariants.{Done}
 
 -- It was answered as the machine does whatever the object's bytes are. The object's file and the session's entropy, which counted faults from
@@ -26,8 +29,21 @@ pub record IsMeantOnly {F R E : Type 0} (drew draws : ℕ) (store : Store) (old 
   pub file : to ≡ from
   pub undrawn : draws ≡ drew
 
+-- Why the change was not staged was told, and nothing was drawn.
+pub record IsToldUnstaged {F R E : Type 0} (store : Store) (old new : LockedGateValue F R) (number : ℕ) (was now : CallerSession E) (call : Call) (reply : Reply) (answer : Answer) : Type 0 where
+  pub served : IsServed store old new was now number call answer
+  pub told : answer.reply ≡ reply
+  pub undrawn : now.entropy ≡ was.entropy
+
 -- `Reliable` says that the entropy never fails.
 module _ {F R : Type 0} (of_file : F → FileState) (of_port : R → PortState) (Reliable : Type 0) (drew draws : ℕ) where
+  -- What was staged in the file of that number was brought, and the commit gave the object's entry the reference of it, and that size; or it
+  -- was told why nothing was staged.
+  abbrev pub AnswersStaged : {E : Type 0} → Store → (old new : LockedGateValue F R) → (number : ℕ) → (was now : CallerSession E) → Call → Held → (size : ℕ) → Staged → Answer → Type 0
+  AnswersStaged store old new number was now call held size (Root root) answer =
+      IsCommitted of_file of_port store old new number was now call Done (renewal held root size) Reliable drew draws answer
+  AnswersStaged store old new number was now call held size (Unstaged reply) answer = IsToldUnstaged store old new number was now call reply answer
+
   -- The file of that number was asked, for a change of the held object that would leave that size.
   pub data IsTried {E : Type 0} (store : Store) (old new : LockedGateValue F R) (number : ℕ) (from to : FileState) (was now : CallerSession E) (call : Call) (held : Held) (size : ℕ) (answer : Answer) : Type 0 where
     -- the reply says why nothing was done
@@ -43,10 +59,6 @@ module _ {F R : Type 0} (of_file : F → FileState) (of_port : R → PortState) 
     Tried : IsTried store old new from.number from.file to.file was now call held size answer → IsChanged store old new from to was now call held size answer
 
   -- Or memory ran out before, and gate and session stay.
-  abbrev pub IsTriedOrNot : {E X : Type 0} → Store → (old new : LockedGateValue F R) → (number : ℕ) → (from to : FileState) → (was now : CallerSession E) → Call → Held → (size : ℕ) → Result Answer X → Type 0
-  IsTriedOrNot store old new number from to was now call held size (Ok answer) = IsTried store old new number from to was now call held size answer
-  IsTriedOrNot store old new number from to was now call held size (Err none) = (new ≡ old) × (now ≡ was)
-
   abbrev pub IsChangedOrNot : {E X : Type 0} → Store → (old new : LockedGateValue F R) → (from to : SlotValue) → (was now : CallerSession E) → Call → Held → (size : ℕ) → Result Answer X → Type 0
   IsChangedOrNot store old new from to was now call held size (Ok answer) = IsChanged store old new from to was now call held size answer
   IsChangedOrNot store old new from to was now call held size (Err none) = (new ≡ old) × (now ≡ was)

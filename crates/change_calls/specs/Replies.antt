@@ -5,7 +5,7 @@ use Rattle.object_slots.specs.declared.fault.SlotFault.TheVariants.{Corrupt as I
 use Rattle.tee_types.specs.declared.reply.Cause.TheVariants.{Fault}
 use Rattle.tee_types.specs.declared.reply.Device.TheVariants.{Entropy, File}
 use Rattle.tee_types.specs.declared.reply.Reply.{Reply}
-use Rattle.tee_types.specs.declared.reply.Reply.TheVariants.{Content, Corrupt, Done, Info, NotAvailable, Refused}
+use Rattle.tee_types.specs.declared.reply.Reply.TheVariants.{Corrupt, Done, NotAvailable, Refused}
 
 -- the call is done, or refused by a return code
 abbrev pub IsDoneOrRefused : Reply → Type 0
@@ -18,12 +18,6 @@ abbrev pub IsFailure : Reply → Type 0
 IsFailure Corrupt = Unit {0}
 IsFailure (NotAvailable cause) = Unit {0}
 IsFailure _ = ⊥
-
--- the reply has no memory of its own
-abbrev pub HasNoBytes : Reply → Type 0
-HasNoBytes (Content bytes) = ⊥
-HasNoBytes (Info size position flags attributes) = ⊥
-HasNoBytes _ = Unit {0}
 
 -- what a change of the object in that file is answered that was not staged; or it is not answered
 abbrev pub reply_of_stage : (file : ℕ) → SlotFault → Option Reply

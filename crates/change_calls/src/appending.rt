@@ -2,13 +2,14 @@
 
 ghost use Rattle.std.specs.Prelude.{◌≡◌, ◌≤◌};
 ghost use Rattle.change_calls.specs.Appending.{MayBeAppended};
-ghost use Rattle.change_calls.specs.Replies.{HasNoBytes};
+ghost use Rattle.locked_slots.specs.LockedSlots.{IsLockedSlot};
+ghost use Rattle.object_answers.specs.Replies.{HasNoBytes};
 ghost use Rattle.object_answers.specs.Served.{IsServed};
 
-use crate::twice::twice;
 use call_history::Session;
 use locked_gate::{Answer, LockedGate};
-use locked_slots::LockedSlot;
+use object_answers::twice;
+use object_slots::Slot;
 use rpmb_card::RpmbPort;
 use suppositions::StoreName;
 use tee_ports::{Entropy, StoreFile};
@@ -17,26 +18,28 @@ use tee_types::{Call, Reply};
 // Appends a reply with the slot of the object, and tells it.
 pub(crate) fn append<F: StoreFile + Drop, R: RpmbPort + Drop, L: StoreName, E: Entropy>(
     gate: &mut LockedGate<F, R, L>,
-    slot: &mut LockedSlot<F, L>,
+    slot: &mut Slot<F>,
     session: &mut Session<E>,
     call: Call,
     reply: Reply,
 ) -> Answer
     requires room { 1 ≤ gate.old.journal.spare }
     requires handle { 1 ≤ gate.old.gate.open_handles.spare }
+    requires locked { IsLockedSlot L.store slot.old }
     requires bare { HasNoBytes reply }
     requires may { MayBeAppended L.store gate.old.gate gate.old.journal.knows slot.old call reply session.old }
     ensures served { IsServed L.store gate.old gate.new session.old session.new slot.old.number call result }
     ensures reply { result.reply ≡ reply }
     ensures number { slot.new.number ≡ slot.old.number }
     ensures file { slot.new.file ≡ slot.old.file }
+    ensures locked { IsLockedSlot L.store slot.new }
     ensures entropy { session.new.entropy ≡ session.old.entropy }
 {
     // Tells what always holds of the gate.
     let _doubt = gate.doubt();
-    let seat = slot.slot.lend_seat();
+    let seat = slot.lend_seat();
     let (reply, told) = twice(reply);
     let (place, seat) = gate.answer_with(seat, session, call, reply);
-    slot.slot.give_seat(seat);
+    slot.give_seat(seat);
     Answer { place, reply: told }
 }

@@ -4,48 +4,26 @@ ghost use Rattle.std.specs.Prelude.{◌≡◌, ◌≤◌, ℕ, None, Some};
 ghost use Rattle.change_calls.specs.Meant.{IsMeantAnyhow};
 ghost use Rattle.change_calls.specs.Replies.{IsDoneOrRefused};
 ghost use Rattle.crash_core.specs.EntryLists.{entry_at};
-ghost use Rattle.history_seats.specs.Records.{Version};
 ghost use Rattle.locked_gate.specs.Commits.{IsCalm};
-ghost use Rattle.object_answers.specs.Meeting.{IsAtEntry};
+ghost use Rattle.locked_slots.specs.LockedSlots.{IsLockedSlot};
 ghost use Rattle.object_answers.specs.Served.{IsServed};
 
 use crate::appending::append;
 use call_history::Session;
 use dir_records::DirEntry;
 use locked_gate::{Answer, LockedGate};
-use locked_slots::LockedSlot;
-use object_answers::meet;
+use object_answers::meet_entry;
+use object_slots::Slot;
 use rpmb_card::RpmbPort;
 use suppositions::StoreName;
 use tee_ports::{Entropy, StoreFile};
 use tee_types::{Call, Reply};
 
-// Shows the whole history to the slot of an entry's file, whose session saw it already. Nothing is loaded.
-fn attend<F: StoreFile + Drop, R: RpmbPort + Drop, L: StoreName, E: Entropy>(
+/// Answers a call on the object of an entry as the machine does, whatever the object's bytes are, for a session that was shown the history.
+/// The slot of the entry's file is shown the history first. Its file is let be.
+pub fn answer_meant<F: StoreFile + Drop, R: RpmbPort + Drop, L: StoreName, E: Entropy>(
     gate: &mut LockedGate<F, R, L>,
-    slot: &mut LockedSlot<F, L>,
-    session: &mut Session<E>,
-    entry: &DirEntry,
-)
-    requires idle { gate.old.gate.doubt ≡ None }
-    requires calm { IsCalm L.store gate.old.journal.knows session.old }
-    requires entry { (index : ℕ) × (entry_at gate.old.gate.dir.dir.entries index ≡ Some entry.now) }
-    requires file { slot.old.number ≡ entry.now.file }
-    ensures gate { gate.new ≡ gate.old }
-    ensures session { session.new ≡ session.old }
-    ensures number { slot.new.number ≡ slot.old.number }
-    ensures file { slot.new.file ≡ slot.old.file }
-    ensures at { (v : Version) × IsAtEntry gate.old.journal.knows slot.new entry.now v }
-{
-    // Tells what always holds of the gate.
-    let _doubt = gate.doubt();
-    meet(gate, &mut slot.slot, session);
-}
-
-// Answers a call on the object of an entry as the machine does, whatever the object's bytes are.
-pub(crate) fn answer_meant<F: StoreFile + Drop, R: RpmbPort + Drop, L: StoreName, E: Entropy>(
-    gate: &mut LockedGate<F, R, L>,
-    slot: &mut LockedSlot<F, L>,
+    slot: &mut Slot<F>,
     session: &mut Session<E>,
     entry: &DirEntry,
     call: Call,
@@ -54,6 +32,7 @@ pub(crate) fn answer_meant<F: StoreFile + Drop, R: RpmbPort + Drop, L: StoreName
     requires room { 1 ≤ gate.old.journal.spare }
     requires handle { 1 ≤ gate.old.gate.open_handles.spare }
     requires idle { gate.old.gate.doubt ≡ None }
+    requires locked { IsLockedSlot L.store slot.old }
     requires calm { IsCalm L.store gate.old.journal.knows session.old }
     requires entry { (index : ℕ) × (entry_at gate.old.gate.dir.dir.entries index ≡ Some entry.now) }
     requires file { slot.old.number ≡ entry.now.file }
@@ -63,9 +42,10 @@ pub(crate) fn answer_meant<F: StoreFile + Drop, R: RpmbPort + Drop, L: StoreName
     ensures reply { result.reply ≡ reply }
     ensures number { slot.new.number ≡ slot.old.number }
     ensures file { slot.new.file ≡ slot.old.file }
+    ensures locked { IsLockedSlot L.store slot.new }
     ensures entropy { session.new.entropy ≡ session.old.entropy }
 {
-    attend(gate, slot, session, entry);
+    meet_entry(gate, slot, session, entry);
     // Tell what always holds of the gate.
     let _doubt = gate.doubt();
     let _counter = gate.counter();

@@ -1,22 +1,32 @@
 //! TEE_WriteObjectData: a write to an open object's data.
 
-ghost use Rattle.std.specs.Prelude.{◌==◌, ◌≡◌, ◌+◌, ◌≤◌, None, false, length, max};
+ghost use Rattle.std.specs.Prelude.{◌==◌, ◌≡◌, ◌+◌, ◌≤◌, IfOk, None, OnErr, false, length, max};
 ghost use Rattle.call_rules.specs.Objects.{IsRightful};
-ghost use Rattle.change_calls.specs.Changed.{IsChangedOrNot, IsTriedOrNot};
+ghost use Rattle.change_calls.specs.Causes.{HasStageCause};
+ghost use Rattle.change_calls.specs.Changed.{AnswersStaged, IsChangedOrNot};
+ghost use Rattle.change_calls.specs.Staging.{StagesChange, StagesEntry, writing};
 ghost use Rattle.crash_core.specs.DeviceKeys.{object_key};
+ghost use Rattle.dir_records.specs.Form.{HasForm};
 ghost use Rattle.disk_model.specs.Calls.{GoesOn};
+ghost use Rattle.history_seats.specs.Records.{Version};
 ghost use Rattle.locked_gate.specs.Commits.{IsCalm};
-ghost use Rattle.object_answers.specs.Ready.{IsReadyEntry};
+ghost use Rattle.locked_slots.specs.Fills.{GivesEntry};
+ghost use Rattle.locked_slots.specs.LockedSlots.{IsLockedSlot};
+ghost use Rattle.locked_slots.specs.Reads.{GivesVersion};
+ghost use Rattle.object_slots.specs.Value.{IsLive, without_stage};
 ghost use Rattle.tee_types.specs.Rights.{write_bit};
 
 use crate::committing::commit_stage;
 use crate::meant::answer_meant;
-use crate::telling::{tell_failure, tell_unstaged};
+use crate::staged::{Staged, staged_by};
+use crate::telling::tell_failure;
 use call_history::Session;
 use call_rules::{OpenObject, write_refusal};
+use dir_records::DirEntry;
 use locked_gate::{Answer, LockedGate, SessionMove};
 use locked_slots::{LockedSlot, stage_write};
-use object_answers::load_or_reply;
+use object_answers::{load_or_reply, meet_entry};
+use object_slots::Slot;
 use rpmb_card::RpmbPort;
 use std::alloc::Global;
 use store_model::Handle;
@@ -24,42 +34,107 @@ use suppositions::StoreName;
 use tee_ports::{Entropy, StoreFile};
 use tee_types::{Bytes, Call, NoMemory};
 
-// Writes to the object that is loaded, within the limits.
-fn write_loaded<F: StoreFile + Drop, R: RpmbPort + Drop, L: StoreName, E: Entropy>(
+// Stages a write to the object that is loaded.
+fn write_loaded<F: StoreFile + Drop, L: StoreName, E: Entropy>(
     alloc: Global,
+    slot: &mut Slot<F>,
+    entropy: &mut E,
+    start: u32,
+    bytes: &[u8],
+) -> Result<Staged, NoMemory>
+    requires locked { IsLockedSlot L.store slot.old }
+    requires live { IsLive slot.old.holds }
+    requires calm { slot.old.doubt ≡ None }
+    requires fits { start + length bytes.now ≤ 1044480 }
+    ensures same { slot.new ≡ record slot.old { file = slot.new.file; holds = slot.new.holds } }
+    ensures base { IsLockedSlot L.store (record slot.new { holds = without_stage slot.new.holds }) }
+    ensures locked { OnErr result (IsLockedSlot L.store slot.new) }
+    ensures undrawn { OnErr result (entropy.new ≡ entropy.old) }
+    ensures stages { (v : Version) → GivesVersion slot.old v → IfOk result (StagesChange L.store slot.new v (writing start bytes.now)) }
+    ensures cause { IfOk result (HasStageCause slot.old.file slot.new.file slot.old.number (E.is_reliable entropy.old) (E.faults entropy.old) (E.faults entropy.new)) }
+    ensures goes_on { GoesOn slot.old.file slot.new.file }
+    ensures reliable { E.is_reliable entropy.old → E.is_reliable entropy.new }
+{
+    let given = stage_write::<F, E, L>(alloc, slot, start, bytes, entropy);
+    let Some(staged) = staged_by(slot.number(), given) else {
+        return Err(NoMemory {});
+    };
+    Ok(staged)
+}
+
+/// Loads the object of an entry, at which the slot stands, where nothing is loaded, and stages a write of these bytes from the place `start`
+/// on in its file. `tsk` is the key of the entry's application. The gate has no part in this.
+///
+/// # Errors
+///
+/// Memory ran out. Nothing was staged or drawn.
+pub fn write_object<F: StoreFile + Drop, L: StoreName, E: Entropy>(
+    alloc: Global,
+    slot: &mut Slot<F>,
+    entropy: &mut E,
+    entry: &DirEntry,
+    tsk: &[u8; 32],
+    start: u32,
+    bytes: &[u8],
+) -> Result<Staged, NoMemory>
+    requires locked { IsLockedSlot L.store slot.old }
+    requires form { HasForm entry.now }
+    requires given { GivesEntry slot.old entry.now }
+    requires key { tsk.now ≡ object_key L.store.keys entry.now.app }
+    requires fits { start + length bytes.now ≤ 1044480 }
+    ensures same { slot.new ≡ record slot.old { file = slot.new.file; holds = slot.new.holds } }
+    // Without its stage the slot may stand behind its lock; and it has none where memory ran out.
+    ensures base { IsLockedSlot L.store (record slot.new { holds = without_stage slot.new.holds }) }
+    ensures locked { OnErr result (IsLockedSlot L.store slot.new) }
+    ensures undrawn { OnErr result (entropy.new ≡ entropy.old) }
+    ensures stages { (v : Version) → GivesVersion slot.old v → IfOk result (StagesChange L.store slot.new v (writing start bytes.now)) }
+    // The reply accuses the file or the entropy where it failed, and no other.
+    ensures cause { IfOk result (HasStageCause slot.old.file slot.new.file slot.old.number (E.is_reliable entropy.old) (E.faults entropy.old) (E.faults entropy.new)) }
+    ensures goes_on { GoesOn slot.old.file slot.new.file }
+    ensures reliable { E.is_reliable entropy.old → E.is_reliable entropy.new }
+{
+    if let Some(reply) = load_or_reply::<F, L>(alloc, slot, entry, tsk)? {
+        return Ok(Staged::Unstaged(reply));
+    }
+    write_loaded::<F, L, E>(alloc, slot, entropy, start, bytes)
+}
+
+/// Brings a write of these bytes, of which there are some, that was staged in the file of an open object, and advances the handle's position
+/// by as many where the commit is made; or tells why it was not staged. `found` is what the rules found of the handle, whose session was
+/// shown the history, and the slot stands at its entry.
+pub fn answer_write<F: StoreFile + Drop, R: RpmbPort + Drop, L: StoreName, E: Entropy>(
     gate: &mut LockedGate<F, R, L>,
-    slot: &mut LockedSlot<F, L>,
+    slot: &mut Slot<F>,
     session: &mut Session<E>,
     found: &OpenObject,
     handle: u32,
-    bytes: &[u8],
-    call: Call,
-) -> Result<Answer, NoMemory>
+    bytes: Bytes,
+    staged: Staged,
+) -> Answer
     requires names { 1 ≤ gate.old.gate.room }
     requires handles { 1 ≤ gate.old.gate.open_handles.spare }
     requires events { 1 ≤ gate.old.journal.spare }
     requires idle { gate.old.gate.doubt ≡ None }
     requires calm { IsCalm L.store gate.old.journal.knows session.old }
     requires found { IsRightful gate.old.gate.dir.dir.entries session.old.state handle write_bit found.now }
-    requires some { (length bytes.now == 0) ≡ false }
-    requires fits { found.now.handle.position + length bytes.now ≤ 1044480 }
-    requires call { call ≡ Call.Write handle bytes.now }
-    requires ready { IsReadyEntry L.store gate.old.journal.knows slot.old.file slot.old found.now.held.entry None }
-    ensures tried { IsTriedOrNot F.state R.state (E.is_reliable session.old.entropy) (E.faults session.old.entropy) (E.faults session.new.entropy)
-        L.store gate.old gate.new slot.old.number slot.old.file slot.new.file session.old session.new (Call.Write handle bytes.now) found.now.held
-        (max found.now.held.entry.size (found.now.handle.position + length bytes.now)) result }
-    ensures number { slot.new.number ≡ slot.old.number }
-    ensures goes_on { GoesOn slot.old.file slot.new.file }
+    requires some { (length bytes == 0) ≡ false }
+    requires fits { found.now.handle.position + length bytes ≤ 1044480 }
+    requires stages { StagesEntry L.store gate.old.journal.knows slot.old found.now.held.entry (writing found.now.handle.position bytes) staged }
+    ensures answered { AnswersStaged F.state R.state (E.is_reliable session.old.entropy) (E.faults session.old.entropy) (E.faults session.new.entropy)
+        L.store gate.old gate.new slot.old.number session.old session.new (Call.Write handle bytes) found.now.held
+        (max found.now.held.entry.size (found.now.handle.position + length bytes)) staged result }
     ensures reliable { E.is_reliable session.old.entropy → E.is_reliable session.new.entropy }
+    ensures number { slot.new.number ≡ slot.old.number }
+    ensures file { slot.new.file ≡ slot.old.file }
+    ensures locked { IsLockedSlot L.store slot.new }
 {
     // Tells what always holds of the gate.
     let _doubt = gate.doubt();
     let start = found.handle.position;
     let end = start + bytes.len() as u32;
-    match stage_write::<F, E, L>(alloc, &mut slot.slot, start, bytes, session.entropy_mut()) {
-        Ok(root) => {
-            // Tells what always holds of the slot.
-            let _number = slot.slot.number();
+    let call = Call::Write { handle, bytes };
+    match staged {
+        Staged::Root(root) => {
             let size = found.held.entry.size.max(end);
             let step = SessionMove::Replaces(
                 handle,
@@ -68,18 +143,9 @@ fn write_loaded<F: StoreFile + Drop, R: RpmbPort + Drop, L: StoreName, E: Entrop
                     ..found.handle
                 },
             );
-            Ok(commit_stage(
-                gate,
-                &mut slot.slot,
-                session,
-                found.held,
-                root,
-                size,
-                call,
-                step,
-            ))
+            commit_stage(gate, slot, session, found.held, root, size, call, step)
         }
-        Err(fault) => tell_unstaged(gate, slot, session, call, fault),
+        Staged::Unstaged(reply) => tell_failure(gate, slot, session, call, reply),
     }
 }
 
@@ -116,15 +182,25 @@ pub fn write<F: StoreFile + Drop, R: RpmbPort + Drop, L: StoreName, E: Entropy>(
     ensures reliable { E.is_reliable session.old.entropy → E.is_reliable session.new.entropy }
 {
     let entry = found.held.entry;
-    let call = Call::Write {
-        handle,
-        bytes: Bytes::from_slice(alloc, bytes)?,
-    };
-    if let Some(reply) = write_refusal(found.handle.position, bytes.len()) {
-        return Ok(answer_meant(gate, slot, session, &entry, call, reply));
+    let start = found.handle.position;
+    let kept = Bytes::from_slice(alloc, bytes)?;
+    if let Some(reply) = write_refusal(start, bytes.len()) {
+        let call = Call::Write {
+            handle,
+            bytes: kept,
+        };
+        return Ok(answer_meant(gate, &mut slot.slot, session, &entry, call, reply));
     }
-    if let Some(reply) = load_or_reply(alloc, gate, slot, session, &entry, tsk)? {
-        return Ok(tell_failure(gate, slot, session, call, reply));
-    }
-    write_loaded(alloc, gate, slot, session, found, handle, bytes, call)
+    meet_entry(gate, &mut slot.slot, session, &entry);
+    let entropy = session.entropy_mut();
+    let staged = write_object::<F, L, E>(
+        alloc,
+        &mut slot.slot,
+        entropy,
+        &entry,
+        tsk,
+        start,
+        bytes,
+    )?;
+    Ok(answer_write(gate, &mut slot.slot, session, found, handle, kept, staged))
 }

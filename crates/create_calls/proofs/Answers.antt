@@ -1,43 +1,24 @@
--- How a create is answered, from what its parts ensure.
-use Rattle.std.proofs.Common.{Err, Ok, Result, Some, ap, refl, subst, ℕ, ◌≡◌}
+-- How a create is answered, from what its steps ensure.
+use Rattle.std.proofs.Common.{Err, Ok, Result, ap, arith, subst, sym, ℕ, ◌<◌, ◌≡◌}
 use Rattle.call_history.specs.Sessions.{CallerSession}
 use Rattle.call_rules.specs.declared.decision.NewPlace.{NewPlace}
-use Rattle.create_calls.specs.Created.{Brought, IsAnsweredOrNot, Unmade as ToldWhy}
-use Rattle.create_calls.specs.Rules.{NewObject}
-use Rattle.create_calls.specs.Unmade.{IsToldUnmade, UnmadeCause, reply_unmade, unmade_by}
+use Rattle.create_calls.specs.Created.{Brought, IsAnswered, IsAnsweredOrNot, TriedCause, Unmade as ToldWhy}
+use Rattle.create_calls.specs.Finished.{IsBroughtNew, IsFinished, IsToldWhy}
+use Rattle.create_calls.specs.Finished.IsBroughtOrSpent.{Brought as CameBrought, Unbrought}
+use Rattle.create_calls.specs.Rules.{NewObject, create_call}
+use Rattle.create_calls.specs.Unmade.{IsToldUnmade, UnmadeCause, reply_unmade}
 use Rattle.create_calls.specs.declared.unmade.Unmade.{Unmade}
-use Rattle.create_calls.specs.declared.unmade.Unmade.TheVariants.{Failed}
-use Rattle.dir_records.specs.declared.entry.DirEntry.{DirEntry}
 use Rattle.disk_model.specs.State.{FileState}
 use Rattle.locked_gate.specs.LockedGates.{LockedGateValue}
 use Rattle.locked_gate.specs.declared.answered.Answer.{Answer}
+use Rattle.node_image.specs.declared.node.RootRef.{RootRef}
 use Rattle.object_commits.specs.Bringing.{IsCommitted}
-use Rattle.object_slots.specs.Faults.{HasCauses}
-use Rattle.object_slots.specs.declared.fault.SlotFault.{SlotFault}
-use Rattle.object_slots.specs.declared.fault.SlotFault.TheVariants.{Corrupt, Failed as FileFault, NoEntropy, NoMemory}
 use Rattle.rpmb_card.specs.Port.{PortState}
+use Rattle.rpmb_card.specs.Protocol.{last_counter}
 use Rattle.store_commit.specs.declared.change.EntryChange.{EntryChange}
-use Rattle.suppositions.proofs.Mending.{none_some, some_same}
 use Rattle.suppositions.specs.Stores.{Store}
 use Rattle.tee_types.specs.declared.call.Call.{Call}
-use Rattle.tee_types.specs.declared.reply.Cause.TheVariants.{Fault}
-use Rattle.tee_types.specs.declared.reply.Device.TheVariants.{Entropy, File}
 use Rattle.tee_types.specs.declared.reply.Reply.{Reply}
-
--- Why the object was not made, by what making it ended with.
-module _ (counter file : ℕ) (old new : FileState) (drew draws : ℕ) (Was Is : Type 0) where
-  abbrev Causes : SlotFault → Type 0
-  Causes fault = let r : Result DirEntry SlotFault = Err fault in HasCauses old new drew draws Was Is r
-
-  pub fault_cause : (fault : SlotFault) (why : Unmade) → unmade_by file fault ≡ Some why → Causes fault → UnmadeCause counter file old new Was drew draws (reply_unmade why)
-  fault_cause (FileFault count) why is causes =
-      subst (λ (u : Unmade). UnmadeCause counter file old new Was drew draws (reply_unmade u)) (some_same (Failed (Fault (File file) count)) why is)
-      (refl, causes.file, causes.drawn)
-  fault_cause (NoEntropy count) why is causes =
-      subst (λ (u : Unmade). UnmadeCause counter file old new Was drew draws (reply_unmade u)) (some_same (Failed (Fault Entropy count)) why is)
-      (causes.file, causes.drawn.0, causes.drawn.1, causes.reliable)
-  fault_cause NoMemory why is causes = absurd (none_some why is)
-  fault_cause Corrupt why is causes = absurd (none_some why is)
 
 -- A session is the same, whatever its generator is.
 module _ {F R E : Type 0} (store : Store) (old new : LockedGateValue F R) (file : ℕ) (was mid now : CallerSession E) (drawn : mid ≡ record was { entropy = mid.entropy }) where
@@ -63,12 +44,13 @@ module _ {F R E : Type 0} (store : Store) (old new : LockedGateValue F R) (file 
       closing = t.closing;
     }
 
-    pub told_was : IsToldUnmade store old new file mid now call answer → IsToldUnmade store old new file was now call answer
+    told_was : IsToldUnmade store old new file mid now call answer → IsToldUnmade store old new file was now call answer
     told_was t = told_seen (subst (λ (s : CallerSession E). IsToldUnmade store old new file s now call answer) drawn t)
 
-  module _ (of_file : F → FileState) (of_port : R → PortState) (call : Call) (own : Reply) (change : EntryChange) (Was Mid : Type 0) (lasts : Was → Mid) (drew draws : ℕ) (answer : Answer) where
-    committed_seen : IsCommitted of_file of_port store old new file seen now call own change Mid drew draws answer → IsCommitted of_file of_port store old new file was now call own change Was drew draws answer
-    committed_seen c = record {
+  module _ (of_file : F → FileState) (of_port : R → PortState) (Was Mid : Type 0) (lasts : Was → Mid) (drew middle draws : ℕ) (none : middle ≡ drew) (answer : Answer) where
+    committed_seen : (call : Call) (own : Reply) (change : EntryChange) → IsCommitted of_file of_port store old new file seen now call own change Mid drew draws answer
+        → IsCommitted of_file of_port store old new file was now call own change Was drew draws answer
+    committed_seen call own change c = record {
       end = c.end;
       reply = c.reply;
       place = c.place;
@@ -101,11 +83,46 @@ module _ {F R E : Type 0} (store : Store) (old new : LockedGateValue F R) (file 
       };
     }
 
-    pub committed_was : (middle : ℕ) → middle ≡ drew → IsCommitted of_file of_port store old new file mid now call own change Mid middle draws answer
-        → IsCommitted of_file of_port store old new file was now call own change Was drew draws answer
-    committed_was middle none c =
-        committed_seen
-        (subst (λ (p : CallerSession E × ℕ). IsCommitted of_file of_port store old new file p.0 now call own change Mid p.1 draws answer) (λ i. (drawn i, none i)) c)
+    brought_seen : (object : NewObject) (place : NewPlace) → IsBroughtNew of_file of_port store old new file seen now object place Mid drew draws answer
+        → IsBroughtNew of_file of_port store old new file was now object place Was drew draws answer
+    brought_seen object place b = record {
+      view = b.view;
+      file_is = b.file_is;
+      generation = b.generation;
+      next = b.next;
+      of = b.of;
+      real = b.real;
+      committed = committed_seen (create_call object) _ _ b.committed;
+    }
+
+    brought_was : (object : NewObject) (place : NewPlace) → IsBroughtNew of_file of_port store old new file mid now object place Mid middle draws answer
+        → IsBroughtNew of_file of_port store old new file was now object place Was drew draws answer
+    brought_was object place b =
+        brought_seen object place
+        (subst (λ (p : CallerSession E × ℕ). IsBroughtNew of_file of_port store old new file p.0 now object place Mid p.1 draws answer) (λ i. (drawn i, none i)) b)
+
+-- The gate ended a create so, of which making the object ended as it did.
+module _ {F R E : Type 0} (of_file : F → FileState) (of_port : R → PortState) (faults : E → ℕ) (store : Store) (old new : LockedGateValue F R) (file : ℕ) (before after : FileState) (was mid now : CallerSession E)
+    (drawn : mid ≡ record was { entropy = mid.entropy }) (object : NewObject) (place : NewPlace) (Was Mid : Type 0) (lasts : Was → Mid) (answer : Answer) where
+  told_answered : (why : Unmade) → IsToldWhy store old new file mid now object why answer
+      → UnmadeCause old.gate.counter file before after Was (faults was.entropy) (faults mid.entropy) (reply_unmade why)
+      → IsAnswered of_file of_port store old new file before after was now object place Was (faults was.entropy) (faults now.entropy) answer
+  told_answered why t cause =
+      ToldWhy (told_was store old new file was mid now drawn (create_call object) answer t.told)
+      (subst (λ (p : ℕ × Reply). UnmadeCause old.gate.counter file before after Was (faults was.entropy) p.0 p.1) (λ i. (ap faults (sym t.undrawn) i, sym t.reply i)) cause)
+
+  pub finished_answered : (made : Result RootRef Unmade) → IsFinished of_file of_port store old new file mid now object place Mid (faults mid.entropy) (faults now.entropy) made answer
+      → TriedCause old.gate.counter file before after Was (faults was.entropy) (faults mid.entropy) made
+      → IsAnswered of_file of_port store old new file before after was now object place Was (faults was.entropy) (faults now.entropy) answer
+  finished_answered (Ok root) (CameBrought brought low) cause =
+      Brought
+      (brought_was store old new file was mid now drawn of_file of_port Was Mid lasts (faults was.entropy) (faults mid.entropy) (faults now.entropy) cause.1 answer object place brought.0)
+      cause.0
+  finished_answered (Ok root) (Unbrought t spent) cause = absurd (never old.gate.counter spent cause.2)
+    where
+      never : (n : ℕ) → n ≡ last_counter → n < last_counter → ⊥
+      never n is lt = omega (arith, is, lt)
+  finished_answered (Err why) t cause = told_answered why t cause
 
 -- the number of the session stays
 pub answered_number : {F R E A : Type 0} (of_file : F → FileState) (of_port : R → PortState) (store : Store) (old new : LockedGateValue F R) (file : ℕ) (before after : FileState) (was now : CallerSession E)

@@ -35,11 +35,11 @@ create_leaves {E = E} store knows caller new calm guess answered due =
     let stands = shown_stand E store knows caller calm.caller calm.sees guess answered in
     created_session here.state caller.number new stands.within due ∙ ap (λ (x : Session). with_new_handle x new) stands.is
 
--- so it does of the session that drew from its generator
-pub drawn_leaves : {E : Type 0} (store : Store) (knows : GateView) (was mid : CallerSession E) (new : NewObject) (call : Call) (app : List ℕ) (flags : Flags) → mid ≡ record was { entropy = mid.entropy } → IsCalm store knows was
-    → call ≡ create_call new → app ≡ mid.state.application → flags ≡ without_overwrite new.flags
-    → LeavesSession store knows mid.number call (moved_by mid.state (Opens (record { app = app; id = new.id }) flags))
-drawn_leaves {E = E} store knows was mid new call app flags drawn calm is of bits =
-    subst (λ (p : CallerSession E × Call × List ℕ × Flags). LeavesSession store knows p.0.number p.1 (moved_by p.0.state (Opens (record { app = p.2; id = new.id }) p.3)))
-    (λ i. (sym drawn i, sym is i, sym (of ∙ ap (λ (s : CallerSession E). s.state.application) drawn) i, sym bits i))
+-- so it does in the words of the call and of the handle that it is given
+pub create_leaves_as : {E : Type 0} (store : Store) (knows : GateView) (was : CallerSession E) (new : NewObject) (call : Call) (app : List ℕ) (flags : Flags) → IsCalm store knows was
+    → call ≡ create_call new → app ≡ was.state.application → flags ≡ without_overwrite new.flags
+    → LeavesSession store knows was.number call (moved_by was.state (Opens (record { app = app; id = new.id }) flags))
+create_leaves_as {E = E} store knows was new call app flags calm is of bits =
+    subst (λ (p : Call × List ℕ × Flags). LeavesSession store knows was.number p.0 (moved_by was.state (Opens (record { app = p.1; id = new.id }) p.2)))
+    (λ i. (sym is i, sym of i, sym bits i))
     (create_leaves store knows was new calm)

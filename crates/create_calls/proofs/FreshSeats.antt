@@ -1,7 +1,8 @@
 -- The slot of a file that no entry names, with a new seat.
 use Rattle.std.proofs.Common.{None, Option, Some, refl, subst, sym, ℕ, ◌+◌, ◌<◌, ◌∙◌, ◌≡◌}
 use Rattle.call_history.specs.Journals.{IsJournal}
-use Rattle.create_calls.specs.Seating.{IsFreshSlot, file_reseated}
+use Rattle.create_calls.proofs.ClearSlots.{own_of}
+use Rattle.create_calls.specs.Seating.{IsFreshSlot, IsVacant, file_reseated, unmade}
 use Rattle.crash_core.specs.EntryLists.{IsUnnamed}
 use Rattle.gate_ties.specs.Ties.{IsTied}
 use Rattle.history_seats.proofs.Keeping.{seen-whole, still_told}
@@ -12,11 +13,10 @@ use Rattle.history_seats.specs.Rule.{Agrees, IsSound}
 use Rattle.history_seats.specs.Views.{GateView, Sight, SlotView}
 use Rattle.locked_gate.specs.LockedGates.{IsLockedGate, change_in_doubt}
 use Rattle.locked_gate.specs.declared.gate.Closing.{Closing}
-use Rattle.locked_slots.proofs.Contents.{seat_same}
-use Rattle.locked_slots.specs.LockedSlots.{IsLockedSlot, IsSlotOf}
+use Rattle.locked_slots.specs.LockedSlots.{IsSlotOf}
 use Rattle.object_commits.proofs.NewFiles.{reseated}
 use Rattle.object_commits.specs.CreateLaws.{IsReseated, new_seat}
-use Rattle.object_slots.specs.Value.{SlotValue, free}
+use Rattle.object_slots.specs.Value.{SlotValue}
 use Rattle.rpmb_card.specs.Protocol.{last_counter}
 use Rattle.store_commit.specs.Gates.{GateValue}
 use Rattle.store_commit.specs.declared.gate.Doubted.{Doubted}
@@ -35,40 +35,33 @@ reseated_sound store knows file journal sound = record {
   sessions_distinct = sound.sessions_distinct;
 }
 
-own_of : (store : Store) (slot : SlotValue) → IsLockedSlot store slot → (lent : Sight SlotView) → slot.seat ≡ Some lent → IsSlotOf store slot.number slot.file lent
-own_of store slot was lent is = subst (IsSlotOf store slot.number slot.file) (seat_same was.seat lent (sym was.is ∙ is)) was.own
-
--- the seat that a slot behind its lock has is of its file
-pub seated_own : (store : Store) (slot : SlotValue) → IsLockedSlot store slot → (lent : Sight SlotView) → slot.seat ≡ Some lent → lent.knows.file ≡ slot.number
-seated_own store slot was lent is = (own_of store slot was lent is).own
+-- the seat that such a slot has is of its file
+pub seated_own : (store : Store) (slot : SlotValue) → IsVacant store slot → (lent : Sight SlotView) → slot.seat ≡ Some lent → lent.knows.file ≡ slot.number
+seated_own store slot empty lent is = (own_of store (unmade slot) empty.locked lent is).own
 
 -- A slot's old seat is taken in, and a new one is split.
 module _ {F R : Type 0} (store : Store) (gate : GateValue F R) (knows : GateView) (closing : Option Closing) (locked : IsLockedGate store gate knows closing) (idle : gate.doubt ≡ None) (slot : SlotValue)
-    (unnamed : IsUnnamed gate.dir.dir.entries slot.number) (was : IsLockedSlot store slot) (old : Sight SlotView) (lent : slot.seat ≡ Some old) (agreed : Agrees (together knows (Some old.knows) None)) (generation : ℕ)
+    (unnamed : IsUnnamed gate.dir.dir.entries slot.number) (empty : IsVacant store slot) (old : Sight SlotView) (lent : slot.seat ≡ Some old) (agreed : Agrees (together knows (Some old.knows) None)) (generation : ℕ)
     (next : gate.counter < last_counter → generation ≡ gate.counter + 1) where
   abbrev pub fresh_slot : SlotValue
-  fresh_slot = record slot { seat = Some (new_seat store knows slot.number generation); holds = free; doubt = None }
+  fresh_slot = record slot { seat = Some (new_seat store knows slot.number generation) }
 
   own : IsSlotOf store slot.number slot.file old
-  own = own_of store slot was old lent
+  own = own_of store (unmade slot) empty.locked old lent
 
   tied : IsTied store knows gate.dir.dir.entries gate.counter None
   tied = subst (λ (d : Option Doubted). IsTied store knows gate.dir.dir.entries gate.counter (change_in_doubt d)) idle locked.tied
 
-  sits : IsReseated store (record slot { holds = free; doubt = None }) (new_seat store knows slot.number generation)
+  sits : IsReseated store (unmade slot) (new_seat store knows slot.number generation)
   sits =
-      reseated store knows gate.dir.dir.entries gate.counter locked.journal tied (record slot { holds = free; doubt = None }) old generation unnamed own
-      (agreed.slot old.knows refl).0 tt refl
+      reseated store knows gate.dir.dir.entries gate.counter locked.journal tied (unmade slot) old generation unnamed own (agreed.slot old.knows refl).0 empty.vacant empty.settled
 
   sound : IsSound (file_reseated store slot.number knows)
   sound = reseated_sound store knows slot.number locked.journal agreed.gate
 
   pub seated_fresh : IsFreshSlot store (file_reseated store slot.number knows) gate.counter fresh_slot
   seated_fresh = record {
-    locked = sits.locked;
-    vacant = tt;
-    settled = refl;
-    nothing = sits.nothing;
+    empty = record { locked = sits.locked; vacant = empty.vacant; settled = empty.settled };
     seat = new_seat store knows slot.number generation;
     is = refl;
     sees = record {

@@ -1,8 +1,8 @@
+pub mod ClearSlots
 pub mod FreshSeats
-pub mod StillFresh
 pub mod ToldCalls
 pub mod ToldSlots
-pub mod MadeEntries
+pub mod MadeSlots
 pub mod CreatedSessions
 pub mod BroughtObjects
 pub mod Answers

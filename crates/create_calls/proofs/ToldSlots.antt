@@ -4,7 +4,7 @@ use Rattle.call_history.specs.Calls.{IsMovedBy}
 use Rattle.call_history.specs.Sessions.{CallerSession}
 use Rattle.create_calls.proofs.ToldCalls.{told_legal, told_may, told_moves}
 use Rattle.create_calls.specs.Rules.{IsCreate, MakesByRule}
-use Rattle.create_calls.specs.Seating.{IsFreshSlot}
+use Rattle.create_calls.specs.Seating.{IsFreshSlot, unmade}
 use Rattle.create_calls.specs.Unmade.{MayTell, reply_unmade}
 use Rattle.create_calls.specs.declared.unmade.Unmade.{Unmade}
 use Rattle.crash_core.specs.DirectoryLaws.{AreEntries}
@@ -29,7 +29,7 @@ use Rattle.locked_slots.specs.LockedSlots.{IsContentOf, IsLockedSlot, IsSlotOf}
 use Rattle.locked_slots.specs.Objects.{IsOfVersion}
 use Rattle.locked_slots.specs.OwnEvents.{IsOwnEvent, seat_after}
 use Rattle.object_commits.proofs.SlotEnds.{unmade_gives}
-use Rattle.object_slots.specs.Value.{Holding, IsFree, SlotValue, free, live, made, staged}
+use Rattle.object_slots.specs.Value.{Holding, IsFree, SlotValue, free, live, made, staged, without_stage}
 use Rattle.store_commit.specs.Gates.{GateValue}
 use Rattle.store_model.specs.declared.event.Event.{Event}
 use Rattle.store_model.specs.declared.event.Event.TheVariants.{Call as CallEvent}
@@ -47,15 +47,18 @@ vacant_holds keys file (staged o s) version is = absurd is
 module _ {F R E : Type 0} (store : Store) (gate : GateValue F R) (knows : GateView) (closing : Option Closing) (locked : IsLockedGate store gate knows closing) (idle : gate.doubt ≡ None)
     (are : AreEntries gate.dir.dir.entries) (caller : CallerSession E) (calmed : IsCalm store knows caller) (call : Call) (create : IsCreate call)
     (makes : MakesByRule gate.dir.dir.entries gate.open_handles caller.state call) (slot : SlotValue) (unnamed : IsUnnamed gate.dir.dir.entries slot.number) (fresh : IsFreshSlot store knows gate.counter slot)
-    (why : Unmade) (may : MayTell gate.counter slot.number why) where
+    (vacant : IsFree slot.holds) (why : Unmade) (may : MayTell gate.counter slot.number why) where
   abbrev seat : Sight SlotView
   seat = fresh.seat
 
-  same_seat : fresh.locked.seat ≡ seat
-  same_seat = seat_same fresh.locked.seat seat (sym fresh.locked.is ∙ fresh.is)
+  abbrev locked_slot : IsLockedSlot store (unmade slot)
+  locked_slot = fresh.empty.locked
+
+  same_seat : locked_slot.seat ≡ seat
+  same_seat = seat_same locked_slot.seat seat (sym locked_slot.is ∙ fresh.is)
 
   own_fresh : IsSlotOf store slot.number slot.file seat
-  own_fresh = subst (IsSlotOf store slot.number slot.file) same_seat fresh.locked.own
+  own_fresh = subst (IsSlotOf store slot.number slot.file) same_seat locked_slot.own
 
   abbrev event : Event
   event = CallEvent caller.number caller.made call (reply_unmade why) Unchanged
@@ -93,21 +96,21 @@ module _ {F R E : Type 0} (store : Store) (gate : GateValue F R) (knows : GateVi
   }
 
   -- its view gives some version, which no doubt touches
-  given_calm : (doubt : Option ℕ) → doubt ≡ None → IsContentOf store.keys slot.file fresh.locked.seat.knows slot.holds doubt → (version : Option Version) × (own_version seat.knows ≡ calm version)
+  given_calm : (doubt : Option ℕ) → doubt ≡ None → IsContentOf store.keys slot.file locked_slot.seat.knows (without_stage slot.holds) doubt → (version : Option Version) × (own_version seat.knows ≡ calm version)
   given_calm None none content = (content.version, ap (λ (s : Sight SlotView). own_version s.knows) (sym same_seat) ∙ content.gives)
   given_calm (Some place) none content = let off : ⊥ = cc (none) in absurd off
 
   -- so it may stand behind its lock again, with its seat as the event leaves that
   pub told_keeps : IsLockedSlot store (record slot { seat = Some (seat_after knows seat event versions) })
   told_keeps =
-      let before = given_calm slot.doubt fresh.settled fresh.locked.content in
+      let before = given_calm slot.doubt fresh.empty.settled locked_slot.content in
       record {
         seat = seat_after knows seat event versions;
         is = refl;
         own = own_after store knows slot.number slot.file seat event versions own_event own_fresh;
-        content = subst (IsContentOf store.keys slot.file (seat_after knows seat event versions).knows slot.holds) (sym fresh.settled) (record {
+        content = subst (IsContentOf store.keys slot.file (seat_after knows seat event versions).knows slot.holds) (sym fresh.empty.settled) (record {
           version = versions.committed;
           gives = unmade_gives store knows slot.number slot.file seat caller.number caller.made call (reply_unmade why) versions own_event fresh.sees.whole before.0 before.1;
-          holding = vacant_holds store.keys slot.file slot.holds versions.committed fresh.vacant;
+          holding = vacant_holds store.keys slot.file slot.holds versions.committed vacant;
         });
       }

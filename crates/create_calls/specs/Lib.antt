@@ -1,6 +1,8 @@
 pub mod Rules
 pub mod Reserving
+pub mod Clearing
 pub mod Seating
-pub mod Making
 pub mod Unmade
+pub mod Making
+pub mod Finished
 pub mod Created

@@ -1,15 +1,18 @@
--- What making a new object leaves of its slot, and the entry that names it.
-use Rattle.std.specs.Prelude.{Err, List, Ok, Result, Some, ℕ, ◌<◌, ◌≡◌}
+-- What making a new object leaves of its slot, and why it is not made.
+use Rattle.std.specs.Prelude.{Err, List, Ok, Result, ℕ, ◌<◌, ◌≡◌}
+use Rattle.create_calls.specs.Clearing.{IsClearSlot}
+use Rattle.create_calls.specs.Unmade.{DeviceCause}
+use Rattle.create_calls.specs.declared.unmade.Unmade.{Unmade}
+use Rattle.create_calls.specs.declared.unmade.Unmade.TheVariants.{Failed, Spent}
 use Rattle.dir_records.specs.declared.entry.DirEntry.{DirEntry}
+use Rattle.disk_model.specs.State.{FileState}
 use Rattle.history_seats.specs.Records.{Version}
-use Rattle.history_seats.specs.Views.{Sight, SlotView}
-use Rattle.locked_slots.specs.LockedSlots.{IsLockedSlot}
+use Rattle.htree_file.specs.Answers.{FilePassed}
 use Rattle.locked_slots.specs.NewObjects.{IsNewVersion}
 use Rattle.locked_slots.specs.Stages.{IsStagedSlot}
 use Rattle.node_image.specs.declared.node.RootRef.{RootRef}
-use Rattle.object_commits.specs.CreateLaws.{new_entry}
-use Rattle.object_slots.specs.Value.{IsFree, SlotValue, without_stage}
 use Rattle.object_slots.specs.declared.fault.SlotFault.{SlotFault}
+use Rattle.object_slots.specs.Value.{IsFree, SlotValue, without_stage}
 use Rattle.suppositions.specs.Spellings.{IsReal}
 use Rattle.suppositions.specs.Stores.{Store}
 
@@ -27,19 +30,36 @@ entry_by app id root file generation attributes size = record {
   generation = generation;
 }
 
--- The slot has the object, settled and not committed, as a version of its file that the entry names.
-pub record IsMadeSlot (store : Store) (slot : SlotValue) (app id attributes bytes : List ℕ) (entry : DirEntry) : Type 0 where
+-- The slot has the object, settled and not committed, as a version of its file that the reference names.
+pub record IsMadeSlot (store : Store) (slot : SlotValue) (app attributes bytes : List ℕ) (root : RootRef) : Type 0 where
   pub next : Version
-  pub of : IsNewVersion next app attributes bytes next.root
+  pub of : IsNewVersion next app attributes bytes root
   pub real : IsReal store.keys next
   pub bit : next.root.version < 2
   pub staged : IsStagedSlot store slot next
   pub vacant : IsFree (without_stage slot.holds)
-  pub seat : Sight SlotView
-  pub is : slot.seat ≡ Some seat
-  pub named : entry ≡ new_entry app id seat.knows next
 
--- that, or nothing is left
-abbrev pub MakesEntry : Store → SlotValue → (app id attributes bytes : List ℕ) → Result DirEntry SlotFault → Type 0
-MakesEntry store slot app id attributes bytes (Ok entry) = IsMadeSlot store slot app id attributes bytes entry
-MakesEntry store slot app id attributes bytes (Err fault) = IsLockedSlot store slot × IsFree slot.holds
+-- that, or the slot is clear
+abbrev pub MakesRoot : Store → SlotValue → (app attributes bytes : List ℕ) → Result RootRef SlotFault → Type 0
+MakesRoot store slot app attributes bytes (Ok root) = IsMadeSlot store slot app attributes bytes root
+MakesRoot store slot app attributes bytes (Err fault) = IsClearSlot store slot
+
+abbrev pub IsMadeOrClear : Store → SlotValue → (app attributes bytes : List ℕ) → Result RootRef Unmade → Type 0
+IsMadeOrClear store slot app attributes bytes (Ok root) = IsMadeSlot store slot app attributes bytes root
+IsMadeOrClear store slot app attributes bytes (Err why) = IsClearSlot store slot
+
+-- so it is too where memory ran out
+abbrev pub MakesOrNot : {A : Type 0} → Store → SlotValue → (app attributes bytes : List ℕ) → Result (Result RootRef Unmade) A → Type 0
+MakesOrNot store slot app attributes bytes (Ok made) = IsMadeOrClear store slot app attributes bytes made
+MakesOrNot store slot app attributes bytes (Err none) = IsClearSlot store slot
+
+-- Where no object is made a device failed, and it is told which: the file counted faults from `old` to `new`, and the generator from `drew` to
+-- `draws`. Else none failed.
+abbrev pub MakingCause : (file : ℕ) → (old new : FileState) → (Reliable : Type 0) → (drew draws : ℕ) → Result RootRef Unmade → Type 0
+MakingCause file old new Reliable drew draws (Ok root) = FilePassed old new × (draws ≡ drew)
+MakingCause file old new Reliable drew draws (Err (Failed cause)) = DeviceCause file old new Reliable drew draws cause
+MakingCause file old new Reliable drew draws (Err Spent) = ⊥
+
+abbrev pub MakingCauseOrNot : {A : Type 0} → (file : ℕ) → (old new : FileState) → (Reliable : Type 0) → (drew draws : ℕ) → Result (Result RootRef Unmade) A → Type 0
+MakingCauseOrNot file old new Reliable drew draws (Ok made) = MakingCause file old new Reliable drew draws made
+MakingCauseOrNot file old new Reliable drew draws (Err none) = FilePassed old new × (draws ≡ drew)

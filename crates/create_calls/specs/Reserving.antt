@@ -14,9 +14,13 @@ pub record IsReserved {F R : Type 0} (gate : GateValue F R) (session file : ℕ)
   pub unnamed : IsUnnamed gate.dir.dir.entries file
   pub numbered : (1 ≤ file) × (file ≤ last_file)
 
+-- what is held once the session holds nothing
+abbrev pub released : (session : ℕ) → List (Option ℕ) → List (Option ℕ)
+released session holds = slice_set holds session None
+
 -- the session's hold ends, unless a commit is in doubt
 abbrev pub holds_left : (session : ℕ) → Option Doubted → List (Option ℕ) → List (Option ℕ)
-holds_left session None holds = slice_set holds session None
+holds_left session None holds = released session holds
 holds_left session (Some d) holds = holds
 
 -- the gate once the file is given back so

@@ -3,11 +3,13 @@
 ghost use Rattle.std.specs.Prelude.{◌≡◌, ◌≤◌, None};
 ghost use Rattle.crash_core.specs.EntryLists.{IsUnnamed};
 ghost use Rattle.locked_gate.specs.Commits.{IsCalm};
+ghost use Rattle.object_slots.specs.Value.{IsFree};
 ghost use Rattle.locked_slots.specs.LockedSlots.{IsLockedSlot};
 ghost use Rattle.create_calls.specs.Rules.{IsCreate, MakesByRule};
-ghost use Rattle.create_calls.specs.Seating.{IsFreshSlot};
+ghost use Rattle.create_calls.specs.Seating.{IsFreshSlot, reseated};
 ghost use Rattle.create_calls.specs.Unmade.{IsToldUnmade, MayTell, reply_unmade};
 
+use crate::seating::reseat;
 use crate::unmade::Unmade;
 use call_history::Session;
 use locked_gate::{Answer, LockedGate};
@@ -17,8 +19,8 @@ use suppositions::StoreName;
 use tee_ports::{Entropy, StoreFile};
 use tee_types::Call;
 
-/// Appends a create whose object was not made, with why. The machine would make it, in the file of the slot.
-pub(crate) fn tell<F: StoreFile + Drop, R: RpmbPort + Drop, L: StoreName, E: Entropy>(
+// Appends a create whose object is not made, with why. The slot's seat is fresh.
+fn tell_fresh<F: StoreFile + Drop, R: RpmbPort + Drop, L: StoreName, E: Entropy>(
     gate: &mut LockedGate<F, R, L>,
     slot: &mut Slot<F>,
     session: &mut Session<E>,
@@ -33,6 +35,7 @@ pub(crate) fn tell<F: StoreFile + Drop, R: RpmbPort + Drop, L: StoreName, E: Ent
     requires makes { MakesByRule gate.old.gate.dir.dir.entries gate.old.gate.open_handles session.old.state call }
     requires unnamed { IsUnnamed gate.old.gate.dir.dir.entries slot.old.number }
     requires fresh { IsFreshSlot L.store gate.old.journal.knows gate.old.gate.counter slot.old }
+    requires vacant { IsFree slot.old.holds }
     requires may { MayTell gate.old.gate.counter slot.old.number why }
     ensures told { IsToldUnmade L.store gate.old gate.new slot.old.number session.old session.new call result }
     ensures reply { result.reply ≡ reply_unmade why }
@@ -49,4 +52,35 @@ pub(crate) fn tell<F: StoreFile + Drop, R: RpmbPort + Drop, L: StoreName, E: Ent
         place,
         reply: why.reply(),
     }
+}
+
+/// Gives the slot, which holds nothing, a new seat, and appends a create whose object is not made, with why. The machine would make it, in the
+/// file of the slot.
+pub(crate) fn tell<F: StoreFile + Drop, R: RpmbPort + Drop, L: StoreName, E: Entropy>(
+    gate: &mut LockedGate<F, R, L>,
+    slot: &mut Slot<F>,
+    session: &mut Session<E>,
+    call: Call,
+    why: Unmade,
+) -> Answer
+    requires room { 1 ≤ gate.old.journal.spare }
+    requires handle { 1 ≤ gate.old.gate.open_handles.spare }
+    requires idle { gate.old.gate.doubt ≡ None }
+    requires calm { IsCalm L.store gate.old.journal.knows session.old }
+    requires create { IsCreate call }
+    requires makes { MakesByRule gate.old.gate.dir.dir.entries gate.old.gate.open_handles session.old.state call }
+    requires unnamed { IsUnnamed gate.old.gate.dir.dir.entries slot.old.number }
+    requires locked { IsLockedSlot L.store slot.old }
+    requires vacant { IsFree slot.old.holds }
+    requires settled { slot.old.doubt ≡ None }
+    requires may { MayTell gate.old.gate.counter slot.old.number why }
+    ensures told { IsToldUnmade L.store (reseated L.store slot.old.number gate.old) gate.new slot.old.number session.old session.new call result }
+    ensures reply { result.reply ≡ reply_unmade why }
+    ensures entropy { session.new.entropy ≡ session.old.entropy }
+    ensures locked { IsLockedSlot L.store slot.new }
+    ensures number { slot.new.number ≡ slot.old.number }
+    ensures file { slot.new.file ≡ slot.old.file }
+{
+    reseat(gate, slot);
+    tell_fresh(gate, slot, session, call, why)
 }

@@ -19,9 +19,9 @@ use Rattle.locked_slots.proofs.Contents.{gives_seat, seat_same, settled_now}
 use Rattle.locked_slots.specs.KnownFor.{own_version}
 use Rattle.locked_slots.specs.LockedSlots.{IsContentOf, IsLockedSlot, IsSlotOf}
 use Rattle.locked_slots.specs.Objects.{IsOfVersion}
-use Rattle.object_answers.proofs.Meetings.{met-still, own-seat}
+use Rattle.object_answers.proofs.Meetings.{own-seat}
 use Rattle.object_answers.proofs.OwnAnswers.{whole-fits}
-use Rattle.object_answers.specs.Meeting.{IsAtEntry, met}
+use Rattle.object_answers.specs.Meeting.{IsAtEntry}
 use Rattle.object_commits.proofs.Names.{deletes_commit, renames_commit}
 use Rattle.object_commits.proofs.WholeSlots.{whole_brought}
 use Rattle.object_commits.specs.AtObject.{IsAtObject}
@@ -35,13 +35,6 @@ use Rattle.suppositions.proofs.Mending.{none_some}
 use Rattle.suppositions.specs.Stores.{Store}
 use Rattle.tee_types.specs.declared.call.Call.TheVariants.{Delete, Rename}
 use Rattle.tee_types.specs.declared.reply.Reply.TheVariants.{Done}
-
--- A slot that is shown the history keeps its number and its file.
-pub met-number : (knows : GateView) (old new : SlotValue) → new ≡ met knows old → new.number ≡ old.number
-met-number knows old new is = ap (λ (s : SlotValue). s.number) is ∙ (met-still knows old).number
-
-pub met-file : (knows : GateView) (old new : SlotValue) → new ≡ met knows old → new.file ≡ old.file
-met-file knows old new is = ap (λ (s : SlotValue). s.file) is ∙ (met-still knows old).file
 
 -- A slot at an entry has no stage, and may let its object go.
 module _ (store : Store) (knows : GateView) (slot : SlotValue) (own : IsLockedSlot store slot) (e : DirEntry) (v : Version) (at : IsAtEntry knows slot e v) where

@@ -10,11 +10,11 @@ ghost use Rattle.object_commits.specs.Bringing.{IsCommitted};
 ghost use Rattle.object_commits.specs.NameLaws.{IsDoneByRule};
 ghost use Rattle.name_calls.specs.NameChanges.{delete_change};
 
-use crate::meeting::meet_entry;
 use call_history::Session;
 use call_rules::OpenObject;
 use locked_gate::{Answer, LockedGate, SessionMove};
 use locked_slots::LockedSlot;
+use object_answers::meet_entry;
 use object_commits::bring;
 use rpmb_card::RpmbPort;
 use store_commit::EntryChange;
@@ -47,6 +47,8 @@ pub fn delete<F: StoreFile + Drop, R: RpmbPort + Drop, L: StoreName, E: Entropy>
 {
     let held = found.held;
     let entry = held.entry;
+    // Tells what always holds of the gate.
+    let _doubt = gate.doubt();
     meet_entry(gate, &mut slot.slot, session, &entry);
     // Nothing of a deleted object stays loaded.
     slot.slot.free();

@@ -5,7 +5,6 @@
 #![tactic(auto)]
 
 mod deleting;
-mod meeting;
 mod renaming;
 
 pub use deleting::delete;

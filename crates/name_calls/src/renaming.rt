@@ -14,12 +14,12 @@ ghost use Rattle.object_commits.specs.Bringing.{IsCommitted};
 ghost use Rattle.object_commits.specs.NameLaws.{IsDoneByRule};
 ghost use Rattle.name_calls.specs.NameChanges.{rename_change, rename_step};
 
-use crate::meeting::meet_entry;
 use call_history::Session;
 use call_rules::OpenObject;
 use dir_records::DirEntry;
 use locked_gate::{Answer, LockedGate, SessionMove};
 use locked_slots::LockedSlot;
+use object_answers::meet_entry;
 use object_commits::bring;
 use rpmb_card::RpmbPort;
 use store_commit::EntryChange;
@@ -85,6 +85,8 @@ pub fn rename<F: StoreFile + Drop, R: RpmbPort + Drop, L: StoreName, E: Entropy>
     if entry.app != app {
         return Err(NoMemory {});
     }
+    // Tells what always holds of the gate.
+    let _doubt = gate.doubt();
     meet_entry(gate, &mut slot.slot, session, &entry);
     Ok(bring(
         gate,

@@ -28,11 +28,10 @@ use Rattle.locked_slots.specs.Fronts.{ShowsAttributes}
 use Rattle.locked_gate.specs.Commits.{IsCalm}
 use Rattle.locked_gate.specs.Told.{Answers}
 use Rattle.object_answers.specs.Causes.{HasToldCause}
-use Rattle.object_answers.specs.Describing.{DescribesEntry, DescribesVersion, SaysIfTold}
+use Rattle.object_answers.specs.Describing.{DescribesEntry, DescribesObject, DescribesVersion, SaysIfTold}
 use Rattle.object_answers.specs.EntryCalls.{AdmitsIfTold, IsEntryCall}
 use Rattle.object_answers.specs.FileAnswers.{IsFileAnswer, Tells as FileTells}
-use Rattle.object_answers.specs.Meeting.{IsAtEntry}
-use Rattle.object_answers.specs.Ready.{IsReadyEntry}
+use Rattle.object_answers.specs.Ready.{IsUnloaded}
 use Rattle.object_answers.specs.Serving.{MayBeServed, MovesAlike}
 use Rattle.object_answers.proofs.UndoneAnswers.{refused-or_failed}
 
@@ -61,25 +60,22 @@ says-passed : (was file : FileState) (number size : ℕ) (handle : Handle) (repl
 says-passed was file number size handle (InfoReply long at flags told) says passed = passed
 says-passed was file number size handle reply says passed = absurd says
 
--- So it is of an entry's object that is loaded.
-pub describes-entry : {A : Type 0} (store : Store) (knows : GateView) (was : FileState) (slot : SlotValue) (e : DirEntry) (v : Version) (handle : Handle) → IsAtEntry knows slot e v → FilePassed was slot.file
-    → (result : Result Reply A) → IfOk result (DescribesVersion store slot v handle) → IfOk result (DescribesEntry store knows was slot e handle)
-describes-entry store knows was slot e v handle stands passed (Ok reply) is = record {
-  answers = λ number. record { version = v; at = stands; answers = is.answers number; cause = says-passed was slot.file slot.number v.size handle reply is.says passed };
-  says = subst (λ (n : ℕ). SaysIfTold n handle reply) stands.own.size (says-told v.size handle reply is.says);
-}
-describes-entry store knows was slot e v handle stands passed (Err none) is = tt
+pub described : {A : Type 0} (store : Store) (was : FileState) (slot : SlotValue) (v : Version) (handle : Handle) → FilePassed was slot.file → (result : Result Reply A)
+    → IfOk result (DescribesVersion store slot v handle) → IfOk result (DescribesObject store was slot v handle)
+described store was slot v handle passed (Ok reply) is =
+    record { answers = is.answers; says = says-told v.size handle reply is.says; cause = says-passed was slot.file slot.number v.size handle reply is.says passed }
+described store was slot v handle passed (Err none) is = tt
 
 -- What could not be loaded.
 undone-says : (size : ℕ) (handle : Handle) (reply : Reply) → (reply ≡ Corrupt) ⊎ ((cause : Cause) × (reply ≡ NotAvailable cause)) → SaysIfTold size handle reply
 undone-says size handle reply (inl is) = subst (SaysIfTold size handle) (sym is) tt
 undone-says size handle reply (inr failed) = subst (SaysIfTold size handle) (sym failed.1) tt
 
-pub undescribed-entry : (store : Store) (knows : GateView) (was : FileState) (slot : SlotValue) (e : DirEntry) (handle : Handle) (reply : Reply) → IsReadyEntry store knows was slot e (Some reply)
-    → DescribesEntry store knows was slot e handle reply
-undescribed-entry store knows was slot e handle reply ready = record {
-  answers = λ number. record { version = ready.version; at = ready.at; answers = ready.ready.answers 0 (Info number); cause = ready.ready.cause };
-  says = undone-says e.size handle reply (refused-or_failed store slot.file slot.number ready.version 0 (Info 0) reply (ready.ready.answers 0 (Info 0)) ready.ready.undone);
+pub undescribed : (store : Store) (was : FileState) (slot : SlotValue) (v : Version) (handle : Handle) (reply : Reply) → IsUnloaded store was slot v reply → DescribesObject store was slot v handle reply
+undescribed store was slot v handle reply unloaded = record {
+  answers = λ number. unloaded.answers 0 (Info number);
+  says = undone-says v.size handle reply (refused-or_failed store slot.file slot.number v 0 (Info 0) reply (unloaded.answers 0 (Info 0)) unloaded.undone);
+  cause = unloaded.cause;
 }
 
 -- The machine stays as it is at an Info.
@@ -132,18 +128,18 @@ pub info-served : {F R E : Type 0} (store : Store) (gate : GateValue F R) (knows
     → gate.doubt ≡ None → IsCalm store knows s → IsOpenObject gate.dir.dir.entries s.state number found → DescribesEntry store knows was slot found.held.entry found.handle reply → now ≡ s
     → MayBeServed store gate knows slot (Info number) reply now
 info-served store gate knows was slot s now number found reply idle calmly opened describes same =
-    let own = describes.answers number in
     subst (MayBeServed store gate knows slot (Info number) reply) (sym same) (record {
       idle = idle;
       index = found.held.index;
       entry = found.held.entry;
       held = opened.named.0;
-      version = own.version;
-      at = own.at;
+      version = describes.version;
+      at = describes.at;
       position = 0;
-      answers = own.answers;
+      answers = describes.describes.answers number;
       before = s.state;
       moves = info-moves store knows gate.dir.dir.entries gate.open_handles s number found.handle opened.live calmly reply;
       on = λ m at.
-          info-call store knows gate.dir.dir.entries gate.open_handles s number found.handle opened.live calmly m found.held.entry reply (sym opened.named.1) at describes.says;
+          info-call store knows gate.dir.dir.entries gate.open_handles s number found.handle opened.live calmly m found.held.entry reply (sym opened.named.1) at
+          (subst (λ (n : ℕ). SaysIfTold n found.handle reply) describes.at.own.size describes.describes.says);
     })

@@ -1,8 +1,10 @@
 pub mod Outcomes
 pub mod Meetings
-pub mod LoadedEntries
+pub mod CalmSessions
+pub mod LoadedVersions
 pub mod Causes
 pub mod ReadyEntries
+pub mod MetAgain
 pub mod AnswerMoves
 pub mod UndrawnCalls
 pub mod EntryAnswers

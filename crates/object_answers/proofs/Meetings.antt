@@ -9,6 +9,7 @@ use Rattle.history_seats.specs.Records.{HistoryRecord, Version}
 use Rattle.history_seats.specs.Rule.{IsSound, SlotFits}
 use Rattle.history_seats.specs.Settling.{IsOpenDoubt, calm, is_landing, settling}
 use Rattle.history_seats.specs.Views.{GateView, Sight, SlotView}
+use Rattle.history_seats.proofs.KnownEntries.{calm-stays}
 use Rattle.core_parts.specs.GateParts.{IsVersionOf}
 use Rattle.crash_core.specs.EntryLists.{entry_at}
 use Rattle.store_commit.specs.declared.gate.Doubted.{Doubted}
@@ -20,12 +21,13 @@ use Rattle.locked_slots.specs.KnownFor.{own_version}
 use Rattle.locked_slots.specs.Fills.{GivesEntry}
 use Rattle.locked_slots.specs.Learning.{decided_slot, dropped_slot, landed_slot, learned, shown}
 use Rattle.locked_slots.specs.LockedSlots.{IsContentOf, IsInDoubt, IsLockedSlot, IsSettled, IsSlotOf}
-use Rattle.locked_slots.proofs.Contents.{seat_same}
+use Rattle.locked_slots.specs.Reads.{GivesVersion}
+use Rattle.locked_slots.proofs.Contents.{calm_same, gives_seat, seat_same, settled_now, some_same}
 use Rattle.locked_slots.proofs.KnownOnes.{known_one}
 use Rattle.locked_slots.proofs.Learned.{slots_learn}
 use Rattle.locked_gate.specs.declared.gate.Closing.{Closing}
 use Rattle.locked_gate.specs.LockedGates.{IsLockedGate, change_in_doubt}
-use Rattle.object_answers.specs.Meeting.{IsAtEntry, SeesWhole, met}
+use Rattle.object_answers.specs.Meeting.{IsAtEntry, SeesWhole, StillGives, met}
 
 -- its seat, and what the slot shows by it
 pub own-seat : (store : Store) (slot : SlotValue) (seat : Sight SlotView) → slot.seat ≡ Some seat → IsLockedSlot store slot → IsSlotOf store slot.number slot.file seat
@@ -80,6 +82,29 @@ met-sees gate slot seat is = record {
   is = (met-still gate slot).seat ∙ ap (seat_renewed gate) is;
   whole = refl;
 }
+
+-- A slot that gives a version is in no doubt: so it is shown the history alone, and gives the version still.
+module _ (store : Store) (gate : GateView) (slot : SlotValue) (seat : Sight SlotView) (is : slot.seat ≡ Some seat) (fits : SlotFits gate seat.knows) (locked : IsLockedSlot store slot) (v : Version)
+    (gives : GivesVersion slot v) where
+  not-doubted : slot.doubt ≡ None
+  not-doubted = (settled_now store.keys slot.file locked.seat.knows v (gives_seat store slot v locked gives) slot.holds slot.doubt locked.content).0
+
+  stays : own_version (slot_renewed gate seat.knows) ≡ calm (Some v)
+  stays = calm-stays gate seat.knows fits (Some v) (ap (λ (s : Sight SlotView). own_version s.knows) (seat_same seat gives.seat (sym is ∙ gives.is)) ∙ gives.gives)
+
+  pub met-gives : StillGives slot (met gate slot) v
+  met-gives = record {
+    gives = record { seat = record seat { knows = slot_renewed gate seat.knows }; is = (met-still gate slot).seat ∙ ap (seat_renewed gate) is; gives = stays };
+    same =
+        ap (λ (d : Option ℕ). learned gate d (shown gate slot)) not-doubted
+        ∙ ap (λ (s : Option (Sight SlotView)). record slot { seat = s }) (sym (met-still gate slot).seat);
+  }
+
+-- A slot gives one version.
+pub gives-one : (slot : SlotValue) (v w : Version) → GivesVersion slot v → GivesVersion slot w → v ≡ w
+gives-one slot v w first second =
+    let one : first.seat ≡ second.seat = seat_same first.seat second.seat (sym first.is ∙ second.is) in
+    some_same v w (calm_same (Some v) (Some w) (sym first.gives ∙ ap (λ (s : Sight SlotView). own_version s.knows) one ∙ second.gives))
 
 -- Where the gate has no doubt, a slot that sees the whole history has none.
 module _ (store : Store) (gate : GateView) (slot : SlotValue) (locked : IsLockedSlot store slot) (sees : SeesWhole gate slot) (closed : (number : ℕ) → IsOpenDoubt number gate.decided gate.all → ⊥) where
@@ -179,6 +204,9 @@ gives-entry knows slot e v store locked at =
       is = at.own;
     }
 
--- a slot of which the file alone moved
+-- a slot of which the file alone moved, and one of which the file and what it holds moved twice
 pub file-moved : (old new : SlotValue) → new ≡ record old { file = new.file } → new ≡ record old { file = new.file; holds = new.holds }
 file-moved old new same = same ∙ ap (λ (s : SlotValue). record old { file = new.file; holds = s.holds }) (sym same)
+
+pub moved-then : (a b c : SlotValue) → b ≡ record a { file = b.file; holds = b.holds } → c ≡ record b { file = c.file; holds = c.holds } → c ≡ record a { file = c.file; holds = c.holds }
+moved-then a b c first second = second ∙ ap (λ (s : SlotValue). record s { file = c.file; holds = c.holds }) first

@@ -38,9 +38,11 @@ use Rattle.locked_gate.specs.declared.moves.SessionMove.TheVariants.{Opens}
 use Rattle.locked_gate.specs.Commits.{IsCalm}
 use Rattle.locked_gate.specs.Moves.{moved_by}
 use Rattle.locked_gate.specs.Told.{Answers}
+use Rattle.object_answers.specs.Causes.{HasToldCause}
 use Rattle.object_answers.specs.EntryCalls.{AdmitsIfTold, IsEntryCall}
 use Rattle.object_answers.specs.FileAnswers.{IsFileAnswer, Tells as FileTells}
-use Rattle.object_answers.specs.Ready.{IsReadyEntry}
+use Rattle.object_answers.specs.Opening.{open_reply}
+use Rattle.object_answers.specs.Ready.{IsReady, IsReadyEntry}
 use Rattle.object_answers.specs.Serving.{MayBeServed, MovesAlike}
 use Rattle.object_answers.proofs.UndoneAnswers.{refused-or_failed, undone-admitted, undone-moves}
 
@@ -201,3 +203,9 @@ unopened-served store gate knows was slot s now id flags held reply idle calmly 
       on = λ m at.
           open-call store knows entries table s id flags held calmly is_named opens m reply at (undone-admitted m s.number held.entry.size (Open id flags) reply kind);
     })
+
+-- Why the reply to an Open accuses the object's file, or does not.
+pub opened-cause : (store : Store) (was : FileState) (slot : SlotValue) (v : Version) (unloaded : Option Reply) (s : Session) → IsReady store was slot v unloaded
+    → HasToldCause was slot.file slot.number (open_reply unloaded s)
+opened-cause store was slot v (Some reply) s ready = ready.cause
+opened-cause store was slot v None s ready = ready.1

@@ -52,10 +52,8 @@ use Rattle.locked_gate.specs.Told.{Answers, DependsOnFile, IsToldBy}
 use Rattle.object_answers.specs.Faults.{reply_of_fault}
 use Rattle.object_answers.specs.FileAnswers.{Fails, IsFileAnswer, Refuses, Tells as FileTells, Undrawn}
 use Rattle.object_answers.specs.EntryCalls.{AdmitsIfTold, IsEntryCall, MeansAlike}
-use Rattle.object_answers.specs.Meeting.{IsAtEntry}
-use Rattle.object_answers.specs.Ready.{IsReadyEntry}
+use Rattle.object_answers.specs.Ready.{IsUnloaded}
 use Rattle.object_answers.proofs.Causes.{passed-told, told-cause}
-use Rattle.object_answers.proofs.Meetings.{at-stays, file-moved}
 use Rattle.object_answers.specs.Reading.{EndsAtPosition, ReadsAnswer, ReadsEntry, read_session}
 use Rattle.object_answers.specs.Serving.{MayBeServed, MovesAlike}
 
@@ -167,32 +165,21 @@ live-reads (made o) old new at before after result on reads = absurd on
 live-reads (staged o s) old new at before after result on reads = absurd on
 live-reads (live o) old new at before after result on reads = (reads.rests, reads.cause)
 
--- What was read of the entry's object, once that was loaded.
-pub read-entry : {A : Type 0} (store : Store) (knows : GateView) (was : FileState) (mid new : SlotValue) (e : DirEntry) (v : Version) (at count : ℕ) → IsAtEntry knows mid e v
-    → new ≡ record mid { file = new.file } → FilePassed was mid.file → GoesOn was mid.file → (result : Result Reply A) → IfOk result (ReadsAnswer store mid.file new v at count)
-    → IfOk result (ReadsEntry store knows was new e at count)
-read-entry store knows was mid new e v at count stands same passed goes (Ok reply) reads = record {
-  answers = λ handle. record {
-    version = v;
-    at = at-stays knows mid new e v (file-moved mid new same) stands;
-    answers = reads.answers handle;
-    cause = passed-told was mid.file new.file passed goes new.number reply reads.cause;
-  };
-  ends = reads.ends;
-}
-read-entry store knows was mid new e v at count stands same passed goes (Err none) reads = tt
+-- What was read of the object, once that was loaded.
+pub read-loaded : {A : Type 0} (store : Store) (was mid : FileState) (new : SlotValue) (v : Version) (at count : ℕ) → FilePassed was mid → GoesOn was mid → (result : Result Reply A)
+    → IfOk result (ReadsAnswer store mid new v at count) → IfOk result (ReadsAnswer store was new v at count)
+read-loaded store was mid new v at count passed goes (Ok reply) reads =
+    record { answers = reads.answers; cause = passed-told was mid new.file passed goes new.number reply reads.cause; ends = reads.ends }
+read-loaded store was mid new v at count passed goes (Err none) reads = tt
 
 undone-ends : (at : ℕ) (reply : Reply) → is_undone reply ≡ true → EndsAtPosition at reply
 undone-ends at (Content bytes) undone = absurd (true≢false (sym undone))
 undone-ends at reply undone = tt
 
 -- What could not be loaded.
-pub unread-entry : (store : Store) (knows : GateView) (was : FileState) (slot : SlotValue) (e : DirEntry) (at count : ℕ) (reply : Reply) → IsReadyEntry store knows was slot e (Some reply)
-    → ReadsEntry store knows was slot e at count reply
-unread-entry store knows was slot e at count reply ready = record {
-  answers = λ handle. record { version = ready.version; at = ready.at; answers = ready.ready.answers at (Read handle count); cause = ready.ready.cause };
-  ends = undone-ends at reply ready.ready.undone;
-}
+pub unread : (store : Store) (was : FileState) (slot : SlotValue) (v : Version) (at count : ℕ) (reply : Reply) → IsUnloaded store was slot v reply → ReadsAnswer store was slot v at count reply
+unread store was slot v at count reply unloaded =
+    record { answers = λ handle. unloaded.answers at (Read handle count); cause = unloaded.cause; ends = undone-ends at reply unloaded.undone }
 
 -- What the machine does at a Read that gives bytes.
 module _ (m : MachineState) (i number count : ℕ) (handle : Handle) (live_ : handle_at (session_at m i) number ≡ Some handle) (right : has handle.flags read_bit ≡ true) (other : List ℕ) where
@@ -325,20 +312,20 @@ pub read-served : {F R E : Type 0} (store : Store) (gate : GateValue F R) (knows
     → MayBeServed store gate knows slot (Read number count) reply now
 read-served store gate knows was slot s now number count found reply idle calmly rightful reads moved =
     let live_ = rightful.opened.live in
-    let own = reads.answers number in
+    let answers = reads.reads.answers number in
     subst (MayBeServed store gate knows slot (Read number count) reply) (sym moved) (record {
       idle = idle;
       index = found.held.index;
       entry = found.held.entry;
       held = rightful.opened.named.0;
-      version = own.version;
-      at = own.at;
+      version = reads.version;
+      at = reads.at;
       position = found.handle.position;
-      answers = own.answers;
+      answers = answers;
       before = s.state;
       moves =
           read-moves store knows gate.dir.dir.entries gate.open_handles s number count found.handle live_ rightful.has_right calmly reply
-          (read-kind store slot.file slot.number own.version found.handle.position number count reply own.answers);
+          (read-kind store slot.file slot.number reads.version found.handle.position number count reply answers);
       on = λ m at.
           read-call store knows gate.dir.dir.entries gate.open_handles s number count found.handle live_ rightful.has_right calmly m found.held.entry reply (sym rightful.opened.named.1) at;
     })

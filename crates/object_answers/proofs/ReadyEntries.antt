@@ -1,5 +1,5 @@
--- An entry's object that was loaded, or could not be.
-use Rattle.std.proofs.Common.{◌≡◌, ℕ, true, List, Some, None, Result, Ok, Err, sym, ap, ◌∙◌, subst}
+-- An object that was loaded, or could not be.
+use Rattle.std.proofs.Common.{IfOk, ◌≡◌, ℕ, true, Option, Some, None, Result, Ok, Err, sym, ap, subst}
 use Rattle.tee_types.specs.declared.call.Call.{Call}
 use Rattle.tee_types.specs.declared.reply.Cause.TheVariants.{Fault}
 use Rattle.tee_types.specs.declared.reply.Device.TheVariants.{File}
@@ -15,20 +15,22 @@ use Rattle.suppositions.specs.Stores.{Store}
 use Rattle.suppositions.proofs.Mending.{none_some, some_same}
 use Rattle.object_slots.specs.declared.fault.SlotFault.{SlotFault}
 use Rattle.object_slots.specs.declared.fault.SlotFault.TheVariants.{Corrupt as IsCorrupt, Failed, NoEntropy, NoMemory}
-use Rattle.object_slots.specs.Faults.{FaultCause}
+use Rattle.object_slots.specs.Faults.{FaultCause, HasCause}
 use Rattle.object_slots.specs.Value.{SlotValue}
 use Rattle.locked_slots.proofs.Filled.{with_fault}
 use Rattle.locked_gate.specs.Told.{Answers}
 use Rattle.object_answers.specs.Faults.{reply_of_fault}
 use Rattle.object_answers.specs.FileAnswers.{Fails, IsFileAnswer, Refuses}
-use Rattle.object_answers.specs.Loading.{LoadsEntry, LoadsVersion}
-use Rattle.object_answers.specs.Ready.{IsReadyEntry, IsUnloaded}
+use Rattle.object_answers.specs.Loading.{LoadsVersion}
+use Rattle.object_answers.specs.Meeting.{IsAtEntry}
+use Rattle.object_answers.specs.Ready.{IsReady, IsReadyEntry, IsUnloaded}
 use Rattle.object_answers.proofs.Causes.{told-cause}
+use Rattle.object_answers.proofs.Meetings.{at-stays}
 
 damaged-answers : (o : Object) (size position : ℕ) (call : Call) → o ≡ Damaged size → Answers o position call Corrupt
 damaged-answers o size position call is = subst (λ (x : Object). Answers x position call Corrupt) (sym is) tt
 
-module _ (store : Store) (was : FileState) (slot : SlotValue) (v : Version) (file : ℕ) (own : slot.number ≡ file) where
+module _ (store : Store) (was : FileState) (slot : SlotValue) (v : Version) where
   answers-fault : (fault : SlotFault) (reply : Reply) → Some reply ≡ reply_of_fault slot.number fault → LoadsVersion store.keys slot v (with_fault fault) → (position : ℕ) (call : Call)
       → IsFileAnswer store slot.file slot.number v position call reply
   answers-fault IsCorrupt reply is loads position call =
@@ -44,19 +46,33 @@ module _ (store : Store) (was : FileState) (slot : SlotValue) (v : Version) (fil
   undone-fault (NoEntropy count) reply is = absurd (none_some reply (sym is))
   undone-fault NoMemory reply is = absurd (none_some reply (sym is))
 
-  unloaded : (fault : SlotFault) (reply : Reply) → Some reply ≡ reply_of_fault file fault → LoadsVersion store.keys slot v (with_fault fault) → FaultCause was slot.file fault
+  unloaded : (fault : SlotFault) (reply : Reply) → Some reply ≡ reply_of_fault slot.number fault → LoadsVersion store.keys slot v (with_fault fault) → FaultCause was slot.file fault
       → IsUnloaded store was slot v reply
-  unloaded fault reply is loads cause =
-      let here : Some reply ≡ reply_of_fault slot.number fault = is ∙ ap (λ (n : ℕ). reply_of_fault n fault) (sym own) in
-      record { answers = answers-fault fault reply here loads; undone = undone-fault fault reply here; cause = told-cause was slot.file slot.number fault reply here cause }
+  unloaded fault reply is loads cause = record {
+    answers = answers-fault fault reply is loads;
+    undone = undone-fault fault reply is;
+    cause = told-cause was slot.file slot.number fault reply is cause;
+  }
 
-module _ (store : Store) (knows : GateView) (old new : SlotValue) (tsk : List ℕ) (e : DirEntry) (result : Result (Unit {0}) SlotFault) (loads : LoadsEntry store.keys knows old new tsk e result) where
-  pub ready-none : (done : Unit {0}) → result ≡ Ok done → IsReadyEntry store knows old.file new e None
-  ready-none done is =
-      let here = subst (LoadsEntry store.keys knows old new tsk e) is loads in
-      record { version = here.version; at = here.at; ready = (here.loads, here.cause) }
+module _ (store : Store) (was : FileState) (slot : SlotValue) (v : Version) (result : Result (Unit {0}) SlotFault) (loads : LoadsVersion store.keys slot v result) (cause : HasCause was slot.file result) where
+  -- what loading answered
+  abbrev Answered : Result (Unit {0}) SlotFault → Type 0
+  Answered r = LoadsVersion store.keys slot v r × HasCause was slot.file r
 
-  pub ready-some : (fault : SlotFault) (reply : Reply) → result ≡ Err fault → Some reply ≡ reply_of_fault e.file fault → IsReadyEntry store knows old.file new e (Some reply)
+  pub ready-none : (done : Unit {0}) → result ≡ Ok done → IsReady store was slot v None
+  ready-none done is = subst Answered is (loads, cause)
+
+  pub ready-some : (fault : SlotFault) (reply : Reply) → result ≡ Err fault → Some reply ≡ reply_of_fault slot.number fault → IsReady store was slot v (Some reply)
   ready-some fault reply is told =
-      let here = subst (LoadsEntry store.keys knows old new tsk e) is loads in
-      record { version = here.version; at = here.at; ready = unloaded store old.file new here.version e.file here.at.file fault reply told here.loads here.cause }
+      let answered : Answered (with_fault fault) = subst Answered is (loads, cause) in
+      unloaded store was slot v fault reply told answered.0 answered.1
+
+-- So it is of the entry at which the slot stood before.
+pub ready-at : (store : Store) (knows : GateView) (was : FileState) (old new : SlotValue) (e : DirEntry) (v : Version) (reply : Option Reply) → IsAtEntry knows old e v
+    → new ≡ record old { file = new.file; holds = new.holds } → IsReady store was new v reply → IsReadyEntry store knows was new e reply
+ready-at store knows was old new e v reply stands same ready = record { version = v; at = at-stays knows old new e v same stands; ready = ready }
+
+pub ready-ok : {A : Type 0} (store : Store) (knows : GateView) (was : FileState) (old new : SlotValue) (e : DirEntry) (v : Version) (result : Result (Option Reply) A) → IsAtEntry knows old e v
+    → new ≡ record old { file = new.file; holds = new.holds } → IfOk result (IsReady store was new v) → IfOk result (IsReadyEntry store knows was new e)
+ready-ok store knows was old new e v (Ok reply) stands same ready = ready-at store knows was old new e v reply stands same ready
+ready-ok store knows was old new e v (Err none) stands same ready = tt

@@ -21,6 +21,7 @@ use Rattle.call_history.specs.Sessions.{CallerSession}
 use Rattle.locked_gate.specs.Commits.{IsCalm}
 use Rattle.object_answers.specs.EntryCalls.{AdmitsIfTold}
 use Rattle.object_answers.specs.FileAnswers.{Fails, IsFileAnswer, Refuses, Tells as FileTells, Undrawn}
+use Rattle.object_answers.specs.Replies.{HasNoBytes}
 use Rattle.object_answers.specs.Serving.{MovesAlike}
 
 -- what tells of an object was done
@@ -37,6 +38,12 @@ refused-or_failed store file n v position call reply (FileTells is honest) undon
 refused-or_failed store file n v position call reply (Refuses is honest) undone = inl is
 refused-or_failed store file n v position call reply (Fails count is) undone = inr (Fault (File n) count, is)
 refused-or_failed store file n v position call reply (Undrawn count is by) undone = inr (Fault Entropy count, is)
+
+-- and has no bytes
+pub undone-bare : (reply : Reply) → is_undone reply ≡ true → HasNoBytes reply
+undone-bare (Content bytes) undone = true≢false (sym undone)
+undone-bare (InfoReply long at flags told) undone = true≢false (sym undone)
+undone-bare reply undone = tt
 
 -- which any call admits
 pub undone-admitted : (m : MachineState) (session size : ℕ) (call : Call) (reply : Reply) → (reply ≡ Corrupt) ⊎ ((cause : Cause) × (reply ≡ NotAvailable cause)) → AdmitsIfTold m session size call reply

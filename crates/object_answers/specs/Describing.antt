@@ -11,7 +11,9 @@ use Rattle.history_seats.specs.Views.{GateView}
 use Rattle.suppositions.specs.ReadLaws.{SaysHandle}
 use Rattle.suppositions.specs.Stores.{Store}
 use Rattle.object_slots.specs.Value.{SlotValue}
-use Rattle.object_answers.specs.FileAnswers.{AnswersEntry, IsFileAnswer}
+use Rattle.object_answers.specs.Causes.{HasToldCause}
+use Rattle.object_answers.specs.FileAnswers.{IsFileAnswer}
+use Rattle.object_answers.specs.Meeting.{IsAtEntry}
 
 -- the reply says that size, and the position and the flags of the handle, if it tells of the object
 abbrev pub SaysIfTold : (size : ℕ) → Handle → Reply → Type 0
@@ -24,7 +26,14 @@ pub record DescribesVersion (store : Store) (slot : SlotValue) (v : Version) (ha
   pub answers : (number : ℕ) → IsFileAnswer store slot.file slot.number v 0 (Info number) reply
   pub says : SaysHandle v.size handle reply
 
--- The reply to an Info by a handle on an entry's object, by its slot.
+-- The reply to an Info by a handle on the version's object, or why it could not be loaded.
+pub record DescribesObject (store : Store) (was : FileState) (slot : SlotValue) (v : Version) (handle : Handle) (reply : Reply) : Type 0 where
+  pub answers : (number : ℕ) → IsFileAnswer store slot.file slot.number v 0 (Info number) reply
+  pub says : SaysIfTold v.size handle reply
+  pub cause : HasToldCause was slot.file slot.number reply
+
+-- The same of an entry's object, as its slot now is.
 pub record DescribesEntry (store : Store) (gate : GateView) (was : FileState) (slot : SlotValue) (e : DirEntry) (handle : Handle) (reply : Reply) : Type 0 where
-  pub answers : (number : ℕ) → AnswersEntry store gate was slot e 0 (Info number) reply
-  pub says : SaysIfTold e.size handle reply
+  pub version : Version
+  pub at : IsAtEntry gate slot e version
+  pub describes : DescribesObject store was slot version handle reply

@@ -6,14 +6,9 @@ use Rattle.tee_types.specs.declared.reply.Cause.TheVariants.{Fault}
 use Rattle.tee_types.specs.declared.reply.Device.TheVariants.{Entropy, File}
 use Rattle.tee_types.specs.declared.reply.Reply.{Reply}
 use Rattle.tee_types.specs.declared.reply.Reply.TheVariants.{Corrupt, NotAvailable}
-use Rattle.dir_records.specs.declared.entry.DirEntry.{DirEntry}
 use Rattle.history_seats.specs.Records.{Version}
-use Rattle.history_seats.specs.Views.{GateView}
 use Rattle.suppositions.specs.Stores.{Store}
-use Rattle.object_slots.specs.Value.{SlotValue}
 use Rattle.locked_gate.specs.Told.{Answers, IsToldBy}
-use Rattle.object_answers.specs.Causes.{HasToldCause}
-use Rattle.object_answers.specs.Meeting.{IsAtEntry}
 use Rattle.object_answers.specs.Undrawn.{IsUndrawn}
 
 -- The reply to a call, at that position, on the object of a version in the file of that number.
@@ -26,10 +21,3 @@ pub data IsFileAnswer (store : Store) (file : FileState) (number : ℕ) (v : Ver
   Fails : (count : ℕ) → reply ≡ NotAvailable (Fault (File number) count) → IsFileAnswer store file number v position call reply
   -- it gave what a change has to know, and a draw failed then
   Undrawn : (count : ℕ) → reply ≡ NotAvailable (Fault Entropy count) → IsUndrawn store file v position call → IsFileAnswer store file number v position call reply
-
--- The same, as the slot of an entry's file gives it: by the entry's version, and with its cause in the file's counts from `was` on.
-pub record AnswersEntry (store : Store) (gate : GateView) (was : FileState) (slot : SlotValue) (e : DirEntry) (position : ℕ) (call : Call) (reply : Reply) : Type 0 where
-  pub version : Version
-  pub at : IsAtEntry gate slot e version
-  pub answers : IsFileAnswer store slot.file slot.number version position call reply
-  pub cause : HasToldCause was slot.file slot.number reply

@@ -2,11 +2,13 @@ pub mod Meeting
 pub mod Loading
 pub mod Causes
 pub mod Faults
+pub mod Replies
 pub mod Undrawn
 pub mod FileAnswers
 pub mod Ready
 pub mod Reading
 pub mod Describing
+pub mod Opening
 pub mod EntryCalls
 pub mod Serving
 pub mod Served

@@ -1,18 +1,14 @@
--- What loading the object of an entry answers, and what its slot then has.
+-- What loading the object of a version answers, and what its slot then has.
 use Rattle.std.specs.Prelude.{◌≡◌, List, ℕ, Some, Result, Ok, Err, IsOk, IsTrue}
-use Rattle.disk_model.specs.Calls.{Rests}
 use Rattle.hmac_keys.specs.declared.Keys.{Keys}
 use Rattle.dir_records.specs.declared.entry.DirEntry.{DirEntry}
 use Rattle.store_model.specs.Object.{Damaged}
 use Rattle.history_seats.specs.Records.{Version}
-use Rattle.history_seats.specs.Views.{GateView}
 use Rattle.object_slots.specs.declared.fault.SlotFault.{SlotFault}
 use Rattle.object_slots.specs.declared.fault.SlotFault.TheVariants.{Corrupt, NoEntropy}
-use Rattle.object_slots.specs.Faults.{HasCause}
 use Rattle.object_slots.specs.Loads.{LoadsObject}
 use Rattle.object_slots.specs.Value.{Holding, IsLive, SlotValue, free}
 use Rattle.locked_slots.specs.Objects.{IsOfVersion}
-use Rattle.object_answers.specs.Meeting.{IsAtEntry, met}
 
 -- the slot has an object without a stage, which is of that version
 pub record HoldsVersion (keys : Keys) (slot : SlotValue) (v : Version) : Type 0 where
@@ -30,14 +26,3 @@ LoadsVersion keys slot v (Err fault) = Unit {0}
 abbrev pub FillsOrStays : Holding → (old new : SlotValue) → (tsk : List ℕ) → DirEntry → {A : Type 0} → Result A SlotFault → Type 0
 FillsOrStays free old new tsk e result = LoadsObject old.file new.file tsk e new.holds result
 FillsOrStays held old new tsk e result = (new ≡ old) × IsOk result
-
--- The slot of an entry's file, once its object is loaded, or could not be.
-pub record LoadsEntry (keys : Keys) (gate : GateView) (old new : SlotValue) (tsk : List ℕ) (e : DirEntry) {A : Type 0} (result : Result A SlotFault) : Type 0 where
-  pub version : Version
-  pub at : IsAtEntry gate new e version
-  pub loads : LoadsVersion keys new version result
-  pub same : new ≡ record (met gate old) { file = new.file; holds = new.holds }
-  pub filled : FillsOrStays (met gate old).holds (met gate old) new tsk e result
-  -- its file was read at most
-  pub rests : Rests old.file new.file
-  pub cause : HasCause old.file new.file result

@@ -40,3 +40,8 @@ pub record IsAtEntry (gate : GateView) (slot : SlotValue) (e : DirEntry) (v : Ve
   pub gives : GivesVersion slot v
   pub given : given_version sees.seat.knows.mounted gate.all e.file e.generation ≡ Some v
   pub own : IsVersionOf e v
+
+-- A slot that gave the version gives it still. It is as it was, but for what its seat was shown.
+pub record StillGives (old new : SlotValue) (v : Version) : Type 0 where
+  pub gives : GivesVersion new v
+  pub same : new ≡ record old { seat = new.seat }

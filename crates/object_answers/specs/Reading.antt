@@ -12,7 +12,8 @@ use Rattle.history_seats.specs.Views.{GateView}
 use Rattle.suppositions.specs.Stores.{Store}
 use Rattle.object_slots.specs.Value.{SlotValue}
 use Rattle.object_answers.specs.Causes.{HasToldCause}
-use Rattle.object_answers.specs.FileAnswers.{AnswersEntry, IsFileAnswer}
+use Rattle.object_answers.specs.FileAnswers.{IsFileAnswer}
+use Rattle.object_answers.specs.Meeting.{IsAtEntry}
 
 -- the bytes that a reply gives from a place on end at a position
 abbrev pub EndsAtPosition : (at : ℕ) → Reply → Type 0
@@ -25,10 +26,11 @@ pub record ReadsAnswer (store : Store) (was : FileState) (slot : SlotValue) (v :
   pub cause : HasToldCause was slot.file slot.number reply
   pub ends : EndsAtPosition at reply
 
--- The same of an entry's object, by its slot.
-pub record ReadsEntry (store : Store) (gate : GateView) (was : FileState) (slot : SlotValue) (e : DirEntry) (at count : ℕ) (reply : Reply) : Type 0 where
-  pub answers : (handle : ℕ) → AnswersEntry store gate was slot e at (Read handle count) reply
-  pub ends : EndsAtPosition at reply
+-- The same of an entry's object, as its slot now is.
+pub record ReadsEntry (store : Store) (gate : GateView) (was : FileState) (slot : SlotValue) (e : DirEntry) (position count : ℕ) (reply : Reply) : Type 0 where
+  pub version : Version
+  pub at : IsAtEntry gate slot e version
+  pub reads : ReadsAnswer store was slot version position count reply
 
 -- the position advances by what is given
 abbrev pub read_session : Session → (number : ℕ) → Handle → Reply → Session

@@ -21,10 +21,12 @@ pub record IsUnloaded (store : Store) (was : FileState) (slot : SlotValue) (v : 
   pub undone : is_undone reply ≡ true
   pub cause : HasToldCause was slot.file slot.number reply
 
+-- The version's object is loaded and the file did not fail, or that is the reply.
 abbrev pub IsReady : Store → (was : FileState) → SlotValue → Version → Option Reply → Type 0
 IsReady store was slot v None = HoldsVersion store.keys slot v × FilePassed was slot.file
 IsReady store was slot v (Some reply) = IsUnloaded store was slot v reply
 
+-- The same of an entry's object, as its slot now is.
 pub record IsReadyEntry (store : Store) (gate : GateView) (was : FileState) (slot : SlotValue) (e : DirEntry) (reply : Option Reply) : Type 0 where
   pub version : Version
   pub at : IsAtEntry gate slot e version

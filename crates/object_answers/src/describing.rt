@@ -1,20 +1,23 @@
 //! TEE_GetObjectInfo1: what is known of an open object.
 
-ghost use Rattle.std.specs.Prelude.{◌≡◌, ◌≤◌, ℕ, None, Some, IfOk};
+ghost use Rattle.std.specs.Prelude.{◌≡◌, ◌≤◌, None, IfOk};
 ghost use Rattle.disk_model.specs.Calls.{Rests};
+ghost use Rattle.disk_model.specs.State.{FileState};
+ghost use Rattle.dir_records.specs.Form.{HasForm};
 ghost use Rattle.crash_core.specs.DeviceKeys.{object_key};
-ghost use Rattle.crash_core.specs.EntryLists.{entry_at};
 ghost use Rattle.history_seats.specs.Records.{Version};
 ghost use Rattle.call_rules.specs.Objects.{IsOpenObject};
+ghost use Rattle.locked_slots.specs.Fills.{GivesEntry};
 ghost use Rattle.locked_slots.specs.LockedSlots.{IsLockedSlot};
 ghost use Rattle.locked_slots.specs.Reads.{GivesVersion};
 ghost use Rattle.locked_gate.specs.Commits.{IsCalm};
 ghost use Rattle.object_slots.specs.Value.{IsLive};
 ghost use Rattle.object_answers.specs.Causes.{HasToldCause};
-ghost use Rattle.object_answers.specs.Describing.{DescribesEntry, DescribesVersion};
-ghost use Rattle.object_answers.specs.Served.{IsServedOrNot};
+ghost use Rattle.object_answers.specs.Describing.{DescribesEntry, DescribesObject, DescribesVersion};
+ghost use Rattle.object_answers.specs.Served.{IsServed, IsServedOrNot};
 
-use crate::ready::load_or_reply;
+use crate::loading::load_or_reply;
+use crate::meeting::meet_entry;
 use crate::telling::tell;
 use call_history::Session;
 use call_rules::OpenObject;
@@ -49,31 +52,62 @@ fn describe<F: StoreFile + Drop, L: StoreName>(
     })
 }
 
-// Loads the entry's object, and tells what is known of it, by a handle on it.
-fn describe_entry<F: StoreFile + Drop, R: RpmbPort + Drop, L: StoreName, E: Entropy>(
+/// Loads the object of an entry, at which the slot stands, where nothing is loaded, and tells what is known of it, by a handle on it.
+/// `tsk` is the key of the entry's application. The gate has no part in this.
+///
+/// # Errors
+///
+/// Memory ran out.
+pub fn describe_object<F: StoreFile + Drop, L: StoreName>(
     alloc: Global,
-    gate: &mut LockedGate<F, R, L>,
-    slot: &mut LockedSlot<F, L>,
-    session: &mut Session<E>,
+    slot: &mut Slot<F>,
     entry: &DirEntry,
     tsk: &[u8; 32],
     handle: Handle,
 ) -> Result<Reply, NoMemory>
-    requires idle { gate.old.gate.doubt ≡ None }
-    requires calm { IsCalm L.store gate.old.journal.knows session.old }
-    requires entry { (index : ℕ) × (entry_at gate.old.gate.dir.dir.entries index ≡ Some entry.now) }
-    requires file { slot.old.number ≡ entry.now.file }
+    requires locked { IsLockedSlot L.store slot.old }
+    requires form { HasForm entry.now }
+    requires given { GivesEntry slot.old entry.now }
     requires key { tsk.now ≡ object_key L.store.keys entry.now.app }
-    ensures gate { gate.new ≡ gate.old }
-    ensures session { session.new ≡ session.old }
-    ensures number { slot.new.number ≡ slot.old.number }
+    ensures same { slot.new ≡ record slot.old { file = slot.new.file; holds = slot.new.holds } }
+    ensures locked { IsLockedSlot L.store slot.new }
     ensures rests { Rests slot.old.file slot.new.file }
-    ensures describes { IfOk result (DescribesEntry L.store gate.old.journal.knows slot.old.file slot.new entry.now handle) }
+    ensures describes { (v : Version) → GivesVersion slot.old v → IfOk result (DescribesObject L.store slot.old.file slot.new v handle) }
 {
-    if let Some(reply) = load_or_reply(alloc, gate, slot, session, entry, tsk)? {
+    if let Some(reply) = load_or_reply::<F, L>(alloc, slot, entry, tsk)? {
         return Ok(reply);
     }
-    describe::<F, L>(alloc, &slot.slot, handle)
+    describe::<F, L>(alloc, slot, handle)
+}
+
+/// Appends the reply that the file of an open object gave to an Info, and tells it. `told` is a copy of the reply. `found` is what the
+/// rules found of the handle, whose session was shown the history, and which stays as it is.
+pub fn answer_info<F: StoreFile + Drop, R: RpmbPort + Drop, L: StoreName, E: Entropy>(
+    gate: &mut LockedGate<F, R, L>,
+    slot: &mut Slot<F>,
+    session: &mut Session<E>,
+    found: &OpenObject,
+    handle: u32,
+    reply: Reply,
+    told: Reply,
+) -> Answer
+    requires room { 1 ≤ gate.old.journal.spare }
+    requires handle { 1 ≤ gate.old.gate.open_handles.spare }
+    requires idle { gate.old.gate.doubt ≡ None }
+    requires locked { IsLockedSlot L.store slot.old }
+    requires calm { IsCalm L.store gate.old.journal.knows session.old }
+    requires found { IsOpenObject gate.old.gate.dir.dir.entries session.old.state handle found.now }
+    requires copied { told ≡ reply }
+    requires describes { (was : FileState)
+        × DescribesEntry L.store gate.old.journal.knows was slot.old found.now.held.entry found.now.handle reply }
+    ensures served { IsServed L.store gate.old gate.new session.old session.new slot.old.number (Call.Info handle) result }
+    ensures reply { result.reply ≡ reply }
+    ensures entropy { session.new.entropy ≡ session.old.entropy }
+    ensures number { slot.new.number ≡ slot.old.number }
+    ensures file { slot.new.file ≡ slot.old.file }
+    ensures locked { IsLockedSlot L.store slot.new }
+{
+    tell(gate, slot, session, Call::Info { handle }, reply, told)
 }
 
 /// Tells the object's size and attributes, and the handle's position and flags. `found` is what the rules found of the handle, whose
@@ -107,8 +141,8 @@ pub fn info<F: StoreFile + Drop, R: RpmbPort + Drop, L: StoreName, E: Entropy>(
 {
     let object = found.handle;
     let entry = found.held.entry;
-    let reply = describe_entry(alloc, gate, slot, session, &entry, tsk, object)?;
+    meet_entry(gate, &mut slot.slot, session, &entry);
+    let reply = describe_object::<F, L>(alloc, &mut slot.slot, &entry, tsk, object)?;
     let told = reply.copy(alloc)?;
-    let call = Call::Info { handle };
-    Ok(tell(gate, slot, session, call, reply, told))
+    Ok(answer_info(gate, &mut slot.slot, session, found, handle, reply, told))
 }

@@ -1,7 +1,9 @@
 //! Calls that an object's file has a part in, and that change nothing.
 //!
-//! What the file gives is the answer, or why it gives nothing. A slot is shown the history together with the caller's session, before its
-//! file is asked; the answer is appended with the slot's seat.
+//! What the file gives is the answer, or why it gives nothing. Such a call has three steps. At the gate, a session and the slot of the
+//! object's file are shown the history (`meet_entry`). With the slot alone, the object is loaded, and what the call asks is read
+//! (`load_or_reply`, `read_object`, `describe_object`). At the gate again, the answer is appended with the slot's seat (`answer_read`,
+//! `answer_info`, `answer_open`). `read`, `info` and `open` are the calls, whole.
 #![tactic(auto)]
 
 mod describing;
@@ -10,14 +12,14 @@ mod loading;
 mod meeting;
 mod opening;
 mod reading;
-mod ready;
+mod replies;
 mod telling;
 
-pub use describing::info;
+pub use describing::{answer_info, describe_object, info};
 pub use fault::fault_reply;
-pub use loading::load;
-pub use meeting::meet;
-pub use opening::open;
-pub use reading::read;
-pub use ready::load_or_reply;
+pub use loading::load_or_reply;
+pub use meeting::{meet, meet_entry};
+pub use opening::{answer_open, open};
+pub use reading::{answer_read, read, read_object};
+pub use replies::twice;
 pub use telling::tell;

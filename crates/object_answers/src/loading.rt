@@ -1,31 +1,24 @@
 //! Loading the object of an entry into its slot.
 
-ghost use Rattle.std.specs.Prelude.{◌≡◌, ℕ, None, Some};
+ghost use Rattle.std.specs.Prelude.{◌≡◌, IfOk};
+ghost use Rattle.disk_model.specs.Calls.{Rests};
 ghost use Rattle.dir_records.specs.Form.{HasForm};
 ghost use Rattle.crash_core.specs.DeviceKeys.{object_key};
-ghost use Rattle.crash_core.specs.EntryLists.{entry_at};
 ghost use Rattle.history_seats.specs.Records.{Version};
-ghost use Rattle.suppositions.specs.Guesses.{Guess};
-ghost use Rattle.suppositions.specs.Stores.{standing_at};
-ghost use Rattle.suppositions.specs.Answered.{AreAnswered};
-ghost use Rattle.call_history.specs.Sessions.{IsCallerOf};
-ghost use Rattle.call_history.specs.Shown.{BeginsAll, SeesAll, shown};
 ghost use Rattle.locked_slots.specs.Fills.{GivesEntry};
 ghost use Rattle.locked_slots.specs.LockedSlots.{IsLockedSlot};
 ghost use Rattle.locked_slots.specs.Reads.{GivesVersion};
-ghost use Rattle.locked_gate.specs.KnownMachine.{IsSessionAt};
-ghost use Rattle.object_answers.specs.Loading.{FillsOrStays, LoadsEntry, LoadsVersion};
+ghost use Rattle.object_answers.specs.Loading.{FillsOrStays, LoadsVersion};
+ghost use Rattle.object_answers.specs.Ready.{IsReady};
 
-use crate::meeting::meet;
-use call_history::Session;
+use crate::fault::fault_reply;
 use dir_records::DirEntry;
-use locked_gate::LockedGate;
-use locked_slots::{LockedSlot, fill};
+use locked_slots::fill;
 use object_slots::{Slot, SlotFault};
-use rpmb_card::RpmbPort;
 use std::alloc::Global;
 use suppositions::StoreName;
-use tee_ports::{Entropy, StoreFile};
+use tee_ports::StoreFile;
+use tee_types::{NoMemory, Reply};
 
 // Loads the entry's object, unless one is loaded.
 fn fill_free<F: StoreFile + Drop, L: StoreName>(
@@ -50,36 +43,34 @@ fn fill_free<F: StoreFile + Drop, L: StoreName>(
     }
 }
 
-/// Shows a session, and the slot of an entry's file, the whole history, and loads the entry's object where nothing is loaded. `tsk` is the
-/// key of the entry's application.
+/// Loads the object of an entry, at which the slot stands, where nothing is loaded. Gives the reply to any call on it where it could not be
+/// loaded, and none where it is loaded. `tsk` is the key of the entry's application. The gate has no part in this.
 ///
 /// # Errors
 ///
-/// `Corrupt` where something stands against the entry: over an honest file the version's object is damaged then. Besides `Failed` and
-/// `NoMemory`.
-pub fn load<F: StoreFile + Drop, R: RpmbPort + Drop, L: StoreName, E: Entropy>(
+/// Memory ran out.
+pub fn load_or_reply<F: StoreFile + Drop, L: StoreName>(
     alloc: Global,
-    gate: &mut LockedGate<F, R, L>,
-    slot: &mut LockedSlot<F, L>,
-    session: &mut Session<E>,
+    slot: &mut Slot<F>,
     entry: &DirEntry,
     tsk: &[u8; 32],
-) -> Result<(), SlotFault>
-    requires idle { gate.old.gate.doubt ≡ None }
-    requires session { IsCallerOf L.store session.old }
-    requires entry { (index : ℕ) × (entry_at gate.old.gate.dir.dir.entries index ≡ Some entry.now) }
-    requires file { slot.old.number ≡ entry.now.file }
+) -> Result<Option<Reply>, NoMemory>
+    requires locked { IsLockedSlot L.store slot.old }
+    requires form { HasForm entry.now }
+    requires given { GivesEntry slot.old entry.now }
     requires key { tsk.now ≡ object_key L.store.keys entry.now.app }
-    ensures gate { gate.new ≡ gate.old }
-    ensures number { slot.new.number ≡ slot.old.number }
-    ensures loads { LoadsEntry L.store.keys gate.old.journal.knows slot.old slot.new tsk.now entry.now result }
-    ensures session { session.new ≡ shown gate.old.journal.knows session.old }
-    ensures begins { BeginsAll gate.old.journal.knows session.old.pass }
-    ensures sees { SeesAll gate.old.journal.knows session.new.pass }
-    ensures whole { IsCallerOf L.store session.new }
-    ensures stands { (guess : Guess) → AreAnswered L.store guess gate.old.journal.knows.all → IsSessionAt (standing_at L.store guess gate.old.journal.knows.all).state session.new }
+    ensures same { slot.new ≡ record slot.old { file = slot.new.file; holds = slot.new.holds } }
+    ensures locked { IsLockedSlot L.store slot.new }
+    ensures rests { Rests slot.old.file slot.new.file }
+    ensures ready { (v : Version) → GivesVersion slot.old v → IfOk result (IsReady L.store slot.old.file slot.new v) }
 {
-    let _doubt = gate.doubt();
-    meet(gate, &mut slot.slot, session);
-    fill_free::<F, L>(alloc, &mut slot.slot, entry, tsk)
+    match fill_free::<F, L>(alloc, slot, entry, tsk) {
+        Ok(()) => Ok(None),
+        Err(fault) => {
+            let Some(reply) = fault_reply(slot.number(), fault) else {
+                return Err(NoMemory {});
+            };
+            Ok(Some(reply))
+        }
+    }
 }

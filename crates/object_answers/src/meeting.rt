@@ -1,18 +1,25 @@
 //! How a session and the slot of an object's file are shown the history.
 
 ghost use Rattle.std.specs.Prelude.{◌≡◌, ◌<◌, ℕ, length, None, Some};
+ghost use Rattle.crash_core.specs.EntryLists.{entry_at};
+ghost use Rattle.dir_records.specs.Form.{HasForm};
+ghost use Rattle.history_seats.specs.Records.{Version};
 ghost use Rattle.history_seats.specs.Rule.{IsSound};
 ghost use Rattle.suppositions.specs.Guesses.{Guess};
 ghost use Rattle.suppositions.specs.Stores.{standing_at};
 ghost use Rattle.suppositions.specs.Answered.{AreAnswered};
 ghost use Rattle.call_history.specs.Sessions.{IsCallerOf};
 ghost use Rattle.call_history.specs.Shown.{BeginsAll, SeesAll, shown};
+ghost use Rattle.locked_slots.specs.Fills.{GivesEntry};
 ghost use Rattle.locked_slots.specs.Learning.{learned};
 ghost use Rattle.locked_slots.specs.LockedSlots.{IsLockedSlot};
+ghost use Rattle.locked_slots.specs.Reads.{GivesVersion};
+ghost use Rattle.locked_gate.specs.Commits.{IsCalm};
 ghost use Rattle.locked_gate.specs.KnownMachine.{IsSessionAt};
-ghost use Rattle.object_answers.specs.Meeting.{SeesWhole, met, settled_slot};
+ghost use Rattle.object_answers.specs.Meeting.{IsAtEntry, SeesWhole, StillGives, met, settled_slot};
 
 use call_history::{Session, Settled};
+use dir_records::DirEntry;
 use locked_gate::LockedGate;
 use object_slots::Slot;
 use rpmb_card::RpmbPort;
@@ -45,7 +52,8 @@ fn learn<F: StoreFile + Drop, R: RpmbPort + Drop, L: StoreName>(
     settle(slot, place, gate.settled_behind(place));
 }
 
-/// Shows a session and a slot the whole history. Both learn what became of their own commits in doubt.
+/// Shows a session and a slot the whole history. Both learn what became of their own commits in doubt. A version that the slot gave it gives
+/// still.
 pub fn meet<F: StoreFile + Drop, R: RpmbPort + Drop, L: StoreName, E: Entropy>(
     gate: &mut LockedGate<F, R, L>,
     slot: &mut Slot<F>,
@@ -57,6 +65,7 @@ pub fn meet<F: StoreFile + Drop, R: RpmbPort + Drop, L: StoreName, E: Entropy>(
     ensures slot { slot.new ≡ met gate.old.journal.knows slot.old }
     ensures locked { IsLockedSlot L.store slot.new }
     ensures whole_slot { SeesWhole gate.old.journal.knows slot.new }
+    ensures still { (v : Version) → GivesVersion slot.old v → StillGives slot.old slot.new v }
     ensures sound { IsSound gate.old.journal.knows }
     ensures session { session.new ≡ shown gate.old.journal.knows session.old }
     ensures begins { BeginsAll gate.old.journal.knows session.old.pass }
@@ -70,4 +79,38 @@ pub fn meet<F: StoreFile + Drop, R: RpmbPort + Drop, L: StoreName, E: Entropy>(
     };
     slot.give_seat(seat);
     learn(gate, slot);
+}
+
+/// Shows a session, and the slot of an entry's file, the whole history. The slot stands at the entry then: no commit of its object is in
+/// doubt, and it gives the entry's version, of which `load_or_reply` loads the object. A session that saw the whole history stays as it was.
+pub fn meet_entry<F: StoreFile + Drop, R: RpmbPort + Drop, L: StoreName, E: Entropy>(
+    gate: &mut LockedGate<F, R, L>,
+    slot: &mut Slot<F>,
+    session: &mut Session<E>,
+    entry: &DirEntry,
+)
+    requires idle { gate.old.gate.doubt ≡ None }
+    requires locked { IsLockedSlot L.store slot.old }
+    requires session { IsCallerOf L.store session.old }
+    requires entry { (index : ℕ) × (entry_at gate.old.gate.dir.dir.entries index ≡ Some entry.now) }
+    requires file { slot.old.number ≡ entry.now.file }
+    ensures gate { gate.new ≡ gate.old }
+    ensures number { slot.new.number ≡ slot.old.number }
+    ensures file { slot.new.file ≡ slot.old.file }
+    ensures locked { IsLockedSlot L.store slot.new }
+    ensures at { (version : Version) × IsAtEntry gate.old.journal.knows slot.new entry.now version }
+    // So its object may be loaded.
+    ensures given { GivesEntry slot.new entry.now }
+    ensures form { HasForm entry.now }
+    ensures still { (v : Version) → GivesVersion slot.old v → StillGives slot.old slot.new v }
+    ensures session { session.new ≡ shown gate.old.journal.knows session.old }
+    ensures calm { IsCalm L.store gate.old.journal.knows session.old → session.new ≡ session.old }
+    ensures begins { BeginsAll gate.old.journal.knows session.old.pass }
+    ensures sees { SeesAll gate.old.journal.knows session.new.pass }
+    ensures whole { IsCallerOf L.store session.new }
+    ensures stands { (guess : Guess) → AreAnswered L.store guess gate.old.journal.knows.all → IsSessionAt (standing_at L.store guess gate.old.journal.knows.all).state session.new }
+{
+    // Tells what always holds of the gate.
+    let _doubt = gate.doubt();
+    meet(gate, slot, session);
 }

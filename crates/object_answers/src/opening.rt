@@ -2,21 +2,28 @@
 
 ghost use Rattle.std.specs.Prelude.{◌≡◌, ◌≤◌, false, None, Some, IfOk};
 ghost use Rattle.disk_model.specs.Calls.{Rests};
+ghost use Rattle.disk_model.specs.State.{FileState};
 ghost use Rattle.crash_core.specs.DeviceKeys.{object_key};
 ghost use Rattle.dir_index.specs.Index.{named};
 ghost use Rattle.store_model.specs.Machine.{MachineState, has_all_handles};
 ghost use Rattle.store_commit.specs.NameIndex.{IsEntryNamed};
 ghost use Rattle.call_rules.specs.Matches.{Matches};
 ghost use Rattle.call_rules.specs.Objects.{IsOpened};
+ghost use Rattle.locked_slots.specs.LockedSlots.{IsLockedSlot};
 ghost use Rattle.locked_gate.specs.Commits.{IsCalm};
 ghost use Rattle.object_answers.specs.Causes.{HasToldCause};
-ghost use Rattle.object_answers.specs.Served.{IsServedOrNot};
+ghost use Rattle.object_answers.specs.Opening.{open_reply};
+ghost use Rattle.object_answers.specs.Ready.{IsReadyEntry};
+ghost use Rattle.object_answers.specs.Served.{IsServed, IsServedOrNot};
 
-use crate::ready::load_or_reply;
+use crate::loading::load_or_reply;
+use crate::meeting::meet_entry;
+use crate::replies::twice;
 use crate::telling::tell;
 use call_history::Session;
 use locked_gate::{Answer, LockedGate};
 use locked_slots::LockedSlot;
+use object_slots::Slot;
 use rpmb_card::RpmbPort;
 use std::alloc::Global;
 use store_commit::Held;
@@ -24,6 +31,51 @@ use store_model::ObjectName;
 use suppositions::StoreName;
 use tee_ports::{Entropy, StoreFile};
 use tee_types::{Call, Flags, NoMemory, ObjectId, Reply};
+
+/// Gives the session a handle on the object that is loaded, at position 0 and with these flags, and tells its number. Where the object
+/// could not be loaded, `unloaded` is the reply, which is told, and the session gets no handle. `held` is the entry that the rules found,
+/// for a session that was shown the history.
+pub fn answer_open<F: StoreFile + Drop, R: RpmbPort + Drop, L: StoreName, E: Entropy>(
+    gate: &mut LockedGate<F, R, L>,
+    slot: &mut Slot<F>,
+    session: &mut Session<E>,
+    held: &Held,
+    id: ObjectId,
+    flags: Flags,
+    unloaded: Option<Reply>,
+) -> Answer
+    requires room { 1 ≤ gate.old.journal.spare }
+    requires handle { 1 ≤ gate.old.gate.open_handles.spare }
+    requires idle { gate.old.gate.doubt ≡ None }
+    requires locked { IsLockedSlot L.store slot.old }
+    requires calm { IsCalm L.store gate.old.journal.knows session.old }
+    requires named { IsEntryNamed gate.old.gate.dir.dir.entries (named session.old.state.application id) (Some held.now) }
+    requires few { has_all_handles session.old.state ≡ false }
+    requires opens { (m : MachineState) → Matches gate.old.gate.dir.dir.entries gate.old.gate.open_handles session.old.state m session.old.number
+        → IsOpened m session.old.number id flags held.now.entry.size }
+    requires ready { (was : FileState) × IsReadyEntry L.store gate.old.journal.knows was slot.old held.now.entry unloaded }
+    ensures served { IsServed L.store gate.old gate.new session.old session.new slot.old.number (Call.Open id flags) result }
+    ensures reply { result.reply ≡ open_reply unloaded session.old.state }
+    ensures entropy { session.new.entropy ≡ session.old.entropy }
+    ensures number { slot.new.number ≡ slot.old.number }
+    ensures file { slot.new.file ≡ slot.old.file }
+    ensures locked { IsLockedSlot L.store slot.new }
+{
+    let call = Call::Open { id, flags };
+    if let Some(reply) = unloaded {
+        let (reply, told) = twice(reply);
+        return tell(gate, slot, session, call, reply, told);
+    }
+    // All that an open has to know of the file is the block with the attributes, which loading gave.
+    let _attributes = locked_slots::attributes::<F, L>(slot);
+    let name = ObjectName {
+        app: session.app(),
+        id,
+    };
+    let number = session.open(name, flags);
+    let reply = Reply::Handle(number);
+    tell(gate, slot, session, call, reply, Reply::Handle(number))
+}
 
 /// Gives the session a handle on the object of that identifier, at position 0 and with these flags, and tells its number. Where the object
 /// could not be loaded the session gets no handle. `held` is the entry that the rules found, for a session that was shown the history.
@@ -60,18 +112,7 @@ pub fn open<F: StoreFile + Drop, R: RpmbPort + Drop, L: StoreName, E: Entropy>(
     ensures cause { IfOk result (λ answer. HasToldCause slot.old.file slot.new.file slot.old.number answer.reply) }
 {
     let entry = held.entry;
-    let call = Call::Open { id, flags };
-    if let Some(reply) = load_or_reply(alloc, gate, slot, session, &entry, tsk)? {
-        let told = reply.copy(alloc)?;
-        return Ok(tell(gate, slot, session, call, reply, told));
-    }
-    // All that an open has to know of the file is the block with the attributes, which loading gave.
-    let _attributes = locked_slots::attributes::<F, L>(&slot.slot);
-    let name = ObjectName {
-        app: session.app(),
-        id,
-    };
-    let number = session.open(name, flags);
-    let reply = Reply::Handle(number);
-    Ok(tell(gate, slot, session, call, reply, Reply::Handle(number)))
+    meet_entry(gate, &mut slot.slot, session, &entry);
+    let unloaded = load_or_reply::<F, L>(alloc, &mut slot.slot, &entry, tsk)?;
+    Ok(answer_open(gate, &mut slot.slot, session, held, id, flags, unloaded))
 }

@@ -1,23 +1,26 @@
 //! TEE_ReadObjectData: a read of an open object's data.
 
-ghost use Rattle.std.specs.Prelude.{◌≡◌, ◌≤◌, ℕ, None, Some, IfOk, OnErr};
+ghost use Rattle.std.specs.Prelude.{◌≡◌, ◌≤◌, None, Some, IfOk};
 ghost use Rattle.tee_types.specs.Rights.{read_bit};
 ghost use Rattle.disk_model.specs.Calls.{Rests};
+ghost use Rattle.disk_model.specs.State.{FileState};
+ghost use Rattle.dir_records.specs.Form.{HasForm};
 ghost use Rattle.crash_core.specs.DeviceKeys.{object_key};
-ghost use Rattle.crash_core.specs.EntryLists.{entry_at};
 ghost use Rattle.history_seats.specs.Records.{Version};
 ghost use Rattle.store_model.specs.Machine.{handle_at};
 ghost use Rattle.call_rules.specs.Objects.{IsRightful};
+ghost use Rattle.locked_slots.specs.Fills.{GivesEntry};
 ghost use Rattle.locked_slots.specs.LockedSlots.{IsLockedSlot};
 ghost use Rattle.locked_slots.specs.Reads.{GivesVersion};
 ghost use Rattle.locked_gate.specs.Commits.{IsCalm};
 ghost use Rattle.object_slots.specs.Value.{IsLive};
 ghost use Rattle.object_answers.specs.Causes.{HasToldCause};
 ghost use Rattle.object_answers.specs.Reading.{EndsAtPosition, ReadsAnswer, ReadsEntry, read_session};
-ghost use Rattle.object_answers.specs.Served.{IsServedOrNot};
+ghost use Rattle.object_answers.specs.Served.{IsServed, IsServedOrNot};
 
 use crate::fault::fault_reply;
-use crate::ready::load_or_reply;
+use crate::loading::load_or_reply;
+use crate::meeting::meet_entry;
 use crate::telling::tell;
 use call_history::Session;
 use call_rules::OpenObject;
@@ -60,32 +63,33 @@ fn read_bytes<F: StoreFile + Drop, L: StoreName>(
     }
 }
 
-// Loads the entry's object, and reads from it.
-fn read_entry<F: StoreFile + Drop, R: RpmbPort + Drop, L: StoreName, E: Entropy>(
+/// Loads the object of an entry, at which the slot stands, where nothing is loaded, and reads at most so many bytes of it from the place
+/// `at` on, fewer where the end is nearer. `tsk` is the key of the entry's application. The gate has no part in this.
+///
+/// # Errors
+///
+/// Memory ran out.
+pub fn read_object<F: StoreFile + Drop, L: StoreName>(
     alloc: Global,
-    gate: &mut LockedGate<F, R, L>,
-    slot: &mut LockedSlot<F, L>,
-    session: &mut Session<E>,
+    slot: &mut Slot<F>,
     entry: &DirEntry,
     tsk: &[u8; 32],
     at: u32,
     count: u32,
 ) -> Result<Reply, NoMemory>
-    requires idle { gate.old.gate.doubt ≡ None }
-    requires calm { IsCalm L.store gate.old.journal.knows session.old }
-    requires entry { (index : ℕ) × (entry_at gate.old.gate.dir.dir.entries index ≡ Some entry.now) }
-    requires file { slot.old.number ≡ entry.now.file }
+    requires locked { IsLockedSlot L.store slot.old }
+    requires form { HasForm entry.now }
+    requires given { GivesEntry slot.old entry.now }
     requires key { tsk.now ≡ object_key L.store.keys entry.now.app }
-    ensures gate { gate.new ≡ gate.old }
-    ensures session { session.new ≡ session.old }
-    ensures number { slot.new.number ≡ slot.old.number }
+    ensures same { slot.new ≡ record slot.old { file = slot.new.file; holds = slot.new.holds } }
+    ensures locked { IsLockedSlot L.store slot.new }
     ensures rests { Rests slot.old.file slot.new.file }
-    ensures reads { IfOk result (ReadsEntry L.store gate.old.journal.knows slot.old.file slot.new entry.now at count) }
+    ensures reads { (v : Version) → GivesVersion slot.old v → IfOk result (ReadsAnswer L.store slot.old.file slot.new v at count) }
 {
-    if let Some(reply) = load_or_reply(alloc, gate, slot, session, entry, tsk)? {
+    if let Some(reply) = load_or_reply::<F, L>(alloc, slot, entry, tsk)? {
         return Ok(reply);
     }
-    read_bytes::<F, L>(alloc, &mut slot.slot, at, count, entry.size)
+    read_bytes::<F, L>(alloc, slot, at, count, entry.size)
 }
 
 // Moves the handle behind the bytes that a reply gives.
@@ -98,6 +102,42 @@ fn advance<E: Entropy>(session: &mut Session<E>, number: u32, handle: Handle, re
         let position = handle.position + bytes.len() as u32;
         session.replace(number, Handle { position, ..handle });
     }
+}
+
+/// Appends the reply that the file of an open object gave to a read of it, and tells it. `told` is a copy of the reply. `found` is what the
+/// rules found of the handle, whose session was shown the history. The position advances by what is given.
+pub fn answer_read<F: StoreFile + Drop, R: RpmbPort + Drop, L: StoreName, E: Entropy>(
+    gate: &mut LockedGate<F, R, L>,
+    slot: &mut Slot<F>,
+    session: &mut Session<E>,
+    found: &OpenObject,
+    handle: u32,
+    count: u32,
+    reply: Reply,
+    told: Reply,
+) -> Answer
+    requires room { 1 ≤ gate.old.journal.spare }
+    requires handle { 1 ≤ gate.old.gate.open_handles.spare }
+    requires idle { gate.old.gate.doubt ≡ None }
+    requires locked { IsLockedSlot L.store slot.old }
+    requires calm { IsCalm L.store gate.old.journal.knows session.old }
+    requires found { IsRightful gate.old.gate.dir.dir.entries session.old.state handle read_bit found.now }
+    requires copied { told ≡ reply }
+    requires reads { (was : FileState)
+        × ReadsEntry L.store gate.old.journal.knows was slot.old found.now.held.entry found.now.handle.position count reply }
+    ensures served { IsServed L.store gate.old gate.new session.old session.new slot.old.number (Call.Read handle count) result }
+    ensures reply { result.reply ≡ reply }
+    ensures entropy { session.new.entropy ≡ session.old.entropy }
+    ensures number { slot.new.number ≡ slot.old.number }
+    ensures file { slot.new.file ≡ slot.old.file }
+    ensures locked { IsLockedSlot L.store slot.new }
+{
+    advance(session, handle, found.handle, &reply);
+    let call = Call::Read {
+        handle,
+        size: count,
+    };
+    tell(gate, slot, session, call, reply, told)
 }
 
 /// Reads at most so many bytes from the handle's position on. `found` is what the rules found of the handle, whose session was shown the
@@ -130,23 +170,19 @@ pub fn read<F: StoreFile + Drop, R: RpmbPort + Drop, L: StoreName, E: Entropy>(
     ensures rests { Rests slot.old.file slot.new.file }
     ensures cause { IfOk result (λ answer. HasToldCause slot.old.file slot.new.file slot.old.number answer.reply) }
 {
-    let object = found.handle;
+    let position = found.handle.position;
     let entry = found.held.entry;
-    let reply = read_entry(
-        alloc,
-        gate,
-        slot,
-        session,
-        &entry,
-        tsk,
-        object.position,
-        count,
-    )?;
+    meet_entry(gate, &mut slot.slot, session, &entry);
+    let reply = read_object::<F, L>(alloc, &mut slot.slot, &entry, tsk, position, count)?;
     let told = reply.copy(alloc)?;
-    advance(session, handle, object, &reply);
-    let call = Call::Read {
+    Ok(answer_read(
+        gate,
+        &mut slot.slot,
+        session,
+        found,
         handle,
-        size: count,
-    };
-    Ok(tell(gate, slot, session, call, reply, told))
+        count,
+        reply,
+        told,
+    ))
 }

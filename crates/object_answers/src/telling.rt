@@ -1,12 +1,13 @@
 //! How the answer that an object's file gave is appended.
 
 ghost use Rattle.std.specs.Prelude.{◌≡◌, ◌≤◌};
+ghost use Rattle.locked_slots.specs.LockedSlots.{IsLockedSlot};
 ghost use Rattle.object_answers.specs.Served.{IsServed};
 ghost use Rattle.object_answers.specs.Serving.{MayBeServed};
 
 use call_history::Session;
 use locked_gate::{Answer, LockedGate};
-use locked_slots::LockedSlot;
+use object_slots::Slot;
 use rpmb_card::RpmbPort;
 use suppositions::StoreName;
 use tee_ports::{Entropy, StoreFile};
@@ -16,7 +17,7 @@ use tee_types::{Call, Reply};
 /// it.
 pub fn tell<F: StoreFile + Drop, R: RpmbPort + Drop, L: StoreName, E: Entropy>(
     gate: &mut LockedGate<F, R, L>,
-    slot: &mut LockedSlot<F, L>,
+    slot: &mut Slot<F>,
     session: &mut Session<E>,
     call: Call,
     reply: Reply,
@@ -24,6 +25,7 @@ pub fn tell<F: StoreFile + Drop, R: RpmbPort + Drop, L: StoreName, E: Entropy>(
 ) -> Answer
     requires room { 1 ≤ gate.old.journal.spare }
     requires handle { 1 ≤ gate.old.gate.open_handles.spare }
+    requires locked { IsLockedSlot L.store slot.old }
     requires copied { told ≡ reply }
     requires may { MayBeServed L.store gate.old.gate gate.old.journal.knows slot.old call reply session.old }
     ensures served { IsServed L.store gate.old gate.new session.old session.new slot.old.number call result }
@@ -31,11 +33,13 @@ pub fn tell<F: StoreFile + Drop, R: RpmbPort + Drop, L: StoreName, E: Entropy>(
     ensures entropy { session.new.entropy ≡ session.old.entropy }
     ensures number { slot.new.number ≡ slot.old.number }
     ensures file { slot.new.file ≡ slot.old.file }
+    ensures locked { IsLockedSlot L.store slot.new }
 {
+    // Tell what always holds of the gate.
     let _doubt = gate.doubt();
     let _counter = gate.counter();
-    let seat = slot.slot.lend_seat();
+    let seat = slot.lend_seat();
     let (place, seat) = gate.answer_with(seat, session, call, reply);
-    slot.slot.give_seat(seat);
+    slot.give_seat(seat);
     Answer { place, reply: told }
 }

@@ -15,9 +15,6 @@ use Rattle.history_seats.specs.Views.{GateView, Sight, SlotView, new_gate}
 use Rattle.core_parts.specs.Opened.{first_view}
 use Rattle.core_parts.proofs.Contained.{contains_none}
 use Rattle.suppositions.specs.Stores.{Store}
-use Rattle.suppositions.proofs.Mending.{none_some}
-use Rattle.store_commit.specs.Gates.{GateValue}
-use Rattle.store_commit.specs.Holds.{file_held}
 use Rattle.store_commit.specs.declared.gate.Doubted.{Doubted}
 use Rattle.call_history.specs.Journals.{IsJournalOf, told_of}
 use Rattle.gate_ties.specs.Ties.{IsTied}
@@ -35,7 +32,6 @@ use Rattle.object_calls.specs.OpenedStores.{IsStoreOf}
 use Rattle.object_calls.specs.Opening.{IsOpening, OpeningValue, bench_files, entries_in}
 use Rattle.object_calls.specs.Seats.{HasTold, IsSplitting}
 use Rattle.object_calls.specs.Services.{AreFirstSlots, MayBeFirst, OpensAsHonest}
-use Rattle.served_calls.specs.Held.{HoldsForDoubt}
 use Rattle.served_calls.specs.Slots.{AreNumberedSlots, AreOfObjectFiles}
 use Rattle.object_calls.proofs.Files.{files_sound}
 use Rattle.object_calls.proofs.HonestOpenings.{opens_as_honest}
@@ -87,10 +83,6 @@ module _ {F R : Type 0} (state : F → FileState) (port : R → PortState) (soun
 -- a history without events has no tag
 pub none_tagged : (view : GateView) → view.all ≡ [] → AreOfObjectFiles view.all
 none_tagged view empty r file there tag = absurd (contains_none r (subst (λ (l : List HistoryRecord). Contains l r) empty there))
-
--- a gate whose sessions hold no file
-pub none_held : {F R : Type 0} (gate : GateValue F R) → ((session : ℕ) → file_held gate.holds session ≡ None) → HoldsForDoubt gate
-none_held gate none session file is = absurd (none_some file (sym (none session) ∙ is))
 
 -- THE SEATS
 pub new-splitting : (store : Store) → IsSplitting store new_gate 1

@@ -10,7 +10,6 @@ use Rattle.locked_gate.specs.LockedGates.{LockedGateValue}
 use Rattle.locked_slots.specs.LockedSlots.{IsLockedSlot}
 use Rattle.locked_slots.specs.Opening.{first_slot}
 use Rattle.mounted_store.specs.Generations.{generation_in}
-use Rattle.served_calls.specs.Held.{HoldsForDoubt}
 use Rattle.served_calls.specs.Slots.{AreOfObjectFiles, AreSlots}
 use Rattle.object_calls.specs.Files.{files_of}
 
@@ -39,7 +38,6 @@ OpensAsHonest store = (guess : Guess) → guess.dishonest ≡ [] → objects_und
 -- What always holds of a store that is served, beside what holds behind its locks.
 pub record IsService {F R : Type 0} (store : Store) (gate : LockedGateValue F R) (slots : List SlotValue) (storage_key : List ℕ) : Type 0 where
   pub slots_are : AreSlots slots
-  pub held : HoldsForDoubt gate.gate
   pub tagged : AreOfObjectFiles gate.journal.knows.all
   pub keyed : storage_key ≡ ssk store.keys.huk store.keys.chip
   pub few : length store.mounted.applications ≤ 16

@@ -14,9 +14,9 @@ pub enum Outcome {
 /// How often each outcome came, over how many calls of the device.
 #[derive(Clone, Copy)]
 pub struct Tally {
-    /// How many calls of the device the phase makes.
+    /// How many calls of the device fail the act where they go wrong.
     pub calls: u64,
-    /// How many scripts were run.
+    /// How often the act was run.
     pub tries: u64,
     pub before: u64,
     pub after: u64,
@@ -33,6 +33,11 @@ impl Tally {
             after: 0,
             lost: 0,
         }
+    }
+
+    /// The numbers, in the order of the table.
+    pub fn counts(&self) -> [u64; 5] {
+        [self.calls, self.tries, self.before, self.after, self.lost]
     }
 
     /// Counts a try.

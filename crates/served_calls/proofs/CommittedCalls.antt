@@ -1,5 +1,5 @@
 -- What a commit on an object leaves of the store that serves it.
-use Rattle.std.proofs.Common.{◌≡◌, ℕ, List, None, Option, Some, refl, sym, ap, ◌∙◌, subst}
+use Rattle.std.proofs.Common.{◌≡◌, ℕ, List, None, Some, refl, sym, ap, ◌∙◌, subst}
 use Rattle.call_history.specs.Sessions.{CallerSession, session_value}
 use Rattle.core_parts.specs.Joined.{IsObjectFile}
 use Rattle.disk_model.specs.State.{FileState}
@@ -12,11 +12,8 @@ use Rattle.rpmb_card.specs.Card.{CardState}
 use Rattle.rpmb_card.specs.Port.{PortState}
 use Rattle.rpmb_host.specs.Honest.{HadCard, HasCard}
 use Rattle.store_commit.specs.Causes.{CauseStands, Counted, EndCause, NoCard, counts}
-use Rattle.store_commit.specs.Changes.{change_of}
 use Rattle.store_commit.specs.Counts.{CauseCounts, DoubtCounts, EndCounts, RoseAlone}
-use Rattle.store_commit.specs.Gates.{GateValue, LeavesHolds, file_in_doubt, gate_sides}
-use Rattle.crash_core.specs.EntryChanges.{file_put}
-use Rattle.store_commit.specs.Holds.{EndsHold, file_held, unless_file}
+use Rattle.store_commit.specs.Gates.{gate_sides}
 use Rattle.store_commit.specs.declared.change.CommitEnd.{CommitEnd}
 use Rattle.store_commit.specs.declared.change.CommitEnd.TheVariants.{Doubtful, Dropped, Made, Spent}
 use Rattle.store_commit.specs.declared.change.EntryChange.{EntryChange}
@@ -33,7 +30,6 @@ use Rattle.tee_types.specs.declared.reply.Reply.TheVariants.{NotAvailable}
 use Rattle.object_slots.specs.Value.{SlotValue}
 use Rattle.served_calls.specs.Appended.{AppendsCall}
 use Rattle.served_calls.specs.Devices.{AccusesRightly, CostsDoubt, Devices, TellsNoCard, devices_of}
-use Rattle.served_calls.specs.Held.{HoldsForDoubt}
 use Rattle.served_calls.specs.Ready.{KnowsCard}
 use Rattle.served_calls.proofs.Cards.{no_card_told, steps_told}
 use Rattle.served_calls.proofs.Counting.{GateGrows, end_grows, end_still}
@@ -143,29 +139,5 @@ module _ {F R E : Type 0} (of_file : F → FileState) (of_port : R → PortState
   end_costs (Doubtful n why) cause = λ card has. cause.1 card (subst (λ (k : List ℕ). HasCard (of_port old.gate.host.port) k card) (sym known.keyed) has) (known.counted card has)
   end_costs Spent cause = tt
 
--- The files that are held behind it.
-pub not_some : (o : Option ℕ) → ((x : ℕ) → o ≡ Some x → ⊥) → o ≡ None
-not_some None none = refl
-not_some (Some x) none = absurd (none x refl)
-
 pub none_some : (x : ℕ) → None ≡ Some x → ⊥
 none_some x e = cc
-
--- while no commit is in doubt no file is held
-pub unheld : {F R : Type 0} (gate : GateValue F R) → HoldsForDoubt gate → gate.doubt ≡ None → (session : ℕ) → file_held gate.holds session ≡ None
-unheld gate held idle session =
-    not_some (file_held gate.holds session) (λ x is. none_some x (sym (ap file_in_doubt idle) ∙ held session x is))
-
-none_without : (put : Option ℕ) (old new : List (Option ℕ)) → EndsHold put old new → ((session : ℕ) → file_held old session ≡ None) → (session : ℕ) → file_held new session ≡ None
-none_without None old new ends none session = ap (λ (l : List (Option ℕ)). file_held l session) ends ∙ none session
-none_without (Some file) old new ends none session = ends session ∙ ap (unless_file file) (none session)
-
-pub none_left : (change : EntryChange) (end : CommitEnd) (old new : List (Option ℕ)) → LeavesHolds change end old new → ((session : ℕ) → file_held old session ≡ None)
-    → (session : ℕ) → file_held new session ≡ None
-none_left change (Made n) old new leaves none session = none_without (file_put (change_of change)) old new leaves none session
-none_left change (Dropped cause) old new leaves none session = ap (λ (l : List (Option ℕ)). file_held l session) leaves ∙ none session
-none_left change (Doubtful n cause) old new leaves none session = ap (λ (l : List (Option ℕ)). file_held l session) leaves ∙ none session
-none_left change Spent old new leaves none session = ap (λ (l : List (Option ℕ)). file_held l session) leaves ∙ none session
-
-pub none_holds : {F R : Type 0} (gate : GateValue F R) → ((session : ℕ) → file_held gate.holds session ≡ None) → HoldsForDoubt gate
-none_holds gate none session file is = absurd (none_some file (sym (none session) ∙ is))

@@ -1,10 +1,11 @@
 -- What a create leaves of the store that serves it.
-use Rattle.std.proofs.Common.{◌≡◌, ◌<◌, ◌++◌, ◌∷◌, ◌+◌, [], ℕ, List, Err, None, Ok, Result, Some, length, slice_index_or, refl, sym, ap, ◌∙◌, subst, inl, inr}
+use Rattle.std.proofs.Common.{◌≡◌, ◌<◌, ◌++◌, ◌∷◌, ◌+◌, [], ℕ, List, Err, Ok, Result, Some, length, slice_index_or, refl, sym, ap, ◌∙◌, subst, inl, inr}
 use Rattle.std.specs.Prelude.{slice_set}
 use Rattle.call_history.specs.Sessions.{CallerSession, IsCallerOf}
 use Rattle.call_rules.specs.declared.decision.NewPlace.{NewPlace}
-use Rattle.create_calls.specs.Created.{Creates, IsAnsweredOrNot, IsBroughtNew, IsUntold}
+use Rattle.create_calls.specs.Created.{Creates, IsAnsweredOrNot, IsUntold}
 use Rattle.create_calls.specs.Created.IsAnswered.{Brought, Unmade}
+use Rattle.create_calls.specs.Finished.{IsBroughtNew}
 use Rattle.create_calls.specs.Reserving.{given_back}
 use Rattle.create_calls.specs.Rules.{NewObject, create_call}
 use Rattle.create_calls.specs.Seating.{reseated}
@@ -19,8 +20,6 @@ use Rattle.locked_gate.specs.LockedGates.{LockedGateValue}
 use Rattle.object_commits.specs.CreateLaws.{index_of_place, new_entry}
 use Rattle.object_slots.specs.Value.{SlotValue}
 use Rattle.rpmb_card.specs.Port.{PortState}
-use Rattle.store_commit.specs.Gates.{GateValue}
-use Rattle.store_commit.specs.Holds.{file_held}
 use Rattle.store_commit.specs.declared.change.EntryChange.{EntryChange}
 use Rattle.store_commit.specs.declared.change.EntryChange.TheVariants.{Put}
 use Rattle.store_model.specs.declared.event.Mark.TheVariants.{Unchanged}
@@ -33,13 +32,11 @@ use Rattle.tee_types.specs.declared.reply.Reply.{Reply}
 use Rattle.tee_types.specs.declared.reply.Reply.TheVariants.{CounterSpent, Handle, NotAvailable}
 use Rattle.served_calls.specs.Appended.{AppendsCall}
 use Rattle.served_calls.specs.Devices.{AccusesRightly, CostsDoubt, Devices, Grows}
-use Rattle.served_calls.specs.Held.{HoldsForDoubt}
 use Rattle.served_calls.specs.Ready.{KnowsCard}
 use Rattle.served_calls.specs.Slots.{AreSlots}
 use Rattle.served_calls.specs.Standing.{ServesObject, Serving, devices_in}
 use Rattle.served_calls.proofs.ChangedCalls.{change_accuses}
-use Rattle.served_calls.proofs.CommittedCalls.{committed_appends, committed_goes_on, committed_mark, committed_still, end_accuses, end_costs, unheld}
-use Rattle.served_calls.proofs.HeldFiles.{IsHeldAlone, committed_holds, quiet_given, reserved_alone}
+use Rattle.served_calls.proofs.CommittedCalls.{committed_appends, committed_goes_on, committed_mark, committed_still, end_accuses, end_costs}
 use Rattle.served_calls.proofs.ToldCalls.{GatesGoOn, is_object_file, none_appended, quiet_goes_on, same_gate, serves_err, serves_ok}
 
 -- the gate once the session holds that file
@@ -83,14 +80,16 @@ unmade_still counter file old new Reliable drew draws reply cause reliable = abs
 
 module _ {F R E : Type 0} (of_file : F → FileState) (of_port : R → PortState) (draws : E → ℕ) (store : Store) (old behind : LockedGateValue F R) (slots : List SlotValue) (place : ℕ) (before after : SlotValue)
     (was now : CallerSession E) (are : AreSlots slots) (within : place < length slots) (stands : before ≡ slice_index_or slots place before) (same : after.number ≡ before.number)
-    (idle : old.gate.doubt ≡ None) (held : HoldsForDoubt old.gate) (holds : file_held (slice_set old.gate.holds was.number (Some before.number)) was.number ≡ Some before.number)
     (file : FileGoesOn before.file after.file) (known : KnowsCard (of_port old.gate.host.port) old.gate.host.key (rpmb_key store.keys.huk) old.gate.counter) where
   abbrev new : LockedGateValue F R
   new = given_back was.number behind
 
-  -- the gate as the create begins
+  -- the gate as the create begins, and once the slot has its new seat
+  abbrev began : LockedGateValue F R
+  began = reserved was.number before.number old
+
   abbrev mid : LockedGateValue F R
-  mid = reseated store before.number (reserved was.number before.number old)
+  mid = reseated store before.number began
 
   abbrev from : Serving F R E
   from = record { gate = old; slots = slots; session = was }
@@ -106,9 +105,6 @@ module _ {F R E : Type 0} (of_file : F → FileState) (of_port : R → PortState
 
   abbrev d1 : Devices
   d1 = devices_in of_file of_port draws to
-
-  alone : IsHeldAlone was.number before.number mid.gate.holds
-  alone = reserved_alone old.gate.holds was.number before.number (unheld old.gate held idle) holds
 
   object_file : IsObjectFile before.number
   object_file = is_object_file of_file of_port draws store old new slots place before after was now are within stands same
@@ -133,7 +129,6 @@ module _ {F R E : Type 0} (of_file : F → FileState) (of_port : R → PortState
       (subst (CostsDoubt key d0 d1)
       (sym (committed_mark of_file of_port draws store mid behind before.number was now (create_call object) own change Reliable answer object_file c))
       (end_costs of_file of_port draws mid behind slots (slice_set slots place after) was now key known c.end c.gate.cause))
-      (committed_holds was.number before.number behind change c.end mid.gate.holds alone c.gate.holds c.gate.doubt (ap (λ (n : ℕ). Some n) b.file_is))
       (moved_goes_on (committed_goes_on of_file of_port draws store mid behind before.number was now (create_call object) own change Reliable answer c key known)) file X
 
   unmade_accuses : (counter : ℕ) (Reliable : Type 0) (reply : Reply) → UnmadeCause counter before.number before.file after.file Reliable (draws was.entropy) (draws now.entropy) reply
@@ -170,23 +165,21 @@ module _ {F R E : Type 0} (of_file : F → FileState) (of_port : R → PortState
   unmade_serves call counter Reliable answer X t cause =
       serves_ok of_file of_port draws store old new slots place before after was now are within stands same call answer
       (moved_appends store old new mid behind was now call answer refl refl (unmade_appends call answer t)) (unmade_accuses counter Reliable answer.reply cause) tt
-      (quiet_given was.number before.number behind mid.gate.holds alone (ap (λ (g : GateValue F R). g.holds) t.gate) (ap (λ (g : GateValue F R). g.doubt) t.gate ∙ idle))
       (moved_goes_on (quiet_goes_on of_file of_port draws key mid.gate behind.gate was now t.gate
       (unmade_drawn counter before.number before.file after.file Reliable (draws was.entropy) (draws now.entropy) answer.reply cause)))
       file X
 
-  untold_serves : (call : Call) (X : Type 0) (e : X) → IsUntold mid behind before.file after.file was now (draws was.entropy) (draws now.entropy) → IsCallerOf store was
+  untold_serves : (call : Call) (X : Type 0) (e : X) → IsUntold began behind before.file after.file was now (draws was.entropy) (draws now.entropy) → IsCallerOf store was
       → ServesObject of_file of_port draws {X = X} store from to call (Err e)
   untold_serves call X e u caller =
       serves_err of_file of_port draws store old new slots place before after was now are within stands same call X e
       (none_appended store old new was now caller (ap (λ (g : LockedGateValue F R). g.journal.knows.all) u.gate) u.session)
-      (quiet_given was.number before.number behind mid.gate.holds alone (ap (λ (g : LockedGateValue F R). g.gate.holds) u.gate) (ap (λ (g : LockedGateValue F R). g.gate.doubt) u.gate ∙ idle))
-      (moved_goes_on (quiet_goes_on of_file of_port draws key mid.gate behind.gate was now
-      (same_gate mid.gate behind.gate (ap (λ (g : LockedGateValue F R). g.gate) u.gate)) (inl u.undrawn)))
+      (moved_goes_on (quiet_goes_on of_file of_port draws key began.gate behind.gate was now
+      (same_gate began.gate behind.gate (ap (λ (g : LockedGateValue F R). g.gate) u.gate)) (inl u.undrawn)))
       file
 
   answered_serves : (object : NewObject) (new_place : NewPlace) (Reliable X : Type 0) (result : Result Answer X) → IsCallerOf store was
-      → IsAnsweredOrNot of_file of_port store mid behind before.number before.file after.file was now object new_place Reliable (draws was.entropy) (draws now.entropy) result
+      → IsAnsweredOrNot of_file of_port store began behind before.number before.file after.file was now object new_place Reliable (draws was.entropy) (draws now.entropy) result
       → ServesObject of_file of_port draws store from to (create_call object) result
   answered_serves object new_place Reliable X (Ok answer) caller (Brought b passed) = brought_serves object new_place Reliable answer X b
   answered_serves object new_place Reliable X (Ok answer) caller (Unmade t cause) = unmade_serves (create_call object) mid.gate.counter Reliable answer X t cause
@@ -194,17 +187,15 @@ module _ {F R E : Type 0} (of_file : F → FileState) (of_port : R → PortState
 
 -- a create with the slot of the file that was reserved, of which memory may have run out
 pub created_serves : {F R E : Type 0} (of_file : F → FileState) (of_port : R → PortState) (draws : E → ℕ) (store : Store) (old mid new : LockedGateValue F R) (slots : List SlotValue) (place : ℕ) (before after : SlotValue)
-    (was now : CallerSession E) → AreSlots slots → place < length slots → before ≡ slice_index_or slots place before → after.number ≡ before.number → old.gate.doubt ≡ None → HoldsForDoubt old.gate
-    → (file : ℕ) → place + 1 ≡ file → file_held mid.gate.holds was.number ≡ Some file → mid ≡ reserved was.number file old → FileGoesOn before.file after.file
+    (was now : CallerSession E) → AreSlots slots → place < length slots → before ≡ slice_index_or slots place before → after.number ≡ before.number
+    → (file : ℕ) → place + 1 ≡ file → mid ≡ reserved was.number file old → FileGoesOn before.file after.file
     → IsCallerOf store was → KnowsCard (of_port old.gate.host.port) old.gate.host.key (rpmb_key store.keys.huk) old.gate.counter
     → (object : NewObject) (new_place : NewPlace) (Reliable X : Type 0) (result : Result Answer X)
     → Creates of_file of_port store mid new before.number before.file after.file was now object new_place Reliable (draws was.entropy) (draws now.entropy) result
     → ServesObject of_file of_port draws store (record { gate = old; slots = slots; session = was }) (record { gate = new; slots = slice_set slots place after; session = now }) (create_call object) result
-created_serves of_file of_port draws store old mid new slots place before after was now are within stands same idle held file at is_held is goes caller known object new_place Reliable X result creates =
+created_serves of_file of_port draws store old mid new slots place before after was now are within stands same file at is goes caller known object new_place Reliable X result creates =
     let own : file ≡ before.number = sym at ∙ sym (are.numbered place before within) ∙ ap (λ (s : SlotValue). s.number) (sym stands) in
     let begins : mid ≡ reserved was.number before.number old = subst (λ (n : ℕ). mid ≡ reserved was.number n old) own is in
-    let holds : file_held (slice_set old.gate.holds was.number (Some before.number)) was.number ≡ Some before.number =
-    ap (λ (g : LockedGateValue _ _). file_held g.gate.holds was.number) (sym begins) ∙ is_held ∙ ap (λ (n : ℕ). Some n) own in
     let c : Creates of_file of_port store (reserved was.number before.number old) new before.number before.file after.file was now object new_place Reliable (draws was.entropy) (draws now.entropy) result =
     subst
     (λ (m : LockedGateValue _ _). Creates of_file of_port store m new before.number before.file after.file was now object new_place Reliable (draws was.entropy) (draws now.entropy) result) begins creates in
@@ -212,14 +203,14 @@ created_serves of_file of_port draws store old mid new slots place before after 
     (λ (n : LockedGateValue _ _). ServesObject of_file of_port draws store (record { gate = old; slots = slots; session = was }) (record { gate = n; slots = slice_set slots place after; session = now })
     (create_call object) result)
     (sym c.given_back)
-    (answered_serves of_file of_port draws store old c.behind slots place before after was now are within stands same idle held holds goes known object new_place Reliable X result caller c.answered)
+    (answered_serves of_file of_port draws store old c.behind slots place before after was now are within stands same goes known object new_place Reliable X result caller c.answered)
 
 created_answered_still : {F R E : Type 0} (of_file : F → FileState) (of_port : R → PortState) (draws : E → ℕ) (store : Store) (old new : LockedGateValue F R) (file : ℕ) (before after : FileState)
     (was now : CallerSession E) (object : NewObject) (new_place : NewPlace) (Reliable X : Type 0) (result : Result Answer X)
     → IsAnsweredOrNot of_file of_port store old new file before after was now object new_place Reliable (draws was.entropy) (draws now.entropy) result → Reliable
     → draws now.entropy ≡ draws was.entropy
 created_answered_still of_file of_port draws store old new file before after was now object new_place Reliable X (Ok answer) (Brought b passed) reliable =
-    committed_still of_file of_port draws store old new file was now (create_call object) (Handle was.state.next_handle)
+    committed_still of_file of_port draws store (reseated store file old) new file was now (create_call object) (Handle was.state.next_handle)
     (Put (index_of_place new_place) (new_entry was.state.application object.id b.view b.next)) Reliable answer b.committed reliable
 created_answered_still of_file of_port draws store old new file before after was now object new_place Reliable X (Ok answer) (Unmade t cause) reliable =
     unmade_still old.gate.counter file before after Reliable (draws was.entropy) (draws now.entropy) answer.reply cause reliable
@@ -230,4 +221,4 @@ pub created_still : {F R E : Type 0} (of_file : F → FileState) (of_port : R �
     → Creates of_file of_port store old new file before after was now object new_place Reliable (draws was.entropy) (draws now.entropy) result → Reliable
     → draws now.entropy ≡ draws was.entropy
 created_still of_file of_port draws store old new file before after was now object new_place Reliable X result c reliable =
-    created_answered_still of_file of_port draws store (reseated store file old) c.behind file before after was now object new_place Reliable X result c.answered reliable
+    created_answered_still of_file of_port draws store old c.behind file before after was now object new_place Reliable X result c.answered reliable

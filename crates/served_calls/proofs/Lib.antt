@@ -4,7 +4,6 @@ pub mod Cards
 pub mod ToldCalls
 pub mod CommittedCalls
 pub mod ChangedCalls
-pub mod HeldFiles
 pub mod CreatedCalls
 pub mod Settling
 pub mod RuledCalls

@@ -19,11 +19,10 @@ use Rattle.tee_types.specs.declared.reply.Reply.{Reply}
 use Rattle.tee_types.specs.declared.reply.Reply.TheVariants.{NotAvailable}
 use Rattle.served_calls.specs.Appended.{AppendsCall}
 use Rattle.served_calls.specs.Devices.{AccusesRightly, Devices, file_in}
-use Rattle.served_calls.specs.Held.{HoldsForDoubt}
 use Rattle.served_calls.specs.Slots.{AreSlots}
 use Rattle.served_calls.specs.Standing.{ServesObject, devices_in}
 use Rattle.served_calls.proofs.CommittedCalls.{none_some}
-use Rattle.served_calls.proofs.ToldCalls.{GatesGoOn, quiet_goes_on, quiet_holds}
+use Rattle.served_calls.proofs.ToldCalls.{GatesGoOn, quiet_goes_on}
 
 -- the event has no tag
 unfoldable pub ruled_appends : {F R E : Type 0} (store : Store) (old new : LockedGateValue F R) (was now : CallerSession E) (call : Call) (answer : Answer) → IsServed store call answer old new was now
@@ -45,10 +44,10 @@ plain_accuses key d0 d1 (NotAvailable cause) is = absurd is
 plain_accuses key d0 d1 reply is = tt
 
 pub ruled_serves : {F R E : Type 0} (of_file : F → FileState) (of_port : R → PortState) (draws : E → ℕ) (store : Store) (old new : LockedGateValue F R) (slots : List SlotValue) (was now : CallerSession E)
-    (call : Call) (answer : Answer) (X : Type 0) → IsServed store call answer old new was now → IsPlain answer.reply → now.entropy ≡ was.entropy → AreSlots slots → HoldsForDoubt old.gate
+    (call : Call) (answer : Answer) (X : Type 0) → IsServed store call answer old new was now → IsPlain answer.reply → now.entropy ≡ was.entropy → AreSlots slots
     → ServesObject of_file of_port draws {X = X} store (record { gate = old; slots = slots; session = was }) (record { gate = new; slots = slots; session = now }) call (Ok answer)
 unfolding ruled_appends
-ruled_serves of_file of_port draws store old new slots was now call answer X s plain entropy are held =
+ruled_serves of_file of_port draws store old new slots was now call answer X s plain entropy are =
     let d0 : Devices = devices_in of_file of_port draws (record { gate = old; slots = slots; session = was }) in
     let d1 : Devices = devices_in of_file of_port draws (record { gate = new; slots = slots; session = now }) in
     let gates : GatesGoOn of_file of_port draws (rpmb_key store.keys.huk) old.gate new.gate was now =
@@ -60,6 +59,5 @@ ruled_serves of_file of_port draws store old new slots was now call answer X s p
         costs = tt;
       };
       slots = are;
-      held = quiet_holds old.gate new.gate s.gate held;
       devices = record { dir = gates.dir; file = λ n. goes_on_none (file_in slots n); card = gates.card; draws = gates.drawn };
     }

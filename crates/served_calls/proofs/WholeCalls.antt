@@ -36,14 +36,12 @@ use Rattle.tee_types.specs.declared.reply.Reply.TheVariants.{NotAvailable}
 use Rattle.served_calls.specs.Answered.{GoesOnWith, GoesOnWithout, ServesCall}
 use Rattle.served_calls.specs.Appended.{AppendsCall}
 use Rattle.served_calls.specs.Devices.{AccusesRightly, CostsDoubt, Devices, DevicesGoOn, PortGoesOn, TellsNoCard, faults_of, file_in}
-use Rattle.served_calls.specs.Held.{HoldsForDoubt}
 use Rattle.served_calls.specs.Slots.{AreOfObjectFiles, AreSlots}
 use Rattle.served_calls.specs.Standing.{ServesObject, Serving, devices_in}
 use Rattle.served_calls.proofs.Cards.{doubted_counts}
 use Rattle.served_calls.proofs.Counting.{counts_grow, devices_go_on_then, grows_le, grows_rose, grows_twice}
 use Rattle.served_calls.proofs.Settling.{Settles, events_more, reserved_settles, same_settles, settled_settles, stays_settles, tagged_more, was_settles}
 use Rattle.served_calls.proofs.RuledCalls.{plain_accuses, ruled_appends}
-use Rattle.served_calls.proofs.ToldCalls.{quiet_holds}
 
 -- the key of the store's card
 abbrev card_key : Store → List ℕ
@@ -131,7 +129,6 @@ module _ {F R E : Type 0} (of_file : F → FileState) (of_port : R → PortState
     slots = s.slots;
     tagged = λ files. subst AreOfObjectFiles (sym s.answers.appends.all)
         (tagged_more mid.journal.knows.all s.answers.appends.last s.answers.appends.tagged (settled.tagged files));
-    held = s.held;
     devices = devices_go_on_then (card_key store) d0 dm da began s.devices;
   }
   object_serves call X (Err e) s = record {
@@ -139,14 +136,13 @@ module _ {F R E : Type 0} (of_file : F → FileState) (of_port : R → PortState
         (λ end event place x. goes_on end event place (s.answers.goes_on end event place x)) s.answers.all;
     slots = s.slots;
     tagged = λ files. subst AreOfObjectFiles (sym s.answers.all) (settled.tagged files);
-    held = s.held;
     devices = devices_go_on_then (card_key store) d0 dm da began s.devices;
   }
 
 -- A call that the gate answered alone, or memory ran out.
 module _ {F R E : Type 0} (of_file : F → FileState) (of_port : R → PortState) (draws : E → ℕ) (store : Store) (first old new : LockedGateValue F R) (slots : List SlotValue) (was now : CallerSession E)
     (ready : old.gate ≡ record first.gate { open_handles = old.gate.open_handles; room = old.gate.room }) (knows : old.journal.knows ≡ first.journal.knows) (Reliable : Type 0)
-    (are : AreSlots slots) (holds : HoldsForDoubt first.gate) (drawn : draws was.entropy ≤ draws now.entropy)
+    (are : AreSlots slots) (drawn : draws was.entropy ≤ draws now.entropy)
     (keyed : first.gate.host.key ≡ card_key store) (stands : DoubtStands (gate_sides of_file of_port first.gate) first.gate.doubt) where
   abbrev from : Serving F R E
   from = record { gate = first; slots = slots; session = was }
@@ -226,7 +222,6 @@ module _ {F R E : Type 0} (of_file : F → FileState) (of_port : R → PortState
         };
         slots = are;
         tagged = λ files. subst AreOfObjectFiles (sym a.all) (tagged_more s.between.journal.knows.all a.last a.tagged (settled.tagged files));
-        held = quiet_holds s.between.gate new.gate s.served.gate (settled.held holds);
         devices = alone_goes_on s.between settled s.served.gate;
       }
 
@@ -237,7 +232,6 @@ module _ {F R E : Type 0} (of_file : F → FileState) (of_port : R → PortState
     answers = none_goes_on of_file of_port draws store first new new was now settled caller number made goes_on refl;
     slots = are;
     tagged = settled.tagged;
-    held = settled.held holds;
     devices = alone_goes_on new settled refl;
   }
 

@@ -8,7 +8,6 @@ use Rattle.locked_gate.specs.declared.answered.Answer.{Answer}
 use Rattle.locked_gate.specs.LockedGates.{LockedGateValue}
 use Rattle.rpmb_card.specs.Port.{PortState}
 use Rattle.served_calls.specs.Devices.{AccusesRightly, CostsDoubt, DevicesGoOn}
-use Rattle.served_calls.specs.Held.{HoldsForDoubt}
 use Rattle.served_calls.specs.Slots.{AreOfObjectFiles, AreSlots}
 use Rattle.served_calls.specs.Standing.{Serving, devices_in}
 use Rattle.store_model.specs.Record.{events_of}
@@ -64,5 +63,4 @@ module _ {F R E : Type 0} (of_file : F → FileState) (of_port : R → PortState
     pub answers : IsAnsweredOrNot store old new call result
     pub slots : AreSlots new.slots
     pub tagged : AreOfObjectFiles old.gate.journal.knows.all → AreOfObjectFiles new.gate.journal.knows.all
-    pub held : HoldsForDoubt new.gate.gate
     pub devices : DevicesGoOn (rpmb_key store.keys.huk) (devices_in of_file of_port draws old) (devices_in of_file of_port draws new)

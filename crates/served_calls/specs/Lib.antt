@@ -1,5 +1,4 @@
 pub mod Slots
-pub mod Held
 pub mod Ready
 pub mod Devices
 pub mod Standing

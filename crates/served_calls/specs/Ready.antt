@@ -8,7 +8,6 @@ use Rattle.object_slots.specs.Value.{SlotValue}
 use Rattle.rpmb_card.specs.Card.{CardState}
 use Rattle.rpmb_card.specs.Port.{PortState}
 use Rattle.rpmb_host.specs.Honest.{HasCard}
-use Rattle.served_calls.specs.Held.{HoldsForDoubt}
 use Rattle.served_calls.specs.Slots.{AreSlots}
 use Rattle.suppositions.specs.Stores.{Store}
 
@@ -24,6 +23,5 @@ pub record IsReady {F R E : Type 0} (of_port : R → PortState) (store : Store) 
   pub events : 1 ≤ gate.journal.spare
   pub idle : gate.gate.doubt ≡ None
   pub calm : IsCalm store gate.journal.knows session
-  pub held : HoldsForDoubt gate.gate
   pub slots_are : AreSlots slots
   pub known : KnowsCard (of_port gate.gate.host.port) gate.gate.host.key (rpmb_key store.keys.huk) gate.gate.counter

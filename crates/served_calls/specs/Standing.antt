@@ -9,7 +9,6 @@ use Rattle.object_slots.specs.Value.{SlotValue}
 use Rattle.rpmb_card.specs.Port.{PortState}
 use Rattle.served_calls.specs.Appended.{AppendsCall, AppendsNone}
 use Rattle.served_calls.specs.Devices.{AccusesRightly, CostsDoubt, Devices, DevicesGoOn, devices_of}
-use Rattle.served_calls.specs.Held.{HoldsForDoubt}
 use Rattle.served_calls.specs.Slots.{AreSlots}
 use Rattle.suppositions.specs.Stores.{Store}
 use Rattle.tee_types.specs.declared.call.Call.{Call}
@@ -34,9 +33,8 @@ module _ {F R E : Type 0} (of_file : F → FileState) (of_port : R → PortState
   AnswersOrNot store old new call (Ok answer) = Answers store old new call answer
   AnswersOrNot store old new call (Err none) = AppendsNone store old.gate new.gate old.session new.session
 
-  -- What a call on an object leaves: so much of it, whole slots, no file that is held but for a commit in doubt, and devices that go on.
+  -- What a call on an object leaves: so much of it, whole slots, and devices that go on.
   pub record ServesObject {X : Type 0} (store : Store) (old new : Serving F R E) (call : Call) (result : Result Answer X) : Type 0 where
     pub answers : AnswersOrNot store old new call result
     pub slots : AreSlots new.slots
-    pub held : HoldsForDoubt new.gate.gate
     pub devices : DevicesGoOn (rpmb_key store.keys.huk) (devices_in old) (devices_in new)

@@ -5,7 +5,6 @@ ghost use Rattle.hmac_keys.specs.KeyTable.{ssk};
 ghost use Rattle.call_history.specs.Sessions.{IsCallerOf};
 ghost use Rattle.gate_calls.specs.Rulings.{is_on_object};
 ghost use Rattle.served_calls.specs.Answered.{ServesCall};
-ghost use Rattle.served_calls.specs.Held.{HoldsForDoubt};
 ghost use Rattle.served_calls.specs.Ready.{IsReady};
 ghost use Rattle.served_calls.specs.Slots.{AreSlots};
 ghost use Rattle.served_calls.specs.Standing.{ServesObject};
@@ -102,7 +101,6 @@ pub fn serve<F: StoreFile + Drop, R: RpmbPort + Drop, L: StoreName, E: Entropy>(
     call: &Call,
 ) -> Result<Answer, NoMemory>
     requires caller { IsCallerOf L.store session.old }
-    requires held { HoldsForDoubt gate.old.gate }
     requires slots { AreSlots slots.old.items }
     requires few { length L.store.mounted.applications ≤ 16 }
     requires keyed { storage_key.now ≡ ssk L.store.keys.huk L.store.keys.chip }

@@ -1,6 +1,6 @@
 // A card on the heap.
 
-ghost use Rattle.std.specs.Prelude.{◌≡◌, IfOk, Some};
+ghost use Rattle.std.specs.Prelude.{◌≡◌, IfOk, IsTrue, Some};
 ghost use Rattle.sim_bench.specs.Port.{card_port_state};
 
 use rpmb_card::{CardRig, NoMemory, RpmbPort, SimCard, SimPort};
@@ -20,7 +20,9 @@ impl CardPort {
     ///
     /// Memory ran out.
     pub fn new(alloc: Global, card: SimCard) -> Result<CardPort, AllocError>
-        ensures { IfOk result (λ port. (card_port_state port).card ≡ Some card) }
+        ensures card { IfOk result (λ port. (card_port_state port).card ≡ Some card) }
+        ensures calm { IfOk result (λ port. IsTrue (card_port_state port).calm) }
+        ensures faults { IfOk result (λ port. (card_port_state port).faults ≡ 0) }
     {
         let port = Box::new(alloc, SimPort::new(alloc, card))?;
         Ok(CardPort { port })

@@ -3,7 +3,7 @@
 
 mod card_port;
 
-ghost use Rattle.std.specs.Prelude.{◌≡◌, vec_len, All, IfOk};
+ghost use Rattle.std.specs.Prelude.{◌≡◌, vec_len, All, IfOk, IsTrue};
 ghost use Rattle.hmac_keys.specs.KeyTable.{rpmb_key};
 ghost use Rattle.mem_files.specs.Machine.{fresh};
 ghost use Rattle.mem_files.specs.Memory.{file_state};
@@ -58,7 +58,8 @@ fn empty_files(alloc: Global, count: usize) -> Result<Vec<MemFile>, AllocError>
     Ok(files)
 }
 
-/// The devices as they are made: 273 empty files, and a card that has the key, whose counter is 0 and whose blocks are zero.
+/// The devices as they are made: 273 empty files, and a card that has the key, whose counter is 0 and whose blocks are zero. No fault is armed,
+/// and none was counted.
 ///
 /// # Errors
 ///
@@ -67,6 +68,8 @@ pub fn blank_bench(alloc: Global) -> Result<SimBench, AllocError>
     ensures whole { IfOk result (λ bench. vec_len bench.files ≡ 273) }
     ensures files { IfOk result (λ bench. All (λ file. file_state file ≡ fresh) bench.files.items) }
     ensures card { IfOk result (λ bench. HasCard (card_port_state bench.card) (rpmb_key simulator_keys.huk) keyed_card) }
+    ensures calm { IfOk result (λ bench. IsTrue (card_port_state bench.card).calm) }
+    ensures faults { IfOk result (λ bench. (card_port_state bench.card).faults ≡ 0) }
 {
     let files = empty_files(alloc, FILES)?;
     let card = CardPort::new(alloc, keyed_card())?;

@@ -1,5 +1,5 @@
 -- The reply may be appended, the session is as the machine's, and the slot may stand behind its lock again.
-use Rattle.std.proofs.Common.{None, Some, ap, subst, sym, ◌∙◌, ◌≡◌}
+use Rattle.std.proofs.Common.{Some, ap, subst, sym, ◌∙◌, ◌≡◌}
 use Rattle.call_history.specs.Calls.{IsMovedBy}
 use Rattle.change_calls.proofs.Appends.{appended-keeps, appended-moves, appended-told}
 use Rattle.change_calls.proofs.appending.append.Goals as goal
@@ -20,9 +20,9 @@ answer_with-place-requires-clause-told g c =
     let slot = c.args.slot.now in
     let s = c.args.session.now in
     let may = c.requires.may in
-    let own : IsLockedSlot store slot = subst (IsLockedSlot store) c.slot.view_is c.slot.invariant in
+    let own : IsLockedSlot store slot = c.requires.locked in
     let lent : c.lend_seat-seat.result ≡ may.at.sees.seat =
-    seat_same c.lend_seat-seat.result may.at.sees.seat (sym c.lend_seat-seat.ensures.seat ∙ ap (λ (x : SlotValue). x.seat) c.slot.view_is ∙ may.at.sees.is) in
+    seat_same c.lend_seat-seat.result may.at.sees.seat (sym c.lend_seat-seat.ensures.seat ∙ may.at.sees.is) in
     let replied : c.twice-reply.result.0 ≡ c.args.reply = ap (λ (p : Reply × Reply). p.0) c.twice-reply.ensures in
     subst (λ (x : Sight SlotView × Reply). MayBeTold store gate.gate.doubt gate.gate.dir.dir.entries knows x.0.knows s.number s.made c.args.call x.1) (λ i. (sym lent i, sym replied i))
     (appended-told store gate.gate knows gate.closing c.doubt-doubt.ensures.locked c.doubt-doubt.ensures.machine slot own c.args.call c.args.reply s may)
@@ -35,24 +35,24 @@ answer_with-place-requires-clause-moved g c =
     let slot = c.args.slot.now in
     let s = c.args.session.now in
     let may = c.requires.may in
-    let own : IsLockedSlot store slot = subst (IsLockedSlot store) c.slot.view_is c.slot.invariant in
+    let own : IsLockedSlot store slot = c.requires.locked in
     let lent : c.lend_seat-seat.result ≡ may.at.sees.seat =
-    seat_same c.lend_seat-seat.result may.at.sees.seat (sym c.lend_seat-seat.ensures.seat ∙ ap (λ (x : SlotValue). x.seat) c.slot.view_is ∙ may.at.sees.is) in
+    seat_same c.lend_seat-seat.result may.at.sees.seat (sym c.lend_seat-seat.ensures.seat ∙ may.at.sees.is) in
     let replied : c.twice-reply.result.0 ≡ c.args.reply = ap (λ (p : Reply × Reply). p.0) c.twice-reply.ensures in
     subst (λ (x : Sight SlotView × Reply). IsMovedBy store knows (slot_record store knows x.0.knows s.number s.made c.args.call x.1) s) (λ i. (sym lent i, sym replied i))
     (appended-moves store gate.gate knows gate.closing c.doubt-doubt.ensures.locked c.doubt-doubt.ensures.machine slot own c.args.call c.args.reply s may)
 
-pub invariant_of-slot : goal.invariant_of-slot
-invariant_of-slot g c =
+pub returns-clause-locked : goal.returns-clause-locked
+returns-clause-locked g c =
     let store = g.L.StoreName.store in
     let gate = c.args.gate.now in
     let knows = gate.journal.knows in
     let slot = c.args.slot.now in
     let s = c.args.session.now in
     let may = c.requires.may in
-    let own : IsLockedSlot store slot = subst (IsLockedSlot store) c.slot.view_is c.slot.invariant in
+    let own : IsLockedSlot store slot = c.requires.locked in
     let lent = c.lend_seat-seat.result in
-    let seat : lent ≡ may.at.sees.seat = seat_same lent may.at.sees.seat (sym c.lend_seat-seat.ensures.seat ∙ ap (λ (x : SlotValue). x.seat) c.slot.view_is ∙ may.at.sees.is) in
+    let seat : lent ≡ may.at.sees.seat = seat_same lent may.at.sees.seat (sym c.lend_seat-seat.ensures.seat ∙ may.at.sees.is) in
     let replied : c.twice-reply.result.0 ≡ c.args.reply = ap (λ (p : Reply × Reply). p.0) c.twice-reply.ensures in
     let back : c.answer_with-place.result.1 ≡ answered-seat store knows may.at.sees.seat s.number s.made c.args.call c.args.reply =
     c.answer_with-place.ensures.slot
@@ -60,7 +60,7 @@ invariant_of-slot g c =
     ∙ (λ i. answered-seat store knows (seat i) s.number s.made c.args.call (replied i)) in
     let is : c.give_seat.new.self ≡ record slot { seat = Some (answered-seat store knows may.at.sees.seat s.number s.made c.args.call c.args.reply) } =
     c.give_seat.ensures
-    ∙ ap (λ (x : SlotValue). record x { seat = Some c.answer_with-place.result.1 }) (c.lend_seat-seat.ensures.slot ∙ ap (λ (x : SlotValue). record x { seat = None }) c.slot.view_is)
+    ∙ ap (λ (x : SlotValue). record x { seat = Some c.answer_with-place.result.1 }) c.lend_seat-seat.ensures.slot
     ∙ ap (λ (x : Sight SlotView). record slot { seat = Some x }) back in
     subst (IsLockedSlot store) (sym is)
     (appended-keeps store gate.gate knows gate.closing c.doubt-doubt.ensures.locked c.doubt-doubt.ensures.machine slot own c.args.call c.args.reply s may)

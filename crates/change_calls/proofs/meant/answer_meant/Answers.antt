@@ -12,17 +12,17 @@ pub append-requires-clause-may : goal.append-requires-clause-may
 append-requires-clause-may g c =
     let store = g.L.StoreName.store in
     let gate = c.args.gate.now in
-    let slot = c.attend.new.slot in
+    let slot = c.meet_entry.new.slot in
     let s = c.args.session.now in
     let call = c.args.call in
     let reply = c.args.reply in
-    let same : c.attend.new.gate ≡ gate = c.attend.ensures.gate in
-    let alike : c.attend.new.session ≡ s = c.attend.ensures.session in
+    let same : c.meet_entry.new.gate ≡ gate = c.meet_entry.ensures.gate in
+    let alike : c.meet_entry.new.session ≡ s = c.meet_entry.ensures.calm c.requires.calm in
     let locked = subst (λ (x : LockedGateValue g.row.F.Denot g.row.R.Denot). IsLockedGate store x.gate x.journal.knows x.closing) same c.doubt-doubt.ensures.locked in
     let are = subst (λ (x : LockedGateValue g.row.F.Denot g.row.R.Denot). AreEntries x.gate.dir.dir.entries) same c.doubt-doubt.ensures.entries in
     let machine = subst (λ (x : LockedGateValue g.row.F.Denot g.row.R.Denot). KnowsMachine store x.journal.knows x.gate.dir.dir.entries x.gate.open_handles) same c.doubt-doubt.ensures.machine in
     let low : gate.gate.counter < 2 ^ 32 =
     subst (λ (n : ℕ). n < 2 ^ 32) (c.counter-counter.ensures ∙ ap (λ (x : LockedGateValue g.row.F.Denot g.row.R.Denot). x.gate.counter) same) c.counter-counter.type_inv in
     subst (λ (x : LockedGateValue g.row.F.Denot g.row.R.Denot × CallerSession g.row.E.Denot). MayBeAppended store x.0.gate x.0.journal.knows slot call reply x.1) (λ i. (sym same i, sym alike i))
-    (meant-appended store gate.gate gate.journal.knows gate.closing locked are machine low s c.requires.calm c.requires.entry.0 c.args.entry.now c.requires.entry.1 c.attend.ensures.at.0 call reply c.requires.kind
-    c.requires.meant c.requires.idle slot c.attend.ensures.at.1)
+    (meant-appended store gate.gate gate.journal.knows gate.closing locked are machine low s c.requires.calm c.requires.entry.0 c.args.entry.now c.requires.entry.1 c.meet_entry.ensures.at.0 call reply c.requires.kind
+    c.requires.meant c.requires.idle slot c.meet_entry.ensures.at.1)

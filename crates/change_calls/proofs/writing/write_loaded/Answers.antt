@@ -1,134 +1,41 @@
--- What was staged is brought to the gate; or why it was not staged is told.
-use Rattle.std.proofs.Common.{Err, None, Ok, ap, length, max, subst, sym, ℕ, ◌+◌, ◌∙◌, ◌≡◌}
-use Rattle.call_history.specs.Calls.{LeavesSession}
-use Rattle.change_calls.proofs.BroughtChanges.{write_brought}
-use Rattle.change_calls.proofs.Failures.{write_served}
-use Rattle.change_calls.proofs.MovedSessions.{write_moves}
-use Rattle.change_calls.proofs.Replies.{failure_undone}
-use Rattle.change_calls.proofs.Results.{drawn_calm}
-use Rattle.change_calls.proofs.Tried.{brought_tried, stage_goes, stage_undrawn, unstaged_tried}
-use Rattle.change_calls.proofs.Unstaged.{write_by, unstaged_answers, unstaged_failure}
+-- What the stage gave, by its result.
+use Rattle.std.proofs.Common.{ap, sym, ℕ, ◌∙◌, ◌≡◌}
+use Rattle.change_calls.proofs.Slots.{stage_goes}
+use Rattle.change_calls.proofs.StagedChanges.{held, staged_base, staged_changes}
+use Rattle.change_calls.proofs.Unstaged.{write_by}
 use Rattle.change_calls.proofs.writing.write_loaded.Goals as goal
-use Rattle.change_calls.specs.Renewed.{renewal}
+use Rattle.change_calls.specs.Staging.{DataCall, staged_of, writing}
 use Rattle.disk_model.specs.Calls.{GoesOn}
-use Rattle.disk_model.specs.State.{FileState}
-use Rattle.history_seats.specs.Changes.{TagVersions}
-use Rattle.locked_slots.specs.Stages.{write_of}
-use Rattle.object_answers.proofs.Meetings.{at-stays}
-use Rattle.object_answers.specs.Ready.{IsReadyEntry}
-use Rattle.object_answers.specs.Served.{IsServedOrNot}
-use Rattle.object_answers.specs.Serving.{MayBeServed}
-use Rattle.object_commits.specs.Bringing.{IsBrought, IsCommitted}
-use Rattle.node_image.specs.declared.node.RootRef.{RootRef}
-use Rattle.object_slots.specs.Faults.{HasCauses}
+use Rattle.locked_slots.proofs.ChangeAnswers.{live_slots}
 use Rattle.object_slots.specs.Stages.{write_change}
-use Rattle.object_slots.specs.Value.{HeldObject, IsLive, SlotValue}
-use Rattle.store_commit.specs.Changes.{change_of}
-use Rattle.store_model.specs.Machine.{with_handle}
-use Rattle.tee_types.specs.declared.call.Call.TheVariants.{Write}
-use Rattle.tee_types.specs.declared.call.Call.{Call}
-use Rattle.tee_types.specs.declared.reply.Reply.TheVariants.{Done}
+use Rattle.object_slots.specs.Value.{HeldObject, SlotValue}
 
-pub commit_stage-requires-clause-brought : goal.commit_stage-requires-clause-brought
-commit_stage-requires-clause-brought g c =
+pub returns-in_default-clause-goes_on : goal.returns-in_default-clause-goes_on
+returns-in_default-clause-goes_on g c =
+    let old = c.args.slot.now in
+    let new = c.stage_write-given.new.slot in
+    stage_goes old.file new.file (λ (o : HeldObject). write_change o c.args.start c.args.bytes.now) new.holds (c.stage_write-given.new.entropy ≡ c.args.entropy.now) old.holds c.stage_write-given.result
+    c.requires.live c.stage_write-given.ensures.stages
+
+pub returns-clause-base : goal.returns-clause-base
+returns-clause-base g c =
     let store = g.L.StoreName.store in
-    let gate = c.args.gate.now in
-    let knows = gate.journal.knows in
-    let found = c.args.found.now in
-    let e = found.held.entry in
-    let new = c.stage_write.new.slot in
-    let s = record c.args.session.now { entropy = c.stage_write.new.entropy } in
-    let ready : IsReadyEntry store knows c.slot.inside.slot.file c.slot.inside.slot e None = subst (λ (x : SlotValue). IsReadyEntry store knows x.file x e None) (sym c.slot.view_is) c.requires.ready in
-    subst (λ (x : Call × ℕ). (versions : TagVersions) × IsBrought store gate.gate knows new s x.0 Done (change_of (renewal found.held c.in-Ok.root x.1)) versions) (λ i. (sym c.requires.call i, sym c.max-size.ensures i))
-    (write_brought store gate.gate knows gate.closing c.doubt-doubt.ensures.locked c.doubt-doubt.ensures.entries c.requires.idle s
-    (drawn_calm store knows c.args.session.now c.stage_write.new.entropy c.requires.calm) c.args.handle found c.requires.found new ready.version
-    (at-stays knows c.slot.inside.slot new e ready.version c.stage_write.ensures.same ready.at) c.number-number.ensures.holding c.in-Ok.root c.args.bytes.now
-    c.requires.some c.requires.fits (c.in-Ok.ensures.version ready.version ready.at.gives))
+    let old = c.args.slot.now in
+    let new = c.stage_write-given.new.slot in
+    let asked : DataCall = writing c.args.start c.args.bytes.now in
+    let given = live_slots store old c.requires.locked c.requires.live c.requires.calm in
+    staged_base store new asked given.0 (ap (λ (s : SlotValue). s.doubt) c.stage_write-given.ensures.same ∙ c.requires.calm) c.stage_write-given.result (c.stage_write-given.ensures.version given.0 given.1)
 
-pub commit_stage-requires-clause-moved : goal.commit_stage-requires-clause-moved
-commit_stage-requires-clause-moved g c =
-    let gate = c.args.gate.now in
-    let knows = gate.journal.knows in
-    let s = record c.args.session.now { entropy = c.stage_write.new.entropy } in
-    subst (λ (x : Call). LeavesSession g.L.StoreName.store knows s.number x (with_handle s.state c.args.handle (record c.args.found.now.handle { position = c.args.found.now.handle.position + length c.args.bytes.now })))
-    (sym c.requires.call)
-    (write_moves g.L.StoreName.store knows gate.gate.dir.dir.entries gate.gate.open_handles c.doubt-doubt.ensures.machine s
-    (drawn_calm g.L.StoreName.store knows c.args.session.now c.stage_write.new.entropy c.requires.calm) c.args.handle c.args.found.now c.requires.found c.args.bytes.now c.requires.some)
-
-pub tell_unstaged-requires-clause-may : goal.tell_unstaged-requires-clause-may
-tell_unstaged-requires-clause-may g c = λ reply is.
+pub returns-clause-stages : goal.returns-clause-stages
+returns-clause-stages g c = λ v gives.
     let store = g.L.StoreName.store in
-    let gate = c.args.gate.now in
-    let knows = gate.journal.knows in
-    let found = c.args.found.now in
-    let e = found.held.entry in
-    let old = c.slot.inside.slot in
-    let new = c.stage_write.new.slot in
-    let s = record c.args.session.now { entropy = c.stage_write.new.entropy } in
-    let bytes = c.args.bytes.now in
-    let ready : IsReadyEntry store knows old.file old e None = subst (λ (x : SlotValue). IsReadyEntry store knows x.file x e None) (sym c.slot.view_is) c.requires.ready in
+    let old = c.args.slot.now in
+    let new = c.stage_write-given.new.slot in
+    let asked : DataCall = writing c.args.start c.args.bytes.now in
     let goes : GoesOn old.file new.file =
-    stage_goes old.file new.file (λ (o : HeldObject). write_change o c.args.found.now.handle.position c.args.bytes.now) new.holds (c.stage_write.new.entropy ≡ c.entropy_mut.result.now) old.holds (Err c.in-Err.fault) ready.ready.0.live
-    c.in-Err.ensures.stages in
-    subst (λ (x : Call). MayBeServed store gate.gate knows new x reply s) (sym c.requires.call)
-    (write_served store gate.gate knows new s c.requires.idle (drawn_calm store knows c.args.session.now c.stage_write.new.entropy c.requires.calm) c.args.handle found c.requires.found ready.version
-    (at-stays knows old new e ready.version c.stage_write.ensures.same ready.at) reply (failure_undone reply (unstaged_failure new.number c.in-Err.fault reply is)) bytes c.requires.some c.requires.fits
-    (unstaged_answers store old new ready.version ready.ready.0 goes.honest (write_of ready.version.size found.handle.position bytes) found.handle.position (Write c.args.handle bytes)
-    (write_by store old new ready.version ready.ready.0 goes.honest found.handle.position c.args.handle bytes) c.in-Err.fault reply is (c.in-Err.ensures.version ready.version ready.at.gives)))
-
-pub returns-in-Ok-clause-tried : goal.returns-in-Ok-clause-tried
-returns-in-Ok-clause-tried g c =
-    let was = c.args.session.now in
-    let mid = c.stage_write.new.slot in
-    let entropy = c.stage_write.new.entropy in
-    let reliable = g.E.Entropy.is_reliable in
-    let faults = g.E.Entropy.faults in
-    let own : mid.number ≡ c.args.slot.now.number = ap (λ (x : SlotValue). x.number) (c.stage_write.ensures.same ∙ ap (λ (x : SlotValue). record x { file = mid.file; holds = mid.holds }) c.slot.view_is) in
-    let causes =
-    subst (λ (x : FileState × g.row.E.Denot). HasCauses x.0 mid.file (faults x.1) (faults entropy) (reliable x.1) (reliable entropy) (Ok c.in-Ok.root))
-    (λ i. ((c.slot.view_is i).file, c.entropy_mut.ensures.value i)) c.in-Ok.ensures.causes in
-    brought_tried g.F.StoreFile.state g.R.RpmbPort.state reliable faults g.L.StoreName.store c.args.gate.now c.commit_stage.new.gate c.args.slot.now.number mid.number own c.args.slot.now.file mid.file
-    c.commit_stage.new.slot.file c.commit_stage.ensures.file was c.commit_stage.new.session entropy (Write c.args.handle c.args.bytes.now) c.args.found.now.held (max c.args.found.now.held.entry.size (c.args.found.now.handle.position + length c.args.bytes.now)) c.commit_stage.result c.in-Ok.root causes
-    (subst (λ (x : Call × ℕ). IsCommitted g.F.StoreFile.state g.R.RpmbPort.state g.L.StoreName.store c.args.gate.now c.commit_stage.new.gate mid.number (record was { entropy = entropy }) c.commit_stage.new.session x.0 Done
-    (renewal c.args.found.now.held c.in-Ok.root x.1) (reliable entropy) (faults entropy) (faults c.commit_stage.new.session.entropy) c.commit_stage.result) (λ i. (c.requires.call i, c.max-size.ensures i))
-    c.commit_stage.ensures.committed)
-
-pub returns-in-Err-clause-tried : goal.returns-in-Err-clause-tried
-returns-in-Err-clause-tried g c =
-    let was = c.args.session.now in
-    let old = c.slot.inside.slot in
-    let mid = c.stage_write.new.slot in
-    let entropy = c.stage_write.new.entropy in
-    let reliable = g.E.Entropy.is_reliable in
-    let faults = g.E.Entropy.faults in
-    let own : mid.number ≡ c.args.slot.now.number = ap (λ (x : SlotValue). x.number) (c.stage_write.ensures.same ∙ ap (λ (x : SlotValue). record x { file = mid.file; holds = mid.holds }) c.slot.view_is) in
-    let live : IsLive old.holds = subst (λ (x : SlotValue). IsLive x.holds) (sym c.slot.view_is) c.requires.ready.ready.0.live in
-    let causes =
-    subst (λ (x : FileState × g.row.E.Denot). HasCauses x.0 mid.file (faults x.1) (faults entropy) (reliable x.1) (reliable entropy) {A = RootRef} (Err c.in-Err.fault))
-    (λ i. ((c.slot.view_is i).file, c.entropy_mut.ensures.value i)) c.in-Err.ensures.causes in
-    unstaged_tried g.F.StoreFile.state g.R.RpmbPort.state reliable faults g.L.StoreName.store c.args.gate.now c.tell_unstaged.new.gate c.args.slot.now.number mid.number own c.args.slot.now.file mid.file
-    c.tell_unstaged.new.slot.file c.tell_unstaged.ensures.file was c.tell_unstaged.new.session entropy (Write c.args.handle c.args.bytes.now) c.args.found.now.held (max c.args.found.now.held.entry.size (c.args.found.now.handle.position + length c.args.bytes.now)) c.in-Err.fault causes
-    c.tell_unstaged.ensures.entropy
-    (λ is.
-    stage_undrawn old.file mid.file (λ (o : HeldObject). write_change o c.args.found.now.handle.position c.args.bytes.now) mid.holds (entropy ≡ c.entropy_mut.result.now) old.holds c.in-Err.fault live c.in-Err.ensures.stages is
-    ∙ c.entropy_mut.ensures.value)
-    c.tell_unstaged.result
-    (subst (λ (x : Call). IsServedOrNot g.L.StoreName.store c.args.gate.now c.tell_unstaged.new.gate (record was { entropy = entropy }) c.tell_unstaged.new.session mid.number x c.tell_unstaged.result) c.requires.call c.tell_unstaged.ensures.served) c.tell_unstaged.ensures.reply c.tell_unstaged.ensures.memory
-
-pub returns-in-Ok-clause-goes_on : goal.returns-in-Ok-clause-goes_on
-returns-in-Ok-clause-goes_on g c =
-    let old = c.slot.inside.slot in
-    let mid = c.stage_write.new.slot in
-    let live : IsLive old.holds = subst (λ (x : SlotValue). IsLive x.holds) (sym c.slot.view_is) c.requires.ready.ready.0.live in
-    subst (λ (x : FileState × FileState). GoesOn x.0 x.1) (λ i. ((c.slot.view_is i).file, sym c.commit_stage.ensures.file i))
-    (stage_goes old.file mid.file (λ (o : HeldObject). write_change o c.args.found.now.handle.position c.args.bytes.now) mid.holds (c.stage_write.new.entropy ≡ c.entropy_mut.result.now) old.holds (Ok c.in-Ok.root) live
-    c.in-Ok.ensures.stages)
-
-pub returns-in-Err-clause-goes_on : goal.returns-in-Err-clause-goes_on
-returns-in-Err-clause-goes_on g c =
-    let old = c.slot.inside.slot in
-    let mid = c.stage_write.new.slot in
-    let live : IsLive old.holds = subst (λ (x : SlotValue). IsLive x.holds) (sym c.slot.view_is) c.requires.ready.ready.0.live in
-    subst (λ (x : FileState × FileState). GoesOn x.0 x.1) (λ i. ((c.slot.view_is i).file, sym c.tell_unstaged.ensures.file i))
-    (stage_goes old.file mid.file (λ (o : HeldObject). write_change o c.args.found.now.handle.position c.args.bytes.now) mid.holds (c.stage_write.new.entropy ≡ c.entropy_mut.result.now) old.holds (Err c.in-Err.fault) live
-    c.in-Err.ensures.stages)
+    stage_goes old.file new.file (λ (o : HeldObject). write_change o c.args.start c.args.bytes.now) new.holds (c.stage_write-given.new.entropy ≡ c.args.entropy.now) old.holds c.stage_write-given.result
+    c.requires.live c.stage_write-given.ensures.stages in
+    staged_changes store old new asked v c.requires.locked c.requires.live gives goes.honest
+    (λ handle. write_by store old new v (held store old new asked v c.requires.locked c.requires.live gives goes.honest) goes.honest c.args.start handle c.args.bytes.now)
+    c.number.ensures.holding c.stage_write-given.result (c.stage_write-given.ensures.version v gives) c.in-Some.staged
+    (sym c.in-Some.is ∙ c.staged_by.ensures ∙ ap (λ (n : ℕ). staged_of n c.stage_write-given.result) c.number.ensures.number)

@@ -31,9 +31,9 @@ bring-requires-clause-brought g c =
     let slot = c.meet_entry.new.slot in
     subst (λ (x : LockedGateValue g.row.F.Denot g.row.R.Denot × CallerSession g.row.E.Denot × SlotValue).
     (versions : TagVersions) × IsBrought store x.0.gate x.0.journal.knows x.2 x.1 (Delete c.args.handle) Done (change_of (delete_change found)) versions)
-    (λ i. (sym met.gate i, sym met.session i, sym c.free.ensures i)) (
+    (λ i. (sym met.gate i, sym (met.calm c.requires.calm) i, sym c.free.ensures i)) (
       cleared_versions met.at.0,
-      delete-brought store gate.gate gate.journal.knows gate.closing met.known met.entries c.requires.idle c.args.session.now c.requires.calm c.args.handle found c.requires.found.opened
+      delete-brought store gate.gate gate.journal.knows gate.closing c.doubt-doubt.ensures.locked c.doubt-doubt.ensures.entries c.requires.idle c.args.session.now c.requires.calm c.args.handle found c.requires.found.opened
           slot met.locked met.at.0 met.at.1 c.requires.deletes,
     )
 
@@ -44,5 +44,5 @@ bring-requires-clause-moved g c =
     let met = c.meet_entry.ensures in
     subst (λ (x : LockedGateValue g.row.F.Denot g.row.R.Denot × CallerSession g.row.E.Denot).
     LeavesSession store x.0.journal.knows x.1.number (Delete c.args.handle) (moved_by x.1.state (Closes c.args.handle)))
-    (λ i. (sym met.gate i, sym met.session i))
-    (delete-moves store gate.journal.knows gate.gate.dir.dir.entries gate.gate.open_handles met.machine c.args.session.now c.requires.calm c.args.handle c.args.found.now c.requires.found)
+    (λ i. (sym met.gate i, sym (met.calm c.requires.calm) i))
+    (delete-moves store gate.journal.knows gate.gate.dir.dir.entries gate.gate.open_handles c.doubt-doubt.ensures.machine c.args.session.now c.requires.calm c.args.handle c.args.found.now c.requires.found)

@@ -30,9 +30,9 @@ bring-requires-clause-brought g c =
     let same : found.held.entry.app ≡ c.app-app.result = search rules in
     subst (λ (x : LockedGateValue g.row.F.Denot g.row.R.Denot × CallerSession g.row.E.Denot × EntryChange).
     (versions : TagVersions) × IsBrought store x.0.gate x.0.journal.knows slot x.1 (Rename c.args.handle c.args.id) Done (change_of x.2) versions)
-    (λ i. (sym met.gate i, sym met.session i, sym c.change_for.ensures i)) (
+    (λ i. (sym met.gate i, sym (met.calm c.requires.calm) i, sym c.change_for.ensures i)) (
       kept_versions met.at.0,
-      rename-brought store gate.gate gate.journal.knows gate.closing met.known met.entries c.requires.idle c.args.session.now c.requires.calm c.args.handle found c.requires.found.opened
+      rename-brought store gate.gate gate.journal.knows gate.closing c.doubt-doubt.ensures.locked c.doubt-doubt.ensures.entries c.requires.idle c.args.session.now c.requires.calm c.args.handle found c.requires.found.opened
           slot met.locked met.at.0 met.at.1 c.args.id c.requires.renames c.requires.unnamed (same ∙ c.app-app.ensures),
     )
 
@@ -45,8 +45,8 @@ bring-requires-clause-moved g c =
     c.step_for.ensures ∙ ap (λ (a : List ℕ). rename_step c.args.found.now c.args.handle (named a c.args.id)) c.app-app.ensures in
     subst (λ (x : LockedGateValue g.row.F.Denot g.row.R.Denot × CallerSession g.row.E.Denot × SessionMove).
     LeavesSession store x.0.journal.knows x.1.number (Rename c.args.handle c.args.id) (moved_by x.1.state x.2))
-    (λ i. (sym met.gate i, sym met.session i, sym step i))
-    (rename-moves store gate.journal.knows gate.gate.dir.dir.entries gate.gate.open_handles met.machine c.args.session.now c.requires.calm c.args.handle c.args.found.now c.requires.found
+    (λ i. (sym met.gate i, sym (met.calm c.requires.calm) i, sym step i))
+    (rename-moves store gate.journal.knows gate.gate.dir.dir.entries gate.gate.open_handles c.doubt-doubt.ensures.machine c.args.session.now c.requires.calm c.args.handle c.args.found.now c.requires.found
     c.args.id c.requires.unnamed)
 
 pub returns-then-ne-clause-unanswered : goal.returns-then-ne-clause-unanswered

@@ -1,27 +1,33 @@
--- What is known of the object may be told.
-use Rattle.std.proofs.Common.{ℕ, sym, subst}
+-- The slot stands at the entry; what is known of its object is appended.
+use Rattle.std.proofs.Common.{ℕ, ◌≡◌, ◌∙◌, sym, ap, subst}
 use Rattle.disk_model.specs.State.{FileState}
-use Rattle.tee_types.specs.declared.call.Call.TheVariants.{Info}
 use Rattle.tee_types.specs.declared.reply.Reply.{Reply}
 use Rattle.locked_gate.specs.LockedGates.{LockedGateValue}
+use Rattle.object_slots.specs.Value.{SlotValue}
 use Rattle.object_answers.specs.Causes.{HasToldCause}
-use Rattle.object_answers.specs.Serving.{MayBeServed}
-use Rattle.object_answers.proofs.InfoAnswers.{info-served}
+use Rattle.object_answers.specs.Describing.{DescribesEntry}
+use Rattle.object_answers.proofs.Meetings.{at-stays}
 use Rattle.object_answers.proofs.describing.info.Goals as goal
 
-pub tell-requires-clause-may : goal.tell-requires-clause-may
-tell-requires-clause-may g c =
-    let store = g.L.StoreName.store in
-    let gate = c.args.gate.now in
-    let slot = c.describe_entry.new.slot in
-    let reply = c.in_ok-reply.reply in
-    let now = c.describe_entry.new.session in
-    subst (λ (x : LockedGateValue g.row.F.Denot g.row.R.Denot). MayBeServed store x.gate x.journal.knows slot (Info c.args.handle) reply now) (sym c.describe_entry.ensures.gate)
-    (info-served store gate.gate gate.journal.knows c.args.slot.now.file slot c.args.session.now now c.args.handle c.args.found.now reply c.requires.idle c.requires.calm c.requires.found
-    c.in_ok-reply.ensures.describes c.describe_entry.ensures.session)
+pub answer_info-requires-clause-describes : goal.answer_info-requires-clause-describes
+answer_info-requires-clause-describes g c =
+    let knows = c.args.gate.now.journal.knows in
+    let mid = c.meet_entry.new.slot in
+    let new = c.describe_object.new.slot in
+    let found = c.args.found.now in
+    let e = found.held.entry in
+    let at = c.meet_entry.ensures.at in
+    subst (λ (x : LockedGateValue g.row.F.Denot g.row.R.Denot). (was : FileState) × DescribesEntry g.L.StoreName.store x.journal.knows was new e found.handle c.in_ok-reply.reply)
+    (sym c.meet_entry.ensures.gate) (
+      mid.file,
+      record { version = at.0; at = at-stays knows mid new e at.0 c.describe_object.ensures.same at.1; describes = c.in_ok-reply.ensures.describes at.0 at.1.gives },
+    )
 
 pub returns-clause-cause : goal.returns-clause-cause
 returns-clause-cause g c =
-    let was = c.args.slot.now.file in
-    let cause = (c.in_ok-reply.ensures.describes.answers c.args.handle).cause in
-    subst (λ (x : FileState × ℕ × Reply). HasToldCause was x.0 x.1 x.2) (λ i. (sym c.tell.ensures.file i, c.describe_entry.ensures.number i, sym c.tell.ensures.reply i)) cause
+    let at = c.meet_entry.ensures.at in
+    let same : c.meet_entry.new.slot.file ≡ c.args.slot.now.file = c.meet_entry.ensures.file ∙ ap (λ (s : SlotValue). s.file) c.slot.view_is in
+    let number : c.describe_object.new.slot.number ≡ c.args.slot.now.number =
+    ap (λ (s : SlotValue). s.number) c.describe_object.ensures.same ∙ c.meet_entry.ensures.number ∙ ap (λ (s : SlotValue). s.number) c.slot.view_is in
+    subst (λ (x : FileState × FileState × ℕ × Reply). HasToldCause x.0 x.1 x.2 x.3) (λ i. (same i, sym c.answer_info.ensures.file i, number i, sym c.answer_info.ensures.reply i))
+    (c.in_ok-reply.ensures.describes at.0 at.1.gives).cause

@@ -1,5 +1,5 @@
 -- What was loaded is of the version.
-use Rattle.object_answers.proofs.LoadedEntries.{filled-version, gives-still}
+use Rattle.object_answers.proofs.LoadedVersions.{filled-version, gives-still}
 use Rattle.object_answers.proofs.loading.fill_free.Goals as goal
 
 pub returns-then-is_free-clause-version : goal.returns-then-is_free-clause-version

@@ -1,4 +1,4 @@
--- The slot that sees the whole history, and learnt what became of its doubt, may stand behind its lock.
+-- The slot that sees the whole history, and learnt what became of its doubt, may stand behind its lock, and gives what it gave.
 use Rattle.std.proofs.Common.{◌≡◌, Option, Some, refl, sym, ap, ◌∙◌, subst}
 use Rattle.history_seats.specs.Views.{Sight, SlotView}
 use Rattle.history_seats.specs.Rule.{SlotFits}
@@ -10,8 +10,8 @@ use Rattle.locked_slots.specs.Learning.{learned, shown}
 use Rattle.locked_slots.specs.LockedSlots.{IsLockedSlot}
 use Rattle.locked_gate.specs.KnownMachine.{IsSessionAt}
 use Rattle.locked_gate.specs.LockedGates.{LockedGateValue}
-use Rattle.object_answers.specs.Meeting.{met}
-use Rattle.object_answers.proofs.Meetings.{met-locked}
+use Rattle.object_answers.specs.Meeting.{StillGives, met}
+use Rattle.object_answers.proofs.Meetings.{met-gives, met-locked}
 use Rattle.object_answers.proofs.meeting.meet.Goals as goal
 
 pub returns-clause-locked : goal.returns-clause-locked
@@ -31,6 +31,24 @@ returns-clause-locked g c =
     ∙ ap (λ (x : LockedGateValue g.row.F.Denot g.row.R.Denot). learned x.journal.knows c.give_seat.new.self.doubt c.give_seat.new.self) c.show.ensures.same
     ∙ ap (λ (s : SlotValue). learned knows s.doubt s) given in
     subst (IsLockedSlot store) (sym is) (met-locked store knows old lent c.lend_seat-seat.ensures.seat fits c.requires.locked)
+
+pub returns-clause-still : goal.returns-clause-still
+returns-clause-still g c = λ v gives.
+    let store = g.L.StoreName.store in
+    let knows = c.args.gate.now.journal.knows in
+    let old = c.args.slot.now in
+    let lent = c.lend_seat-seat.result in
+    let fits : SlotFits knows lent.knows = (c.show.ensures.agreed.slot lent.knows refl).0 in
+    let given : c.give_seat.new.self ≡ shown knows old =
+    c.give_seat.ensures
+    ∙ ap (λ (s : SlotValue). record s { seat = Some c.in-Some.seat }) c.lend_seat-seat.ensures.slot
+    ∙ ap (λ (o : Option (Sight SlotView)). record old { seat = o }) c.in-Some.ensures.slot
+    ∙ sym (ap (λ (o : Option (Sight SlotView)). shown knows (record old { seat = o })) c.lend_seat-seat.ensures.seat) in
+    let is : c.learn.new.slot ≡ met knows old =
+    c.learn.ensures
+    ∙ ap (λ (x : LockedGateValue g.row.F.Denot g.row.R.Denot). learned x.journal.knows c.give_seat.new.self.doubt c.give_seat.new.self) c.show.ensures.same
+    ∙ ap (λ (s : SlotValue). learned knows s.doubt s) given in
+    subst (λ (s : SlotValue). StillGives old s v) (sym is) (met-gives store knows old lent c.lend_seat-seat.ensures.seat fits c.requires.locked v gives)
 
 pub returns-clause-stands : goal.returns-clause-stands
 returns-clause-stands g c =

@@ -1,51 +1,31 @@
--- The number of the handle may be told, or why the object could not be loaded.
-use Rattle.std.proofs.Common.{◌≡◌, None, sym, ap, ◌∙◌, subst}
-use Rattle.tee_types.specs.declared.call.Call.TheVariants.{Open}
-use Rattle.tee_types.specs.declared.reply.Reply.TheVariants.{Handle as HandleReply}
-use Rattle.call_history.specs.Sessions.{CallerSession}
-use Rattle.object_slots.specs.Value.{SlotValue}
-use Rattle.locked_slots.specs.Fronts.{ShowsAttributes}
-use Rattle.locked_slots.specs.Reads.{GivesVersion}
+-- The slot stands at the entry; its object is loaded, or could not be.
+use Rattle.std.proofs.Common.{ℕ, ◌≡◌, ◌∙◌, sym, ap, subst}
+use Rattle.disk_model.specs.State.{FileState}
+use Rattle.tee_types.specs.declared.reply.Reply.{Reply}
 use Rattle.locked_gate.specs.LockedGates.{LockedGateValue}
+use Rattle.object_slots.specs.Value.{SlotValue}
+use Rattle.object_answers.specs.Causes.{HasToldCause}
 use Rattle.object_answers.specs.Ready.{IsReadyEntry}
-use Rattle.object_answers.specs.Serving.{MayBeServed}
-use Rattle.object_answers.proofs.OpenAnswers.{moved-open, open-served, unopened-served}
+use Rattle.object_answers.proofs.OpenAnswers.{opened-cause}
+use Rattle.object_answers.proofs.ReadyEntries.{ready-at}
 use Rattle.object_answers.proofs.opening.open.Goals as goal
 
-pub tell-requires-clause-may : goal.tell-requires-clause-may
-tell-requires-clause-may g c =
+pub answer_open-requires-clause-ready : goal.answer_open-requires-clause-ready
+answer_open-requires-clause-ready g c =
     let store = g.L.StoreName.store in
-    let gate = c.args.gate.now in
-    let knows = gate.journal.knows in
-    let was = c.args.slot.now.file in
-    let held = c.args.held.now in
-    let slot = c.load_or_reply.new.slot in
-    let now = c.load_or_reply.new.session in
-    let reply = c.in-Some.reply in
-    subst (λ (x : LockedGateValue g.row.F.Denot g.row.R.Denot). MayBeServed store x.gate x.journal.knows slot (Open c.args.id c.args.flags) reply now) (sym c.load_or_reply.ensures.gate)
-    (unopened-served store gate.gate knows was slot c.args.session.now now c.args.id c.args.flags held reply c.requires.idle c.requires.calm c.requires.named c.requires.opens
-    (subst (IsReadyEntry store knows was slot held.entry) c.in-Some.is c.in_ok-reply.ensures.ready) c.load_or_reply.ensures.session)
+    let knows = c.args.gate.now.journal.knows in
+    let mid = c.meet_entry.new.slot in
+    let new = c.load_or_reply.new.slot in
+    let e = c.args.held.now.entry in
+    let at = c.meet_entry.ensures.at in
+    subst (λ (x : LockedGateValue g.row.F.Denot g.row.R.Denot). (was : FileState) × IsReadyEntry store x.journal.knows was new e c.in_ok-unloaded.unloaded) (sym c.meet_entry.ensures.gate)
+    (mid.file, ready-at store knows mid.file mid new e at.0 c.in_ok-unloaded.unloaded at.1 c.load_or_reply.ensures.same (c.in_ok-unloaded.ensures.ready at.0 at.1.gives))
 
-pub tell-requires-2-clause-may : goal.tell-requires-2-clause-may
-tell-requires-2-clause-may g c =
-    let store = g.L.StoreName.store in
-    let gate = c.args.gate.now in
-    let knows = gate.journal.knows in
-    let was = c.args.slot.now.file in
-    let held = c.args.held.now in
-    let slot = c.load_or_reply.new.slot in
-    let before = c.args.session.now in
-    let mid = c.load_or_reply.new.session in
-    let now = c.open-number.new.self in
-    let id = c.args.id in
-    let flags = c.args.flags in
-    let attributes = c.attributes-attributes.result.now in
-    let ready : IsReadyEntry store knows was slot held.entry None = subst (IsReadyEntry store knows was slot held.entry) c.in_default.is c.in_ok-reply.ensures.ready in
-    let gives : GivesVersion c.slot.inside.slot ready.version = subst (λ (s : SlotValue). GivesVersion s ready.version) (sym c.slot.view_is) ready.at.gives in
-    let shows : ShowsAttributes store.keys slot.file ready.version attributes =
-    subst (λ (s : SlotValue). ShowsAttributes store.keys s.file ready.version attributes) c.slot.view_is (c.attributes-attributes.ensures.version ready.version gives) in
-    let next : c.open-number.result ≡ before.state.next_handle =
-    c.open-number.ensures.number ∙ ap (λ (s : CallerSession g.row.E.Denot). s.state.next_handle) c.load_or_reply.ensures.session in
-    subst (λ (x : LockedGateValue g.row.F.Denot g.row.R.Denot). MayBeServed store x.gate x.journal.knows slot (Open id flags) (HandleReply c.open-number.result) now) (sym c.load_or_reply.ensures.gate)
-    (open-served store gate.gate knows was slot before now id flags held c.open-number.result attributes c.requires.idle c.requires.calm c.requires.named c.requires.opens ready shows next
-    (moved-open before mid now c.app.result id flags c.open-number.ensures.opened c.app.ensures c.load_or_reply.ensures.session))
+pub returns-clause-cause : goal.returns-clause-cause
+returns-clause-cause g c =
+    let at = c.meet_entry.ensures.at in
+    let same : c.meet_entry.new.slot.file ≡ c.args.slot.now.file = c.meet_entry.ensures.file ∙ ap (λ (s : SlotValue). s.file) c.slot.view_is in
+    let number : c.load_or_reply.new.slot.number ≡ c.args.slot.now.number =
+    ap (λ (s : SlotValue). s.number) c.load_or_reply.ensures.same ∙ c.meet_entry.ensures.number ∙ ap (λ (s : SlotValue). s.number) c.slot.view_is in
+    subst (λ (x : FileState × FileState × ℕ × Reply). HasToldCause x.0 x.1 x.2 x.3) (λ i. (same i, sym c.answer_open.ensures.file i, number i, sym c.answer_open.ensures.reply i))
+    (opened-cause g.L.StoreName.store c.meet_entry.new.slot.file c.load_or_reply.new.slot at.0 c.in_ok-unloaded.unloaded c.meet_entry.new.session.state (c.in_ok-unloaded.ensures.ready at.0 at.1.gives))

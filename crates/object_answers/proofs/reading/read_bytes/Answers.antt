@@ -7,7 +7,7 @@ use Rattle.object_slots.specs.Value.{IsLive, SlotValue}
 use Rattle.locked_slots.specs.Reads.{ReadsVersion}
 use Rattle.object_answers.specs.Faults.{reply_of_fault}
 use Rattle.object_answers.specs.Reading.{ReadsAnswer}
-use Rattle.object_answers.proofs.LoadedEntries.{gives-still}
+use Rattle.object_answers.proofs.LoadedVersions.{gives-still}
 use Rattle.object_answers.proofs.Meetings.{file-moved}
 use Rattle.object_answers.proofs.ReadAnswers.{content-answer, fault-answer, live-reads}
 use Rattle.object_answers.proofs.reading.read_bytes.Goals as goal

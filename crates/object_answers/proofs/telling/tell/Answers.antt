@@ -1,5 +1,5 @@
 -- The reply that the file gave may be told, the session is as the machine's, and the slot may stand behind its lock again.
-use Rattle.std.proofs.Common.{◌≡◌, ◌<◌, ◌^◌, ℕ, None, Some, sym, ap, ◌∙◌, subst}
+use Rattle.std.proofs.Common.{◌≡◌, ◌<◌, ◌^◌, ℕ, Some, sym, ap, ◌∙◌, subst}
 use Rattle.history_seats.specs.Changes.{slot_renewed}
 use Rattle.history_seats.specs.Views.{GateView, Sight, SlotView}
 use Rattle.call_history.specs.Calls.{IsMovedBy}
@@ -22,10 +22,10 @@ answer_with-place-requires-clause-told g c =
     let slot = c.args.slot.now in
     let s = c.args.session.now in
     let may = c.requires.may in
-    let own : IsLockedSlot store slot = subst (IsLockedSlot store) c.slot.view_is c.slot.invariant in
+    let own : IsLockedSlot store slot = c.requires.locked in
     let low : gate.gate.counter < 2 ^ 32 = subst (λ (n : ℕ). n < 2 ^ 32) c.counter-counter.ensures c.counter-counter.type_inv in
     let lent : c.lend_seat-seat.result ≡ may.at.sees.seat =
-    seat_same c.lend_seat-seat.result may.at.sees.seat (sym c.lend_seat-seat.ensures.seat ∙ ap (λ (x : SlotValue). x.seat) c.slot.view_is ∙ may.at.sees.is) in
+    seat_same c.lend_seat-seat.result may.at.sees.seat (sym c.lend_seat-seat.ensures.seat ∙ may.at.sees.is) in
     subst (λ (x : Sight SlotView). MayBeTold store gate.gate.doubt gate.gate.dir.dir.entries knows x.knows s.number s.made c.args.call c.args.reply) (sym lent)
     (answer-told store gate.gate knows gate.closing c.doubt-doubt.ensures.locked c.doubt-doubt.ensures.entries c.doubt-doubt.ensures.machine low slot own c.args.call c.args.reply s may)
 
@@ -37,29 +37,29 @@ answer_with-place-requires-clause-moved g c =
     let s = c.args.session.now in
     let may = c.requires.may in
     let lent : c.lend_seat-seat.result ≡ may.at.sees.seat =
-    seat_same c.lend_seat-seat.result may.at.sees.seat (sym c.lend_seat-seat.ensures.seat ∙ ap (λ (x : SlotValue). x.seat) c.slot.view_is ∙ may.at.sees.is) in
+    seat_same c.lend_seat-seat.result may.at.sees.seat (sym c.lend_seat-seat.ensures.seat ∙ may.at.sees.is) in
     subst (λ (x : Sight SlotView). IsMovedBy store knows (slot_record store knows x.knows s.number s.made c.args.call c.args.reply) s) (sym lent)
     (answer-moves store knows gate.gate.dir.dir.entries gate.gate.open_handles c.doubt-doubt.ensures.machine may.at.sees.seat.knows c.args.call c.args.reply s may.at.sound.decided_within may.before may.moves)
 
-pub invariant_of-slot : goal.invariant_of-slot
-invariant_of-slot g c =
+pub returns-clause-locked : goal.returns-clause-locked
+returns-clause-locked g c =
     let store = g.L.StoreName.store in
     let gate = c.args.gate.now in
     let knows = gate.journal.knows in
     let slot = c.args.slot.now in
     let s = c.args.session.now in
     let may = c.requires.may in
-    let own : IsLockedSlot store slot = subst (IsLockedSlot store) c.slot.view_is c.slot.invariant in
+    let own : IsLockedSlot store slot = c.requires.locked in
     let low : gate.gate.counter < 2 ^ 32 = subst (λ (n : ℕ). n < 2 ^ 32) c.counter-counter.ensures c.counter-counter.type_inv in
     let lent = c.lend_seat-seat.result in
-    let seat : lent ≡ may.at.sees.seat = seat_same lent may.at.sees.seat (sym c.lend_seat-seat.ensures.seat ∙ ap (λ (x : SlotValue). x.seat) c.slot.view_is ∙ may.at.sees.is) in
+    let seat : lent ≡ may.at.sees.seat = seat_same lent may.at.sees.seat (sym c.lend_seat-seat.ensures.seat ∙ may.at.sees.is) in
     let back : c.answer_with-place.result.1 ≡ answered-seat store knows may.at.sees.seat s.number s.made c.args.call c.args.reply =
     c.answer_with-place.ensures.slot
     ∙ ap (λ (k : GateView). record lent { knows = slot_renewed k lent.knows }) c.answer_with-place.ensures.knows
     ∙ ap (λ (x : Sight SlotView). answered-seat store knows x s.number s.made c.args.call c.args.reply) seat in
     let is : c.give_seat.new.self ≡ record slot { seat = Some (answered-seat store knows may.at.sees.seat s.number s.made c.args.call c.args.reply) } =
     c.give_seat.ensures
-    ∙ ap (λ (x : SlotValue). record x { seat = Some c.answer_with-place.result.1 }) (c.lend_seat-seat.ensures.slot ∙ ap (λ (x : SlotValue). record x { seat = None }) c.slot.view_is)
+    ∙ ap (λ (x : SlotValue). record x { seat = Some c.answer_with-place.result.1 }) c.lend_seat-seat.ensures.slot
     ∙ ap (λ (x : Sight SlotView). record slot { seat = Some x }) back in
     subst (IsLockedSlot store) (sym is)
     (answer-keeps store gate.gate knows gate.closing c.doubt-doubt.ensures.locked c.doubt-doubt.ensures.entries c.doubt-doubt.ensures.machine low slot own c.args.call c.args.reply s may)
@@ -69,8 +69,8 @@ returns-clause-served g c =
     let store = g.L.StoreName.store in
     let slot = c.args.slot.now in
     let lent = c.lend_seat-seat.result in
-    let own : IsLockedSlot store slot = subst (IsLockedSlot store) c.slot.view_is c.slot.invariant in
-    let seat : slot.seat ≡ Some lent = sym (ap (λ (x : SlotValue). x.seat) c.slot.view_is) ∙ c.lend_seat-seat.ensures.seat in
+    let own : IsLockedSlot store slot = c.requires.locked in
+    let seat : slot.seat ≡ Some lent = c.lend_seat-seat.ensures.seat in
     let told = c.answer_with-place.ensures in
     answer-served store c.args.gate.now c.answer_with-place.new.self c.args.session.now c.answer_with-place.new.session lent.knows slot.number c.answer_with-place.result.0 c.args.call c.args.reply c.args.told
     (own-seat store slot lent seat own).own c.requires.copied told.place told.extends told.whole told.session told.knows told.spare told.gate told.notes told.closing

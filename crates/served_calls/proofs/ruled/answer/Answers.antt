@@ -12,4 +12,4 @@ returns-clause-serves g c =
     ruled_serves g.F.StoreFile.state g.R.RpmbPort.state g.E.Entropy.faults g.L.StoreName.store c.args.gate.now done.new.gate c.args.slots.now.items c.args.session.now done.new.session
     c.args.call.now done.result _
     (subst (λ (x : Call). IsServed g.L.StoreName.store x done.result c.args.gate.now done.new.gate c.args.session.now done.new.session) c.in_ok-kept.ensures done.ensures.served)
-    (subst IsPlain (sym done.ensures.reply) c.requires.plain) done.ensures.entropy c.requires.ready.slots_are c.requires.ready.held
+    (subst IsPlain (sym done.ensures.reply) c.requires.plain) done.ensures.entropy c.requires.ready.slots_are

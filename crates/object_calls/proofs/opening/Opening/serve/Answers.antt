@@ -3,7 +3,6 @@ use Rattle.std.specs.Vec.{vec_capacity}
 use Rattle.store_model.specs.declared.event.Event.{Event}
 use Rattle.history_seats.specs.Views.{GateView}
 use Rattle.suppositions.specs.Stores.{Store}
-use Rattle.store_commit.specs.Gates.{GateValue}
 use Rattle.call_history.specs.Journals.{IsJournalOf, JournalValue}
 use Rattle.locked_gate.specs.LockedGates.{IsLockedGate, LockedGateValue}
 use Rattle.mounted_store.specs.MountLaws.{IsFirstView}
@@ -12,8 +11,7 @@ use Rattle.object_calls.specs.Opening.{OpeningValue}
 use Rattle.object_calls.specs.Seats.{IsSplitting}
 use Rattle.object_calls.specs.Serving.{ServesOpening}
 use Rattle.object_calls.specs.Services.{ServiceValue}
-use Rattle.served_calls.specs.Held.{HoldsForDoubt}
-use Rattle.object_calls.proofs.FirstParts.{first_gate, first_journal, first_numbered, first_opens, may_be_first, new-splitting, none_held, none_tagged, room_for_all, told_first}
+use Rattle.object_calls.proofs.FirstParts.{first_gate, first_journal, first_numbered, first_opens, may_be_first, new-splitting, none_tagged, room_for_all, told_first}
 use Rattle.object_calls.proofs.opening.Opening.serve.Goals as goal
 
 pub split_slots-slots-requires-clause-splitting : goal.split_slots-slots-requires-clause-splitting
@@ -70,8 +68,6 @@ invariant_of-result g c =
           many = many;
           numbered = first_numbered store i.gate.dir.dir.entries g.F.StoreFile.state i.files.items slots.items c.split_slots-slots.ensures.slots many;
         };
-        held = subst (λ (x : GateValue g.row.F.Denot g.row.R.Denot). HoldsForDoubt x) (sym (ap (λ (x : LockedGateValue g.row.F.Denot g.row.R.Denot). x.gate) c.new-2.ensures))
-            (none_held i.gate c.self.invariant.0.unheld);
         tagged = none_tagged gate.journal.knows empty;
         keyed = of.keyed.storage;
         few = subst (λ (n : ℕ). n ≤ 16) (i.applications.ok.0 ∙ sym (ap (λ (s : Store). length s.mounted.applications) of.is)) c.self.invariant.3;

@@ -1,0 +1,104 @@
+// The run of a script over devices in memory.
+
+ghost use Rattle.std.specs.Prelude.{◌≡◌, vec_len, IfOk};
+
+use crate::devices::KeptBench;
+use anyhow::{Context, bail};
+use bench_run::{RunEnd, Status, run};
+use sim_bench::simulator_keys;
+use std::alloc::Global;
+use tee_ports::{Entropy, ListEntropy, MemSink, MemSource};
+
+/// How a run ended, what it put, and the devices as it left them.
+#[derive(Drop)]
+pub struct Ran {
+    /// No mount was refused.
+    pub is_done: bool,
+    pub output: String,
+    pub bench: KeptBench,
+}
+
+/// More calls of a device than a run here makes.
+pub const MOST_CALLS: u64 = 64;
+
+/// The stream from which the mounts draw: none that a session has.
+const MOUNTS: u64 = 1_000;
+
+/// A generator that fails at no draw.
+pub fn reliable() -> ListEntropy {
+    ListEntropy::new([0; 16]).stream(MOUNTS)
+}
+
+/// A generator that fails at this draw of the mounts, and at this draw of each session.
+pub fn failing(draw: u64) -> ListEntropy {
+    let mut failing = [0; 16];
+    failing[0] = draw;
+    ListEntropy::new(failing).stream(MOUNTS)
+}
+
+/// A generator that fails at this draw of each session alone: the draws of the mounts are behind the one that fails.
+pub fn failing_sessions(draw: u64) -> ListEntropy {
+    let mut entropy = failing(draw);
+    let mut drawn = [0; 16];
+    for _ in 0..MOST_CALLS {
+        let _ = entropy.draw(&mut drawn);
+    }
+    entropy
+}
+
+// Whether the run was done; else a mount was refused. Any other end is none of a trial.
+fn is_done(status: &Status) -> anyhow::Result<bool> {
+    match status {
+        Status::Done => Ok(true),
+        Status::DeviceFault(_) | Status::MountRefused(_) => Ok(false),
+        _ => bail!("a run that has no end of a trial"),
+    }
+}
+
+/// Runs a script over these devices.
+pub fn try_script(
+    alloc: Global,
+    script: &str,
+    bench: KeptBench,
+    entropy: &mut ListEntropy,
+) -> anyhow::Result<Ran>
+    requires { vec_len bench.files ≡ 273 }
+    ensures { IfOk result (λ ran. vec_len ran.bench.files ≡ 273) }
+{
+    let mut source = MemSource::new(alloc, script.as_bytes(), &[])?;
+    let mut sink = MemSink::new(alloc, 65_536, &[])?;
+    let words = vec![in alloc; String::from_str(alloc, "run")?]?;
+    let keys = simulator_keys();
+    let RunEnd { status, bench } = run(
+        alloc,
+        &words,
+        &mut source,
+        &mut sink,
+        bench,
+        &keys,
+        entropy,
+    );
+    let text = str::from_utf8(sink.bytes()).context("no text")?;
+    Ok(Ran {
+        is_done: is_done(&status)?,
+        output: String::from_str(alloc, text)?,
+        bench,
+    })
+}
+
+/// The same, for a script whose run is done.
+pub fn run_script(
+    alloc: Global,
+    script: &str,
+    bench: KeptBench,
+    entropy: &mut ListEntropy,
+) -> anyhow::Result<Ran>
+    requires { vec_len bench.files ≡ 273 }
+    ensures { IfOk result (λ ran. vec_len ran.bench.files ≡ 273) }
+{
+    let ran = try_script(alloc, script, bench, entropy)?;
+    if !ran.is_done {
+        bail!("a run that is not done: {script}");
+    }
+    Ok(ran)
+}

@@ -1,0 +1,46 @@
+-- What a commit on an object leaves of the session whose call it was.
+use Rattle.std.proofs.Common.{◌≡◌, ◌≤◌, ℕ, subst, sym}
+use Rattle.call_history.specs.Sessions.{CallerSession, session_value}
+use Rattle.disk_model.specs.State.{FileState}
+use Rattle.locked_gate.specs.declared.answered.Answer.{Answer}
+use Rattle.locked_gate.specs.Ends.{mark_told}
+use Rattle.locked_gate.specs.LockedGates.{LockedGateValue}
+use Rattle.object_commits.specs.Bringing.{IsCommitted}
+use Rattle.rpmb_card.specs.Port.{PortState}
+use Rattle.store_commit.specs.Causes.{Counted, counts}
+use Rattle.store_commit.specs.declared.change.EntryChange.{EntryChange}
+use Rattle.store_model.specs.declared.event.Event.TheVariants.{Call as CallEvent}
+use Rattle.suppositions.specs.Sessions.{Extends}
+use Rattle.suppositions.specs.Stores.{Store}
+use Rattle.tee_types.specs.declared.call.Call.{Call}
+use Rattle.tee_types.specs.declared.reply.Reply.{Reply}
+use Rattle.shared_calls.specs.Counts.{Grows}
+use Rattle.shared_calls.specs.Rounds.{IsAnswered}
+use Rattle.shared_calls.proofs.Counting.{end-grows, end-still, grows-le, grows-then}
+
+module _ {F R E : Type 0} (of_file : F → FileState) (of_port : R → PortState) (draws : E → ℕ) (store : Store) (old new : LockedGateValue F R) (file : ℕ) (was now : CallerSession E) (call : Call) (own : Reply)
+    (change : EntryChange) (Reliable : Type 0) (answer : Answer) (c : IsCommitted of_file of_port store old new file was now call own change Reliable (draws was.entropy) (draws now.entropy) answer) where
+  -- the call is answered by how its commit ended
+  pub committed-answers : IsAnswered store was now call answer
+  committed-answers = record {
+    mark = mark_told c.end;
+    extends = subst (λ (r : Reply). Extends store (session_value was) (session_value now) (CallEvent was.number was.made call r (mark_told c.end)) answer.place) (sym c.reply) c.extends;
+    whole = c.whole;
+    number = c.number;
+    made = c.made;
+  }
+
+  abbrev before : Counted
+  before = counts (of_file old.gate.dir.file) (of_port old.gate.host.port) (draws was.entropy)
+
+  abbrev behind : Counted
+  behind = counts (of_file new.gate.dir.file) (of_port new.gate.host.port) (draws now.entropy)
+
+  -- since a count that was no higher
+  pub committed-grows : (first : ℕ) → first ≤ draws was.entropy → Grows first (draws now.entropy)
+  committed-grows first counted =
+      grows-then first (draws was.entropy) (draws now.entropy) (grows-le first (draws was.entropy) counted) (end-grows before behind c.end c.gate.counts_are)
+
+  -- where no generator that never fails was used, its count stands still
+  pub committed-still : Reliable → draws now.entropy ≡ draws was.entropy
+  committed-still reliable = end-still before behind c.end (c.gate.drawn reliable) c.gate.counts_are

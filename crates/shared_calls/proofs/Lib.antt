@@ -1,0 +1,10 @@
+pub mod Waiting
+pub mod Served
+pub mod GivenVersions
+pub mod ReadObjects
+pub mod DescribedObjects
+pub mod OpenedObjects
+pub mod Counting
+pub mod CommittedCalls
+pub mod CommitDraws
+pub mod FinishedCreates

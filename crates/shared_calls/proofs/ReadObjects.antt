@@ -1,0 +1,29 @@
+-- What was read of a slot's object is of the version that the slot gives, and of the entry's once the slot is shown the history again.
+use Rattle.std.proofs.Common.{◌≡◌, ℕ, Err, IfOk, Ok, Result}
+use Rattle.dir_records.specs.declared.entry.DirEntry.{DirEntry}
+use Rattle.disk_model.specs.State.{FileState}
+use Rattle.history_seats.specs.Records.{Version}
+use Rattle.history_seats.specs.Views.{GateView}
+use Rattle.locked_slots.specs.Fills.{GivesEntry}
+use Rattle.locked_slots.specs.Reads.{GivesVersion}
+use Rattle.object_answers.specs.Meeting.{StillGives}
+use Rattle.object_answers.specs.Reading.{ReadsAnswer, ReadsEntry}
+use Rattle.object_answers.proofs.MetAgain.{reads-again}
+use Rattle.object_slots.specs.Value.{SlotValue}
+use Rattle.suppositions.specs.Stores.{Store}
+use Rattle.tee_types.specs.declared.reply.Reply.{Reply}
+use Rattle.shared_calls.specs.Meeting.{IsMet}
+use Rattle.shared_calls.specs.Reading.{HasRead}
+use Rattle.shared_calls.proofs.GivenVersions.{gives-moved}
+
+module _ {X : Type 0} (store : Store) (old new : SlotValue) (e : DirEntry) (at count : ℕ) (given : GivesEntry old e) (same : new ≡ record old { file = new.file; holds = new.holds }) where
+  pub has-read : (result : Result Reply X) → ((v : Version) → GivesVersion old v → IfOk result (ReadsAnswer store old.file new v at count)) → IfOk result (HasRead store new at count)
+  has-read (Ok reply) reads =
+      record { version = given.version; gives = gives-moved old new given.version same given.gives; was = old.file; reads = reads given.version given.gives }
+  has-read (Err none) reads = tt
+
+-- it is of the entry at which the slot stands now
+pub read-entry : (store : Store) (knows : GateView) (old new : SlotValue) (e : DirEntry) (at count : ℕ) (reply : Reply) → HasRead store old at count reply
+    → ((v : Version) → GivesVersion old v → StillGives old new v) → IsMet knows new e → (was : FileState) × ReadsEntry store knows was new e at count reply
+read-entry store knows old new e at count reply read still met =
+    (read.was, reads-again store knows read.was old new e read.version met.version (still read.version read.gives) met.at at count reply read.reads)

@@ -1,0 +1,14 @@
+-- What an object's slot served, as a call that was answered.
+use Rattle.std.proofs.Common.{ℕ}
+use Rattle.call_history.specs.Sessions.{CallerSession}
+use Rattle.locked_gate.specs.declared.answered.Answer.{Answer}
+use Rattle.locked_gate.specs.LockedGates.{LockedGateValue}
+use Rattle.object_answers.specs.Served.{IsServed}
+use Rattle.store_model.specs.declared.event.Mark.TheVariants.{Unchanged}
+use Rattle.suppositions.specs.Stores.{Store}
+use Rattle.tee_types.specs.declared.call.Call.{Call}
+use Rattle.shared_calls.specs.Rounds.{IsAnswered}
+
+pub slot-answers : {E F R : Type 0} (store : Store) (call : Call) (was now : CallerSession E) (answer : Answer) (old new : LockedGateValue F R) (file : ℕ) → IsServed store old new was now file call answer
+    → IsAnswered store was now call answer
+slot-answers store call was now answer old new file s = record { mark = Unchanged; extends = s.extends; whole = s.whole; number = s.extends.number; made = s.made }

@@ -1,0 +1,20 @@
+-- The create was answered, or has to be begun again.
+use Rattle.std.proofs.Common.{◌≡◌, Ok, subst}
+use Rattle.std.specs.declared.alloc.AllocError.{AllocError}
+use Rattle.call_rules.specs.declared.decision.NewPlace.{NewPlace}
+use Rattle.tee_types.specs.declared.call.Call.TheVariants.{Create}
+use Rattle.shared_calls.specs.declared.look.Look.{Look}
+use Rattle.shared_calls.specs.Looks.{EndsLook}
+use Rattle.shared_calls.specs.Rounds.{IsWaiting}
+use Rattle.shared_calls.proofs.FinishedCreates.{finish-ends}
+use Rattle.shared_calls.proofs.creating.look_last.Goals as goal
+
+pub returns-clause-ends : goal.returns-clause-ends
+returns-clause-ends g c =
+    let store = g.L.StoreName.store in
+    let call = Create c.args.id c.args.flags c.args.attributes.now c.args.bytes.now in
+    let was = c.args.session.now in
+    let between = c.look.new.session in
+    let looked : IsWaiting store was between =
+    subst (λ (x : Look NewPlace). EndsLook {X = Unit {0}} store was between call (Ok x)) c.in-Ok-Found.field-0-is c.in-Ok-Found.ensures.ends in
+    finish-ends AllocError store was between c.finish_slot.new.session looked call c.finish_slot.result c.finish_slot.ensures.answered c.finish_slot.ensures.waits

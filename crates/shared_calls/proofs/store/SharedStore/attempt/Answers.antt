@@ -1,0 +1,16 @@
+-- The round follows the look at the gate.
+use Rattle.std.proofs.Common.{ℕ, subst, Ok}
+use Rattle.shared_calls.specs.declared.look.Look.{Look}
+use Rattle.shared_calls.specs.Looks.{EndsLook}
+use Rattle.shared_calls.proofs.Waiting.{ends-then}
+use Rattle.shared_calls.proofs.store.SharedStore.attempt.Goals as goal
+
+pub returns-clause-ends : goal.returns-clause-ends
+returns-clause-ends g c =
+    let store = g.L.StoreName.store in
+    let call = c.args.call.now in
+    let was = c.args.session.now in
+    let between = c.file_of.new.session in
+    ends-then store was between c.round.new.session
+    (subst (λ (x : Look ℕ). EndsLook {X = Unit {0}} store was between call (Ok x)) c.in-Found.is c.in_ok-looked.ensures.ends)
+    call c.round.result c.round.ensures.ends

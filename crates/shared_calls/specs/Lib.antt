@@ -1,0 +1,11 @@
+pub mod Rounds
+pub mod Ready
+pub mod Looks
+pub mod Meeting
+pub mod Reading
+pub mod Describing
+pub mod Opening
+pub mod Telling
+pub mod Naming
+pub mod Creating
+pub mod Counts

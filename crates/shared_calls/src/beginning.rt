@@ -1,0 +1,44 @@
+//! How each look of a call at the gate begins.
+
+ghost use Rattle.std.specs.Prelude.{◌≡◌, ◌≤◌, true, IfOk, IsNone};
+ghost use Rattle.call_history.specs.Sessions.{IsCallerOf};
+ghost use Rattle.gate_calls.specs.Rulings.{is_on_object};
+ghost use Rattle.shared_calls.specs.Ready.{IsReady};
+ghost use Rattle.shared_calls.specs.Rounds.{EndsRound};
+
+use call_history::Session;
+use gate_calls::answer_alone;
+use locked_gate::{Answer, LockedGate};
+use rpmb_card::RpmbPort;
+use std::alloc::Global;
+use suppositions::StoreName;
+use tee_ports::{Entropy, StoreFile};
+use tee_types::{Call, NoMemory};
+
+/// Makes room, and serves a call as far as the gate does alone: the answer, or none where the call is on an object. Then the gate is ready
+/// for it.
+///
+/// # Errors
+///
+/// Memory ran out. The session has no event more.
+pub(crate) fn begin<F: StoreFile + Drop, R: RpmbPort + Drop, L: StoreName, E: Entropy>(
+    alloc: Global,
+    gate: &mut LockedGate<F, R, L>,
+    session: &mut Session<E>,
+    call: &Call,
+) -> Result<Option<Answer>, NoMemory>
+    requires caller { IsCallerOf L.store session.old }
+    ensures ends { EndsRound L.store session.old session.new call.now result }
+    ensures ready { IfOk result (λ answer. IsNone answer → IsReady L.store gate.new session.new) }
+    ensures on { IfOk result (λ answer. IsNone answer → is_on_object call.now ≡ true) }
+    ensures counted { E.faults session.old.entropy ≤ E.faults session.new.entropy }
+    ensures reliable { E.is_reliable session.old.entropy → E.is_reliable session.new.entropy }
+    ensures still { E.is_reliable session.old.entropy → E.faults session.new.entropy ≡ E.faults session.old.entropy }
+{
+    gate.reserve()?;
+    if let Some(answer) = answer_alone(alloc, gate, session, call)? {
+        return Ok(Some(answer));
+    }
+    gate.reserve()?;
+    Ok(None)
+}

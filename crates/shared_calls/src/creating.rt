@@ -1,0 +1,409 @@
+//! TEE_CreatePersistentObject, with the gate's lock taken for each look alone.
+
+ghost use Rattle.std.specs.Prelude.{◌≡◌, ◌≤◌, ℕ, length, true, IfOk, IfSome, IsNone, IsSome, OnErr};
+ghost use Rattle.tee_types.specs.declared.call.Call.TheVariants.{Create};
+ghost use Rattle.hmac_keys.specs.KeyTable.{ssk};
+ghost use Rattle.locked_slots.specs.LockedSlots.{IsLockedSlot};
+ghost use Rattle.call_history.specs.Sessions.{IsCallerOf};
+ghost use Rattle.create_calls.specs.Clearing.{IsClearSlot};
+ghost use Rattle.create_calls.specs.Finished.{MayTellIfUnmade};
+ghost use Rattle.create_calls.specs.Reserving.{IsReserved};
+ghost use Rattle.create_calls.specs.Rules.{MayCreate};
+ghost use Rattle.shared_calls.specs.Counts.{Grows};
+ghost use Rattle.shared_calls.specs.Creating.{AccusesAtMost, HasMade};
+ghost use Rattle.shared_calls.specs.Looks.{EndsLook, IfFound};
+ghost use Rattle.shared_calls.specs.Ready.{IsReady};
+ghost use Rattle.shared_calls.specs.Rounds.{EndsRound, IsAnswered, IsWaiting};
+
+use crate::beginning::begin;
+use crate::look::Look;
+use call_history::Session;
+use call_rules::{Decision, NewPlace};
+use create_calls::{
+    Unmade, call_of, clear, finish, give_back, give_up, make_unless_spent, reserve,
+};
+use gate_calls::answer_ruled;
+use hmac_keys::tsk;
+use locked_gate::{Answer, LockedGate};
+use locked_slots::LockedSlot;
+use node_image::RootRef;
+use object_slots::Slot;
+use rpmb_card::RpmbPort;
+use std::alloc::Global;
+use std::sync::{Mutex, Wait};
+use suppositions::StoreName;
+use tee_ports::{Entropy, StoreFile};
+use tee_types::{Bytes, Call, Flags, NoMemory, ObjectId};
+
+// What the rules make of a Create at the gate: its answer, or the place of the entry of its object. `call` is that Create.
+fn rule<F: StoreFile + Drop, R: RpmbPort + Drop, L: StoreName, E: Entropy>(
+    alloc: Global,
+    gate: &mut LockedGate<F, R, L>,
+    session: &mut Session<E>,
+    call: &Call,
+    id: ObjectId,
+    flags: Flags,
+    attributes: &Bytes,
+    bytes: &Bytes,
+) -> Result<Look<NewPlace>, NoMemory>
+    requires caller { IsCallerOf L.store session.old }
+    requires call { call.now ≡ Create id flags attributes.now bytes.now }
+    ensures ends { EndsLook L.store session.old session.new (Create id flags attributes.now bytes.now) result }
+    ensures ready { IfFound result (λ place. IsReady L.store gate.new session.new) }
+    ensures may { IfFound result (MayCreate gate.new.gate.dir.dir.entries gate.new.gate.open_handles session.new.state
+        (record { id = id; flags = flags; attributes = attributes.now; bytes = bytes.now })) }
+    ensures counted { E.faults session.old.entropy ≤ E.faults session.new.entropy }
+    ensures reliable { E.is_reliable session.old.entropy → E.is_reliable session.new.entropy }
+    ensures still { E.is_reliable session.old.entropy → E.faults session.new.entropy ≡ E.faults session.old.entropy }
+{
+    if let Some(answer) = begin(alloc, gate, session, call)? {
+        return Ok(Look::Answered(answer));
+    }
+    match call_rules::create(&*gate, session.state(), id, flags, attributes, bytes) {
+        Decision::Answered(reply) => {
+            let kept = call.copy(alloc)?;
+            Ok(Look::Answered(answer_ruled(gate, session, kept, reply)))
+        }
+        Decision::Needs(place) => Ok(Look::Found(place)),
+    }
+}
+
+// What a Create finds at the gate: its answer, or the place of the entry of its object. Then the gate is ready for it. The session holds no
+// file any more, unless a commit is in doubt. `call` is that Create.
+fn look<F: StoreFile + Drop, R: RpmbPort + Drop, L: StoreName, E: Entropy>(
+    alloc: Global,
+    gate: &mut LockedGate<F, R, L>,
+    session: &mut Session<E>,
+    call: &Call,
+    id: ObjectId,
+    flags: Flags,
+    attributes: &Bytes,
+    bytes: &Bytes,
+) -> Result<Look<NewPlace>, NoMemory>
+    requires caller { IsCallerOf L.store session.old }
+    requires few { length L.store.mounted.applications ≤ 16 }
+    requires call { call.now ≡ Create id flags attributes.now bytes.now }
+    ensures ends { EndsLook L.store session.old session.new (Create id flags attributes.now bytes.now) result }
+    ensures ready { IfFound result (λ place. IsReady L.store gate.new session.new) }
+    ensures may { IfFound result (MayCreate gate.new.gate.dir.dir.entries gate.new.gate.open_handles session.new.state
+        (record { id = id; flags = flags; attributes = attributes.now; bytes = bytes.now })) }
+    ensures counted { E.faults session.old.entropy ≤ E.faults session.new.entropy }
+    ensures reliable { E.is_reliable session.old.entropy → E.is_reliable session.new.entropy }
+    ensures still { E.is_reliable session.old.entropy → E.faults session.new.entropy ≡ E.faults session.old.entropy }
+{
+    let number = session.number();
+    let looked = rule(alloc, gate, session, call, id, flags, attributes, bytes);
+    give_back(gate, number);
+    looked
+}
+
+/// What a Create finds at the gate first: its answer, or the number of the file in which it makes its object. The session holds that file
+/// then. `call` is that Create.
+///
+/// # Errors
+///
+/// Memory ran out. The session has no event more.
+pub(crate) fn look_for_file<F: StoreFile + Drop, R: RpmbPort + Drop, L: StoreName, E: Entropy>(
+    alloc: Global,
+    gate: &mut LockedGate<F, R, L>,
+    session: &mut Session<E>,
+    call: &Call,
+    id: ObjectId,
+    flags: Flags,
+    attributes: &Bytes,
+    bytes: &Bytes,
+) -> Result<Look<u16>, NoMemory>
+    requires caller { IsCallerOf L.store session.old }
+    requires few { length L.store.mounted.applications ≤ 16 }
+    requires call { call.now ≡ Create id flags attributes.now bytes.now }
+    ensures ends { EndsLook L.store session.old session.new (Create id flags attributes.now bytes.now) result }
+    ensures reserved { IfFound result (IsReserved gate.new.gate session.new.number) }
+    ensures counted { E.faults session.old.entropy ≤ E.faults session.new.entropy }
+    ensures reliable { E.is_reliable session.old.entropy → E.is_reliable session.new.entropy }
+    ensures still { E.is_reliable session.old.entropy → E.faults session.new.entropy ≡ E.faults session.old.entropy }
+{
+    match look(alloc, gate, session, call, id, flags, attributes, bytes)? {
+        Look::Answered(answer) => Ok(Look::Answered(answer)),
+        Look::Found(_place) => Ok(Look::Found(reserve(gate, session))),
+        Look::Again => Ok(Look::Again),
+    }
+}
+
+// Clears the slot, where it is that of the least free file, which the session holds then; and gives the card's counter. None where the slot
+// is another file's, which stays as it is.
+fn clear_slot<F: StoreFile + Drop, R: RpmbPort + Drop, L: StoreName, E: Entropy>(
+    gate: &mut LockedGate<F, R, L>,
+    slot: &mut Slot<F>,
+    session: &mut Session<E>,
+) -> Option<u32>
+    requires ready { IsReady L.store gate.old session.old }
+    requires few { length L.store.mounted.applications ≤ 16 }
+    requires locked { IsLockedSlot L.store slot.old }
+    ensures session { session.new ≡ session.old }
+    ensures clear { IsSome result → IsClearSlot L.store slot.new }
+    ensures locked { IsLockedSlot L.store slot.new }
+{
+    if reserve(gate, session) != slot.number() {
+        give_back(gate, session.number());
+        return None;
+    }
+    clear(gate, slot, session);
+    Some(gate.counter())
+}
+
+// The first look: the slot is cleared, so that the object may be made in it. Gives the card's counter.
+fn look_first<F: StoreFile + Drop, R: RpmbPort + Drop, L: StoreName, E: Entropy>(
+    alloc: Global,
+    gate: &mut LockedGate<F, R, L>,
+    slot: &mut Slot<F>,
+    session: &mut Session<E>,
+    call: &Call,
+    id: ObjectId,
+    flags: Flags,
+    attributes: &Bytes,
+    bytes: &Bytes,
+) -> Result<Look<u32>, NoMemory>
+    requires caller { IsCallerOf L.store session.old }
+    requires few { length L.store.mounted.applications ≤ 16 }
+    requires locked { IsLockedSlot L.store slot.old }
+    requires call { call.now ≡ Create id flags attributes.now bytes.now }
+    ensures ends { EndsLook L.store session.old session.new (Create id flags attributes.now bytes.now) result }
+    ensures clear { IfFound result (λ counter. IsClearSlot L.store slot.new) }
+    ensures fits { IfFound result (λ counter. (length attributes.now ≤ 2048) × (length bytes.now ≤ 1044480)) }
+    ensures locked { IsLockedSlot L.store slot.new }
+    ensures counted { E.faults session.old.entropy ≤ E.faults session.new.entropy }
+    ensures reliable { E.is_reliable session.old.entropy → E.is_reliable session.new.entropy }
+    ensures still { E.is_reliable session.old.entropy → E.faults session.new.entropy ≡ E.faults session.old.entropy }
+{
+    match look(alloc, gate, session, call, id, flags, attributes, bytes)? {
+        Look::Answered(answer) => return Ok(Look::Answered(answer)),
+        Look::Found(_place) => {}
+        Look::Again => return Ok(Look::Again),
+    }
+    match clear_slot(gate, slot, session) {
+        Some(counter) => Ok(Look::Found(counter)),
+        None => Ok(Look::Again),
+    }
+}
+
+// Makes the object in the slot, unless the card's counter, which stands there, is at its end. The gate's lock is not taken.
+fn make_slot<F: StoreFile + Drop, L: StoreName, E: Entropy>(
+    alloc: Global,
+    counter: u32,
+    slot: &mut Slot<F>,
+    storage_key: &[u8; 32],
+    session: &mut Session<E>,
+    attributes: &Bytes,
+    bytes: &Bytes,
+) -> Result<Result<RootRef, Unmade>, NoMemory>
+    requires caller { IsCallerOf L.store session.old }
+    requires clear { IsClearSlot L.store slot.old }
+    requires keyed { storage_key.now ≡ ssk L.store.keys.huk L.store.keys.chip }
+    requires fits { (length attributes.now ≤ 2048) × (length bytes.now ≤ 1044480) }
+    ensures waits { IsWaiting L.store session.old session.new }
+    ensures made { IfOk result (HasMade L.store slot.new session.new.state.application attributes.now bytes.now) }
+    ensures locked { OnErr result (IsLockedSlot L.store slot.new) }
+    ensures counted { Grows (E.faults session.old.entropy) (E.faults session.new.entropy) }
+    ensures reliable { E.is_reliable session.old.entropy → E.is_reliable session.new.entropy }
+    ensures still { E.is_reliable session.old.entropy → E.faults session.new.entropy ≡ E.faults session.old.entropy }
+{
+    let key = tsk(storage_key, &session.app().bytes());
+    make_unless_spent::<F, L, E>(alloc, counter, slot, session, &key, attributes, bytes)
+}
+
+// Whether what making the object gave may be told at that counter. That the counter is at its end is told only while it is.
+fn may_tell(counter: u32, made: &Result<RootRef, Unmade>) -> bool
+    ensures { result ≡ true → (file : ℕ) → AccusesAtMost file made.now → MayTellIfUnmade counter file made.now }
+{
+    match made {
+        Err(Unmade::Spent) => counter == u32::MAX,
+        _ => true,
+    }
+}
+
+// Brings the object that was made to the gate, or tells why there is none, where the slot is that of the least free file still. Else the
+// object goes, and the call has to begin again. Behind it the session holds no file, unless the commit is in doubt.
+fn finish_slot<F: StoreFile + Drop, R: RpmbPort + Drop, L: StoreName, E: Entropy>(
+    gate: &mut LockedGate<F, R, L>,
+    slot: &mut Slot<F>,
+    session: &mut Session<E>,
+    place: &NewPlace,
+    call: Call,
+    id: ObjectId,
+    flags: Flags,
+    attributes: &Bytes,
+    bytes: &Bytes,
+    made: Result<RootRef, Unmade>,
+) -> Option<Answer>
+    requires ready { IsReady L.store gate.old session.old }
+    requires few { length L.store.mounted.applications ≤ 16 }
+    requires may { MayCreate gate.old.gate.dir.dir.entries gate.old.gate.open_handles session.old.state
+        (record { id = id; flags = flags; attributes = attributes.now; bytes = bytes.now }) place.now }
+    requires call { call ≡ Create id flags attributes.now bytes.now }
+    requires made { HasMade L.store slot.old session.old.state.application attributes.now bytes.now made }
+    ensures answered { IfSome result (IsAnswered L.store session.old session.new (Create id flags attributes.now bytes.now)) }
+    ensures waits { IsNone result → session.new ≡ session.old }
+    ensures locked { IsLockedSlot L.store slot.new }
+    ensures counted { Grows (E.faults session.old.entropy) (E.faults session.new.entropy) }
+    ensures reliable { E.is_reliable session.old.entropy → E.is_reliable session.new.entropy }
+    ensures still { E.is_reliable session.old.entropy → E.faults session.new.entropy ≡ E.faults session.old.entropy }
+{
+    let number = session.number();
+    let file = reserve(gate, session);
+    if file != slot.number() || !may_tell(gate.counter(), &made) {
+        give_back(gate, number);
+        give_up::<F, L>(slot);
+        return None;
+    }
+    let answer = finish(
+        gate, slot, session, place, call, id, flags, attributes, bytes, made,
+    );
+    give_back(gate, number);
+    Some(answer)
+}
+
+// The last look: where the rules let the create pass still, it ends with what making the object gave; else the object goes.
+fn look_last<F: StoreFile + Drop, R: RpmbPort + Drop, L: StoreName, E: Entropy>(
+    alloc: Global,
+    gate: &mut LockedGate<F, R, L>,
+    slot: &mut Slot<F>,
+    session: &mut Session<E>,
+    call: Call,
+    id: ObjectId,
+    flags: Flags,
+    attributes: &Bytes,
+    bytes: &Bytes,
+    made: Result<RootRef, Unmade>,
+) -> Result<Option<Answer>, NoMemory>
+    requires caller { IsCallerOf L.store session.old }
+    requires few { length L.store.mounted.applications ≤ 16 }
+    requires call { call ≡ Create id flags attributes.now bytes.now }
+    requires made { HasMade L.store slot.old session.old.state.application attributes.now bytes.now made }
+    ensures ends { EndsRound L.store session.old session.new (Create id flags attributes.now bytes.now) result }
+    ensures locked { IsLockedSlot L.store slot.new }
+    ensures counted { Grows (E.faults session.old.entropy) (E.faults session.new.entropy) }
+    ensures reliable { E.is_reliable session.old.entropy → E.is_reliable session.new.entropy }
+    ensures still { E.is_reliable session.old.entropy → E.faults session.new.entropy ≡ E.faults session.old.entropy }
+{
+    let place = match look(alloc, gate, session, &call, id, flags, attributes, bytes) {
+        Ok(Look::Found(place)) => place,
+        Ok(Look::Answered(answer)) => {
+            give_up::<F, L>(slot);
+            return Ok(Some(answer));
+        }
+        Ok(Look::Again) => {
+            give_up::<F, L>(slot);
+            return Ok(None);
+        }
+        Err(none) => {
+            give_up::<F, L>(slot);
+            return Err(none);
+        }
+    };
+    Ok(finish_slot(
+        gate, slot, session, &place, call, id, flags, attributes, bytes, made,
+    ))
+}
+
+// A round with the slot itself, which has a stage between the looks.
+fn round_slot<W: Wait, F: StoreFile + Drop, R: RpmbPort + Drop, L: StoreName, E: Entropy>(
+    rt: &W,
+    alloc: Global,
+    gate: &Mutex<LockedGate<F, R, L>>,
+    slot: &mut Slot<F>,
+    storage_key: &[u8; 32],
+    session: &mut Session<E>,
+    id: ObjectId,
+    flags: Flags,
+    attributes: &Bytes,
+    bytes: &Bytes,
+) -> Result<Option<Answer>, NoMemory>
+    requires caller { IsCallerOf L.store session.old }
+    requires few { length L.store.mounted.applications ≤ 16 }
+    requires keyed { storage_key.now ≡ ssk L.store.keys.huk L.store.keys.chip }
+    requires locked { IsLockedSlot L.store slot.old }
+    ensures ends { EndsRound L.store session.old session.new (Create id flags attributes.now bytes.now) result }
+    ensures locked { IsLockedSlot L.store slot.new }
+    ensures counted { Grows (E.faults session.old.entropy) (E.faults session.new.entropy) }
+    ensures reliable { E.is_reliable session.old.entropy → E.is_reliable session.new.entropy }
+    ensures still { E.is_reliable session.old.entropy → E.faults session.new.entropy ≡ E.faults session.old.entropy }
+{
+    let call = call_of(alloc, id, flags, attributes, bytes)?;
+    let looked = look_first(
+        alloc,
+        &mut gate.lock(rt),
+        slot,
+        session,
+        &call,
+        id,
+        flags,
+        attributes,
+        bytes,
+    )?;
+    let counter = match looked {
+        Look::Answered(answer) => return Ok(Some(answer)),
+        Look::Found(counter) => counter,
+        Look::Again => return Ok(None),
+    };
+    let made = make_slot::<F, L, E>(
+        alloc,
+        counter,
+        slot,
+        storage_key,
+        session,
+        attributes,
+        bytes,
+    )?;
+    look_last(
+        alloc,
+        &mut gate.lock(rt),
+        slot,
+        session,
+        call,
+        id,
+        flags,
+        attributes,
+        bytes,
+        made,
+    )
+}
+
+/// A round of a Create, with the lock of the slot of the file that `look_for_file` gave: two looks at the gate, and between them the object
+/// is made. None where the call has to begin again. What was made and is not brought to the gate is let go.
+///
+/// # Errors
+///
+/// Memory ran out. The session has no event more.
+pub(crate) fn round<W: Wait, F: StoreFile + Drop, R: RpmbPort + Drop, L: StoreName, E: Entropy>(
+    rt: &W,
+    alloc: Global,
+    gate: &Mutex<LockedGate<F, R, L>>,
+    slot: &mut LockedSlot<F, L>,
+    storage_key: &[u8; 32],
+    session: &mut Session<E>,
+    id: ObjectId,
+    flags: Flags,
+    attributes: &Bytes,
+    bytes: &Bytes,
+) -> Result<Option<Answer>, NoMemory>
+    requires caller { IsCallerOf L.store session.old }
+    requires few { length L.store.mounted.applications ≤ 16 }
+    requires keyed { storage_key.now ≡ ssk L.store.keys.huk L.store.keys.chip }
+    ensures ends { EndsRound L.store session.old session.new (Create id flags attributes.now bytes.now) result }
+    ensures counted { Grows (E.faults session.old.entropy) (E.faults session.new.entropy) }
+    ensures reliable { E.is_reliable session.old.entropy → E.is_reliable session.new.entropy }
+    ensures still { E.is_reliable session.old.entropy → E.faults session.new.entropy ≡ E.faults session.old.entropy }
+{
+    round_slot(
+        rt,
+        alloc,
+        gate,
+        &mut slot.slot,
+        storage_key,
+        session,
+        id,
+        flags,
+        attributes,
+        bytes,
+    )
+}

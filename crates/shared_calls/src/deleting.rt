@@ -1,0 +1,119 @@
+//! TEE_CloseAndDeletePersistentObject1, at one look at the gate.
+
+ghost use Rattle.std.specs.Prelude.{◌≡◌, ◌≤◌};
+ghost use Rattle.call_history.specs.Sessions.{IsCallerOf};
+ghost use Rattle.shared_calls.specs.Counts.{Grows};
+ghost use Rattle.shared_calls.specs.Looks.{EndsLook, IfFound};
+ghost use Rattle.shared_calls.specs.Naming.{MayDelete};
+ghost use Rattle.shared_calls.specs.Ready.{IsReady};
+ghost use Rattle.shared_calls.specs.Rounds.{EndsRound};
+
+use crate::beginning::begin;
+use crate::look::Look;
+use call_history::Session;
+use call_rules::{Decision, OpenObject};
+use gate_calls::answer_ruled;
+use locked_gate::{Answer, LockedGate};
+use locked_slots::LockedSlot;
+use rpmb_card::RpmbPort;
+use std::alloc::Global;
+use std::sync::{Mutex, Wait};
+use suppositions::StoreName;
+use tee_ports::{Entropy, StoreFile};
+use tee_types::{Call, NoMemory};
+
+// What a Delete finds at the gate: its answer, or the object that it deletes. Then the gate is ready for it.
+fn look<F: StoreFile + Drop, R: RpmbPort + Drop, L: StoreName, E: Entropy>(
+    alloc: Global,
+    gate: &mut LockedGate<F, R, L>,
+    session: &mut Session<E>,
+    handle: u32,
+) -> Result<Look<OpenObject>, NoMemory>
+    requires caller { IsCallerOf L.store session.old }
+    ensures ends { EndsLook L.store session.old session.new (Call.Delete handle) result }
+    ensures ready { IfFound result (λ found. IsReady L.store gate.new session.new) }
+    ensures deletes { IfFound result (MayDelete gate.new.gate session.new handle) }
+    ensures counted { E.faults session.old.entropy ≤ E.faults session.new.entropy }
+    ensures reliable { E.is_reliable session.old.entropy → E.is_reliable session.new.entropy }
+    ensures still { E.is_reliable session.old.entropy → E.faults session.new.entropy ≡ E.faults session.old.entropy }
+{
+    let call = Call::Delete { handle };
+    if let Some(answer) = begin(alloc, gate, session, &call)? {
+        return Ok(Look::Answered(answer));
+    }
+    match call_rules::delete(&*gate, session.state(), handle) {
+        Decision::Answered(reply) => Ok(Look::Answered(answer_ruled(gate, session, call, reply))),
+        Decision::Needs(found) => Ok(Look::Found(found)),
+    }
+}
+
+/// The number of the file of a Delete's object, as a look at the gate finds it; or the call's answer.
+///
+/// # Errors
+///
+/// Memory ran out. The session has no event more.
+pub(crate) fn file_of<F: StoreFile + Drop, R: RpmbPort + Drop, L: StoreName, E: Entropy>(
+    alloc: Global,
+    gate: &mut LockedGate<F, R, L>,
+    session: &mut Session<E>,
+    handle: u32,
+) -> Result<Look<u16>, NoMemory>
+    requires caller { IsCallerOf L.store session.old }
+    ensures ends { EndsLook L.store session.old session.new (Call.Delete handle) result }
+    ensures counted { E.faults session.old.entropy ≤ E.faults session.new.entropy }
+    ensures reliable { E.is_reliable session.old.entropy → E.is_reliable session.new.entropy }
+    ensures still { E.is_reliable session.old.entropy → E.faults session.new.entropy ≡ E.faults session.old.entropy }
+{
+    match look(alloc, gate, session, handle)? {
+        Look::Answered(answer) => Ok(Look::Answered(answer)),
+        Look::Found(found) => Ok(Look::Found(found.held.entry.file)),
+        Look::Again => Ok(Look::Again),
+    }
+}
+
+// The one look: the object is deleted, where the slot is its file's.
+fn delete_held<F: StoreFile + Drop, R: RpmbPort + Drop, L: StoreName, E: Entropy>(
+    alloc: Global,
+    gate: &mut LockedGate<F, R, L>,
+    slot: &mut LockedSlot<F, L>,
+    session: &mut Session<E>,
+    handle: u32,
+) -> Result<Option<Answer>, NoMemory>
+    requires caller { IsCallerOf L.store session.old }
+    ensures ends { EndsRound L.store session.old session.new (Call.Delete handle) result }
+    ensures counted { Grows (E.faults session.old.entropy) (E.faults session.new.entropy) }
+    ensures reliable { E.is_reliable session.old.entropy → E.is_reliable session.new.entropy }
+    ensures still { E.is_reliable session.old.entropy → E.faults session.new.entropy ≡ E.faults session.old.entropy }
+{
+    let found = match look(alloc, gate, session, handle)? {
+        Look::Answered(answer) => return Ok(Some(answer)),
+        Look::Found(found) => found,
+        Look::Again => return Ok(None),
+    };
+    if found.held.entry.file != slot.number() {
+        return Ok(None);
+    }
+    Ok(Some(name_calls::delete(gate, slot, session, &found, handle)))
+}
+
+/// A round of a Delete, with the lock of the slot of its object's file: one look at the gate. None where the call has to begin again.
+///
+/// # Errors
+///
+/// Memory ran out. The session has no event more.
+pub(crate) fn round<W: Wait, F: StoreFile + Drop, R: RpmbPort + Drop, L: StoreName, E: Entropy>(
+    rt: &W,
+    alloc: Global,
+    gate: &Mutex<LockedGate<F, R, L>>,
+    slot: &mut LockedSlot<F, L>,
+    session: &mut Session<E>,
+    handle: u32,
+) -> Result<Option<Answer>, NoMemory>
+    requires caller { IsCallerOf L.store session.old }
+    ensures ends { EndsRound L.store session.old session.new (Call.Delete handle) result }
+    ensures counted { Grows (E.faults session.old.entropy) (E.faults session.new.entropy) }
+    ensures reliable { E.is_reliable session.old.entropy → E.is_reliable session.new.entropy }
+    ensures still { E.is_reliable session.old.entropy → E.faults session.new.entropy ≡ E.faults session.old.entropy }
+{
+    delete_held(alloc, &mut gate.lock(rt), slot, session, handle)
+}

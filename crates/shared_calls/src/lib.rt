@@ -1,0 +1,22 @@
+//! The calls of a store that threads serve beside each other: the gate and the slot of each object's file stand each behind a lock of its
+//! own.
+//!
+//! A call takes the lock of a slot before that of the gate, and gives the gate's back while the object's file or a cipher is at work. So
+//! it looks at the gate more than once. What it found at one look may be gone at the next: then the call begins again. Nothing is said of
+//! the gate and the slots behind a call, since others have changed them by then; of its session, that its event stands in the one history
+//! at the place that the answer names.
+#![tactic(auto)]
+
+mod beginning;
+mod creating;
+mod deleting;
+mod describing;
+mod look;
+mod meeting;
+mod opening;
+mod reading;
+mod renaming;
+mod serving;
+mod store;
+
+pub use store::SharedStore;

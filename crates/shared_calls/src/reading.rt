@@ -1,0 +1,217 @@
+//! TEE_ReadObjectData, with the gate's lock taken for each look alone.
+
+ghost use Rattle.std.specs.Prelude.{◌≡◌, ◌≤◌, IfOk};
+ghost use Rattle.tee_types.specs.Rights.{read_bit};
+ghost use Rattle.hmac_keys.specs.KeyTable.{ssk};
+ghost use Rattle.call_history.specs.Sessions.{IsCallerOf};
+ghost use Rattle.call_rules.specs.Objects.{IsRightful};
+ghost use Rattle.shared_calls.specs.Looks.{EndsLook, IfFound};
+ghost use Rattle.shared_calls.specs.Meeting.{MayLoad};
+ghost use Rattle.shared_calls.specs.Reading.{HasRead};
+ghost use Rattle.shared_calls.specs.Ready.{IsReady};
+ghost use Rattle.shared_calls.specs.Rounds.{EndsRound};
+
+use crate::beginning::begin;
+use crate::look::Look;
+use crate::meeting::meet_held;
+use call_history::Session;
+use call_rules::{Decision, OpenObject};
+use gate_calls::answer_ruled;
+use hmac_keys::tsk;
+use locked_gate::{Answer, LockedGate};
+use locked_slots::LockedSlot;
+use object_answers::{answer_read, read_object};
+use rpmb_card::RpmbPort;
+use std::alloc::Global;
+use std::sync::{Mutex, Wait};
+use suppositions::StoreName;
+use tee_ports::{Entropy, StoreFile};
+use tee_types::{Call, NoMemory, Reply};
+
+// What a Read finds at the gate: its answer, or the object that it reads. Then the gate is ready for it.
+fn look<F: StoreFile + Drop, R: RpmbPort + Drop, L: StoreName, E: Entropy>(
+    alloc: Global,
+    gate: &mut LockedGate<F, R, L>,
+    session: &mut Session<E>,
+    handle: u32,
+    size: u32,
+) -> Result<Look<OpenObject>, NoMemory>
+    requires caller { IsCallerOf L.store session.old }
+    ensures ends { EndsLook L.store session.old session.new (Call.Read handle size) result }
+    ensures ready { IfFound result (λ found. IsReady L.store gate.new session.new) }
+    ensures found { IfFound result (IsRightful gate.new.gate.dir.dir.entries session.new.state handle read_bit) }
+    ensures counted { E.faults session.old.entropy ≤ E.faults session.new.entropy }
+    ensures reliable { E.is_reliable session.old.entropy → E.is_reliable session.new.entropy }
+    ensures still { E.is_reliable session.old.entropy → E.faults session.new.entropy ≡ E.faults session.old.entropy }
+{
+    let call = Call::Read { handle, size };
+    if let Some(answer) = begin(alloc, gate, session, &call)? {
+        return Ok(Look::Answered(answer));
+    }
+    match call_rules::read(&*gate, session.state(), handle) {
+        Decision::Answered(reply) => Ok(Look::Answered(answer_ruled(gate, session, call, reply))),
+        Decision::Needs(found) => Ok(Look::Found(found)),
+    }
+}
+
+/// The number of the file of a Read's object, as a look at the gate finds it; or the call's answer.
+///
+/// # Errors
+///
+/// Memory ran out. The session has no event more.
+pub(crate) fn file_of<F: StoreFile + Drop, R: RpmbPort + Drop, L: StoreName, E: Entropy>(
+    alloc: Global,
+    gate: &mut LockedGate<F, R, L>,
+    session: &mut Session<E>,
+    handle: u32,
+    size: u32,
+) -> Result<Look<u16>, NoMemory>
+    requires caller { IsCallerOf L.store session.old }
+    ensures ends { EndsLook L.store session.old session.new (Call.Read handle size) result }
+    ensures counted { E.faults session.old.entropy ≤ E.faults session.new.entropy }
+    ensures reliable { E.is_reliable session.old.entropy → E.is_reliable session.new.entropy }
+    ensures still { E.is_reliable session.old.entropy → E.faults session.new.entropy ≡ E.faults session.old.entropy }
+{
+    match look(alloc, gate, session, handle, size)? {
+        Look::Answered(answer) => Ok(Look::Answered(answer)),
+        Look::Found(found) => Ok(Look::Found(found.held.entry.file)),
+        Look::Again => Ok(Look::Again),
+    }
+}
+
+// The first look: the object's slot is shown the history, so that the object may be loaded.
+fn look_first<F: StoreFile + Drop, R: RpmbPort + Drop, L: StoreName, E: Entropy>(
+    alloc: Global,
+    gate: &mut LockedGate<F, R, L>,
+    slot: &mut LockedSlot<F, L>,
+    session: &mut Session<E>,
+    handle: u32,
+    size: u32,
+) -> Result<Look<OpenObject>, NoMemory>
+    requires caller { IsCallerOf L.store session.old }
+    ensures ends { EndsLook L.store session.old session.new (Call.Read handle size) result }
+    ensures loads { IfFound result (λ found. MayLoad slot.new found.held.entry) }
+    ensures counted { E.faults session.old.entropy ≤ E.faults session.new.entropy }
+    ensures reliable { E.is_reliable session.old.entropy → E.is_reliable session.new.entropy }
+    ensures still { E.is_reliable session.old.entropy → E.faults session.new.entropy ≡ E.faults session.old.entropy }
+{
+    let found = match look(alloc, gate, session, handle, size)? {
+        Look::Found(found) => found,
+        ended => return Ok(ended),
+    };
+    if !meet_held(gate, slot, session, &found.held) {
+        return Ok(Look::Again);
+    }
+    Ok(Look::Found(found))
+}
+
+// The last look: what was read is appended, where the handle still stands at the same place of the same file.
+fn look_last<F: StoreFile + Drop, R: RpmbPort + Drop, L: StoreName, E: Entropy>(
+    alloc: Global,
+    gate: &mut LockedGate<F, R, L>,
+    slot: &mut LockedSlot<F, L>,
+    session: &mut Session<E>,
+    handle: u32,
+    size: u32,
+    at: u32,
+    reply: Reply,
+    told: Reply,
+) -> Result<Option<Answer>, NoMemory>
+    requires caller { IsCallerOf L.store session.old }
+    requires copied { told ≡ reply }
+    requires read { HasRead L.store slot.old at size reply }
+    ensures ends { EndsRound L.store session.old session.new (Call.Read handle size) result }
+    ensures counted { E.faults session.old.entropy ≤ E.faults session.new.entropy }
+    ensures reliable { E.is_reliable session.old.entropy → E.is_reliable session.new.entropy }
+    ensures still { E.is_reliable session.old.entropy → E.faults session.new.entropy ≡ E.faults session.old.entropy }
+{
+    let found = match look(alloc, gate, session, handle, size)? {
+        Look::Answered(answer) => return Ok(Some(answer)),
+        Look::Found(found) => found,
+        Look::Again => return Ok(None),
+    };
+    if found.handle.position != at {
+        return Ok(None);
+    }
+    if !meet_held(gate, slot, session, &found.held) {
+        return Ok(None);
+    }
+    Ok(Some(answer_read(
+        gate,
+        &mut slot.slot,
+        session,
+        &found,
+        handle,
+        size,
+        reply,
+        told,
+    )))
+}
+
+// Reads the object of the slot. The gate's lock is not taken.
+fn read_slot<F: StoreFile + Drop, L: StoreName>(
+    alloc: Global,
+    slot: &mut LockedSlot<F, L>,
+    storage_key: &[u8; 32],
+    found: &OpenObject,
+    size: u32,
+) -> Result<Reply, NoMemory>
+    requires loads { MayLoad slot.old found.now.held.entry }
+    requires keyed { storage_key.now ≡ ssk L.store.keys.huk L.store.keys.chip }
+    ensures read { IfOk result (HasRead L.store slot.new found.now.handle.position size) }
+{
+    let key = tsk(storage_key, &found.held.entry.app.bytes());
+    read_object::<F, L>(
+        alloc,
+        &mut slot.slot,
+        &found.held.entry,
+        &key,
+        found.handle.position,
+        size,
+    )
+}
+
+/// A round of a Read, with the lock of the slot of its object's file: two looks at the gate, and between them the object is read. None
+/// where the call has to begin again.
+///
+/// # Errors
+///
+/// Memory ran out. The session has no event more.
+pub(crate) fn round<W: Wait, F: StoreFile + Drop, R: RpmbPort + Drop, L: StoreName, E: Entropy>(
+    rt: &W,
+    alloc: Global,
+    gate: &Mutex<LockedGate<F, R, L>>,
+    slot: &mut LockedSlot<F, L>,
+    storage_key: &[u8; 32],
+    session: &mut Session<E>,
+    handle: u32,
+    size: u32,
+) -> Result<Option<Answer>, NoMemory>
+    requires caller { IsCallerOf L.store session.old }
+    requires keyed { storage_key.now ≡ ssk L.store.keys.huk L.store.keys.chip }
+    ensures ends { EndsRound L.store session.old session.new (Call.Read handle size) result }
+    ensures counted { E.faults session.old.entropy ≤ E.faults session.new.entropy }
+    ensures reliable { E.is_reliable session.old.entropy → E.is_reliable session.new.entropy }
+    ensures still { E.is_reliable session.old.entropy → E.faults session.new.entropy ≡ E.faults session.old.entropy }
+{
+    let looked = look_first(alloc, &mut gate.lock(rt), slot, session, handle, size)?;
+    let found = match looked {
+        Look::Answered(answer) => return Ok(Some(answer)),
+        Look::Found(found) => found,
+        Look::Again => return Ok(None),
+    };
+    let reply = read_slot(alloc, slot, storage_key, &found, size)?;
+    let told = reply.copy(alloc)?;
+    let at = found.handle.position;
+    look_last(
+        alloc,
+        &mut gate.lock(rt),
+        slot,
+        session,
+        handle,
+        size,
+        at,
+        reply,
+        told,
+    )
+}
