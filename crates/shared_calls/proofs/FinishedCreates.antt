@@ -1,6 +1,6 @@
 -- A create that ended at the gate, as a call that was answered.
-use Rattle.std.proofs.Common.{◌≡◌, ℕ, Err, IfSome, IsNone, None, Ok, Option, Result, Some, ap, inl, refl, subst, sym}
-use Rattle.call_history.specs.Sessions.{CallerSession, session_value}
+use Rattle.std.proofs.Common.{◌≡◌, ℕ, Err, IfSome, IsNone, None, Ok, Option, Result, Some, ap, arith, inl, refl, subst, sym}
+use Rattle.call_history.specs.Sessions.{CallerSession}
 use Rattle.call_rules.specs.declared.decision.NewPlace.{NewPlace}
 use Rattle.create_calls.specs.Finished.{IsBroughtNew, IsFinished}
 use Rattle.create_calls.specs.Finished.IsBroughtOrSpent.{Brought, Unbrought}
@@ -8,50 +8,19 @@ use Rattle.create_calls.specs.Rules.{NewObject, create_call}
 use Rattle.create_calls.specs.Unmade.{IsToldUnmade}
 use Rattle.create_calls.specs.declared.unmade.Unmade.{Unmade}
 use Rattle.disk_model.specs.State.{FileState}
-use Rattle.locked_gate.specs.Ends.{mark_told}
 use Rattle.locked_gate.specs.LockedGates.{LockedGateValue}
 use Rattle.locked_gate.specs.declared.answered.Answer.{Answer}
 use Rattle.node_image.specs.declared.node.RootRef.{RootRef}
-use Rattle.object_commits.specs.Bringing.{IsCommitted}
 use Rattle.rpmb_card.specs.Port.{PortState}
-use Rattle.store_commit.specs.Causes.{Counted, counts}
-use Rattle.store_commit.specs.declared.change.EntryChange.{EntryChange}
-use Rattle.store_model.specs.declared.event.Event.TheVariants.{Call as CallEvent}
 use Rattle.store_model.specs.declared.event.Mark.TheVariants.{Unchanged}
-use Rattle.suppositions.specs.Sessions.{Extends}
 use Rattle.suppositions.specs.Stores.{Store}
 use Rattle.tee_types.specs.declared.call.Call.{Call}
-use Rattle.tee_types.specs.declared.reply.Reply.{Reply}
 use Rattle.shared_calls.specs.Counts.{Grows}
 use Rattle.shared_calls.specs.Rounds.{EndsRound, IsAnswered, IsWaiting}
-use Rattle.shared_calls.proofs.CommitDraws.{end-draws, end-still}
+use Rattle.shared_calls.proofs.CommittedCalls.{committed-answers, committed-grows, committed-still}
 use Rattle.shared_calls.proofs.Waiting.{answers-then}
 
 module _ {F R E : Type 0} (of_file : F → FileState) (of_port : R → PortState) (store : Store) (old new : LockedGateValue F R) (file : ℕ) (was now : CallerSession E) where
-  module _ (call : Call) (own : Reply) (change : EntryChange) (Reliable : Type 0) (drew draws : ℕ) (answer : Answer)
-      (c : IsCommitted of_file of_port store old new file was now call own change Reliable drew draws answer) where
-    abbrev before : Counted
-    before = counts (of_file old.gate.dir.file) (of_port old.gate.host.port) drew
-
-    abbrev behind : Counted
-    behind = counts (of_file new.gate.dir.file) (of_port new.gate.host.port) draws
-
-    pub committed-answers : IsAnswered store was now call answer
-    committed-answers = record {
-      mark = mark_told c.end;
-      extends =
-          subst (λ (r : Reply). Extends store (session_value was) (session_value now) (CallEvent was.number was.made call r (mark_told c.end)) answer.place) (sym c.reply) c.extends;
-      whole = c.whole;
-      number = c.number;
-      made = c.made;
-    }
-
-    pub committed-draws : Grows drew draws
-    committed-draws = end-draws before behind c.end c.gate.counts_are
-
-    pub committed-still : Reliable → draws ≡ drew
-    committed-still reliable = end-still before behind c.end (c.gate.drawn reliable) c.gate.counts_are
-
   told-answers : (call : Call) (answer : Answer) → IsToldUnmade store old new file was now call answer → IsAnswered store was now call answer
   told-answers call answer t = record { mark = Unchanged; extends = t.extends; whole = t.whole; number = t.number; made = t.made }
 
@@ -66,13 +35,13 @@ module _ {F R E : Type 0} (of_file : F → FileState) (of_port : R → PortState
     Brings = IsBroughtNew of_file of_port store old new file was now object place Reliable drew draws answer
 
     brought-answers : Brings → IsAnswered store was now (create_call object) answer
-    brought-answers b = committed-answers (create_call object) _ _ Reliable drew draws answer b.committed
+    brought-answers b = committed-answers of_file of_port faults store old new file was now (create_call object) _ _ Reliable answer b.committed
 
     brought-draws : Brings → Grows drew draws
-    brought-draws b = committed-draws (create_call object) _ _ Reliable drew draws answer b.committed
+    brought-draws b = committed-grows of_file of_port faults store old new file was now (create_call object) _ _ Reliable answer b.committed drew (omega arith)
 
     brought-still : Brings → Reliable → draws ≡ drew
-    brought-still b = committed-still (create_call object) _ _ Reliable drew draws answer b.committed
+    brought-still b = committed-still of_file of_port faults store old new file was now (create_call object) _ _ Reliable answer b.committed
 
     pub finished-answers : (made : Result RootRef Unmade) → IsFinished of_file of_port store old new file was now object place Reliable drew draws made answer
         → IsAnswered store was now (create_call object) answer

@@ -6,5 +6,7 @@ pub mod DescribedObjects
 pub mod OpenedObjects
 pub mod Counting
 pub mod CommittedCalls
-pub mod CommitDraws
 pub mod FinishedCreates
+pub mod StagedSlots
+pub mod StageCounts
+pub mod ChangedCalls

@@ -5,7 +5,7 @@ pub mod Meeting
 pub mod Reading
 pub mod Describing
 pub mod Opening
-pub mod Telling
 pub mod Naming
 pub mod Creating
 pub mod Counts
+pub mod Changing

@@ -8,6 +8,7 @@
 #![tactic(auto)]
 
 mod beginning;
+mod changing;
 mod creating;
 mod deleting;
 mod describing;
@@ -18,5 +19,7 @@ mod reading;
 mod renaming;
 mod serving;
 mod store;
+mod truncating;
+mod writing;
 
 pub use store::SharedStore;

@@ -1,16 +1,16 @@
-//! The calls that look at an object at most.
+//! The fifteen calls.
 
-ghost use Rattle.std.specs.Prelude.{◌≡◌, ◌≤◌, true, false};
+ghost use Rattle.std.specs.Prelude.{◌≡◌, ◌≤◌, false, length};
 ghost use Rattle.call_history.specs.Sessions.{IsCallerOf};
 ghost use Rattle.gate_calls.specs.Rulings.{is_on_object};
+ghost use Rattle.shared_calls.specs.Counts.{Grows};
 ghost use Rattle.shared_calls.specs.Looks.{EndsLook};
 ghost use Rattle.shared_calls.specs.Rounds.{EndsCall, EndsRound};
-ghost use Rattle.shared_calls.specs.Telling.{is_telling};
 
 use crate::beginning::begin;
 use crate::look::Look;
 use crate::store::SharedStore;
-use crate::{describing, opening, reading};
+use crate::{creating, deleting, describing, opening, reading, renaming, truncating, writing};
 use call_history::Session;
 use locked_gate::{Answer, LockedGate};
 use locked_slots::LockedSlot;
@@ -19,9 +19,29 @@ use std::alloc::Global;
 use std::sync::{Mutex, Wait};
 use suppositions::StoreName;
 use tee_ports::{Entropy, StoreFile};
-use tee_types::{Call, Flags, NoMemory, ObjectId};
+use tee_types::{Call, NoMemory};
 
-// What such a call finds at the gate: its answer, or the number of its object's file.
+// The answer to a call that is on no object: the gate gives it alone.
+fn look_alone<F: StoreFile + Drop, R: RpmbPort + Drop, L: StoreName, E: Entropy>(
+    alloc: Global,
+    gate: &mut LockedGate<F, R, L>,
+    session: &mut Session<E>,
+    call: &Call,
+) -> Result<Look<u16>, NoMemory>
+    requires caller { IsCallerOf L.store session.old }
+    requires alone { is_on_object call.now ≡ false }
+    ensures ends { EndsLook L.store session.old session.new call.now result }
+    ensures counted { E.faults session.old.entropy ≤ E.faults session.new.entropy }
+    ensures reliable { E.is_reliable session.old.entropy → E.is_reliable session.new.entropy }
+    ensures still { E.is_reliable session.old.entropy → E.faults session.new.entropy ≡ E.faults session.old.entropy }
+{
+    let Some(answer) = begin(alloc, gate, session, call)? else {
+        unreachable!()
+    };
+    Ok(Look::Answered(answer))
+}
+
+// What a call finds at the gate: its answer, or the number of the file whose slot it needs.
 fn file_of<F: StoreFile + Drop, R: RpmbPort + Drop, L: StoreName, E: Entropy>(
     alloc: Global,
     gate: &mut LockedGate<F, R, L>,
@@ -29,17 +49,31 @@ fn file_of<F: StoreFile + Drop, R: RpmbPort + Drop, L: StoreName, E: Entropy>(
     call: &Call,
 ) -> Result<Look<u16>, NoMemory>
     requires caller { IsCallerOf L.store session.old }
-    requires telling { is_telling call.now ≡ true }
+    requires few { length L.store.mounted.applications ≤ 16 }
     ensures ends { EndsLook L.store session.old session.new call.now result }
     ensures counted { E.faults session.old.entropy ≤ E.faults session.new.entropy }
     ensures reliable { E.is_reliable session.old.entropy → E.is_reliable session.new.entropy }
     ensures still { E.is_reliable session.old.entropy → E.faults session.new.entropy ≡ E.faults session.old.entropy }
 {
     match call {
+        Call::Create {
+            id,
+            flags,
+            attributes,
+            bytes,
+        } => creating::look_for_file(alloc, gate, session, call, *id, *flags, attributes, bytes),
         Call::Open { id, flags } => opening::file_of(alloc, gate, session, *id, *flags),
         Call::Read { handle, size } => reading::file_of(alloc, gate, session, *handle, *size),
+        Call::Write { handle, bytes } => {
+            writing::file_of(alloc, gate, session, call, *handle, bytes)
+        }
+        Call::Truncate { handle, size } => {
+            truncating::file_of(alloc, gate, session, *handle, *size)
+        }
+        Call::Rename { handle, id } => renaming::file_of(alloc, gate, session, *handle, *id),
+        Call::Delete { handle } => deleting::file_of(alloc, gate, session, *handle),
         Call::Info { handle } => describing::file_of(alloc, gate, session, *handle),
-        _ => unreachable!(),
+        _ => look_alone(alloc, gate, session, call),
     }
 }
 
@@ -49,7 +83,7 @@ impl<F: StoreFile + Drop, R: RpmbPort + Drop, L: StoreName> SharedStore<F, R, L>
         self.slots.get(usize::from(file).checked_sub(1)?)
     }
 
-    // A round of such a call, with the lock of the slot of its object's file.
+    // A round of a call, with the lock of the slot that it needs. None where the call has to begin again, as one that is on no object has.
     fn round<W: Wait, E: Entropy>(
         &self,
         rt: &W,
@@ -59,29 +93,46 @@ impl<F: StoreFile + Drop, R: RpmbPort + Drop, L: StoreName> SharedStore<F, R, L>
         call: &Call,
     ) -> Result<Option<Answer>, NoMemory>
         requires caller { IsCallerOf L.store session.old }
-        requires telling { is_telling call.now ≡ true }
         ensures ends { EndsRound L.store session.old session.new call.now result }
-        ensures counted { E.faults session.old.entropy ≤ E.faults session.new.entropy }
+        ensures counted { Grows (E.faults session.old.entropy) (E.faults session.new.entropy) }
         ensures reliable { E.is_reliable session.old.entropy → E.is_reliable session.new.entropy }
         ensures still { E.is_reliable session.old.entropy → E.faults session.new.entropy ≡ E.faults session.old.entropy }
     {
         let gate = &self.gate;
         let key = &self.storage_key;
         match call {
+            Call::Create {
+                id,
+                flags,
+                attributes,
+                bytes,
+            } => creating::round(
+                rt, alloc, gate, slot, key, session, *id, *flags, attributes, bytes,
+            ),
             Call::Open { id, flags } => {
                 opening::round(rt, alloc, gate, slot, key, session, *id, *flags)
             }
             Call::Read { handle, size } => {
                 reading::round(rt, alloc, gate, slot, key, session, *handle, *size)
             }
+            Call::Write { handle, bytes } => {
+                writing::round(rt, alloc, gate, slot, key, session, call, *handle, bytes)
+            }
+            Call::Truncate { handle, size } => {
+                truncating::round(rt, alloc, gate, slot, key, session, *handle, *size)
+            }
+            Call::Rename { handle, id } => {
+                renaming::round(rt, alloc, gate, slot, session, *handle, *id)
+            }
+            Call::Delete { handle } => deleting::round(rt, alloc, gate, slot, session, *handle),
             Call::Info { handle } => {
                 describing::round(rt, alloc, gate, slot, key, session, *handle)
             }
-            _ => unreachable!(),
+            _ => Ok(None),
         }
     }
 
-    // Looks where the call's object lies, and makes a round with the lock of its slot. None where the call has to begin again.
+    // Looks at the gate, and makes a round with the lock of the slot that the call needs, if it needs one. None where it has to begin again.
     fn attempt<W: Wait, E: Entropy>(
         &self,
         rt: &W,
@@ -90,9 +141,8 @@ impl<F: StoreFile + Drop, R: RpmbPort + Drop, L: StoreName> SharedStore<F, R, L>
         call: &Call,
     ) -> Result<Option<Answer>, NoMemory>
         requires caller { IsCallerOf L.store session.old }
-        requires telling { is_telling call.now ≡ true }
         ensures ends { EndsRound L.store session.old session.new call.now result }
-        ensures counted { E.faults session.old.entropy ≤ E.faults session.new.entropy }
+        ensures counted { Grows (E.faults session.old.entropy) (E.faults session.new.entropy) }
         ensures reliable { E.is_reliable session.old.entropy → E.is_reliable session.new.entropy }
         ensures still { E.is_reliable session.old.entropy → E.faults session.new.entropy ≡ E.faults session.old.entropy }
     {
@@ -108,8 +158,14 @@ impl<F: StoreFile + Drop, R: RpmbPort + Drop, L: StoreName> SharedStore<F, R, L>
         self.round(rt, alloc, &mut slot.lock(rt), session, call)
     }
 
-    // Serves such a call: it begins again for as long as it has to.
-    fn serve<W: Wait, E: Entropy>(
+    /// Serves a call of a session, beside those that other threads serve for theirs: a commit in doubt is resolved unless the call is a misuse,
+    /// and the call is answered and appended to the one history. It waits for the locks of the gate and of one slot, of which it takes the
+    /// slot's first, and begins again for as long as others change what it found.
+    ///
+    /// # Errors
+    ///
+    /// Memory ran out. The session has no event more.
+    pub fn call<W: Wait, E: Entropy>(
         &self,
         rt: &W,
         alloc: Global,
@@ -117,9 +173,8 @@ impl<F: StoreFile + Drop, R: RpmbPort + Drop, L: StoreName> SharedStore<F, R, L>
         call: &Call,
     ) -> Result<Answer, NoMemory>
         requires caller { IsCallerOf L.store session.old }
-        requires telling { is_telling call.now ≡ true }
         ensures ends { EndsCall L.store session.old session.new call.now result }
-        ensures counted { E.faults session.old.entropy ≤ E.faults session.new.entropy }
+        ensures counted { Grows (E.faults session.old.entropy) (E.faults session.new.entropy) }
         ensures reliable { E.is_reliable session.old.entropy → E.is_reliable session.new.entropy }
         ensures still { E.is_reliable session.old.entropy → E.faults session.new.entropy ≡ E.faults session.old.entropy }
     {
@@ -129,94 +184,5 @@ impl<F: StoreFile + Drop, R: RpmbPort + Drop, L: StoreName> SharedStore<F, R, L>
             }
         }
         unreachable!()
-    }
-
-    /// TEE_OpenPersistentObject: the object of that identifier, with those flags.
-    ///
-    /// # Errors
-    ///
-    /// Memory ran out. The session has no event more.
-    pub fn open<W: Wait, E: Entropy>(
-        &self,
-        rt: &W,
-        alloc: Global,
-        session: &mut Session<E>,
-        id: ObjectId,
-        flags: Flags,
-    ) -> Result<Answer, NoMemory>
-        requires caller { IsCallerOf L.store session.old }
-        ensures ends { EndsCall L.store session.old session.new (Call.Open id flags) result }
-        ensures counted { E.faults session.old.entropy ≤ E.faults session.new.entropy }
-        ensures reliable { E.is_reliable session.old.entropy → E.is_reliable session.new.entropy }
-        ensures still { E.is_reliable session.old.entropy → E.faults session.new.entropy ≡ E.faults session.old.entropy }
-    {
-        self.serve(rt, alloc, session, &Call::Open { id, flags })
-    }
-
-    /// TEE_ReadObjectData: at most so many bytes from the handle's position on.
-    ///
-    /// # Errors
-    ///
-    /// Memory ran out. The session has no event more.
-    pub fn read<W: Wait, E: Entropy>(
-        &self,
-        rt: &W,
-        alloc: Global,
-        session: &mut Session<E>,
-        handle: u32,
-        size: u32,
-    ) -> Result<Answer, NoMemory>
-        requires caller { IsCallerOf L.store session.old }
-        ensures ends { EndsCall L.store session.old session.new (Call.Read handle size) result }
-        ensures counted { E.faults session.old.entropy ≤ E.faults session.new.entropy }
-        ensures reliable { E.is_reliable session.old.entropy → E.is_reliable session.new.entropy }
-        ensures still { E.is_reliable session.old.entropy → E.faults session.new.entropy ≡ E.faults session.old.entropy }
-    {
-        self.serve(rt, alloc, session, &Call::Read { handle, size })
-    }
-
-    /// TEE_GetObjectInfo1.
-    ///
-    /// # Errors
-    ///
-    /// Memory ran out. The session has no event more.
-    pub fn info<W: Wait, E: Entropy>(
-        &self,
-        rt: &W,
-        alloc: Global,
-        session: &mut Session<E>,
-        handle: u32,
-    ) -> Result<Answer, NoMemory>
-        requires caller { IsCallerOf L.store session.old }
-        ensures ends { EndsCall L.store session.old session.new (Call.Info handle) result }
-        ensures counted { E.faults session.old.entropy ≤ E.faults session.new.entropy }
-        ensures reliable { E.is_reliable session.old.entropy → E.is_reliable session.new.entropy }
-        ensures still { E.is_reliable session.old.entropy → E.faults session.new.entropy ≡ E.faults session.old.entropy }
-    {
-        self.serve(rt, alloc, session, &Call::Info { handle })
-    }
-
-    /// Serves a call that is on no object: a close, a seek, or one on an enumerator. The gate does it alone.
-    ///
-    /// # Errors
-    ///
-    /// Memory ran out. The session has no event more.
-    pub fn serve_alone<W: Wait, E: Entropy>(
-        &self,
-        rt: &W,
-        alloc: Global,
-        session: &mut Session<E>,
-        call: &Call,
-    ) -> Result<Answer, NoMemory>
-        requires caller { IsCallerOf L.store session.old }
-        requires alone { is_on_object call.now ≡ false }
-        ensures ends { EndsCall L.store session.old session.new call.now result }
-        ensures counted { E.faults session.old.entropy ≤ E.faults session.new.entropy }
-        ensures reliable { E.is_reliable session.old.entropy → E.is_reliable session.new.entropy }
-        ensures still { E.is_reliable session.old.entropy → E.faults session.new.entropy ≡ E.faults session.old.entropy }
-    {
-        let begun = begin(alloc, &mut self.gate.lock(rt), session, call)?;
-        let Some(answer) = begun else { unreachable!() };
-        Ok(answer)
     }
 }

@@ -1,6 +1,6 @@
 //! A store that threads serve beside each other.
 
-ghost use Rattle.std.specs.Prelude.{◌≡◌};
+ghost use Rattle.std.specs.Prelude.{◌≡◌, ◌≤◌, length};
 ghost use Rattle.hmac_keys.specs.KeyTable.{ssk};
 
 use locked_gate::LockedGate;
@@ -18,6 +18,7 @@ pub struct SharedStore<F: StoreFile + Drop, R: RpmbPort + Drop, L: StoreName> {
     pub(crate) slots: Vec<Mutex<LockedSlot<F, L>>>,
     pub(crate) storage_key: [u8; 32],
     ghost keyed: { storage_key ≡ ssk L.store.keys.huk L.store.keys.chip },
+    ghost few: { length L.store.mounted.applications ≤ 16 },
 }
 
 impl<F: StoreFile + Drop, R: RpmbPort + Drop, L: StoreName> SharedStore<F, R, L> {
@@ -28,6 +29,7 @@ impl<F: StoreFile + Drop, R: RpmbPort + Drop, L: StoreName> SharedStore<F, R, L>
         storage_key: [u8; 32],
     ) -> SharedStore<F, R, L>
         requires keyed { storage_key ≡ ssk L.store.keys.huk L.store.keys.chip }
+        requires few { length L.store.mounted.applications ≤ 16 }
     {
         SharedStore {
             gate: Mutex::new(gate),

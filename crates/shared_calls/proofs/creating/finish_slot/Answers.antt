@@ -1,5 +1,5 @@
 -- The create ended with what making the object gave.
-use Rattle.std.proofs.Common.{◌≡◌, ℕ, subst}
+use Rattle.std.proofs.Common.{ℕ, subst}
 use Rattle.create_calls.specs.Finished.{MayTellIfUnmade}
 use Rattle.create_calls.specs.Rules.{NewObject}
 use Rattle.create_calls.specs.Seating.{reseated}

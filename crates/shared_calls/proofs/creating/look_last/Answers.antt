@@ -1,5 +1,5 @@
 -- The create was answered, or has to be begun again.
-use Rattle.std.proofs.Common.{◌≡◌, Ok, subst}
+use Rattle.std.proofs.Common.{Ok, subst}
 use Rattle.std.specs.declared.alloc.AllocError.{AllocError}
 use Rattle.call_rules.specs.declared.decision.NewPlace.{NewPlace}
 use Rattle.tee_types.specs.declared.call.Call.TheVariants.{Create}

@@ -1,6 +1,6 @@
 -- Memory ran out behind what was waited.
 use Rattle.shared_calls.proofs.Waiting.{starves-then}
-use Rattle.shared_calls.proofs.store.SharedStore.serve.Goals as goal
+use Rattle.shared_calls.proofs.store.SharedStore.call.Goals as goal
 
 pub returns-in_err-answer-clause-ends : goal.returns-in_err-answer-clause-ends
 returns-in_err-answer-clause-ends g c =

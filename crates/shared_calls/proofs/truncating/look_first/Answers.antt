@@ -1,0 +1,31 @@
+-- What the machine answers anyhow.
+use Rattle.std.proofs.Common.{Ok, refl, subst}
+use Rattle.call_rules.specs.Objects.{IsRightful}
+use Rattle.call_rules.specs.declared.decision.OpenObject.{OpenObject}
+use Rattle.change_calls.proofs.MeantChanges.{meant_same, meant_truncate}
+use Rattle.change_calls.proofs.Refusals.{truncate_refused_so}
+use Rattle.tee_types.specs.Rights.{write_bit}
+use Rattle.shared_calls.specs.declared.look.Look.{Look}
+use Rattle.shared_calls.specs.Looks.{IfFound}
+use Rattle.shared_calls.proofs.truncating.look_first.Goals as goal
+
+pub answer_held-requires-clause-kind : goal.answer_held-requires-clause-kind
+answer_held-requires-clause-kind g c = truncate_refused_so c.args.size c.in-Some.reply c.in-Some.ensures.refused
+
+pub answer_held-requires-clause-meant : goal.answer_held-requires-clause-meant
+answer_held-requires-clause-meant g c = λ m matches opened.
+    let gate = c.look.new.gate.gate in
+    let s = c.look.new.session in
+    let found = c.in-Found.found in
+    let rightful : IsRightful gate.dir.dir.entries s.state c.args.handle write_bit found =
+    subst (λ (x : Look OpenObject). IfFound {X = Unit {0}} (Ok x) (IsRightful gate.dir.dir.entries s.state c.args.handle write_bit)) c.in-Found.is c.in_ok-ended.ensures.found in
+    meant_truncate gate.dir.dir.entries gate.open_handles s.state m s.number c.args.handle found matches opened rightful c.args.size c.in-Some.reply c.in-Some.ensures.refused
+
+pub answer_held-requires-then-size-found-clause-meant : goal.answer_held-requires-then-size-found-clause-meant
+answer_held-requires-then-size-found-clause-meant g c = λ m matches opened.
+    let gate = c.look.new.gate.gate in
+    let s = c.look.new.session in
+    let found = c.in-Found.found in
+    let rightful : IsRightful gate.dir.dir.entries s.state c.args.handle write_bit found =
+    subst (λ (x : Look OpenObject). IfFound {X = Unit {0}} (Ok x) (IsRightful gate.dir.dir.entries s.state c.args.handle write_bit)) c.in-Found.is c.in_ok-ended.ensures.found in
+    meant_same gate.dir.dir.entries gate.open_handles s.state m s.number c.args.handle found matches opened rightful c.args.size c.if-size-found.true (c.in_default-truncate_refusal.ensures.fits refl)

@@ -1,0 +1,28 @@
+-- The looks follow each other.
+use Rattle.std.proofs.Common.{List, Ok, subst, ℕ}
+use Rattle.call_rules.specs.declared.decision.OpenObject.{OpenObject}
+use Rattle.tee_types.specs.declared.call.Call.TheVariants.{Write}
+use Rattle.shared_calls.specs.declared.look.Look.{Look}
+use Rattle.shared_calls.specs.Looks.{EndsLook}
+use Rattle.shared_calls.specs.Rounds.{EndsRound}
+use Rattle.shared_calls.proofs.Counting.{grows-le, grows-then}
+use Rattle.shared_calls.proofs.Waiting.{ends-then}
+use Rattle.shared_calls.proofs.writing.round.Goals as goal
+
+pub returns-clause-ends : goal.returns-clause-ends
+returns-clause-ends g c =
+    let store = g.L.StoreName.store in
+    let call = Write c.args.handle c.args.bytes.now in
+    let was = c.args.session.now in
+    let between = c.look_first.new.session in
+    let ended = c.write_slot in
+    ends-then store was between ended.new.session
+    (subst (λ (x : Look OpenObject). EndsLook {X = Unit {0}} store was between call (Ok x)) c.in-Found.is c.in_ok-looked.ensures.ends)
+    call ended.result (subst (λ (bytes : List ℕ). EndsRound store between ended.new.session (Write c.args.handle bytes) ended.result) c.in_ok-kept.ensures ended.ensures.ends)
+
+pub returns-clause-counted : goal.returns-clause-counted
+returns-clause-counted g c =
+    let faults = g.E.Entropy.faults in
+    let was = faults c.args.session.now.entropy in
+    let between = faults c.look_first.new.session.entropy in
+    grows-then was between (faults c.write_slot.new.session.entropy) (grows-le was between c.in_ok-looked.ensures.counted) c.write_slot.ensures.counted

@@ -1,0 +1,37 @@
+-- The session drew at most, and the slot has the stage of the change of the version that it gives.
+use Rattle.std.proofs.Common.{◌≡◌, IfOk, List, ℕ, subst}
+use Rattle.change_calls.specs.Staging.{writing}
+use Rattle.shared_calls.specs.Changing.{HasStaged}
+use Rattle.shared_calls.specs.Counts.{Grows}
+use Rattle.shared_calls.proofs.StageCounts.{drawn-waits, stage-grows, stage-still}
+use Rattle.shared_calls.proofs.StagedSlots.{has-staged}
+use Rattle.shared_calls.proofs.writing.stage_slot.Goals as goal
+
+pub returns-clause-waits : goal.returns-clause-waits
+returns-clause-waits g c = drawn-waits g.L.StoreName.store c.args.session.now c.write_object.new.entropy c.requires.caller
+
+pub returns-clause-staged : goal.returns-clause-staged
+returns-clause-staged g c =
+    let store = g.L.StoreName.store in
+    let found = c.args.found.now in
+    let staged = c.write_object in
+    subst (λ (bytes : List ℕ). IfOk staged.result (HasStaged store staged.new.slot (writing found.handle.position bytes))) c.as_slice.ensures
+    (has-staged store c.args.slot.now staged.new.slot found.held.entry (writing found.handle.position c.as_slice.result.now) c.requires.locked c.requires.loads.given staged.ensures.same staged.ensures.base
+    staged.result staged.ensures.stages)
+
+pub returns-clause-counted : goal.returns-clause-counted
+returns-clause-counted g c =
+    let faults = g.E.Entropy.faults in
+    let old = c.args.slot.now in
+    let staged = c.write_object in
+    subst (λ (x : g.row.E.Denot). Grows (faults x) (faults staged.new.entropy)) c.entropy_mut-entropy.ensures.value
+    (stage-grows g.E.Entropy.is_reliable faults old.file staged.new.slot.file old.number c.entropy_mut-entropy.result.now staged.new.entropy staged.result staged.ensures.cause staged.ensures.undrawn)
+
+pub returns-clause-still : goal.returns-clause-still
+returns-clause-still g c =
+    let reliable = g.E.Entropy.is_reliable in
+    let faults = g.E.Entropy.faults in
+    let old = c.args.slot.now in
+    let staged = c.write_object in
+    subst (λ (x : g.row.E.Denot). reliable x → faults staged.new.entropy ≡ faults x) c.entropy_mut-entropy.ensures.value
+    (stage-still reliable faults old.file staged.new.slot.file old.number c.entropy_mut-entropy.result.now staged.new.entropy staged.result staged.ensures.cause staged.ensures.undrawn)

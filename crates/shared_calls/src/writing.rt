@@ -1,0 +1,361 @@
+//! TEE_WriteObjectData, with the gate's lock taken for each look alone.
+
+ghost use Rattle.std.specs.Prelude.{◌==◌, ◌≡◌, ◌+◌, ◌≤◌, IfOk, OnErr, false, length};
+ghost use Rattle.tee_types.specs.Rights.{write_bit};
+ghost use Rattle.hmac_keys.specs.KeyTable.{ssk};
+ghost use Rattle.locked_slots.specs.LockedSlots.{IsLockedSlot};
+ghost use Rattle.call_history.specs.Sessions.{IsCallerOf};
+ghost use Rattle.call_rules.specs.Objects.{IsRightful};
+ghost use Rattle.change_calls.specs.Staging.{writing};
+ghost use Rattle.shared_calls.specs.Changing.{HasStaged};
+ghost use Rattle.shared_calls.specs.Counts.{Grows};
+ghost use Rattle.shared_calls.specs.Looks.{EndsLook, IfFound};
+ghost use Rattle.shared_calls.specs.Meeting.{MayLoad};
+ghost use Rattle.shared_calls.specs.Ready.{IsReady};
+ghost use Rattle.shared_calls.specs.Rounds.{EndsRound, IsAnswered, IsWaiting};
+
+use crate::beginning::begin;
+use crate::changing::{answer_held, give_up};
+use crate::look::Look;
+use crate::meeting::meet_held;
+use call_history::Session;
+use call_rules::{Decision, OpenObject, write_refusal};
+use change_calls::{Staged, answer_write, meet_staged, write_object};
+use gate_calls::answer_ruled;
+use hmac_keys::tsk;
+use locked_gate::{Answer, LockedGate};
+use locked_slots::LockedSlot;
+use object_slots::Slot;
+use rpmb_card::RpmbPort;
+use std::alloc::Global;
+use std::sync::{Mutex, Wait};
+use suppositions::StoreName;
+use tee_ports::{Entropy, StoreFile};
+use tee_types::{Bytes, Call, NoMemory};
+
+// What a Write finds at the gate: its answer, or the object that it changes. Then the gate is ready for it. `call` is that Write.
+fn look<F: StoreFile + Drop, R: RpmbPort + Drop, L: StoreName, E: Entropy>(
+    alloc: Global,
+    gate: &mut LockedGate<F, R, L>,
+    session: &mut Session<E>,
+    call: &Call,
+    handle: u32,
+    bytes: &Bytes,
+) -> Result<Look<OpenObject>, NoMemory>
+    requires caller { IsCallerOf L.store session.old }
+    requires call { call.now ≡ Call.Write handle bytes.now }
+    ensures ends { EndsLook L.store session.old session.new (Call.Write handle bytes.now) result }
+    ensures ready { IfFound result (λ found. IsReady L.store gate.new session.new) }
+    ensures found { IfFound result (IsRightful gate.new.gate.dir.dir.entries session.new.state handle write_bit) }
+    ensures some { IfFound result (λ found. (length bytes.now == 0) ≡ false) }
+    ensures counted { E.faults session.old.entropy ≤ E.faults session.new.entropy }
+    ensures reliable { E.is_reliable session.old.entropy → E.is_reliable session.new.entropy }
+    ensures still { E.is_reliable session.old.entropy → E.faults session.new.entropy ≡ E.faults session.old.entropy }
+{
+    if let Some(answer) = begin(alloc, gate, session, call)? {
+        return Ok(Look::Answered(answer));
+    }
+    match call_rules::write(&*gate, session.state(), handle, bytes) {
+        Decision::Answered(reply) => {
+            let kept = call.copy(alloc)?;
+            Ok(Look::Answered(answer_ruled(gate, session, kept, reply)))
+        }
+        Decision::Needs(found) => Ok(Look::Found(found)),
+    }
+}
+
+/// The number of the file of a Write's object, as a look at the gate finds it; or the call's answer. `call` is that Write.
+///
+/// # Errors
+///
+/// Memory ran out. The session has no event more.
+pub(crate) fn file_of<F: StoreFile + Drop, R: RpmbPort + Drop, L: StoreName, E: Entropy>(
+    alloc: Global,
+    gate: &mut LockedGate<F, R, L>,
+    session: &mut Session<E>,
+    call: &Call,
+    handle: u32,
+    bytes: &Bytes,
+) -> Result<Look<u16>, NoMemory>
+    requires caller { IsCallerOf L.store session.old }
+    requires call { call.now ≡ Call.Write handle bytes.now }
+    ensures ends { EndsLook L.store session.old session.new (Call.Write handle bytes.now) result }
+    ensures counted { E.faults session.old.entropy ≤ E.faults session.new.entropy }
+    ensures reliable { E.is_reliable session.old.entropy → E.is_reliable session.new.entropy }
+    ensures still { E.is_reliable session.old.entropy → E.faults session.new.entropy ≡ E.faults session.old.entropy }
+{
+    match look(alloc, gate, session, call, handle, bytes)? {
+        Look::Answered(answer) => Ok(Look::Answered(answer)),
+        Look::Found(found) => Ok(Look::Found(found.held.entry.file)),
+        Look::Again => Ok(Look::Again),
+    }
+}
+
+// The first look: a write that is refused whatever the object's bytes are is answered. For any other the object's slot is shown the history,
+// so that the object may be loaded. `call` is that Write.
+fn look_first<F: StoreFile + Drop, R: RpmbPort + Drop, L: StoreName, E: Entropy>(
+    alloc: Global,
+    gate: &mut LockedGate<F, R, L>,
+    slot: &mut LockedSlot<F, L>,
+    session: &mut Session<E>,
+    call: &Call,
+    handle: u32,
+    bytes: &Bytes,
+) -> Result<Look<OpenObject>, NoMemory>
+    requires caller { IsCallerOf L.store session.old }
+    requires call { call.now ≡ Call.Write handle bytes.now }
+    ensures ends { EndsLook L.store session.old session.new (Call.Write handle bytes.now) result }
+    ensures loads { IfFound result (λ found. MayLoad slot.new found.held.entry) }
+    ensures fits { IfFound result (λ found. found.handle.position + length bytes.now ≤ 1044480) }
+    ensures counted { E.faults session.old.entropy ≤ E.faults session.new.entropy }
+    ensures reliable { E.is_reliable session.old.entropy → E.is_reliable session.new.entropy }
+    ensures still { E.is_reliable session.old.entropy → E.faults session.new.entropy ≡ E.faults session.old.entropy }
+{
+    let found = match look(alloc, gate, session, call, handle, bytes)? {
+        Look::Found(found) => found,
+        ended => return Ok(ended),
+    };
+    if let Some(reply) = write_refusal(found.handle.position, bytes.len()) {
+        let kept = call.copy(alloc)?;
+        let Some(answer) = answer_held(gate, slot, session, &found.held, kept, reply) else {
+            return Ok(Look::Again);
+        };
+        return Ok(Look::Answered(answer));
+    }
+    if !meet_held(gate, slot, session, &found.held) {
+        return Ok(Look::Again);
+    }
+    Ok(Look::Found(found))
+}
+
+// Loads the slot's object and stages the write in its file; or the reply says why it is not staged. The gate's lock is not taken.
+fn stage_slot<F: StoreFile + Drop, L: StoreName, E: Entropy>(
+    alloc: Global,
+    slot: &mut Slot<F>,
+    storage_key: &[u8; 32],
+    session: &mut Session<E>,
+    found: &OpenObject,
+    bytes: &Bytes,
+) -> Result<Staged, NoMemory>
+    requires caller { IsCallerOf L.store session.old }
+    requires locked { IsLockedSlot L.store slot.old }
+    requires loads { MayLoad slot.old found.now.held.entry }
+    requires keyed { storage_key.now ≡ ssk L.store.keys.huk L.store.keys.chip }
+    requires fits { found.now.handle.position + length bytes.now ≤ 1044480 }
+    ensures waits { IsWaiting L.store session.old session.new }
+    ensures staged { IfOk result (HasStaged L.store slot.new (writing found.now.handle.position bytes.now)) }
+    ensures locked { OnErr result (IsLockedSlot L.store slot.new) }
+    ensures counted { Grows (E.faults session.old.entropy) (E.faults session.new.entropy) }
+    ensures reliable { E.is_reliable session.old.entropy → E.is_reliable session.new.entropy }
+    ensures still { E.is_reliable session.old.entropy → E.faults session.new.entropy ≡ E.faults session.old.entropy }
+{
+    let entry = found.held.entry;
+    let key = tsk(storage_key, &entry.app.bytes());
+    let entropy = session.entropy_mut();
+    write_object::<F, L, E>(
+        alloc,
+        slot,
+        entropy,
+        &entry,
+        &key,
+        found.handle.position,
+        bytes.as_slice(),
+    )
+}
+
+// What a Write finds at the gate again, where its handle stands at that place still, and its object lies in that file. `call` is that Write.
+fn look_again<F: StoreFile + Drop, R: RpmbPort + Drop, L: StoreName, E: Entropy>(
+    alloc: Global,
+    gate: &mut LockedGate<F, R, L>,
+    session: &mut Session<E>,
+    call: &Call,
+    handle: u32,
+    bytes: &Bytes,
+    at: u32,
+    file: u16,
+) -> Result<Look<OpenObject>, NoMemory>
+    requires caller { IsCallerOf L.store session.old }
+    requires call { call.now ≡ Call.Write handle bytes.now }
+    ensures ends { EndsLook L.store session.old session.new (Call.Write handle bytes.now) result }
+    ensures ready { IfFound result (λ found. IsReady L.store gate.new session.new) }
+    ensures found { IfFound result (IsRightful gate.new.gate.dir.dir.entries session.new.state handle write_bit) }
+    ensures some { IfFound result (λ found. (length bytes.now == 0) ≡ false) }
+    ensures at { IfFound result (λ found. found.handle.position ≡ at) }
+    ensures file { IfFound result (λ found. found.held.entry.file ≡ file) }
+    ensures counted { E.faults session.old.entropy ≤ E.faults session.new.entropy }
+    ensures reliable { E.is_reliable session.old.entropy → E.is_reliable session.new.entropy }
+    ensures still { E.is_reliable session.old.entropy → E.faults session.new.entropy ≡ E.faults session.old.entropy }
+{
+    let found = match look(alloc, gate, session, call, handle, bytes)? {
+        Look::Found(found) => found,
+        ended => return Ok(ended),
+    };
+    if found.handle.position != at || found.held.entry.file != file {
+        return Ok(Look::Again);
+    }
+    Ok(Look::Found(found))
+}
+
+// Brings the write that was staged, or tells why it was not staged, with the slot of the object's file, which keeps its stage until then.
+fn answer_staged<F: StoreFile + Drop, R: RpmbPort + Drop, L: StoreName, E: Entropy>(
+    gate: &mut LockedGate<F, R, L>,
+    slot: &mut Slot<F>,
+    session: &mut Session<E>,
+    found: &OpenObject,
+    handle: u32,
+    bytes: Bytes,
+    staged: Staged,
+) -> Answer
+    requires ready { IsReady L.store gate.old session.old }
+    requires found { IsRightful gate.old.gate.dir.dir.entries session.old.state handle write_bit found.now }
+    requires some { (length bytes == 0) ≡ false }
+    requires fits { found.now.handle.position + length bytes ≤ 1044480 }
+    requires file { slot.old.number ≡ found.now.held.entry.file }
+    requires staged { HasStaged L.store slot.old (writing found.now.handle.position bytes) staged }
+    ensures answered { IsAnswered L.store session.old session.new (Call.Write handle bytes) result }
+    ensures locked { IsLockedSlot L.store slot.new }
+    ensures counted { Grows (E.faults session.old.entropy) (E.faults session.new.entropy) }
+    ensures reliable { E.is_reliable session.old.entropy → E.is_reliable session.new.entropy }
+    ensures still { E.is_reliable session.old.entropy → E.faults session.new.entropy ≡ E.faults session.old.entropy }
+{
+    meet_staged(gate, slot, session, &found.held.entry);
+    answer_write(gate, slot, session, found, handle, bytes, staged)
+}
+
+// The last look: what was staged for the place `at` is brought, or it is told why nothing was, where the object is found there again. Else the
+// stage is given up. `call` is that Write.
+fn look_last<F: StoreFile + Drop, R: RpmbPort + Drop, L: StoreName, E: Entropy>(
+    alloc: Global,
+    gate: &mut LockedGate<F, R, L>,
+    slot: &mut Slot<F>,
+    session: &mut Session<E>,
+    call: &Call,
+    handle: u32,
+    bytes: Bytes,
+    at: u32,
+    staged: Staged,
+) -> Result<Option<Answer>, NoMemory>
+    requires caller { IsCallerOf L.store session.old }
+    requires call { call.now ≡ Call.Write handle bytes }
+    requires fits { at + length bytes ≤ 1044480 }
+    requires staged { HasStaged L.store slot.old (writing at bytes) staged }
+    ensures ends { EndsRound L.store session.old session.new (Call.Write handle bytes) result }
+    ensures locked { IsLockedSlot L.store slot.new }
+    ensures counted { Grows (E.faults session.old.entropy) (E.faults session.new.entropy) }
+    ensures reliable { E.is_reliable session.old.entropy → E.is_reliable session.new.entropy }
+    ensures still { E.is_reliable session.old.entropy → E.faults session.new.entropy ≡ E.faults session.old.entropy }
+{
+    let file = slot.number();
+    let found = match look_again(alloc, gate, session, call, handle, &bytes, at, file) {
+        Ok(Look::Found(found)) => found,
+        Ok(Look::Answered(answer)) => {
+            give_up::<F, L>(slot, &staged);
+            return Ok(Some(answer));
+        }
+        Ok(Look::Again) => {
+            give_up::<F, L>(slot, &staged);
+            return Ok(None);
+        }
+        Err(none) => {
+            give_up::<F, L>(slot, &staged);
+            return Err(none);
+        }
+    };
+    Ok(Some(answer_staged(gate, slot, session, &found, handle, bytes, staged)))
+}
+
+// The rest of a round, once the slot may load its object: the slot has a stage between the steps. `call` is that Write.
+fn write_slot<W: Wait, F: StoreFile + Drop, R: RpmbPort + Drop, L: StoreName, E: Entropy>(
+    rt: &W,
+    alloc: Global,
+    gate: &Mutex<LockedGate<F, R, L>>,
+    slot: &mut Slot<F>,
+    storage_key: &[u8; 32],
+    session: &mut Session<E>,
+    found: &OpenObject,
+    call: &Call,
+    handle: u32,
+    bytes: Bytes,
+) -> Result<Option<Answer>, NoMemory>
+    requires caller { IsCallerOf L.store session.old }
+    requires locked { IsLockedSlot L.store slot.old }
+    requires loads { MayLoad slot.old found.now.held.entry }
+    requires keyed { storage_key.now ≡ ssk L.store.keys.huk L.store.keys.chip }
+    requires call { call.now ≡ Call.Write handle bytes }
+    requires fits { found.now.handle.position + length bytes ≤ 1044480 }
+    ensures ends { EndsRound L.store session.old session.new (Call.Write handle bytes) result }
+    ensures locked { IsLockedSlot L.store slot.new }
+    ensures counted { Grows (E.faults session.old.entropy) (E.faults session.new.entropy) }
+    ensures reliable { E.is_reliable session.old.entropy → E.is_reliable session.new.entropy }
+    ensures still { E.is_reliable session.old.entropy → E.faults session.new.entropy ≡ E.faults session.old.entropy }
+{
+    let staged = stage_slot::<F, L, E>(alloc, slot, storage_key, session, found, &bytes)?;
+    let at = found.handle.position;
+    look_last(
+        alloc,
+        &mut gate.lock(rt),
+        slot,
+        session,
+        call,
+        handle,
+        bytes,
+        at,
+        staged,
+    )
+}
+
+/// A round of a Write, with the lock of the slot of its object's file: two looks at the gate, and between them the write is staged in the
+/// file. None where the call has to begin again. What was staged and is not brought to the gate is given up. `call` is
+/// that Write.
+///
+/// # Errors
+///
+/// Memory ran out. The session has no event more.
+pub(crate) fn round<W: Wait, F: StoreFile + Drop, R: RpmbPort + Drop, L: StoreName, E: Entropy>(
+    rt: &W,
+    alloc: Global,
+    gate: &Mutex<LockedGate<F, R, L>>,
+    slot: &mut LockedSlot<F, L>,
+    storage_key: &[u8; 32],
+    session: &mut Session<E>,
+    call: &Call,
+    handle: u32,
+    bytes: &Bytes,
+) -> Result<Option<Answer>, NoMemory>
+    requires caller { IsCallerOf L.store session.old }
+    requires call { call.now ≡ Call.Write handle bytes.now }
+    requires keyed { storage_key.now ≡ ssk L.store.keys.huk L.store.keys.chip }
+    ensures ends { EndsRound L.store session.old session.new (Call.Write handle bytes.now) result }
+    ensures counted { Grows (E.faults session.old.entropy) (E.faults session.new.entropy) }
+    ensures reliable { E.is_reliable session.old.entropy → E.is_reliable session.new.entropy }
+    ensures still { E.is_reliable session.old.entropy → E.faults session.new.entropy ≡ E.faults session.old.entropy }
+{
+    let looked = look_first(
+        alloc,
+        &mut gate.lock(rt),
+        slot,
+        session,
+        call,
+        handle,
+        bytes,
+    )?;
+    let found = match looked {
+        Look::Answered(answer) => return Ok(Some(answer)),
+        Look::Found(found) => found,
+        Look::Again => return Ok(None),
+    };
+    // The bytes for the event.
+    let kept = bytes.copy(alloc)?;
+    write_slot(
+        rt,
+        alloc,
+        gate,
+        &mut slot.slot,
+        storage_key,
+        session,
+        &found,
+        call,
+        handle,
+        kept,
+    )
+}
