@@ -73,14 +73,14 @@ pub mounts_open_with_left : {F R : Type 0} (of_file : F → FileState) (of_port 
 mounts_open_with_left of_file of_port keys s old o card holds sound m followed has = opens_with_left of_file of_port keys old o m s card holds sound followed has
 
 pub next_openings_are_left : {F R : Type 0} (of_file : F → FileState) (of_port : R → PortState) (Reliable : Type 0) → NextOpeningsAreLeft of_file of_port Reliable
-next_openings_are_left of_file of_port Reliable keys applications arms calls old new opening events between o card r honest may sound m followed has =
+next_openings_are_left of_file of_port Reliable keys applications arms mode calls old new opening events between o card r honest may sound m followed has =
     let left = standing_left opening applications events in
-    let holds : HoldsLeft keys between left = crashes_keep keys left new between (phases_leave of_file of_port Reliable keys applications arms calls old new opening events r honest) may in
+    let holds : HoldsLeft keys between left = crashes_keep keys left new between (phases_leave of_file of_port Reliable keys applications arms mode calls old new opening events r honest) may in
     let there : HasCard between.card (rpmb_key keys.huk) card =
     card_of between.card new.card (rpmb_key keys.huk) card (ap (λ (p : PortState). p.card) (sym may.card)) has in
     mounts_open_with_left of_file of_port keys left between o card holds sound m followed there
 
 pub next_phases_open_with_left : {F R : Type 0} (of_file : F → FileState) (of_port : R → PortState) (Reliable : Type 0) → NextPhasesOpenWithLeft of_file of_port Reliable
-next_phases_open_with_left of_file of_port Reliable keys applications later arms more calls others old new between last opening objects events after card r honest may sound second followed has =
+next_phases_open_with_left of_file of_port Reliable keys applications later arms more mode next calls others old new between last opening objects events after card r honest may sound second followed has =
     subst (AreLeft (standing_left opening applications events)) (sym second.objects)
-    (next_openings_are_left of_file of_port Reliable keys applications arms calls old new opening events between second.opened card r honest may sound second.mounts followed has)
+    (next_openings_are_left of_file of_port Reliable keys applications arms mode calls old new opening events between second.opened card r honest may sound second.mounts followed has)

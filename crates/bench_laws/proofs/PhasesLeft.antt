@@ -7,6 +7,7 @@ use Rattle.rpmb_card.specs.Card.{CardState}
 use Rattle.rpmb_card.specs.Port.{PortState}
 use Rattle.rpmb_host.specs.Honest.{HasCard}
 use Rattle.script_text.specs.declared.script.Arm.{Arm}
+use Rattle.script_text.specs.declared.script.Mode.{Mode}
 use Rattle.script_text.specs.declared.script.Step.{Step}
 use Rattle.store_model.specs.declared.event.Event.{Event}
 use Rattle.store_model.specs.Machine.{opened_store}
@@ -22,8 +23,8 @@ use Rattle.bench_laws.specs.Left.{HoldsLeft, standing_left}
 use Rattle.bench_laws.proofs.Crashed.{card_of}
 use Rattle.bench_laws.proofs.Replays.{AreAlike, left_alike, replay_alike}
 
-module _ {F R : Type 0} (of_file : F → FileState) (of_port : R → PortState) (Reliable : Type 0) (keys : Keys) (applications : List (List ℕ)) (arms : List Arm) (calls : List Step) (old new : BenchState)
-    (opening : ObjectMap) (events : List Event) (r : RunsPhase of_file of_port Reliable keys applications arms calls old new opening events) where
+module _ {F R : Type 0} (of_file : F → FileState) (of_port : R → PortState) (Reliable : Type 0) (keys : Keys) (applications : List (List ℕ)) (arms : List Arm) (mode : Mode) (calls : List Step) (old new : BenchState)
+    (opening : ObjectMap) (events : List Event) (r : RunsPhase of_file of_port Reliable keys applications arms mode calls old new opening events) where
   open r use {closed, disarms}
 
   abbrev s : Store
@@ -70,4 +71,4 @@ module _ {F R : Type 0} (of_file : F → FileState) (of_port : R → PortState) 
     }
 
 pub phases_leave : {F R : Type 0} (of_file : F → FileState) (of_port : R → PortState) (Reliable : Type 0) → PhasesLeave of_file of_port Reliable
-phases_leave of_file of_port Reliable keys applications arms calls old new opening events r honest = holds of_file of_port Reliable keys applications arms calls old new opening events r honest
+phases_leave of_file of_port Reliable keys applications arms mode calls old new opening events r honest = holds of_file of_port Reliable keys applications arms mode calls old new opening events r honest

@@ -15,22 +15,24 @@ use Rattle.store_model.specs.Machine.{new_session}
 use Rattle.store_model.specs.Object.{ObjectMap}
 use Rattle.store_model.specs.Standing.{opening}
 use Rattle.suppositions.specs.Stores.{Store, phase_of}
+use Rattle.script_text.specs.declared.script.Mode.{Mode}
 use Rattle.script_text.specs.declared.script.Step.{Step}
+use Rattle.served_calls.specs.Counts.{Rise, counts_of}
+use Rattle.served_calls.proofs.Rises.{Rise-still}
 use Rattle.object_calls.specs.Arming.{IsOnBench}
 use Rattle.object_calls.specs.Finished.{AreAllHonest}
-use Rattle.phase_calls.specs.Counts.{Rise, counts_of}
 use Rattle.bench_acts.specs.Benches.{BenchState, opening_state}
 use Rattle.bench_phases.specs.Closing.{faults_on}
 use Rattle.bench_phases.specs.Phases.{RunsPhase}
 use Rattle.bench_laws.specs.Quiet.{AreOfMachine, IsQuiet, IsQuietFile, QuietPhasesAreOfMachine}
 use Rattle.bench_laws.proofs.Mounted.{mount_goes_on}
-use Rattle.bench_laws.proofs.Untold.{Rise-still, Untold, of_machine_all}
+use Rattle.bench_laws.proofs.Untold.{Untold, of_machine_all}
 
 not_risen : (n m : ℕ) → m ≡ n → n < 2 ^ 64 - 1 → Rose n m → ⊥
 not_risen n m same below rose = omega (arith, same, below, rose)
 
-module _ {F R : Type 0} (of_file : F → FileState) (of_port : R → PortState) (Reliable : Type 0) (keys : Keys) (applications : List (List ℕ)) (calls : List Step) (old new : BenchState)
-    (objects : ObjectMap) (events : List Event) (r : RunsPhase of_file of_port Reliable keys applications [] calls old new objects events)
+module _ {F R : Type 0} (of_file : F → FileState) (of_port : R → PortState) (Reliable : Type 0) (keys : Keys) (applications : List (List ℕ)) (mode : Mode) (calls : List Step) (old new : BenchState)
+    (objects : ObjectMap) (events : List Event) (r : RunsPhase of_file of_port Reliable keys applications [] mode calls old new objects events)
     (was_quiet : IsQuiet keys old) (reliable : Reliable) (honest : AreAllHonest new.files) where
   open r use {closed}
 
@@ -108,5 +110,5 @@ module _ {F R : Type 0} (of_file : F → FileState) (of_port : R → PortState) 
       (((r.serves).closes).leaves).tagged
 
 pub quiet_phases_are_of_machine : {F R : Type 0} (of_file : F → FileState) (of_port : R → PortState) (Reliable : Type 0) → QuietPhasesAreOfMachine of_file of_port Reliable
-quiet_phases_are_of_machine of_file of_port Reliable keys applications calls old new objects events r quiet reliable honest =
-    quiet_of_machine of_file of_port Reliable keys applications calls old new objects events r quiet reliable honest
+quiet_phases_are_of_machine of_file of_port Reliable keys applications mode calls old new objects events r quiet reliable honest =
+    quiet_of_machine of_file of_port Reliable keys applications mode calls old new objects events r quiet reliable honest

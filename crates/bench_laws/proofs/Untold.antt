@@ -1,5 +1,5 @@
 -- Events whose replies carry no fault, as the machine answers them.
-use Rattle.std.proofs.Common.{◌≡◌, ◌∙◌, ◌==◌, ◌<◌, ◌-◌, ◌^◌, ◌++◌, ◌∷◌, ◌⊎◌, [], ℕ, suc, Bool, true, false, cond, List, None, Option, Some, length, refl, sym, subst, inl, inr, arith}
+use Rattle.std.proofs.Common.{◌≡◌, ◌∙◌, ◌==◌, ◌<◌, ◌++◌, ◌∷◌, ◌⊎◌, [], ℕ, suc, Bool, true, false, cond, List, None, Option, Some, length, refl, sym, subst, inl, inr, arith}
 use Rattle.std.specs.Prelude.{Contains}
 use Rattle.std.proofs.lemmas.Bool.{eq-eqb}
 use Rattle.core_parts.specs.Joined.{IsObjectFile}
@@ -20,22 +20,10 @@ use Rattle.store_model.specs.Legal.IsLegalAnswer.{Answered, Doubted, FoundCorrup
 use Rattle.store_model.specs.Record.{Record, events_of, fault_in_reply, file_of}
 use Rattle.store_model.specs.Standing.{Standing, keeps_doubt, standing_after, standing_after_call}
 use Rattle.store_model.proofs.Sessions.{length-after}
+use Rattle.served_calls.specs.Cards.{TellNoFrame}
+use Rattle.served_calls.specs.Counts.{counts_of, draws_of, told_of}
 use Rattle.object_calls.specs.Arming.{IsOnBench}
-use Rattle.phase_calls.specs.Cards.{TellNoFrame}
-use Rattle.phase_calls.specs.Counts.{Rise, counts_of, draws_of, told_of}
 use Rattle.bench_laws.specs.Quiet.{AreOfMachine, IsOfMachine}
-
-Rise-above : (from to : ℕ) (counts : List ℕ) → to < from → to < 2 ^ 64 - 1 → Rise from to counts → ⊥
-Rise-above from to [] above below rise = elim rise [
-  | inl same ↦ omega (arith, above, same)
-  | inr rose ↦ omega (arith, above, below, rose)
-]
-Rise-above from to (count ∷ counts) above below rise = Rise-above count to counts (omega (arith, above, below, rise.0)) below rise.1
-
--- a count that stands still below the last value is carried by none
-pub Rise-still : (n : ℕ) (counts : List ℕ) → n < 2 ^ 64 - 1 → Rise n n counts → counts ≡ []
-Rise-still n [] below rise = refl
-Rise-still n (count ∷ counts) below rise = absurd (Rise-above count n counts (omega (arith, below, rise.0)) below rise.1)
 
 -- No reply of these events carries a count of a device of the bench, a frame, a result of the card, or a count of a session's generator.
 pub record Untold (sessions : ℕ) (events : List Event) : Type 0 where

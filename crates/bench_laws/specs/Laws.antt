@@ -7,6 +7,7 @@ use Rattle.rpmb_card.specs.Card.{CardState}
 use Rattle.rpmb_card.specs.Port.{PortState}
 use Rattle.rpmb_host.specs.Honest.{HasCard}
 use Rattle.script_text.specs.declared.script.Arm.{Arm}
+use Rattle.script_text.specs.declared.script.Mode.{Mode}
 use Rattle.script_text.specs.declared.script.Step.{Step}
 use Rattle.store_model.specs.declared.event.Event.{Event}
 use Rattle.store_model.specs.Object.{ObjectMap}
@@ -57,8 +58,8 @@ module _ {F R : Type 0} (of_file : F → FileState) (of_port : R → PortState) 
   -- A phase leaves a bench that holds what its history leaves, where every file is honest still.
   abbrev pub PhasesLeave : (Reliable : Type 0) → Type 0
   PhasesLeave Reliable =
-      (keys : Keys) (applications : List (List ℕ)) (arms : List Arm) (calls : List Step) (old new : BenchState) (opening : ObjectMap) (events : List Event)
-      → RunsPhase of_file of_port Reliable keys applications arms calls old new opening events → AreAllHonest new.files
+      (keys : Keys) (applications : List (List ℕ)) (arms : List Arm) (mode : Mode) (calls : List Step) (old new : BenchState) (opening : ObjectMap) (events : List Event)
+      → RunsPhase of_file of_port Reliable keys applications arms mode calls old new opening events → AreAllHonest new.files
       → HoldsLeft keys new (standing_left opening applications events)
 
   -- A bench is mounted with objects that it holds.
@@ -72,9 +73,9 @@ module _ {F R : Type 0} (of_file : F → FileState) (of_port : R → PortState) 
   -- and can be followed as the bench is mounted, the objects are those that the phase's history leaves, or those with its commit in doubt.
   abbrev pub NextOpeningsAreLeft : (Reliable : Type 0) → Type 0
   NextOpeningsAreLeft Reliable =
-      (keys : Keys) (applications : List (List ℕ)) (arms : List Arm) (calls : List Step) (old new : BenchState) (opening : ObjectMap) (events : List Event)
+      (keys : Keys) (applications : List (List ℕ)) (arms : List Arm) (mode : Mode) (calls : List Step) (old new : BenchState) (opening : ObjectMap) (events : List Event)
       (between : BenchState) (o : OpeningValue F R) (card : CardState)
-      → RunsPhase of_file of_port Reliable keys applications arms calls old new opening events → AreAllHonest new.files → MayCrash new between
+      → RunsPhase of_file of_port Reliable keys applications arms mode calls old new opening events → AreAllHonest new.files → MayCrash new between
       → AreSound between.files → IsMounted of_file of_port keys between o → AreFollowed between.files (bench_files of_file o)
       → HasCard new.card (rpmb_key keys.huk) card
       → AreLeft (standing_left opening applications events) (objects_in of_file of_port keys o)
@@ -82,10 +83,10 @@ module _ {F R : Type 0} (of_file : F → FileState) (of_port : R → PortState) 
   -- So the next phase opens with them.
   abbrev pub NextPhasesOpenWithLeft : (Reliable : Type 0) → Type 0
   NextPhasesOpenWithLeft Reliable =
-      (keys : Keys) (applications later : List (List ℕ)) (arms more : List Arm) (calls others : List Step) (old new between last : BenchState)
+      (keys : Keys) (applications later : List (List ℕ)) (arms more : List Arm) (mode next : Mode) (calls others : List Step) (old new between last : BenchState)
       (opening objects : ObjectMap) (events after : List Event) (card : CardState)
-      → RunsPhase of_file of_port Reliable keys applications arms calls old new opening events → AreAllHonest new.files → MayCrash new between
-      → AreSound between.files → (second : RunsPhase of_file of_port Reliable keys later more others between last objects after)
+      → RunsPhase of_file of_port Reliable keys applications arms mode calls old new opening events → AreAllHonest new.files → MayCrash new between
+      → AreSound between.files → (second : RunsPhase of_file of_port Reliable keys later more next others between last objects after)
       → AreFollowed between.files (bench_files of_file second.opened) → HasCard new.card (rpmb_key keys.huk) card
       → AreLeft (standing_left opening applications events) objects
 

@@ -12,6 +12,7 @@ use Rattle.store_model.specs.Object.{ObjectMap}
 use Rattle.store_model.specs.Record.{Record, file_of}
 use Rattle.store_model.specs.Standing.{Standing, opening, standing_after}
 use Rattle.suppositions.specs.Stores.{phase_of}
+use Rattle.script_text.specs.declared.script.Mode.{Mode}
 use Rattle.script_text.specs.declared.script.Step.{Step}
 use Rattle.object_calls.specs.Finished.{AreAllHonest}
 use Rattle.bench_acts.specs.Benches.{BenchState}
@@ -45,5 +46,5 @@ AreOfMachine s (r ∷ records) = IsOfMachine s r.event × AreOfMachine (standing
 -- as the machine does, but for commits where the counter is at its end.
 abbrev pub QuietPhasesAreOfMachine : {F R : Type 0} → (F → FileState) → (R → PortState) → (Reliable : Type 0) → Type 0
 QuietPhasesAreOfMachine {F} {R} of_file of_port Reliable =
-    (keys : Keys) (applications : List (List ℕ)) (calls : List Step) (old new : BenchState) (objects : ObjectMap) (events : List Event)
-    → (r : RunsPhase of_file of_port Reliable keys applications [] calls old new objects events) → IsQuiet keys old → Reliable → AreAllHonest new.files → AreOfMachine (opening (phase_of (r.serves).store)) (((r.serves).closes).view).all
+    (keys : Keys) (applications : List (List ℕ)) (mode : Mode) (calls : List Step) (old new : BenchState) (objects : ObjectMap) (events : List Event)
+    → (r : RunsPhase of_file of_port Reliable keys applications [] mode calls old new objects events) → IsQuiet keys old → Reliable → AreAllHonest new.files → AreOfMachine (opening (phase_of (r.serves).store)) (((r.serves).closes).view).all

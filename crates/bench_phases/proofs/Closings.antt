@@ -12,8 +12,11 @@ use Rattle.suppositions.specs.Stores.{Store}
 use Rattle.call_history.specs.Sessions.{CallerSession}
 use Rattle.store_commit.specs.Gates.{GateValue}
 use Rattle.object_slots.specs.Value.{SlotValue}
+use Rattle.script_text.specs.declared.script.Mode.{Mode}
 use Rattle.script_text.specs.declared.script.Step.{Step}
 use Rattle.served_calls.specs.Answered.{events_at}
+use Rattle.served_calls.specs.Cards.{TellsCard}
+use Rattle.served_calls.specs.Counts.{Rise, counts_of, draws_of}
 use Rattle.served_calls.specs.Devices.{PortGoesOn, file_in, no_slot}
 use Rattle.object_calls.specs.Arming.{IsOnBench}
 use Rattle.object_calls.specs.Files.{files_of}
@@ -22,14 +25,11 @@ use Rattle.object_calls.specs.Opening.{OpeningValue}
 use Rattle.object_calls.specs.Services.{ServiceValue}
 use Rattle.object_calls.specs.Serving.{ServesOpening}
 use Rattle.object_calls.proofs.Files.{files_behind}
-use Rattle.phase_calls.specs.Cards.{TellsCard}
-use Rattle.phase_calls.specs.Counts.{Rise, counts_of, draws_of}
 use Rattle.phase_calls.specs.Making.{MakesCalls, faults_at}
-use Rattle.phase_calls.specs.Reliable.{StayReliable}
+use Rattle.phase_calls.specs.Reliable.{AreFresh, AreReliable, StayReliable}
 use Rattle.phase_calls.specs.Steps.{ServesSteps}
 use Rattle.bench_acts.specs.Benches.{BenchState, opening_state}
 use Rattle.bench_phases.specs.Closing.{BenchGoesOn, ClosesStore, faults_on}
-use Rattle.bench_phases.specs.Drawing.{AreFresh, AreReliable}
 use Rattle.bench_phases.specs.Serving.{HasDevices}
 use Rattle.bench_phases.proofs.Draws.{drawn_from_0, undrawn_from_0}
 
@@ -90,15 +90,15 @@ module _ {F R E : Type 0} (of_file : F → FileState) (of_port : R → PortState
         subst (λ (p : ℕ × ℕ). Rise p.0 p.1 (counts_of device makes.added)) (λ i. (faults_same old before has_before device on i, faults_same new closed has_closed device on i))
         (makes.counted device on)
 
-    pub closes_store : (doubt : Option ℕ) (events : List Event) → length was ≡ length store.mounted.applications → AreFresh draws was → StayReliable is_reliable draws was now → events_at old.gate ≡ []
-        → (events_at old.gate ≡ [] → ServesSteps calls (events_at new.gate)) → events ≡ events_of new.gate.journal.knows.all → LeavesStore store new.gate.journal.knows closed.files closed.card doubt
-        → ClosesStore (AreReliable is_reliable was) store before calls closed events
-    closes_store doubt events many fresh stay empty serves is leaves =
+    pub closes_store : (mode : Mode) (doubt : Option ℕ) (events : List Event) → length was ≡ length store.mounted.applications → AreFresh draws was → StayReliable is_reliable draws was now → events_at old.gate ≡ []
+        → (events_at old.gate ≡ [] → (any : Mode) → ServesSteps any calls (events_at new.gate)) → events ≡ events_of new.gate.journal.knows.all → LeavesStore store new.gate.journal.knows closed.files closed.card doubt
+        → ClosesStore (AreReliable is_reliable was) store before mode calls closed events
+    closes_store mode doubt events many fresh stay empty serves is leaves =
         let added : makes.added ≡ events = sym (is ∙ makes.events ∙ ap (λ (l : List Event). l ++ makes.added) empty) in
         record {
           view = new.gate.journal.knows;
           events_are = is;
-          serves = subst (ServesSteps calls) (sym is) (serves empty);
+          serves = subst (ServesSteps mode calls) (sym is) (serves empty mode);
           doubt = doubt;
           leaves = leaves;
           counted = λ device on. subst (λ (l : List Event). Rise (faults_on before device) (faults_on closed device) (counts_of device l)) added (counted_on device on);
@@ -114,9 +114,9 @@ module _ {F R E : Type 0} (of_file : F → FileState) (of_port : R → PortState
         }
 
 -- Where a generator that never fails has streams that never do, so much is said of it.
-pub closes_where : (Streams Generator : Type 0) (store : Store) (before : BenchState) (calls : List Step) (closed : BenchState) (events : List Event) → (Generator → Streams)
-    → ClosesStore Streams store before calls closed events → ClosesStore Generator store before calls closed events
-closes_where Streams Generator store before calls closed events never c = record {
+pub closes_where : (Streams Generator : Type 0) (store : Store) (before : BenchState) (mode : Mode) (calls : List Step) (closed : BenchState) (events : List Event) → (Generator → Streams)
+    → ClosesStore Streams store before mode calls closed events → ClosesStore Generator store before mode calls closed events
+closes_where Streams Generator store before mode calls closed events never c = record {
   view = c.view;
   events_are = c.events_are;
   serves = c.serves;

@@ -1,24 +1,11 @@
 -- What the replies to a session carry for a generator that had counted no fault before.
-use Rattle.std.proofs.Common.{◌≡◌, ◌∙◌, ◌<◌, ◌≤◌, ℕ, List, [], ◌∷◌, ◌++◌, length, slice_index_or, refl, sym, ap, subst, inl, inr, arith}
+use Rattle.std.proofs.Common.{◌≡◌, ◌∙◌, ◌<◌, ℕ, List, [], ◌∷◌, ◌++◌, length, slice_index_or, sym, subst, inl, inr, arith}
 use Rattle.std.proofs.lemmas.Bool.{cases_eq}
 use Rattle.std.proofs.lemmas.List.{get_or_append_left, get_or_push, length_push}
 use Rattle.call_history.specs.Sessions.{CallerSession}
-use Rattle.object_calls.specs.Sessions.{DrawAlike}
-use Rattle.phase_calls.specs.Counts.{Rise}
-use Rattle.bench_phases.specs.Drawing.{AreFresh, AreReliable}
-
--- a count that rose above 0 does not fall back to it
-Rise-some : (from : ℕ) (counts : List ℕ) → 1 ≤ from → Rise from 0 counts → ⊥
-Rise-some from [] some rise = elim rise [
-  | inl same ↦ omega (arith, some, same)
-  | inr rose ↦ omega (arith, some, rose)
-]
-Rise-some from (count ∷ counts) some rise = Rise-some count counts (omega (arith, some, rise.0)) rise.1
-
--- one that stands at 0 is carried by none
-Rise-none : (counts : List ℕ) → Rise 0 0 counts → counts ≡ []
-Rise-none [] rise = refl
-Rise-none (count ∷ counts) rise = absurd (Rise-some count counts (omega (arith, rise.0)) rise.1)
+use Rattle.served_calls.specs.Counts.{Rise}
+use Rattle.served_calls.proofs.Rises.{Rise-still}
+use Rattle.phase_calls.specs.Reliable.{AreFresh, AreReliable}
 
 module _ {E : Type 0} where
   pub drawn_from_0 : (draws : E → ℕ) (was now : List (CallerSession E)) (session : ℕ) (counts : List ℕ) → session < length was → AreFresh draws was
@@ -36,14 +23,7 @@ module _ {E : Type 0} where
   undrawn_from_0 is_reliable draws (s ∷ was) now session counts within fresh reliable stay rise =
       let first : draws (slice_index_or (s ∷ was) session s).entropy ≡ 0 = fresh session s within in
       let last : draws (slice_index_or now session s).entropy ≡ 0 = (stay s (reliable session s within)).1 ∙ first in
-      Rise-none counts (subst (λ (p : ℕ × ℕ). Rise p.0 p.1 counts) (λ i. (first i, last i)) (rise s))
-
-  -- sessions that draw alike
-  pub fresh_alike : (draws : E → ℕ) (was now : List (CallerSession E)) → length now ≡ length was → DrawAlike was now → AreFresh draws was → AreFresh draws now
-  fresh_alike draws was now many alike fresh i d within = ap draws (alike i d) ∙ fresh i d (subst (λ (n : ℕ). i < n) many within)
-
-  pub reliable_alike : (is_reliable : E → Type 0) (was now : List (CallerSession E)) → length now ≡ length was → DrawAlike was now → AreReliable is_reliable was → AreReliable is_reliable now
-  reliable_alike is_reliable was now many alike reliable i d within = subst is_reliable (sym (alike i d)) (reliable i d (subst (λ (n : ℕ). i < n) many within))
+      Rise-still 0 counts (omega arith) (subst (λ (p : ℕ × ℕ). Rise p.0 p.1 counts) (λ i. (first i, last i)) (rise s))
 
   -- what holds of the generators of sessions, and of one more
   pub entropies_push : (P : E → Type 0) (sessions : List (CallerSession E)) (session : CallerSession E) → ((i : ℕ) (d : CallerSession E) → i < length sessions → P (slice_index_or sessions i d).entropy)

@@ -6,3 +6,4 @@ pub mod Closings
 pub mod Ready
 pub mod Fed
 pub mod Results
+pub mod SharedClosings

@@ -8,6 +8,7 @@ use Rattle.store_model.specs.declared.event.Event.{Event}
 use Rattle.store_model.specs.Object.{ObjectMap}
 use Rattle.crash_core.specs.Opening.{opening_map}
 use Rattle.script_text.specs.declared.script.Arm.{Arm}
+use Rattle.script_text.specs.declared.script.Mode.{Mode}
 use Rattle.script_text.specs.declared.script.Step.{Step}
 use Rattle.object_calls.specs.OpenedStores.{store_in}
 use Rattle.object_calls.specs.Opening.{IsKeyed, OpeningValue, bench_files, entries_in}
@@ -39,10 +40,10 @@ module _ {F R : Type 0} (of_file : F → FileState) (of_port : R → PortState) 
       ∙ armed-map keys (bench_files of_file opened) (bench_files of_file armed) (entries_in opened)
       (arms_read arms (opening_state of_file of_port opened) (opening_state of_file of_port armed) ready.arms_are)
 
-  pub serves_opened : (Reliable : Type 0) (keys : Keys) (calls : List Step) (closed : BenchState) (events : List Event) → IsKeyed keys opened
-      → ClosesStore Reliable (store_in keys of_file of_port armed) (opening_state of_file of_port armed) calls closed events
-      → ServesOpened of_file of_port Reliable keys applications arms calls opened closed events
-  serves_opened Reliable keys calls closed events keyed closes = record {
+  pub serves_opened : (Reliable : Type 0) (keys : Keys) (mode : Mode) (calls : List Step) (closed : BenchState) (events : List Event) → IsKeyed keys opened
+      → ClosesStore Reliable (store_in keys of_file of_port armed) (opening_state of_file of_port armed) mode calls closed events
+      → ServesOpened of_file of_port Reliable keys applications arms mode calls opened closed events
+  serves_opened Reliable keys mode calls closed events keyed closes = record {
     armed = armed;
     applications_are = ready-applications;
     arms_are = ready.arms_are;
@@ -54,10 +55,10 @@ module _ {F R : Type 0} (of_file : F → FileState) (of_port : R → PortState) 
   }
 
 -- where a generator that never fails leaves one that never does, so much is said of it
-pub serves_where : {F R : Type 0} (of_file : F → FileState) (of_port : R → PortState) (Streams Generator : Type 0) (keys : Keys) (applications : List (List ℕ)) (arms : List Arm) (calls : List Step)
-    (opened : OpeningValue F R) (closed : BenchState) (events : List Event) → (Generator → Streams) → ServesOpened of_file of_port Streams keys applications arms calls opened closed events
-    → ServesOpened of_file of_port Generator keys applications arms calls opened closed events
-serves_where of_file of_port Streams Generator keys applications arms calls opened closed events never s = record {
+pub serves_where : {F R : Type 0} (of_file : F → FileState) (of_port : R → PortState) (Streams Generator : Type 0) (keys : Keys) (applications : List (List ℕ)) (arms : List Arm) (mode : Mode) (calls : List Step)
+    (opened : OpeningValue F R) (closed : BenchState) (events : List Event) → (Generator → Streams) → ServesOpened of_file of_port Streams keys applications arms mode calls opened closed events
+    → ServesOpened of_file of_port Generator keys applications arms mode calls opened closed events
+serves_where of_file of_port Streams Generator keys applications arms mode calls opened closed events never s = record {
   armed = s.armed;
   applications_are = s.applications_are;
   arms_are = s.arms_are;
@@ -65,20 +66,20 @@ serves_where of_file of_port Streams Generator keys applications arms calls open
   is_store = s.is_store;
   keys_are = s.keys_are;
   opens = s.opens;
-  closes = closes_where Streams Generator s.store (opening_state of_file of_port s.armed) calls closed events never s.closes;
+  closes = closes_where Streams Generator s.store (opening_state of_file of_port s.armed) mode calls closed events never s.closes;
 }
 
-pub runs_where : {F R : Type 0} (of_file : F → FileState) (of_port : R → PortState) (Later First : Type 0) (keys : Keys) (applications : List (List ℕ)) (arms : List Arm) (calls : List Step)
-    (old new : BenchState) (opening : ObjectMap) (events : List Event) → (First → Later) → RunsPhase of_file of_port Later keys applications arms calls old new opening events
-    → RunsPhase of_file of_port First keys applications arms calls old new opening events
-runs_where of_file of_port Later First keys applications arms calls old new opening events lasts r = record {
+pub runs_where : {F R : Type 0} (of_file : F → FileState) (of_port : R → PortState) (Later First : Type 0) (keys : Keys) (applications : List (List ℕ)) (arms : List Arm) (mode : Mode) (calls : List Step)
+    (old new : BenchState) (opening : ObjectMap) (events : List Event) → (First → Later) → RunsPhase of_file of_port Later keys applications arms mode calls old new opening events
+    → RunsPhase of_file of_port First keys applications arms mode calls old new opening events
+runs_where of_file of_port Later First keys applications arms mode calls old new opening events lasts r = record {
   opened = r.opened;
   mounts = r.mounts;
   keeps = r.keeps;
   passed = r.passed;
   objects = r.objects;
   closed = r.closed;
-  serves = serves_where of_file of_port Later First keys applications arms calls r.opened r.closed events lasts r.serves;
+  serves = serves_where of_file of_port Later First keys applications arms mode calls r.opened r.closed events lasts r.serves;
   disarms = r.disarms;
   fed = r.fed;
 }

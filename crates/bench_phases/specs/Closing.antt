@@ -8,13 +8,14 @@ use Rattle.store_model.specs.declared.event.Event.{Event}
 use Rattle.store_model.specs.Record.{events_of}
 use Rattle.history_seats.specs.Views.{GateView}
 use Rattle.suppositions.specs.Stores.{Store}
+use Rattle.script_text.specs.declared.script.Mode.{Mode}
 use Rattle.script_text.specs.declared.script.Step.{Step}
+use Rattle.served_calls.specs.Cards.{TellsCard}
+use Rattle.served_calls.specs.Counts.{Rise, counts_of, draws_of}
 use Rattle.served_calls.specs.Devices.{PortGoesOn}
 use Rattle.object_calls.specs.Arming.{IsOnBench}
 use Rattle.object_calls.specs.Finished.{LeavesStore}
 use Rattle.bench_acts.specs.Benches.{BenchState}
-use Rattle.phase_calls.specs.Cards.{TellsCard}
-use Rattle.phase_calls.specs.Counts.{Rise, counts_of, draws_of}
 use Rattle.phase_calls.specs.Steps.{ServesSteps}
 
 -- how many faults a device of the bench counted
@@ -31,11 +32,11 @@ pub record BenchGoesOn (key : List ℕ) (old new : BenchState) : Type 0 where
 
 -- The calls were made and the store was closed. Its devices were those before the first call. `Reliable` says that no generator of its
 -- sessions ever fails.
-pub record ClosesStore (Reliable : Type 0) (store : Store) (before : BenchState) (calls : List Step) (closed : BenchState) (events : List Event) : Type 0 where
-  -- its history, in which each call is, once and in order
+pub record ClosesStore (Reliable : Type 0) (store : Store) (before : BenchState) (mode : Mode) (calls : List Step) (closed : BenchState) (events : List Event) : Type 0 where
+  -- its history, in which each call is, once, and in the order that the mode asks
   pub view : GateView
   pub events_are : events ≡ events_of view.all
-  pub serves : ServesSteps calls events
+  pub serves : ServesSteps mode calls events
   -- what it leaves: the history is legal, and every picture of the devices mounts to the objects that it leaves
   pub doubt : Option ℕ
   pub leaves : LeavesStore store view closed.files closed.card doubt

@@ -1,7 +1,6 @@
 pub mod Arming
 pub mod Disarming
 pub mod Serving
-pub mod Drawing
 pub mod Closing
 pub mod Phases
 pub mod Refusals

@@ -1,5 +1,5 @@
-//! A phase on a bench: the bench is mounted, a session is opened for each application, the devices are armed, the calls are served one
-//! after another, the store is closed, and the bench is disarmed.
+//! A phase on a bench: the bench is mounted, a session is opened for each application, the devices are armed, the calls are served as the
+//! mode of the phase says, the store is closed, and the bench is disarmed.
 //!
 //! A phase that was run is whole: no call of a file was given up for want of memory, and each call of the phase has its event. A phase
 //! that was given up gives its bench back, disarmed, and no history.

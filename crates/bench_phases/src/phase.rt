@@ -5,11 +5,11 @@ ghost use Rattle.script_text.specs.Laws.{IsArm};
 ghost use Rattle.store_model.specs.Object.{ObjectMap};
 ghost use Rattle.object_calls.specs.Opening.{IsKeyed};
 ghost use Rattle.object_calls.specs.Sessions.{AreUnseated};
+ghost use Rattle.phase_calls.specs.Reliable.{AreFresh, AreReliable};
 ghost use Rattle.phase_calls.specs.Steps.{AreCalls};
 ghost use Rattle.bench_acts.specs.Benches.{HasPassed, KeepsDevices, bench_state, opening_state};
 ghost use Rattle.bench_acts.specs.Mounts.{IsMounted};
 ghost use Rattle.bench_phases.specs.Arming.{IsReady};
-ghost use Rattle.bench_phases.specs.Drawing.{AreFresh, AreReliable};
 ghost use Rattle.bench_phases.specs.Phases.{RunsPhase, ServesOpened};
 ghost use Rattle.bench_phases.specs.Refusals.{EndsStarved, IsGivenUp};
 
@@ -22,8 +22,10 @@ use call_history::Session;
 use hmac_keys::Keys;
 use object_calls::{Bench, Closed, Halted, Opening};
 use rpmb_card::CardRig;
-use script_text::{Arm, Step};
+use script_text::{Arm, Mode, Step};
 use std::alloc::Global;
+use std::sync::Wait;
+use std::thread::Threads;
 use store_commit::MountFault;
 use store_model::History;
 use tee_ports::{Entropy, FileRig};
@@ -102,12 +104,19 @@ fn make_ready<F: FileRig + Drop, R: CardRig + Drop, E: Entropy>(
 }
 
 // Serves the calls of a phase on a store that is mounted, and closes it.
-fn serve_opened<F: FileRig + Drop, R: CardRig + Drop, E: Entropy + Drop>(
+fn serve_opened<
+    W: Threads + Wait + Sync,
+    F: FileRig + Drop + Send,
+    R: CardRig + Drop + Send,
+    E: Entropy + Drop + Send,
+>(
+    rt: &W,
     alloc: Global,
     opening: Opening<F, R>,
     keys: &Keys,
     entropy: &E,
     number: u64,
+    mode: Mode,
     applications: &[AppId],
     arms: &[Arm],
     calls: &[Step],
@@ -118,29 +127,36 @@ fn serve_opened<F: FileRig + Drop, R: CardRig + Drop, E: Entropy + Drop>(
     requires number { 16 * number + 16 < 2 ^ 32 }
     requires arms { All IsArm arms.now }
     requires calls { AreCalls (length applications.now) calls.now }
-    ensures serves { IfOk result (λ c. ServesOpened F.state R.state (E.is_reliable entropy.now) keys.now applications.now arms.now calls.now opening (bench_state F.state R.state c.bench) c.history.events) }
+    ensures serves { IfOk result (λ c. ServesOpened F.state R.state (E.is_reliable entropy.now) keys.now applications.now arms.now mode calls.now opening (bench_state F.state R.state c.bench) c.history.events) }
     ensures whole { MatchResult result (λ c. vec_len c.bench.files ≡ 273) (λ b. vec_len b.files ≡ 273) }
 {
     let mut opening = opening;
     match make_ready(alloc, &mut opening, entropy, number, applications, arms) {
-        Ok(sessions) => serve_once(opening, sessions, keys, calls),
+        Ok(sessions) => serve_once(rt, alloc, opening, sessions, keys, mode, calls),
         Err(NoMemory {}) => Err(opening.close()),
     }
 }
 
-/// Runs a phase: mounts the bench, opens a session for each application, arms its devices, serves the calls one after another, closes the
+/// Runs a phase: mounts the bench, opens a session for each application, arms its devices, serves the calls as the mode says, closes the
 /// store, and disarms the bench. The sessions draw from streams of `entropy`, sixteen for each phase, by the phase's number.
 ///
 /// # Errors
 ///
 /// As `mount` says, where the bench is not mounted: nothing was armed. `NoMemory`, also where memory ran out in a call of a file, in the
 /// mount too: the bench is disarmed, and the calls of the phase have no history.
-pub fn run_phase<F: FileRig + Drop, R: CardRig + Drop, E: Entropy + Drop>(
+pub fn run_phase<
+    W: Threads + Wait + Sync,
+    F: FileRig + Drop + Send,
+    R: CardRig + Drop + Send,
+    E: Entropy + Drop + Send,
+>(
+    rt: &W,
     alloc: Global,
     bench: Bench<F, R>,
     keys: &Keys,
     entropy: &mut E,
     number: u64,
+    mode: Mode,
     applications: &[AppId],
     arms: &[Arm],
     calls: &[Step],
@@ -151,7 +167,7 @@ pub fn run_phase<F: FileRig + Drop, R: CardRig + Drop, E: Entropy + Drop>(
     requires calls { AreCalls (length applications.now) calls.now }
     requires arms { All IsArm arms.now }
     ensures runs { IfOk result (λ p. (opening : ObjectMap) × (length opening ≡ p.objects)
-        × RunsPhase F.state R.state (E.is_reliable entropy.old) keys.now applications.now arms.now calls.now (bench_state F.state R.state bench) (bench_state F.state R.state p.bench) opening p.history.events) }
+        × RunsPhase F.state R.state (E.is_reliable entropy.old) keys.now applications.now arms.now mode calls.now (bench_state F.state R.state bench) (bench_state F.state R.state p.bench) opening p.history.events) }
     ensures refused { IfErr result (λ h. IsGivenUp keys.now (bench_state F.state R.state bench) (bench_state F.state R.state h.bench) (E.faults entropy.old) (E.faults entropy.new)
         h.fault) }
     ensures undrawn { IfOk result (λ p. E.faults entropy.new ≡ E.faults entropy.old) }
@@ -166,11 +182,13 @@ pub fn run_phase<F: FileRig + Drop, R: CardRig + Drop, E: Entropy + Drop>(
     let opening = mount_fed(alloc, bench, keys, entropy, starved)?;
     let objects = opening.objects();
     match serve_opened(
+        rt,
         alloc,
         opening,
         keys,
         entropy,
         number,
+        mode,
         applications,
         arms,
         calls,

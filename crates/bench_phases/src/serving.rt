@@ -5,10 +5,11 @@ ghost use Rattle.object_calls.specs.OpenedStores.{IsStoreOf, store_in};
 ghost use Rattle.object_calls.specs.Opening.{IsKeyed};
 ghost use Rattle.object_calls.specs.Sessions.{AreSeated, AreUnseated};
 ghost use Rattle.served_calls.specs.Answered.{events_at};
+ghost use Rattle.phase_calls.specs.Reliable.{AreFresh, AreReliable};
 ghost use Rattle.phase_calls.specs.Steps.{AreCalls};
+ghost use Rattle.script_text.specs.declared.script.Mode.{Mode};
 ghost use Rattle.bench_acts.specs.Benches.{BenchState, bench_state, opening_state};
 ghost use Rattle.bench_phases.specs.Closing.{ClosesStore};
-ghost use Rattle.bench_phases.specs.Drawing.{AreFresh, AreReliable};
 ghost use Rattle.bench_phases.specs.Serving.{HasDevices};
 
 use call_history::Session;
@@ -16,8 +17,12 @@ use hmac_keys::Keys;
 use object_calls::{Bench, Closed, Opening, Service};
 use phase_calls::make_calls;
 use rpmb_card::RpmbPort;
-use script_text::Step;
+use script_text::{Mode, Step};
+use shared_phases::serve_shared_once;
+use std::alloc::Global;
 use std::marker::Brand;
+use std::sync::Wait;
+use std::thread::Threads;
 use suppositions::StoreName;
 use tee_ports::{Entropy, StoreFile};
 use tee_types::NoMemory;
@@ -32,8 +37,8 @@ fn make_and_close<F: StoreFile + Drop, R: RpmbPort + Drop, E: Entropy + Drop, L:
     requires sessions { AreSeated L.store sessions.items }
     requires calls { AreCalls (length sessions.items) calls.now }
     requires fresh { AreFresh E.faults sessions.items }
-    ensures closed { (before : BenchState) → HasDevices F.state R.state service before
-        → IfOk result (λ c. ClosesStore (AreReliable E.is_reliable sessions.items) L.store before calls.now (bench_state F.state R.state c.bench) c.history.events) }
+    ensures closed { (mode : Mode) (before : BenchState) → HasDevices F.state R.state service before
+        → IfOk result (λ c. ClosesStore (AreReliable E.is_reliable sessions.items) L.store before mode calls.now (bench_state F.state R.state c.bench) c.history.events) }
     ensures whole { MatchResult result (λ c. vec_len c.bench.files ≡ 273) (λ b. vec_len b.files ≡ 273) }
 {
     let mut service = service;
@@ -46,7 +51,8 @@ fn make_and_close<F: StoreFile + Drop, R: RpmbPort + Drop, E: Entropy + Drop, L:
     }
 }
 
-// Serves the store that `L` names, and closes it. Only contracts read the keys: they name the store.
+// Serves the store that `L` names, one call after another, and closes it. What was served so serves in each mode. Only contracts read the
+// keys: they name the store.
 fn serve_calls<F: StoreFile + Drop, R: RpmbPort + Drop, E: Entropy + Drop, L: StoreName>(
     opening: Opening<F, R>,
     sessions: Vec<Session<E>>,
@@ -57,7 +63,7 @@ fn serve_calls<F: StoreFile + Drop, R: RpmbPort + Drop, E: Entropy + Drop, L: St
     requires sessions { AreUnseated opening.applications sessions.items }
     requires calls { AreCalls (length opening.applications) calls.now }
     requires fresh { AreFresh E.faults sessions.items }
-    ensures closed { IfOk result (λ c. ClosesStore (AreReliable E.is_reliable sessions.items) L.store (opening_state F.state R.state opening) calls.now
+    ensures closed { (mode : Mode) → IfOk result (λ c. ClosesStore (AreReliable E.is_reliable sessions.items) L.store (opening_state F.state R.state opening) mode calls.now
         (bench_state F.state R.state c.bench) c.history.events) }
     ensures whole { MatchResult result (λ c. vec_len c.bench.files ≡ 273) (λ b. vec_len b.files ≡ 273) }
 {
@@ -68,24 +74,35 @@ fn serve_calls<F: StoreFile + Drop, R: RpmbPort + Drop, E: Entropy + Drop, L: St
     }
 }
 
-/// Serves a store under a name of its own: makes the calls, one after another, and closes it. The keys are those that it was mounted with.
+/// Serves a store under a name of its own: makes the calls as the mode says, and closes it. The keys are those that it was mounted with.
 ///
 /// # Errors
 ///
 /// Memory ran out. The bench is given back.
-pub(crate) fn serve_once<F: StoreFile + Drop, R: RpmbPort + Drop, E: Entropy + Drop>(
+pub(crate) fn serve_once<
+    W: Threads + Wait + Sync,
+    F: StoreFile + Drop + Send,
+    R: RpmbPort + Drop + Send,
+    E: Entropy + Drop + Send,
+>(
+    rt: &W,
+    alloc: Global,
     opening: Opening<F, R>,
     sessions: Vec<Session<E>>,
     keys: &Keys,
+    mode: Mode,
     calls: &[Step],
 ) -> Result<Closed<F, R>, Bench<F, R>>
     requires keyed { IsKeyed keys.now opening }
     requires sessions { AreUnseated opening.applications sessions.items }
     requires calls { AreCalls (length opening.applications) calls.now }
     requires fresh { AreFresh E.faults sessions.items }
-    ensures closed { IfOk result (λ c. ClosesStore (AreReliable E.is_reliable sessions.items) (store_in keys.now F.state R.state opening) (opening_state F.state R.state opening) calls.now
+    ensures closed { IfOk result (λ c. ClosesStore (AreReliable E.is_reliable sessions.items) (store_in keys.now F.state R.state opening) (opening_state F.state R.state opening) mode calls.now
         (bench_state F.state R.state c.bench) c.history.events) }
     ensures whole { MatchResult result (λ c. vec_len c.bench.files ≡ 273) (λ b. vec_len b.files ≡ 273) }
 {
-    serve_calls::<F, R, E, Brand>(opening, sessions, keys, calls)
+    match mode {
+        Mode::Serial => serve_calls::<F, R, E, Brand>(opening, sessions, keys, calls),
+        Mode::Threads => serve_shared_once(rt, alloc, opening, sessions, keys, calls),
+    }
 }

@@ -2,7 +2,7 @@
 
 ghost use Rattle.std.specs.Prelude.{◌≡◌, ◌++◌, ◌∷◌, ◌+◌, ◌*◌, ◌<◌, ◌≤◌, ◌^◌, [], length, IfOk, OnErr, OnOk};
 ghost use Rattle.object_calls.specs.Sessions.{AreUnseated, unseated};
-ghost use Rattle.bench_phases.specs.Drawing.{AreFresh, AreReliable};
+ghost use Rattle.phase_calls.specs.Reliable.{AreFresh, AreReliable};
 
 use call_history::Session;
 use object_calls::{Opening, SessionFault};

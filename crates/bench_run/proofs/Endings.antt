@@ -77,7 +77,7 @@ module _ {F R : Type 0} (of_file : F → FileState) (of_port : R → PortState) 
       let text = acts_text-append of_file of_port image Reliable keys apps script old.number old.arms a.done b.done a.records b.records old.bench mid.bench a.goes in record {
         done = a.done ++ b.done;
         records = a.records ++ b.records;
-        acts = a.acts ∙ ap (λ x. a.done ++ x) b.acts ∙ sym (append_assoc a.done b.done (acts_of new.steps));
+        acts = a.acts ∙ ap (λ x. a.done ++ x) b.acts ∙ sym (append_assoc a.done b.done (acts_of new.mode new.steps));
         goes = Goes-append of_file of_port image Reliable keys apps old.arms a.done b.done a.records b.records old.bench mid.bench new.bench a.goes next;
         arms_are = b.arms_are ∙ ap (λ w. arms_behind w b.done) a.arms_are ∙ sym (arms_behind-append old.arms a.done b.done);
         number_is = omega (arith, b.number_is, a.number_is, phases_in-append a.done b.done);
@@ -132,10 +132,10 @@ module _ {F R : Type 0} (of_file : F → FileState) (of_port : R → PortState) 
   pub EndsFrom-behind : (script : ScriptValue) (failed : Type 0) (old mid : Point) (held : Option (List ℕ)) (given : BenchState) (status : Status) → Advances of_file of_port image Reliable keys script old mid → EndsFrom of_file of_port image Reliable drew draws keys script failed mid held given status → EndsFrom of_file of_port image Reliable drew draws keys script failed old held given status
   EndsFrom-behind script failed old mid held given status a e =
       let apps = applications_of script in
-      let left = acts_of mid.steps in
+      let left = acts_of mid.mode mid.steps in
       let front = acts_text script old.number a.done a.records in
       let rest = acts_text script mid.number left e.records in
-      let text : acts_text script old.number (acts_of old.steps) (a.records ++ e.records) ≡ front ++ rest =
+      let text : acts_text script old.number (acts_of old.mode old.steps) (a.records ++ e.records) ≡ front ++ rest =
       ap (λ acts. acts_text script old.number acts (a.records ++ e.records)) a.acts
       ∙ acts_text-append of_file of_port image Reliable keys apps script old.number old.arms a.done left a.records e.records old.bench mid.bench a.goes
       ∙ ap (λ n. front ++ acts_text script n left e.records) (sym a.number_is) in
@@ -169,8 +169,8 @@ module _ {F R : Type 0} (of_file : F → FileState) (of_port : R → PortState) 
   -- all acts were done, and the text that was kept was put
   pub EndsFrom-done : (script : ScriptValue) (failed : Type 0) (old : Point) (held : Option (List ℕ)) → old.steps ≡ [] → Appends old.held held old.kept → EndsFrom of_file of_port image Reliable drew draws keys script failed old held old.bench Done
   EndsFrom-done script failed old held none put =
-      let acts : acts_of old.steps ≡ [] = ap acts_of none in
-      let text : old.kept ++ acts_text script old.number (acts_of old.steps) [] ≡ old.kept = ap (λ a. old.kept ++ acts_text script old.number a []) acts ∙ append-nil old.kept in record {
+      let acts : acts_of old.mode old.steps ≡ [] = ap (acts_of old.mode) none in
+      let text : old.kept ++ acts_text script old.number (acts_of old.mode old.steps) [] ≡ old.kept = ap (λ a. old.kept ++ acts_text script old.number a []) acts ∙ append-nil old.kept in record {
         put = old.kept;
         records = [];
         appended = put;
@@ -182,7 +182,7 @@ module _ {F R : Type 0} (of_file : F → FileState) (of_port : R → PortState) 
   -- the text of these acts, of which the first was refused
   refusal_text : (script : ScriptValue) (number : ℕ) (acts : List Act) (old new : BenchState) (fault : MountFault) → RefusesFirst of_file of_port image Reliable drew draws keys acts old new fault → acts_text script number acts (Refused fault ∷ []) ≡ refusal_line fault
   refusal_text script number [] old new fault h = absurd h
-  refusal_text script number (Serve calls ∷ acts) old new fault h = refl
+  refusal_text script number (Serve mode calls ∷ acts) old new fault h = refl
   refusal_text script number (Do ListControl ∷ acts) old new fault h = refl
   refusal_text script number (Do control ∷ acts) old new fault h = absurd h
 
@@ -190,23 +190,23 @@ module _ {F R : Type 0} (of_file : F → FileState) (of_port : R → PortState) 
   until_refused-now apps arms acts old new fault h = record { left = acts; between = old; goes = record { done = []; front = refl; goes = refl }; refused = h }
 
   -- the next act was refused
-  pub EndsFrom-refused : (script : ScriptValue) (failed : Type 0) (old : Point) (held : Option (List ℕ)) (given : BenchState) (fault : MountFault) (status : Status) → RefusesFirst of_file of_port image Reliable drew draws keys (acts_of old.steps) old.bench given fault → TellsRefusal failed old.held held old.kept fault status → EndsFrom of_file of_port image Reliable drew draws keys script failed old held given status
+  pub EndsFrom-refused : (script : ScriptValue) (failed : Type 0) (old : Point) (held : Option (List ℕ)) (given : BenchState) (fault : MountFault) (status : Status) → RefusesFirst of_file of_port image Reliable drew draws keys (acts_of old.mode old.steps) old.bench given fault → TellsRefusal failed old.held held old.kept fault status → EndsFrom of_file of_port image Reliable drew draws keys script failed old held given status
   EndsFrom-refused script failed old held given fault Done h t = absurd t
   EndsFrom-refused script failed old held given fault Usage h t = absurd t
   EndsFrom-refused script failed old held given fault (BadLine line) h t = absurd t
   EndsFrom-refused script failed old held given fault ReadFault h t = absurd t
   EndsFrom-refused script failed old held given fault WriteFault h t =
-      let text = refusal_text script old.number (acts_of old.steps) old.bench given fault h in record {
+      let text = refusal_text script old.number (acts_of old.mode old.steps) old.bench given fault h in record {
         put = t.2.0;
         records = Refused fault ∷ [];
         appended = t.2.1;
         begins = subst (λ x. Begins t.2.0 (old.kept ++ x)) (sym text) t.2.2;
-        ends = inr (fault, ([], refl, until_refused-now (applications_of script) old.arms (acts_of old.steps) old.bench given fault h));
+        ends = inr (fault, ([], refl, until_refused-now (applications_of script) old.arms (acts_of old.mode old.steps) old.bench given fault h));
         cause = t.1;
       }
   EndsFrom-refused script failed old held given fault (TooLong excess) h t = absurd t
   EndsFrom-refused script failed old held given fault NoMemory h t =
-      let text = refusal_text script old.number (acts_of old.steps) old.bench given fault h in record {
+      let text = refusal_text script old.number (acts_of old.mode old.steps) old.bench given fault h in record {
         put = t.0;
         records = Refused fault ∷ [];
         appended = t.1;
@@ -215,21 +215,21 @@ module _ {F R : Type 0} (of_file : F → FileState) (of_port : R → PortState) 
         cause = tt;
       }
   EndsFrom-refused script failed old held given fault (MountRefused told) h t =
-      let text : old.kept ++ acts_text script old.number (acts_of old.steps) (Refused fault ∷ []) ≡ old.kept ++ refusal_line fault =
-      ap (λ x. old.kept ++ x) (refusal_text script old.number (acts_of old.steps) old.bench given fault h) in
-      let ends : RecordsRefusal of_file of_port image Reliable drew draws keys (applications_of script) old.arms (acts_of old.steps) (Refused fault ∷ []) old.bench given fault =
-      ([], refl, until_refused-now (applications_of script) old.arms (acts_of old.steps) old.bench given fault h) in record {
+      let text : old.kept ++ acts_text script old.number (acts_of old.mode old.steps) (Refused fault ∷ []) ≡ old.kept ++ refusal_line fault =
+      ap (λ x. old.kept ++ x) (refusal_text script old.number (acts_of old.mode old.steps) old.bench given fault h) in
+      let ends : RecordsRefusal of_file of_port image Reliable drew draws keys (applications_of script) old.arms (acts_of old.mode old.steps) (Refused fault ∷ []) old.bench given fault =
+      ([], refl, until_refused-now (applications_of script) old.arms (acts_of old.mode old.steps) old.bench given fault h) in record {
         put = old.kept ++ refusal_line fault;
         records = Refused fault ∷ [];
         appended = t.2;
         begins = ([], text ∙ sym (append-nil _));
-        ends = subst (λ (f : MountFault). RecordsRefusal of_file of_port image Reliable drew draws keys (applications_of script) old.arms (acts_of old.steps) (Refused fault ∷ []) old.bench given f) (sym t.0) ends;
+        ends = subst (λ (f : MountFault). RecordsRefusal of_file of_port image Reliable drew draws keys (applications_of script) old.arms (acts_of old.mode old.steps) (Refused fault ∷ []) old.bench given f) (sym t.0) ends;
         cause = (subst IsRefusal (sym t.0) t.1, sym text);
       }
   EndsFrom-refused script failed old held given fault (DeviceFault told) h t = one t.2
     where
       acts : List Act
-      acts = acts_of old.steps
+      acts = acts_of old.mode old.steps
 
       text : old.kept ++ acts_text script old.number acts (Refused fault ∷ []) ≡ old.kept
       text = ap (λ x. old.kept ++ x) (refusal_text script old.number acts old.bench given fault h ∙ refusal_line-none fault t.1) ∙ append-nil old.kept
@@ -257,15 +257,15 @@ module _ {F R : Type 0} (of_file : F → FileState) (of_port : R → PortState) 
       }
 
   -- the text of acts that were done could not be put
-  pub EndsFrom-text : (script : ScriptValue) (failed : Type 0) (old : Point) (held : Option (List ℕ)) (given : BenchState) (done left : List Act) (records : List RunRecord) (status : Status) → acts_of old.steps ≡ done ++ left → Goes of_file of_port image Reliable keys (applications_of script) old.arms done records old.bench given
+  pub EndsFrom-text : (script : ScriptValue) (failed : Type 0) (old : Point) (held : Option (List ℕ)) (given : BenchState) (done left : List Act) (records : List RunRecord) (status : Status) → acts_of old.mode old.steps ≡ done ++ left → Goes of_file of_port image Reliable keys (applications_of script) old.arms done records old.bench given
       → Stops old.held held old.kept (acts_text script old.number done records) → IsWriteError failed status → EndsFrom of_file of_port image Reliable drew draws keys script failed old held given status
   EndsFrom-text script failed old held given done left records status front goes stops error = one status error
     where
-      text : acts_text script old.number (acts_of old.steps) records ≡ acts_text script old.number done records ++ acts_text script (old.number + phases_in done) left []
+      text : acts_text script old.number (acts_of old.mode old.steps) records ≡ acts_text script old.number done records ++ acts_text script (old.number + phases_in done) left []
       text = ap (λ acts. acts_text script old.number acts records) front ∙ ap (acts_text script old.number (done ++ left)) (sym (append-nil records))
           ∙ acts_text-append of_file of_port image Reliable keys (applications_of script) script old.number old.arms done left records [] old.bench given goes
 
-      longer : Stops old.held held old.kept (acts_text script old.number (acts_of old.steps) records)
+      longer : Stops old.held held old.kept (acts_text script old.number (acts_of old.mode old.steps) records)
       longer = subst (Stops old.held held old.kept) (sym text) (Stops-longer old.held held old.kept _ _ stops)
 
       one : (s : Status) → IsWriteError failed s → EndsFrom of_file of_port image Reliable drew draws keys script failed old held given s

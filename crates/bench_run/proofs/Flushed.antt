@@ -28,4 +28,4 @@ module _ {F R : Type 0} (of_file : F → FileState) (of_port : R → PortState) 
 
   pub not_flushed : (status : Status) → Stops held_old held_new run.kept.items [] → IsWriteError failed status → EndsFrom of_file of_port image Reliable drew draws keys script failed (point_of of_file of_port script held_old run) held_new (bench_state of_file of_port run.bench) status
   not_flushed status stops error =
-      EndsFrom-text of_file of_port image Reliable drew draws keys script failed (point_of of_file of_port script held_old run) held_new (bench_state of_file of_port run.bench) [] (acts_of (drop run.at script.steps)) [] status refl refl stops error
+      EndsFrom-text of_file of_port image Reliable drew draws keys script failed (point_of of_file of_port script held_old run) held_new (bench_state of_file of_port run.bench) [] (acts_of run.mode (drop run.at script.steps)) [] status refl refl stops error

@@ -6,6 +6,7 @@ use Rattle.hmac_keys.specs.declared.Keys.{Keys}
 use Rattle.rpmb_card.specs.Port.{PortState}
 use Rattle.store_commit.specs.declared.fault.MountFault.{MountFault}
 use Rattle.script_text.specs.Script.{ScriptValue}
+use Rattle.script_text.specs.declared.script.Mode.TheVariants.{Serial}
 use Rattle.tee_ports.specs.Streams.{Appends}
 use Rattle.object_lines.specs.Lines.{refusal_line}
 use Rattle.bench_acts.specs.Benches.{BenchState}
@@ -22,7 +23,7 @@ use Rattle.bench_run.proofs.Endings.{refusal_line-none}
 
 -- a run that has done nothing yet, on this bench
 abbrev pub first_point : Option (List ℕ) → BenchState → ScriptValue → Point
-first_point held bench script = record { held = held; kept = []; bench = bench; steps = script.steps; arms = []; number = 0 }
+first_point held bench script = record { held = held; kept = []; bench = bench; steps = script.steps; arms = []; number = 0; mode = Serial }
 
 module _ {F R : Type 0} (of_file : F → FileState) (of_port : R → PortState) (image : FileState → ℕ → ℕ → List ℕ) (Reliable : Type 0) (drew draws : ℕ) (keys : Keys) (script : ScriptValue) (failed : Type 0) (held_old held_new : Option (List ℕ)) (handed : BenchState) where
   pub RunsScript-opened : (between given : BenchState) (status : Status) → OpensBench keys handed between → EndsFrom of_file of_port image Reliable drew draws keys script failed (first_point held_old between script) held_new given status → RunsScript of_file of_port image Reliable drew draws keys script failed held_old held_new handed given status

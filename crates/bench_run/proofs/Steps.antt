@@ -2,32 +2,34 @@
 use Rattle.std.proofs.Common.{◌≡◌, ◌≤◌, ◌<◌, ◌+◌, ℕ, true, List, [], ◌∷◌, ◌++◌, length, take, drop, get_or, All, refl, sym, ap, ◌∙◌, subst, arith, suc, zero, append_assoc, true≢false}
 use Rattle.std.specs.List.{prefix_len}
 use Rattle.std.proofs.lemmas.List.{append-nil, get_or-take, length-take-le}
+use Rattle.script_text.specs.declared.script.Mode.{Mode}
 use Rattle.script_text.specs.declared.script.Step.{Step}
 use Rattle.script_text.specs.declared.script.Step.TheVariants.{Call as CallStep, Control as ControlStep}
 use Rattle.script_text.specs.Script.{IsPlaced, is_call}
 use Rattle.phase_calls.specs.Steps.{AreCalls}
-use Rattle.bench_run.specs.Text.{Serve, Do, acts_from, acts_of}
+use Rattle.bench_run.specs.Text.{Serve, Do, acts_from, acts_of, mode_behind}
 use Rattle.bench_run.specs.Ready.{IsCallFirst}
 
-acts_from-calls : (call : Step) (calls steps : List Step) → acts_from (call ∷ calls) steps ≡ Serve ((call ∷ calls) ++ take (prefix_len is_call steps) steps) ∷ acts_of (drop (prefix_len is_call steps) steps)
-acts_from-calls call calls [] = ap (λ l. Serve l ∷ []) (sym (append-nil (call ∷ calls)))
-acts_from-calls call calls (CallStep app c ∷ steps) =
+acts_from-calls : (mode : Mode) (call : Step) (calls steps : List Step)
+    → acts_from mode (call ∷ calls) steps ≡ Serve mode ((call ∷ calls) ++ take (prefix_len is_call steps) steps) ∷ acts_of mode (drop (prefix_len is_call steps) steps)
+acts_from-calls mode call calls [] = ap (λ l. Serve mode l ∷ []) (sym (append-nil (call ∷ calls)))
+acts_from-calls mode call calls (CallStep app c ∷ steps) =
     let n = prefix_len is_call steps in
     let more : suc n ≡ 1 + n = omega arith in
-    acts_from-calls call (calls ++ CallStep app c ∷ []) steps
-    ∙ ap (λ l. Serve l ∷ acts_of (drop n steps)) (append_assoc (call ∷ calls) (CallStep app c ∷ []) (take n steps))
-    ∙ ap (λ m. Serve ((call ∷ calls) ++ take m (CallStep app c ∷ steps)) ∷ acts_of (drop m (CallStep app c ∷ steps))) more
-acts_from-calls call calls (ControlStep control ∷ steps) = ap (λ l. Serve l ∷ Do control ∷ acts_of steps) (sym (append-nil (call ∷ calls)))
+    acts_from-calls mode call (calls ++ CallStep app c ∷ []) steps
+    ∙ ap (λ l. Serve mode l ∷ acts_of mode (drop n steps)) (append_assoc (call ∷ calls) (CallStep app c ∷ []) (take n steps))
+    ∙ ap (λ m. Serve mode ((call ∷ calls) ++ take m (CallStep app c ∷ steps)) ∷ acts_of mode (drop m (CallStep app c ∷ steps))) more
+acts_from-calls mode call calls (ControlStep control ∷ steps) = ap (λ l. Serve mode l ∷ Do control ∷ acts_of (mode_behind mode control) steps) (sym (append-nil (call ∷ calls)))
 
 -- the first act of steps that begin with a call: the calls in front of the first control
-pub acts_of-calls : (steps : List Step) → IsCallFirst steps → acts_of steps ≡ Serve (take (prefix_len is_call steps) steps) ∷ acts_of (drop (prefix_len is_call steps) steps)
-acts_of-calls [] h = absurd h
-acts_of-calls (CallStep app call ∷ steps) h =
+pub acts_of-calls : (mode : Mode) (steps : List Step) → IsCallFirst steps → acts_of mode steps ≡ Serve mode (take (prefix_len is_call steps) steps) ∷ acts_of mode (drop (prefix_len is_call steps) steps)
+acts_of-calls mode [] h = absurd h
+acts_of-calls mode (CallStep app call ∷ steps) h =
     let n = prefix_len is_call steps in
     let more : suc n ≡ 1 + n = omega arith in
-    acts_from-calls (CallStep app call) [] steps
-    ∙ ap (λ m. Serve (take m (CallStep app call ∷ steps)) ∷ acts_of (drop m (CallStep app call ∷ steps))) more
-acts_of-calls (ControlStep control ∷ steps) h = absurd (true≢false (sym h))
+    acts_from-calls mode (CallStep app call) [] steps
+    ∙ ap (λ m. Serve mode (take m (CallStep app call ∷ steps)) ∷ acts_of mode (drop m (CallStep app call ∷ steps))) more
+acts_of-calls mode (ControlStep control ∷ steps) h = absurd (true≢false (sym h))
 
 pub prefix_len-some : (steps : List Step) → IsCallFirst steps → 1 ≤ prefix_len is_call steps
 prefix_len-some [] h = absurd h

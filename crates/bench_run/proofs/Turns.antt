@@ -1,5 +1,5 @@
 -- One act of a run, and what its text leaves.
-use Rattle.std.proofs.Common.{◌≡◌, ◌≢◌, ◌≤◌, ◌+◌, ◌⊎◌, ⊎_elim, ℕ, List, [], ◌∷◌, ◌++◌, refl, sym, ap, ◌∙◌, subst, arith, All, Option, drop, take, length, vec_len, Result, IfErr, IfOk}
+use Rattle.std.proofs.Common.{◌≡◌, ◌≤◌, ◌+◌, ℕ, List, [], ◌∷◌, ◌++◌, refl, sym, ap, ◌∙◌, subst, arith, All, Option, drop, take, length, vec_len, Result, IfErr, IfOk}
 use Rattle.std.specs.List.{prefix_len}
 use Rattle.std.proofs.lemmas.List.{length-append, length-take-le, take-append-drop, drop-drop}
 use Rattle.std.proofs.lemmas.List.Elements.{All-drop, All-nil, All-push}
@@ -8,8 +8,8 @@ use Rattle.disk_model.specs.State.{FileState}
 use Rattle.hmac_keys.specs.declared.Keys.{Keys}
 use Rattle.rpmb_card.specs.Port.{PortState}
 use Rattle.script_text.specs.declared.script.Arm.{Arm}
-use Rattle.script_text.specs.declared.script.Control.{Control}
-use Rattle.script_text.specs.declared.script.Control.TheVariants.{Arm as ArmControl, Crash, List as ListControl, Phase, Serial}
+use Rattle.script_text.specs.declared.script.Control.TheVariants.{Arm as ArmControl, Crash, List as ListControl, Mode as ModeControl, Phase}
+use Rattle.script_text.specs.declared.script.Mode.{Mode}
 use Rattle.script_text.specs.declared.script.Step.{Step}
 use Rattle.script_text.specs.declared.script.Step.TheVariants.{Control as ControlStep}
 use Rattle.script_text.specs.Laws.{IsArm, IsFormed}
@@ -41,19 +41,13 @@ module _ {F R : Type 0} (of_file : F → FileState) (of_port : R → PortState) 
   abbrev pub next_place : Run F R → Run F R
   next_place run = record run { at = run.at + 1 }
 
-  -- what only ends the phase above
-  abbrev pub IsMark : Control → Type 0
-  IsMark control = (control ≡ Serial) ⊎ (control ≡ Phase)
+  pub HasDone-mode : (mode : Mode) (run : Run F R) → IsReady script run → IsNext script run (ControlStep (ModeControl mode))
+      → HasDone of_file of_port image Reliable keys script (Do (ModeControl mode)) [] run (next_place (record run { mode = mode }))
+  HasDone-mode mode run ready next =
+      HasDone-control of_file of_port image Reliable keys script (ModeControl mode) [] run (next_place (record run { mode = mode })) ready next refl refl ready.arms ready.whole refl refl refl refl
 
-  pub HasDone-mark : (control : Control) (run : Run F R) → IsMark control → IsReady script run → IsNext script run (ControlStep control) → HasDone of_file of_port image Reliable keys script (Do control) [] run (next_place run)
-  HasDone-mark Serial run mark ready next = HasDone-control of_file of_port image Reliable keys script Serial [] run (next_place run) ready next refl refl ready.arms ready.whole refl refl refl
-  HasDone-mark Phase run mark ready next = HasDone-control of_file of_port image Reliable keys script Phase [] run (next_place run) ready next refl refl ready.arms ready.whole refl refl refl
-  HasDone-mark (ArmControl arm) run mark ready next = absurd (⊎_elim (λ (e : ArmControl arm ≡ Serial). cc) (λ (e : ArmControl arm ≡ Phase). cc) mark)
-  HasDone-mark (Crash seed) run mark ready next = absurd (⊎_elim (λ (e : Crash seed ≡ Serial). cc) (λ (e : Crash seed ≡ Phase). cc) mark)
-  HasDone-mark ListControl run mark ready next = absurd (⊎_elim (λ (e : ListControl ≡ Serial). cc) (λ (e : ListControl ≡ Phase). cc) mark)
-
-  pub mark_other : (control : Control) → IsMark control → control ≢ ListControl
-  mark_other control mark e = ⊎_elim (λ (is : control ≡ Serial). let x : Serial ≡ ListControl = sym is ∙ e in cc) (λ (is : control ≡ Phase). let x : Phase ≡ ListControl = sym is ∙ e in cc) mark
+  pub HasDone-phase : (run : Run F R) → IsReady script run → IsNext script run (ControlStep Phase) → HasDone of_file of_port image Reliable keys script (Do Phase) [] run (next_place run)
+  HasDone-phase run ready next = HasDone-control of_file of_port image Reliable keys script Phase [] run (next_place run) ready next refl refl ready.arms ready.whole refl refl refl refl
 
   pub HasDone-arm : (arm : Arm) (run waits : Run F R) → IsSound script → IsReady script run → IsNext script run (ControlStep (ArmControl arm)) → waits ≡ record run { arms = waits.arms } → waits.arms.items ≡ run.arms.items ++ arm ∷ [] → HasDone of_file of_port image Reliable keys script (Do (ArmControl arm)) [] run (next_place waits)
   HasDone-arm arm run waits sound ready next same arms =
@@ -61,7 +55,7 @@ module _ {F R : Type 0} (of_file : F → FileState) (of_port : R → PortState) 
       let bench = ap (λ (r : Run F R). r.bench) same in
       HasDone-control of_file of_port image Reliable keys script (ArmControl arm) [] run (next_place waits) ready next
       (ap (bench_state of_file of_port) bench) arms (subst (All IsArm) (sym arms) (All-push IsArm run.arms.items arm ready.arms of_arm))
-      (ap (λ b. vec_len b.files) bench ∙ ready.whole) (ap (λ (r : Run F R). r.number) same) (ap (λ (r : Run F R). r.kept.items) same) (ap (λ (r : Run F R). r.at + 1) same)
+      (ap (λ b. vec_len b.files) bench ∙ ready.whole) (ap (λ (r : Run F R). r.number) same) (ap (λ (r : Run F R). r.mode) same) (ap (λ (r : Run F R). r.kept.items) same) (ap (λ (r : Run F R). r.at + 1) same)
 
   pub HasDone-crash : (seed : ℕ) (run crashed : Run F R) → IsReady script run → IsNext script run (ControlStep (Crash seed)) → crashed ≡ record run { bench = crashed.bench } → vec_len crashed.bench.files ≡ 273
       → Crashes image seed (bench_state of_file of_port run.bench) (bench_state of_file of_port crashed.bench) → HasDone of_file of_port image Reliable keys script (Do (Crash seed)) [] run (next_place crashed)
@@ -69,7 +63,7 @@ module _ {F R : Type 0} (of_file : F → FileState) (of_port : R → PortState) 
       let arms : crashed.arms.items ≡ run.arms.items = ap (λ (r : Run F R). r.arms.items) same in
       HasDone-control of_file of_port image Reliable keys script (Crash seed) [] run (next_place crashed) ready next
       (bench_state of_file of_port crashed.bench, crashes, refl) arms (subst (All IsArm) (sym arms) ready.arms)
-      whole (ap (λ (r : Run F R). r.number) same) (ap (λ (r : Run F R). r.kept.items) same) (ap (λ (r : Run F R). r.at + 1) same)
+      whole (ap (λ (r : Run F R). r.number) same) (ap (λ (r : Run F R). r.mode) same) (ap (λ (r : Run F R). r.kept.items) same) (ap (λ (r : Run F R). r.at + 1) same)
 
   pub HasDone-list : (run listed : Run F R) (objects : ObjectMap) (lines : List ℕ) → IsReady script run → IsNext script run (ControlStep ListControl) → listed ≡ record run { bench = listed.bench; at = run.at + 1 } → vec_len listed.bench.files ≡ 273
       → ListsBench of_file of_port keys (bench_state of_file of_port run.bench) (bench_state of_file of_port listed.bench) objects lines → HasDone of_file of_port image Reliable keys script (Do ListControl) (Listed objects ∷ []) run listed
@@ -77,24 +71,25 @@ module _ {F R : Type 0} (of_file : F → FileState) (of_port : R → PortState) 
       let arms : listed.arms.items ≡ run.arms.items = ap (λ (r : Run F R). r.arms.items) same in
       HasDone-control of_file of_port image Reliable keys script ListControl (Listed objects ∷ []) run listed ready next
       (bench_state of_file of_port listed.bench, subst (λ t. ListsBench of_file of_port keys (bench_state of_file of_port run.bench) (bench_state of_file of_port listed.bench) objects t) lists.lines_are lists, refl) arms (subst (All IsArm) (sym arms) ready.arms)
-      whole (ap (λ (r : Run F R). r.number) same) (ap (λ (r : Run F R). r.kept.items) same) (ap (λ (r : Run F R). r.at) same)
+      whole (ap (λ (r : Run F R). r.number) same) (ap (λ (r : Run F R). r.mode) same) (ap (λ (r : Run F R). r.kept.items) same) (ap (λ (r : Run F R). r.at) same)
 
   -- the steps behind a phase
   abbrev calls_length : Run F R → ℕ
   calls_length run = prefix_len is_call (drop run.at script.steps)
 
   pub HasDone-calls : (run ran : Run F R) (phase : PhaseRecord) → IsReady script run → IsCallFirst (drop run.at script.steps)
-      → RunsPhase of_file of_port Reliable keys (applications_of script) run.arms.items (take (calls_length run) (drop run.at script.steps)) (bench_state of_file of_port run.bench) (bench_state of_file of_port ran.bench) phase.opening phase.events
-      → ran.arms.items ≡ [] → vec_len ran.bench.files ≡ 273 → ran.number ≡ run.number + 1 → ran.kept.items ≡ run.kept.items → ran.at ≡ run.at + calls_length run → calls_length run ≤ length (drop run.at script.steps)
-      → HasDone of_file of_port image Reliable keys script (Serve (take (calls_length run) (drop run.at script.steps))) (Ran phase ∷ []) run ran
-  HasDone-calls run ran phase ready first runs arms whole number kept at within =
+      → RunsPhase of_file of_port Reliable keys (applications_of script) run.arms.items run.mode (take (calls_length run) (drop run.at script.steps)) (bench_state of_file of_port run.bench) (bench_state of_file of_port ran.bench) phase.opening phase.events
+      → ran.arms.items ≡ [] → vec_len ran.bench.files ≡ 273 → ran.number ≡ run.number + 1 → ran.mode ≡ run.mode → ran.kept.items ≡ run.kept.items → ran.at ≡ run.at + calls_length run → calls_length run ≤ length (drop run.at script.steps)
+      → HasDone of_file of_port image Reliable keys script (Serve run.mode (take (calls_length run) (drop run.at script.steps))) (Ran phase ∷ []) run ran
+  HasDone-calls run ran phase ready first runs arms whole number mode kept at within =
       let count = calls_length run in
       let rest = drop run.at script.steps in
       let some = prefix_len-some rest first in
       let behind : drop ran.at script.steps ≡ drop count rest = ap (λ n. drop n script.steps) at ∙ sym (drop-drop count run.at script.steps) in
       let lengths : length (take run.at script.steps) + length rest ≡ length script.steps = sym (length-append (take run.at script.steps) rest) ∙ ap length (take-append-drop run.at script.steps) in
       let front : length (take run.at script.steps) ≡ run.at = length-take-le run.at script.steps ready.within in record {
-        acts = acts_of-calls rest first ∙ ap (λ s. Serve (take count rest) ∷ acts_of s) (sym behind);
+        acts = acts_of-calls run.mode rest first ∙ ap (λ (m : Mode). Serve run.mode (take count rest) ∷ acts_of m (drop count rest)) (sym mode)
+            ∙ ap (λ s. Serve run.mode (take count rest) ∷ acts_of ran.mode s) (sym behind);
         goes = (bench_state of_file of_port ran.bench, runs, refl);
         arms_are = arms;
         number_is = number;
@@ -118,11 +113,11 @@ module _ {F R : Type 0} (of_file : F → FileState) (of_port : R → PortState) 
       → EndsAt of_file of_port image Reliable drew draws keys script failed held_old held_new run end
   EndsAt-list drew draws failed held_old held_new run end fault next refused tells whole =
       EndsAt-refused of_file of_port image Reliable drew draws keys script failed held_old held_new run end fault
-      (subst (λ (acts : List Act). RefusesFirst of_file of_port image Reliable drew draws keys acts (bench_state of_file of_port run.bench) (bench_state of_file of_port end.bench) fault) (sym (ap acts_of next)) refused) tells whole
+      (subst (λ (acts : List Act). RefusesFirst of_file of_port image Reliable drew draws keys acts (bench_state of_file of_port run.bench) (bench_state of_file of_port end.bench) fault) (sym (ap (acts_of run.mode) next)) refused) tells whole
 
   pub EndsAt-calls : (drew draws : ℕ) (failed : Type 0) (held_old held_new : Option (List ℕ)) (run : Run F R) (end : RunEnd F R) (fault : MountFault) → IsCallFirst (drop run.at script.steps)
       → IsGivenUp keys (bench_state of_file of_port run.bench) (bench_state of_file of_port end.bench) drew draws fault → TellsRefusal failed held_old held_new run.kept.items fault end.status → vec_len end.bench.files ≡ 273
       → EndsAt of_file of_port image Reliable drew draws keys script failed held_old held_new run end
   EndsAt-calls drew draws failed held_old held_new run end fault first refused tells whole =
       EndsAt-refused of_file of_port image Reliable drew draws keys script failed held_old held_new run end fault
-      (subst (λ (acts : List Act). RefusesFirst of_file of_port image Reliable drew draws keys acts (bench_state of_file of_port run.bench) (bench_state of_file of_port end.bench) fault) (sym (acts_of-calls (drop run.at script.steps) first)) refused) tells whole
+      (subst (λ (acts : List Act). RefusesFirst of_file of_port image Reliable drew draws keys acts (bench_state of_file of_port run.bench) (bench_state of_file of_port end.bench) fault) (sym (acts_of-calls run.mode (drop run.at script.steps) first)) refused) tells whole

@@ -5,7 +5,7 @@ use Rattle.hmac_keys.specs.declared.Keys.{Keys}
 use Rattle.rpmb_card.specs.Port.{PortState}
 use Rattle.store_commit.specs.declared.fault.MountFault.{MountFault}
 use Rattle.script_text.specs.declared.script.Arm.{Arm}
-use Rattle.script_text.specs.declared.script.Control.TheVariants.{Arm as ArmControl, Crash, List as ListControl, Phase, Serial}
+use Rattle.script_text.specs.declared.script.Control.TheVariants.{Arm as ArmControl, Crash, List as ListControl, Mode as ModeControl, Phase}
 use Rattle.object_lines.specs.Lines.{objects_text}
 use Rattle.bench_acts.specs.Benches.{BenchState}
 use Rattle.bench_acts.specs.Crashes.{Crashes}
@@ -20,11 +20,11 @@ module _ {F R : Type 0} (of_file : F → FileState) (of_port : R → PortState) 
   -- run: it is run with them, and none is left.
   abbrev pub Goes : Keys → (applications : List (List ℕ)) → (arms : List Arm) → List Act → List RunRecord → (old new : BenchState) → Type 0
   Goes keys applications arms [] [] old new = new ≡ old
-  Goes keys applications arms (Serve calls ∷ acts) (Ran phase ∷ records) old new =
+  Goes keys applications arms (Serve mode calls ∷ acts) (Ran phase ∷ records) old new =
       (between : BenchState)
-      × RunsPhase of_file of_port Reliable keys applications arms calls old between phase.opening phase.events
+      × RunsPhase of_file of_port Reliable keys applications arms mode calls old between phase.opening phase.events
       × Goes keys applications [] acts records between new
-  Goes keys applications arms (Do Serial ∷ acts) records old new = Goes keys applications arms acts records old new
+  Goes keys applications arms (Do (ModeControl mode) ∷ acts) records old new = Goes keys applications arms acts records old new
   Goes keys applications arms (Do Phase ∷ acts) records old new = Goes keys applications arms acts records old new
   Goes keys applications arms (Do (ArmControl arm) ∷ acts) records old new = Goes keys applications (arms ++ arm ∷ []) acts records old new
   Goes keys applications arms (Do (Crash seed) ∷ acts) records old new =
@@ -42,7 +42,7 @@ module _ {F R : Type 0} (of_file : F → FileState) (of_port : R → PortState) 
   -- The first of these acts, a phase or a list, is refused for that reason. The generator of nonces had counted so many
   -- faults before it, and so many then.
   abbrev pub RefusesFirst : (drew draws : ℕ) → Keys → List Act → (old new : BenchState) → MountFault → Type 0
-  RefusesFirst drew draws keys (Serve calls ∷ acts) old new fault = IsGivenUp keys old new drew draws fault
+  RefusesFirst drew draws keys (Serve mode calls ∷ acts) old new fault = IsGivenUp keys old new drew draws fault
   RefusesFirst drew draws keys (Do ListControl ∷ acts) old new fault = IsListRefused of_file of_port keys old new drew draws fault
   RefusesFirst drew draws keys acts old new fault = ⊥
 

@@ -5,6 +5,7 @@ use Rattle.hmac_keys.specs.declared.Keys.{Keys}
 use Rattle.rpmb_card.specs.Port.{PortState}
 use Rattle.store_commit.specs.declared.fault.MountFault.{MountFault}
 use Rattle.script_text.specs.declared.script.Arm.{Arm}
+use Rattle.script_text.specs.declared.script.Mode.TheVariants.{Serial}
 use Rattle.script_text.specs.Script.{ScriptValue}
 use Rattle.bench_acts.specs.Benches.{BenchState}
 use Rattle.bench_acts.specs.Opens.{IsOpenRefused, OpensBench}
@@ -38,7 +39,7 @@ module _ {F R : Type 0} (of_file : F → FileState) (of_port : R → PortState) 
     pub shown : start ≡ None
     pub between : BenchState
     pub opens : OpensBench keys handed between
-    pub ends : EndsActs drew draws keys (applications_of script) [] (acts_of script.steps) records between given status
+    pub ends : EndsActs drew draws keys (applications_of script) [] (acts_of Serial script.steps) records between given status
 
   -- The bench was not opened, for that reason.
   pub record NotOpened (drew draws : ℕ) (keys : Keys) (start : Option MountFault) (records : List RunRecord) (handed given : BenchState) (fault : MountFault) : Type 0 where

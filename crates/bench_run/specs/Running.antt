@@ -24,7 +24,7 @@ module _ {F R : Type 0} (of_file : F → FileState) (of_port : R → PortState) 
   pub record Advances (keys : Keys) (script : ScriptValue) (old new : Point) : Type 0 where
     pub done : List Act
     pub records : List RunRecord
-    pub acts : acts_of old.steps ≡ done ++ acts_of new.steps
+    pub acts : acts_of old.mode old.steps ≡ done ++ acts_of new.mode new.steps
     pub goes : Goes of_file of_port image Reliable keys (applications_of script) old.arms done records old.bench new.bench
     pub arms_are : new.arms ≡ arms_behind old.arms done
     pub number_is : new.number ≡ old.number + phases_in done
@@ -35,9 +35,9 @@ module _ {F R : Type 0} (of_file : F → FileState) (of_port : R → PortState) 
     pub put : List ℕ
     pub records : List RunRecord
     pub appended : Appends old.held held put
-    pub begins : Begins put (old.kept ++ acts_text script old.number (acts_of old.steps) records)
-    pub ends : EndsActs of_file of_port image Reliable drew draws keys (applications_of script) old.arms (acts_of old.steps) records old.bench given status
-    pub cause : HasActCause failed put (old.kept ++ acts_text script old.number (acts_of old.steps) records) status
+    pub begins : Begins put (old.kept ++ acts_text script old.number (acts_of old.mode old.steps) records)
+    pub ends : EndsActs of_file of_port image Reliable drew draws keys (applications_of script) old.arms (acts_of old.mode old.steps) records old.bench given status
+    pub cause : HasActCause failed put (old.kept ++ acts_text script old.number (acts_of old.mode old.steps) records) status
 
   -- One more act was done.
   pub record GoesOn (keys : Keys) (script : ScriptValue) (held_old held_new : Option (List ℕ)) (run next : Run F R) : Type 0 where

@@ -34,6 +34,7 @@ pub record IsSent {F R : Type 0} (held_old held_new : Option (List ℕ)) (text :
   pub bench : next.bench ≡ run.bench
   pub arms : next.arms ≡ run.arms
   pub number : next.number ≡ run.number
+  pub mode : next.mode ≡ run.mode
   pub at : next.at ≡ run.at
 
 -- It could not be put, and the run ended.

@@ -4,7 +4,9 @@ use Rattle.store_model.specs.declared.event.Event.{Event}
 use Rattle.store_model.specs.Object.{ObjectMap}
 use Rattle.store_commit.specs.declared.fault.MountFault.{MountFault}
 use Rattle.script_text.specs.declared.script.Control.{Control}
-use Rattle.script_text.specs.declared.script.Control.TheVariants.{List as ListControl}
+use Rattle.script_text.specs.declared.script.Control.TheVariants.{List as ListControl, Mode as ModeControl}
+use Rattle.script_text.specs.declared.script.Mode.{Mode}
+use Rattle.script_text.specs.declared.script.Mode.TheVariants.{Serial}
 use Rattle.script_text.specs.declared.script.Step.{Step}
 use Rattle.script_text.specs.declared.script.Step.TheVariants.{Call as CallStep, Control as ControlStep}
 use Rattle.script_text.specs.Script.{ScriptValue}
@@ -22,39 +24,45 @@ pub data RunRecord : Type 0 where
   Listed : ObjectMap → RunRecord
   Refused : MountFault → RunRecord
 
-abbrev pub phase_text : ScriptValue → ℕ → PhaseRecord → List ℕ
-phase_text script number phase = phase_line number (length phase.opening) ++ events_text script 0 phase.events
+abbrev pub phase_text : ScriptValue → ℕ → Mode → PhaseRecord → List ℕ
+phase_text script number mode phase = phase_line number mode (length phase.opening) ++ events_text script 0 phase.events
 
--- what a run of a script does: it serves the calls of a phase, or does a control
+-- what a run of a script does: it serves the calls of a phase in its mode, or does a control
 pub data Act : Type 0 where
-  Serve : (calls : List Step) → Act
+  Serve : (mode : Mode) → (calls : List Step) → Act
   Do : (control : Control) → Act
 
--- the acts of these steps, where the calls of the phase that is open stand before them
-abbrev pub acts_from : List Step → List Step → List Act
-acts_from [] [] = []
-acts_from (step ∷ calls) [] = Serve (step ∷ calls) ∷ []
-acts_from calls (CallStep app call ∷ steps) = acts_from (calls ++ CallStep app call ∷ []) steps
-acts_from [] (ControlStep control ∷ steps) = Do control ∷ acts_from [] steps
-acts_from (step ∷ calls) (ControlStep control ∷ steps) = Serve (step ∷ calls) ∷ Do control ∷ acts_from [] steps
+-- the mode of the phases below a control
+abbrev pub mode_behind : Mode → Control → Mode
+mode_behind mode (ModeControl other) = other
+mode_behind mode control = mode
 
-abbrev pub acts_of : List Step → List Act
-acts_of steps = acts_from [] steps
+-- the acts of these steps, where the calls of the phase that is open, which has that mode, stand before them
+abbrev pub acts_from : Mode → List Step → List Step → List Act
+acts_from mode [] [] = []
+acts_from mode (step ∷ calls) [] = Serve mode (step ∷ calls) ∷ []
+acts_from mode calls (CallStep app call ∷ steps) = acts_from mode (calls ++ CallStep app call ∷ []) steps
+acts_from mode [] (ControlStep control ∷ steps) = Do control ∷ acts_from (mode_behind mode control) [] steps
+acts_from mode (step ∷ calls) (ControlStep control ∷ steps) = Serve mode (step ∷ calls) ∷ Do control ∷ acts_from (mode_behind mode control) [] steps
+
+-- the acts of these steps, where a phase has that mode until a control sets another
+abbrev pub acts_of : Mode → List Step → List Act
+acts_of mode steps = acts_from mode [] steps
 
 -- the text of these acts, the first phase of them with that number; what has no record was not done, nor what stands below it
 abbrev pub acts_text : ScriptValue → ℕ → List Act → List RunRecord → List ℕ
 acts_text script number [] records = []
-acts_text script number (Serve calls ∷ acts) (Ran phase ∷ records) = phase_text script number phase ++ acts_text script (number + 1) acts records
-acts_text script number (Serve calls ∷ acts) (Refused fault ∷ records) = refusal_line fault
-acts_text script number (Serve calls ∷ acts) _ = []
+acts_text script number (Serve mode calls ∷ acts) (Ran phase ∷ records) = phase_text script number mode phase ++ acts_text script (number + 1) acts records
+acts_text script number (Serve mode calls ∷ acts) (Refused fault ∷ records) = refusal_line fault
+acts_text script number (Serve mode calls ∷ acts) _ = []
 acts_text script number (Do ListControl ∷ acts) (Listed objects ∷ records) = control_line ListControl ++ objects_text objects ++ acts_text script number acts records
 acts_text script number (Do ListControl ∷ acts) (Refused fault ∷ records) = refusal_line fault
 acts_text script number (Do ListControl ∷ acts) _ = []
 acts_text script number (Do control ∷ acts) records = control_line control ++ acts_text script number acts records
 
--- the text of a run of the script with these records
+-- the text of a run of the script with these records: its first phases are serial
 abbrev pub script_output : ScriptValue → List RunRecord → List ℕ
-script_output script records = acts_text script 0 (acts_of script.steps) records
+script_output script records = acts_text script 0 (acts_of Serial script.steps) records
 
 -- the same; where the card's block could not be read, or the card not be formatted, before the first act, only that line
 abbrev pub run_output : ScriptValue → (start : Option MountFault) → List RunRecord → List ℕ

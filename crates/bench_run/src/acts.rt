@@ -82,6 +82,7 @@ fn do_list<K: Sink, F: FileRig + Drop, R: CardRig + Drop, E: Entropy + Drop>(
         bench,
         arms,
         number,
+        mode,
         at,
         kept,
     } = run;
@@ -91,6 +92,7 @@ fn do_list<K: Sink, F: FileRig + Drop, R: CardRig + Drop, E: Entropy + Drop>(
                 bench,
                 arms,
                 number,
+                mode,
                 at: at + 1,
                 kept,
             };
@@ -125,7 +127,12 @@ pub(crate) fn do_control<K: Sink, F: FileRig + Drop, R: CardRig + Drop, E: Entro
 {
     let mut run = run;
     match control {
-        Control::Serial | Control::Phase => {
+        Control::Mode(mode) => {
+            run.mode = *mode;
+            run.at += 1;
+            tell_control(control, run, sink)
+        }
+        Control::Phase => {
             run.at += 1;
             tell_control(control, run, sink)
         }

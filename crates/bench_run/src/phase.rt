@@ -1,6 +1,6 @@
 //! Running a phase of a script.
 
-ghost use Rattle.std.specs.Prelude.{◌≡◌, ◌⊎◌, ◌≤◌, ◌+◌, ◌<◌, drop, length, take, vec_len, IfErr, IfOk};
+ghost use Rattle.std.specs.Prelude.{◌≡◌, ◌⊎◌, ◌≤◌, ◌+◌, ◌<◌, drop, length, take, IfErr, IfOk};
 ghost use Rattle.std.specs.List.{prefix_len};
 ghost use Rattle.script_text.specs.Script.{is_call};
 ghost use Rattle.phase_calls.specs.Steps.{AreCalls};
@@ -17,6 +17,8 @@ use object_calls::Halted;
 use rpmb_card::CardRig;
 use script_text::{Script, Step};
 use std::alloc::Global;
+use std::sync::Wait;
+use std::thread::Threads;
 use tee_ports::{Entropy, FileRig, Sink};
 
 /// How many calls stand in front of the first control.
@@ -44,8 +46,15 @@ fn calls_from(script: &Script, at: usize) -> &[Step]
     &rest[..calls_length(rest)]
 }
 
-/// Runs the phase whose calls are the next steps, with the arms that wait, and sends its text.
-pub(crate) fn do_phase<K: Sink, F: FileRig + Drop, R: CardRig + Drop, E: Entropy + Drop>(
+/// Runs the phase whose calls are the next steps, in the mode of the run, with the arms that wait, and sends its text.
+pub(crate) fn do_phase<
+    W: Threads + Wait + Sync,
+    K: Sink,
+    F: FileRig + Drop + Send,
+    R: CardRig + Drop + Send,
+    E: Entropy + Drop + Send,
+>(
+    rt: &W,
     alloc: Global,
     script: &Script,
     run: Run<F, R>,
@@ -66,16 +75,19 @@ pub(crate) fn do_phase<K: Sink, F: FileRig + Drop, R: CardRig + Drop, E: Entropy
         bench,
         arms,
         number,
+        mode,
         at,
         kept,
     } = run;
     let calls = calls_from(script, at);
     match run_phase(
+        rt,
         alloc,
         bench,
         keys,
         entropy,
         number,
+        mode,
         script.applications(),
         arms.as_slice(),
         calls,
@@ -91,10 +103,11 @@ pub(crate) fn do_phase<K: Sink, F: FileRig + Drop, R: CardRig + Drop, E: Entropy
                 bench,
                 arms: Vec::new(alloc),
                 number: number + 1,
+                mode,
                 at: at + calls.len(),
                 kept,
             };
-            tell_phase(script, number, objects, &history, run, sink)
+            tell_phase(script, number, mode, objects, &history, run, sink)
         }
         Err(Halted { bench, fault }) => {
             let status = tell_refusal(fault, sink, kept);

@@ -15,12 +15,21 @@ use hmac_keys::Keys;
 use object_calls::{Bench, Halted};
 use rpmb_card::CardRig;
 use run_streams::{Status, flush};
-use script_text::{Script, Step};
+use script_text::{Mode, Script, Step};
 use std::alloc::Global;
+use std::sync::Wait;
+use std::thread::Threads;
 use tee_ports::{Entropy, FileRig, Sink};
 
 /// Does the next act of a script: a phase, or a control.
-fn do_act<K: Sink, F: FileRig + Drop, R: CardRig + Drop, E: Entropy + Drop>(
+fn do_act<
+    W: Threads + Wait + Sync,
+    K: Sink,
+    F: FileRig + Drop + Send,
+    R: CardRig + Drop + Send,
+    E: Entropy + Drop + Send,
+>(
+    rt: &W,
     alloc: Global,
     script: &Script,
     run: Run<F, R>,
@@ -39,7 +48,7 @@ fn do_act<K: Sink, F: FileRig + Drop, R: CardRig + Drop, E: Entropy + Drop>(
 {
     match &script.all_steps()[run.at] {
         Step::Control(control) => { do_control(alloc, script, control, run, sink, keys, entropy) }
-        Step::Call { .. } => do_phase(alloc, script, run, sink, keys, entropy),
+        Step::Call { .. } => do_phase(rt, alloc, script, run, sink, keys, entropy),
     }
 }
 
@@ -67,7 +76,14 @@ fn finish<K: Sink, F: FileRig + Drop, R: CardRig + Drop, E: Entropy>(
 }
 
 /// Does the acts of a script on a bench that was opened.
-fn do_acts<K: Sink, F: FileRig + Drop, R: CardRig + Drop, E: Entropy + Drop>(
+fn do_acts<
+    W: Threads + Wait + Sync,
+    K: Sink,
+    F: FileRig + Drop + Send,
+    R: CardRig + Drop + Send,
+    E: Entropy + Drop + Send,
+>(
+    rt: &W,
     alloc: Global,
     script: &Script,
     run: Run<F, R>,
@@ -81,7 +97,7 @@ fn do_acts<K: Sink, F: FileRig + Drop, R: CardRig + Drop, E: Entropy + Drop>(
 {
     let mut run = run;
     while run.at < script.all_steps().len() {
-        match do_act(alloc, script, run, sink, keys, entropy) {
+        match do_act(rt, alloc, script, run, sink, keys, entropy) {
             Ok(next) => run = next,
             Err(end) => return end,
         }
@@ -90,7 +106,14 @@ fn do_acts<K: Sink, F: FileRig + Drop, R: CardRig + Drop, E: Entropy + Drop>(
 }
 
 /// Opens the bench, runs the steps of a script on it, and writes their text.
-pub(crate) fn run_script<K: Sink, F: FileRig + Drop, R: CardRig + Drop, E: Entropy + Drop>(
+pub(crate) fn run_script<
+    W: Threads + Wait + Sync,
+    K: Sink,
+    F: FileRig + Drop + Send,
+    R: CardRig + Drop + Send,
+    E: Entropy + Drop + Send,
+>(
+    rt: &W,
     alloc: Global,
     script: &Script,
     sink: &mut K,
@@ -110,10 +133,11 @@ pub(crate) fn run_script<K: Sink, F: FileRig + Drop, R: CardRig + Drop, E: Entro
                 bench,
                 arms: Vec::new(alloc),
                 number: 0,
+                mode: Mode::Serial,
                 at: 0,
                 kept: Vec::new(alloc),
             };
-            do_acts(alloc, script, run, sink, keys, entropy)
+            do_acts(rt, alloc, script, run, sink, keys, entropy)
         }
         Err(Halted { bench, fault }) => {
             let status = tell_refusal(fault, sink, Vec::new(alloc));

@@ -2,7 +2,7 @@
 
 use object_calls::Bench;
 use run_streams::Status;
-use script_text::Arm;
+use script_text::{Arm, Mode};
 
 /// A run between two acts.
 #[derive(Drop)]
@@ -13,6 +13,8 @@ pub(crate) struct Run<F, R> {
     pub arms: Vec<Arm>,
     /// The number of the next phase.
     pub number: u64,
+    /// The mode of the next phase.
+    pub mode: Mode,
     /// The place of the next step.
     pub at: usize,
     /// Text that was not put yet.

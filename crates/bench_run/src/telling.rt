@@ -1,6 +1,6 @@
 //! Sending the text of an act that was done.
 
-ghost use Rattle.std.specs.Prelude.{◌≡◌, ◌⊎◌, ◌≤◌, ◌++◌, IfErr, IfOk, OnErr, OnOk};
+ghost use Rattle.std.specs.Prelude.{◌⊎◌, ◌≤◌, ◌++◌, IfErr, IfOk, OnErr, OnOk};
 ghost use Rattle.script_text.specs.declared.script.Control.TheVariants.{List as ListControl};
 ghost use Rattle.tee_ports.specs.Faults.{Rose};
 ghost use Rattle.run_text.specs.Text.{control_line, events_text, phase_line};
@@ -9,7 +9,7 @@ ghost use Rattle.bench_run.specs.Tells.{IsCutOff, IsSent};
 
 use crate::standing::{Run, RunEnd};
 use run_streams::{Status, send_control, send_lines, send_phase};
-use script_text::{Control, Script};
+use script_text::{Control, Mode, Script};
 use store_model::History;
 use tee_ports::Sink;
 
@@ -66,22 +66,23 @@ pub(crate) fn tell_list<K: Sink, F: Drop, R: Drop>(
     }
 }
 
-/// Sends the text of a phase of that number, which opened with so many objects and has this history.
+/// Sends the text of a phase of that number and mode, which opened with so many objects and has this history.
 pub(crate) fn tell_phase<K: Sink, F: Drop, R: Drop>(
     script: &Script,
     number: u64,
+    mode: Mode,
     objects: u16,
     history: &History,
     run: Run<F, R>,
     sink: &mut K,
 ) -> Result<Run<F, R>, RunEnd<F, R>>
-    ensures ok { IfOk result (IsSent (K.held sink.old) (K.held sink.new) (phase_line number objects ++ events_text script.now 0 history.now.events) run) }
+    ensures ok { IfOk result (IsSent (K.held sink.old) (K.held sink.new) (phase_line number mode objects ++ events_text script.now 0 history.now.events) run) }
     ensures err { IfErr result (IsCutOff (Rose (K.faults sink.old) (K.faults sink.new) ⊎ K.is_full sink.new) (K.held sink.old) (K.held sink.new)
-        (phase_line number objects ++ events_text script.now 0 history.now.events) run) }
+        (phase_line number mode objects ++ events_text script.now 0 history.now.events) run) }
     ensures counted { K.faults sink.old ≤ K.faults sink.new }
 {
     let mut run = run;
-    match send_phase(script, number, objects, history, sink, &mut run.kept) {
+    match send_phase(script, number, mode, objects, history, sink, &mut run.kept) {
         Ok(()) => Ok(run),
         Err(status) => Err(RunEnd {
             status,

@@ -20,6 +20,8 @@ use rpmb_card::CardRig;
 use run_streams::{Excess, Status, read_text};
 use script_text::{Script, ScriptFault, parse};
 use std::alloc::Global;
+use std::sync::Wait;
+use std::thread::Threads;
 use tee_ports::{Entropy, FileRig, Sink, Source};
 
 /// Whether the words are the one word `run`.
@@ -57,7 +59,15 @@ fn read_script(alloc: Global, text: &[u8]) -> Result<Script, Status>
 }
 
 /// Reads a script, runs it and writes its text.
-fn run_source<S: Source, K: Sink, F: FileRig + Drop, R: CardRig + Drop, E: Entropy + Drop>(
+fn run_source<
+    W: Threads + Wait + Sync,
+    S: Source,
+    K: Sink,
+    F: FileRig + Drop + Send,
+    R: CardRig + Drop + Send,
+    E: Entropy + Drop + Send,
+>(
+    rt: &W,
     alloc: Global,
     source: &mut S,
     sink: &mut K,
@@ -86,15 +96,24 @@ fn run_source<S: Source, K: Sink, F: FileRig + Drop, R: CardRig + Drop, E: Entro
         Err(status) => return RunEnd { status, bench },
     };
     drop(text);
-    run_script(alloc, &script, sink, bench, keys, entropy)
+    run_script(rt, alloc, &script, sink, bench, keys, entropy)
 }
 
 /// Does all that the program does: tests the words, reads the script from the source to its end, opens the bench, runs the script's
 /// steps on it, and writes the history to the sink.
 ///
-/// `words` are those behind the program's name. A card whose block 0 is blank is formatted. Want of memory is the one status without a
-/// cause. The bench is given back as the run left it; where there is no script, it is as it was.
-pub fn run<S: Source, K: Sink, F: FileRig + Drop, R: CardRig + Drop, E: Entropy + Drop>(
+/// `rt` starts the threads of phases that have their applications on threads, and waits for them; so it is not claimed that a run comes to
+/// its end. `words` are those behind the program's name. A card whose block 0 is blank is formatted. Want of memory is the one status
+/// without a cause. The bench is given back as the run left it; where there is no script, it is as it was.
+pub fn run<
+    W: Threads + Wait + Sync,
+    S: Source,
+    K: Sink,
+    F: FileRig + Drop + Send,
+    R: CardRig + Drop + Send,
+    E: Entropy + Drop + Send,
+>(
+    rt: &W,
     alloc: Global,
     words: &[String],
     source: &mut S,
@@ -132,5 +151,5 @@ pub fn run<S: Source, K: Sink, F: FileRig + Drop, R: CardRig + Drop, E: Entropy 
             bench,
         };
     }
-    run_source(alloc, source, sink, bench, keys, entropy)
+    run_source(rt, alloc, source, sink, bench, keys, entropy)
 }

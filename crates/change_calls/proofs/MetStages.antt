@@ -11,12 +11,13 @@ use Rattle.history_seats.specs.Rule.{IsSound, SlotFits}
 use Rattle.history_seats.specs.Views.{GateView, Sight, SlotView}
 use Rattle.locked_gate.specs.LockedGates.{IsLockedGate}
 use Rattle.locked_gate.specs.declared.gate.Closing.{Closing}
+use Rattle.locked_slots.specs.Fits.{SeesWhole}
 use Rattle.locked_slots.specs.Learning.{learned, shown}
 use Rattle.locked_slots.specs.LockedSlots.{IsLockedSlot}
 use Rattle.locked_slots.specs.Reads.{GivesVersion}
 use Rattle.locked_slots.specs.Stages.{IsStagedSlot}
 use Rattle.object_answers.proofs.Meetings.{at-entry, at-stays, gives-one, met-gives, met-locked}
-use Rattle.object_answers.specs.Meeting.{IsAtEntry, SeesWhole, StillGives}
+use Rattle.object_answers.specs.Meeting.{IsAtEntry, StillGives}
 use Rattle.object_commits.specs.StagedVersions.{IsStagedVersion}
 use Rattle.object_slots.specs.Value.{SlotValue, without_stage}
 use Rattle.store_commit.specs.Gates.{GateValue}

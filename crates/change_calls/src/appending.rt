@@ -2,6 +2,7 @@
 
 ghost use Rattle.std.specs.Prelude.{◌≡◌, ◌≤◌};
 ghost use Rattle.change_calls.specs.Appending.{MayBeAppended};
+ghost use Rattle.locked_slots.specs.Fits.{SeesWhole};
 ghost use Rattle.locked_slots.specs.LockedSlots.{IsLockedSlot};
 ghost use Rattle.object_answers.specs.Replies.{HasNoBytes};
 ghost use Rattle.object_answers.specs.Served.{IsServed};
@@ -33,6 +34,7 @@ pub(crate) fn append<F: StoreFile + Drop, R: RpmbPort + Drop, L: StoreName, E: E
     ensures number { slot.new.number ≡ slot.old.number }
     ensures file { slot.new.file ≡ slot.old.file }
     ensures locked { IsLockedSlot L.store slot.new }
+    ensures whole { SeesWhole gate.new.journal.knows slot.new }
     ensures entropy { session.new.entropy ≡ session.old.entropy }
 {
     // Tells what always holds of the gate.

@@ -5,6 +5,7 @@ ghost use Rattle.change_calls.specs.Meant.{IsMeantAnyhow};
 ghost use Rattle.change_calls.specs.Replies.{IsDoneOrRefused};
 ghost use Rattle.crash_core.specs.EntryLists.{entry_at};
 ghost use Rattle.locked_gate.specs.Commits.{IsCalm};
+ghost use Rattle.locked_slots.specs.Fits.{FitsGate, SeesWhole};
 ghost use Rattle.locked_slots.specs.LockedSlots.{IsLockedSlot};
 ghost use Rattle.object_answers.specs.Served.{IsServed};
 
@@ -40,9 +41,12 @@ pub fn answer_meant<F: StoreFile + Drop, R: RpmbPort + Drop, L: StoreName, E: En
     requires meant { IsMeantAnyhow gate.old.gate session.old entry.now call reply }
     ensures served { IsServed L.store gate.old gate.new session.old session.new slot.old.number call result }
     ensures reply { result.reply ≡ reply }
+    // What the slot's seat knew agreed with the gate.
+    ensures agreed { FitsGate gate.old.journal.knows slot.old }
     ensures number { slot.new.number ≡ slot.old.number }
     ensures file { slot.new.file ≡ slot.old.file }
     ensures locked { IsLockedSlot L.store slot.new }
+    ensures whole { SeesWhole gate.new.journal.knows slot.new }
     ensures entropy { session.new.entropy ≡ session.old.entropy }
 {
     meet_entry(gate, slot, session, entry);

@@ -9,6 +9,7 @@ ghost use Rattle.crash_core.specs.EntryLists.{entry_at};
 ghost use Rattle.history_seats.specs.Records.{Version};
 ghost use Rattle.locked_gate.specs.Commits.{IsCalm};
 ghost use Rattle.locked_gate.specs.KnownMachine.{IsSessionAt};
+ghost use Rattle.locked_slots.specs.Fits.{FitsGate};
 ghost use Rattle.locked_slots.specs.LockedSlots.{IsLockedSlot};
 ghost use Rattle.locked_slots.specs.Reads.{GivesVersion};
 ghost use Rattle.object_answers.specs.Meeting.{IsAtEntry, StillGives};
@@ -41,6 +42,8 @@ pub fn meet_staged<F: StoreFile + Drop, R: RpmbPort + Drop, L: StoreName, E: Ent
     requires entry { (index : ℕ) × (entry_at gate.old.gate.dir.dir.entries index ≡ Some entry.now) }
     requires file { slot.old.number ≡ entry.now.file }
     ensures gate { gate.new ≡ gate.old }
+    // What the slot's seat knew agreed with the gate.
+    ensures agreed { FitsGate gate.old.journal.knows slot.old }
     ensures same { slot.new ≡ record slot.old { seat = slot.new.seat } }
     ensures base { IsLockedSlot L.store (record slot.new { holds = without_stage slot.new.holds }) }
     ensures at { (version : Version) × IsAtEntry gate.old.journal.knows slot.new entry.now version }

@@ -2,6 +2,7 @@
 
 ghost use Rattle.std.specs.Prelude.{◌≡◌, ◌≤◌};
 ghost use Rattle.change_calls.specs.Replies.{IsFailure};
+ghost use Rattle.locked_slots.specs.Fits.{SeesWhole};
 ghost use Rattle.locked_slots.specs.LockedSlots.{IsLockedSlot};
 ghost use Rattle.object_answers.specs.Served.{IsServed};
 ghost use Rattle.object_answers.specs.Serving.{MayBeServed};
@@ -33,6 +34,7 @@ pub(crate) fn tell_failure<F: StoreFile + Drop, R: RpmbPort + Drop, L: StoreName
     ensures number { slot.new.number ≡ slot.old.number }
     ensures file { slot.new.file ≡ slot.old.file }
     ensures locked { IsLockedSlot L.store slot.new }
+    ensures whole { SeesWhole gate.new.journal.knows slot.new }
     ensures entropy { session.new.entropy ≡ session.old.entropy }
 {
     let (reply, told) = twice(reply);

@@ -11,6 +11,7 @@ ghost use Rattle.disk_model.specs.Calls.{GoesOn};
 ghost use Rattle.history_seats.specs.Records.{Version};
 ghost use Rattle.locked_gate.specs.Commits.{IsCalm};
 ghost use Rattle.locked_slots.specs.Fills.{GivesEntry};
+ghost use Rattle.locked_slots.specs.Fits.{SeesWhole};
 ghost use Rattle.locked_slots.specs.LockedSlots.{IsLockedSlot};
 ghost use Rattle.locked_slots.specs.Reads.{GivesVersion};
 ghost use Rattle.object_slots.specs.Value.{IsLive, without_stage};
@@ -122,6 +123,7 @@ pub fn answer_truncate<F: StoreFile + Drop, R: RpmbPort + Drop, L: StoreName, E:
     ensures number { slot.new.number ≡ slot.old.number }
     ensures file { slot.new.file ≡ slot.old.file }
     ensures locked { IsLockedSlot L.store slot.new }
+    ensures whole { SeesWhole gate.new.journal.knows slot.new }
 {
     // Tells what always holds of the gate.
     let _doubt = gate.doubt();

@@ -4,6 +4,7 @@ ghost use Rattle.std.specs.Prelude.{◌≡◌, None};
 ghost use Rattle.crash_core.specs.EntryLists.{IsUnnamed};
 ghost use Rattle.history_seats.specs.Changes.{seat_renewed};
 ghost use Rattle.object_slots.specs.Value.{free};
+ghost use Rattle.locked_slots.specs.Fits.{FitsGate};
 ghost use Rattle.locked_slots.specs.LockedSlots.{IsLockedSlot};
 ghost use Rattle.call_history.specs.Sessions.{IsCallerOf};
 ghost use Rattle.call_history.specs.Shown.{BeginsAll, SeesAll, shown};
@@ -47,6 +48,8 @@ pub fn clear<F: StoreFile + Drop, R: RpmbPort + Drop, L: StoreName, E: Entropy>(
     requires unnamed { IsUnnamed gate.old.gate.dir.dir.entries slot.old.number }
     requires caller { IsCallerOf L.store session.old }
     ensures same { gate.new ≡ gate.old }
+    // What the slot's seat knew agreed with the gate.
+    ensures agreed { FitsGate gate.old.journal.knows slot.old }
     ensures slot { slot.new ≡ record slot.old { seat = seat_renewed gate.old.journal.knows slot.old.seat; holds = free; doubt = None } }
     ensures clear { IsClearSlot L.store slot.new }
     ensures session { session.new ≡ shown gate.old.journal.knows session.old }

@@ -4,6 +4,7 @@ ghost use Rattle.std.specs.Prelude.{◌≡◌, ◌≤◌, ◌<◌, length, None,
 ghost use Rattle.tee_types.specs.declared.call.Call.TheVariants.{Create};
 ghost use Rattle.rpmb_card.specs.Protocol.{last_counter};
 ghost use Rattle.locked_gate.specs.Commits.{IsCalm};
+ghost use Rattle.locked_slots.specs.Fits.{FitsGate, SeesWhole};
 ghost use Rattle.locked_slots.specs.LockedSlots.{IsLockedSlot};
 ghost use Rattle.object_commits.specs.CreateLaws.{index_of_place};
 ghost use Rattle.create_calls.specs.Finished.{IsBroughtAs, IsBroughtOrSpent, IsFinished, MayTellIfUnmade};
@@ -98,6 +99,7 @@ fn bring_made<F: StoreFile + Drop, R: RpmbPort + Drop, L: StoreName, E: Entropy>
         (E.is_reliable session.old.entropy) (E.faults session.old.entropy) (E.faults session.new.entropy) root result }
     ensures reliable { E.is_reliable session.old.entropy → E.is_reliable session.new.entropy }
     ensures locked { IsLockedSlot L.store slot.new }
+    ensures whole { SeesWhole gate.new.journal.knows slot.new }
     ensures number { slot.new.number ≡ slot.old.number }
     ensures file { slot.new.file ≡ slot.old.file }
 {
@@ -148,6 +150,9 @@ fn finish_made<F: StoreFile + Drop, R: RpmbPort + Drop, L: StoreName, E: Entropy
         (E.is_reliable session.old.entropy) (E.faults session.old.entropy) (E.faults session.new.entropy) root result }
     ensures reliable { E.is_reliable session.old.entropy → E.is_reliable session.new.entropy }
     ensures locked { IsLockedSlot L.store slot.new }
+    // What the slot's seat knew agreed with the gate.
+    ensures agreed { FitsGate gate.old.journal.knows slot.old }
+    ensures whole { SeesWhole gate.new.journal.knows slot.new }
     ensures number { slot.new.number ≡ slot.old.number }
     ensures file { slot.new.file ≡ slot.old.file }
 {
@@ -195,6 +200,9 @@ pub fn finish<F: StoreFile + Drop, R: RpmbPort + Drop, L: StoreName, E: Entropy>
         (E.is_reliable session.old.entropy) (E.faults session.old.entropy) (E.faults session.new.entropy) made result }
     ensures reliable { E.is_reliable session.old.entropy → E.is_reliable session.new.entropy }
     ensures locked { IsLockedSlot L.store slot.new }
+    // What the slot's seat knew agreed with the gate.
+    ensures agreed { FitsGate gate.old.journal.knows slot.old }
+    ensures whole { SeesWhole gate.new.journal.knows slot.new }
     ensures number { slot.new.number ≡ slot.old.number }
     ensures file { slot.new.file ≡ slot.old.file }
 {

@@ -2,6 +2,7 @@
 
 ghost use Rattle.std.specs.Prelude.{◌≡◌, ◌<◌, ◌+◌, None};
 ghost use Rattle.crash_core.specs.EntryLists.{IsUnnamed};
+ghost use Rattle.locked_slots.specs.Fits.{FitsGate};
 ghost use Rattle.rpmb_card.specs.Protocol.{last_counter};
 ghost use Rattle.create_calls.specs.Seating.{IsFreshSlot, IsVacant, reseated};
 
@@ -33,6 +34,8 @@ pub(crate) fn reseat<F: StoreFile + Drop, R: RpmbPort + Drop, L: StoreName>(
     requires unnamed { IsUnnamed gate.old.gate.dir.dir.entries slot.old.number }
     ensures gate { gate.new ≡ reseated L.store slot.old.number gate.old }
     ensures same { slot.new ≡ record slot.old { seat = slot.new.seat } }
+    // What the slot's seat knew agreed with the gate.
+    ensures agreed { FitsGate gate.old.journal.knows slot.old }
     ensures fresh { IsFreshSlot L.store gate.new.journal.knows gate.new.gate.counter slot.new }
 {
     let _doubt = gate.doubt();

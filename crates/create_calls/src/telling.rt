@@ -4,6 +4,7 @@ ghost use Rattle.std.specs.Prelude.{◌≡◌, ◌≤◌, None};
 ghost use Rattle.crash_core.specs.EntryLists.{IsUnnamed};
 ghost use Rattle.locked_gate.specs.Commits.{IsCalm};
 ghost use Rattle.object_slots.specs.Value.{IsFree};
+ghost use Rattle.locked_slots.specs.Fits.{FitsGate, SeesWhole};
 ghost use Rattle.locked_slots.specs.LockedSlots.{IsLockedSlot};
 ghost use Rattle.create_calls.specs.Rules.{IsCreate, MakesByRule};
 ghost use Rattle.create_calls.specs.Seating.{IsFreshSlot, reseated};
@@ -41,6 +42,7 @@ fn tell_fresh<F: StoreFile + Drop, R: RpmbPort + Drop, L: StoreName, E: Entropy>
     ensures reply { result.reply ≡ reply_unmade why }
     ensures entropy { session.new.entropy ≡ session.old.entropy }
     ensures locked { IsLockedSlot L.store slot.new }
+    ensures whole { SeesWhole gate.new.journal.knows slot.new }
     ensures number { slot.new.number ≡ slot.old.number }
     ensures file { slot.new.file ≡ slot.old.file }
 {
@@ -78,6 +80,9 @@ pub(crate) fn tell<F: StoreFile + Drop, R: RpmbPort + Drop, L: StoreName, E: Ent
     ensures reply { result.reply ≡ reply_unmade why }
     ensures entropy { session.new.entropy ≡ session.old.entropy }
     ensures locked { IsLockedSlot L.store slot.new }
+    // What the slot's seat knew agreed with the gate.
+    ensures agreed { FitsGate gate.old.journal.knows slot.old }
+    ensures whole { SeesWhole gate.new.journal.knows slot.new }
     ensures number { slot.new.number ≡ slot.old.number }
     ensures file { slot.new.file ≡ slot.old.file }
 {

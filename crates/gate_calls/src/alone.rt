@@ -90,6 +90,7 @@ fn settle_for<F: StoreFile + Drop, R: RpmbPort + Drop, L: StoreName, E: Entropy>
     ensures counted { E.faults session.old.entropy ≤ E.faults session.new.entropy }
     ensures reliable { E.is_reliable session.old.entropy → E.is_reliable session.new.entropy }
     ensures still { E.is_reliable session.old.entropy → E.faults session.new.entropy ≡ E.faults session.old.entropy }
+    ensures undrawn { IsNone result → E.faults session.new.entropy ≡ E.faults session.old.entropy }
 {
     match settle(gate, session) {
         Ok(()) => None,
@@ -112,6 +113,7 @@ fn answer_early<F: StoreFile + Drop, R: RpmbPort + Drop, L: StoreName, E: Entrop
     ensures counted { E.faults session.old.entropy ≤ E.faults session.new.entropy }
     ensures reliable { E.is_reliable session.old.entropy → E.is_reliable session.new.entropy }
     ensures still { E.is_reliable session.old.entropy → E.faults session.new.entropy ≡ E.faults session.old.entropy }
+    ensures undrawn { IfOk result (λ answer. IsNone answer → E.faults session.new.entropy ≡ E.faults session.old.entropy) }
 {
     if gate.doubt().is_none() {
         let Ok(()) = settle(gate, session) else {
@@ -127,7 +129,7 @@ fn answer_early<F: StoreFile + Drop, R: RpmbPort + Drop, L: StoreName, E: Entrop
 }
 
 /// Serves a call as far as the gate does alone: the answer, or none where the call is on an object and no misuse was found before. Then no
-/// commit is in doubt any more, and the session was shown the history.
+/// commit is in doubt any more, the session was shown the history, and its entropy counted no fault.
 ///
 /// # Errors
 ///
@@ -147,6 +149,7 @@ pub fn answer_alone<F: StoreFile + Drop, R: RpmbPort + Drop, L: StoreName, E: En
     ensures counted { E.faults session.old.entropy ≤ E.faults session.new.entropy }
     ensures reliable { E.is_reliable session.old.entropy → E.is_reliable session.new.entropy }
     ensures still { E.is_reliable session.old.entropy → E.faults session.new.entropy ≡ E.faults session.old.entropy }
+    ensures undrawn { IfOk result (λ answer. IsNone answer → E.faults session.new.entropy ≡ E.faults session.old.entropy) }
 {
     gate.show(None, session);
     if let Some(answer) = answer_early(alloc, gate, session, call)? {

@@ -2,6 +2,7 @@ pub mod KnownVersions
 pub mod Openings
 pub mod OpenDoubts
 pub mod Learned
+pub mod ShownSlots
 pub mod OwnRecords
 pub mod Stays
 pub mod Contents

@@ -1,6 +1,7 @@
 pub mod Objects
 pub mod KnownFor
 pub mod LockedSlots
+pub mod Fits
 pub mod Opening
 pub mod Learning
 pub mod OwnEvents

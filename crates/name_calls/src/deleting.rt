@@ -6,6 +6,7 @@ ghost use Rattle.tee_types.specs.declared.call.Call.TheVariants.{Delete};
 ghost use Rattle.tee_types.specs.declared.reply.Reply.TheVariants.{Done};
 ghost use Rattle.call_rules.specs.Objects.{IsRightful};
 ghost use Rattle.locked_gate.specs.Commits.{IsCalm};
+ghost use Rattle.locked_slots.specs.Fits.{FitsGate, SeesWhole};
 ghost use Rattle.object_commits.specs.Bringing.{IsCommitted};
 ghost use Rattle.object_commits.specs.NameLaws.{IsDoneByRule};
 ghost use Rattle.name_calls.specs.NameChanges.{delete_change};
@@ -41,6 +42,9 @@ pub fn delete<F: StoreFile + Drop, R: RpmbPort + Drop, L: StoreName, E: Entropy>
     requires file { slot.old.number ≡ found.now.held.entry.file }
     ensures committed { IsCommitted F.state R.state L.store gate.old gate.new slot.old.number session.old session.new (Delete handle) Done (delete_change found.now)
         (E.is_reliable session.old.entropy) (E.faults session.old.entropy) (E.faults session.new.entropy) result }
+    // What the slot's seat knew agreed with the gate.
+    ensures agreed { FitsGate gate.old.journal.knows slot.old }
+    ensures whole { SeesWhole gate.new.journal.knows slot.new }
     ensures reliable { E.is_reliable session.old.entropy → E.is_reliable session.new.entropy }
     ensures number { slot.new.number ≡ slot.old.number }
     ensures file { slot.new.file ≡ slot.old.file }

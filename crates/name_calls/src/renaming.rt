@@ -1,6 +1,6 @@
 //! TEE_RenamePersistentObject: another identifier for an open object.
 
-ghost use Rattle.std.specs.Prelude.{◌≡◌, ◌≤◌, None, IfOk, OnErr};
+ghost use Rattle.std.specs.Prelude.{◌≡◌, ◌≤◌, None, IfOk, OnErr, OnOk};
 ghost use Rattle.tee_types.specs.Rights.{write_meta_bit};
 ghost use Rattle.tee_types.specs.declared.call.Call.TheVariants.{Rename};
 ghost use Rattle.tee_types.specs.declared.reply.Reply.TheVariants.{Done};
@@ -10,6 +10,7 @@ ghost use Rattle.suppositions.specs.Guesses.{Guess};
 ghost use Rattle.suppositions.specs.Answered.{AreAnswered};
 ghost use Rattle.call_rules.specs.Objects.{IsRightful};
 ghost use Rattle.locked_gate.specs.Commits.{IsCalm};
+ghost use Rattle.locked_slots.specs.Fits.{FitsGate, SeesWhole};
 ghost use Rattle.object_commits.specs.Bringing.{IsCommitted};
 ghost use Rattle.object_commits.specs.NameLaws.{IsDoneByRule};
 ghost use Rattle.name_calls.specs.NameChanges.{rename_change, rename_step};
@@ -73,6 +74,9 @@ pub fn rename<F: StoreFile + Drop, R: RpmbPort + Drop, L: StoreName, E: Entropy>
     requires file { slot.old.number ≡ found.now.held.entry.file }
     ensures committed { IfOk result (IsCommitted F.state R.state L.store gate.old gate.new slot.old.number session.old session.new (Rename handle id) Done (rename_change found.now id)
         (E.is_reliable session.old.entropy) (E.faults session.old.entropy) (E.faults session.new.entropy)) }
+    // What the slot's seat knew agreed with the gate.
+    ensures agreed { OnOk result (FitsGate gate.old.journal.knows slot.old) }
+    ensures whole { OnOk result (SeesWhole gate.new.journal.knows slot.new) }
     ensures reliable { E.is_reliable session.old.entropy → E.is_reliable session.new.entropy }
     ensures number { slot.new.number ≡ slot.old.number }
     ensures file { slot.new.file ≡ slot.old.file }

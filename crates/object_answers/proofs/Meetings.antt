@@ -19,6 +19,7 @@ use Rattle.gate_ties.specs.Ties.{IsDoubtTied}
 use Rattle.object_slots.specs.Value.{SlotValue}
 use Rattle.locked_slots.specs.KnownFor.{own_version}
 use Rattle.locked_slots.specs.Fills.{GivesEntry}
+use Rattle.locked_slots.specs.Fits.{SeesWhole}
 use Rattle.locked_slots.specs.Learning.{decided_slot, dropped_slot, landed_slot, learned, shown}
 use Rattle.locked_slots.specs.LockedSlots.{IsContentOf, IsInDoubt, IsLockedSlot, IsSettled, IsSlotOf}
 use Rattle.locked_slots.specs.Reads.{GivesVersion}
@@ -27,7 +28,7 @@ use Rattle.locked_slots.proofs.KnownOnes.{known_one}
 use Rattle.locked_slots.proofs.Learned.{slots_learn}
 use Rattle.locked_gate.specs.declared.gate.Closing.{Closing}
 use Rattle.locked_gate.specs.LockedGates.{IsLockedGate, change_in_doubt}
-use Rattle.object_answers.specs.Meeting.{IsAtEntry, SeesWhole, StillGives, met}
+use Rattle.object_answers.specs.Meeting.{IsAtEntry, StillGives, met}
 
 -- its seat, and what the slot shows by it
 pub own-seat : (store : Store) (slot : SlotValue) (seat : Sight SlotView) → slot.seat ≡ Some seat → IsLockedSlot store slot → IsSlotOf store slot.number slot.file seat

@@ -23,6 +23,7 @@ use Rattle.store_commit.specs.Gates.{GateValue}
 use Rattle.call_history.specs.Journals.{IsJournal}
 use Rattle.call_history.specs.Sessions.{CallerSession}
 use Rattle.object_slots.specs.Value.{SlotValue}
+use Rattle.locked_slots.specs.Fits.{SeesWhole}
 use Rattle.locked_slots.specs.KnownFor.{own_version}
 use Rattle.locked_slots.specs.LockedSlots.{IsLockedSlot, IsSlotOf}
 use Rattle.locked_slots.specs.OwnEvents.{IsOwnEvent, own_record, seat_after}
@@ -32,7 +33,6 @@ use Rattle.locked_gate.specs.declared.gate.Closing.{Closing}
 use Rattle.locked_gate.specs.KnownMachine.{KnowsMachine}
 use Rattle.locked_gate.specs.LockedGates.{IsLockedGate}
 use Rattle.locked_gate.specs.SlotAnswers.{versions_given}
-use Rattle.object_answers.specs.Meeting.{SeesWhole}
 use Rattle.object_answers.specs.Serving.{MayBeServed}
 use Rattle.object_answers.proofs.EntryAnswers.{answer-legal, given-view, own-view}
 

@@ -1,15 +1,15 @@
 -- A slot whose seat is shown the whole history, and whose doubt is settled by it.
 use Rattle.std.specs.Prelude.{◌≡◌, Some, None}
 use Rattle.dir_records.specs.declared.entry.DirEntry.{DirEntry}
-use Rattle.history_seats.specs.Changes.{slot_renewed}
 use Rattle.history_seats.specs.Directory.{given_version}
 use Rattle.history_seats.specs.Records.{Version}
 use Rattle.history_seats.specs.Rule.{IsSound}
-use Rattle.history_seats.specs.Views.{GateView, Sight, SlotView}
+use Rattle.history_seats.specs.Views.{GateView}
 use Rattle.call_history.specs.declared.settled.Settled.{Settled}
 use Rattle.call_history.specs.declared.settled.Settled.TheVariants.{Open, Landed, Dropped}
 use Rattle.core_parts.specs.GateParts.{IsVersionOf}
 use Rattle.object_slots.specs.Value.{SlotValue}
+use Rattle.locked_slots.specs.Fits.{SeesWhole}
 use Rattle.locked_slots.specs.Learning.{dropped_slot, landed_slot, learned, shown}
 use Rattle.locked_slots.specs.Reads.{GivesVersion}
 
@@ -22,12 +22,6 @@ abbrev pub settled_slot : Settled → SlotValue → SlotValue
 settled_slot Open slot = slot
 settled_slot Landed slot = landed_slot slot
 settled_slot Dropped slot = dropped_slot slot
-
--- the seat's view is the gate's
-pub record SeesWhole (gate : GateView) (slot : SlotValue) : Type 0 where
-  pub seat : Sight SlotView
-  pub is : slot.seat ≡ Some seat
-  pub whole : slot_renewed gate seat.knows ≡ seat.knows
 
 -- The slot is the one of the entry's file. It sees the whole history, by which no commit of its object is in doubt, and which gives that
 -- version, the entry's.

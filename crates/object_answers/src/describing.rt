@@ -8,6 +8,7 @@ ghost use Rattle.crash_core.specs.DeviceKeys.{object_key};
 ghost use Rattle.history_seats.specs.Records.{Version};
 ghost use Rattle.call_rules.specs.Objects.{IsOpenObject};
 ghost use Rattle.locked_slots.specs.Fills.{GivesEntry};
+ghost use Rattle.locked_slots.specs.Fits.{SeesWhole};
 ghost use Rattle.locked_slots.specs.LockedSlots.{IsLockedSlot};
 ghost use Rattle.locked_slots.specs.Reads.{GivesVersion};
 ghost use Rattle.locked_gate.specs.Commits.{IsCalm};
@@ -106,6 +107,7 @@ pub fn answer_info<F: StoreFile + Drop, R: RpmbPort + Drop, L: StoreName, E: Ent
     ensures number { slot.new.number ≡ slot.old.number }
     ensures file { slot.new.file ≡ slot.old.file }
     ensures locked { IsLockedSlot L.store slot.new }
+    ensures whole { SeesWhole gate.new.journal.knows slot.new }
 {
     tell(gate, slot, session, Call::Info { handle }, reply, told)
 }

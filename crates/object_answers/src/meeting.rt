@@ -11,12 +11,13 @@ ghost use Rattle.suppositions.specs.Answered.{AreAnswered};
 ghost use Rattle.call_history.specs.Sessions.{IsCallerOf};
 ghost use Rattle.call_history.specs.Shown.{BeginsAll, SeesAll, shown};
 ghost use Rattle.locked_slots.specs.Fills.{GivesEntry};
+ghost use Rattle.locked_slots.specs.Fits.{FitsGate, SeesWhole};
 ghost use Rattle.locked_slots.specs.Learning.{learned};
 ghost use Rattle.locked_slots.specs.LockedSlots.{IsLockedSlot};
 ghost use Rattle.locked_slots.specs.Reads.{GivesVersion};
 ghost use Rattle.locked_gate.specs.Commits.{IsCalm};
 ghost use Rattle.locked_gate.specs.KnownMachine.{IsSessionAt};
-ghost use Rattle.object_answers.specs.Meeting.{IsAtEntry, SeesWhole, StillGives, met, settled_slot};
+ghost use Rattle.object_answers.specs.Meeting.{IsAtEntry, StillGives, met, settled_slot};
 
 use call_history::{Session, Settled};
 use dir_records::DirEntry;
@@ -63,6 +64,8 @@ pub fn meet<F: StoreFile + Drop, R: RpmbPort + Drop, L: StoreName, E: Entropy>(
     requires session { IsCallerOf L.store session.old }
     ensures same { gate.new ≡ gate.old }
     ensures slot { slot.new ≡ met gate.old.journal.knows slot.old }
+    // What the slot's seat knew agreed with the gate.
+    ensures agreed { FitsGate gate.old.journal.knows slot.old }
     ensures locked { IsLockedSlot L.store slot.new }
     ensures whole_slot { SeesWhole gate.old.journal.knows slot.new }
     ensures still { (v : Version) → GivesVersion slot.old v → StillGives slot.old slot.new v }
@@ -95,6 +98,7 @@ pub fn meet_entry<F: StoreFile + Drop, R: RpmbPort + Drop, L: StoreName, E: Entr
     requires entry { (index : ℕ) × (entry_at gate.old.gate.dir.dir.entries index ≡ Some entry.now) }
     requires file { slot.old.number ≡ entry.now.file }
     ensures gate { gate.new ≡ gate.old }
+    ensures agreed { FitsGate gate.old.journal.knows slot.old }
     ensures number { slot.new.number ≡ slot.old.number }
     ensures file { slot.new.file ≡ slot.old.file }
     ensures locked { IsLockedSlot L.store slot.new }

@@ -9,6 +9,7 @@ ghost use Rattle.store_model.specs.Machine.{MachineState, has_all_handles};
 ghost use Rattle.store_commit.specs.NameIndex.{IsEntryNamed};
 ghost use Rattle.call_rules.specs.Matches.{Matches};
 ghost use Rattle.call_rules.specs.Objects.{IsOpened};
+ghost use Rattle.locked_slots.specs.Fits.{SeesWhole};
 ghost use Rattle.locked_slots.specs.LockedSlots.{IsLockedSlot};
 ghost use Rattle.locked_gate.specs.Commits.{IsCalm};
 ghost use Rattle.object_answers.specs.Causes.{HasToldCause};
@@ -60,6 +61,7 @@ pub fn answer_open<F: StoreFile + Drop, R: RpmbPort + Drop, L: StoreName, E: Ent
     ensures number { slot.new.number ≡ slot.old.number }
     ensures file { slot.new.file ≡ slot.old.file }
     ensures locked { IsLockedSlot L.store slot.new }
+    ensures whole { SeesWhole gate.new.journal.knows slot.new }
 {
     let call = Call::Open { id, flags };
     if let Some(reply) = unloaded {

@@ -10,6 +10,7 @@ ghost use Rattle.history_seats.specs.Records.{Version};
 ghost use Rattle.store_model.specs.Machine.{handle_at};
 ghost use Rattle.call_rules.specs.Objects.{IsRightful};
 ghost use Rattle.locked_slots.specs.Fills.{GivesEntry};
+ghost use Rattle.locked_slots.specs.Fits.{SeesWhole};
 ghost use Rattle.locked_slots.specs.LockedSlots.{IsLockedSlot};
 ghost use Rattle.locked_slots.specs.Reads.{GivesVersion};
 ghost use Rattle.locked_gate.specs.Commits.{IsCalm};
@@ -131,6 +132,7 @@ pub fn answer_read<F: StoreFile + Drop, R: RpmbPort + Drop, L: StoreName, E: Ent
     ensures number { slot.new.number ≡ slot.old.number }
     ensures file { slot.new.file ≡ slot.old.file }
     ensures locked { IsLockedSlot L.store slot.new }
+    ensures whole { SeesWhole gate.new.journal.knows slot.new }
 {
     advance(session, handle, found.handle, &reply);
     let call = Call::Read {

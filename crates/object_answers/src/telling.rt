@@ -1,6 +1,7 @@
 //! How the answer that an object's file gave is appended.
 
 ghost use Rattle.std.specs.Prelude.{◌≡◌, ◌≤◌};
+ghost use Rattle.locked_slots.specs.Fits.{SeesWhole};
 ghost use Rattle.locked_slots.specs.LockedSlots.{IsLockedSlot};
 ghost use Rattle.object_answers.specs.Served.{IsServed};
 ghost use Rattle.object_answers.specs.Serving.{MayBeServed};
@@ -34,6 +35,7 @@ pub fn tell<F: StoreFile + Drop, R: RpmbPort + Drop, L: StoreName, E: Entropy>(
     ensures number { slot.new.number ≡ slot.old.number }
     ensures file { slot.new.file ≡ slot.old.file }
     ensures locked { IsLockedSlot L.store slot.new }
+    ensures whole { SeesWhole gate.new.journal.knows slot.new }
 {
     // Tell what always holds of the gate.
     let _doubt = gate.doubt();

@@ -62,16 +62,7 @@ taken_first (y ∷ xs) x some is = ap (λ z. z ∷ xs) (sym is)
 pub put_first : {A : Type 0} (xs : List A) (x : A) → take 0 xs ++ x ∷ drop 0 xs ≡ x ∷ xs
 put_first xs x = refl
 
--- the files of a longer list
-pub files-front : {F : Type 0} (state : F → FileState) (front back : List F) (k : ℕ) → k < length front → files_of state (front ++ back) k ≡ files_of state front k
-files-front state [] back k lt = absurd (omega (arith, lt))
-files-front state (f ∷ front) back zero lt = refl
-files-front state (f ∷ front) back (suc k) lt = files-front state front back k (omega (arith, lt))
-
-pub files-last : {F : Type 0} (state : F → FileState) (front : List F) (f : F) → files_of state (front ++ f ∷ []) (length front) ≡ state f
-files-last state [] f = refl
-files-last state (g ∷ front) f = files-last state front f
-
+-- where there is no file
 pub files-past : {F : Type 0} (state : F → FileState) (files : List F) (k : ℕ) → length files ≤ k → files_of state files k ≡ no_file
 files-past state [] k past = refl
 files-past state (f ∷ files) zero past = absurd (omega (arith, past))

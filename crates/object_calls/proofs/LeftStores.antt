@@ -1,7 +1,8 @@
 -- A store that is no longer served: its gate and its slots are at rest.
-use Rattle.std.proofs.Common.{◌≡◌, ◌==◌, ◌+◌, ◌≤◌, ◌⊎◌, ◌||◌, ℕ, zero, suc, Bool, true, false, true≢false, List, [], ◌∷◌, ◌++◌, length, Option, Some, None, option_map, IsTrue, inl, inr, refl, sym, ap, ◌∙◌, subst, arith, ne_eqb, eq-eqb}
+use Rattle.std.proofs.Common.{◌≡◌, ◌==◌, ◌+◌, ◌<◌, ◌≤◌, ◌⊎◌, ◌||◌, ℕ, zero, suc, Bool, true, false, true≢false, List, [], ◌∷◌, ◌++◌, length, Option, Some, None, option_map, slice_index_or, IsTrue, inl, inr, refl, sym, ap, ◌∙◌, subst, arith, ne_eqb, eq-eqb}
 use Rattle.std.specs.Prelude.{Contains, drop, nat_lt}
 use Rattle.std.proofs.lemmas.Bool.{cases_Bool, cases_lt, cond-true, cond-false, le-ltb, lt-ltb, eqb-true}
+use Rattle.std.proofs.lemmas.List.{get_or_default}
 use Rattle.disk_model.specs.State.{FileState, Sound}
 use Rattle.tee_types.specs.Limits.{last_file}
 use Rattle.hmac_keys.specs.KeyTable.{rpmb_key}
@@ -39,17 +40,18 @@ use Rattle.gate_parts.specs.Ties.{doubted_change}
 use Rattle.gate_parts.proofs.ClosedStores.{closed_stores_mount, dishonest_files_are_supposed, honest_stores_mount}
 use Rattle.gate_parts.proofs.Ties.{ties_tell}
 use Rattle.object_slots.specs.Steps.{part}
+use Rattle.object_slots.specs.Value.{SlotValue}
 use Rattle.locked_gate.specs.declared.gate.Closing.{Closing}
 use Rattle.locked_gate.specs.LockedGates.{IsLockedGate, LockedGateValue, change_in_doubt}
 use Rattle.object_calls.specs.Files.{files_of}
 use Rattle.object_calls.specs.Finished.{AreAllHonest, GivesBack, IsAnsweredOrEnds, IsDoubtLeft, IsMapLeft, LeavesHonest, LeavesStore, PicturesMountAfter, end_standing}
-use Rattle.object_calls.specs.Retiring.{AreFilesOf, AreRetired, IsRetired}
+use Rattle.object_calls.specs.Retiring.{ArePlaced, IsPlaced}
 use Rattle.object_calls.specs.Services.{OpensAsHonest, ServiceValue}
-use Rattle.served_calls.specs.Slots.{AreOfObjectFiles}
+use Rattle.served_calls.specs.Slots.{AreOfObjectFiles, AreSlots}
 use Rattle.object_calls.proofs.Files.{files-past}
 use Rattle.object_calls.proofs.HonestHistories.{all_answered as all_answered_honest, events_legal}
 use Rattle.object_calls.proofs.HonestOpenings.{altered-same}
-use Rattle.object_calls.proofs.Retirings.{IsSameHistory, numbered_back, retired_back}
+use Rattle.object_calls.proofs.Retirings.{IsSameHistory, numbered_back, placed_back}
 
 -- a number that is in a list is contained in it, and the other way round
 in-contains : (n : ℕ) (numbers : List ℕ) → is_in n numbers ≡ true → Contains numbers n
@@ -92,8 +94,8 @@ doubt_words None = refl
 doubt_words (Some d) = refl
 
 module _ {F R : Type 0} (state : F → FileState) (port : R → PortState) (sound : (f : F) → Sound (state f)) (store : Store) (gate : GateValue F R) (view : GateView)
-    (closing : Option Closing) (others : List F) (locked : IsLockedGate store gate view closing) (stands : DoubtStands (gate_sides state port gate) gate.doubt)
-    (held : AreHolds gate.dir.dir.entries gate.holds) (tagged : AreOfObjectFiles view.all) (many : length others ≡ 272) (retired : AreRetired store view state 272 others) (opens : OpensAsHonest store) where
+    (closing : Option Closing) (taken : List SlotValue) (others : List F) (locked : IsLockedGate store gate view closing) (stands : DoubtStands (gate_sides state port gate) gate.doubt)
+    (held : AreHolds gate.dir.dir.entries gate.holds) (tagged : AreOfObjectFiles view.all) (many : length others ≡ 272) (placed : ArePlaced store view taken state 272 others) (opens : OpensAsHonest store) where
   abbrev g : Sides
   g = gate_sides state port gate
 
@@ -101,27 +103,27 @@ module _ {F R : Type 0} (state : F → FileState) (port : R → PortState) (soun
   files = files_of state (gate.dir.file ∷ others)
 
   -- THE SLOTS
-  retired_at : (file : ℕ) → IsObjectFile file → IsRetired store view file (files file)
-  retired_at zero own = absurd (omega (arith, own.0))
-  retired_at (suc i) own = let next : i + 1 ≡ suc i = omega arith in subst (λ (n : ℕ). IsRetired store view n (files_of state others i)) next (retired i (omega (arith, own.1)))
+  placed_at : (file : ℕ) → IsObjectFile file → IsPlaced store view taken file (files file)
+  placed_at zero own = absurd (omega (arith, own.0))
+  placed_at (suc i) own = let next : i + 1 ≡ suc i = omega arith in subst (λ (n : ℕ). IsPlaced store view taken n (files_of state others i)) next (placed i (omega (arith, own.1)))
 
   abbrev slot_by : (file : ℕ) → IsObjectFile file ⊎ (IsObjectFile file → ⊥) → SlotPart
-  slot_by file (inl own) = part (files file) (retired_at file own).seat.knows None
+  slot_by file (inl own) = part (files file) (placed_at file own).seat.knows None
   slot_by file (inr off) = no_slot file
 
   abbrev slots : ℕ → SlotPart
   slots file = slot_by file (object_or_not file)
 
-  each_by : (P : ℕ → SlotPart → Type 0) → ((file : ℕ) (own : IsObjectFile file) → P file (part (files file) (retired_at file own).seat.knows None)) → (file : ℕ)
+  each_by : (P : ℕ → SlotPart → Type 0) → ((file : ℕ) (own : IsObjectFile file) → P file (part (files file) (placed_at file own).seat.knows None)) → (file : ℕ)
       → IsObjectFile file → (which : IsObjectFile file ⊎ (IsObjectFile file → ⊥)) → P file (slot_by file which)
   each_by P all file own (inl is) = all file is
   each_by P all file own (inr off) = absurd (off own)
 
   slots_hold : AreSlotsOf store view slots
   slots_hold = record {
-    numbered = λ file own. each_by (λ n s. s.view.file ≡ n) (λ n is. (retired_at n is).own.own) file own (object_or_not file);
-    fits = λ file own. each_by (λ n s. SlotFits view s.view) (λ n is. (retired_at n is).fits) file own (object_or_not file);
-    holds = λ file own. each_by (λ n s. SlotHolds store.keys s) (λ n is. (retired_at n is).own.holds None) file own (object_or_not file);
+    numbered = λ file own. each_by (λ n s. s.view.file ≡ n) (λ n is. (placed_at n is).own.own) file own (object_or_not file);
+    fits = λ file own. each_by (λ n s. SlotFits view s.view) (λ n is. (placed_at n is).fits) file own (object_or_not file);
+    holds = λ file own. each_by (λ n s. SlotHolds store.keys s) (λ n is. (placed_at n is).own.holds None) file own (object_or_not file);
   }
 
   -- THE FILES
@@ -149,10 +151,10 @@ module _ {F R : Type 0} (state : F → FileState) (port : R → PortState) (soun
 
   own_of : (guess : Guess) (file : ℕ) (own : IsObjectFile file) → IsTrue (files file).honest → is_in file guess.dishonest ≡ false → AreOwnLegal store guess file view.all
   own_of guess file own honest off =
-      let r = retired_at file own in
-      let begins : IsUpToDate (concerns_file file) r.seat.knows.seen view.all =
-      subst (λ (n : ℕ). IsUpToDate (concerns_file n) r.seat.knows.seen view.all) r.own.own r.fits.sees.begins in
-      own-whole store guess file r.seat.knows.seen view.all begins (r.own.legal honest guess off)
+      let p = placed_at file own in
+      let begins : IsUpToDate (concerns_file file) p.seat.knows.seen view.all =
+      subst (λ (n : ℕ). IsUpToDate (concerns_file n) p.seat.knows.seen view.all) p.own.own p.fits.sees.begins in
+      own-whole store guess file p.seat.knows.seen view.all begins (p.own.legal honest guess off)
 
   off_of : (guess : Guess) (file : ℕ) → (IsObjectFile file → ⊥) → AreOwnLegal store guess file view.all
   off_of guess file off front r back split names answered = absurd (off (tagged r file (subst (λ (l : List HistoryRecord). Contains l r) split (contains_between front r back)) names))
@@ -262,26 +264,38 @@ module _ {F R : Type 0} (state : F → FileState) (port : R → PortState) (soun
     legal = λ honest map. legal_of doubt numbered (leaves_honest honest doubt (doubted_is doubt is)) map;
   }
 
--- The parts of a service that is finished: its gate, its history once the sessions' seats were taken in, and its files.
+-- The parts of a store that is closed: its gate, its history once the sessions' seats were taken in, and its files.
 module _ {F R : Type 0} (state : F → FileState) (port : R → PortState) (sound : (f : F) → Sound (state f)) (store : Store) (s : LockedGateValue F R) (later : GateView)
     (locked : IsLockedGate store s.gate s.journal.knows s.closing) (tagged : AreOfObjectFiles s.journal.knows.all) (same : IsSameHistory s.journal.knows later)
-    (others : List F) (many : length others ≡ 272) (retired : AreRetired store later state 272 others) (numbered : AreNumbered (events_of later.all)) (opens : OpensAsHonest store) where
+    (taken : List SlotValue) (others : List F) (many : length others ≡ 272) (placed : ArePlaced store later taken state 272 others) (numbered : AreNumbered (events_of later.all)) (opens : OpensAsHonest store) where
   pub leaves_parts : DoubtStands (gate_sides state port s.gate) s.gate.doubt → AreHolds s.gate.dir.dir.entries s.gate.holds → (doubt : Option ℕ)
       → doubt ≡ option_map (λ d. d.number) s.gate.doubt → (dir : F) (card : R) (files : List F) → dir ≡ s.gate.dir.file → card ≡ s.gate.host.port → files ≡ dir ∷ others
       → LeavesStore store s.journal.knows (files_of state files) (port card) doubt
   leaves_parts stands held doubt doubt_is dir card files dir_is card_is files_are =
-      let all = leaves state port sound store s.gate s.journal.knows s.closing others locked stands held tagged many
-      (λ i within. retired_back s.journal.knows later same store (i + 1) (files_of state others i) (retired i within)) opens doubt doubt_is (numbered_back s.journal.knows later same numbered) in
+      let all = leaves state port sound store s.gate s.journal.knows s.closing taken others locked stands held tagged many
+      (λ i within. placed_back s.journal.knows later same store taken (i + 1) (files_of state others i) (placed i within)) opens doubt doubt_is (numbered_back s.journal.knows later same numbered) in
       subst (λ (l : List F). LeavesStore store s.journal.knows (files_of state l) (port card) doubt) (sym (files_are ∙ ap (λ (f : F). f ∷ others) dir_is))
       (subst (λ (r : R). LeavesStore store s.journal.knows (files_of state (s.gate.dir.file ∷ others)) (port r) doubt) (sym card_is) all)
 
--- The devices of a service, once they are given back.
-pub gives_back : {F R : Type 0} (state : F → FileState) (s : ServiceValue F R) (dir : F) (others files : List F) (card : R) → dir ≡ s.gate.gate.dir.file
-    → card ≡ s.gate.gate.host.port → files ≡ dir ∷ others → AreFilesOf state s.slots 272 others → GivesBack state s files card
-gives_back {F} state s dir others files card dir_is card_is files_are each = record {
-  dir = files_are ∙ (λ i. dir_is i ∷ sym (ap (drop 1) files_are) i);
+-- THE DEVICES
+-- the directory's file stands in front of the others
+pub dir_first : {F : Type 0} (dir first : F) (others files : List F) → first ≡ dir → files ≡ first ∷ others → files ≡ dir ∷ drop 1 files
+dir_first dir first others files is files_are = files_are ∙ (λ i. is i ∷ sym (ap (drop 1) files_are) i)
+
+-- the slot of a file stands in its place
+slot_in_place : (slots : List SlotValue) (i : ℕ) (d slot : SlotValue) → AreSlots slots → Contains slots slot → slot.number ≡ i + 1 → slot ≡ slice_index_or slots i d
+slot_in_place slots i d slot are among number =
+    let place : among.0 ≡ i = omega (arith, are.numbered among.0 slot among.1, ap (λ (s : SlotValue). s.number) among.2, number) in
+    sym among.2 ∙ ap (λ (k : ℕ). slice_index_or slots k slot) place ∙ get_or_default slots i slot d (subst (λ (k : ℕ). k < length slots) place among.1)
+
+-- so each slot's file is given back in its place
+pub gives_back : {F R : Type 0} (state : F → FileState) (store : Store) (view : GateView) (s : ServiceValue F R) (files : List F) (card : R) → AreSlots s.slots
+    → files ≡ s.gate.gate.dir.file ∷ drop 1 files → card ≡ s.gate.gate.host.port → ((i : ℕ) → i < 272 → IsPlaced store view s.slots (i + 1) (files_of state files (i + 1)))
+    → GivesBack state s files card
+gives_back state store view s files card are dir port placed = record {
+  dir = dir;
   each = λ i d within.
-      let next : i + 1 ≡ suc i = omega arith in
-      ap (files_of state files) next ∙ ap (λ (l : List F). files_of state l (suc i)) files_are ∙ each i d within;
-  port = card_is;
+      let p = placed i within in
+      p.file ∙ ap (λ (x : SlotValue). x.file) (slot_in_place s.slots i d p.slot are p.among p.number);
+  port = port;
 }

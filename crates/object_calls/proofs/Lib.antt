@@ -21,5 +21,6 @@ pub mod Stacks
 pub mod SplitFiles
 pub mod Seating
 pub mod Retirings
+pub mod Placings
 pub mod HonestHistories
 pub mod LeftStores

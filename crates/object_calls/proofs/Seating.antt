@@ -7,12 +7,18 @@ use Rattle.history_seats.specs.Views.{PassView, Sight}
 use Rattle.suppositions.specs.Stores.{Store}
 use Rattle.call_history.specs.Sessions.{CallerSession, IsCallerOf}
 use Rattle.call_history.proofs.ShownViews.{fresh_caller}
-use Rattle.object_calls.specs.Sessions.{AreSeated, AreUnseated, DrawAlike, unseated}
+use Rattle.object_calls.specs.Sessions.{AreSeated, AreUnseated, DrawAlike, HaveNoEvents, unseated}
+
+-- The session is the store's, of that number, and has no event.
+pub record IsSeatedAt {E : Type 0} (store : Store) (number : ℕ) (s : CallerSession E) : Type 0 where
+  pub caller : IsCallerOf store s
+  pub numbered : s.number ≡ number
+  pub unmade : s.made ≡ 0
 
 -- the sessions below that number are the store's, and the others are as they were
 pub record AreSeatedBelow {E : Type 0} (store : Store) (old : List (CallerSession E)) (count : ℕ) (new : List (CallerSession E)) : Type 0 where
   pub many : length new ≡ length old
-  pub each : (i : ℕ) (d : CallerSession E) → i < count → IsCallerOf store (slice_index_or new i d) × ((slice_index_or new i d).number ≡ i)
+  pub each : (i : ℕ) (d : CallerSession E) → i < count → IsSeatedAt store i (slice_index_or new i d)
   pub others : (i : ℕ) (d : CallerSession E) → count ≤ i → slice_index_or new i d ≡ slice_index_or old i d
   pub draw : DrawAlike old new
 
@@ -31,11 +37,12 @@ module _ {E : Type 0} (store : Store) (old : List (CallerSession E)) where
       | inl here ↦
           let now : slice_index_or after i d ≡ record session { pass = Some pass } =
           ap (λ (l : List (CallerSession E)). get_or l i d) after_is ∙ ap (λ (k : ℕ). get_or (slice_set new count (record session { pass = Some pass })) k d) here ∙ get_or-set_same new count (record session { pass = Some pass }) d (omega (arith, within, s.many)) in
-          subst (λ (x : CallerSession E). IsCallerOf store x × (x.number ≡ i)) (sym now) (seated, ap (λ (x : CallerSession E). x.number) as_new ∙ sym here)
+          subst (IsSeatedAt store i) (sym now)
+          (record { caller = seated; numbered = ap (λ (x : CallerSession E). x.number) as_new ∙ sym here; unmade = ap (λ (x : CallerSession E). x.made) as_new })
       | inr other ↦
           let now : slice_index_or after i d ≡ slice_index_or new i d =
           ap (λ (l : List (CallerSession E)). get_or l i d) after_is ∙ get_or-set_other new count i (record session { pass = Some pass }) d other in
-          subst (λ (x : CallerSession E). IsCallerOf store x × (x.number ≡ i)) (sym now) (s.each i d (omega (arith, below, other)))
+          subst (IsSeatedAt store i) (sym now) (s.each i d (omega (arith, below, other)))
     ];
     others = λ i d from.
         ap (λ (l : List (CallerSession E)). get_or l i d) after_is ∙ get_or-set_other new count i (record session { pass = Some pass }) d (λ same. omega (arith, from, same))
@@ -71,6 +78,9 @@ module _ {E : Type 0} (store : Store) (old : List (CallerSession E)) where
   pub all_seated : (new : List (CallerSession E)) → AreUnseated store.mounted.applications old → AreSeatedBelow store old (length old) new → AreSeated store new
   all_seated new unseated_ s = record {
     many = s.many ∙ unseated_.many;
-    each = λ i d within. (s.each i d (omega (arith, within, s.many))).0;
-    numbered = λ i d within. (s.each i d (omega (arith, within, s.many))).1;
+    each = λ i d within. (s.each i d (omega (arith, within, s.many))).caller;
+    numbered = λ i d within. (s.each i d (omega (arith, within, s.many))).numbered;
   }
+
+  pub all_unmade : (new : List (CallerSession E)) → AreSeatedBelow store old (length old) new → HaveNoEvents new
+  all_unmade new s i d within = (s.each i d (omega (arith, within, s.many))).unmade

@@ -14,6 +14,7 @@ pub mod OpenedStores
 pub mod Seats
 pub mod Services
 pub mod Serving
+pub mod Places
 pub mod Retiring
 pub mod Finished
 pub mod Calling

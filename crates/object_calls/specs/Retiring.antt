@@ -1,23 +1,40 @@
--- A slot that was taken in for good.
-use Rattle.std.specs.Prelude.{◌≡◌, ◌<◌, ◌+◌, ℕ, List, slice_index_or}
+-- Slots that were taken in for good, and the files that came out of them.
+use Rattle.std.specs.Prelude.{◌≡◌, ◌<◌, ◌+◌, ℕ, All, Contains, List, Some}
 use Rattle.disk_model.specs.State.{FileState}
 use Rattle.history_seats.specs.Rule.{SlotFits}
+use Rattle.history_seats.specs.Tags.{AreTagged}
 use Rattle.history_seats.specs.Views.{GateView, Sight, SlotView}
+use Rattle.core_parts.specs.Joined.{IsObjectFile}
 use Rattle.suppositions.specs.Stores.{Store}
 use Rattle.locked_slots.specs.LockedSlots.{IsSlotOf}
 use Rattle.object_slots.specs.Value.{SlotValue}
 use Rattle.object_calls.specs.Files.{files_of}
 
--- The seat of a file's slot agreed with the gate, and the file is as the slot's calls left it.
-pub record IsRetired (store : Store) (view : GateView) (number : ℕ) (file : FileState) : Type 0 where
+-- each slot is of a file of an object
+abbrev pub AreObjectSlots : List SlotValue → Type 0
+AreObjectSlots slots = All (λ slot. IsObjectFile slot.number) slots
+
+-- The slot's seat agreed with the gate, whose faults and commits have their tags.
+pub record IsRetired (store : Store) (view : GateView) (slot : SlotValue) : Type 0 where
   pub seat : Sight SlotView
-  pub own : IsSlotOf store number file seat
+  pub is : slot.seat ≡ Some seat
+  pub own : IsSlotOf store slot.number slot.file seat
   pub fits : SlotFits view seat.knows
+  pub tagged : AreTagged view.all
 
--- so of each of the first so many files, file 1 first
-abbrev pub AreRetired : {F : Type 0} → Store → GateView → (F → FileState) → (count : ℕ) → List F → Type 0
-AreRetired store view state count files = (i : ℕ) → i < count → IsRetired store view (i + 1) (files_of state files i)
+-- File n, as it was left, came out of a slot of these, which has that number and whose seat agreed with the gate. Faults and
+-- commits have their tags.
+pub record IsPlaced (store : Store) (view : GateView) (slots : List SlotValue) (n : ℕ) (left : FileState) : Type 0 where
+  pub slot : SlotValue
+  pub among : Contains slots slot
+  pub number : slot.number ≡ n
+  pub file : left ≡ slot.file
+  pub seat : Sight SlotView
+  pub is : slot.seat ≡ Some seat
+  pub own : IsSlotOf store n left seat
+  pub fits : SlotFits view seat.knows
+  pub tagged : AreTagged view.all
 
--- the first so many files are those of the slots, file 1 first
-abbrev pub AreFilesOf : {F : Type 0} → (F → FileState) → List SlotValue → (count : ℕ) → List F → Type 0
-AreFilesOf state slots count files = (i : ℕ) (d : SlotValue) → i < count → files_of state files i ≡ (slice_index_or slots i d).file
+-- so each of the first so many files, file 1 first
+abbrev pub ArePlaced : {F : Type 0} → Store → GateView → List SlotValue → (F → FileState) → (count : ℕ) → List F → Type 0
+ArePlaced store view slots state count files = (i : ℕ) → i < count → IsPlaced store view slots (i + 1) (files_of state files i)

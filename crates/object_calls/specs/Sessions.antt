@@ -25,11 +25,15 @@ pub record AreUnseated {E : Type 0} (applications : List (List ℕ)) (sessions :
 abbrev pub AreCallers : {E : Type 0} → Store → List (CallerSession E) → Type 0
 AreCallers {E} store sessions = (i : ℕ) (d : CallerSession E) → i < length sessions → IsCallerOf store (slice_index_or sessions i d)
 
--- Each session is the store's, in order, and has no event.
+-- Each session is the store's, in order.
 pub record AreSeated {E : Type 0} (store : Store) (sessions : List (CallerSession E)) : Type 0 where
   pub many : length sessions ≡ length store.mounted.applications
   pub each : AreCallers store sessions
   pub numbered : (i : ℕ) (d : CallerSession E) → i < length sessions → (slice_index_or sessions i d).number ≡ i
+
+-- no session has an event
+abbrev pub HaveNoEvents : {E : Type 0} → List (CallerSession E) → Type 0
+HaveNoEvents {E} sessions = (i : ℕ) (d : CallerSession E) → i < length sessions → (slice_index_or sessions i d).made ≡ 0
 
 -- each session draws from what it drew from
 abbrev pub DrawAlike : {E : Type 0} → (was now : List (CallerSession E)) → Type 0

@@ -1,24 +1,24 @@
 //! The end of a phase.
 
-ghost use Rattle.std.specs.Prelude.{◌≡◌, ◌+◌, ◌≤◌, ◌<◌, ℕ, IfSome, Some, None, length, slice_index_or, vec_len};
+ghost use Rattle.std.specs.Prelude.{◌≡◌, ◌∷◌, ◌+◌, ◌≤◌, ◌<◌, ℕ, All, IsSome, drop, false, true, vec_len};
 ghost use Rattle.std.specs.Option.{option_map};
 ghost use Rattle.std.specs.Vec.{vec_capacity};
 ghost use Rattle.store_model.specs.History.{AreNumbered};
 ghost use Rattle.store_model.specs.Record.{events_of};
-ghost use Rattle.history_seats.specs.Rule.{SlotFits};
-ghost use Rattle.history_seats.specs.Views.{Sight, SlotView};
-ghost use Rattle.call_history.specs.Sessions.{IsCallerOf};
-ghost use Rattle.locked_slots.specs.LockedSlots.{IsSlotOf};
+ghost use Rattle.history_seats.specs.Numbers.{is_in, without};
 ghost use Rattle.object_calls.specs.Files.{files_of};
 ghost use Rattle.object_calls.specs.Finished.{GivesBack, HaveCounted, LeavesStore};
-ghost use Rattle.object_calls.specs.Retiring.{AreFilesOf, AreRetired, IsRetired};
-ghost use Rattle.served_calls.specs.Slots.{AreNumberedSlots};
+ghost use Rattle.object_calls.specs.Places.{AreFree, place_state};
+ghost use Rattle.object_calls.specs.Retiring.{AreObjectSlots, ArePlaced, IsPlaced, IsRetired};
+ghost use Rattle.object_calls.specs.Services.{OpensAsHonest};
 ghost use Rattle.object_calls.specs.Sessions.{AreCallers};
+ghost use Rattle.served_calls.specs.Slots.{AreOfObjectFiles};
 
 use crate::bench::{Bench, with_dir};
+use crate::places::{put_file, taken_files};
 use crate::service::Service;
-use crate::splitting::reversed;
 use call_history::{Journal, Session, retire_session};
+use locked_gate::LockedGate;
 use locked_slots::LockedSlot;
 use object_slots::SlotParts;
 use rpmb_card::RpmbPort;
@@ -57,9 +57,12 @@ fn retire_slot<F: StoreFile + Drop, L: StoreName>(
     journal: &mut Journal<L>,
     slot: LockedSlot<F, L>,
 ) -> F
-    ensures journal { journal.new ≡ record journal.old { knows = record journal.old.knows { files = journal.new.knows.files } } }
-    ensures retired { IsRetired L.store journal.old.knows slot.number (F.state result) }
+    ensures journal { journal.new ≡ record journal.old { knows = record journal.old.knows { files = without slot.number journal.old.knows.files } } }
+    ensures retired { IsRetired L.store journal.old.knows slot }
     ensures file { F.state result ≡ slot.file }
+    // The file had a seat out, and has none any more.
+    ensures out { is_in slot.number journal.old.knows.files ≡ true }
+    ensures gone { is_in slot.number journal.new.knows.files ≡ false }
     ensures numbered { AreNumbered (events_of journal.old.knows.all) }
 {
     let SlotParts { file, seat } = slot.into_slot().into_parts();
@@ -67,30 +70,71 @@ fn retire_slot<F: StoreFile + Drop, L: StoreName>(
     file
 }
 
-// Takes the seats of all slots in for good, and puts their files into the room, file 1 first.
+// Takes the seats of all slots in for good, and puts their files to their places.
 fn retire_slots<F: StoreFile + Drop, L: StoreName>(
     journal: &mut Journal<L>,
     slots: Vec<LockedSlot<F, L>>,
-    room: Vec<F>,
-) -> Vec<F>
-    requires numbered { AreNumberedSlots slots.items }
+    places: Vec<Option<F>>,
+) -> Vec<Option<F>>
     requires many { vec_len slots ≡ 272 }
+    requires objects { AreObjectSlots slots.items }
+    requires free { AreFree places.items }
+    ensures journal { journal.new ≡ record journal.old { knows = record journal.old.knows { files = journal.new.knows.files } } }
+    ensures many { vec_len result ≡ 272 }
+    ensures full { All (λ place. IsSome place) result.items }
+    ensures placed { ArePlaced L.store journal.old.knows slots.items (place_state F.state) 272 result.items }
+    ensures numbered { AreNumbered (events_of journal.old.knows.all) }
+{
+    let mut left = slots;
+    let mut places = places;
+    while let Some(slot) = left.pop() {
+        let number = slot.number();
+        let file = retire_slot(journal, slot);
+        put_file(&mut places, number, file);
+    }
+    places
+}
+
+/// Ends the phase of a store: takes all seats in, and gives back the bench and the history. The slots may come in any order: each file
+/// goes to the place of its number. No device is called, and no memory is taken.
+pub fn close_slots<F: StoreFile + Drop, R: RpmbPort + Drop, E: Entropy + Drop, L: StoreName>(
+    gate: LockedGate<F, R, L>,
+    slots: Vec<LockedSlot<F, L>>,
+    places: Vec<Option<F>>,
+    room: Vec<F>,
+    sessions: Vec<Session<E>>,
+) -> Closed<F, R>
+    requires many { vec_len slots ≡ 272 }
+    requires objects { AreObjectSlots slots.items }
+    requires free { AreFree places.items }
     requires empty { vec_len room ≡ 0 }
     requires room { 273 ≤ vec_capacity room }
-    ensures journal { journal.new ≡ record journal.old { knows = record journal.old.knows { files = journal.new.knows.files } } }
-    ensures retired { AreRetired L.store journal.old.knows F.state 272 result.items }
-    ensures files { AreFilesOf F.state slots.items 272 result.items }
-    ensures numbered { AreNumbered (events_of journal.old.knows.all) }
-    ensures many { vec_len result ≡ 272 }
-    ensures room { vec_len result < vec_capacity result }
+    requires tagged { AreOfObjectFiles gate.journal.knows.all }
+    requires opens { OpensAsHonest L.store }
+    requires sessions { AreCallers L.store sessions.items }
+    ensures events { result.history.events ≡ events_of gate.journal.knows.all }
+    ensures counted { HaveCounted gate.journal.knows sessions.items }
+    ensures doubt { result.doubt ≡ option_map (λ d. d.number) gate.gate.doubt }
+    ensures whole { vec_len result.bench.files ≡ 273 }
+    ensures dir { result.bench.files.items ≡ gate.gate.dir.file ∷ drop 1 result.bench.files.items }
+    ensures card { result.bench.card ≡ gate.gate.host.port }
+    // Each file of an object is as the slot of its number left it.
+    ensures placed { (i : ℕ) → i < 272
+        → IsPlaced L.store gate.journal.knows slots.items (i + 1) (files_of F.state result.bench.files.items (i + 1)) }
+    ensures leaves { LeavesStore L.store gate.journal.knows (files_of F.state result.bench.files.items) (R.state result.bench.card) result.doubt }
 {
-    let mut left = reversed(slots);
-    let mut files = room;
-    while let Some(slot) = left.pop() {
-        let file = retire_slot(journal, slot);
-        files.push(file).unwrap();
+    let (gate, mut journal) = gate.into_parts();
+    retire_sessions(&mut journal, sessions);
+    let places = retire_slots(&mut journal, slots, places);
+    let files = taken_files(places, room);
+    let doubt = gate.doubt();
+    let (dir, card) = gate.close();
+    let files = with_dir(dir, files);
+    Closed {
+        bench: Bench { files, card },
+        history: journal.close(),
+        doubt,
     }
-    files
 }
 
 impl<F: StoreFile + Drop, R: RpmbPort + Drop, L: StoreName> Service<F, R, L> {
@@ -109,19 +153,10 @@ impl<F: StoreFile + Drop, R: RpmbPort + Drop, L: StoreName> Service<F, R, L> {
             gate,
             slots,
             storage_key: _,
+            places,
             room,
             alloc: _,
         } = self;
-        let (gate, mut journal) = gate.into_parts();
-        retire_sessions(&mut journal, sessions);
-        let files = retire_slots(&mut journal, slots, room);
-        let doubt = gate.doubt();
-        let (dir, card) = gate.close();
-        let files = with_dir(dir, files);
-        Closed {
-            bench: Bench { files, card },
-            history: journal.close(),
-            doubt,
-        }
+        close_slots(gate, slots, places, room, sessions)
     }
 }

@@ -5,10 +5,11 @@ ghost use Rattle.std.specs.Vec.{vec_capacity};
 ghost use Rattle.object_calls.specs.OpenedStores.{IsStoreOf};
 ghost use Rattle.object_calls.specs.Serving.{ServesOpening};
 ghost use Rattle.object_calls.specs.Services.{IsService, ServiceValue};
-ghost use Rattle.object_calls.specs.Sessions.{AreSeated, AreUnseated, DrawAlike};
+ghost use Rattle.object_calls.specs.Sessions.{AreSeated, AreUnseated, DrawAlike, HaveNoEvents};
 
 use crate::bench::FILES;
 use crate::opening::Opening;
+use crate::places::free_places;
 use crate::splitting::{SplitSlots, split_passes, split_slots};
 use call_history::{Journal, Session};
 use locked_gate::LockedGate;
@@ -28,7 +29,9 @@ pub struct Service<F: StoreFile + Drop, R: RpmbPort + Drop, L: StoreName> {
     pub(crate) slots: Vec<LockedSlot<F, L>>,
     // The key that the applications' keys come from.
     pub(crate) storage_key: [u8; 32],
-    // Where all files go at the end: it has room for them, and no file.
+    // Where the files of objects come to at the end, by their numbers: it has no file.
+    pub(crate) places: Vec<Option<F>>,
+    // Where all files go then: it has room for them, and no file.
     pub(crate) room: Vec<F>,
     pub(crate) alloc: Global,
 }
@@ -36,17 +39,19 @@ pub struct Service<F: StoreFile + Drop, R: RpmbPort + Drop, L: StoreName> {
 impl<F: StoreFile + Drop, R: RpmbPort + Drop, L: StoreName> Model for Service<F, R, L> {
     ghost use Rattle.std.specs.Prelude.{◌≡◌, ◌≤◌, vec_len};
     ghost use Rattle.std.specs.Vec.{vec_capacity};
+    ghost use Rattle.object_calls.specs.Places.{AreFree};
     ghost use Rattle.object_calls.specs.Services.{IsService, ServiceValue};
 
     ghost Value = { ServiceValue F R };
 
     ghost view = { λ s. record { gate = s.gate; slots = s.slots.items; storage_key = s.storage_key } };
 
-    ghost invariant = { λ s. IsService L.store s.gate s.slots.items s.storage_key × (vec_len s.room ≡ 0) × (273 ≤ vec_capacity s.room) };
+    ghost invariant = { λ s. IsService L.store s.gate s.slots.items s.storage_key × (vec_len s.room ≡ 0) × (273 ≤ vec_capacity s.room) × AreFree s.places.items };
 }
 
 impl<F: StoreFile + Drop, R: RpmbPort + Drop> Opening<F, R> {
-    /// Serves the store: splits a seat for each file of an object, and gives each session its own.
+    /// Serves the store: splits a seat for each file of an object, and gives each session its own. What the end of the phase needs of
+    /// memory is taken here.
     ///
     /// # Errors
     ///
@@ -59,11 +64,15 @@ impl<F: StoreFile + Drop, R: RpmbPort + Drop> Opening<F, R> {
         requires sessions { AreUnseated self.applications sessions.old }
         ensures served { IfOk result (ServesOpening F.state L.store self) }
         ensures seated { OnOk result (AreSeated L.store sessions.new) }
+        ensures unmade { OnOk result (HaveNoEvents sessions.new) }
         ensures draw { OnOk result (DrawAlike sessions.old sessions.new) }
         ensures refused { IfErr result (λ opening. opening ≡ self) }
         ensures unseated { OnErr result (sessions.new ≡ sessions.old) }
     {
         let Ok(slots) = Vec::with_capacity(self.alloc, FILES - 1) else {
+            return Err(self)
+        };
+        let Ok(places) = free_places(self.alloc) else {
             return Err(self)
         };
         let Opening {
@@ -84,6 +93,7 @@ impl<F: StoreFile + Drop, R: RpmbPort + Drop> Opening<F, R> {
             gate: LockedGate::new(gate, journal),
             slots,
             storage_key,
+            places,
             room,
             alloc,
         })

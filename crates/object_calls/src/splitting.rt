@@ -8,7 +8,7 @@ ghost use Rattle.mounted_store.specs.Generations.{generation_in};
 ghost use Rattle.object_calls.specs.Files.{files_of};
 ghost use Rattle.object_calls.specs.Seats.{HasTold, IsSplitting};
 ghost use Rattle.object_calls.specs.Services.{AreFirstSlots, MayBeFirst};
-ghost use Rattle.object_calls.specs.Sessions.{AreSeated, AreUnseated, DrawAlike};
+ghost use Rattle.object_calls.specs.Sessions.{AreSeated, AreUnseated, DrawAlike, HaveNoEvents};
 
 use call_history::Session;
 use history_seats::{GateSeat, HistoryTable};
@@ -116,6 +116,7 @@ pub(crate) fn split_passes<E: Entropy, L: StoreName>(
     requires told { HasTold L.store seat.old.knows 0 }
     requires sessions { AreUnseated L.store.mounted.applications sessions.old }
     ensures sessions { AreSeated L.store sessions.new }
+    ensures unmade { HaveNoEvents sessions.new }
     ensures draw { DrawAlike sessions.old sessions.new }
     ensures table { seat.new.table ≡ L.store.table }
     ensures told { HasTold L.store seat.new.knows (length L.store.mounted.applications) }

@@ -8,6 +8,7 @@ ghost use Rattle.call_history.specs.Calls.{LeavesSession};
 ghost use Rattle.locked_gate.specs.Commits.{IsCalm};
 ghost use Rattle.locked_gate.specs.Ends.{HoldsNewFile};
 ghost use Rattle.locked_gate.specs.Moves.{MayMove, moved_by};
+ghost use Rattle.locked_slots.specs.Fits.{SeesWhole};
 ghost use Rattle.locked_slots.specs.LockedSlots.{IsLockedSlot};
 ghost use Rattle.object_commits.specs.Bringing.{IsBrought, IsCommitted};
 
@@ -49,6 +50,7 @@ fn bring_versions<F: StoreFile + Drop, R: RpmbPort + Drop, L: StoreName, E: Entr
         (E.is_reliable session.old.entropy) (E.faults session.old.entropy) (E.faults session.new.entropy) result }
     ensures reliable { E.is_reliable session.old.entropy → E.is_reliable session.new.entropy }
     ensures locked { IsLockedSlot L.store slot.new }
+    ensures whole { SeesWhole gate.new.journal.knows slot.new }
     ensures number { slot.new.number ≡ slot.old.number }
     ensures file { slot.new.file ≡ slot.old.file }
 {
@@ -96,6 +98,7 @@ pub fn bring<F: StoreFile + Drop, R: RpmbPort + Drop, L: StoreName, E: Entropy>(
         (E.is_reliable session.old.entropy) (E.faults session.old.entropy) (E.faults session.new.entropy) result }
     ensures reliable { E.is_reliable session.old.entropy → E.is_reliable session.new.entropy }
     ensures locked { IsLockedSlot L.store slot.new }
+    ensures whole { SeesWhole gate.new.journal.knows slot.new }
     ensures number { slot.new.number ≡ slot.old.number }
     ensures file { slot.new.file ≡ slot.old.file }
 {

@@ -1,7 +1,5 @@
-pub mod Rises
 pub mod ServedSteps
-pub mod Tellings
-pub mod Cards
 pub mod Seats
 pub mod OneCall
 pub mod Phases
+pub mod DrawnAlike

@@ -1,5 +1,5 @@
 -- One call, as the making of one.
-use Rattle.std.proofs.Common.{◌≡◌, ◌==◌, ◌<◌, ℕ, Bool, true, false, cond, List, [], ◌∷◌, ◌++◌, length, get_or, Option, Some, None, refl, sym, ap, ◌∙◌, subst, inl, inr, append_assoc, append-nil, eq-eqb}
+use Rattle.std.proofs.Common.{◌≡◌, ◌==◌, ◌<◌, ℕ, Bool, true, false, cond, List, [], ◌∷◌, ◌++◌, length, get_or, Option, Some, None, refl, sym, ap, ◌∙◌, subst, inl, inr, append_assoc, eq-eqb}
 use Rattle.std.specs.Prelude.{slice_set}
 use Rattle.std.proofs.lemmas.Bool.{cases_eq, ne_eqb}
 use Rattle.std.proofs.lemmas.List.{get_or-set_other, get_or-set_same, get_or_default}
@@ -10,59 +10,35 @@ use Rattle.tee_types.specs.declared.call.Call.{Call}
 use Rattle.tee_types.specs.declared.reply.Device.{Device}
 use Rattle.tee_types.specs.declared.reply.Device.TheVariants.{Card, Dir, Entropy, File}
 use Rattle.tee_types.specs.declared.reply.Reply.{Reply}
-use Rattle.store_model.specs.declared.event.Event.{Event}
 use Rattle.store_model.specs.declared.event.Event.TheVariants.{Call as CallEvent}
 use Rattle.store_model.specs.declared.event.Mark.{Mark}
 use Rattle.script_text.specs.declared.script.Step.TheVariants.{Call as CallStep}
 use Rattle.suppositions.specs.Stores.{Store}
 use Rattle.call_history.specs.Sessions.{CallerSession}
 use Rattle.served_calls.specs.Answered.{events_at, landing_events}
+use Rattle.served_calls.specs.Counts.{Rise, told_of}
 use Rattle.served_calls.specs.Devices.{CountsGrow, Devices, DevicesGoOn, faults_of}
 use Rattle.served_calls.specs.Standing.{devices_in}
+use Rattle.served_calls.proofs.CarriedCounts.{added_by, counts_of-call, counts_of-landing, draws_of-call, draws_of-landing}
+use Rattle.served_calls.proofs.Cards.{TellsCard-call, TellsCard-landing}
 use Rattle.served_calls.proofs.Counting.{counts_grow}
+use Rattle.served_calls.proofs.Tellings.{Rise-told_of}
 use Rattle.object_calls.specs.Arming.{IsOnBench}
 use Rattle.object_calls.specs.Calling.{AnswersCall, serving}
 use Rattle.object_calls.specs.Services.{ServiceValue}
 use Rattle.object_calls.specs.Sessions.{AreSeated}
-use Rattle.phase_calls.specs.Counts.{Rise, counts_of, draws_of, told_of}
 use Rattle.phase_calls.specs.Making.{MakesCalls, bench_devices, faults_at}
 use Rattle.phase_calls.specs.Steps.{steps_served}
-use Rattle.phase_calls.proofs.Cards.{TellsCard-call, TellsCard-landing}
 use Rattle.phase_calls.proofs.Seats.{seated_with}
-use Rattle.phase_calls.proofs.Tellings.{Rise-told_of}
 
--- what the events of a landing, and of a call behind it, serve and carry
+-- what the events of a landing, and of a call behind it, serve
 steps_served-landing : (landed : Option ℕ) → steps_served (landing_events landed) ≡ []
 steps_served-landing None = refl
 steps_served-landing (Some commit) = refl
 
-counts_of-landing : (device : Device) (landed : Option ℕ) → counts_of device (landing_events landed) ≡ []
-counts_of-landing device None = refl
-counts_of-landing device (Some commit) = refl
-
-draws_of-landing : (session : ℕ) (landed : Option ℕ) → draws_of session (landing_events landed) ≡ []
-draws_of-landing session None = refl
-draws_of-landing session (Some commit) = refl
-
-module _ (app number : ℕ) (call : Call) (reply : Reply) (mark : Mark) where
-  abbrev added_by : Option ℕ → List Event
-  added_by landed = landing_events landed ++ CallEvent app number call reply mark ∷ []
-
-  steps_served-call : (landed : Option ℕ) → steps_served (added_by landed) ≡ CallStep app call ∷ []
-  steps_served-call None = refl
-  steps_served-call (Some commit) = refl
-
-  counts_of-call : (device : Device) (landed : Option ℕ) → counts_of device (added_by landed) ≡ told_of device reply
-  counts_of-call device None = append-nil (told_of device reply)
-  counts_of-call device (Some commit) = append-nil (told_of device reply)
-
-  drawn_by : (own : Bool) → cond own (told_of Entropy reply ++ []) [] ≡ cond own (told_of Entropy reply) []
-  drawn_by true = append-nil (told_of Entropy reply)
-  drawn_by false = refl
-
-  draws_of-call : (session : ℕ) (landed : Option ℕ) → draws_of session (added_by landed) ≡ cond (app == session) (told_of Entropy reply) []
-  draws_of-call session None = drawn_by (app == session)
-  draws_of-call session (Some commit) = drawn_by (app == session)
+steps_served-call : (app number : ℕ) (call : Call) (reply : Reply) (mark : Mark) (landed : Option ℕ) → steps_served (added_by app number call reply mark landed) ≡ CallStep app call ∷ []
+steps_served-call app number call reply mark None = refl
+steps_served-call app number call reply mark (Some commit) = refl
 
 module _ {F R E : Type 0} (of_file : F → FileState) (of_port : R → PortState) (draws : E → ℕ) (store : Store) (old new : ServiceValue F R) (was : List (CallerSession E))
     (app : ℕ) (found after : CallerSession E) (call : Call) (reply : Reply) (seated : AreSeated store was) (within : app < length was) where

@@ -9,18 +9,20 @@ use Rattle.served_calls.proofs.Counting.{devices_go_on_none, devices_go_on_then}
 use Rattle.tee_types.specs.declared.reply.Device.{Device}
 use Rattle.tee_types.specs.declared.reply.Device.TheVariants.{Card}
 use Rattle.store_model.specs.declared.event.Event.{Event}
+use Rattle.script_text.specs.declared.script.Mode.{Mode}
 use Rattle.script_text.specs.declared.script.Step.{Step}
 use Rattle.call_history.specs.Sessions.{CallerSession}
 use Rattle.served_calls.specs.Answered.{events_at}
+use Rattle.served_calls.specs.Cards.{TellsCard}
+use Rattle.served_calls.specs.Counts.{Rise, counts_of, draws_of}
+use Rattle.served_calls.proofs.CarriedCounts.{counts_of-append, draws_of-append}
+use Rattle.served_calls.proofs.Cards.{TellsCard-append, TellsCard-none}
+use Rattle.served_calls.proofs.Rises.{Rise-append}
 use Rattle.object_calls.specs.Arming.{IsOnBench}
 use Rattle.object_calls.specs.Services.{ServiceValue}
-use Rattle.phase_calls.specs.Cards.{TellsCard}
-use Rattle.phase_calls.specs.Counts.{Rise, counts_of, draws_of}
 use Rattle.phase_calls.specs.Making.{MakesCalls, MakesFront, bench_devices, faults_at}
 use Rattle.phase_calls.specs.Steps.{ServesSteps, steps_served}
-use Rattle.phase_calls.proofs.Cards.{TellsCard-append, TellsCard-none}
-use Rattle.phase_calls.proofs.Rises.{Rise-append}
-use Rattle.phase_calls.proofs.ServedSteps.{counts_of-append, draws_of-append, events_in_order_serve, steps_served-append}
+use Rattle.phase_calls.proofs.ServedSteps.{events_in_order_serve, steps_served-append}
 
 module _ {F R E : Type 0} (of_file : F → FileState) (of_port : R → PortState) (draws : E → ℕ) (store : Store) where
   abbrev Makes : (old new : ServiceValue F R) → (was now : List (CallerSession E)) → List Step → Type 0
@@ -85,5 +87,5 @@ module _ {F R E : Type 0} (of_file : F → FileState) (of_port : R → PortState
     pub card_in_all : TellsCard (rpmb_key store.keys.huk) (of_port old.gate.gate.host.port) (events_at new.gate)
     card_in_all = subst (TellsCard (rpmb_key store.keys.huk) (of_port old.gate.gate.host.port)) (sym all_added) made.card
 
-    pub serves_made : ServesSteps calls (events_at new.gate)
-    serves_made = events_in_order_serve calls (events_at new.gate) (ap steps_served all_added ∙ made.served)
+    pub serves_made : (mode : Mode) → ServesSteps mode calls (events_at new.gate)
+    serves_made mode = events_in_order_serve mode calls (events_at new.gate) (ap steps_served all_added ∙ made.served)

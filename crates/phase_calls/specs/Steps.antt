@@ -4,6 +4,8 @@ use Rattle.tee_types.specs.declared.call.Call.{Call}
 use Rattle.store_model.specs.declared.event.Event.{Event}
 use Rattle.store_model.specs.declared.event.Event.TheVariants.{Call as CallEvent, Landed}
 use Rattle.store_model.specs.History.{calls_of}
+use Rattle.script_text.specs.declared.script.Mode.{Mode}
+use Rattle.script_text.specs.declared.script.Mode.TheVariants.{Serial}
 use Rattle.script_text.specs.declared.script.Step.{Step}
 use Rattle.script_text.specs.declared.script.Step.TheVariants.{Call as CallStep, Control as ControlStep}
 use Rattle.script_text.specs.Script.{IsPlaced, is_call}
@@ -25,8 +27,8 @@ calls_in app (CallStep a call ∷ steps) = if a == app then call ∷ calls_in ap
 calls_in app (ControlStep control ∷ steps) = calls_in app steps
 
 -- The events are the calls of these steps, each once.
-pub record ServesSteps (steps : List Step) (events : List Event) : Type 0 where
-  -- in the script's order, as a serial phase serves them
-  pub in_script_order : steps_served events ≡ steps
+pub record ServesSteps (mode : Mode) (steps : List Step) (events : List Event) : Type 0 where
   -- the calls of each application are its calls of the script, in order
   pub of_each_application : (app : ℕ) → calls_of app events ≡ calls_in app steps
+  -- in a serial phase all stand in the script's order
+  pub in_script_order : mode ≡ Serial → steps_served events ≡ steps

@@ -2,7 +2,8 @@
 
 ghost use Rattle.phase_calls.specs.Laws.{EventsInOrderServe};
 
-/// Events whose calls are those steps, in order, serve the steps: each application's calls too are its calls of the steps, in order.
+/// Events whose calls are those steps, in order, serve the steps in each mode: each application's calls too are its calls of the steps, in
+/// order.
 #[tactic(auto, using(crate::proofs::ServedSteps::events_in_order_serve))]
 pub fn events_in_order_serve()
     ensures { EventsInOrderServe }

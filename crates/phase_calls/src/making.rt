@@ -2,6 +2,7 @@
 
 ghost use Rattle.std.specs.Prelude.{◌≡◌, ◌<◌, [], ◌∷◌, length, true, OnErr, OnOk};
 ghost use Rattle.script_text.specs.Script.{IsPlaced, is_call};
+ghost use Rattle.script_text.specs.declared.script.Mode.{Mode};
 ghost use Rattle.script_text.specs.declared.script.Step.TheVariants.{Call as CallStep};
 ghost use Rattle.served_calls.specs.Answered.{events_at};
 ghost use Rattle.object_calls.specs.Sessions.{AreSeated};
@@ -73,7 +74,7 @@ pub fn make_calls<F: StoreFile + Drop, R: RpmbPort + Drop, E: Entropy + Drop, L:
     requires sessions { AreSeated L.store sessions.old }
     requires calls { AreCalls (length sessions.old) calls.now }
     ensures made { OnOk result (MakesCalls F.state R.state E.faults L.store service.old service.new sessions.old sessions.new calls.now) }
-    ensures serves { OnOk result (events_at service.old.gate ≡ [] → ServesSteps calls.now (events_at service.new.gate)) }
+    ensures serves { OnOk result (events_at service.old.gate ≡ [] → ((mode : Mode) → ServesSteps mode calls.now (events_at service.new.gate))) }
     ensures stopped { OnErr result (MakesFront F.state R.state E.faults L.store service.old service.new sessions.old sessions.new calls.now) }
     ensures sessions { AreSeated L.store sessions.new }
     ensures reliable { StayReliable E.is_reliable E.faults sessions.old sessions.new }

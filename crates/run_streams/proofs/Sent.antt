@@ -5,6 +5,7 @@ use Rattle.std.proofs.lemmas.Option.{get_or_from_slice_get}
 use Rattle.tee_ports.proofs.Streams.{Appends-append}
 use Rattle.store_model.specs.declared.event.Event.{Event}
 use Rattle.script_text.specs.Script.{ScriptValue}
+use Rattle.script_text.specs.declared.script.Mode.{Mode}
 use Rattle.run_text.specs.Text.{event_text, events_text, phase_line}
 use Rattle.run_streams.specs.Sending.{Sends, Stops}
 
@@ -65,32 +66,32 @@ pub events_text-take : (script : ScriptValue) (events : List Event) (i : ℕ) �
 events_text-take script events i = ap (events_text script 0) (sym (take-append-drop i events)) ∙ events_text-append script 0 (take i events) (drop i events)
 
 -- the text of a phase up to its event at place i
-abbrev pub text_upto : ScriptValue → ℕ → ℕ → List Event → ℕ → List ℕ
-text_upto script number objects events i = phase_line number objects ++ events_text script 0 (take i events)
+abbrev pub text_upto : ScriptValue → ℕ → Mode → ℕ → List Event → ℕ → List ℕ
+text_upto script number mode objects events i = phase_line number mode objects ++ events_text script 0 (take i events)
 
-pub text_upto-none : (script : ScriptValue) (number objects : ℕ) (events : List Event) → text_upto script number objects events 0 ≡ phase_line number objects
+pub text_upto-none : (script : ScriptValue) (number : ℕ) (mode : Mode) (objects : ℕ) (events : List Event) → text_upto script number mode objects events 0 ≡ phase_line number mode objects
 unfolding events_text
-text_upto-none script number objects events = append-nil (phase_line number objects)
+text_upto-none script number mode objects events = append-nil (phase_line number mode objects)
 
-pub text_upto-more : (script : ScriptValue) (number objects : ℕ) (events : List Event) (i : ℕ) (e : Event) → i < length events → slice_get events i ≡ Some e → text_upto script number objects events (i + 1) ≡ text_upto script number objects events i ++ event_text script i e
-text_upto-more script number objects events i e lt at =
-    ap (λ t. phase_line number objects ++ t) (events_text-more script events i e lt (sym (get_or_from_slice_get events i e e at)))
-    ∙ sym (append_assoc (phase_line number objects) (events_text script 0 (take i events)) (event_text script i e))
+pub text_upto-more : (script : ScriptValue) (number : ℕ) (mode : Mode) (objects : ℕ) (events : List Event) (i : ℕ) (e : Event) → i < length events → slice_get events i ≡ Some e → text_upto script number mode objects events (i + 1) ≡ text_upto script number mode objects events i ++ event_text script i e
+text_upto-more script number mode objects events i e lt at =
+    ap (λ t. phase_line number mode objects ++ t) (events_text-more script events i e lt (sym (get_or_from_slice_get events i e e at)))
+    ∙ sym (append_assoc (phase_line number mode objects) (events_text script 0 (take i events)) (event_text script i e))
 
-pub text_upto-rest : (script : ScriptValue) (number objects : ℕ) (events : List Event) (i : ℕ) → phase_line number objects ++ events_text script 0 events ≡ text_upto script number objects events i ++ events_text script (0 + length (take i events)) (drop i events)
-text_upto-rest script number objects events i =
-    ap (λ t. phase_line number objects ++ t) (events_text-take script events i)
-    ∙ sym (append_assoc (phase_line number objects) (events_text script 0 (take i events)) _)
+pub text_upto-rest : (script : ScriptValue) (number : ℕ) (mode : Mode) (objects : ℕ) (events : List Event) (i : ℕ) → phase_line number mode objects ++ events_text script 0 events ≡ text_upto script number mode objects events i ++ events_text script (0 + length (take i events)) (drop i events)
+text_upto-rest script number mode objects events i =
+    ap (λ t. phase_line number mode objects ++ t) (events_text-take script events i)
+    ∙ sym (append_assoc (phase_line number mode objects) (events_text script 0 (take i events)) _)
 
-pub text_upto-all : (script : ScriptValue) (number objects : ℕ) (events : List Event) (i : ℕ) → length events ≤ i → text_upto script number objects events i ≡ phase_line number objects ++ events_text script 0 events
-text_upto-all script number objects events i le = ap (λ es. phase_line number objects ++ events_text script 0 es) (take_all i events le)
+pub text_upto-all : (script : ScriptValue) (number : ℕ) (mode : Mode) (objects : ℕ) (events : List Event) (i : ℕ) → length events ≤ i → text_upto script number mode objects events i ≡ phase_line number mode objects ++ events_text script 0 events
+text_upto-all script number mode objects events i le = ap (λ es. phase_line number mode objects ++ events_text script 0 es) (take_all i events le)
 
 -- stopped at an event of the phase, which is so the text of the phase stopped
-pub Stops-at_event : (held between new : Option (List ℕ)) (kept_old kept : List ℕ) (script : ScriptValue) (number objects : ℕ) (events : List Event) (i : ℕ) (e : Event) → i < length events → slice_get events i ≡ Some e → Sends held between kept_old kept (text_upto script number objects events i) → Stops between new kept (event_text script i e) → Stops held new kept_old (phase_line number objects ++ events_text script 0 events)
-Stops-at_event held between new kept_old kept script number objects events i e lt at sent stops =
-    let here : Stops held new kept_old (text_upto script number objects events (i + 1)) =
-    subst (Stops held new kept_old) (sym (text_upto-more script number objects events i e lt at)) (Stops-append held between new kept_old kept _ _ sent stops) in
-    subst (Stops held new kept_old) (sym (text_upto-rest script number objects events (i + 1))) (Stops-longer held new kept_old _ _ here)
+pub Stops-at_event : (held between new : Option (List ℕ)) (kept_old kept : List ℕ) (script : ScriptValue) (number : ℕ) (mode : Mode) (objects : ℕ) (events : List Event) (i : ℕ) (e : Event) → i < length events → slice_get events i ≡ Some e → Sends held between kept_old kept (text_upto script number mode objects events i) → Stops between new kept (event_text script i e) → Stops held new kept_old (phase_line number mode objects ++ events_text script 0 events)
+Stops-at_event held between new kept_old kept script number mode objects events i e lt at sent stops =
+    let here : Stops held new kept_old (text_upto script number mode objects events (i + 1)) =
+    subst (Stops held new kept_old) (sym (text_upto-more script number mode objects events i e lt at)) (Stops-append held between new kept_old kept _ _ sent stops) in
+    subst (Stops held new kept_old) (sym (text_upto-rest script number mode objects events (i + 1))) (Stops-longer held new kept_old _ _ here)
 
 pub OnErr-always : {T E P : Type 0} (r : Result T E) → P → OnErr r P
 OnErr-always (Ok x) p = tt

@@ -8,7 +8,7 @@ ghost use Rattle.run_streams.specs.Sending.{Sends, Stops, IsWriteError};
 use crate::status::Status;
 use crate::writing::{PIECE, flush};
 use run_text::{print_control, print_event, print_phase};
-use script_text::{Control, Script};
+use script_text::{Control, Mode, Script};
 use store_model::{Event, History};
 use tee_ports::Sink;
 
@@ -34,40 +34,42 @@ fn send_event<K: Sink>(
 /// Sends the line before a phase's history.
 fn send_header<K: Sink>(
     number: u64,
+    mode: Mode,
     objects: u16,
     sink: &mut K,
     kept: &mut Vec<u8>,
 ) -> Result<(), Status>
-    ensures ok { OnOk result (Sends (K.held sink.old) (K.held sink.new) kept.old.items kept.new.items (phase_line number objects)) }
-    ensures err { OnErr result (Stops (K.held sink.old) (K.held sink.new) kept.old.items (phase_line number objects)) }
+    ensures ok { OnOk result (Sends (K.held sink.old) (K.held sink.new) kept.old.items kept.new.items (phase_line number mode objects)) }
+    ensures err { OnErr result (Stops (K.held sink.old) (K.held sink.new) kept.old.items (phase_line number mode objects)) }
     ensures error { IfErr result (IsWriteError (Rose (K.faults sink.old) (K.faults sink.new) ⊎ K.is_full sink.new)) }
     ensures counted { K.faults sink.old ≤ K.faults sink.new }
     // Less than a piece stays kept.
     ensures small { OnOk result (length kept.new.items < PIECE) }
 {
-    print_phase(number, objects, kept)?;
+    print_phase(number, mode, objects, kept)?;
     flush(sink, kept, PIECE)
 }
 
-/// Sends the text of a phase of that number, which opened with so many objects and has this history.
+/// Sends the text of a phase of that number and mode, which opened with so many objects and has this history.
 pub fn send_phase<K: Sink>(
     script: &Script,
     number: u64,
+    mode: Mode,
     objects: u16,
     history: &History,
     sink: &mut K,
     kept: &mut Vec<u8>,
 ) -> Result<(), Status>
     ensures ok { OnOk result (Sends (K.held sink.old) (K.held sink.new) kept.old.items kept.new.items
-        (phase_line number objects ++ events_text script.now 0 history.now.events)) }
+        (phase_line number mode objects ++ events_text script.now 0 history.now.events)) }
     ensures err { OnErr result (Stops (K.held sink.old) (K.held sink.new) kept.old.items
-        (phase_line number objects ++ events_text script.now 0 history.now.events)) }
+        (phase_line number mode objects ++ events_text script.now 0 history.now.events)) }
     ensures error { IfErr result (IsWriteError (Rose (K.faults sink.old) (K.faults sink.new) ⊎ K.is_full sink.new)) }
     ensures counted { K.faults sink.old ≤ K.faults sink.new }
     // Less than a piece stays kept.
     ensures small { OnOk result (length kept.new.items < PIECE) }
 {
-    send_header(number, objects, sink, kept)?;
+    send_header(number, mode, objects, sink, kept)?;
     for place in 0..history.len() {
         let event = event_at(history, place);
         send_event(script, place, event, sink, kept)?;

@@ -14,7 +14,8 @@ use Rattle.store_model.specs.declared.event.Event.{Event}
 use Rattle.store_model.specs.declared.event.Event.TheVariants.{Call as CallEvent, Landed}
 use Rattle.store_model.specs.declared.event.Mark.TheVariants.{Unchanged, Made}
 use Rattle.script_text.specs.declared.script.Arm.TheVariants.{Stop, Fail, Lose}
-use Rattle.script_text.specs.declared.script.Control.TheVariants.{Serial, Phase, Arm as ArmControl, Crash, List as ListControl}
+use Rattle.script_text.specs.declared.script.Control.TheVariants.{Mode as ModeControl, Phase, Arm as ArmControl, Crash, List as ListControl}
+use Rattle.script_text.specs.declared.script.Mode.TheVariants.{Serial, Threads}
 use Rattle.script_text.specs.Script.{ScriptValue}
 use Rattle.run_text.specs.Forms.{flags_text, call_text, reply_text}
 use Rattle.run_text.specs.Text.{event_text, events_text, phase_line, control_line}
@@ -60,15 +61,19 @@ first_events =
     ∷ []
 
 -- the text of a phase
-first_output : phase_line 0 0 ++ events_text names_of_a 0 first_events
+first_output : phase_line 0 Serial 0 ++ events_text names_of_a 0 first_events
     ≡ codes "# phase 0 serial objects 0\n0 a create 6b r 00 - -> ok 0\n1 a read 0 4 -> ok -\n2 a close 0 -> ok\n3 a open 6b r -> ok 1\n"
 unfolding digits encode_with flags_text call_text reply_text event_text events_text phase_line
 first_output = refl
 
+threads_phase : phase_line 18446744073709551615 Threads 256 ≡ codes "# phase 18446744073709551615 threads objects 256\n"
+unfolding digits phase_line
+threads_phase = refl
+
 controls : map control_line
-    (Serial ∷ Phase ∷ ArmControl (Stop Dir 5) ∷ ArmControl (Stop (File 12) 0) ∷ ArmControl (Fail Card 3) ∷ ArmControl (Fail (File 272) 4294967295)
+    (ModeControl Serial ∷ ModeControl Threads ∷ Phase ∷ ArmControl (Stop Dir 5) ∷ ArmControl (Stop (File 12) 0) ∷ ArmControl (Fail Card 3) ∷ ArmControl (Fail (File 272) 4294967295)
     ∷ ArmControl (Lose 1) ∷ Crash 7 ∷ Crash 18446744073709551615 ∷ ListControl ∷ [])
-    ≡ codes "# serial\n" ∷ codes "# phase\n" ∷ codes "# stop dir 5\n" ∷ codes "# stop 12 0\n" ∷ codes "# fail card 3\n" ∷ codes "# fail 272 4294967295\n"
+    ≡ codes "# serial\n" ∷ codes "# threads\n" ∷ codes "# phase\n" ∷ codes "# stop dir 5\n" ∷ codes "# stop 12 0\n" ∷ codes "# fail card 3\n" ∷ codes "# fail 272 4294967295\n"
     ∷ codes "# lose card 1\n" ∷ codes "# crash 7\n" ∷ codes "# crash 18446744073709551615\n" ∷ codes "# list\n" ∷ []
 unfolding digits
 controls = refl

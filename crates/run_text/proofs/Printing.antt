@@ -17,6 +17,6 @@ pub encode_lower-all : (bytes : List ℕ) (i : ℕ) (out : List ℕ) → length 
 unfolding encode_with
 encode_lower-all bytes i out le = ap (λ t. out ++ t) (at_drop_all encode_lower bytes i le) ∙ append-nil out
 
--- five pieces behind a text
-pub append-five : (old a b c d e : List ℕ) → ((((old ++ a) ++ b) ++ c) ++ d) ++ e ≡ old ++ ((((a ++ b) ++ c) ++ d) ++ e)
-append-five old a b c d e = simp append_assoc
+-- seven pieces behind a text
+pub append-seven : (old a b c d e f g : List ℕ) → ((((((old ++ a) ++ b) ++ c) ++ d) ++ e) ++ f) ++ g ≡ old ++ ((((((a ++ b) ++ c) ++ d) ++ e) ++ f) ++ g)
+append-seven old a b c d e f g = simp append_assoc

@@ -20,7 +20,9 @@ use Rattle.tee_types.specs.declared.reply.Cause.{Cause}
 use Rattle.tee_types.specs.declared.reply.Cause.TheVariants.{Fault, Frame, CardResult}
 use Rattle.tee_types.specs.Rights.{read_bit, write_bit, write_meta_bit, share_read_bit, share_write_bit, overwrite_bit, has, is_known}
 use Rattle.script_text.specs.declared.script.Control.{Control}
-use Rattle.script_text.specs.declared.script.Control.TheVariants.{Serial, Phase, Arm as ArmControl, Crash, List as ListControl}
+use Rattle.script_text.specs.declared.script.Control.TheVariants.{Mode as ModeControl, Phase, Arm as ArmControl, Crash, List as ListControl}
+use Rattle.script_text.specs.declared.script.Mode.{Mode}
+use Rattle.script_text.specs.declared.script.Mode.TheVariants.{Serial, Threads}
 use Rattle.script_text.specs.declared.script.Arm.{Arm}
 use Rattle.script_text.specs.declared.script.Arm.TheVariants.{Stop, Fail, Lose}
 
@@ -85,9 +87,14 @@ arm_text (Stop device calls) = codes "stop " ++ device_word device ++ codes " " 
 arm_text (Fail device call) = codes "fail " ++ device_word device ++ codes " " ++ decimal call
 arm_text (Lose call) = codes "lose card " ++ decimal call
 
+-- the word of a mode
+abbrev pub mode_text : Mode → List ℕ
+mode_text Serial = codes "serial"
+mode_text Threads = codes "threads"
+
 -- the words of a control
 abbrev pub control_text : Control → List ℕ
-control_text Serial = codes "serial"
+control_text (ModeControl mode) = mode_text mode
 control_text Phase = codes "phase"
 control_text (ArmControl arm) = arm_text arm
 control_text (Crash seed) = codes "crash " ++ decimal seed

@@ -4,8 +4,9 @@ use Rattle.std.specs.Option.{option_map}
 use Rattle.store_model.specs.declared.event.Event.{Event}
 use Rattle.store_model.specs.declared.event.Event.TheVariants.{Call as CallEvent, Landed}
 use Rattle.script_text.specs.declared.script.Control.{Control}
+use Rattle.script_text.specs.declared.script.Mode.{Mode}
 use Rattle.script_text.specs.Script.{ScriptValue}
-use Rattle.run_text.specs.Forms.{call_text, control_text, reply_text}
+use Rattle.run_text.specs.Forms.{call_text, control_text, mode_text, reply_text}
 
 -- the name by which the script calls that session
 abbrev pub name_at : ScriptValue → ℕ → List ℕ
@@ -23,8 +24,8 @@ events_text script place [] = []
 events_text script place (event ∷ events) = event_text script place event ++ events_text script (place + 1) events
 
 -- the line before a phase's history
-unfoldable pub phase_line : ℕ → ℕ → List ℕ
-phase_line number objects = codes "# phase " ++ decimal number ++ codes " serial objects " ++ decimal objects ++ codes "\n"
+unfoldable pub phase_line : ℕ → Mode → ℕ → List ℕ
+phase_line number mode objects = codes "# phase " ++ decimal number ++ codes " " ++ mode_text mode ++ codes " objects " ++ decimal objects ++ codes "\n"
 
 -- the line of a control that is done
 abbrev pub control_line : Control → List ℕ

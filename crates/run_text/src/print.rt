@@ -4,10 +4,10 @@ ghost use Rattle.std.specs.Prelude.{◌≡◌, ◌++◌, length, take, codes, de
 ghost use Rattle.run_text.specs.Forms.{reply_text};
 ghost use Rattle.run_text.specs.Text.{event_text, phase_line, control_line, name_at};
 
-use crate::append::{put, put_number, put_word_number};
-use crate::print_call::{put_call, put_control};
+use crate::append::{put, put_number, put_two, put_word_number};
+use crate::print_call::{mode_name, put_call, put_control};
 use crate::print_reply::put_reply;
-use script_text::{Control, Script};
+use script_text::{Control, Mode, Script};
 use store_model::Event;
 use tee_types::{NoMemory, Reply};
 
@@ -88,24 +88,25 @@ pub fn print_event(
 
 /// Appends the line before a phase's history. A refusal may leave a part of it behind the old text.
 #[tactic(auto, unfolding(crate::specs::Text::phase_line))]
-fn put_phase(out: &mut Vec<u8>, number: u64, objects: u16) -> Result<(), NoMemory>
-    ensures ok { OnOk result (out.new.items ≡ out.old.items ++ phase_line number objects) }
+fn put_phase(out: &mut Vec<u8>, number: u64, mode: Mode, objects: u16) -> Result<(), NoMemory>
+    ensures ok { OnOk result (out.new.items ≡ out.old.items ++ phase_line number mode objects) }
     ensures kept { take (length out.old.items) out.new.items ≡ out.old.items }
 {
     put_word_number(out, b"# phase ", number)?;
-    put_word_number(out, b" serial objects ", objects as u64)?;
+    put_two(out, b" ", mode_name(mode))?;
+    put_word_number(out, b" objects ", objects as u64)?;
     put(out, b"\n")?;
     Ok(())
 }
 
 /// Appends the line before a phase's history. A refusal leaves the text as it was.
-pub fn print_phase(number: u64, objects: u16, out: &mut Vec<u8>) -> Result<(), NoMemory>
-    ensures ok { OnOk result (out.new.items ≡ out.old.items ++ phase_line number objects) }
+pub fn print_phase(number: u64, mode: Mode, objects: u16, out: &mut Vec<u8>) -> Result<(), NoMemory>
+    ensures ok { OnOk result (out.new.items ≡ out.old.items ++ phase_line number mode objects) }
     ensures err { OnErr result (out.new.items ≡ out.old.items) }
     ensures kept { take (length out.old.items) out.new.items ≡ out.old.items }
 {
     let before = out.len();
-    let printed = put_phase(out, number, objects);
+    let printed = put_phase(out, number, mode, objects);
     if printed.is_err() {
         out.truncate(before);
     }

@@ -2,13 +2,13 @@
 
 ghost use Rattle.std.specs.Prelude.{◌≡◌, ◌++◌, length, take, codes, decimal, OnOk};
 ghost use Rattle.tee_types.specs.declared.call.Call.TheVariants.{Create, Open, Rename, Seek, Write};
-ghost use Rattle.run_text.specs.Forms.{arm_text, call_text, control_text, device_word, whence_text};
+ghost use Rattle.run_text.specs.Forms.{arm_text, call_text, control_text, device_word, mode_text, whence_text};
 
 use crate::append::{
     put, put_number, put_two, put_word_bytes, put_word_flags, put_word_hex, put_word_number,
     put_word_numbers, put_word_signed,
 };
-use script_text::{Arm, Control};
+use script_text::{Arm, Control, Mode};
 use tee_types::{Bytes, Call, Device, Flags, NoMemory, ObjectId, Whence};
 
 /// The name of the place from which a seek counts.
@@ -155,13 +155,23 @@ fn put_arm(out: &mut Vec<u8>, arm: Arm) -> Result<(), NoMemory>
     }
 }
 
+/// The word of a mode.
+pub(crate) fn mode_name(mode: Mode) -> &'static [u8]
+    ensures { result.now ≡ mode_text mode }
+{
+    match mode {
+        Mode::Serial => b"serial",
+        Mode::Threads => b"threads",
+    }
+}
+
 /// Appends a control.
 pub(crate) fn put_control(out: &mut Vec<u8>, control: &Control) -> Result<(), NoMemory>
     ensures ok { OnOk result (out.new.items ≡ out.old.items ++ control_text control.now) }
     ensures kept { take (length out.old.items) out.new.items ≡ out.old.items }
 {
     match control {
-        Control::Serial => put(out, b"serial"),
+        Control::Mode(mode) => put(out, mode_name(*mode)),
         Control::Phase => put(out, b"phase"),
         Control::Arm(arm) => put_arm(out, *arm),
         Control::Crash { seed } => put_word_number(out, b"crash ", *seed),

@@ -5,6 +5,8 @@ use crate::facts::{Facts, facts_of};
 use crate::runs::{reliable, run_script};
 use anyhow::Context;
 use std::alloc::{AllocError, Global};
+use std::sync::Wait;
+use std::thread::Threads;
 
 /// The script of the first run.
 const MADE: &str = "app a 00000000-0000-0000-0000-000000000001\na create 6b rw - 01\n";
@@ -14,8 +16,12 @@ const WRITTEN: &str =
     "app a 00000000-0000-0000-0000-000000000001\na create 6b rw - 01\na write 0 ff\n";
 
 // What is drawn in the run of a script.
-fn drawn_by(alloc: Global, script: &str) -> anyhow::Result<Facts> {
-    let ran = run_script(alloc, script, new_bench(alloc)?, &mut reliable())?;
+fn drawn_by<W: Threads + Wait + Sync>(
+    rt: &W,
+    alloc: Global,
+    script: &str,
+) -> anyhow::Result<Facts> {
+    let ran = run_script(rt, alloc, script, new_bench(alloc)?, &mut reliable())?;
     facts_of(alloc, ran.bench)
 }
 
@@ -66,9 +72,9 @@ fn push_facts(
 }
 
 /// The lines of both runs.
-pub fn draw_lines(alloc: Global) -> anyhow::Result<String> {
-    let made = drawn_by(alloc, MADE)?;
-    let written = drawn_by(alloc, WRITTEN)?;
+pub fn draw_lines<W: Threads + Wait + Sync>(rt: &W, alloc: Global) -> anyhow::Result<String> {
+    let made = drawn_by(rt, alloc, MADE)?;
+    let written = drawn_by(rt, alloc, WRITTEN)?;
     let mut text = String::new(alloc);
     push_facts(alloc, &mut text, "an object is made\n", &made)?;
     push_facts(

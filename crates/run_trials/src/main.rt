@@ -10,15 +10,21 @@
 //! one that the card did not confirm, of which nobody can tell before it is resolved. A store whose format was refused is blank or has no objects,
 //! and a mount leaves the objects as they were.
 //!
-//! The last lines look at what was drawn in two runs over equal devices, with equal entropy: the first makes an object of one byte, the
+//! The lines below look at what was drawn in two runs over equal devices, with equal entropy: the first makes an object of one byte, the
 //! second writes it too. They say how many file keys, vectors and nonces there are, and how many different ones. Nothing else tells that
 //! they are drawn anew and are no constants.
+//!
+//! The last line is of scripts of four sessions on threads, two of each application, which call the same few objects. The calls of each
+//! history are run once more as a serial script, in the history's order: the replies and the objects must be the same.
 #![tactic(auto)]
 
 use acts::ACTS;
 use draws::draw_lines;
 use mishaps::{Device, Mishap};
 use openings::Opening;
+use replays::replay_line;
+use std::sync::Wait;
+use std::thread::Threads;
 use subjects::Subject;
 use table::{head_line, row_line};
 use texts::Texts;
@@ -30,6 +36,7 @@ mod facts;
 mod kept_port;
 mod mishaps;
 mod openings;
+mod replays;
 mod runs;
 mod subjects;
 mod table;
@@ -45,20 +52,23 @@ fn print_line(rt: &impl Print, line: &str) -> anyhow::Result<()> {
 }
 
 // Prints the line of one mishap. Says how often something was lost.
-fn print_row(
-    rt: &(impl Print + AllocGlobal),
+fn print_row<W: Print + AllocGlobal + Threads + Wait + Sync>(
+    rt: &W,
     subject: Subject<'_>,
     device: Device,
     mishap: Mishap,
 ) -> anyhow::Result<u64> {
-    let tally = subject.tally(rt.alloc(), device, mishap)?;
+    let tally = subject.tally(rt, rt.alloc(), device, mishap)?;
     let line = row_line(rt.alloc(), subject.name(), device, mishap, &tally)?;
     print_line(rt, line.as_str())?;
     Ok(tally.lost)
 }
 
 // Prints the lines of what is tried. Says how often something was lost.
-fn print_rows(rt: &(impl Print + AllocGlobal), subject: Subject<'_>) -> anyhow::Result<u64> {
+fn print_rows<W: Print + AllocGlobal + Threads + Wait + Sync>(
+    rt: &W,
+    subject: Subject<'_>,
+) -> anyhow::Result<u64> {
     let mut lost = 0u64;
     for device in Device::ALL {
         for mishap in Mishap::ALL {
@@ -71,7 +81,7 @@ fn print_rows(rt: &(impl Print + AllocGlobal), subject: Subject<'_>) -> anyhow::
 }
 
 // Prints the table. Says how often something was lost.
-fn print_table(rt: &(impl Print + AllocGlobal)) -> anyhow::Result<u64> {
+fn print_table<W: Print + AllocGlobal + Threads + Wait + Sync>(rt: &W) -> anyhow::Result<u64> {
     let mut lost = 0u64;
     for opening in Opening::ALL {
         lost = lost.saturating_add(print_rows(rt, Subject::Opening(opening))?);
@@ -87,5 +97,6 @@ fn main(rt: HostRuntime) -> anyhow::Result<()> {
     print_line(&rt, head_line(rt.alloc())?.as_str())?;
     let lost = print_table(&rt)?;
     println!(rt; "{lost} lost")?;
-    print_line(&rt, draw_lines(rt.alloc())?.trim_end())
+    print_line(&rt, draw_lines(&rt, rt.alloc())?.trim_end())?;
+    print_line(&rt, replay_line(&rt, rt.alloc())?.as_str())
 }

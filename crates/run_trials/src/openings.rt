@@ -9,6 +9,8 @@ use crate::tally::Outcome;
 use crate::tries::FIRST;
 use anyhow::Context;
 use std::alloc::Global;
+use std::sync::Wait;
+use std::thread::Threads;
 use tee_ports::ListEntropy;
 
 /// How a store is opened.
@@ -57,13 +59,13 @@ impl Opening {
     }
 
     // The devices that are opened.
-    fn bench(self, alloc: Global) -> anyhow::Result<KeptBench>
+    fn bench<W: Threads + Wait + Sync>(self, rt: &W, alloc: Global) -> anyhow::Result<KeptBench>
         ensures { IfOk result (λ bench. vec_len bench.files ≡ 273) }
     {
         let bench = new_bench(alloc)?;
         match self {
             Opening::Format => Ok(bench),
-            Opening::Mount => Ok(run_script(alloc, MADE, bench, &mut reliable())?.bench),
+            Opening::Mount => Ok(run_script(rt, alloc, MADE, bench, &mut reliable())?.bench),
         }
     }
 }
@@ -90,7 +92,8 @@ fn outcome_of(opening: Opening, opened: bool, listed: &str, formats: bool) -> Ou
 }
 
 // What the crashed devices hold.
-fn outcome_in(
+fn outcome_in<W: Threads + Wait + Sync>(
+    rt: &W,
     alloc: Global,
     opening: Opening,
     opened: bool,
@@ -99,26 +102,27 @@ fn outcome_in(
     requires { vec_len bench.files ≡ 273 }
 {
     let writes = bench.card.writes();
-    let ran = run_script(alloc, "list\n", bench, &mut reliable())?;
+    let ran = run_script(rt, alloc, "list\n", bench, &mut reliable())?;
     let listed = ran.output.strip_prefix("# list\n").context("no list")?;
     let formats = ran.bench.card.writes() != writes;
     Ok(outcome_of(opening, opened, listed, formats))
 }
 
 /// Opens a store with that trouble, crashes its files and lists its objects. Says whether it was refused, and what the store holds.
-pub fn try_opening(
+pub fn try_opening<W: Threads + Wait + Sync>(
+    rt: &W,
     alloc: Global,
     opening: Opening,
     trouble: Trouble,
     seed: u64,
 ) -> anyhow::Result<(bool, Outcome)> {
-    let mut bench = opening.bench(alloc)?;
+    let mut bench = opening.bench(rt, alloc)?;
     arm(&mut bench, trouble)?;
     let mut entropy = entropy_of(trouble);
-    let ran = try_script(alloc, opening.script(), bench, &mut entropy)?;
+    let ran = try_script(rt, alloc, opening.script(), bench, &mut entropy)?;
     let opened = ran.is_done;
     let mut bench = ran.bench;
     crash(&mut bench, seed)?;
-    let outcome = outcome_in(alloc, opening, opened, bench)?;
+    let outcome = outcome_in(rt, alloc, opening, opened, bench)?;
     Ok((!opened, outcome))
 }

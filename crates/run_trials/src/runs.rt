@@ -7,6 +7,8 @@ use anyhow::{Context, bail};
 use bench_run::{RunEnd, Status, run};
 use sim_bench::simulator_keys;
 use std::alloc::Global;
+use std::sync::Wait;
+use std::thread::Threads;
 use tee_ports::{Entropy, ListEntropy, MemSink, MemSource};
 
 /// How a run ended, what it put, and the devices as it left them.
@@ -56,7 +58,8 @@ fn is_done(status: &Status) -> anyhow::Result<bool> {
 }
 
 /// Runs a script over these devices.
-pub fn try_script(
+pub fn try_script<W: Threads + Wait + Sync>(
+    rt: &W,
     alloc: Global,
     script: &str,
     bench: KeptBench,
@@ -70,6 +73,7 @@ pub fn try_script(
     let words = vec![in alloc; String::from_str(alloc, "run")?]?;
     let keys = simulator_keys();
     let RunEnd { status, bench } = run(
+        rt,
         alloc,
         &words,
         &mut source,
@@ -87,7 +91,8 @@ pub fn try_script(
 }
 
 /// The same, for a script whose run is done.
-pub fn run_script(
+pub fn run_script<W: Threads + Wait + Sync>(
+    rt: &W,
     alloc: Global,
     script: &str,
     bench: KeptBench,
@@ -96,7 +101,7 @@ pub fn run_script(
     requires { vec_len bench.files ≡ 273 }
     ensures { IfOk result (λ ran. vec_len ran.bench.files ≡ 273) }
 {
-    let ran = try_script(alloc, script, bench, entropy)?;
+    let ran = try_script(rt, alloc, script, bench, entropy)?;
     if !ran.is_done {
         bail!("a run that is not done: {script}");
     }

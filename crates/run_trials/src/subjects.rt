@@ -8,6 +8,8 @@ use crate::texts::Texts;
 use crate::tries::try_act;
 use anyhow::bail;
 use std::alloc::Global;
+use std::sync::Wait;
+use std::thread::Threads;
 
 /// What is tried.
 #[derive(Clone, Copy)]
@@ -39,23 +41,30 @@ impl Subject<'_> {
     }
 
     // One try.
-    fn try_seed(
+    fn try_seed<W: Threads + Wait + Sync>(
         &self,
+        rt: &W,
         alloc: Global,
         trouble: Trouble,
         seed: u64,
     ) -> anyhow::Result<(bool, Outcome)> {
         match self {
-            Subject::Opening(opening) => try_opening(alloc, *opening, trouble, seed),
-            Subject::Act(texts) => try_act(alloc, texts, trouble, seed),
+            Subject::Opening(opening) => try_opening(rt, alloc, *opening, trouble, seed),
+            Subject::Act(texts) => try_act(rt, alloc, texts, trouble, seed),
         }
     }
 
     // The tries of one call, one for each seed. Says whether the call was missed.
-    fn try_call(&self, alloc: Global, trouble: Trouble, tally: &mut Tally) -> anyhow::Result<bool> {
+    fn try_call<W: Threads + Wait + Sync>(
+        &self,
+        rt: &W,
+        alloc: Global,
+        trouble: Trouble,
+        tally: &mut Tally,
+    ) -> anyhow::Result<bool> {
         let mut missed = false;
         for seed in 0..trouble.mishap.seeds() {
-            let (is_missed, outcome) = self.try_seed(alloc, trouble, seed)?;
+            let (is_missed, outcome) = self.try_seed(rt, alloc, trouble, seed)?;
             tally.add(outcome);
             missed = is_missed;
         }
@@ -63,7 +72,13 @@ impl Subject<'_> {
     }
 
     /// Tries each call of a device that may go wrong, until the device makes no more.
-    pub fn tally(&self, alloc: Global, device: Device, mishap: Mishap) -> anyhow::Result<Tally> {
+    pub fn tally<W: Threads + Wait + Sync>(
+        &self,
+        rt: &W,
+        alloc: Global,
+        device: Device,
+        mishap: Mishap,
+    ) -> anyhow::Result<Tally> {
         let mut tally = Tally::new();
         for call in 0..MOST_CALLS {
             let trouble = Trouble {
@@ -71,7 +86,7 @@ impl Subject<'_> {
                 mishap,
                 call,
             };
-            if self.try_call(alloc, trouble, &mut tally)? {
+            if self.try_call(rt, alloc, trouble, &mut tally)? {
                 tally.calls = tally.calls.saturating_add(1);
             } else if device.least_tries() <= call.saturating_add(1) {
                 return Ok(tally);

@@ -8,6 +8,8 @@ use crate::tally::Outcome;
 use crate::texts::Texts;
 use anyhow::Context;
 use std::alloc::{AllocError, Global};
+use std::sync::Wait;
+use std::thread::Threads;
 use tee_ports::ListEntropy;
 
 /// The application of the lines before an act.
@@ -83,7 +85,8 @@ fn outcome_of(act: &Act, told: Option<bool>, listed: &str) -> Outcome {
 }
 
 /// Runs the lines before the act, then those of the act with that trouble. Says whether a device was missed, and what the store holds.
-pub fn try_act(
+pub fn try_act<W: Threads + Wait + Sync>(
+    rt: &W,
     alloc: Global,
     texts: &Texts,
     trouble: Trouble,
@@ -91,10 +94,16 @@ pub fn try_act(
 ) -> anyhow::Result<(bool, Outcome)> {
     let mut before = String::from_str(alloc, FIRST)?;
     before.push_str(texts.before.as_str())?;
-    let before = run_script(alloc, before.as_str(), new_bench(alloc)?, &mut reliable())?;
+    let before = run_script(
+        rt,
+        alloc,
+        before.as_str(),
+        new_bench(alloc)?,
+        &mut reliable(),
+    )?;
     let script = script_of(alloc, texts, trouble, seed)?;
     let mut entropy = entropy_of(trouble);
-    let ran = run_script(alloc, script.as_str(), before.bench, &mut entropy)?;
+    let ran = run_script(rt, alloc, script.as_str(), before.bench, &mut entropy)?;
     let (replies, listed) = ran.output.split_once("# list\n").context("no list")?;
     let outcome = outcome_of(&texts.act, texts.told(replies), listed);
     Ok((replies.contains("STORAGE_NOT_AVAILABLE"), outcome))

@@ -19,6 +19,8 @@
 use anyhow::Context;
 use row::Row;
 use sim_bench::SimBench;
+use std::sync::Wait;
+use std::thread::Threads;
 use trial::{difference, run_row};
 
 mod bench;
@@ -38,9 +40,13 @@ struct Count {
 }
 
 /// Runs a row, and prints its line where it differs.
-fn try_row(rt: &(impl Print + AllocGlobal), count: &mut Count, row: &Row) -> anyhow::Result<()> {
+fn try_row<W: Print + AllocGlobal + Threads + Wait + Sync>(
+    rt: &W,
+    count: &mut Count,
+    row: &Row,
+) -> anyhow::Result<()> {
     count.rows = count.rows.saturating_add(1);
-    let ran = run_row(rt.alloc(), row, count.bench.take())?;
+    let ran = run_row(rt, rt.alloc(), row, count.bench.take())?;
     if let Some(text) = difference(rt.alloc(), row, &ran)? {
         count.differ = count.differ.saturating_add(1);
         println!(rt; "{}: {text}", row.name.as_str())?;
@@ -50,8 +56,8 @@ fn try_row(rt: &(impl Print + AllocGlobal), count: &mut Count, row: &Row) -> any
 }
 
 /// Takes the next line: it belongs to the row, or begins another, and the row before it is run.
-fn take_line(
-    rt: &(impl Print + AllocGlobal),
+fn take_line<W: Print + AllocGlobal + Threads + Wait + Sync>(
+    rt: &W,
     count: &mut Count,
     row: &mut Option<Row>,
     line: &str,

@@ -2,7 +2,7 @@
 
 use anyhow::Context;
 use run_text::{print_control, print_event, print_phase};
-use script_text::{Control, Script, parse};
+use script_text::{Control, Mode, Script, parse};
 use std::alloc::Global;
 use store_model::{Event, Mark};
 use tee_types::{Call, Cause, Code, Device, FrameFault, NoMemory, Reason, Reply};
@@ -67,7 +67,7 @@ pub fn lines(alloc: Global) -> anyhow::Result<Vec<u8>> {
     put_reply(&names, Reply::CounterSpent(u32::MAX), &mut out)?;
     put_reply(&names, Reply::NoMemory, &mut out)?;
     print_event(10, &names, &Event::Landed { commit: 3 }, &mut out)?;
-    print_phase(0, 256, &mut out)?;
+    print_phase(0, Mode::Serial, 256, &mut out)?;
     print_control(&Control::Phase, &mut out)?;
     Ok(out)
 }

@@ -7,6 +7,8 @@ use bench_run::{RunEnd, Status, run};
 use seed_words::SeedEntropy;
 use sim_bench::{SimBench, simulator_keys};
 use std::alloc::{AllocError, Global};
+use std::sync::Wait;
+use std::thread::Threads;
 use tee_ports::{MemSink, MemSource};
 
 /// How a row's run ended: its status, what it put, and the bench that it left.
@@ -19,7 +21,12 @@ pub struct Ran {
 }
 
 /// Runs the script of a row, over a new bench or over the one that the row before left.
-pub fn run_row(alloc: Global, row: &Row, before: Option<SimBench>) -> anyhow::Result<Ran> {
+pub fn run_row<W: Threads + Wait + Sync>(
+    rt: &W,
+    alloc: Global,
+    row: &Row,
+    before: Option<SimBench>,
+) -> anyhow::Result<Ran> {
     let bench = bench_for(alloc, &row.settings, before)?;
     let mut script = row.script.to_vec(alloc)?;
     if script.len() < row.settings.length {
@@ -29,6 +36,7 @@ pub fn run_row(alloc: Global, row: &Row, before: Option<SimBench>) -> anyhow::Re
     let mut sink = MemSink::new(alloc, row.settings.room, &[])?;
     let mut entropy = SeedEntropy::from_seed(&[0; 32]);
     let RunEnd { status, bench } = run(
+        rt,
         alloc,
         &row.settings.words,
         &mut source,

@@ -8,11 +8,12 @@ use Rattle.std.proofs.lemmas.Bool.Decides.{nat_tests}
 use Rattle.tee_types.specs.declared.reply.Device.{Device}
 use Rattle.tee_types.specs.declared.reply.Device.TheVariants.{Dir, File, Card}
 use Rattle.script_text.specs.declared.controls.ControlVerb.{ControlVerb}
-use Rattle.script_text.specs.declared.controls.ControlVerb.TheVariants.{Serial as SerialVerb, Phase as PhaseVerb, Stop as StopVerb, Fail as FailVerb, Lose as LoseVerb, Crash as CrashVerb, List as ListVerb}
+use Rattle.script_text.specs.declared.controls.ControlVerb.TheVariants.{Serial as SerialVerb, Threads as ThreadsVerb, Phase as PhaseVerb, Stop as StopVerb, Fail as FailVerb, Lose as LoseVerb, Crash as CrashVerb, List as ListVerb}
 use Rattle.script_text.specs.declared.script.Arm.{Arm}
 use Rattle.script_text.specs.declared.script.Arm.TheVariants.{Stop, Fail, Lose}
 use Rattle.script_text.specs.declared.script.Control.{Control}
-use Rattle.script_text.specs.declared.script.Control.TheVariants.{Serial, Phase, Arm as ArmControl, Crash, List as ListControl}
+use Rattle.script_text.specs.declared.script.Control.TheVariants.{Mode as ModeControl, Phase, Arm as ArmControl, Crash, List as ListControl}
+use Rattle.script_text.specs.declared.script.Mode.TheVariants.{Serial, Threads}
 use Rattle.script_text.specs.Words.{same_word, are_digits, numeral_of, number_of, if_positive, positive_of, place_of_call, seed_of, device_of}
 use Rattle.script_text.specs.Controls.{stop_words, fail_words, lose_words, crash_words, alone, arming, control_verb_of, control_words, control_of}
 use Rattle.script_text.specs.Laws.{IsArmable, IsArm, IsControl}
@@ -106,7 +107,8 @@ arming-formed (Some a) control fine is = let same : ArmControl a ≡ control = c
 arming-formed None control fine is = absurd (cc (is))
 
 verb-formed : (verb : ControlVerb) (words : List (List ℕ)) (control : Control) → control_words verb words ≡ Some control → IsControl control
-verb-formed SerialVerb words control is = alone-formed words Serial control tt is
+verb-formed SerialVerb words control is = alone-formed words (ModeControl Serial) control tt is
+verb-formed ThreadsVerb words control is = alone-formed words (ModeControl Threads) control tt is
 verb-formed PhaseVerb words control is = alone-formed words Phase control tt is
 verb-formed StopVerb words control is = arming-formed (stop_words words) control (stop-formed words) is
 verb-formed FailVerb words control is = arming-formed (fail_words words) control (fail-formed words) is

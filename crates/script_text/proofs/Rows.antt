@@ -11,7 +11,8 @@ use Rattle.tee_types.specs.declared.reply.Device.TheVariants.{Dir, File, Card}
 use Rattle.script_text.specs.declared.reading.ScriptFault.{ScriptFault}
 use Rattle.script_text.specs.declared.reading.ScriptFault.TheVariants.{BadLine, TooManyApps}
 use Rattle.script_text.specs.declared.script.Arm.TheVariants.{Stop, Fail, Lose}
-use Rattle.script_text.specs.declared.script.Control.TheVariants.{Serial, Phase, Arm as ArmControl, Crash, List as ListControl}
+use Rattle.script_text.specs.declared.script.Control.TheVariants.{Mode as ModeControl, Phase, Arm as ArmControl, Crash, List as ListControl}
+use Rattle.script_text.specs.declared.script.Mode.TheVariants.{Serial, Threads}
 use Rattle.script_text.specs.declared.script.Step.{Step}
 use Rattle.script_text.specs.declared.script.Step.TheVariants.{Call as CallStep, Control as ControlStep}
 use Rattle.script_text.specs.Lines.{words_of}
@@ -97,7 +98,7 @@ offsets = refl
 -- an unknown word, an undeclared application, too few words and too many, and words whose lines are not built
 bad_forms : below
     (map codes
-    ("a wrote 0 ff" ∷ "b open 6b r" ∷ "a" ∷ "a close" ∷ "a close 0 0" ∷ "a enum 0" ∷ "a seek 0 0" ∷ "a # 0" ∷ "serial a" ∷ "phase 0" ∷ "threads"
+    ("a wrote 0 ff" ∷ "b open 6b r" ∷ "a" ∷ "a close" ∷ "a close 0 0" ∷ "a enum 0" ∷ "a seek 0 0" ∷ "a # 0" ∷ "serial a" ∷ "phase 0" ∷ "threads 2"
     ∷ "taint 1 1 0 00" ∷ "flip 1 0 00" ∷ "save m" ∷ "restore 1 m" ∷ []))
     ≡ replicate 15 (Err (BadLine 2))
 unfolding words_of is_name id_of bytes_of numeral_of offset_of whence_of letter_flags_of bits_of flags_of open_words seek_words one_number two_numbers verb_of call_words call_line app_line control_verb_of control_of step_line words_line line_of script_from decode_pairs by_index
@@ -131,10 +132,10 @@ bad_separators = refl
 
 -- controls stand where they are, also above an application
 controls : below
-    (codes "serial\nphase\napp b 00000000000000000000000000000001\nb enum\n phase \na enum" ∷ [])
+    (codes "serial\nphase\napp b 00000000000000000000000000000001\nb enum\n phase \nthreads\na enum" ∷ [])
     ≡ Ok (record {
       applications = record { name = codes "a"; app = app } ∷ record { name = codes "b"; app = app } ∷ [];
-      steps = ControlStep Serial ∷ ControlStep Phase ∷ CallStep 1 EnumNew ∷ ControlStep Phase ∷ CallStep 0 EnumNew ∷ [];
+      steps = ControlStep (ModeControl Serial) ∷ ControlStep Phase ∷ CallStep 1 EnumNew ∷ ControlStep Phase ∷ ControlStep (ModeControl Threads) ∷ CallStep 0 EnumNew ∷ [];
     }) ∷ []
 unfolding words_of is_name verb_of call_words call_line app_line control_verb_of control_of step_line words_line line_of script_from by_index
 controls = refl

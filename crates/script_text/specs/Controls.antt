@@ -2,11 +2,12 @@
 use Rattle.std.specs.Prelude.{ℕ, List, [], ◌∷◌, if◌then◌else◌, codes, Option, Some, None}
 use Rattle.std.specs.Map.{lookup}
 use Rattle.script_text.specs.declared.controls.ControlVerb.{ControlVerb}
-use Rattle.script_text.specs.declared.controls.ControlVerb.TheVariants.{Serial as SerialVerb, Phase as PhaseVerb, Stop as StopVerb, Fail as FailVerb, Lose as LoseVerb, Crash as CrashVerb, List as ListVerb}
+use Rattle.script_text.specs.declared.controls.ControlVerb.TheVariants.{Serial as SerialVerb, Threads as ThreadsVerb, Phase as PhaseVerb, Stop as StopVerb, Fail as FailVerb, Lose as LoseVerb, Crash as CrashVerb, List as ListVerb}
 use Rattle.script_text.specs.declared.script.Arm.{Arm}
 use Rattle.script_text.specs.declared.script.Arm.TheVariants.{Stop, Fail, Lose}
 use Rattle.script_text.specs.declared.script.Control.{Control}
-use Rattle.script_text.specs.declared.script.Control.TheVariants.{Serial, Phase, Arm as ArmControl, Crash, List as ListControl}
+use Rattle.script_text.specs.declared.script.Control.TheVariants.{Mode as ModeControl, Phase, Arm as ArmControl, Crash, List as ListControl}
+use Rattle.script_text.specs.declared.script.Mode.TheVariants.{Serial, Threads}
 use Rattle.script_text.specs.Words.{same_word, number_of, place_of_call, seed_of, device_of}
 use Rattle.script_text.specs.Calls.{◌>>=◌}
 
@@ -57,15 +58,16 @@ arming arm = do
 -- the word of each control
 abbrev pub control_verbs : List (List ℕ × ControlVerb)
 control_verbs =
-    (codes "serial", SerialVerb) ∷ (codes "phase", PhaseVerb) ∷ (codes "stop", StopVerb) ∷ (codes "fail", FailVerb)
-    ∷ (codes "lose", LoseVerb) ∷ (codes "crash", CrashVerb) ∷ (codes "list", ListVerb) ∷ []
+    (codes "serial", SerialVerb) ∷ (codes "threads", ThreadsVerb) ∷ (codes "phase", PhaseVerb) ∷ (codes "stop", StopVerb)
+    ∷ (codes "fail", FailVerb) ∷ (codes "lose", LoseVerb) ∷ (codes "crash", CrashVerb) ∷ (codes "list", ListVerb) ∷ []
 
 unfoldable pub control_verb_of : List ℕ → Option ControlVerb
 control_verb_of word = lookup (same_word word) control_verbs
 
 -- the control of these words behind the verb
 abbrev pub control_words : ControlVerb → List (List ℕ) → Option Control
-control_words SerialVerb words = alone Serial words
+control_words SerialVerb words = alone (ModeControl Serial) words
+control_words ThreadsVerb words = alone (ModeControl Threads) words
 control_words PhaseVerb words = alone Phase words
 control_words StopVerb words = arming (stop_words words)
 control_words FailVerb words = arming (fail_words words)

@@ -6,7 +6,7 @@ use Rattle.store_model.specs.Sound.{IsCall}
 use Rattle.script_text.specs.declared.script.Arm.{Arm}
 use Rattle.script_text.specs.declared.script.Arm.TheVariants.{Stop, Fail, Lose}
 use Rattle.script_text.specs.declared.script.Control.{Control}
-use Rattle.script_text.specs.declared.script.Control.TheVariants.{Serial, Phase, Arm as ArmControl, Crash, List as ListControl}
+use Rattle.script_text.specs.declared.script.Control.TheVariants.{Mode as ModeControl, Phase, Arm as ArmControl, Crash, List as ListControl}
 use Rattle.script_text.specs.declared.script.Step.{Step}
 use Rattle.script_text.specs.declared.script.Step.TheVariants.{Call as CallStep, Control as ControlStep}
 use Rattle.script_text.specs.Script.{ScriptValue}
@@ -27,7 +27,7 @@ IsArm (Lose call) = 1 ≤ call
 
 -- what the control carries is well formed
 abbrev pub IsControl : Control → Type 0
-IsControl Serial = Unit {0}
+IsControl (ModeControl mode) = Unit {0}
 IsControl Phase = Unit {0}
 IsControl (ArmControl arm) = IsArm arm
 IsControl (Crash seed) = seed < 2 ^ 64

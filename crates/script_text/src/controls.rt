@@ -4,7 +4,7 @@ ghost use Rattle.std.specs.Prelude.{◌≡◌};
 ghost use Rattle.script_text.specs.Lines.{words_of};
 ghost use Rattle.script_text.specs.Controls.{stop_words, fail_words, lose_words, crash_words, alone, control_verb_of, control_words, control_of};
 
-use crate::script::{Arm, Control};
+use crate::script::{Arm, Control, Mode};
 use crate::values::{device, number, place_of_call, same, seed};
 use crate::words::{cut_word, one, two};
 
@@ -12,6 +12,7 @@ use crate::words::{cut_word, one, two};
 #[derive(Clone, Copy)]
 pub(crate) enum ControlVerb {
     Serial,
+    Threads,
     Phase,
     Stop,
     Fail,
@@ -27,6 +28,8 @@ fn control_verb_of(word: &[u8]) -> Option<ControlVerb>
 {
     if same(word, b"serial") {
         Some(ControlVerb::Serial)
+    } else if same(word, b"threads") {
+        Some(ControlVerb::Threads)
     } else if same(word, b"phase") {
         Some(ControlVerb::Phase)
     } else if same(word, b"stop") {
@@ -103,7 +106,8 @@ fn control_of(verb: ControlVerb, words: &[u8]) -> Option<Control>
     ensures { result ≡ control_words verb (words_of words.now) }
 {
     match verb {
-        ControlVerb::Serial => alone(Control::Serial, words),
+        ControlVerb::Serial => alone(Control::Mode(Mode::Serial), words),
+        ControlVerb::Threads => alone(Control::Mode(Mode::Threads), words),
         ControlVerb::Phase => alone(Control::Phase, words),
         ControlVerb::Stop => Some(Control::Arm(stop(words)?)),
         ControlVerb::Fail => Some(Control::Arm(fail(words)?)),

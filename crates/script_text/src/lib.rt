@@ -10,4 +10,4 @@ mod values;
 mod words;
 
 pub use reading::{MAX_APPLICATIONS, ScriptFault, parse};
-pub use script::{Arm, Control, Script, Step};
+pub use script::{Arm, Control, Mode, Script, Step};

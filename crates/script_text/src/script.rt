@@ -29,11 +29,20 @@ pub enum Arm {
     },
 }
 
+/// How the calls of a phase are made.
+#[derive(Clone, Copy, Debug, PartialEq, Eq)]
+pub enum Mode {
+    /// One after another, in the script's order.
+    Serial,
+    /// Those of each application in order, each application on a thread of its own.
+    Threads,
+}
+
 /// A line that is no call: it ends the phase above it.
 #[derive(Debug, Drop)]
 pub enum Control {
-    /// The calls of the phases below are made one after another, in the script's order.
-    Serial,
+    /// The mode of the phases below.
+    Mode(Mode),
     /// The phase above ends, and nothing else is done.
     Phase,
     /// A device is armed for the next phase.

@@ -35,7 +35,7 @@ use Rattle.served_calls.proofs.Counting.{same_file_goes_on}
 use Rattle.served_calls.proofs.ToldCalls.{file_from, file_to, is_object_file, quiet_goes_on, served_appends, served_quiet, serves_ok, stays_serves}
 
 -- a reply that is done or refused accuses no device
-done_accuses : (key : List ℕ) (d0 d1 : Devices) (reply : Reply) → IsDoneOrRefused reply → AccusesRightly key d0 d1 reply
+pub done_accuses : (key : List ℕ) (d0 d1 : Devices) (reply : Reply) → IsDoneOrRefused reply → AccusesRightly key d0 d1 reply
 done_accuses key d0 d1 Done is = tt
 done_accuses key d0 d1 (Refused code) is = tt
 done_accuses key d0 d1 (NotAvailable cause) is = absurd is
@@ -52,7 +52,7 @@ change_drawn old new number Reliable drew draws (NotAvailable (CardResult result
 change_drawn old new number Reliable drew draws reply cause = inl cause.1
 
 -- none failed of a generator that never does
-change_still : (old new : FileState) (number : ℕ) (Reliable : Type 0) (drew draws : ℕ) (reply : Reply) → HasChangeCause old new number Reliable drew draws reply → Reliable → draws ≡ drew
+pub change_still : (old new : FileState) (number : ℕ) (Reliable : Type 0) (drew draws : ℕ) (reply : Reply) → HasChangeCause old new number Reliable drew draws reply → Reliable → draws ≡ drew
 change_still old new number Reliable drew draws (NotAvailable (Fault (File n) count)) cause reliable = cause.2
 change_still old new number Reliable drew draws (NotAvailable (Fault Entropy count)) cause reliable = absurd (cause.3 reliable)
 change_still old new number Reliable drew draws (NotAvailable (Fault Dir count)) cause reliable = absurd cause
@@ -60,6 +60,22 @@ change_still old new number Reliable drew draws (NotAvailable (Fault Card count)
 change_still old new number Reliable drew draws (NotAvailable (Frame fault)) cause reliable = absurd cause
 change_still old new number Reliable drew draws (NotAvailable (CardResult result)) cause reliable = absurd cause
 change_still old new number Reliable drew draws reply cause reliable = cause.1
+
+-- a reply that says why a change of the object in the file of that number was not staged
+pub change_accuses_file : (key : List ℕ) (d0 d1 : Devices) (number : ℕ) (from to : FileState) → ((n : ℕ) → n ≡ number → (d0.file n ≡ from) × (d1.file n ≡ to)) → (Reliable : Type 0) (reply : Reply)
+    → HasChangeCause from to number Reliable d0.draws d1.draws reply → AccusesRightly key d0 d1 reply
+change_accuses_file key d0 d1 number from to files Reliable (NotAvailable (Fault (File n) count)) cause =
+    let failed : FileFailed from to count = cause.1 in
+    let there = files n cause.0 in (
+      subst (λ (p : FileState × FileState). Rose (p.0).faults (p.1).faults) (λ i. (sym there.0 i, sym there.1 i)) failed.rose,
+      failed.carried ∙ ap (λ (f : FileState). f.faults) (sym there.1),
+    )
+change_accuses_file key d0 d1 number from to files Reliable (NotAvailable (Fault Entropy count)) cause = (cause.1, cause.2)
+change_accuses_file key d0 d1 number from to files Reliable (NotAvailable (Fault Dir count)) cause = absurd cause
+change_accuses_file key d0 d1 number from to files Reliable (NotAvailable (Fault Card count)) cause = absurd cause
+change_accuses_file key d0 d1 number from to files Reliable (NotAvailable (Frame fault)) cause = absurd cause
+change_accuses_file key d0 d1 number from to files Reliable (NotAvailable (CardResult result)) cause = absurd cause
+change_accuses_file key d0 d1 number from to files Reliable reply cause = tt
 
 pub changed_still : {F R E : Type 0} (of_file : F → FileState) (of_port : R → PortState) (draws : E → ℕ) (store : Store) (old new : LockedGateValue F R) (before after : SlotValue) (was now : CallerSession E)
     (call : Call) (held : Held) (size : ℕ) (Reliable X : Type 0) (result : Result Answer X)
@@ -90,19 +106,11 @@ module _ {F R E : Type 0} (of_file : F → FileState) (of_port : R → PortState
 
   -- a reply that says why the change was not staged
   pub change_accuses : (Reliable : Type 0) (reply : Reply) → HasChangeCause before.file after.file before.number Reliable (draws was.entropy) (draws now.entropy) reply → AccusesRightly key d0 d1 reply
-  change_accuses Reliable (NotAvailable (Fault (File n) count)) cause =
-      let failed : FileFailed before.file after.file count = cause.1 in
-      let was_file : file_in slots n ≡ before.file = file_from of_file of_port draws store old new slots place before after was now are within stands same n cause.0 in
-      let now_file : file_in (slice_set slots place after) n ≡ after.file = file_to of_file of_port draws store old new slots place before after was now are within stands same n cause.0 in (
-        subst (λ (p : FileState × FileState). Rose (p.0).faults (p.1).faults) (λ i. (sym was_file i, sym now_file i)) failed.rose,
-        failed.carried ∙ ap (λ (f : FileState). f.faults) (sym now_file),
-      )
-  change_accuses Reliable (NotAvailable (Fault Entropy count)) cause = (cause.1, cause.2)
-  change_accuses Reliable (NotAvailable (Fault Dir count)) cause = absurd cause
-  change_accuses Reliable (NotAvailable (Fault Card count)) cause = absurd cause
-  change_accuses Reliable (NotAvailable (Frame fault)) cause = absurd cause
-  change_accuses Reliable (NotAvailable (CardResult result)) cause = absurd cause
-  change_accuses Reliable reply cause = tt
+  change_accuses Reliable reply cause =
+      change_accuses_file key d0 d1 before.number before.file after.file (λ n own. (
+        file_from of_file of_port draws store old new slots place before after was now are within stands same n own,
+        file_to of_file of_port draws store old new slots place before after was now are within stands same n own,
+      )) Reliable reply cause
 
   abbrev Knows : Type 0
   Knows = KnowsCard (of_port old.gate.host.port) old.gate.host.key key old.gate.counter

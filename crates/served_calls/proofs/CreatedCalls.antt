@@ -35,9 +35,8 @@ use Rattle.served_calls.specs.Devices.{AccusesRightly, CostsDoubt, Devices, Grow
 use Rattle.served_calls.specs.Ready.{KnowsCard}
 use Rattle.served_calls.specs.Slots.{AreSlots}
 use Rattle.served_calls.specs.Standing.{ServesObject, Serving, devices_in}
-use Rattle.served_calls.proofs.ChangedCalls.{change_accuses}
 use Rattle.served_calls.proofs.CommittedCalls.{committed_appends, committed_goes_on, committed_mark, committed_still, end_accuses, end_costs}
-use Rattle.served_calls.proofs.ToldCalls.{GatesGoOn, is_object_file, none_appended, quiet_goes_on, same_gate, serves_err, serves_ok}
+use Rattle.served_calls.proofs.ToldCalls.{GatesGoOn, file_from, file_to, is_object_file, none_appended, quiet_goes_on, same_gate, serves_err, serves_ok, told_accuses_file}
 
 -- the gate once the session holds that file
 abbrev pub reserved : {F R : Type 0} → (session file : ℕ) → LockedGateValue F R → LockedGateValue F R
@@ -77,6 +76,18 @@ unmade_still counter file old new Reliable drew draws (NotAvailable (Frame fault
 unmade_still counter file old new Reliable drew draws (NotAvailable (CardResult result)) cause reliable = absurd cause
 unmade_still counter file old new Reliable drew draws (CounterSpent last) cause reliable = cause.3
 unmade_still counter file old new Reliable drew draws reply cause reliable = absurd cause
+
+-- a reply that says why no object was made in the file of that number
+pub unmade_accuses_file : (key : List ℕ) (d0 d1 : Devices) (number : ℕ) (from to : FileState) → ((n : ℕ) → n ≡ number → (d0.file n ≡ from) × (d1.file n ≡ to)) → (counter : ℕ) (Reliable : Type 0) (reply : Reply)
+    → UnmadeCause counter number from to Reliable d0.draws d1.draws reply → AccusesRightly key d0 d1 reply
+unmade_accuses_file key d0 d1 number from to files counter Reliable (NotAvailable (Fault (File n) count)) cause =
+    told_accuses_file key d0 d1 number from to files (NotAvailable (Fault (File n) count)) (cause.0, cause.1)
+unmade_accuses_file key d0 d1 number from to files counter Reliable (NotAvailable (Fault Entropy count)) cause = (cause.1, cause.2)
+unmade_accuses_file key d0 d1 number from to files counter Reliable (NotAvailable (Fault Dir count)) cause = absurd cause
+unmade_accuses_file key d0 d1 number from to files counter Reliable (NotAvailable (Fault Card count)) cause = absurd cause
+unmade_accuses_file key d0 d1 number from to files counter Reliable (NotAvailable (Frame fault)) cause = absurd cause
+unmade_accuses_file key d0 d1 number from to files counter Reliable (NotAvailable (CardResult result)) cause = absurd cause
+unmade_accuses_file key d0 d1 number from to files counter Reliable reply cause = tt
 
 module _ {F R E : Type 0} (of_file : F → FileState) (of_port : R → PortState) (draws : E → ℕ) (store : Store) (old behind : LockedGateValue F R) (slots : List SlotValue) (place : ℕ) (before after : SlotValue)
     (was now : CallerSession E) (are : AreSlots slots) (within : place < length slots) (stands : before ≡ slice_index_or slots place before) (same : after.number ≡ before.number)
@@ -133,14 +144,11 @@ module _ {F R E : Type 0} (of_file : F → FileState) (of_port : R → PortState
 
   unmade_accuses : (counter : ℕ) (Reliable : Type 0) (reply : Reply) → UnmadeCause counter before.number before.file after.file Reliable (draws was.entropy) (draws now.entropy) reply
       → AccusesRightly key d0 d1 reply
-  unmade_accuses counter Reliable (NotAvailable (Fault (File n) count)) cause =
-      change_accuses of_file of_port draws store old new slots place before after was now are within stands same Reliable (NotAvailable (Fault (File n) count)) cause
-  unmade_accuses counter Reliable (NotAvailable (Fault Entropy count)) cause = (cause.1, cause.2)
-  unmade_accuses counter Reliable (NotAvailable (Fault Dir count)) cause = absurd cause
-  unmade_accuses counter Reliable (NotAvailable (Fault Card count)) cause = absurd cause
-  unmade_accuses counter Reliable (NotAvailable (Frame fault)) cause = absurd cause
-  unmade_accuses counter Reliable (NotAvailable (CardResult result)) cause = absurd cause
-  unmade_accuses counter Reliable reply cause = tt
+  unmade_accuses counter Reliable reply cause =
+      unmade_accuses_file key d0 d1 before.number before.file after.file (λ n own. (
+        file_from of_file of_port draws store old new slots place before after was now are within stands same n own,
+        file_to of_file of_port draws store old new slots place before after was now are within stands same n own,
+      )) counter Reliable reply cause
 
   unmade_appends : (call : Call) (answer : Answer) → IsToldUnmade store mid behind before.number was now call answer → AppendsCall store mid behind was now call answer
   unmade_appends call answer t = record {

@@ -1,5 +1,8 @@
 pub mod SlotLists
 pub mod Counting
+pub mod Rises
+pub mod Tellings
+pub mod CarriedCounts
 pub mod Cards
 pub mod ToldCalls
 pub mod CommittedCalls

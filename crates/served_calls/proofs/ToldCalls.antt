@@ -61,6 +61,46 @@ none_appended store old new was now caller same session = record {
 pub same_gate : {F R : Type 0} (old new : GateValue F R) → new ≡ old → new ≡ record old { open_handles = new.open_handles }
 same_gate old new same = subst (λ (g : GateValue _ _). g ≡ record old { open_handles = g.open_handles }) (sym same) refl
 
+-- the event of an answer that an object's file gave
+pub told_appends : {F R E : Type 0} (store : Store) (old new : LockedGateValue F R) (was now : CallerSession E) (file : ℕ) → IsObjectFile file → (call : Call) (answer : Answer)
+    → IsServed store old new was now file call answer → AppendsCall store old new was now call answer
+told_appends store old new was now file object call answer s = record {
+  mark = Unchanged;
+  extends = s.extends;
+  whole = s.whole;
+  made = s.made;
+  place = s.place;
+  last = s.last;
+  event = s.event;
+  tagged = λ other is_tag. subst IsObjectFile (some_number other (sym s.tagged ∙ is_tag)) object;
+  all = ap (λ (k : GateView). k.all) s.knows;
+}
+  where
+    some_number : (other : ℕ) → Some file ≡ Some other → file ≡ other
+    some_number other e = cc
+
+-- it changed nothing
+pub told_quiet : {F R E : Type 0} (store : Store) (old new : LockedGateValue F R) (was now : CallerSession E) (file : ℕ) (object : IsObjectFile file) (call : Call) (answer : Answer)
+    (s : IsServed store old new was now file call answer) → (key : List ℕ) (d0 d1 : Devices) → CostsDoubt key d0 d1 (told_appends store old new was now file object call answer s).mark
+unfolding told_appends
+told_quiet store old new was now file object call answer s key d0 d1 = tt
+
+-- a reply that an object's file gave
+pub told_accuses_file : (key : List ℕ) (d0 d1 : Devices) (number : ℕ) (from to : FileState) → ((n : ℕ) → n ≡ number → (d0.file n ≡ from) × (d1.file n ≡ to)) → (reply : Reply)
+    → HasToldCause from to number reply → AccusesRightly key d0 d1 reply
+told_accuses_file key d0 d1 number from to files (NotAvailable (Fault (File n) count)) told =
+    let failed : FileFailed from to count = told.1 in
+    let there = files n told.0 in (
+      subst (λ (p : FileState × FileState). Rose (p.0).faults (p.1).faults) (λ i. (sym there.0 i, sym there.1 i)) failed.rose,
+      failed.carried ∙ ap (λ (f : FileState). f.faults) (sym there.1),
+    )
+told_accuses_file key d0 d1 number from to files (NotAvailable (Fault Dir count)) told = absurd told
+told_accuses_file key d0 d1 number from to files (NotAvailable (Fault Card count)) told = absurd told
+told_accuses_file key d0 d1 number from to files (NotAvailable (Fault Entropy count)) told = absurd told
+told_accuses_file key d0 d1 number from to files (NotAvailable (Frame fault)) told = absurd told
+told_accuses_file key d0 d1 number from to files (NotAvailable (CardResult result)) told = absurd told
+told_accuses_file key d0 d1 number from to files reply told = tt
+
 -- One slot was used.
 module _ {F R E : Type 0} (of_file : F → FileState) (of_port : R → PortState) (draws : E → ℕ) (store : Store) (old new : LockedGateValue F R) (slots : List SlotValue) (place : ℕ) (before after : SlotValue)
     (was now : CallerSession E) (are : AreSlots slots) (within : place < length slots) (stands : before ≡ slice_index_or slots place before) (same : after.number ≡ before.number) where
@@ -104,17 +144,7 @@ module _ {F R E : Type 0} (of_file : F → FileState) (of_port : R → PortState
 
   -- a reply that the slot's file gave
   pub told_accuses : (reply : Reply) → HasToldCause before.file after.file before.number reply → AccusesRightly key d0 d1 reply
-  told_accuses (NotAvailable (Fault (File n) count)) told =
-      let failed : FileFailed before.file after.file count = told.1 in (
-        subst (λ (p : FileState × FileState). Rose (p.0).faults (p.1).faults) (λ i. (sym (file_from n told.0) i, sym (file_to n told.0) i)) failed.rose,
-        failed.carried ∙ ap (λ (f : FileState). f.faults) (sym (file_to n told.0)),
-      )
-  told_accuses (NotAvailable (Fault Dir count)) told = absurd told
-  told_accuses (NotAvailable (Fault Card count)) told = absurd told
-  told_accuses (NotAvailable (Fault Entropy count)) told = absurd told
-  told_accuses (NotAvailable (Frame fault)) told = absurd told
-  told_accuses (NotAvailable (CardResult result)) told = absurd told
-  told_accuses reply told = tt
+  told_accuses reply told = told_accuses_file key d0 d1 before.number before.file after.file (λ n own. (file_from n own, file_to n own)) reply told
 
   pub serves_ok : (call : Call) (answer : Answer) → (appends : AppendsCall store old new was now call answer) → AccusesRightly key d0 d1 answer.reply → CostsDoubt key d0 d1 appends.mark
       → GatesGoOn of_file of_port draws key old.gate new.gate was now → FileGoesOn before.file after.file → (X : Type 0)
@@ -128,25 +158,12 @@ module _ {F R E : Type 0} (of_file : F → FileState) (of_port : R → PortState
 
   -- the event of an answer that the slot's file gave
   pub served_appends : (call : Call) (answer : Answer) → IsServed store old new was now before.number call answer → AppendsCall store old new was now call answer
-  served_appends call answer s = record {
-    mark = Unchanged;
-    extends = s.extends;
-    whole = s.whole;
-    made = s.made;
-    place = s.place;
-    last = s.last;
-    event = s.event;
-    tagged = λ file is_tag. subst IsObjectFile (some_number file (sym s.tagged ∙ is_tag)) is_object_file;
-    all = ap (λ (k : GateView). k.all) s.knows;
-  }
-    where
-      some_number : (file : ℕ) → Some before.number ≡ Some file → before.number ≡ file
-      some_number file e = cc
+  served_appends call answer s = told_appends store old new was now before.number is_object_file call answer s
 
   -- it changed nothing
   pub served_quiet : (call : Call) (answer : Answer) (s : IsServed store old new was now before.number call answer) → CostsDoubt key d0 d1 (served_appends call answer s).mark
   unfolding served_appends
-  served_quiet call answer s = tt
+  served_quiet call answer s = told_quiet store old new was now before.number is_object_file call answer s key d0 d1
 
   -- memory ran out before anything was done
   pub stays_serves : (call : Call) (X : Type 0) (e : X) → (new ≡ old) × (now ≡ was) → IsCallerOf store was → FileGoesOn before.file after.file

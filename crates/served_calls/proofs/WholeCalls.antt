@@ -142,7 +142,7 @@ module _ {F R E : Type 0} (of_file : F → FileState) (of_port : R → PortState
 -- A call that the gate answered alone, or memory ran out.
 module _ {F R E : Type 0} (of_file : F → FileState) (of_port : R → PortState) (draws : E → ℕ) (store : Store) (first old new : LockedGateValue F R) (slots : List SlotValue) (was now : CallerSession E)
     (ready : old.gate ≡ record first.gate { open_handles = old.gate.open_handles; room = old.gate.room }) (knows : old.journal.knows ≡ first.journal.knows) (Reliable : Type 0)
-    (are : AreSlots slots) (drawn : draws was.entropy ≤ draws now.entropy)
+    (drawn : draws was.entropy ≤ draws now.entropy)
     (keyed : first.gate.host.key ≡ card_key store) (stands : DoubtStands (gate_sides of_file of_port first.gate) first.gate.doubt) where
   abbrev from : Serving F R E
   from = record { gate = first; slots = slots; session = was }
@@ -156,7 +156,7 @@ module _ {F R E : Type 0} (of_file : F → FileState) (of_port : R → PortState
   abbrev d2 : Devices
   d2 = devices_in of_file of_port draws to
 
-  alone_goes_on : (between : LockedGateValue F R) → Settles of_file of_port (card_key store) first between → new.gate ≡ record between.gate { open_handles = new.gate.open_handles } → DevicesGoOn (card_key store) d1 d2
+  pub alone_goes_on : (between : LockedGateValue F R) → Settles of_file of_port (card_key store) first between → new.gate ≡ record between.gate { open_handles = new.gate.open_handles } → DevicesGoOn (card_key store) d1 d2
   alone_goes_on between s same = record {
     dir = subst (λ (g : GateValue F R). FileGoesOn (of_file first.gate.dir.file) (of_file g.dir.file)) (sym same) s.dir;
     file = λ n. goes_on_none (file_in slots n);
@@ -197,21 +197,21 @@ module _ {F R E : Type 0} (of_file : F → FileState) (of_port : R → PortState
   misuse_accuses (NotAvailable cause) is = cc
   misuse_accuses reply is = tt
 
-  precedes_accuses : (between : LockedGateValue F R) (reply : Reply) → Precedes of_file of_port Reliable (draws was.entropy) (draws now.entropy) old between reply
+  pub precedes_accuses : (between : LockedGateValue F R) (reply : Reply) → Precedes of_file of_port Reliable (draws was.entropy) (draws now.entropy) old between reply
       → new.gate ≡ record between.gate { open_handles = new.gate.open_handles } → AccusesRightly (card_key store) d1 d2 reply
   precedes_accuses between reply (Misused same is) gate = misuse_accuses reply is
   precedes_accuses between reply (Ruled settled plain) gate = plain_accuses (card_key store) d1 d2 reply plain
   precedes_accuses between reply (HeldUp cause stays is) gate = subst (AccusesRightly (card_key store) d1 d2) (sym is) (doubt_accuses between cause stays gate)
 
-  precedes_settles : (between : LockedGateValue F R) (reply : Reply) → Precedes of_file of_port Reliable (draws was.entropy) (draws now.entropy) old between reply → Settles of_file of_port (card_key store) old between
+  pub precedes_settles : (between : LockedGateValue F R) (reply : Reply) → Precedes of_file of_port Reliable (draws was.entropy) (draws now.entropy) old between reply → Settles of_file of_port (card_key store) old between
   precedes_settles between reply (Misused same is) = same_settles of_file of_port (card_key store) old between same
   precedes_settles between reply (Ruled settled plain) = settled_settles of_file of_port (card_key store) old between settled
   precedes_settles between reply (HeldUp cause stays is) = stays_settles of_file of_port (card_key store) Reliable (draws was.entropy) (draws now.entropy) old between cause stays
 
-  pub alone_serves : (call : Call) (answer : Answer) (X : Type 0) → IsServedAlone of_file of_port Reliable (draws was.entropy) (draws now.entropy) store call answer old new was now
+  pub alone_serves : AreSlots slots → (call : Call) (answer : Answer) (X : Type 0) → IsServedAlone of_file of_port Reliable (draws was.entropy) (draws now.entropy) store call answer old new was now
       → ServesCall of_file of_port draws {X = X} store from to call (Ok answer)
   unfolding appends_goes_on ruled_appends
-  alone_serves call answer X s =
+  alone_serves are call answer X s =
       let settled : Settles of_file of_port (card_key store) first s.between = reserved_settles of_file of_port (card_key store) first old s.between ready knows (precedes_settles s.between answer.reply s.precedes) in
       let a : AppendsCall store s.between new was now call answer = ruled_appends store s.between new was now call answer s.served in
       record {
@@ -225,23 +225,27 @@ module _ {F R E : Type 0} (of_file : F → FileState) (of_port : R → PortState
         devices = alone_goes_on s.between settled s.served.gate;
       }
 
+  -- what became of the doubt, as memory ran out
+  pub unserved_settles : IsUnserved of_file of_port Reliable (draws was.entropy) (draws now.entropy) store old new was now → Settles of_file of_port (card_key store) first new
+  unserved_settles u =
+      reserved_settles of_file of_port (card_key store) first old new ready knows (elim u.gate [
+        | inl same ↦ same_settles of_file of_port (card_key store) old new same
+        | inr other ↦ elim other [
+          | inl w ↦ was_settles of_file of_port (card_key store) old new w
+          | inr doubt ↦ stays_settles of_file of_port (card_key store) Reliable (draws was.entropy) (draws now.entropy) old new doubt.0 doubt.1
+        ]
+      ])
+
   -- the gate as memory ran out
-  pub none_serves : (call : Call) (X : Type 0) (e : X) → Settles of_file of_port (card_key store) first new → IsCallerOf store now → now.number ≡ was.number → now.made ≡ was.made → GoesOn store was now
+  pub none_serves : AreSlots slots → (call : Call) (X : Type 0) (e : X) → Settles of_file of_port (card_key store) first new → IsCallerOf store now → now.number ≡ was.number → now.made ≡ was.made → GoesOn store was now
       → ServesCall of_file of_port draws {X = X} store from to call (Err e)
-  none_serves call X e settled caller number made goes_on = record {
+  none_serves are call X e settled caller number made goes_on = record {
     answers = none_goes_on of_file of_port draws store first new new was now settled caller number made goes_on refl;
     slots = are;
     tagged = settled.tagged;
     devices = alone_goes_on new settled refl;
   }
 
-  pub unserved_serves : (call : Call) (X : Type 0) (e : X) → IsUnserved of_file of_port Reliable (draws was.entropy) (draws now.entropy) store old new was now
+  pub unserved_serves : AreSlots slots → (call : Call) (X : Type 0) (e : X) → IsUnserved of_file of_port Reliable (draws was.entropy) (draws now.entropy) store old new was now
       → ServesCall of_file of_port draws {X = X} store from to call (Err e)
-  unserved_serves call X e u =
-      none_serves call X e (reserved_settles of_file of_port (card_key store) first old new ready knows (elim u.gate [
-        | inl same ↦ same_settles of_file of_port (card_key store) old new same
-        | inr other ↦ elim other [
-          | inl w ↦ was_settles of_file of_port (card_key store) old new w
-          | inr doubt ↦ stays_settles of_file of_port (card_key store) Reliable (draws was.entropy) (draws now.entropy) old new doubt.0 doubt.1
-        ]
-      ])) u.caller u.number u.made u.goes_on
+  unserved_serves are call X e u = none_serves are call X e (unserved_settles u) u.caller u.number u.made u.goes_on

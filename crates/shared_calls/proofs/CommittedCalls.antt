@@ -14,9 +14,9 @@ use Rattle.suppositions.specs.Sessions.{Extends}
 use Rattle.suppositions.specs.Stores.{Store}
 use Rattle.tee_types.specs.declared.call.Call.{Call}
 use Rattle.tee_types.specs.declared.reply.Reply.{Reply}
-use Rattle.shared_calls.specs.Counts.{Grows}
+use Rattle.served_calls.specs.Devices.{Grows}
 use Rattle.shared_calls.specs.Rounds.{IsAnswered}
-use Rattle.shared_calls.proofs.Counting.{end-grows, end-still, grows-le, grows-then}
+use Rattle.served_calls.proofs.Counting.{end_grows, end_still, grows_grows, grows_le}
 
 module _ {F R E : Type 0} (of_file : F → FileState) (of_port : R → PortState) (draws : E → ℕ) (store : Store) (old new : LockedGateValue F R) (file : ℕ) (was now : CallerSession E) (call : Call) (own : Reply)
     (change : EntryChange) (Reliable : Type 0) (answer : Answer) (c : IsCommitted of_file of_port store old new file was now call own change Reliable (draws was.entropy) (draws now.entropy) answer) where
@@ -39,8 +39,8 @@ module _ {F R E : Type 0} (of_file : F → FileState) (of_port : R → PortState
   -- since a count that was no higher
   pub committed-grows : (first : ℕ) → first ≤ draws was.entropy → Grows first (draws now.entropy)
   committed-grows first counted =
-      grows-then first (draws was.entropy) (draws now.entropy) (grows-le first (draws was.entropy) counted) (end-grows before behind c.end c.gate.counts_are)
+      grows_grows first (draws was.entropy) (draws now.entropy) (grows_le first (draws was.entropy) counted) (end_grows before behind c.end c.gate.counts_are).draws
 
   -- where no generator that never fails was used, its count stands still
   pub committed-still : Reliable → draws now.entropy ≡ draws was.entropy
-  committed-still reliable = end-still before behind c.end (c.gate.drawn reliable) c.gate.counts_are
+  committed-still reliable = end_still before behind c.end (c.gate.drawn reliable) c.gate.counts_are

@@ -4,9 +4,20 @@ pub mod GivenVersions
 pub mod ReadObjects
 pub mod DescribedObjects
 pub mod OpenedObjects
-pub mod Counting
 pub mod CommittedCalls
 pub mod FinishedCreates
 pub mod StagedSlots
 pub mod StageCounts
 pub mod ChangedCalls
+mod AnsweredSlots
+mod RefusedCalls
+mod HeldFiles
+mod ShownSlots
+mod MadeObjects
+mod SparedGates
+mod CarriedRounds
+mod KeptGates
+mod KeptCalls
+pub mod KeptSlots
+mod CarriedDraws
+mod KeptAnswers

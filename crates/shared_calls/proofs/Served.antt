@@ -1,6 +1,7 @@
--- What an object's slot served, as a call that was answered.
+-- What the rules, or an object's slot, served, as a call that was answered.
 use Rattle.std.proofs.Common.{ℕ}
 use Rattle.call_history.specs.Sessions.{CallerSession}
+use Rattle.gate_calls.specs.Served.{IsServed as IsServedByRules}
 use Rattle.locked_gate.specs.declared.answered.Answer.{Answer}
 use Rattle.locked_gate.specs.LockedGates.{LockedGateValue}
 use Rattle.object_answers.specs.Served.{IsServed}
@@ -9,6 +10,9 @@ use Rattle.suppositions.specs.Stores.{Store}
 use Rattle.tee_types.specs.declared.call.Call.{Call}
 use Rattle.shared_calls.specs.Rounds.{IsAnswered}
 
-pub slot-answers : {E F R : Type 0} (store : Store) (call : Call) (was now : CallerSession E) (answer : Answer) (old new : LockedGateValue F R) (file : ℕ) → IsServed store old new was now file call answer
-    → IsAnswered store was now call answer
-slot-answers store call was now answer old new file s = record { mark = Unchanged; extends = s.extends; whole = s.whole; number = s.extends.number; made = s.made }
+module _ {E F R : Type 0} (store : Store) (call : Call) (was now : CallerSession E) (answer : Answer) (old new : LockedGateValue F R) where
+  pub slot-answers : (file : ℕ) → IsServed store old new was now file call answer → IsAnswered store was now call answer
+  slot-answers file s = record { mark = Unchanged; extends = s.extends; whole = s.whole; number = s.extends.number; made = s.made }
+
+  pub ruled-answers : IsServedByRules store call answer old new was now → IsAnswered store was now call answer
+  ruled-answers s = record { mark = Unchanged; extends = s.extends; whole = s.caller; number = s.number; made = s.made }

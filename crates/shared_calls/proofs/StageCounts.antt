@@ -1,17 +1,18 @@
--- How the stage of a change counts the faults of the session's entropy, and what it leaves of the session.
-use Rattle.std.proofs.Common.{◌≡◌, ℕ, Err, IfOk, Ok, OnErr, Result, ap, inl, inr, refl}
+-- How the stage of a change counts the faults of the file and of the session's entropy, and what it leaves of the session.
+use Rattle.std.proofs.Common.{◌≡◌, [], ℕ, Err, IfOk, Ok, OnErr, Result, ap, inl, refl}
 use Rattle.call_history.specs.Sessions.{CallerSession, IsCallerOf}
 use Rattle.change_calls.specs.Causes.{HasChangeCause, HasStageCause}
 use Rattle.change_calls.specs.declared.staged.Staged.{Staged}
 use Rattle.change_calls.specs.declared.staged.Staged.TheVariants.{Root, Unstaged}
 use Rattle.disk_model.specs.State.{FileState}
 use Rattle.suppositions.specs.Stores.{Store}
-use Rattle.tee_types.specs.declared.reply.Cause.TheVariants.{Fault}
-use Rattle.tee_types.specs.declared.reply.Device.TheVariants.{Entropy, File}
 use Rattle.tee_types.specs.declared.reply.Reply.{Reply}
-use Rattle.tee_types.specs.declared.reply.Reply.TheVariants.{NotAvailable}
-use Rattle.shared_calls.specs.Counts.{Grows}
+use Rattle.served_calls.specs.Devices.{AccusesRightly, Devices, Grows}
+use Rattle.served_calls.proofs.ChangedCalls.{change_accuses_file, change_drawn, change_still}
+use Rattle.shared_calls.specs.Changing.{CarriesStaged}
+use Rattle.shared_calls.specs.Names.{no_devices}
 use Rattle.shared_calls.specs.Rounds.{IsWaiting}
+use Rattle.shared_calls.proofs.CarriedDraws.{carries-accused}
 
 -- a session whose entropy drew waits still
 pub drawn-waits : {E : Type 0} (store : Store) (was : CallerSession E) (entropy : E) → IsCallerOf store was → IsWaiting store was (record was { entropy = entropy })
@@ -22,29 +23,34 @@ drawn-waits store was entropy whole = record {
   goes_on = λ after event place e. e;
 }
 
+-- the devices of a stage: a file and the session's entropy
+abbrev pub of_stage : FileState → (draws : ℕ) → Devices
+of_stage file draws = record no_devices { file = λ number. file; draws = draws }
+
+-- the reply accuses one of them, if any
+pub change-accuses : (from to : FileState) (number : ℕ) (Reliable : Type 0) (drew draws : ℕ) (reply : Reply) → HasChangeCause from to number Reliable drew draws reply
+    → AccusesRightly [] (of_stage from drew) (of_stage to draws) reply
+change-accuses from to number Reliable drew draws reply cause =
+    change_accuses_file [] (of_stage from drew) (of_stage to draws) number from to (λ n own. (refl, refl)) Reliable reply cause
+
 module _ {E : Type 0} (reliable : E → Type 0) (faults : E → ℕ) (from to : FileState) (number : ℕ) (was now : E) where
   abbrev Causes : Staged → Type 0
   Causes staged = HasStageCause from to number (reliable was) (faults was) (faults now) staged
 
-  reply-grows : (reply : Reply) → HasChangeCause from to number (reliable was) (faults was) (faults now) reply → Grows (faults was) (faults now)
-  reply-grows (NotAvailable (Fault (File n) count)) cause = inl cause.2
-  reply-grows (NotAvailable (Fault Entropy count)) cause = inr cause.1
-  reply-grows (NotAvailable other) cause = absurd cause
-  reply-grows reply cause = inl cause.1
-
-  reply-still : (reply : Reply) → HasChangeCause from to number (reliable was) (faults was) (faults now) reply → reliable was → faults now ≡ faults was
-  reply-still (NotAvailable (Fault (File n) count)) cause is = cause.2
-  reply-still (NotAvailable (Fault Entropy count)) cause is = absurd (cause.3 is)
-  reply-still (NotAvailable other) cause is = absurd cause
-  reply-still reply cause is = cause.1
-
   pub stage-grows : {X : Type 0} (result : Result Staged X) → IfOk result Causes → OnErr result (now ≡ was) → Grows (faults was) (faults now)
   stage-grows (Ok (Root root)) cause undrawn = inl cause.1
-  stage-grows (Ok (Unstaged reply)) cause undrawn = reply-grows reply cause
+  stage-grows (Ok (Unstaged reply)) cause undrawn = change_drawn from to number (reliable was) (faults was) (faults now) reply cause
   stage-grows (Err none) cause undrawn = inl (ap faults undrawn)
 
   -- one that never fails counts none
   pub stage-still : {X : Type 0} (result : Result Staged X) → IfOk result Causes → OnErr result (now ≡ was) → reliable was → faults now ≡ faults was
   stage-still (Ok (Root root)) cause undrawn is = cause.1
-  stage-still (Ok (Unstaged reply)) cause undrawn is = reply-still reply cause is
+  stage-still (Ok (Unstaged reply)) cause undrawn is = change_still from to number (reliable was) (faults was) (faults now) reply cause is
   stage-still (Err none) cause undrawn is = ap faults undrawn
+
+  -- a reply that accuses the entropy carries its count
+  pub stage-carries : {X : Type 0} (result : Result Staged X) → IfOk result Causes → IfOk result (CarriesStaged (faults was) (faults now))
+  stage-carries (Ok (Root root)) cause = tt
+  stage-carries (Ok (Unstaged reply)) cause =
+      carries-accused [] (of_stage from (faults was)) (of_stage to (faults now)) reply (change-accuses from to number (reliable was) (faults was) (faults now) reply cause)
+  stage-carries (Err none) cause = tt

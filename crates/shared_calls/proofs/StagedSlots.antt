@@ -1,9 +1,11 @@
 -- A slot in whose file a change was staged, or that tells why it was not.
-use Rattle.std.proofs.Common.{◌≡◌, ◌∙◌, ℕ, Err, IfOk, None, Ok, Option, Result, ap, subst, sym}
+use Rattle.std.proofs.Common.{◌≡◌, ◌∙◌, [], ℕ, Err, IfOk, List, MatchResult, None, Ok, Option, Result, ap, inl, subst, sym}
+use Rattle.change_calls.specs.Causes.{HasStageCause}
 use Rattle.change_calls.specs.declared.staged.Staged.{Staged}
 use Rattle.change_calls.specs.declared.staged.Staged.TheVariants.{Root, Unstaged}
 use Rattle.change_calls.specs.Staging.{DataCall, StagesChange}
 use Rattle.dir_records.specs.declared.entry.DirEntry.{DirEntry}
+use Rattle.disk_model.specs.Calls.{GoesOn}
 use Rattle.history_seats.specs.Records.{Version}
 use Rattle.locked_slots.proofs.Contents.{gives_seat, settled_now}
 use Rattle.locked_slots.specs.Fills.{GivesEntry}
@@ -12,9 +14,17 @@ use Rattle.locked_slots.specs.Reads.{GivesVersion}
 use Rattle.node_image.specs.declared.node.RootRef.{RootRef}
 use Rattle.object_slots.specs.Value.{HasStage, SlotValue, without_stage}
 use Rattle.suppositions.specs.Stores.{Store}
+use Rattle.tee_types.specs.declared.reply.Device.TheVariants.{File}
 use Rattle.tee_types.specs.declared.reply.Reply.{Reply}
-use Rattle.shared_calls.specs.Changing.{HasStaged}
+use Rattle.served_calls.specs.Counts.{Rise, told_of}
+use Rattle.served_calls.specs.Devices.{Devices}
+use Rattle.served_calls.proofs.Counting.{grows_le}
+use Rattle.served_calls.proofs.Tellings.{Rise-told_of}
+use Rattle.shared_calls.specs.Changing.{HasStaged, told_staged}
+use Rattle.shared_calls.specs.Kept.{KeepsSlot}
 use Rattle.shared_calls.proofs.GivenVersions.{gives-moved}
+use Rattle.shared_calls.proofs.KeptSlots.{keeps-called, keeps-moved, keeps-untold}
+use Rattle.shared_calls.proofs.StageCounts.{change-accuses, of_stage}
 
 module _ {X : Type 0} (store : Store) (old new : SlotValue) (e : DirEntry) (asked : DataCall) (locked : IsLockedSlot store old) (given : GivesEntry old e)
     (same : new ≡ record old { file = new.file; holds = new.holds }) (base : IsLockedSlot store (record new { holds = without_stage new.holds })) where
@@ -27,6 +37,24 @@ module _ {X : Type 0} (store : Store) (old new : SlotValue) (e : DirEntry) (aske
     stages = stages given.version given.gives;
   }
   has-staged (Err none) stages = tt
+
+-- The reply carries what the file counted, where nothing was staged.
+module _ (before : Devices) (old new : SlotValue) (same : new ≡ record old { file = new.file; holds = new.holds }) (goes_on : GoesOn old.file new.file) (k : KeepsSlot before old []) where
+  number : new.number ≡ old.number
+  number = ap (λ (s : SlotValue). s.number) same
+
+  called : (told : List ℕ) → Rise old.file.faults new.file.faults told → KeepsSlot before new told
+  called told rise = keeps-called before old new number told (ap (λ (s : SlotValue). s.seat) same) goes_on rise k
+
+  pub stage-keeps : {X : Type 0} (Reliable : Type 0) (drew draws : ℕ) (result : Result Staged X) → IfOk result (HasStageCause old.file new.file old.number Reliable drew draws)
+      → MatchResult result (λ staged. KeepsSlot before new (told_staged new.number staged)) (λ none. KeepsSlot before new [])
+  stage-keeps Reliable drew draws (Ok (Root root)) cause = called [] (inl (cause.0).faults)
+  stage-keeps Reliable drew draws (Ok (Unstaged reply)) cause =
+      subst (λ (n : ℕ). KeepsSlot before new (told_of (File n) reply)) (sym number)
+      (called (told_of (File old.number) reply)
+      (Rise-told_of [] (of_stage old.file drew) (of_stage new.file draws) (File old.number) reply (change-accuses old.file new.file old.number Reliable drew draws reply cause)
+      (grows_le old.file.faults new.file.faults goes_on.faults)))
+  stage-keeps Reliable drew draws (Err none) cause = called [] (grows_le old.file.faults new.file.faults goes_on.faults)
 
 -- What was staged may be given up.
 module _ (store : Store) (old : SlotValue) (asked : DataCall) (staged : Staged) (has : HasStaged store old asked staged) where
@@ -42,3 +70,8 @@ module _ (store : Store) (old : SlotValue) (asked : DataCall) (staged : Staged) 
   -- or it may so as it is
   pub unstaged-locked : (reply : Reply) → staged ≡ Unstaged reply → IsLockedSlot store old
   unstaged-locked reply is = (subst (StagesChange store old has.version asked) is has.stages).locked
+
+-- A slot whose stage is given up keeps what always holds, whatever reply is not appended.
+pub given-up-keeps : (before : Devices) (old new : SlotValue) (then : List ℕ) → new ≡ record old { holds = without_stage old.holds; doubt = None } → KeepsSlot before old then → KeepsSlot before new []
+given-up-keeps before old new then is k =
+    keeps-moved before old new (ap (λ (s : SlotValue). s.number) is) [] (ap (λ (s : SlotValue). s.file) is) (ap (λ (s : SlotValue). s.seat) is) (keeps-untold before old then k)

@@ -1,3 +1,4 @@
+pub mod Names
 pub mod Rounds
 pub mod Ready
 pub mod Looks
@@ -9,3 +10,4 @@ pub mod Naming
 pub mod Creating
 pub mod Counts
 pub mod Changing
+pub mod Kept

@@ -1,6 +1,7 @@
 -- What a look of a call at the gate leaves of its session.
 use Rattle.std.specs.Prelude.{Err, Ok, Result}
 use Rattle.call_history.specs.Sessions.{CallerSession}
+use Rattle.locked_gate.specs.declared.answered.Answer.{Answer}
 use Rattle.suppositions.specs.Stores.{Store}
 use Rattle.tee_types.specs.declared.call.Call.{Call}
 use Rattle.shared_calls.specs.declared.look.Look.{Look}
@@ -20,3 +21,10 @@ IfFound (Ok (Found found)) says = says found
 IfFound (Ok Again) says = Unit {0}
 IfFound (Ok (Answered answer)) says = Unit {0}
 IfFound (Err none) says = Unit {0}
+
+-- it answered the call, and of the answer this holds; or nothing is said
+abbrev pub IfAnswered : {T X : Type 0} → Result (Look T) X → (Answer → Type 0) → Type 0
+IfAnswered (Ok (Answered answer)) says = says answer
+IfAnswered (Ok (Found found)) says = Unit {0}
+IfAnswered (Ok Again) says = Unit {0}
+IfAnswered (Err none) says = Unit {0}

@@ -1,14 +1,17 @@
 //! How each look of a call at the gate begins.
 
-ghost use Rattle.std.specs.Prelude.{◌≡◌, ◌≤◌, true, IfOk, IsNone};
+ghost use Rattle.std.specs.Prelude.{◌≡◌, ◌≤◌, true, IfOk, IsNone, IfSome};
 ghost use Rattle.call_history.specs.Sessions.{IsCallerOf};
 ghost use Rattle.gate_calls.specs.Rulings.{is_on_object};
 ghost use Rattle.shared_calls.specs.Ready.{IsReady};
 ghost use Rattle.shared_calls.specs.Rounds.{EndsRound};
+ghost use Rattle.shared_calls.specs.Counts.{CarriesDraws};
 
+use crate::gate::SharedGate;
+use crate::names::DevicesName;
 use call_history::Session;
 use gate_calls::answer_alone;
-use locked_gate::{Answer, LockedGate};
+use locked_gate::Answer;
 use rpmb_card::RpmbPort;
 use std::alloc::Global;
 use suppositions::StoreName;
@@ -21,9 +24,14 @@ use tee_types::{Call, NoMemory};
 /// # Errors
 ///
 /// Memory ran out. The session has no event more.
-pub(crate) fn begin<F: StoreFile + Drop, R: RpmbPort + Drop, L: StoreName, E: Entropy>(
+pub(crate) fn begin<
+    F: StoreFile + Drop,
+    R: RpmbPort + Drop,
+    L: StoreName + DevicesName,
+    E: Entropy,
+>(
     alloc: Global,
-    gate: &mut LockedGate<F, R, L>,
+    gate: &mut SharedGate<F, R, L>,
     session: &mut Session<E>,
     call: &Call,
 ) -> Result<Option<Answer>, NoMemory>
@@ -34,11 +42,16 @@ pub(crate) fn begin<F: StoreFile + Drop, R: RpmbPort + Drop, L: StoreName, E: En
     ensures counted { E.faults session.old.entropy ≤ E.faults session.new.entropy }
     ensures reliable { E.is_reliable session.old.entropy → E.is_reliable session.new.entropy }
     ensures still { E.is_reliable session.old.entropy → E.faults session.new.entropy ≡ E.faults session.old.entropy }
+    // Where the call is left to an object's file, the session's entropy counted no fault.
+    ensures undrawn { IfOk result (λ answer. IsNone answer → E.faults session.new.entropy ≡ E.faults session.old.entropy) }
+    ensures drawn { IfOk result (λ found. IfSome found (λ answer. CarriesDraws (E.faults session.old.entropy) (E.faults session.new.entropy) answer.reply)) }
 {
-    gate.reserve()?;
-    if let Some(answer) = answer_alone(alloc, gate, session, call)? {
+    // Tells how the gate and the card stand to each other.
+    let _doubt = gate.gate.doubt();
+    gate.gate.reserve()?;
+    if let Some(answer) = answer_alone(alloc, &mut gate.gate, session, call)? {
         return Ok(Some(answer));
     }
-    gate.reserve()?;
+    gate.gate.reserve()?;
     Ok(None)
 }

@@ -1,6 +1,6 @@
 //! TEE_CreatePersistentObject, with the gate's lock taken for each look alone.
 
-ghost use Rattle.std.specs.Prelude.{◌≡◌, ◌≤◌, ℕ, length, true, IfOk, IfSome, IsNone, IsSome, OnErr};
+ghost use Rattle.std.specs.Prelude.{◌≡◌, ◌≤◌, ℕ, length, true, IfOk, IfSome, IsNone, IsSome, OnErr, MatchResult, []};
 ghost use Rattle.tee_types.specs.declared.call.Call.TheVariants.{Create};
 ghost use Rattle.hmac_keys.specs.KeyTable.{ssk};
 ghost use Rattle.locked_slots.specs.LockedSlots.{IsLockedSlot};
@@ -9,14 +9,18 @@ ghost use Rattle.create_calls.specs.Clearing.{IsClearSlot};
 ghost use Rattle.create_calls.specs.Finished.{MayTellIfUnmade};
 ghost use Rattle.create_calls.specs.Reserving.{IsReserved};
 ghost use Rattle.create_calls.specs.Rules.{MayCreate};
-ghost use Rattle.shared_calls.specs.Counts.{Grows};
-ghost use Rattle.shared_calls.specs.Creating.{AccusesAtMost, HasMade};
-ghost use Rattle.shared_calls.specs.Looks.{EndsLook, IfFound};
+ghost use Rattle.served_calls.specs.Devices.{Grows};
+ghost use Rattle.shared_calls.specs.Creating.{AccusesAtMost, HasMade, CarriesMade, told_made};
+ghost use Rattle.shared_calls.specs.Looks.{EndsLook, IfAnswered, IfFound};
 ghost use Rattle.shared_calls.specs.Ready.{IsReady};
 ghost use Rattle.shared_calls.specs.Rounds.{EndsRound, IsAnswered, IsWaiting};
+ghost use Rattle.shared_calls.specs.Kept.{KeepsSlot};
+ghost use Rattle.shared_calls.specs.Counts.{CarriesDraws};
 
 use crate::beginning::begin;
+use crate::gate::SharedGate;
 use crate::look::Look;
+use crate::names::DevicesName;
 use call_history::Session;
 use call_rules::{Decision, NewPlace};
 use create_calls::{
@@ -24,7 +28,7 @@ use create_calls::{
 };
 use gate_calls::answer_ruled;
 use hmac_keys::tsk;
-use locked_gate::{Answer, LockedGate};
+use locked_gate::Answer;
 use locked_slots::LockedSlot;
 use node_image::RootRef;
 use object_slots::Slot;
@@ -36,9 +40,9 @@ use tee_ports::{Entropy, StoreFile};
 use tee_types::{Bytes, Call, Flags, NoMemory, ObjectId};
 
 // What the rules make of a Create at the gate: its answer, or the place of the entry of its object. `call` is that Create.
-fn rule<F: StoreFile + Drop, R: RpmbPort + Drop, L: StoreName, E: Entropy>(
+fn rule<F: StoreFile + Drop, R: RpmbPort + Drop, L: StoreName + DevicesName, E: Entropy>(
     alloc: Global,
-    gate: &mut LockedGate<F, R, L>,
+    gate: &mut SharedGate<F, R, L>,
     session: &mut Session<E>,
     call: &Call,
     id: ObjectId,
@@ -55,14 +59,16 @@ fn rule<F: StoreFile + Drop, R: RpmbPort + Drop, L: StoreName, E: Entropy>(
     ensures counted { E.faults session.old.entropy ≤ E.faults session.new.entropy }
     ensures reliable { E.is_reliable session.old.entropy → E.is_reliable session.new.entropy }
     ensures still { E.is_reliable session.old.entropy → E.faults session.new.entropy ≡ E.faults session.old.entropy }
+    ensures undrawn { IfFound result (λ place. E.faults session.new.entropy ≡ E.faults session.old.entropy) }
+    ensures drawn { IfAnswered result (λ answer. CarriesDraws (E.faults session.old.entropy) (E.faults session.new.entropy) answer.reply) }
 {
     if let Some(answer) = begin(alloc, gate, session, call)? {
         return Ok(Look::Answered(answer));
     }
-    match call_rules::create(&*gate, session.state(), id, flags, attributes, bytes) {
+    match call_rules::create(&gate.gate, session.state(), id, flags, attributes, bytes) {
         Decision::Answered(reply) => {
             let kept = call.copy(alloc)?;
-            Ok(Look::Answered(answer_ruled(gate, session, kept, reply)))
+            Ok(Look::Answered(answer_ruled(&mut gate.gate, session, kept, reply)))
         }
         Decision::Needs(place) => Ok(Look::Found(place)),
     }
@@ -70,9 +76,9 @@ fn rule<F: StoreFile + Drop, R: RpmbPort + Drop, L: StoreName, E: Entropy>(
 
 // What a Create finds at the gate: its answer, or the place of the entry of its object. Then the gate is ready for it. The session holds no
 // file any more, unless a commit is in doubt. `call` is that Create.
-fn look<F: StoreFile + Drop, R: RpmbPort + Drop, L: StoreName, E: Entropy>(
+fn look<F: StoreFile + Drop, R: RpmbPort + Drop, L: StoreName + DevicesName, E: Entropy>(
     alloc: Global,
-    gate: &mut LockedGate<F, R, L>,
+    gate: &mut SharedGate<F, R, L>,
     session: &mut Session<E>,
     call: &Call,
     id: ObjectId,
@@ -90,10 +96,12 @@ fn look<F: StoreFile + Drop, R: RpmbPort + Drop, L: StoreName, E: Entropy>(
     ensures counted { E.faults session.old.entropy ≤ E.faults session.new.entropy }
     ensures reliable { E.is_reliable session.old.entropy → E.is_reliable session.new.entropy }
     ensures still { E.is_reliable session.old.entropy → E.faults session.new.entropy ≡ E.faults session.old.entropy }
+    ensures undrawn { IfFound result (λ place. E.faults session.new.entropy ≡ E.faults session.old.entropy) }
+    ensures drawn { IfAnswered result (λ answer. CarriesDraws (E.faults session.old.entropy) (E.faults session.new.entropy) answer.reply) }
 {
     let number = session.number();
     let looked = rule(alloc, gate, session, call, id, flags, attributes, bytes);
-    give_back(gate, number);
+    give_back(&mut gate.gate, number);
     looked
 }
 
@@ -103,9 +111,14 @@ fn look<F: StoreFile + Drop, R: RpmbPort + Drop, L: StoreName, E: Entropy>(
 /// # Errors
 ///
 /// Memory ran out. The session has no event more.
-pub(crate) fn look_for_file<F: StoreFile + Drop, R: RpmbPort + Drop, L: StoreName, E: Entropy>(
+pub(crate) fn look_for_file<
+    F: StoreFile + Drop,
+    R: RpmbPort + Drop,
+    L: StoreName + DevicesName,
+    E: Entropy,
+>(
     alloc: Global,
-    gate: &mut LockedGate<F, R, L>,
+    gate: &mut SharedGate<F, R, L>,
     session: &mut Session<E>,
     call: &Call,
     id: ObjectId,
@@ -121,40 +134,43 @@ pub(crate) fn look_for_file<F: StoreFile + Drop, R: RpmbPort + Drop, L: StoreNam
     ensures counted { E.faults session.old.entropy ≤ E.faults session.new.entropy }
     ensures reliable { E.is_reliable session.old.entropy → E.is_reliable session.new.entropy }
     ensures still { E.is_reliable session.old.entropy → E.faults session.new.entropy ≡ E.faults session.old.entropy }
+    ensures drawn { IfAnswered result (λ answer. CarriesDraws (E.faults session.old.entropy) (E.faults session.new.entropy) answer.reply) }
 {
     match look(alloc, gate, session, call, id, flags, attributes, bytes)? {
         Look::Answered(answer) => Ok(Look::Answered(answer)),
-        Look::Found(_place) => Ok(Look::Found(reserve(gate, session))),
+        Look::Found(_place) => Ok(Look::Found(reserve(&mut gate.gate, session))),
         Look::Again => Ok(Look::Again),
     }
 }
 
 // Clears the slot, where it is that of the least free file, which the session holds then; and gives the card's counter. None where the slot
 // is another file's, which stays as it is.
-fn clear_slot<F: StoreFile + Drop, R: RpmbPort + Drop, L: StoreName, E: Entropy>(
-    gate: &mut LockedGate<F, R, L>,
+fn clear_slot<F: StoreFile + Drop, R: RpmbPort + Drop, L: StoreName + DevicesName, E: Entropy>(
+    gate: &mut SharedGate<F, R, L>,
     slot: &mut Slot<F>,
     session: &mut Session<E>,
 ) -> Option<u32>
     requires ready { IsReady L.store gate.old session.old }
     requires few { length L.store.mounted.applications ≤ 16 }
     requires locked { IsLockedSlot L.store slot.old }
+    requires kept { KeepsSlot L.devices slot.old [] }
     ensures session { session.new ≡ session.old }
     ensures clear { IsSome result → IsClearSlot L.store slot.new }
     ensures locked { IsLockedSlot L.store slot.new }
+    ensures kept { KeepsSlot L.devices slot.new [] }
 {
-    if reserve(gate, session) != slot.number() {
-        give_back(gate, session.number());
+    if reserve(&mut gate.gate, session) != slot.number() {
+        give_back(&mut gate.gate, session.number());
         return None;
     }
-    clear(gate, slot, session);
-    Some(gate.counter())
+    clear(&mut gate.gate, slot, session);
+    Some(gate.gate.counter())
 }
 
 // The first look: the slot is cleared, so that the object may be made in it. Gives the card's counter.
-fn look_first<F: StoreFile + Drop, R: RpmbPort + Drop, L: StoreName, E: Entropy>(
+fn look_first<F: StoreFile + Drop, R: RpmbPort + Drop, L: StoreName + DevicesName, E: Entropy>(
     alloc: Global,
-    gate: &mut LockedGate<F, R, L>,
+    gate: &mut SharedGate<F, R, L>,
     slot: &mut Slot<F>,
     session: &mut Session<E>,
     call: &Call,
@@ -167,6 +183,7 @@ fn look_first<F: StoreFile + Drop, R: RpmbPort + Drop, L: StoreName, E: Entropy>
     requires few { length L.store.mounted.applications ≤ 16 }
     requires locked { IsLockedSlot L.store slot.old }
     requires call { call.now ≡ Create id flags attributes.now bytes.now }
+    requires kept { KeepsSlot L.devices slot.old [] }
     ensures ends { EndsLook L.store session.old session.new (Create id flags attributes.now bytes.now) result }
     ensures clear { IfFound result (λ counter. IsClearSlot L.store slot.new) }
     ensures fits { IfFound result (λ counter. (length attributes.now ≤ 2048) × (length bytes.now ≤ 1044480)) }
@@ -174,6 +191,8 @@ fn look_first<F: StoreFile + Drop, R: RpmbPort + Drop, L: StoreName, E: Entropy>
     ensures counted { E.faults session.old.entropy ≤ E.faults session.new.entropy }
     ensures reliable { E.is_reliable session.old.entropy → E.is_reliable session.new.entropy }
     ensures still { E.is_reliable session.old.entropy → E.faults session.new.entropy ≡ E.faults session.old.entropy }
+    ensures kept { KeepsSlot L.devices slot.new [] }
+    ensures drawn { IfAnswered result (λ answer. CarriesDraws (E.faults session.old.entropy) (E.faults session.new.entropy) answer.reply) }
 {
     match look(alloc, gate, session, call, id, flags, attributes, bytes)? {
         Look::Answered(answer) => return Ok(Look::Answered(answer)),
@@ -187,7 +206,7 @@ fn look_first<F: StoreFile + Drop, R: RpmbPort + Drop, L: StoreName, E: Entropy>
 }
 
 // Makes the object in the slot, unless the card's counter, which stands there, is at its end. The gate's lock is not taken.
-fn make_slot<F: StoreFile + Drop, L: StoreName, E: Entropy>(
+fn make_slot<F: StoreFile + Drop, L: StoreName + DevicesName, E: Entropy>(
     alloc: Global,
     counter: u32,
     slot: &mut Slot<F>,
@@ -200,12 +219,15 @@ fn make_slot<F: StoreFile + Drop, L: StoreName, E: Entropy>(
     requires clear { IsClearSlot L.store slot.old }
     requires keyed { storage_key.now ≡ ssk L.store.keys.huk L.store.keys.chip }
     requires fits { (length attributes.now ≤ 2048) × (length bytes.now ≤ 1044480) }
+    requires kept { KeepsSlot L.devices slot.old [] }
     ensures waits { IsWaiting L.store session.old session.new }
     ensures made { IfOk result (HasMade L.store slot.new session.new.state.application attributes.now bytes.now) }
     ensures locked { OnErr result (IsLockedSlot L.store slot.new) }
     ensures counted { Grows (E.faults session.old.entropy) (E.faults session.new.entropy) }
     ensures reliable { E.is_reliable session.old.entropy → E.is_reliable session.new.entropy }
     ensures still { E.is_reliable session.old.entropy → E.faults session.new.entropy ≡ E.faults session.old.entropy }
+    ensures kept { MatchResult result (λ made. KeepsSlot L.devices slot.new (told_made slot.new.number made)) (λ none. KeepsSlot L.devices slot.new []) }
+    ensures drawn { IfOk result (CarriesMade (E.faults session.old.entropy) (E.faults session.new.entropy)) }
 {
     let key = tsk(storage_key, &session.app().bytes());
     make_unless_spent::<F, L, E>(alloc, counter, slot, session, &key, attributes, bytes)
@@ -223,8 +245,8 @@ fn may_tell(counter: u32, made: &Result<RootRef, Unmade>) -> bool
 
 // Brings the object that was made to the gate, or tells why there is none, where the slot is that of the least free file still. Else the
 // object goes, and the call has to begin again. Behind it the session holds no file, unless the commit is in doubt.
-fn finish_slot<F: StoreFile + Drop, R: RpmbPort + Drop, L: StoreName, E: Entropy>(
-    gate: &mut LockedGate<F, R, L>,
+fn finish_slot<F: StoreFile + Drop, R: RpmbPort + Drop, L: StoreName + DevicesName, E: Entropy>(
+    gate: &mut SharedGate<F, R, L>,
     slot: &mut Slot<F>,
     session: &mut Session<E>,
     place: &NewPlace,
@@ -241,31 +263,45 @@ fn finish_slot<F: StoreFile + Drop, R: RpmbPort + Drop, L: StoreName, E: Entropy
         (record { id = id; flags = flags; attributes = attributes.now; bytes = bytes.now }) place.now }
     requires call { call ≡ Create id flags attributes.now bytes.now }
     requires made { HasMade L.store slot.old session.old.state.application attributes.now bytes.now made }
+    requires kept { KeepsSlot L.devices slot.old (told_made slot.old.number made) }
     ensures answered { IfSome result (IsAnswered L.store session.old session.new (Create id flags attributes.now bytes.now)) }
     ensures waits { IsNone result → session.new ≡ session.old }
     ensures locked { IsLockedSlot L.store slot.new }
     ensures counted { Grows (E.faults session.old.entropy) (E.faults session.new.entropy) }
     ensures reliable { E.is_reliable session.old.entropy → E.is_reliable session.new.entropy }
     ensures still { E.is_reliable session.old.entropy → E.faults session.new.entropy ≡ E.faults session.old.entropy }
+    ensures kept { KeepsSlot L.devices slot.new [] }
+    ensures drawn { (first : ℕ) → Grows first (E.faults session.old.entropy) → CarriesMade first (E.faults session.old.entropy) made → IfSome result (λ answer. CarriesDraws first (E.faults session.new.entropy) answer.reply) }
 {
     let number = session.number();
-    let file = reserve(gate, session);
-    if file != slot.number() || !may_tell(gate.counter(), &made) {
-        give_back(gate, number);
+    let file = reserve(&mut gate.gate, session);
+    if file != slot.number() || !may_tell(gate.gate.counter(), &made) {
+        give_back(&mut gate.gate, number);
         give_up::<F, L>(slot);
         return None;
     }
+    // Tells how the gate and the card stand to each other.
+    let _doubt = gate.gate.doubt();
     let answer = finish(
-        gate, slot, session, place, call, id, flags, attributes, bytes, made,
+        &mut gate.gate,
+        slot,
+        session,
+        place,
+        call,
+        id,
+        flags,
+        attributes,
+        bytes,
+        made,
     );
-    give_back(gate, number);
+    give_back(&mut gate.gate, number);
     Some(answer)
 }
 
 // The last look: where the rules let the create pass still, it ends with what making the object gave; else the object goes.
-fn look_last<F: StoreFile + Drop, R: RpmbPort + Drop, L: StoreName, E: Entropy>(
+fn look_last<F: StoreFile + Drop, R: RpmbPort + Drop, L: StoreName + DevicesName, E: Entropy>(
     alloc: Global,
-    gate: &mut LockedGate<F, R, L>,
+    gate: &mut SharedGate<F, R, L>,
     slot: &mut Slot<F>,
     session: &mut Session<E>,
     call: Call,
@@ -279,11 +315,14 @@ fn look_last<F: StoreFile + Drop, R: RpmbPort + Drop, L: StoreName, E: Entropy>(
     requires few { length L.store.mounted.applications ≤ 16 }
     requires call { call ≡ Create id flags attributes.now bytes.now }
     requires made { HasMade L.store slot.old session.old.state.application attributes.now bytes.now made }
+    requires kept { KeepsSlot L.devices slot.old (told_made slot.old.number made) }
     ensures ends { EndsRound L.store session.old session.new (Create id flags attributes.now bytes.now) result }
     ensures locked { IsLockedSlot L.store slot.new }
     ensures counted { Grows (E.faults session.old.entropy) (E.faults session.new.entropy) }
     ensures reliable { E.is_reliable session.old.entropy → E.is_reliable session.new.entropy }
     ensures still { E.is_reliable session.old.entropy → E.faults session.new.entropy ≡ E.faults session.old.entropy }
+    ensures kept { KeepsSlot L.devices slot.new [] }
+    ensures drawn { (first : ℕ) → Grows first (E.faults session.old.entropy) → CarriesMade first (E.faults session.old.entropy) made → IfOk result (λ found. IfSome found (λ answer. CarriesDraws first (E.faults session.new.entropy) answer.reply)) }
 {
     let place = match look(alloc, gate, session, &call, id, flags, attributes, bytes) {
         Ok(Look::Found(place)) => place,
@@ -306,10 +345,16 @@ fn look_last<F: StoreFile + Drop, R: RpmbPort + Drop, L: StoreName, E: Entropy>(
 }
 
 // A round with the slot itself, which has a stage between the looks.
-fn round_slot<W: Wait, F: StoreFile + Drop, R: RpmbPort + Drop, L: StoreName, E: Entropy>(
+fn round_slot<
+    W: Wait,
+    F: StoreFile + Drop,
+    R: RpmbPort + Drop,
+    L: StoreName + DevicesName,
+    E: Entropy,
+>(
     rt: &W,
     alloc: Global,
-    gate: &Mutex<LockedGate<F, R, L>>,
+    gate: &Mutex<SharedGate<F, R, L>>,
     slot: &mut Slot<F>,
     storage_key: &[u8; 32],
     session: &mut Session<E>,
@@ -322,11 +367,14 @@ fn round_slot<W: Wait, F: StoreFile + Drop, R: RpmbPort + Drop, L: StoreName, E:
     requires few { length L.store.mounted.applications ≤ 16 }
     requires keyed { storage_key.now ≡ ssk L.store.keys.huk L.store.keys.chip }
     requires locked { IsLockedSlot L.store slot.old }
+    requires kept { KeepsSlot L.devices slot.old [] }
     ensures ends { EndsRound L.store session.old session.new (Create id flags attributes.now bytes.now) result }
     ensures locked { IsLockedSlot L.store slot.new }
     ensures counted { Grows (E.faults session.old.entropy) (E.faults session.new.entropy) }
     ensures reliable { E.is_reliable session.old.entropy → E.is_reliable session.new.entropy }
     ensures still { E.is_reliable session.old.entropy → E.faults session.new.entropy ≡ E.faults session.old.entropy }
+    ensures kept { KeepsSlot L.devices slot.new [] }
+    ensures drawn { IfOk result (λ found. IfSome found (λ answer. CarriesDraws (E.faults session.old.entropy) (E.faults session.new.entropy) answer.reply)) }
 {
     let call = call_of(alloc, id, flags, attributes, bytes)?;
     let looked = look_first(
@@ -374,10 +422,16 @@ fn round_slot<W: Wait, F: StoreFile + Drop, R: RpmbPort + Drop, L: StoreName, E:
 /// # Errors
 ///
 /// Memory ran out. The session has no event more.
-pub(crate) fn round<W: Wait, F: StoreFile + Drop, R: RpmbPort + Drop, L: StoreName, E: Entropy>(
+pub(crate) fn round<
+    W: Wait,
+    F: StoreFile + Drop,
+    R: RpmbPort + Drop,
+    L: StoreName + DevicesName,
+    E: Entropy,
+>(
     rt: &W,
     alloc: Global,
-    gate: &Mutex<LockedGate<F, R, L>>,
+    gate: &Mutex<SharedGate<F, R, L>>,
     slot: &mut LockedSlot<F, L>,
     storage_key: &[u8; 32],
     session: &mut Session<E>,
@@ -389,10 +443,13 @@ pub(crate) fn round<W: Wait, F: StoreFile + Drop, R: RpmbPort + Drop, L: StoreNa
     requires caller { IsCallerOf L.store session.old }
     requires few { length L.store.mounted.applications ≤ 16 }
     requires keyed { storage_key.now ≡ ssk L.store.keys.huk L.store.keys.chip }
+    requires kept { KeepsSlot L.devices slot.old [] }
     ensures ends { EndsRound L.store session.old session.new (Create id flags attributes.now bytes.now) result }
     ensures counted { Grows (E.faults session.old.entropy) (E.faults session.new.entropy) }
     ensures reliable { E.is_reliable session.old.entropy → E.is_reliable session.new.entropy }
     ensures still { E.is_reliable session.old.entropy → E.faults session.new.entropy ≡ E.faults session.old.entropy }
+    ensures kept { KeepsSlot L.devices slot.new [] }
+    ensures drawn { IfOk result (λ found. IfSome found (λ answer. CarriesDraws (E.faults session.old.entropy) (E.faults session.new.entropy) answer.reply)) }
 {
     round_slot(
         rt,

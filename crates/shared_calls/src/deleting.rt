@@ -1,19 +1,23 @@
 //! TEE_CloseAndDeletePersistentObject1, at one look at the gate.
 
-ghost use Rattle.std.specs.Prelude.{◌≡◌, ◌≤◌};
+ghost use Rattle.std.specs.Prelude.{◌≡◌, ◌≤◌, IfSome, IfOk, []};
 ghost use Rattle.call_history.specs.Sessions.{IsCallerOf};
-ghost use Rattle.shared_calls.specs.Counts.{Grows};
-ghost use Rattle.shared_calls.specs.Looks.{EndsLook, IfFound};
+ghost use Rattle.served_calls.specs.Devices.{Grows};
+ghost use Rattle.shared_calls.specs.Looks.{EndsLook, IfAnswered, IfFound};
 ghost use Rattle.shared_calls.specs.Naming.{MayDelete};
 ghost use Rattle.shared_calls.specs.Ready.{IsReady};
 ghost use Rattle.shared_calls.specs.Rounds.{EndsRound};
+ghost use Rattle.shared_calls.specs.Kept.{KeepsSlot};
+ghost use Rattle.shared_calls.specs.Counts.{CarriesDraws};
 
 use crate::beginning::begin;
+use crate::gate::SharedGate;
 use crate::look::Look;
+use crate::names::DevicesName;
 use call_history::Session;
 use call_rules::{Decision, OpenObject};
 use gate_calls::answer_ruled;
-use locked_gate::{Answer, LockedGate};
+use locked_gate::Answer;
 use locked_slots::LockedSlot;
 use rpmb_card::RpmbPort;
 use std::alloc::Global;
@@ -23,9 +27,9 @@ use tee_ports::{Entropy, StoreFile};
 use tee_types::{Call, NoMemory};
 
 // What a Delete finds at the gate: its answer, or the object that it deletes. Then the gate is ready for it.
-fn look<F: StoreFile + Drop, R: RpmbPort + Drop, L: StoreName, E: Entropy>(
+fn look<F: StoreFile + Drop, R: RpmbPort + Drop, L: StoreName + DevicesName, E: Entropy>(
     alloc: Global,
-    gate: &mut LockedGate<F, R, L>,
+    gate: &mut SharedGate<F, R, L>,
     session: &mut Session<E>,
     handle: u32,
 ) -> Result<Look<OpenObject>, NoMemory>
@@ -36,13 +40,19 @@ fn look<F: StoreFile + Drop, R: RpmbPort + Drop, L: StoreName, E: Entropy>(
     ensures counted { E.faults session.old.entropy ≤ E.faults session.new.entropy }
     ensures reliable { E.is_reliable session.old.entropy → E.is_reliable session.new.entropy }
     ensures still { E.is_reliable session.old.entropy → E.faults session.new.entropy ≡ E.faults session.old.entropy }
+    ensures drawn { IfAnswered result (λ answer. CarriesDraws (E.faults session.old.entropy) (E.faults session.new.entropy) answer.reply) }
 {
     let call = Call::Delete { handle };
     if let Some(answer) = begin(alloc, gate, session, &call)? {
         return Ok(Look::Answered(answer));
     }
-    match call_rules::delete(&*gate, session.state(), handle) {
-        Decision::Answered(reply) => Ok(Look::Answered(answer_ruled(gate, session, call, reply))),
+    match call_rules::delete(&gate.gate, session.state(), handle) {
+        Decision::Answered(reply) => Ok(Look::Answered(answer_ruled(
+            &mut gate.gate,
+            session,
+            call,
+            reply,
+        ))),
         Decision::Needs(found) => Ok(Look::Found(found)),
     }
 }
@@ -52,9 +62,14 @@ fn look<F: StoreFile + Drop, R: RpmbPort + Drop, L: StoreName, E: Entropy>(
 /// # Errors
 ///
 /// Memory ran out. The session has no event more.
-pub(crate) fn file_of<F: StoreFile + Drop, R: RpmbPort + Drop, L: StoreName, E: Entropy>(
+pub(crate) fn file_of<
+    F: StoreFile + Drop,
+    R: RpmbPort + Drop,
+    L: StoreName + DevicesName,
+    E: Entropy,
+>(
     alloc: Global,
-    gate: &mut LockedGate<F, R, L>,
+    gate: &mut SharedGate<F, R, L>,
     session: &mut Session<E>,
     handle: u32,
 ) -> Result<Look<u16>, NoMemory>
@@ -63,6 +78,7 @@ pub(crate) fn file_of<F: StoreFile + Drop, R: RpmbPort + Drop, L: StoreName, E: 
     ensures counted { E.faults session.old.entropy ≤ E.faults session.new.entropy }
     ensures reliable { E.is_reliable session.old.entropy → E.is_reliable session.new.entropy }
     ensures still { E.is_reliable session.old.entropy → E.faults session.new.entropy ≡ E.faults session.old.entropy }
+    ensures drawn { IfAnswered result (λ answer. CarriesDraws (E.faults session.old.entropy) (E.faults session.new.entropy) answer.reply) }
 {
     match look(alloc, gate, session, handle)? {
         Look::Answered(answer) => Ok(Look::Answered(answer)),
@@ -72,18 +88,21 @@ pub(crate) fn file_of<F: StoreFile + Drop, R: RpmbPort + Drop, L: StoreName, E: 
 }
 
 // The one look: the object is deleted, where the slot is its file's.
-fn delete_held<F: StoreFile + Drop, R: RpmbPort + Drop, L: StoreName, E: Entropy>(
+fn delete_held<F: StoreFile + Drop, R: RpmbPort + Drop, L: StoreName + DevicesName, E: Entropy>(
     alloc: Global,
-    gate: &mut LockedGate<F, R, L>,
+    gate: &mut SharedGate<F, R, L>,
     slot: &mut LockedSlot<F, L>,
     session: &mut Session<E>,
     handle: u32,
 ) -> Result<Option<Answer>, NoMemory>
     requires caller { IsCallerOf L.store session.old }
+    requires kept { KeepsSlot L.devices slot.old [] }
     ensures ends { EndsRound L.store session.old session.new (Call.Delete handle) result }
     ensures counted { Grows (E.faults session.old.entropy) (E.faults session.new.entropy) }
     ensures reliable { E.is_reliable session.old.entropy → E.is_reliable session.new.entropy }
     ensures still { E.is_reliable session.old.entropy → E.faults session.new.entropy ≡ E.faults session.old.entropy }
+    ensures kept { KeepsSlot L.devices slot.new [] }
+    ensures drawn { IfOk result (λ found. IfSome found (λ answer. CarriesDraws (E.faults session.old.entropy) (E.faults session.new.entropy) answer.reply)) }
 {
     let found = match look(alloc, gate, session, handle)? {
         Look::Answered(answer) => return Ok(Some(answer)),
@@ -93,7 +112,9 @@ fn delete_held<F: StoreFile + Drop, R: RpmbPort + Drop, L: StoreName, E: Entropy
     if found.held.entry.file != slot.number() {
         return Ok(None);
     }
-    Ok(Some(name_calls::delete(gate, slot, session, &found, handle)))
+    // Tells how the gate and the card stand to each other.
+    let _doubt = gate.gate.doubt();
+    Ok(Some(name_calls::delete(&mut gate.gate, slot, session, &found, handle)))
 }
 
 /// A round of a Delete, with the lock of the slot of its object's file: one look at the gate. None where the call has to begin again.
@@ -101,19 +122,28 @@ fn delete_held<F: StoreFile + Drop, R: RpmbPort + Drop, L: StoreName, E: Entropy
 /// # Errors
 ///
 /// Memory ran out. The session has no event more.
-pub(crate) fn round<W: Wait, F: StoreFile + Drop, R: RpmbPort + Drop, L: StoreName, E: Entropy>(
+pub(crate) fn round<
+    W: Wait,
+    F: StoreFile + Drop,
+    R: RpmbPort + Drop,
+    L: StoreName + DevicesName,
+    E: Entropy,
+>(
     rt: &W,
     alloc: Global,
-    gate: &Mutex<LockedGate<F, R, L>>,
+    gate: &Mutex<SharedGate<F, R, L>>,
     slot: &mut LockedSlot<F, L>,
     session: &mut Session<E>,
     handle: u32,
 ) -> Result<Option<Answer>, NoMemory>
     requires caller { IsCallerOf L.store session.old }
+    requires kept { KeepsSlot L.devices slot.old [] }
     ensures ends { EndsRound L.store session.old session.new (Call.Delete handle) result }
     ensures counted { Grows (E.faults session.old.entropy) (E.faults session.new.entropy) }
     ensures reliable { E.is_reliable session.old.entropy → E.is_reliable session.new.entropy }
     ensures still { E.is_reliable session.old.entropy → E.faults session.new.entropy ≡ E.faults session.old.entropy }
+    ensures kept { KeepsSlot L.devices slot.new [] }
+    ensures drawn { IfOk result (λ found. IfSome found (λ answer. CarriesDraws (E.faults session.old.entropy) (E.faults session.new.entropy) answer.reply)) }
 {
     delete_held(alloc, &mut gate.lock(rt), slot, session, handle)
 }

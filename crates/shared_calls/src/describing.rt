@@ -1,23 +1,29 @@
 //! TEE_GetObjectInfo1, with the gate's lock taken for each look alone.
 
-ghost use Rattle.std.specs.Prelude.{◌≡◌, ◌≤◌, IfOk};
+ghost use Rattle.std.specs.Prelude.{◌≡◌, ◌≤◌, IfOk, IfSome, MatchResult, []};
 ghost use Rattle.hmac_keys.specs.KeyTable.{ssk};
 ghost use Rattle.call_history.specs.Sessions.{IsCallerOf};
 ghost use Rattle.call_rules.specs.Objects.{IsOpenObject};
 ghost use Rattle.shared_calls.specs.Describing.{HasDescribed};
-ghost use Rattle.shared_calls.specs.Looks.{EndsLook, IfFound};
+ghost use Rattle.shared_calls.specs.Looks.{EndsLook, IfAnswered, IfFound};
 ghost use Rattle.shared_calls.specs.Meeting.{MayLoad};
 ghost use Rattle.shared_calls.specs.Ready.{IsReady};
 ghost use Rattle.shared_calls.specs.Rounds.{EndsRound};
+ghost use Rattle.shared_calls.specs.Kept.{KeepsSlot};
+ghost use Rattle.shared_calls.specs.Counts.{CarriesDraws};
+ghost use Rattle.served_calls.specs.Counts.{told_of};
+ghost use Rattle.tee_types.specs.declared.reply.Device.TheVariants.{File};
 
 use crate::beginning::begin;
+use crate::gate::SharedGate;
 use crate::look::Look;
 use crate::meeting::meet_held;
+use crate::names::DevicesName;
 use call_history::Session;
 use call_rules::{Decision, OpenObject};
 use gate_calls::answer_ruled;
 use hmac_keys::tsk;
-use locked_gate::{Answer, LockedGate};
+use locked_gate::Answer;
 use locked_slots::LockedSlot;
 use object_answers::{answer_info, describe_object};
 use rpmb_card::RpmbPort;
@@ -29,9 +35,9 @@ use tee_ports::{Entropy, StoreFile};
 use tee_types::{Call, NoMemory, Reply};
 
 // What an Info finds at the gate: its answer, or the object that it tells of. Then the gate is ready for it.
-fn look<F: StoreFile + Drop, R: RpmbPort + Drop, L: StoreName, E: Entropy>(
+fn look<F: StoreFile + Drop, R: RpmbPort + Drop, L: StoreName + DevicesName, E: Entropy>(
     alloc: Global,
-    gate: &mut LockedGate<F, R, L>,
+    gate: &mut SharedGate<F, R, L>,
     session: &mut Session<E>,
     handle: u32,
 ) -> Result<Look<OpenObject>, NoMemory>
@@ -42,13 +48,19 @@ fn look<F: StoreFile + Drop, R: RpmbPort + Drop, L: StoreName, E: Entropy>(
     ensures counted { E.faults session.old.entropy ≤ E.faults session.new.entropy }
     ensures reliable { E.is_reliable session.old.entropy → E.is_reliable session.new.entropy }
     ensures still { E.is_reliable session.old.entropy → E.faults session.new.entropy ≡ E.faults session.old.entropy }
+    ensures drawn { IfAnswered result (λ answer. CarriesDraws (E.faults session.old.entropy) (E.faults session.new.entropy) answer.reply) }
 {
     let call = Call::Info { handle };
     if let Some(answer) = begin(alloc, gate, session, &call)? {
         return Ok(Look::Answered(answer));
     }
-    match call_rules::info(&*gate, session.state(), handle) {
-        Decision::Answered(reply) => Ok(Look::Answered(answer_ruled(gate, session, call, reply))),
+    match call_rules::info(&gate.gate, session.state(), handle) {
+        Decision::Answered(reply) => Ok(Look::Answered(answer_ruled(
+            &mut gate.gate,
+            session,
+            call,
+            reply,
+        ))),
         Decision::Needs(found) => Ok(Look::Found(found)),
     }
 }
@@ -58,9 +70,14 @@ fn look<F: StoreFile + Drop, R: RpmbPort + Drop, L: StoreName, E: Entropy>(
 /// # Errors
 ///
 /// Memory ran out. The session has no event more.
-pub(crate) fn file_of<F: StoreFile + Drop, R: RpmbPort + Drop, L: StoreName, E: Entropy>(
+pub(crate) fn file_of<
+    F: StoreFile + Drop,
+    R: RpmbPort + Drop,
+    L: StoreName + DevicesName,
+    E: Entropy,
+>(
     alloc: Global,
-    gate: &mut LockedGate<F, R, L>,
+    gate: &mut SharedGate<F, R, L>,
     session: &mut Session<E>,
     handle: u32,
 ) -> Result<Look<u16>, NoMemory>
@@ -69,6 +86,7 @@ pub(crate) fn file_of<F: StoreFile + Drop, R: RpmbPort + Drop, L: StoreName, E: 
     ensures counted { E.faults session.old.entropy ≤ E.faults session.new.entropy }
     ensures reliable { E.is_reliable session.old.entropy → E.is_reliable session.new.entropy }
     ensures still { E.is_reliable session.old.entropy → E.faults session.new.entropy ≡ E.faults session.old.entropy }
+    ensures drawn { IfAnswered result (λ answer. CarriesDraws (E.faults session.old.entropy) (E.faults session.new.entropy) answer.reply) }
 {
     match look(alloc, gate, session, handle)? {
         Look::Answered(answer) => Ok(Look::Answered(answer)),
@@ -78,19 +96,22 @@ pub(crate) fn file_of<F: StoreFile + Drop, R: RpmbPort + Drop, L: StoreName, E: 
 }
 
 // The first look: the object's slot is shown the history, so that the object may be loaded.
-fn look_first<F: StoreFile + Drop, R: RpmbPort + Drop, L: StoreName, E: Entropy>(
+fn look_first<F: StoreFile + Drop, R: RpmbPort + Drop, L: StoreName + DevicesName, E: Entropy>(
     alloc: Global,
-    gate: &mut LockedGate<F, R, L>,
+    gate: &mut SharedGate<F, R, L>,
     slot: &mut LockedSlot<F, L>,
     session: &mut Session<E>,
     handle: u32,
 ) -> Result<Look<OpenObject>, NoMemory>
     requires caller { IsCallerOf L.store session.old }
+    requires kept { KeepsSlot L.devices slot.old [] }
     ensures ends { EndsLook L.store session.old session.new (Call.Info handle) result }
     ensures loads { IfFound result (λ found. MayLoad slot.new found.held.entry) }
     ensures counted { E.faults session.old.entropy ≤ E.faults session.new.entropy }
     ensures reliable { E.is_reliable session.old.entropy → E.is_reliable session.new.entropy }
     ensures still { E.is_reliable session.old.entropy → E.faults session.new.entropy ≡ E.faults session.old.entropy }
+    ensures kept { KeepsSlot L.devices slot.new [] }
+    ensures drawn { IfAnswered result (λ answer. CarriesDraws (E.faults session.old.entropy) (E.faults session.new.entropy) answer.reply) }
 {
     let found = match look(alloc, gate, session, handle)? {
         Look::Found(found) => found,
@@ -103,9 +124,9 @@ fn look_first<F: StoreFile + Drop, R: RpmbPort + Drop, L: StoreName, E: Entropy>
 }
 
 // The last look: what is known of the object is appended, where it is told by the same position and the same flags still, of the same file.
-fn look_last<F: StoreFile + Drop, R: RpmbPort + Drop, L: StoreName, E: Entropy>(
+fn look_last<F: StoreFile + Drop, R: RpmbPort + Drop, L: StoreName + DevicesName, E: Entropy>(
     alloc: Global,
-    gate: &mut LockedGate<F, R, L>,
+    gate: &mut SharedGate<F, R, L>,
     slot: &mut LockedSlot<F, L>,
     session: &mut Session<E>,
     handle: u32,
@@ -116,10 +137,13 @@ fn look_last<F: StoreFile + Drop, R: RpmbPort + Drop, L: StoreName, E: Entropy>(
     requires caller { IsCallerOf L.store session.old }
     requires copied { told ≡ reply }
     requires described { HasDescribed L.store slot.old by reply }
+    requires kept { KeepsSlot L.devices slot.old (told_of (File slot.old.number) reply) }
     ensures ends { EndsRound L.store session.old session.new (Call.Info handle) result }
     ensures counted { E.faults session.old.entropy ≤ E.faults session.new.entropy }
     ensures reliable { E.is_reliable session.old.entropy → E.is_reliable session.new.entropy }
     ensures still { E.is_reliable session.old.entropy → E.faults session.new.entropy ≡ E.faults session.old.entropy }
+    ensures kept { KeepsSlot L.devices slot.new [] }
+    ensures drawn { IfOk result (λ found. IfSome found (λ answer. CarriesDraws (E.faults session.old.entropy) (E.faults session.new.entropy) answer.reply)) }
 {
     let found = match look(alloc, gate, session, handle)? {
         Look::Answered(answer) => return Ok(Some(answer)),
@@ -132,11 +156,19 @@ fn look_last<F: StoreFile + Drop, R: RpmbPort + Drop, L: StoreName, E: Entropy>(
     if !meet_held(gate, slot, session, &found.held) {
         return Ok(None);
     }
-    Ok(Some(answer_info(gate, &mut slot.slot, session, &found, handle, reply, told)))
+    Ok(Some(answer_info(
+        &mut gate.gate,
+        &mut slot.slot,
+        session,
+        &found,
+        handle,
+        reply,
+        told,
+    )))
 }
 
 // Tells what is known of the slot's object. The gate's lock is not taken.
-fn describe_slot<F: StoreFile + Drop, L: StoreName>(
+fn describe_slot<F: StoreFile + Drop, L: StoreName + DevicesName>(
     alloc: Global,
     slot: &mut LockedSlot<F, L>,
     storage_key: &[u8; 32],
@@ -144,7 +176,9 @@ fn describe_slot<F: StoreFile + Drop, L: StoreName>(
 ) -> Result<Reply, NoMemory>
     requires loads { MayLoad slot.old found.now.held.entry }
     requires keyed { storage_key.now ≡ ssk L.store.keys.huk L.store.keys.chip }
+    requires kept { KeepsSlot L.devices slot.old [] }
     ensures described { IfOk result (HasDescribed L.store slot.new found.now.handle) }
+    ensures kept { MatchResult result (λ reply. KeepsSlot L.devices slot.new (told_of (File slot.new.number) reply)) (λ none. KeepsSlot L.devices slot.new []) }
 {
     let key = tsk(storage_key, &found.held.entry.app.bytes());
     describe_object::<F, L>(alloc, &mut slot.slot, &found.held.entry, &key, found.handle)
@@ -156,10 +190,16 @@ fn describe_slot<F: StoreFile + Drop, L: StoreName>(
 /// # Errors
 ///
 /// Memory ran out. The session has no event more.
-pub(crate) fn round<W: Wait, F: StoreFile + Drop, R: RpmbPort + Drop, L: StoreName, E: Entropy>(
+pub(crate) fn round<
+    W: Wait,
+    F: StoreFile + Drop,
+    R: RpmbPort + Drop,
+    L: StoreName + DevicesName,
+    E: Entropy,
+>(
     rt: &W,
     alloc: Global,
-    gate: &Mutex<LockedGate<F, R, L>>,
+    gate: &Mutex<SharedGate<F, R, L>>,
     slot: &mut LockedSlot<F, L>,
     storage_key: &[u8; 32],
     session: &mut Session<E>,
@@ -167,10 +207,13 @@ pub(crate) fn round<W: Wait, F: StoreFile + Drop, R: RpmbPort + Drop, L: StoreNa
 ) -> Result<Option<Answer>, NoMemory>
     requires caller { IsCallerOf L.store session.old }
     requires keyed { storage_key.now ≡ ssk L.store.keys.huk L.store.keys.chip }
+    requires kept { KeepsSlot L.devices slot.old [] }
     ensures ends { EndsRound L.store session.old session.new (Call.Info handle) result }
     ensures counted { E.faults session.old.entropy ≤ E.faults session.new.entropy }
     ensures reliable { E.is_reliable session.old.entropy → E.is_reliable session.new.entropy }
     ensures still { E.is_reliable session.old.entropy → E.faults session.new.entropy ≡ E.faults session.old.entropy }
+    ensures kept { KeepsSlot L.devices slot.new [] }
+    ensures drawn { IfOk result (λ found. IfSome found (λ answer. CarriesDraws (E.faults session.old.entropy) (E.faults session.new.entropy) answer.reply)) }
 {
     let looked = look_first(alloc, &mut gate.lock(rt), slot, session, handle)?;
     let found = match looked {

@@ -1,15 +1,17 @@
 //! How the slot of the object's file is shown the history, at a look of a call at the gate.
 
-ghost use Rattle.std.specs.Prelude.{◌≡◌, true, Some};
+ghost use Rattle.std.specs.Prelude.{◌≡◌, ℕ, true, List, Some};
 ghost use Rattle.crash_core.specs.EntryLists.{entry_at};
 ghost use Rattle.history_seats.specs.Records.{Version};
 ghost use Rattle.locked_slots.specs.Reads.{GivesVersion};
 ghost use Rattle.object_answers.specs.Meeting.{StillGives};
 ghost use Rattle.shared_calls.specs.Meeting.{IsMet};
 ghost use Rattle.shared_calls.specs.Ready.{IsReady};
+ghost use Rattle.shared_calls.specs.Kept.{KeepsSlot};
 
+use crate::gate::SharedGate;
+use crate::names::DevicesName;
 use call_history::Session;
-use locked_gate::LockedGate;
 use locked_slots::LockedSlot;
 use object_answers::meet_entry;
 use rpmb_card::RpmbPort;
@@ -19,8 +21,13 @@ use tee_ports::{Entropy, StoreFile};
 
 /// Shows the slot of an entry's file the whole history, so that it stands at the entry. False where the slot is another file's, which
 /// stays as it is. What the slot gave before it gives still.
-pub(crate) fn meet_held<F: StoreFile + Drop, R: RpmbPort + Drop, L: StoreName, E: Entropy>(
-    gate: &mut LockedGate<F, R, L>,
+pub(crate) fn meet_held<
+    F: StoreFile + Drop,
+    R: RpmbPort + Drop,
+    L: StoreName + DevicesName,
+    E: Entropy,
+>(
+    gate: &mut SharedGate<F, R, L>,
     slot: &mut LockedSlot<F, L>,
     session: &mut Session<E>,
     held: &Held,
@@ -31,11 +38,12 @@ pub(crate) fn meet_held<F: StoreFile + Drop, R: RpmbPort + Drop, L: StoreName, E
     ensures session { session.new ≡ session.old }
     ensures met { result ≡ true → IsMet gate.old.journal.knows slot.new held.now.entry }
     ensures still { (v : Version) → GivesVersion slot.old v → StillGives slot.old slot.new v }
+    ensures kept { (then : List ℕ) → KeepsSlot L.devices slot.old then → KeepsSlot L.devices slot.new then }
 {
     let entry = held.entry;
     if entry.file != slot.number() {
         return false;
     }
-    meet_entry(gate, &mut slot.slot, session, &entry);
+    meet_entry(&mut gate.gate, &mut slot.slot, session, &entry);
     true
 }

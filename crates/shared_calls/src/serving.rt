@@ -1,18 +1,23 @@
 //! The fifteen calls.
 
-ghost use Rattle.std.specs.Prelude.{◌≡◌, ◌≤◌, false, length};
+ghost use Rattle.std.specs.Prelude.{◌≡◌, ◌≤◌, false, length, IfSome, IfOk, []};
 ghost use Rattle.call_history.specs.Sessions.{IsCallerOf};
 ghost use Rattle.gate_calls.specs.Rulings.{is_on_object};
-ghost use Rattle.shared_calls.specs.Counts.{Grows};
-ghost use Rattle.shared_calls.specs.Looks.{EndsLook};
+ghost use Rattle.served_calls.specs.Devices.{Grows};
+ghost use Rattle.shared_calls.specs.Looks.{EndsLook, IfAnswered};
 ghost use Rattle.shared_calls.specs.Rounds.{EndsCall, EndsRound};
+ghost use Rattle.shared_calls.specs.Kept.{KeepsSlot};
+ghost use Rattle.shared_calls.specs.Counts.{CarriesDraws};
 
 use crate::beginning::begin;
+use crate::gate::SharedGate;
 use crate::look::Look;
+use crate::names::DevicesName;
+use crate::slot::SharedSlot;
 use crate::store::SharedStore;
 use crate::{creating, deleting, describing, opening, reading, renaming, truncating, writing};
 use call_history::Session;
-use locked_gate::{Answer, LockedGate};
+use locked_gate::Answer;
 use locked_slots::LockedSlot;
 use rpmb_card::RpmbPort;
 use std::alloc::Global;
@@ -22,9 +27,9 @@ use tee_ports::{Entropy, StoreFile};
 use tee_types::{Call, NoMemory};
 
 // The answer to a call that is on no object: the gate gives it alone.
-fn look_alone<F: StoreFile + Drop, R: RpmbPort + Drop, L: StoreName, E: Entropy>(
+fn look_alone<F: StoreFile + Drop, R: RpmbPort + Drop, L: StoreName + DevicesName, E: Entropy>(
     alloc: Global,
-    gate: &mut LockedGate<F, R, L>,
+    gate: &mut SharedGate<F, R, L>,
     session: &mut Session<E>,
     call: &Call,
 ) -> Result<Look<u16>, NoMemory>
@@ -34,6 +39,7 @@ fn look_alone<F: StoreFile + Drop, R: RpmbPort + Drop, L: StoreName, E: Entropy>
     ensures counted { E.faults session.old.entropy ≤ E.faults session.new.entropy }
     ensures reliable { E.is_reliable session.old.entropy → E.is_reliable session.new.entropy }
     ensures still { E.is_reliable session.old.entropy → E.faults session.new.entropy ≡ E.faults session.old.entropy }
+    ensures drawn { IfAnswered result (λ answer. CarriesDraws (E.faults session.old.entropy) (E.faults session.new.entropy) answer.reply) }
 {
     let Some(answer) = begin(alloc, gate, session, call)? else {
         unreachable!()
@@ -42,9 +48,9 @@ fn look_alone<F: StoreFile + Drop, R: RpmbPort + Drop, L: StoreName, E: Entropy>
 }
 
 // What a call finds at the gate: its answer, or the number of the file whose slot it needs.
-fn file_of<F: StoreFile + Drop, R: RpmbPort + Drop, L: StoreName, E: Entropy>(
+fn file_of<F: StoreFile + Drop, R: RpmbPort + Drop, L: StoreName + DevicesName, E: Entropy>(
     alloc: Global,
-    gate: &mut LockedGate<F, R, L>,
+    gate: &mut SharedGate<F, R, L>,
     session: &mut Session<E>,
     call: &Call,
 ) -> Result<Look<u16>, NoMemory>
@@ -54,6 +60,7 @@ fn file_of<F: StoreFile + Drop, R: RpmbPort + Drop, L: StoreName, E: Entropy>(
     ensures counted { E.faults session.old.entropy ≤ E.faults session.new.entropy }
     ensures reliable { E.is_reliable session.old.entropy → E.is_reliable session.new.entropy }
     ensures still { E.is_reliable session.old.entropy → E.faults session.new.entropy ≡ E.faults session.old.entropy }
+    ensures drawn { IfAnswered result (λ answer. CarriesDraws (E.faults session.old.entropy) (E.faults session.new.entropy) answer.reply) }
 {
     match call {
         Call::Create {
@@ -77,9 +84,9 @@ fn file_of<F: StoreFile + Drop, R: RpmbPort + Drop, L: StoreName, E: Entropy>(
     }
 }
 
-impl<F: StoreFile + Drop, R: RpmbPort + Drop, L: StoreName> SharedStore<F, R, L> {
+impl<F: StoreFile + Drop, R: RpmbPort + Drop, L: StoreName + DevicesName> SharedStore<F, R, L> {
     // The lock of the slot of that file, if the store has one.
-    fn slot_of(&self, file: u16) -> Option<&Mutex<LockedSlot<F, L>>> {
+    fn slot_of(&self, file: u16) -> Option<&Mutex<SharedSlot<F, L>>> {
         self.slots.get(usize::from(file).checked_sub(1)?)
     }
 
@@ -93,10 +100,13 @@ impl<F: StoreFile + Drop, R: RpmbPort + Drop, L: StoreName> SharedStore<F, R, L>
         call: &Call,
     ) -> Result<Option<Answer>, NoMemory>
         requires caller { IsCallerOf L.store session.old }
+        requires kept { KeepsSlot L.devices slot.old [] }
         ensures ends { EndsRound L.store session.old session.new call.now result }
         ensures counted { Grows (E.faults session.old.entropy) (E.faults session.new.entropy) }
         ensures reliable { E.is_reliable session.old.entropy → E.is_reliable session.new.entropy }
         ensures still { E.is_reliable session.old.entropy → E.faults session.new.entropy ≡ E.faults session.old.entropy }
+        ensures kept { KeepsSlot L.devices slot.new [] }
+        ensures drawn { IfOk result (λ found. IfSome found (λ answer. CarriesDraws (E.faults session.old.entropy) (E.faults session.new.entropy) answer.reply)) }
     {
         let gate = &self.gate;
         let key = &self.storage_key;
@@ -145,6 +155,7 @@ impl<F: StoreFile + Drop, R: RpmbPort + Drop, L: StoreName> SharedStore<F, R, L>
         ensures counted { Grows (E.faults session.old.entropy) (E.faults session.new.entropy) }
         ensures reliable { E.is_reliable session.old.entropy → E.is_reliable session.new.entropy }
         ensures still { E.is_reliable session.old.entropy → E.faults session.new.entropy ≡ E.faults session.old.entropy }
+        ensures drawn { IfOk result (λ found. IfSome found (λ answer. CarriesDraws (E.faults session.old.entropy) (E.faults session.new.entropy) answer.reply)) }
     {
         let looked = file_of(alloc, &mut self.gate.lock(rt), session, call)?;
         let file = match looked {
@@ -155,7 +166,8 @@ impl<F: StoreFile + Drop, R: RpmbPort + Drop, L: StoreName> SharedStore<F, R, L>
         let Some(slot) = self.slot_of(file) else {
             return Ok(None);
         };
-        self.round(rt, alloc, &mut slot.lock(rt), session, call)
+        let mut slot = slot.lock(rt);
+        self.round(rt, alloc, &mut slot.slot, session, call)
     }
 
     /// Serves a call of a session, beside those that other threads serve for theirs: a commit in doubt is resolved unless the call is a misuse,
@@ -177,6 +189,7 @@ impl<F: StoreFile + Drop, R: RpmbPort + Drop, L: StoreName> SharedStore<F, R, L>
         ensures counted { Grows (E.faults session.old.entropy) (E.faults session.new.entropy) }
         ensures reliable { E.is_reliable session.old.entropy → E.is_reliable session.new.entropy }
         ensures still { E.is_reliable session.old.entropy → E.faults session.new.entropy ≡ E.faults session.old.entropy }
+        ensures drawn { IfOk result (λ answer. CarriesDraws (E.faults session.old.entropy) (E.faults session.new.entropy) answer.reply) }
     {
         for _ in rt.forever() {
             if let Some(answer) = self.attempt(rt, alloc, session, call)? {

@@ -1,29 +1,33 @@
 //! TEE_TruncateObjectData, with the gate's lock taken for each look alone.
 
-ghost use Rattle.std.specs.Prelude.{◌==◌, ◌≡◌, ◌≤◌, IfOk, OnErr, false};
+ghost use Rattle.std.specs.Prelude.{◌==◌, ◌≡◌, ◌≤◌, IfOk, OnErr, false, IfSome, MatchResult, ℕ, []};
 ghost use Rattle.tee_types.specs.Rights.{write_bit};
 ghost use Rattle.hmac_keys.specs.KeyTable.{ssk};
 ghost use Rattle.locked_slots.specs.LockedSlots.{IsLockedSlot};
 ghost use Rattle.call_history.specs.Sessions.{IsCallerOf};
 ghost use Rattle.call_rules.specs.Objects.{IsRightful};
 ghost use Rattle.change_calls.specs.Staging.{resizing};
-ghost use Rattle.shared_calls.specs.Changing.{HasStaged};
-ghost use Rattle.shared_calls.specs.Counts.{Grows};
-ghost use Rattle.shared_calls.specs.Looks.{EndsLook, IfFound};
+ghost use Rattle.shared_calls.specs.Changing.{HasStaged, CarriesStaged, told_staged};
+ghost use Rattle.served_calls.specs.Devices.{Grows};
+ghost use Rattle.shared_calls.specs.Looks.{EndsLook, IfAnswered, IfFound};
 ghost use Rattle.shared_calls.specs.Meeting.{MayLoad};
 ghost use Rattle.shared_calls.specs.Ready.{IsReady};
 ghost use Rattle.shared_calls.specs.Rounds.{EndsRound, IsAnswered, IsWaiting};
+ghost use Rattle.shared_calls.specs.Kept.{KeepsSlot};
+ghost use Rattle.shared_calls.specs.Counts.{CarriesDraws};
 
 use crate::beginning::begin;
 use crate::changing::{answer_held, give_up};
+use crate::gate::SharedGate;
 use crate::look::Look;
 use crate::meeting::meet_held;
+use crate::names::DevicesName;
 use call_history::Session;
 use call_rules::{Decision, OpenObject, truncate_refusal};
 use change_calls::{Staged, answer_truncate, meet_staged, truncate_object};
 use gate_calls::answer_ruled;
 use hmac_keys::tsk;
-use locked_gate::{Answer, LockedGate};
+use locked_gate::Answer;
 use locked_slots::LockedSlot;
 use object_slots::Slot;
 use rpmb_card::RpmbPort;
@@ -34,9 +38,9 @@ use tee_ports::{Entropy, StoreFile};
 use tee_types::{Call, NoMemory, Reply};
 
 // What a Truncate finds at the gate: its answer, or the object that it changes. Then the gate is ready for it.
-fn look<F: StoreFile + Drop, R: RpmbPort + Drop, L: StoreName, E: Entropy>(
+fn look<F: StoreFile + Drop, R: RpmbPort + Drop, L: StoreName + DevicesName, E: Entropy>(
     alloc: Global,
-    gate: &mut LockedGate<F, R, L>,
+    gate: &mut SharedGate<F, R, L>,
     session: &mut Session<E>,
     handle: u32,
     size: u32,
@@ -48,13 +52,20 @@ fn look<F: StoreFile + Drop, R: RpmbPort + Drop, L: StoreName, E: Entropy>(
     ensures counted { E.faults session.old.entropy ≤ E.faults session.new.entropy }
     ensures reliable { E.is_reliable session.old.entropy → E.is_reliable session.new.entropy }
     ensures still { E.is_reliable session.old.entropy → E.faults session.new.entropy ≡ E.faults session.old.entropy }
+    ensures undrawn { IfFound result (λ found. E.faults session.new.entropy ≡ E.faults session.old.entropy) }
+    ensures drawn { IfAnswered result (λ answer. CarriesDraws (E.faults session.old.entropy) (E.faults session.new.entropy) answer.reply) }
 {
     let call = Call::Truncate { handle, size };
     if let Some(answer) = begin(alloc, gate, session, &call)? {
         return Ok(Look::Answered(answer));
     }
-    match call_rules::truncate(&*gate, session.state(), handle) {
-        Decision::Answered(reply) => Ok(Look::Answered(answer_ruled(gate, session, call, reply))),
+    match call_rules::truncate(&gate.gate, session.state(), handle) {
+        Decision::Answered(reply) => Ok(Look::Answered(answer_ruled(
+            &mut gate.gate,
+            session,
+            call,
+            reply,
+        ))),
         Decision::Needs(found) => Ok(Look::Found(found)),
     }
 }
@@ -64,9 +75,14 @@ fn look<F: StoreFile + Drop, R: RpmbPort + Drop, L: StoreName, E: Entropy>(
 /// # Errors
 ///
 /// Memory ran out. The session has no event more.
-pub(crate) fn file_of<F: StoreFile + Drop, R: RpmbPort + Drop, L: StoreName, E: Entropy>(
+pub(crate) fn file_of<
+    F: StoreFile + Drop,
+    R: RpmbPort + Drop,
+    L: StoreName + DevicesName,
+    E: Entropy,
+>(
     alloc: Global,
-    gate: &mut LockedGate<F, R, L>,
+    gate: &mut SharedGate<F, R, L>,
     session: &mut Session<E>,
     handle: u32,
     size: u32,
@@ -76,6 +92,7 @@ pub(crate) fn file_of<F: StoreFile + Drop, R: RpmbPort + Drop, L: StoreName, E: 
     ensures counted { E.faults session.old.entropy ≤ E.faults session.new.entropy }
     ensures reliable { E.is_reliable session.old.entropy → E.is_reliable session.new.entropy }
     ensures still { E.is_reliable session.old.entropy → E.faults session.new.entropy ≡ E.faults session.old.entropy }
+    ensures drawn { IfAnswered result (λ answer. CarriesDraws (E.faults session.old.entropy) (E.faults session.new.entropy) answer.reply) }
 {
     match look(alloc, gate, session, handle, size)? {
         Look::Answered(answer) => Ok(Look::Answered(answer)),
@@ -86,21 +103,24 @@ pub(crate) fn file_of<F: StoreFile + Drop, R: RpmbPort + Drop, L: StoreName, E: 
 
 // The first look: a size that is refused, and one that the object has, are answered. For any other the object's slot is shown the history, so
 // that the object may be loaded.
-fn look_first<F: StoreFile + Drop, R: RpmbPort + Drop, L: StoreName, E: Entropy>(
+fn look_first<F: StoreFile + Drop, R: RpmbPort + Drop, L: StoreName + DevicesName, E: Entropy>(
     alloc: Global,
-    gate: &mut LockedGate<F, R, L>,
+    gate: &mut SharedGate<F, R, L>,
     slot: &mut LockedSlot<F, L>,
     session: &mut Session<E>,
     handle: u32,
     size: u32,
 ) -> Result<Look<OpenObject>, NoMemory>
     requires caller { IsCallerOf L.store session.old }
+    requires kept { KeepsSlot L.devices slot.old [] }
     ensures ends { EndsLook L.store session.old session.new (Call.Truncate handle size) result }
     ensures loads { IfFound result (λ found. MayLoad slot.new found.held.entry) }
     ensures fits { IfFound result (λ found. size ≤ 1044480) }
     ensures counted { E.faults session.old.entropy ≤ E.faults session.new.entropy }
     ensures reliable { E.is_reliable session.old.entropy → E.is_reliable session.new.entropy }
     ensures still { E.is_reliable session.old.entropy → E.faults session.new.entropy ≡ E.faults session.old.entropy }
+    ensures kept { KeepsSlot L.devices slot.new [] }
+    ensures drawn { IfAnswered result (λ answer. CarriesDraws (E.faults session.old.entropy) (E.faults session.new.entropy) answer.reply) }
 {
     let found = match look(alloc, gate, session, handle, size)? {
         Look::Found(found) => found,
@@ -126,7 +146,7 @@ fn look_first<F: StoreFile + Drop, R: RpmbPort + Drop, L: StoreName, E: Entropy>
 }
 
 // Loads the slot's object and stages the size in its file; or the reply says why it is not staged. The gate's lock is not taken.
-fn stage_slot<F: StoreFile + Drop, L: StoreName, E: Entropy>(
+fn stage_slot<F: StoreFile + Drop, L: StoreName + DevicesName, E: Entropy>(
     alloc: Global,
     slot: &mut Slot<F>,
     storage_key: &[u8; 32],
@@ -139,12 +159,15 @@ fn stage_slot<F: StoreFile + Drop, L: StoreName, E: Entropy>(
     requires loads { MayLoad slot.old found.now.held.entry }
     requires keyed { storage_key.now ≡ ssk L.store.keys.huk L.store.keys.chip }
     requires fits { size ≤ 1044480 }
+    requires kept { KeepsSlot L.devices slot.old [] }
     ensures waits { IsWaiting L.store session.old session.new }
     ensures staged { IfOk result (HasStaged L.store slot.new (resizing size)) }
     ensures locked { OnErr result (IsLockedSlot L.store slot.new) }
     ensures counted { Grows (E.faults session.old.entropy) (E.faults session.new.entropy) }
     ensures reliable { E.is_reliable session.old.entropy → E.is_reliable session.new.entropy }
     ensures still { E.is_reliable session.old.entropy → E.faults session.new.entropy ≡ E.faults session.old.entropy }
+    ensures kept { MatchResult result (λ staged. KeepsSlot L.devices slot.new (told_staged slot.new.number staged)) (λ none. KeepsSlot L.devices slot.new []) }
+    ensures drawn { IfOk result (CarriesStaged (E.faults session.old.entropy) (E.faults session.new.entropy)) }
 {
     let entry = found.held.entry;
     let key = tsk(storage_key, &entry.app.bytes());
@@ -153,9 +176,9 @@ fn stage_slot<F: StoreFile + Drop, L: StoreName, E: Entropy>(
 }
 
 // What a Truncate finds at the gate again, where its object has another size still, and lies in that file.
-fn look_again<F: StoreFile + Drop, R: RpmbPort + Drop, L: StoreName, E: Entropy>(
+fn look_again<F: StoreFile + Drop, R: RpmbPort + Drop, L: StoreName + DevicesName, E: Entropy>(
     alloc: Global,
-    gate: &mut LockedGate<F, R, L>,
+    gate: &mut SharedGate<F, R, L>,
     session: &mut Session<E>,
     handle: u32,
     size: u32,
@@ -170,6 +193,8 @@ fn look_again<F: StoreFile + Drop, R: RpmbPort + Drop, L: StoreName, E: Entropy>
     ensures counted { E.faults session.old.entropy ≤ E.faults session.new.entropy }
     ensures reliable { E.is_reliable session.old.entropy → E.is_reliable session.new.entropy }
     ensures still { E.is_reliable session.old.entropy → E.faults session.new.entropy ≡ E.faults session.old.entropy }
+    ensures undrawn { IfFound result (λ found. E.faults session.new.entropy ≡ E.faults session.old.entropy) }
+    ensures drawn { IfAnswered result (λ answer. CarriesDraws (E.faults session.old.entropy) (E.faults session.new.entropy) answer.reply) }
 {
     let found = match look(alloc, gate, session, handle, size)? {
         Look::Found(found) => found,
@@ -182,8 +207,8 @@ fn look_again<F: StoreFile + Drop, R: RpmbPort + Drop, L: StoreName, E: Entropy>
 }
 
 // Brings the size that was staged, or tells why it was not staged, with the slot of the object's file, which keeps its stage until then.
-fn answer_staged<F: StoreFile + Drop, R: RpmbPort + Drop, L: StoreName, E: Entropy>(
-    gate: &mut LockedGate<F, R, L>,
+fn answer_staged<F: StoreFile + Drop, R: RpmbPort + Drop, L: StoreName + DevicesName, E: Entropy>(
+    gate: &mut SharedGate<F, R, L>,
     slot: &mut Slot<F>,
     session: &mut Session<E>,
     found: &OpenObject,
@@ -197,20 +222,25 @@ fn answer_staged<F: StoreFile + Drop, R: RpmbPort + Drop, L: StoreName, E: Entro
     requires fits { size ≤ 1044480 }
     requires file { slot.old.number ≡ found.now.held.entry.file }
     requires staged { HasStaged L.store slot.old (resizing size) staged }
+    requires kept { KeepsSlot L.devices slot.old (told_staged slot.old.number staged) }
     ensures answered { IsAnswered L.store session.old session.new (Call.Truncate handle size) result }
     ensures locked { IsLockedSlot L.store slot.new }
     ensures counted { Grows (E.faults session.old.entropy) (E.faults session.new.entropy) }
     ensures reliable { E.is_reliable session.old.entropy → E.is_reliable session.new.entropy }
     ensures still { E.is_reliable session.old.entropy → E.faults session.new.entropy ≡ E.faults session.old.entropy }
+    ensures kept { KeepsSlot L.devices slot.new [] }
+    ensures drawn { (first : ℕ) → Grows first (E.faults session.old.entropy) → CarriesStaged first (E.faults session.old.entropy) staged → CarriesDraws first (E.faults session.new.entropy) result.reply }
 {
-    meet_staged(gate, slot, session, &found.held.entry);
-    answer_truncate(gate, slot, session, found, handle, size, staged)
+    // Tells how the gate and the card stand to each other.
+    let _doubt = gate.gate.doubt();
+    meet_staged(&mut gate.gate, slot, session, &found.held.entry);
+    answer_truncate(&mut gate.gate, slot, session, found, handle, size, staged)
 }
 
 // The last look: what was staged is brought, or it is told why nothing was, where the object is found there again. Else the stage is given up.
-fn look_last<F: StoreFile + Drop, R: RpmbPort + Drop, L: StoreName, E: Entropy>(
+fn look_last<F: StoreFile + Drop, R: RpmbPort + Drop, L: StoreName + DevicesName, E: Entropy>(
     alloc: Global,
-    gate: &mut LockedGate<F, R, L>,
+    gate: &mut SharedGate<F, R, L>,
     slot: &mut Slot<F>,
     session: &mut Session<E>,
     handle: u32,
@@ -220,11 +250,14 @@ fn look_last<F: StoreFile + Drop, R: RpmbPort + Drop, L: StoreName, E: Entropy>(
     requires caller { IsCallerOf L.store session.old }
     requires fits { size ≤ 1044480 }
     requires staged { HasStaged L.store slot.old (resizing size) staged }
+    requires kept { KeepsSlot L.devices slot.old (told_staged slot.old.number staged) }
     ensures ends { EndsRound L.store session.old session.new (Call.Truncate handle size) result }
     ensures locked { IsLockedSlot L.store slot.new }
     ensures counted { Grows (E.faults session.old.entropy) (E.faults session.new.entropy) }
     ensures reliable { E.is_reliable session.old.entropy → E.is_reliable session.new.entropy }
     ensures still { E.is_reliable session.old.entropy → E.faults session.new.entropy ≡ E.faults session.old.entropy }
+    ensures kept { KeepsSlot L.devices slot.new [] }
+    ensures drawn { (first : ℕ) → Grows first (E.faults session.old.entropy) → CarriesStaged first (E.faults session.old.entropy) staged → IfOk result (λ found. IfSome found (λ answer. CarriesDraws first (E.faults session.new.entropy) answer.reply)) }
 {
     let file = slot.number();
     let found = match look_again(alloc, gate, session, handle, size, file) {
@@ -246,10 +279,16 @@ fn look_last<F: StoreFile + Drop, R: RpmbPort + Drop, L: StoreName, E: Entropy>(
 }
 
 // The rest of a round, once the slot may load its object: the slot has a stage between the steps.
-fn truncate_slot<W: Wait, F: StoreFile + Drop, R: RpmbPort + Drop, L: StoreName, E: Entropy>(
+fn truncate_slot<
+    W: Wait,
+    F: StoreFile + Drop,
+    R: RpmbPort + Drop,
+    L: StoreName + DevicesName,
+    E: Entropy,
+>(
     rt: &W,
     alloc: Global,
-    gate: &Mutex<LockedGate<F, R, L>>,
+    gate: &Mutex<SharedGate<F, R, L>>,
     slot: &mut Slot<F>,
     storage_key: &[u8; 32],
     session: &mut Session<E>,
@@ -262,11 +301,14 @@ fn truncate_slot<W: Wait, F: StoreFile + Drop, R: RpmbPort + Drop, L: StoreName,
     requires loads { MayLoad slot.old found.now.held.entry }
     requires keyed { storage_key.now ≡ ssk L.store.keys.huk L.store.keys.chip }
     requires fits { size ≤ 1044480 }
+    requires kept { KeepsSlot L.devices slot.old [] }
     ensures ends { EndsRound L.store session.old session.new (Call.Truncate handle size) result }
     ensures locked { IsLockedSlot L.store slot.new }
     ensures counted { Grows (E.faults session.old.entropy) (E.faults session.new.entropy) }
     ensures reliable { E.is_reliable session.old.entropy → E.is_reliable session.new.entropy }
     ensures still { E.is_reliable session.old.entropy → E.faults session.new.entropy ≡ E.faults session.old.entropy }
+    ensures kept { KeepsSlot L.devices slot.new [] }
+    ensures drawn { IfOk result (λ found. IfSome found (λ answer. CarriesDraws (E.faults session.old.entropy) (E.faults session.new.entropy) answer.reply)) }
 {
     let staged = stage_slot::<F, L, E>(alloc, slot, storage_key, session, found, size)?;
     look_last(
@@ -286,10 +328,16 @@ fn truncate_slot<W: Wait, F: StoreFile + Drop, R: RpmbPort + Drop, L: StoreName,
 /// # Errors
 ///
 /// Memory ran out. The session has no event more.
-pub(crate) fn round<W: Wait, F: StoreFile + Drop, R: RpmbPort + Drop, L: StoreName, E: Entropy>(
+pub(crate) fn round<
+    W: Wait,
+    F: StoreFile + Drop,
+    R: RpmbPort + Drop,
+    L: StoreName + DevicesName,
+    E: Entropy,
+>(
     rt: &W,
     alloc: Global,
-    gate: &Mutex<LockedGate<F, R, L>>,
+    gate: &Mutex<SharedGate<F, R, L>>,
     slot: &mut LockedSlot<F, L>,
     storage_key: &[u8; 32],
     session: &mut Session<E>,
@@ -298,10 +346,13 @@ pub(crate) fn round<W: Wait, F: StoreFile + Drop, R: RpmbPort + Drop, L: StoreNa
 ) -> Result<Option<Answer>, NoMemory>
     requires caller { IsCallerOf L.store session.old }
     requires keyed { storage_key.now ≡ ssk L.store.keys.huk L.store.keys.chip }
+    requires kept { KeepsSlot L.devices slot.old [] }
     ensures ends { EndsRound L.store session.old session.new (Call.Truncate handle size) result }
     ensures counted { Grows (E.faults session.old.entropy) (E.faults session.new.entropy) }
     ensures reliable { E.is_reliable session.old.entropy → E.is_reliable session.new.entropy }
     ensures still { E.is_reliable session.old.entropy → E.faults session.new.entropy ≡ E.faults session.old.entropy }
+    ensures kept { KeepsSlot L.devices slot.new [] }
+    ensures drawn { IfOk result (λ found. IfSome found (λ answer. CarriesDraws (E.faults session.old.entropy) (E.faults session.new.entropy) answer.reply)) }
 {
     let looked = look_first(alloc, &mut gate.lock(rt), slot, session, handle, size)?;
     let found = match looked {

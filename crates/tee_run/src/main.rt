@@ -7,6 +7,8 @@ use seed_words::SeedEntropy;
 use sim_bench::{blank_bench, simulator_keys};
 use std::env::Env;
 use std::process::ExitCode;
+use std::sync::Wait;
+use std::thread::Threads;
 use std::{env, io};
 use tee_ports::{StdSink, StdSource};
 
@@ -20,14 +22,18 @@ fn words_of(rt: &(impl Env + AllocGlobal)) -> Result<Vec<String>, io::Error> {
 }
 
 /// Runs the script on standard input over devices that were never used.
-fn run_standard(rt: &HostRuntime, words: &[String]) -> Status {
+fn run_standard<W: Input + Print + AllocGlobal + Threads + Wait + Sync>(
+    rt: &W,
+    words: &[String],
+) -> Status {
     let Ok(bench) = blank_bench(rt.alloc()) else {
         return Status::NoMemory;
     };
-    let mut source = StdSource::new(rt.stdin());
-    let mut sink = StdSink::new(rt.stdout());
+    let mut source = StdSource::new(rt.reader());
+    let mut sink = StdSink::new(io::writer(rt));
     let mut entropy = SeedEntropy::from_seed(&[0; 32]);
     let RunEnd { status, bench: _ } = run(
+        rt,
         rt.alloc(),
         words,
         &mut source,

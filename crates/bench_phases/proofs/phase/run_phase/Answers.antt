@@ -30,7 +30,7 @@ returns-in-Ok-serve_opened-clause-runs g c =
         objects = refl;
         closed = bench_state of_file of_port closed.bench;
         serves = serves_where of_file of_port (g.E.Entropy.is_reliable c.mount_fed.new.entropy) (g.E.Entropy.is_reliable c.args.entropy.now) keys c.args.applications.now c.args.arms.now
-            c.args.calls.now opened (bench_state of_file of_port closed.bench) closed.history.events c.mount_fed.ensures.reliable c.in-Ok-serve_opened.ensures.serves;
+            c.args.mode c.args.calls.now opened (bench_state of_file of_port closed.bench) closed.history.events c.mount_fed.ensures.reliable c.in-Ok-serve_opened.ensures.serves;
         disarms = c.disarm_bench.ensures.disarms;
         fed = fed_disarmed (bench_state of_file of_port c.args.bench) (bench_state of_file of_port closed.bench) (bench_state of_file of_port c.disarm_bench.result) fed
             c.disarm_bench.ensures.disarms;

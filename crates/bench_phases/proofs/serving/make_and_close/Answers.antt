@@ -2,10 +2,10 @@ use Rattle.std.proofs.Common.{◌≡◌, ◌∙◌, List, length, sym, ap, subst
 use Rattle.call_history.specs.Sessions.{CallerSession}
 use Rattle.object_calls.specs.Sessions.{AreCallers}
 use Rattle.object_calls.proofs.Files.{refilled}
+use Rattle.phase_calls.specs.Reliable.{AreFresh, AreReliable}
 use Rattle.phase_calls.specs.Steps.{AreCalls}
 use Rattle.bench_acts.specs.Benches.{bench_state}
 use Rattle.bench_phases.specs.Closing.{ClosesStore}
-use Rattle.bench_phases.specs.Drawing.{AreFresh, AreReliable}
 use Rattle.bench_phases.proofs.Closings.{closes_store, ends_devices}
 use Rattle.bench_phases.proofs.serving.make_and_close.Goals as goal
 
@@ -22,7 +22,7 @@ finish-closed-requires g c =
     subst (λ (l : List (CallerSession g.row.E.Denot)). AreCallers g.L.StoreName.store l) (sym (refilled sessions.len sessions.items new long many)) c.make_calls-made.ensures.sessions.each
 
 pub returns-in-Ok-clause-closed : goal.returns-in-Ok-clause-closed
-returns-in-Ok-clause-closed g c = λ before has.
+returns-in-Ok-clause-closed g c = λ mode before has.
     let of_file = g.F.StoreFile.state in
     let of_port = g.R.RpmbPort.state in
     let store = g.L.StoreName.store in
@@ -31,10 +31,10 @@ returns-in-Ok-clause-closed g c = λ before has.
     let made = c.make_calls-made in
     let closed = c.finish-closed in
     subst
-    (λ (l : List (CallerSession g.row.E.Denot)). ClosesStore (AreReliable g.E.Entropy.is_reliable l) store before c.args.calls.now (bench_state of_file of_port closed.result.bench) closed.result.history.events)
+    (λ (l : List (CallerSession g.row.E.Denot)). ClosesStore (AreReliable g.E.Entropy.is_reliable l) store before mode c.args.calls.now (bench_state of_file of_port closed.result.bench) closed.result.history.events)
     same
     (closes_store of_file of_port g.E.Entropy.faults g.E.Entropy.is_reliable store c.args.service made.new.service before (bench_state of_file of_port closed.result.bench) was made.new.sessions
-    c.args.calls.now has (ends_devices of_file of_port made.new.service closed.result.bench.files.items closed.result.bench.card closed.ensures.gives) c.in-Ok.ensures.made closed.result.doubt
+    c.args.calls.now has (ends_devices of_file of_port made.new.service closed.result.bench.files.items closed.result.bench.card closed.ensures.gives) c.in-Ok.ensures.made mode closed.result.doubt
     closed.result.history.events (ap (λ (l : List (CallerSession g.row.E.Denot)). length l) same ∙ c.requires.sessions.many)
     (subst (λ (l : List (CallerSession g.row.E.Denot)). AreFresh g.E.Entropy.faults l) (sym same) c.requires.fresh) made.ensures.reliable c.requires.begins c.in-Ok.ensures.serves
     closed.ensures.events closed.ensures.leaves)

@@ -5,14 +5,14 @@ use Rattle.suppositions.specs.Stores.{Store}
 use Rattle.call_history.specs.Sessions.{CallerSession}
 use Rattle.object_calls.specs.Sessions.{AreSeated, DrawAlike}
 use Rattle.object_calls.proofs.Files.{refilled}
+use Rattle.phase_calls.specs.Reliable.{AreFresh, AreReliable}
 use Rattle.phase_calls.specs.Steps.{AreCalls}
 use Rattle.object_calls.specs.Services.{ServiceValue}
 use Rattle.bench_acts.specs.Benches.{bench_state, opening_state}
 use Rattle.bench_phases.specs.Closing.{ClosesStore}
-use Rattle.bench_phases.specs.Drawing.{AreFresh, AreReliable}
 use Rattle.bench_phases.proofs.Results.{if_ok}
 use Rattle.bench_phases.proofs.Closings.{begins_devices, closes_where}
-use Rattle.bench_phases.proofs.Draws.{fresh_alike, reliable_alike}
+use Rattle.phase_calls.proofs.DrawnAlike.{fresh_alike, reliable_alike}
 use Rattle.bench_phases.proofs.serving.serve_calls.Goals as goal
 
 pub make_and_close-requires-clause-begins : goal.make_and_close-requires-clause-begins
@@ -48,7 +48,7 @@ make_and_close-requires-clause-fresh g c =
     (fresh_alike g.E.Entropy.faults sessions.items new (many ∙ sym long) (subst (λ (l : List (CallerSession g.row.E.Denot)). DrawAlike l new) same c.in-Ok.ensures.draw) c.requires.fresh)
 
 pub returns-in-Ok-clause-closed : goal.returns-in-Ok-clause-closed
-returns-in-Ok-clause-closed g c =
+returns-in-Ok-clause-closed g c = λ mode.
     let of_file = g.F.StoreFile.state in
     let of_port = g.R.RpmbPort.state in
     let store = g.L.StoreName.store in
@@ -62,10 +62,10 @@ returns-in-Ok-clause-closed g c =
     let before = opening_state of_file of_port c.args.opening in
     let after : List (CallerSession g.row.E.Denot) = take sessions.len (new ++ drop (length new) sessions.items) in
     if_ok c.make_and_close.result
-    (λ x. ClosesStore (AreReliable is_reliable after) store before c.args.calls.now (bench_state of_file of_port x.bench) x.history.events)
-    (λ x. ClosesStore (AreReliable is_reliable sessions.items) store before c.args.calls.now (bench_state of_file of_port x.bench) x.history.events)
-    (λ x closes. closes_where (AreReliable is_reliable after) (AreReliable is_reliable sessions.items) store before c.args.calls.now (bench_state of_file of_port x.bench) x.history.events
+    (λ x. ClosesStore (AreReliable is_reliable after) store before mode c.args.calls.now (bench_state of_file of_port x.bench) x.history.events)
+    (λ x. ClosesStore (AreReliable is_reliable sessions.items) store before mode c.args.calls.now (bench_state of_file of_port x.bench) x.history.events)
+    (λ x closes. closes_where (AreReliable is_reliable after) (AreReliable is_reliable sessions.items) store before mode c.args.calls.now (bench_state of_file of_port x.bench) x.history.events
     (λ reliable. subst (λ (l : List (CallerSession g.row.E.Denot)). AreReliable is_reliable l) (sym (refilled sessions.len sessions.items new long many))
     (reliable_alike is_reliable sessions.items new (many ∙ sym long) (subst (λ (l : List (CallerSession g.row.E.Denot)). DrawAlike l new) same c.in-Ok.ensures.draw) reliable))
     closes)
-    (c.make_and_close.ensures.closed before (begins_devices of_file of_port store c.args.opening service c.in-Ok.ensures.served))
+    (c.make_and_close.ensures.closed mode before (begins_devices of_file of_port store c.args.opening service c.in-Ok.ensures.served))

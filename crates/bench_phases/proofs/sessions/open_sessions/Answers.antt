@@ -3,7 +3,7 @@ use Rattle.std.proofs.lemmas.List.{take_more}
 use Rattle.call_history.specs.Sessions.{CallerSession}
 use Rattle.object_calls.specs.Opening.{OpeningValue}
 use Rattle.object_calls.specs.Sessions.{AreUnseated, unseated}
-use Rattle.bench_phases.specs.Drawing.{AreFresh, AreReliable}
+use Rattle.phase_calls.specs.Reliable.{AreFresh, AreReliable}
 use Rattle.bench_phases.proofs.Draws.{entropies_push}
 use Rattle.bench_phases.proofs.Unseated.{one_unseated}
 use Rattle.bench_phases.proofs.sessions.open_sessions.Goals as goal

@@ -1,6 +1,6 @@
 use Rattle.std.proofs.Common.{◌≡◌, take}
 use Rattle.object_calls.specs.Sessions.{AreUnseated}
-use Rattle.bench_phases.specs.Drawing.{AreFresh, AreReliable}
+use Rattle.phase_calls.specs.Reliable.{AreFresh, AreReliable}
 use Rattle.bench_phases.proofs.sessions.open_sessions.Given as goal
 
 abbrev pub invariant-loop-index : goal.invariant-loop-index

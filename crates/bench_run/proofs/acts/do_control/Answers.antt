@@ -1,11 +1,11 @@
 use Rattle.std.proofs.Common.{sym, ap, subst, ◌∙◌, vec_len}
 use Rattle.script_text.specs.declared.script.Control.{Control}
-use Rattle.script_text.specs.declared.script.Control.TheVariants.{Arm as ArmControl, Crash}
+use Rattle.script_text.specs.declared.script.Control.TheVariants.{Arm as ArmControl, Crash, Mode as ModeControl, Phase}
 use Rattle.script_text.specs.declared.script.Step.TheVariants.{Control as ControlStep}
 use Rattle.run_text.specs.Text.{control_line}
 use Rattle.bench_run.specs.Ready.{IsNext}
 use Rattle.bench_run.proofs.Once.{EndsAt-no_memory, control_text}
-use Rattle.bench_run.proofs.Turns.{HasDone-arm, HasDone-crash, HasDone-mark, cut-off, goes-on, mark_other}
+use Rattle.bench_run.proofs.Turns.{HasDone-arm, HasDone-crash, HasDone-mode, HasDone-phase, cut-off, goes-on}
 use Rattle.bench_run.proofs.acts.do_control.Goals as goal
 
 pub returns-in-Ok-clause-ok : goal.returns-in-Ok-clause-ok
@@ -15,7 +15,7 @@ returns-in-Ok-clause-ok g c = λ first lasts.
     let step = subst (λ (x : Control). IsNext script run (ControlStep x)) c.in-Arm.is c.requires.next in
     let done = HasDone-arm g.F.StoreFile.state g.R.RpmbPort.state g.F.FileRig.crash_image (g.E.Entropy.is_reliable first) c.args.keys.now script c.in-Arm.arm run c.in-Ok.run' c.requires.sound c.requires.ready step c.in-Ok.ensures.waits c.in-Ok.ensures.arms in
     let text = ap (λ (x : Control). control_line x) (sym c.in-Arm.is) in
-    goes-on g.F.StoreFile.state g.R.RpmbPort.state g.F.FileRig.crash_image (g.E.Entropy.is_reliable first) c.args.keys.now script run _ c.tell_control.result _ _ _ _ _ done (control_text script run.number (ArmControl c.in-Arm.arm) (λ e. cc) ∙ text) c.tell_control.ensures.ok
+    goes-on g.F.StoreFile.state g.R.RpmbPort.state g.F.FileRig.crash_image (g.E.Entropy.is_reliable first) c.args.keys.now script run _ c.tell_control-in-Ok.result _ _ _ _ _ done (control_text script run.number (ArmControl c.in-Arm.arm) (λ e. cc) ∙ text) c.tell_control-in-Ok.ensures.ok
 
 pub returns-in-Ok-clause-err : goal.returns-in-Ok-clause-err
 returns-in-Ok-clause-err g c = λ first lasts.
@@ -24,7 +24,7 @@ returns-in-Ok-clause-err g c = λ first lasts.
     let step = subst (λ (x : Control). IsNext script run (ControlStep x)) c.in-Arm.is c.requires.next in
     let done = HasDone-arm g.F.StoreFile.state g.R.RpmbPort.state g.F.FileRig.crash_image (g.E.Entropy.is_reliable first) c.args.keys.now script c.in-Arm.arm run c.in-Ok.run' c.requires.sound c.requires.ready step c.in-Ok.ensures.waits c.in-Ok.ensures.arms in
     let text = ap (λ (x : Control). control_line x) (sym c.in-Arm.is) in
-    cut-off g.F.StoreFile.state g.R.RpmbPort.state g.F.FileRig.crash_image (g.E.Entropy.is_reliable first) c.args.keys.now script run _ c.tell_control.result _ _ _ _ _ done (control_text script run.number (ArmControl c.in-Arm.arm) (λ e. cc) ∙ text) _ _ _ c.tell_control.ensures.err
+    cut-off g.F.StoreFile.state g.R.RpmbPort.state g.F.FileRig.crash_image (g.E.Entropy.is_reliable first) c.args.keys.now script run _ c.tell_control-in-Ok.result _ _ _ _ _ done (control_text script run.number (ArmControl c.in-Arm.arm) (λ e. cc) ∙ text) _ _ _ c.tell_control-in-Ok.ensures.err
 
 pub returns-in-Err-clause-err : goal.returns-in-Err-clause-err
 returns-in-Err-clause-err g c = λ first lasts.
@@ -52,20 +52,38 @@ pub returns-in-Err-crash_bench-clause-err : goal.returns-in-Err-crash_bench-clau
 returns-in-Err-crash_bench-clause-err g c = λ first lasts.
     EndsAt-no_memory g.F.StoreFile.state g.R.RpmbPort.state g.F.FileRig.crash_image (g.E.Entropy.is_reliable first) _ _ c.args.keys.now c.args.script.now _ _ c.args.run c.in-Err-crash_bench.end c.in-Err-crash_bench.ensures.err c.in-Err-crash_bench.ensures.whole_err
 
-pub returns-in-Serial-clause-ok : goal.returns-in-Serial-clause-ok
-returns-in-Serial-clause-ok g c = λ first lasts.
+pub returns-in-Mode-clause-ok : goal.returns-in-Mode-clause-ok
+returns-in-Mode-clause-ok g c = λ first lasts.
     let run = c.args.run in
     let script = c.args.script.now in
-    let control = c.args.control.now in
-    let done = HasDone-mark g.F.StoreFile.state g.R.RpmbPort.state g.F.FileRig.crash_image (g.E.Entropy.is_reliable first) c.args.keys.now script control run c.in-Serial.is c.requires.ready c.requires.next in
-    let text = control_text script run.number control (mark_other g.F.StoreFile.state g.R.RpmbPort.state g.F.FileRig.crash_image (g.E.Entropy.is_reliable first) c.args.keys.now script control c.in-Serial.is) in
-    goes-on g.F.StoreFile.state g.R.RpmbPort.state g.F.FileRig.crash_image (g.E.Entropy.is_reliable first) c.args.keys.now script run _ c.tell_control-in-Serial.result _ _ _ _ _ done text c.tell_control-in-Serial.ensures.ok
+    let step = subst (λ (x : Control). IsNext script run (ControlStep x)) c.in-Mode.is c.requires.next in
+    let done = HasDone-mode g.F.StoreFile.state g.R.RpmbPort.state g.F.FileRig.crash_image (g.E.Entropy.is_reliable first) c.args.keys.now script c.in-Mode.mode run c.requires.ready step in
+    let text = ap (λ (x : Control). control_line x) (sym c.in-Mode.is) in
+    goes-on g.F.StoreFile.state g.R.RpmbPort.state g.F.FileRig.crash_image (g.E.Entropy.is_reliable first) c.args.keys.now script run _ c.tell_control.result _ _ _ _ _ done (control_text script run.number (ModeControl c.in-Mode.mode) (λ e. cc) ∙ text) c.tell_control.ensures.ok
 
-pub returns-in-Serial-clause-err : goal.returns-in-Serial-clause-err
-returns-in-Serial-clause-err g c = λ first lasts.
+pub returns-in-Mode-clause-err : goal.returns-in-Mode-clause-err
+returns-in-Mode-clause-err g c = λ first lasts.
     let run = c.args.run in
     let script = c.args.script.now in
-    let control = c.args.control.now in
-    let done = HasDone-mark g.F.StoreFile.state g.R.RpmbPort.state g.F.FileRig.crash_image (g.E.Entropy.is_reliable first) c.args.keys.now script control run c.in-Serial.is c.requires.ready c.requires.next in
-    let text = control_text script run.number control (mark_other g.F.StoreFile.state g.R.RpmbPort.state g.F.FileRig.crash_image (g.E.Entropy.is_reliable first) c.args.keys.now script control c.in-Serial.is) in
-    cut-off g.F.StoreFile.state g.R.RpmbPort.state g.F.FileRig.crash_image (g.E.Entropy.is_reliable first) c.args.keys.now script run _ c.tell_control-in-Serial.result _ _ _ _ _ done text _ _ _ c.tell_control-in-Serial.ensures.err
+    let step = subst (λ (x : Control). IsNext script run (ControlStep x)) c.in-Mode.is c.requires.next in
+    let done = HasDone-mode g.F.StoreFile.state g.R.RpmbPort.state g.F.FileRig.crash_image (g.E.Entropy.is_reliable first) c.args.keys.now script c.in-Mode.mode run c.requires.ready step in
+    let text = ap (λ (x : Control). control_line x) (sym c.in-Mode.is) in
+    cut-off g.F.StoreFile.state g.R.RpmbPort.state g.F.FileRig.crash_image (g.E.Entropy.is_reliable first) c.args.keys.now script run _ c.tell_control.result _ _ _ _ _ done (control_text script run.number (ModeControl c.in-Mode.mode) (λ e. cc) ∙ text) _ _ _ c.tell_control.ensures.err
+
+pub returns-in-Phase-clause-ok : goal.returns-in-Phase-clause-ok
+returns-in-Phase-clause-ok g c = λ first lasts.
+    let run = c.args.run in
+    let script = c.args.script.now in
+    let step = subst (λ (x : Control). IsNext script run (ControlStep x)) c.in-Phase.is c.requires.next in
+    let done = HasDone-phase g.F.StoreFile.state g.R.RpmbPort.state g.F.FileRig.crash_image (g.E.Entropy.is_reliable first) c.args.keys.now script run c.requires.ready step in
+    let text = ap (λ (x : Control). control_line x) (sym c.in-Phase.is) in
+    goes-on g.F.StoreFile.state g.R.RpmbPort.state g.F.FileRig.crash_image (g.E.Entropy.is_reliable first) c.args.keys.now script run _ c.tell_control-in-Phase.result _ _ _ _ _ done (control_text script run.number Phase (λ e. cc) ∙ text) c.tell_control-in-Phase.ensures.ok
+
+pub returns-in-Phase-clause-err : goal.returns-in-Phase-clause-err
+returns-in-Phase-clause-err g c = λ first lasts.
+    let run = c.args.run in
+    let script = c.args.script.now in
+    let step = subst (λ (x : Control). IsNext script run (ControlStep x)) c.in-Phase.is c.requires.next in
+    let done = HasDone-phase g.F.StoreFile.state g.R.RpmbPort.state g.F.FileRig.crash_image (g.E.Entropy.is_reliable first) c.args.keys.now script run c.requires.ready step in
+    let text = ap (λ (x : Control). control_line x) (sym c.in-Phase.is) in
+    cut-off g.F.StoreFile.state g.R.RpmbPort.state g.F.FileRig.crash_image (g.E.Entropy.is_reliable first) c.args.keys.now script run _ c.tell_control-in-Phase.result _ _ _ _ _ done (control_text script run.number Phase (λ e. cc) ∙ text) _ _ _ c.tell_control-in-Phase.ensures.err

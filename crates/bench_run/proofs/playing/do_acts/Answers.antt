@@ -14,7 +14,7 @@ loop-run-init g c = record {
 }
 
 pub do_act-requires-clause-ready : goal.do_act-requires-clause-ready
-do_act-requires-clause-ready g c = c.loop-run.invariant.ready
+do_act-requires-clause-ready g c = λ κs lives. c.loop-run.invariant.ready
 
 pub loop-run-preserved : goal.loop-run-preserved
 loop-run-preserved g c =

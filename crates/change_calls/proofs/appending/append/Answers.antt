@@ -7,6 +7,7 @@ use Rattle.history_seats.specs.Changes.{slot_renewed}
 use Rattle.history_seats.specs.Views.{GateView, Sight, SlotView}
 use Rattle.locked_gate.specs.SlotAnswers.{MayBeTold, slot_record}
 use Rattle.locked_slots.proofs.Contents.{seat_same}
+use Rattle.locked_slots.proofs.ShownSlots.{shown_whole}
 use Rattle.locked_slots.specs.LockedSlots.{IsLockedSlot}
 use Rattle.object_answers.proofs.OwnAnswers.{answered-seat}
 use Rattle.object_slots.specs.Value.{SlotValue}
@@ -64,3 +65,8 @@ returns-clause-locked g c =
     ∙ ap (λ (x : Sight SlotView). record slot { seat = Some x }) back in
     subst (IsLockedSlot store) (sym is)
     (appended-keeps store gate.gate knows gate.closing c.doubt-doubt.ensures.locked c.doubt-doubt.ensures.machine slot own c.args.call c.args.reply s may)
+
+pub returns-clause-whole : goal.returns-clause-whole
+returns-clause-whole g c =
+    shown_whole c.answer_with-place.new.self.journal.knows c.give_seat.new.self c.lend_seat-seat.result c.answer_with-place.result.1 (ap (λ (s : SlotValue). s.seat) c.give_seat.ensures)
+    c.answer_with-place.ensures.slot

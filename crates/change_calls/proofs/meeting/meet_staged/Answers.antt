@@ -5,9 +5,13 @@ use Rattle.change_calls.proofs.meeting.meet_staged.Goals as goal
 use Rattle.history_seats.specs.Rule.{SlotFits}
 use Rattle.locked_gate.specs.KnownMachine.{IsSessionAt}
 use Rattle.locked_gate.specs.LockedGates.{LockedGateValue}
+use Rattle.locked_slots.proofs.ShownSlots.{agreed_fits}
 use Rattle.suppositions.specs.Answered.{AreAnswered}
 use Rattle.suppositions.specs.Guesses.{Guess}
 use Rattle.suppositions.specs.Stores.{standing_at}
+
+pub returns-clause-agreed : goal.returns-clause-agreed
+returns-clause-agreed g c = agreed_fits c.args.gate.now.journal.knows c.args.slot.now c.lend_seat-seat.result c.lend_seat-seat.ensures.seat c.show.ensures.agreed
 
 pub returns-clause-base : goal.returns-clause-base
 returns-clause-base g c =

@@ -5,7 +5,12 @@ use Rattle.create_calls.proofs.clearing.clear.Goals as goal
 use Rattle.create_calls.specs.Clearing.{IsClearSlot}
 use Rattle.history_seats.specs.Changes.{seat_renewed}
 use Rattle.history_seats.specs.Views.{Sight, SlotView}
+use Rattle.locked_slots.proofs.ShownSlots.{agreed_fits}
 use Rattle.object_slots.specs.Value.{SlotValue, free}
+
+pub returns-clause-agreed : goal.returns-clause-agreed
+returns-clause-agreed g c =
+    agreed_fits c.args.gate.now.journal.knows c.args.slot.now c.lend_seat-seat.result (sym (ap (λ (s : SlotValue). s.seat) c.let_go.ensures) ∙ c.lend_seat-seat.ensures.seat) c.show.ensures.agreed
 
 pub returns-clause-clear : goal.returns-clause-clear
 returns-clause-clear g c =

@@ -2,12 +2,16 @@
 use Rattle.std.proofs.Common.{Some, ap, subst, sym, ℕ, ◌+◌, ◌<◌, ◌∙◌, ◌≡◌}
 use Rattle.create_calls.proofs.FreshSeats.{seated_fresh, seated_own}
 use Rattle.create_calls.proofs.seating.reseat.Goals as goal
+use Rattle.locked_slots.proofs.ShownSlots.{agreed_fits}
 use Rattle.create_calls.specs.Seating.{IsFreshSlot, file_reseated}
 use Rattle.history_seats.specs.Views.{GateView, Sight, SlotView}
 use Rattle.locked_gate.specs.LockedGates.{LockedGateValue}
 use Rattle.object_commits.specs.CreateLaws.{new_seat}
 use Rattle.object_slots.specs.Value.{SlotValue}
 use Rattle.rpmb_card.specs.Protocol.{last_counter}
+
+pub returns-clause-agreed : goal.returns-clause-agreed
+returns-clause-agreed g c = agreed_fits c.args.gate.now.journal.knows c.args.slot.now c.lend_seat-seat.result c.lend_seat-seat.ensures.seat c.reseat-seat.ensures.agreed
 
 pub returns-clause-fresh : goal.returns-clause-fresh
 returns-clause-fresh g c =

@@ -8,6 +8,7 @@ use Rattle.history_seats.specs.Changes.{slot_renewed}
 use Rattle.history_seats.specs.Views.{GateView, Sight, SlotView}
 use Rattle.locked_gate.specs.SlotAnswers.{MayBeTold, slot_record, versions_given}
 use Rattle.locked_slots.proofs.Contents.{seat_same}
+use Rattle.locked_slots.proofs.ShownSlots.{shown_whole}
 use Rattle.locked_slots.specs.LockedSlots.{IsLockedSlot}
 use Rattle.locked_slots.specs.OwnEvents.{seat_after}
 use Rattle.object_slots.specs.Value.{SlotValue}
@@ -64,3 +65,8 @@ returns-clause-locked g c =
     subst (IsLockedSlot store) (sym is)
     (told_keeps store gate.gate knows gate.closing c.doubt-doubt.ensures.locked c.requires.idle c.doubt-doubt.ensures.entries s c.requires.calm call c.requires.create c.requires.makes slot c.requires.unnamed fresh
     c.requires.vacant c.args.why c.requires.may)
+
+pub returns-clause-whole : goal.returns-clause-whole
+returns-clause-whole g c =
+    shown_whole c.answer_with-place.new.self.journal.knows c.give_seat.new.self c.lend_seat-seat.result c.answer_with-place.result.1 (ap (λ (s : SlotValue). s.seat) c.give_seat.ensures)
+    c.answer_with-place.ensures.slot

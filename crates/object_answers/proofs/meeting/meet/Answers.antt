@@ -6,6 +6,7 @@ use Rattle.suppositions.specs.Guesses.{Guess}
 use Rattle.suppositions.specs.Stores.{standing_at}
 use Rattle.suppositions.specs.Answered.{AreAnswered}
 use Rattle.object_slots.specs.Value.{SlotValue}
+use Rattle.locked_slots.proofs.ShownSlots.{agreed_fits}
 use Rattle.locked_slots.specs.Learning.{learned, shown}
 use Rattle.locked_slots.specs.LockedSlots.{IsLockedSlot}
 use Rattle.locked_gate.specs.KnownMachine.{IsSessionAt}
@@ -13,6 +14,9 @@ use Rattle.locked_gate.specs.LockedGates.{LockedGateValue}
 use Rattle.object_answers.specs.Meeting.{StillGives, met}
 use Rattle.object_answers.proofs.Meetings.{met-gives, met-locked}
 use Rattle.object_answers.proofs.meeting.meet.Goals as goal
+
+pub returns-clause-agreed : goal.returns-clause-agreed
+returns-clause-agreed g c = agreed_fits c.args.gate.now.journal.knows c.args.slot.now c.lend_seat-seat.result c.lend_seat-seat.ensures.seat c.show.ensures.agreed
 
 pub returns-clause-locked : goal.returns-clause-locked
 returns-clause-locked g c =

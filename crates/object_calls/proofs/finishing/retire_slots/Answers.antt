@@ -1,18 +1,29 @@
-use Rattle.std.proofs.Common.{rules, ◌≡◌, ◌+◌, ◌-◌, ◌<◌, ◌∙◌, ℕ, [], ◌∷◌, ◌++◌, length, take, get_or, vec_len, refl, sym, ap, arith}
-use Rattle.std.proofs.lemmas.Grind.{common_steps}
-use Rattle.suppositions.proofs.Mending.{some_same}
+use Rattle.std.proofs.Common.{◌-◌, ◌<◌, ◌∙◌, List, Some, ℕ, vec_len, refl, ap, arith}
+use Rattle.std.specs.Prelude.{slice_set}
+use Rattle.history_seats.specs.Numbers.{without}
+use Rattle.call_history.specs.Journals.{JournalValue}
 use Rattle.object_slots.specs.Value.{SlotValue}
-use Rattle.object_calls.proofs.Retirings.{files_same, files_then, none_retired, one_retired}
+use Rattle.object_calls.proofs.Placings.{all_placed, none_placed, object_last, one_placed}
+use Rattle.object_calls.proofs.Retirings.{files_same, files_then}
+use Rattle.object_calls.proofs.Stacks.{popped_last, popped_rest}
 use Rattle.object_calls.proofs.finishing.retire_slots.Goals as goal
 
 pub loop-slot-init : goal.loop-slot-init
 loop-slot-init g c = record {
   journal = refl;
-  retired = none_retired g.L.StoreName.store g.F.StoreFile.state c.args.slots.items c.args.journal.now.knows c.reversed-left.result.items c.args.room.items
-      (sym c.args.room.ok.0 ∙ c.requires.empty) c.reversed-left.ensures.items;
-  count = omega (arith, c.requires.empty, c.reversed-left.ensures.len, c.requires.many);
-  room = c.requires.room;
+  placed = none_placed g.L.StoreName.store g.F.StoreFile.state c.args.slots.items c.args.journal.now.knows c.args.places.items c.requires.free;
 }
+
+pub put_file-requires : goal.put_file-requires
+put_file-requires g c =
+    let l = c.loop-slot in
+    let slot : SlotValue = c.in-Some.slot in
+    let some : 0 < vec_len l.left = omega (arith, c.in-Some.ensures.cases) in
+    let last = popped_last l.left.items (vec_len l.left) l.left.ok.0 slot (c.in-Some.ensures.value slot some) in
+    let object =
+    object_last g.L.StoreName.store g.F.StoreFile.state c.args.slots.items c.args.journal.now.knows l.journal.knows l.left.items l.places.items l.invariant.placed c.requires.objects
+    (omega (arith, some, l.left.ok.0)) slot last in
+    (omega (arith, object.0, c.number-number.ensures.number), omega (arith, object.1, c.number-number.ensures.number, l.invariant.placed.many, l.places.ok.0))
 
 pub loop-slot-preserved : goal.loop-slot-preserved
 loop-slot-preserved g c =
@@ -20,26 +31,27 @@ loop-slot-preserved g c =
     let slot : SlotValue = c.in-Some.slot in
     let after = c.retire_slot-file.new.journal in
     let some : 0 < vec_len l.left = omega (arith, c.in-Some.ensures.cases) in
-    let place : vec_len l.left ≡ length l.left.items = l.left.ok.0 in
-    let last : slot ≡ get_or l.left.items (length l.left.items - 1) slot =
-    some_same slot (get_or l.left.items (vec_len l.left - 1) slot) (c.in-Some.ensures.value slot some) ∙ ap (λ n. get_or l.left.items (n - 1) slot) place in
-    let more : length l.files.items < length c.args.slots.items = omega (arith, l.invariant.count, some, l.files.ok.0, c.args.slots.ok.0, c.requires.many) in
-    let pushed : c.push.new.self.items ≡ l.files.items ++ c.retire_slot-file.result ∷ [] = search rules in
-    let longer : vec_len c.push.new.self ≡ vec_len l.files + 1 = search rules in
+    let last = popped_last l.left.items (vec_len l.left) l.left.ok.0 slot (c.in-Some.ensures.value slot some) in
+    let retired = c.retire_slot-file.ensures in
+    let rest : List ℕ = without slot.number l.journal.knows.files in
     record {
-      journal = files_then c.args.journal.now l.journal after after.knows.files l.invariant.journal c.retire_slot-file.ensures.journal;
-      retired = one_retired g.L.StoreName.store g.F.StoreFile.state c.args.slots.items c.args.journal.now.knows l.journal.knows l.left.items l.files.items l.invariant.retired more
-          c.requires.numbered after.knows slot c.retire_slot-file.result c.pop.new.self.items c.push.new.self.items last (c.in-Some.ensures.rest ∙ ap (λ n. take (n - 1) l.left.items) place)
-          pushed c.retire_slot-file.ensures.retired c.retire_slot-file.ensures.file c.retire_slot-file.ensures.numbered (files_same l.journal after after.knows.files c.retire_slot-file.ensures.journal);
-      count = omega (arith, l.invariant.count, longer, c.in-Some.ensures.cases);
-      room = omega (arith, l.invariant.room, c.push.ensures.capacity);
+      journal = files_then c.args.journal.now l.journal after rest l.invariant.journal retired.journal;
+      placed = one_placed g.L.StoreName.store g.F.StoreFile.state c.args.slots.items c.args.journal.now.knows l.journal.knows l.left.items l.places.items l.invariant.placed c.requires.objects
+          (omega (arith, some, l.left.ok.0)) after.knows slot c.retire_slot-file.result c.pop.new.self.items c.put_file.new.places.items last
+          (popped_rest l.left.items (vec_len l.left) l.left.ok.0 c.pop.new.self.items c.in-Some.ensures.rest) (c.put_file.ensures ∙ ap (λ n. slice_set l.places.items (n - 1) (Some c.retire_slot-file.result)) c.number-number.ensures.number) retired.retired retired.file retired.out
+          (ap (λ (j : JournalValue). j.knows.files) retired.journal) retired.gone retired.numbered (files_same l.journal after rest retired.journal);
     }
 
-some_files : (count many : ℕ) → count ≡ 272 → count ≡ many → 0 < many
-some_files count many is same = omega (arith, is, same)
-
-pub returns-clause-numbered : goal.returns-clause-numbered
-returns-clause-numbered g c =
+pub returns : goal.returns
+returns g c =
     let l = c.loop-slot in
-    let many : vec_len l.files ≡ 272 = grind (arith, common_steps) in
-    l.invariant.retired.numbered (some_files (vec_len l.files) (length l.files.items) many l.files.ok.0)
+    let all =
+    all_placed g.L.StoreName.store g.F.StoreFile.state c.args.slots.items c.args.journal.now.knows l.journal.knows l.left.items l.places.items l.invariant.placed
+    (omega (arith, c.in_default.ensures.cases.0, l.left.ok.0)) (omega (arith, c.requires.many, c.args.slots.ok.0)) in
+    record {
+      journal = l.invariant.journal;
+      many = omega (arith, l.invariant.placed.many, l.places.ok.0);
+      full = all.0;
+      placed = all.1;
+      numbered = all.2;
+    }

@@ -1,14 +1,11 @@
-use Rattle.std.proofs.Common.{◌≡◌, ◌+◌, ◌≤◌, vec_len}
-use Rattle.std.specs.Vec.{vec_capacity}
-use Rattle.object_calls.proofs.Retirings.{AreFirstRetired}
+use Rattle.std.proofs.Common.{◌≡◌, vec_len}
+use Rattle.object_calls.proofs.Placings.{AreLastPlaced}
 use Rattle.object_calls.proofs.finishing.retire_slots.Given as goal
 
 abbrev pub invariant-loop-slot : goal.invariant-loop-slot
 invariant-loop-slot g l = record {
   journal : l.journal ≡ record l.initial.journal { knows = record l.initial.journal.knows { files = l.journal.knows.files } };
-  retired : AreFirstRetired g.L.StoreName.store g.F.StoreFile.state l.fn.slots.items l.initial.journal.knows l.journal.knows l.left.items l.files.items;
-  count : vec_len l.files + vec_len l.left ≡ 272;
-  room : 273 ≤ vec_capacity l.files;
+  placed : AreLastPlaced g.L.StoreName.store g.F.StoreFile.state l.fn.slots.items l.initial.journal.knows l.journal.knows l.left.items l.places.items;
 }
 
 abbrev pub decreases-loop-slot : goal.decreases-loop-slot

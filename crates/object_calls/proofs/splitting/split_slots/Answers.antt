@@ -1,7 +1,7 @@
-use Rattle.std.proofs.Common.{rules, ◌≡◌, ◌+◌, ◌-◌, ◌<◌, ◌∙◌, ℕ, [], ◌∷◌, ◌++◌, length, take, get_or, vec_len, sym, ap, subst, arith}
-use Rattle.suppositions.proofs.Mending.{some_same}
+use Rattle.std.proofs.Common.{rules, ◌≡◌, ◌+◌, ◌<◌, ◌∙◌, [], ◌∷◌, ◌++◌, length, vec_len, sym, subst, arith}
 use Rattle.object_calls.specs.Seats.{IsSplitting}
 use Rattle.object_calls.proofs.SplitFiles.{may_be_next, none_split, one_split}
+use Rattle.object_calls.proofs.Stacks.{popped_last, popped_rest}
 use Rattle.object_calls.proofs.splitting.split_slots.Goals as goal
 
 pub loop-file-init : goal.loop-file-init
@@ -24,9 +24,7 @@ split_slot-slot-requires-clause-locked g c =
     let l = c.loop-file in
     let file = c.in-Some.file in
     let some : 0 < vec_len l.left = omega (arith, c.in-Some.ensures.cases) in
-    let place : vec_len l.left ≡ length l.left.items = l.left.ok.0 in
-    let last : file ≡ get_or l.left.items (length l.left.items - 1) file =
-    some_same file (get_or l.left.items (vec_len l.left - 1) file) (c.in-Some.ensures.value file some) ∙ ap (λ (n : ℕ). get_or l.left.items (n - 1) file) place in
+    let last = popped_last l.left.items (vec_len l.left) l.left.ok.0 file (c.in-Some.ensures.value file some) in
     let more : length l.slots.items < length c.args.files.items = omega (arith, l.invariant.count, some, l.slots.ok.0, c.args.files.ok.0, c.requires.files) in
     let number : c.len.result + 1 ≡ length l.slots.items + 1 = omega (arith, c.len.ensures, l.slots.ok.0) in
     may_be_next g.L.StoreName.store c.args.gate.now.dir.dir.entries g.F.StoreFile.state c.args.files.items l.seat.knows l.slots.items l.left.items l.invariant.split more c.requires.locked
@@ -38,9 +36,7 @@ loop-file-preserved g c =
     let l = c.loop-file in
     let file = c.in-Some.file in
     let some : 0 < vec_len l.left = omega (arith, c.in-Some.ensures.cases) in
-    let place : vec_len l.left ≡ length l.left.items = l.left.ok.0 in
-    let last : file ≡ get_or l.left.items (length l.left.items - 1) file =
-    some_same file (get_or l.left.items (vec_len l.left - 1) file) (c.in-Some.ensures.value file some) ∙ ap (λ (n : ℕ). get_or l.left.items (n - 1) file) place in
+    let last = popped_last l.left.items (vec_len l.left) l.left.ok.0 file (c.in-Some.ensures.value file some) in
     let more : length l.slots.items < length c.args.files.items = omega (arith, l.invariant.count, some, l.slots.ok.0, c.args.files.ok.0, c.requires.files) in
     let number : c.len.result + 1 ≡ length l.slots.items + 1 = omega (arith, c.len.ensures, l.slots.ok.0) in
     let s = c.split_slot-slot.ensures in
@@ -51,7 +47,7 @@ loop-file-preserved g c =
       splitting = subst (IsSplitting store c.split_slot-slot.new.seat.knows) (let next : c.len.result + 1 + 1 ≡ vec_len c.push.new.self + 1 = omega (arith, c.len.ensures, longer) in next) s.splitting;
       split = one_split store c.args.gate.now.dir.dir.entries g.F.StoreFile.state c.args.files.items l.seat.knows l.slots.items l.left.items l.invariant.split more
           c.split_slot-slot.new.seat.knows file (c.len.result + 1) c.split_slot-slot.result c.push.new.self.items c.pop.new.self.items number last s.slot pushed
-          (c.in-Some.ensures.rest ∙ ap (λ (n : ℕ). take (n - 1) l.left.items) place) s.told;
+          (popped_rest l.left.items (vec_len l.left) l.left.ok.0 c.pop.new.self.items c.in-Some.ensures.rest) s.told;
       count = omega (arith, l.invariant.count, longer, c.in-Some.ensures.cases);
       room = omega (arith, l.invariant.room, c.push.ensures.capacity);
       kept = c.in-Some.ensures.capacity ∙ l.invariant.kept;

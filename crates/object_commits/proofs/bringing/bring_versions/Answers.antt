@@ -2,7 +2,9 @@
 use Rattle.std.proofs.Common.{Some, ap, refl, subst, ◌∙◌, ◌≡◌}
 use Rattle.store_commit.specs.Changes.{change_of}
 use Rattle.locked_gate.specs.Ends.{HandlesBehind, end_record, reply_told}
+use Rattle.locked_slots.proofs.ShownSlots.{shown_whole}
 use Rattle.object_commits.proofs.BroughtCommits.{lent_ended, lent_number, lent_ready, lent_table}
+use Rattle.object_slots.specs.Value.{SlotValue}
 use Rattle.object_commits.proofs.bringing.bring_versions.Goals as goal
 
 pub commit-committed-requires-clause-table : goal.commit-committed-requires-clause-table
@@ -64,3 +66,8 @@ returns-clause-committed g c =
         cause = e.cause;
       };
     }
+
+pub returns-clause-whole : goal.returns-clause-whole
+returns-clause-whole g c =
+    shown_whole c.commit-committed.new.self.journal.knows c.settle_slot.new.slot c.lend_seat-seat.result c.commit-committed.result.slot (ap (λ (s : SlotValue). s.seat) c.settle_slot.ensures.slot)
+    c.commit-committed.ensures.slot

@@ -5,7 +5,7 @@ use Rattle.run_streams.proofs.printing.send_phase.Given as goal
 
 abbrev pub invariant-loop-place : goal.invariant-loop-place
 invariant-loop-place g l = record {
-  sent : Sends (g.K.Sink.held l.fn.sink) (g.K.Sink.held l.sink) l.fn.kept.items l.kept.items (phase_line l.number l.objects ++ events_text l.script 0 (take l.place l.history.events));
+  sent : Sends (g.K.Sink.held l.fn.sink) (g.K.Sink.held l.sink) l.fn.kept.items l.kept.items (phase_line l.number l.fn.mode l.objects ++ events_text l.script 0 (take l.place l.history.events));
   counted : g.K.Sink.faults l.fn.sink ≤ g.K.Sink.faults l.sink;
   small : length l.kept.items < 65536;
 }

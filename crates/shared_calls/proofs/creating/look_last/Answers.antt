@@ -1,12 +1,14 @@
--- The create was answered, or has to be begun again.
+-- The create was answered, or has to be begun again; and what was made and not brought went.
 use Rattle.std.proofs.Common.{Ok, subst}
 use Rattle.std.specs.declared.alloc.AllocError.{AllocError}
 use Rattle.call_rules.specs.declared.decision.NewPlace.{NewPlace}
 use Rattle.tee_types.specs.declared.call.Call.TheVariants.{Create}
 use Rattle.shared_calls.specs.declared.look.Look.{Look}
+use Rattle.shared_calls.specs.Creating.{told_made}
 use Rattle.shared_calls.specs.Looks.{EndsLook}
 use Rattle.shared_calls.specs.Rounds.{IsWaiting}
 use Rattle.shared_calls.proofs.FinishedCreates.{finish-ends}
+use Rattle.shared_calls.proofs.MadeObjects.{keeps-unmade}
 use Rattle.shared_calls.proofs.creating.look_last.Goals as goal
 
 pub returns-clause-ends : goal.returns-clause-ends
@@ -18,3 +20,15 @@ returns-clause-ends g c =
     let looked : IsWaiting store was between =
     subst (λ (x : Look NewPlace). EndsLook {X = Unit {0}} store was between call (Ok x)) c.in-Ok-Found.field-0-is c.in-Ok-Found.ensures.ends in
     finish-ends AllocError store was between c.finish_slot.new.session looked call c.finish_slot.result c.finish_slot.ensures.answered c.finish_slot.ensures.waits
+
+pub returns-in-Ok-Answered-clause-kept : goal.returns-in-Ok-Answered-clause-kept
+returns-in-Ok-Answered-clause-kept g c =
+    keeps-unmade g.L.DevicesName.devices c.args.slot.now c.give_up.new.slot (told_made c.args.slot.now.number c.args.made) c.give_up.ensures.slot c.requires.kept
+
+pub returns-in-Ok-Again-clause-kept : goal.returns-in-Ok-Again-clause-kept
+returns-in-Ok-Again-clause-kept g c =
+    keeps-unmade g.L.DevicesName.devices c.args.slot.now c.give_up-in-Ok-Again.new.slot (told_made c.args.slot.now.number c.args.made) c.give_up-in-Ok-Again.ensures.slot c.requires.kept
+
+pub returns-in-Err-clause-kept : goal.returns-in-Err-clause-kept
+returns-in-Err-clause-kept g c =
+    keeps-unmade g.L.DevicesName.devices c.args.slot.now c.give_up-in-Err.new.slot (told_made c.args.slot.now.number c.args.made) c.give_up-in-Err.ensures.slot c.requires.kept

@@ -5,6 +5,7 @@ use Rattle.call_rules.specs.declared.decision.OpenObject.{OpenObject}
 use Rattle.tee_types.specs.declared.call.Call.TheVariants.{Read}
 use Rattle.shared_calls.specs.Looks.{EndsLook}
 use Rattle.shared_calls.proofs.Waiting.{ends-then}
+use Rattle.shared_calls.proofs.KeptSlots.{keeps-untold}
 use Rattle.shared_calls.proofs.reading.round.Goals as goal
 
 pub returns-clause-ends : goal.returns-clause-ends
@@ -16,3 +17,6 @@ returns-clause-ends g c =
     ends-then store was between c.look_last.new.session
     (subst (λ (x : Look OpenObject). EndsLook {X = Unit {0}} store was between call (Ok x)) c.in-Found.is c.in_ok-looked.ensures.ends)
     call c.look_last.result c.look_last.ensures.ends
+
+pub returns-in_err-told-clause-kept : goal.returns-in_err-told-clause-kept
+returns-in_err-told-clause-kept g c = keeps-untold g.L.DevicesName.devices c.read_slot.new.slot _ c.in_ok-reply.ensures.kept

@@ -1,5 +1,5 @@
 -- What the machine answers anyhow.
-use Rattle.std.proofs.Common.{Ok, refl, subst}
+use Rattle.std.proofs.Common.{[], Ok, refl, subst}
 use Rattle.call_rules.specs.Objects.{IsRightful}
 use Rattle.call_rules.specs.declared.decision.OpenObject.{OpenObject}
 use Rattle.change_calls.proofs.MeantChanges.{meant_same, meant_truncate}
@@ -29,3 +29,9 @@ answer_held-requires-then-size-found-clause-meant g c = λ m matches opened.
     let rightful : IsRightful gate.dir.dir.entries s.state c.args.handle write_bit found =
     subst (λ (x : Look OpenObject). IfFound {X = Unit {0}} (Ok x) (IsRightful gate.dir.dir.entries s.state c.args.handle write_bit)) c.in-Found.is c.in_ok-ended.ensures.found in
     meant_same gate.dir.dir.entries gate.open_handles s.state m s.number c.args.handle found matches opened rightful c.args.size c.if-size-found.true (c.in_default-truncate_refusal.ensures.fits refl)
+
+pub returns-then-not-meet_held-clause-kept : goal.returns-then-not-meet_held-clause-kept
+returns-then-not-meet_held-clause-kept g c = c.meet_held.ensures.kept [] c.requires.kept
+
+pub returns-clause-kept : goal.returns-clause-kept
+returns-clause-kept g c = c.meet_held.ensures.kept [] c.requires.kept

@@ -1,6 +1,6 @@
 -- The last look follows the stage.
 use Rattle.tee_types.specs.declared.call.Call.TheVariants.{Truncate}
-use Rattle.shared_calls.proofs.Counting.{grows-then}
+use Rattle.served_calls.proofs.Counting.{grows_grows}
 use Rattle.shared_calls.proofs.Waiting.{ends-then}
 use Rattle.shared_calls.proofs.truncating.truncate_slot.Goals as goal
 
@@ -12,4 +12,4 @@ returns-clause-ends g c =
 pub returns-clause-counted : goal.returns-clause-counted
 returns-clause-counted g c =
     let faults = g.E.Entropy.faults in
-    grows-then (faults c.args.session.now.entropy) (faults c.stage_slot.new.session.entropy) (faults c.look_last.new.session.entropy) c.stage_slot.ensures.counted c.look_last.ensures.counted
+    grows_grows (faults c.args.session.now.entropy) (faults c.stage_slot.new.session.entropy) (faults c.look_last.new.session.entropy) c.stage_slot.ensures.counted c.look_last.ensures.counted

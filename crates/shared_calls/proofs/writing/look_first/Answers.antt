@@ -1,5 +1,5 @@
 -- What the machine answers anyhow is appended; else the session is as the look left it.
-use Rattle.std.proofs.Common.{◌≡◌, ◌∙◌, ℕ, Ok, Some, false, length, ◌==◌, subst, sym}
+use Rattle.std.proofs.Common.{◌≡◌, ◌∙◌, [], ℕ, Ok, Some, false, length, ◌==◌, subst, sym}
 use Rattle.call_rules.specs.Objects.{IsRightful}
 use Rattle.call_rules.specs.declared.decision.OpenObject.{OpenObject}
 use Rattle.change_calls.proofs.MeantChanges.{meant_write}
@@ -43,3 +43,9 @@ returns-in-Some-clause-ends g c =
     let now = c.answer_held.new.session in
     answers-then store was between now (subst (λ (x : Look OpenObject). EndsLook {X = Unit {0}} store was between call (Ok x)) c.in-Found.is c.in_ok-ended.ensures.ends) call c.in-Some-answer_held.answer
     (subst (λ (x : Call). IsAnswered store between now x c.in-Some-answer_held.answer) (c.in_ok-kept.ensures ∙ c.requires.call) c.in-Some-answer_held.ensures.answered)
+
+pub returns-then-not-meet_held-clause-kept : goal.returns-then-not-meet_held-clause-kept
+returns-then-not-meet_held-clause-kept g c = c.meet_held.ensures.kept [] c.requires.kept
+
+pub returns-clause-kept : goal.returns-clause-kept
+returns-clause-kept g c = c.meet_held.ensures.kept [] c.requires.kept

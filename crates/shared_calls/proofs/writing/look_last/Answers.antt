@@ -6,7 +6,7 @@ use Rattle.call_rules.specs.declared.decision.OpenObject.{OpenObject}
 use Rattle.shared_calls.specs.declared.look.Look.{Look}
 use Rattle.shared_calls.specs.Looks.{EndsLook, IfFound}
 use Rattle.tee_types.specs.declared.call.Call.TheVariants.{Write}
-use Rattle.shared_calls.proofs.Counting.{grows-le, grows-then}
+use Rattle.served_calls.proofs.Counting.{grows_grows, grows_le}
 use Rattle.shared_calls.proofs.Waiting.{answers-then}
 use Rattle.shared_calls.proofs.writing.look_last.Goals as goal
 
@@ -25,7 +25,7 @@ returns-clause-counted g c =
     let faults = g.E.Entropy.faults in
     let was = faults c.args.session.now.entropy in
     let between = faults c.look_again.new.session.entropy in
-    grows-then was between (faults c.answer_staged.new.session.entropy) (grows-le was between c.look_again.ensures.counted) c.answer_staged.ensures.counted
+    grows_grows was between (faults c.answer_staged.new.session.entropy) (grows_le was between c.look_again.ensures.counted) c.answer_staged.ensures.counted
 
 pub answer_staged-requires-clause-staged : goal.answer_staged-requires-clause-staged
 answer_staged-requires-clause-staged g c =

@@ -5,7 +5,7 @@ use Rattle.tee_types.specs.declared.call.Call.TheVariants.{Write}
 use Rattle.shared_calls.specs.declared.look.Look.{Look}
 use Rattle.shared_calls.specs.Looks.{EndsLook}
 use Rattle.shared_calls.specs.Rounds.{EndsRound}
-use Rattle.shared_calls.proofs.Counting.{grows-le, grows-then}
+use Rattle.served_calls.proofs.Counting.{grows_grows, grows_le}
 use Rattle.shared_calls.proofs.Waiting.{ends-then}
 use Rattle.shared_calls.proofs.writing.round.Goals as goal
 
@@ -25,4 +25,4 @@ returns-clause-counted g c =
     let faults = g.E.Entropy.faults in
     let was = faults c.args.session.now.entropy in
     let between = faults c.look_first.new.session.entropy in
-    grows-then was between (faults c.write_slot.new.session.entropy) (grows-le was between c.in_ok-looked.ensures.counted) c.write_slot.ensures.counted
+    grows_grows was between (faults c.write_slot.new.session.entropy) (grows_le was between c.in_ok-looked.ensures.counted) c.write_slot.ensures.counted

@@ -1,10 +1,10 @@
 -- The session drew at most, and the slot has the stage of the change of the version that it gives.
 use Rattle.std.proofs.Common.{◌≡◌, IfOk, List, ℕ, subst}
 use Rattle.change_calls.specs.Staging.{writing}
-use Rattle.shared_calls.specs.Changing.{HasStaged}
-use Rattle.shared_calls.specs.Counts.{Grows}
-use Rattle.shared_calls.proofs.StageCounts.{drawn-waits, stage-grows, stage-still}
-use Rattle.shared_calls.proofs.StagedSlots.{has-staged}
+use Rattle.shared_calls.specs.Changing.{CarriesStaged, HasStaged}
+use Rattle.served_calls.specs.Devices.{Grows}
+use Rattle.shared_calls.proofs.StageCounts.{drawn-waits, stage-carries, stage-grows, stage-still}
+use Rattle.shared_calls.proofs.StagedSlots.{has-staged, stage-keeps}
 use Rattle.shared_calls.proofs.writing.stage_slot.Goals as goal
 
 pub returns-clause-waits : goal.returns-clause-waits
@@ -35,3 +35,17 @@ returns-clause-still g c =
     let staged = c.write_object in
     subst (λ (x : g.row.E.Denot). reliable x → faults staged.new.entropy ≡ faults x) c.entropy_mut-entropy.ensures.value
     (stage-still reliable faults old.file staged.new.slot.file old.number c.entropy_mut-entropy.result.now staged.new.entropy staged.result staged.ensures.cause staged.ensures.undrawn)
+
+pub returns-clause-kept : goal.returns-clause-kept
+returns-clause-kept g c =
+    let staged = c.write_object in
+    stage-keeps g.L.DevicesName.devices c.args.slot.now staged.new.slot staged.ensures.same staged.ensures.goes_on c.requires.kept (g.E.Entropy.is_reliable c.entropy_mut-entropy.result.now)
+    (g.E.Entropy.faults c.entropy_mut-entropy.result.now) (g.E.Entropy.faults staged.new.entropy) staged.result staged.ensures.cause
+
+pub returns-clause-drawn : goal.returns-clause-drawn
+returns-clause-drawn g c =
+    let faults = g.E.Entropy.faults in
+    let old = c.args.slot.now in
+    let staged = c.write_object in
+    subst (λ (x : g.row.E.Denot). IfOk staged.result (CarriesStaged (faults x) (faults staged.new.entropy))) c.entropy_mut-entropy.ensures.value
+    (stage-carries g.E.Entropy.is_reliable faults old.file staged.new.slot.file old.number c.entropy_mut-entropy.result.now staged.new.entropy staged.result staged.ensures.cause)

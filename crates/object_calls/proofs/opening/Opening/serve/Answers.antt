@@ -76,6 +76,7 @@ invariant_of-result g c =
       c.split_slots-slots.ensures.vacant,
       room_for_all (vec_capacity c.split_slots-slots.result.room) (vec_capacity i.files) (vec_len i.files) (length i.files.items) c.split_slots-slots.ensures.room c.self.invariant.1
           i.files.ok.0 c.self.invariant.0.whole,
+      c.in-Ok-free_places.ensures,
     )
 
 pub returns-clause-served : goal.returns-clause-served

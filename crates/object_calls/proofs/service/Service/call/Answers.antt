@@ -10,7 +10,7 @@ pub invariant_of-self : goal.invariant_of-self
 invariant_of-self g c =
     let was = c.self.invariant.0 in
     let done = c.serve.ensures.serves in
-    (record { slots_are = done.slots; tagged = done.tagged was.tagged; keyed = was.keyed; few = was.few; opens = was.opens }, c.self.invariant.1, c.self.invariant.2)
+    (record { slots_are = done.slots; tagged = done.tagged was.tagged; keyed = was.keyed; few = was.few; opens = was.opens }, c.self.invariant.1, c.self.invariant.2, c.self.invariant.3)
 
 pub returns-clause-answers : goal.returns-clause-answers
 returns-clause-answers g c =

@@ -1,5 +1,5 @@
 use Rattle.std.proofs.Common.{◌≡◌}
-use Rattle.shared_calls.specs.Counts.{Grows}
+use Rattle.served_calls.specs.Devices.{Grows}
 use Rattle.shared_calls.specs.Rounds.{IsWaiting}
 use Rattle.shared_calls.proofs.store.SharedStore.call.Given as goal
 

@@ -1,0 +1,120 @@
+// Scripts of sessions on threads that meet at the same objects, and their histories once more, one call after another.
+
+use crate::devices::new_bench;
+use crate::runs::{reliable, run_script};
+use anyhow::Context;
+use seed_words::SeedEntropy;
+use std::alloc::{AllocError, Global};
+use std::sync::Wait;
+use std::thread::Threads;
+use tee_ports::Entropy;
+
+/// How many scripts are run.
+const SCRIPTS: u8 = 200;
+
+/// How many calls each of them has.
+const CALLS_OF_SCRIPT: u64 = 60;
+
+/// Two sessions of each of two applications.
+const SESSIONS: &str =
+    "app a 00000000-0000-0000-0000-000000000001\napp b 00000000-0000-0000-0000-000000000001\napp c 00000000-0000-0000-0000-000000000002\napp d 00000000-0000-0000-0000-000000000002\n";
+
+/// Their names.
+const NAMES: [&str; 4] = ["a", "b", "c", "d"];
+
+/// What they call.
+const CALLS: [&str; 16] = [
+    "create 6b rwRW - 0102",
+    "create 6c rwmRW 0a 030405",
+    "create 6b rwoRW - 06",
+    "open 6b rwRW",
+    "open 6b rRW",
+    "open 6c rwmRW",
+    "open 6c rwRW",
+    "read 0 4",
+    "read 1 4",
+    "write 0 a1a2a3",
+    "write 1 b1",
+    "truncate 0 5000",
+    "seek 0 0 set",
+    "rename 0 6d",
+    "delete 0",
+    "close 1",
+];
+
+// The script of that number: its calls are drawn.
+fn script_of(alloc: Global, number: u8) -> Result<String, AllocError> {
+    let mut words = SeedEntropy::from_seed(&[number; 32]);
+    let mut drawn = [0; 16];
+    let mut script = String::from_str(alloc, SESSIONS)?;
+    script.push_str("threads\n")?;
+    for _ in 0..CALLS_OF_SCRIPT {
+        let _ = words.draw(&mut drawn);
+        let name = NAMES[usize::from(drawn[0] % 4)];
+        let call = CALLS[usize::from(drawn[1] % 16)];
+        script.push_str(format!(in alloc; "{name} {call}\n")?.as_str())?;
+    }
+    script.push_str("list\n")?;
+    Ok(script)
+}
+
+// The call of a history's line, if it has one.
+fn call_in(line: &str) -> Option<&str> {
+    let (front, _) = line.split_once(" -> ")?;
+    let (_, call) = front.split_once(" ")?;
+    Some(call)
+}
+
+// The calls of a history in its order, as a serial script.
+fn replay_of(alloc: Global, history: &str) -> Result<String, AllocError> {
+    let mut script = String::from_str(alloc, SESSIONS)?;
+    for line in history.lines() {
+        if let Some(call) = call_in(line) {
+            script.push_str(call)?;
+            script.push_str("\n")?;
+        }
+    }
+    script.push_str("list\n")?;
+    Ok(script)
+}
+
+// What stands below the line of the first phase.
+fn history_in(output: &str) -> anyhow::Result<&str> {
+    let (_, history) = output.split_once(" objects 0\n").context("no phase")?;
+    Ok(history)
+}
+
+// What a script puts that is run over new devices.
+fn output_of<W: Threads + Wait + Sync>(
+    rt: &W,
+    alloc: Global,
+    script: &str,
+) -> anyhow::Result<String> {
+    let ran = run_script(rt, alloc, script, new_bench(alloc)?, &mut reliable())?;
+    Ok(ran.output)
+}
+
+// Whether the calls of a script on threads have the same replies, and leave the same objects, one after another in the order of the history.
+fn is_replayed<W: Threads + Wait + Sync>(
+    rt: &W,
+    alloc: Global,
+    number: u8,
+) -> anyhow::Result<bool> {
+    let script = script_of(alloc, number)?;
+    let ran = output_of(rt, alloc, script.as_str())?;
+    let history = history_in(ran.as_str())?;
+    let replay = replay_of(alloc, history)?;
+    let again = output_of(rt, alloc, replay.as_str())?;
+    Ok(history_in(again.as_str())? == history)
+}
+
+/// The line that says how many scripts were run on threads, and how many of their histories are not those of their calls one after another.
+pub fn replay_line<W: Threads + Wait + Sync>(rt: &W, alloc: Global) -> anyhow::Result<String> {
+    let mut differ = 0u8;
+    for number in 0..SCRIPTS {
+        if !is_replayed(rt, alloc, number)? {
+            differ = differ.saturating_add(1);
+        }
+    }
+    Ok(format!(in alloc; "{SCRIPTS} scripts on threads, {differ} differ from their replay")?)
+}

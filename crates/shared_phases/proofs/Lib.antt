@@ -1,0 +1,5 @@
+pub mod Calls
+pub mod Draws
+pub mod Makings
+pub mod Sharings
+pub mod Closings
