@@ -17,8 +17,8 @@ use Rattle.store_model.specs.Standing.{opening}
 use Rattle.suppositions.specs.Stores.{Store, phase_of}
 use Rattle.script_text.specs.declared.script.Mode.{Mode}
 use Rattle.script_text.specs.declared.script.Step.{Step}
-use Rattle.served_calls.specs.Counts.{Rise, counts_of}
-use Rattle.served_calls.proofs.Rises.{Rise-still}
+use Rattle.device_counts.specs.Counts.{Rise, counts_of}
+use Rattle.device_counts.proofs.Rises.{Rise-still}
 use Rattle.object_calls.specs.Arming.{IsOnBench}
 use Rattle.object_calls.specs.Finished.{AreAllHonest}
 use Rattle.bench_acts.specs.Benches.{BenchState, opening_state}

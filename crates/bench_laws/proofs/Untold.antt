@@ -20,8 +20,8 @@ use Rattle.store_model.specs.Legal.IsLegalAnswer.{Answered, Doubted, FoundCorrup
 use Rattle.store_model.specs.Record.{Record, events_of, fault_in_reply, file_of}
 use Rattle.store_model.specs.Standing.{Standing, keeps_doubt, standing_after, standing_after_call}
 use Rattle.store_model.proofs.Sessions.{length-after}
-use Rattle.served_calls.specs.Cards.{TellNoFrame}
-use Rattle.served_calls.specs.Counts.{counts_of, draws_of, told_of}
+use Rattle.device_counts.specs.Cards.{TellNoFrame}
+use Rattle.device_counts.specs.Counts.{counts_of, draws_of, told_of}
 use Rattle.object_calls.specs.Arming.{IsOnBench}
 use Rattle.bench_laws.specs.Quiet.{AreOfMachine, IsOfMachine}
 

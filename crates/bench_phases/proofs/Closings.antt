@@ -14,10 +14,10 @@ use Rattle.store_commit.specs.Gates.{GateValue}
 use Rattle.object_slots.specs.Value.{SlotValue}
 use Rattle.script_text.specs.declared.script.Mode.{Mode}
 use Rattle.script_text.specs.declared.script.Step.{Step}
-use Rattle.served_calls.specs.Answered.{events_at}
-use Rattle.served_calls.specs.Cards.{TellsCard}
-use Rattle.served_calls.specs.Counts.{Rise, counts_of, draws_of}
-use Rattle.served_calls.specs.Devices.{PortGoesOn, file_in, no_slot}
+use Rattle.device_counts.specs.Events.{events_at}
+use Rattle.device_counts.specs.Cards.{TellsCard}
+use Rattle.device_counts.specs.Counts.{Rise, counts_of, draws_of}
+use Rattle.device_counts.specs.Devices.{PortGoesOn, file_in, no_slot}
 use Rattle.object_calls.specs.Arming.{IsOnBench}
 use Rattle.object_calls.specs.Files.{files_of}
 use Rattle.object_calls.specs.Finished.{GivesBack, LeavesStore}

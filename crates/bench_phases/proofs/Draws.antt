@@ -3,8 +3,8 @@ use Rattle.std.proofs.Common.{◌≡◌, ◌∙◌, ◌<◌, ℕ, List, [], ◌�
 use Rattle.std.proofs.lemmas.Bool.{cases_eq}
 use Rattle.std.proofs.lemmas.List.{get_or_append_left, get_or_push, length_push}
 use Rattle.call_history.specs.Sessions.{CallerSession}
-use Rattle.served_calls.specs.Counts.{Rise}
-use Rattle.served_calls.proofs.Rises.{Rise-still}
+use Rattle.device_counts.specs.Counts.{Rise}
+use Rattle.device_counts.proofs.Rises.{Rise-still}
 use Rattle.phase_calls.specs.Reliable.{AreFresh, AreReliable}
 
 module _ {E : Type 0} where

@@ -9,7 +9,7 @@ use Rattle.store_model.specs.declared.event.Event.{Event}
 use Rattle.suppositions.specs.Stores.{Store}
 use Rattle.script_text.specs.declared.script.Mode.TheVariants.{Serial, Threads}
 use Rattle.script_text.specs.declared.script.Step.{Step}
-use Rattle.served_calls.specs.Counts.{Rise, counts_of}
+use Rattle.device_counts.specs.Counts.{Rise, counts_of}
 use Rattle.object_calls.specs.Arming.{IsOnBench}
 use Rattle.object_calls.specs.Opening.{OpeningValue}
 use Rattle.bench_acts.specs.Benches.{BenchState, opening_state}

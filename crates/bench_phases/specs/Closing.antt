@@ -10,9 +10,9 @@ use Rattle.history_seats.specs.Views.{GateView}
 use Rattle.suppositions.specs.Stores.{Store}
 use Rattle.script_text.specs.declared.script.Mode.{Mode}
 use Rattle.script_text.specs.declared.script.Step.{Step}
-use Rattle.served_calls.specs.Cards.{TellsCard}
-use Rattle.served_calls.specs.Counts.{Rise, counts_of, draws_of}
-use Rattle.served_calls.specs.Devices.{PortGoesOn}
+use Rattle.device_counts.specs.Cards.{TellsCard}
+use Rattle.device_counts.specs.Counts.{Rise, counts_of, draws_of}
+use Rattle.device_counts.specs.Devices.{PortGoesOn}
 use Rattle.object_calls.specs.Arming.{IsOnBench}
 use Rattle.object_calls.specs.Finished.{LeavesStore}
 use Rattle.bench_acts.specs.Benches.{BenchState}

@@ -4,7 +4,7 @@ ghost use Rattle.std.specs.Prelude.{◌≡◌, [], length, vec_len, IfOk, MatchR
 ghost use Rattle.object_calls.specs.OpenedStores.{IsStoreOf, store_in};
 ghost use Rattle.object_calls.specs.Opening.{IsKeyed};
 ghost use Rattle.object_calls.specs.Sessions.{AreSeated, AreUnseated};
-ghost use Rattle.served_calls.specs.Answered.{events_at};
+ghost use Rattle.device_counts.specs.Events.{events_at};
 ghost use Rattle.phase_calls.specs.Reliable.{AreFresh, AreReliable};
 ghost use Rattle.phase_calls.specs.Steps.{AreCalls};
 ghost use Rattle.script_text.specs.declared.script.Mode.{Mode};

@@ -32,7 +32,7 @@ use Rattle.object_calls.specs.OpenedStores.{IsStoreOf}
 use Rattle.object_calls.specs.Opening.{IsOpening, OpeningValue, bench_files, entries_in}
 use Rattle.object_calls.specs.Seats.{HasTold, IsSplitting}
 use Rattle.object_calls.specs.Services.{AreFirstSlots, MayBeFirst, OpensAsHonest}
-use Rattle.served_calls.specs.Slots.{AreNumberedSlots, AreOfObjectFiles}
+use Rattle.device_counts.specs.Slots.{AreNumberedSlots, AreOfObjectFiles}
 use Rattle.object_calls.proofs.Files.{files_sound}
 use Rattle.object_calls.proofs.HonestOpenings.{opens_as_honest}
 

@@ -45,13 +45,13 @@ use Rattle.locked_gate.specs.declared.gate.Closing.{Closing}
 use Rattle.locked_gate.specs.LockedGates.{IsLockedGate, LockedGateValue, change_in_doubt}
 use Rattle.object_calls.specs.Files.{files_of}
 use Rattle.object_calls.specs.Finished.{AreAllHonest, GivesBack, IsAnsweredOrEnds, IsDoubtLeft, IsMapLeft, LeavesHonest, LeavesStore, PicturesMountAfter, end_standing}
-use Rattle.object_calls.specs.Retiring.{ArePlaced, IsPlaced}
+use Rattle.object_calls.specs.Retiring.{ArePlaced, AreRecorded, IsPlaced}
 use Rattle.object_calls.specs.Services.{OpensAsHonest, ServiceValue}
-use Rattle.served_calls.specs.Slots.{AreOfObjectFiles, AreSlots}
+use Rattle.device_counts.specs.Slots.{AreOfObjectFiles, AreSlots}
 use Rattle.object_calls.proofs.Files.{files-past}
 use Rattle.object_calls.proofs.HonestHistories.{all_answered as all_answered_honest, events_legal}
 use Rattle.object_calls.proofs.HonestOpenings.{altered-same}
-use Rattle.object_calls.proofs.Retirings.{IsSameHistory, numbered_back, placed_back}
+use Rattle.object_calls.proofs.Retirings.{IsSameHistory, placed_back, recorded_back}
 
 -- a number that is in a list is contained in it, and the other way round
 in-contains : (n : ℕ) (numbers : List ℕ) → is_in n numbers ≡ true → Contains numbers n
@@ -267,13 +267,13 @@ module _ {F R : Type 0} (state : F → FileState) (port : R → PortState) (soun
 -- The parts of a store that is closed: its gate, its history once the sessions' seats were taken in, and its files.
 module _ {F R : Type 0} (state : F → FileState) (port : R → PortState) (sound : (f : F) → Sound (state f)) (store : Store) (s : LockedGateValue F R) (later : GateView)
     (locked : IsLockedGate store s.gate s.journal.knows s.closing) (tagged : AreOfObjectFiles s.journal.knows.all) (same : IsSameHistory s.journal.knows later)
-    (taken : List SlotValue) (others : List F) (many : length others ≡ 272) (placed : ArePlaced store later taken state 272 others) (numbered : AreNumbered (events_of later.all)) (opens : OpensAsHonest store) where
+    (taken : List SlotValue) (others : List F) (many : length others ≡ 272) (placed : ArePlaced store later taken state 272 others) (recorded : AreRecorded later) (opens : OpensAsHonest store) where
   pub leaves_parts : DoubtStands (gate_sides state port s.gate) s.gate.doubt → AreHolds s.gate.dir.dir.entries s.gate.holds → (doubt : Option ℕ)
       → doubt ≡ option_map (λ d. d.number) s.gate.doubt → (dir : F) (card : R) (files : List F) → dir ≡ s.gate.dir.file → card ≡ s.gate.host.port → files ≡ dir ∷ others
       → LeavesStore store s.journal.knows (files_of state files) (port card) doubt
   leaves_parts stands held doubt doubt_is dir card files dir_is card_is files_are =
       let all = leaves state port sound store s.gate s.journal.knows s.closing taken others locked stands held tagged many
-      (λ i within. placed_back s.journal.knows later same store taken (i + 1) (files_of state others i) (placed i within)) opens doubt doubt_is (numbered_back s.journal.knows later same numbered) in
+      (λ i within. placed_back s.journal.knows later same store taken (i + 1) (files_of state others i) (placed i within)) opens doubt doubt_is (recorded_back s.journal.knows later same recorded).numbered in
       subst (λ (l : List F). LeavesStore store s.journal.knows (files_of state l) (port card) doubt) (sym (files_are ∙ ap (λ (f : F). f ∷ others) dir_is))
       (subst (λ (r : R). LeavesStore store s.journal.knows (files_of state (s.gate.dir.file ∷ others)) (port r) doubt) (sym card_is) all)
 

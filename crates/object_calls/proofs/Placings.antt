@@ -5,8 +5,6 @@ use Rattle.std.proofs.lemmas.Bool.{cases_Bool, cases_eq, cases_lt, false≢true}
 use Rattle.std.proofs.lemmas.List.{get_or-set_other, get_or_past, length-set, length_push, map_push, nil_from_length, take_all, take_more}
 use Rattle.std.proofs.lemmas.List.Sums.{count_by-le-length, sum_by-cons, sum_by-le, sum_by-set}
 use Rattle.disk_model.specs.State.{FileState}
-use Rattle.store_model.specs.History.{AreNumbered}
-use Rattle.store_model.specs.Record.{events_of}
 use Rattle.history_seats.specs.Numbers.{is_in, without}
 use Rattle.history_seats.specs.Views.{GateView}
 use Rattle.history_seats.proofs.Numbers.{stays_in}
@@ -16,9 +14,9 @@ use Rattle.locked_slots.specs.LockedSlots.{IsSlotOf}
 use Rattle.object_slots.specs.Value.{SlotValue}
 use Rattle.object_calls.specs.Files.{files_of}
 use Rattle.object_calls.specs.Places.{AreFree, place_state}
-use Rattle.object_calls.specs.Retiring.{AreObjectSlots, ArePlaced, IsPlaced, IsRetired}
+use Rattle.object_calls.specs.Retiring.{AreObjectSlots, ArePlaced, AreRecorded, IsPlaced, IsRetired}
 use Rattle.object_calls.proofs.Files.{files_else, files_here}
-use Rattle.object_calls.proofs.Retirings.{IsSameHistory, numbered_back, retired_back, same_itself, same_then}
+use Rattle.object_calls.proofs.Retirings.{IsSameHistory, recorded_back, retired_back, same_itself, same_then}
 use Rattle.object_calls.proofs.Stacks.{all_left, last_left, last_of_all, left_of, rest_left, rest_of_all}
 
 -- COUNTS
@@ -77,7 +75,6 @@ placed_of store view slots slot r among n left number file = record {
   is = r.is;
   own = subst (λ (k : ℕ). IsSlotOf store k left r.seat) number (subst (λ (f : FileState). IsSlotOf store slot.number f r.seat) (sym file) r.own);
   fits = r.fits;
-  tagged = r.tagged;
 }
 
 -- The last slots were taken in. Each of their files is at its place, and has no seat out.
@@ -89,7 +86,7 @@ pub record AreLastPlaced {F : Type 0} (store : Store) (state : F → FileState) 
   pub counted : count_by is_some places + length left ≡ length slots
   pub placed : (i : ℕ) → IsSome (get_or places i None)
       → IsPlaced store view slots (i + 1) (files_of (place_state state) places i) × (is_in (i + 1) now.files ≡ false)
-  pub numbered : length left < length slots → AreNumbered (events_of view.all)
+  pub recorded : length left < length slots → AreRecorded view
 
 module _ {F : Type 0} (store : Store) (state : F → FileState) (slots : List SlotValue) (view : GateView) where
   pub none_placed : (places : List (Option F)) → AreFree places → AreLastPlaced store state slots view view slots places
@@ -100,7 +97,7 @@ module _ {F : Type 0} (store : Store) (state : F → FileState) (slots : List Sl
     many = free.many;
     counted = omega (arith, none_full places free.none);
     placed = λ i some. absurd (false≢true (ap is_some (sym (free_at places free.none i)) ∙ some));
-    numbered = λ fewer. absurd (omega (arith, fewer));
+    recorded = λ fewer. absurd (omega (arith, fewer));
   }
 
   module _ (now : GateView) (left : List SlotValue) (places : List (Option F)) (s : AreLastPlaced store state slots view now left places) where
@@ -113,8 +110,8 @@ module _ {F : Type 0} (store : Store) (state : F → FileState) (slots : List Sl
     pub one_placed : AreObjectSlots slots → 0 < length left → (after : GateView) (slot : SlotValue) (file : F) (left_after : List SlotValue) (places_after : List (Option F))
         → slot ≡ get_or left (length left - 1) slot → left_after ≡ take (length left - 1) left → places_after ≡ slice_set places (slot.number - 1) (Some file)
         → IsRetired store now slot → state file ≡ slot.file → is_in slot.number now.files ≡ true → after.files ≡ without slot.number now.files → is_in slot.number after.files ≡ false
-        → AreNumbered (events_of now.all) → IsSameHistory now after → AreLastPlaced store state slots view after left_after places_after
-    one_placed objects some after slot file left_after places_after is left_is places_are r same_file was_out files gone numbered next =
+        → AreRecorded now → IsSameHistory now after → AreLastPlaced store state slots view after left_after places_after
+    one_placed objects some after slot file left_after places_after is left_is places_are r same_file was_out files gone recorded next =
         let last : slot ≡ get_or slots (length left - 1) slot = last_of_all slots left s.left_are slot some is in
         let within : length left - 1 < length slots = omega (arith, some, s.few) in
         let object : IsObjectFile slot.number = object_last objects some slot is in
@@ -131,7 +128,7 @@ module _ {F : Type 0} (store : Store) (state : F → FileState) (slots : List Sl
           placed = λ i full. subst
               (λ (l : List (Option F)). IsSome (get_or l i None) → IsPlaced store view slots (i + 1) (files_of (place_state state) l i) × (is_in (i + 1) after.files ≡ false)) (sym places_are)
               (at_place place there (placed_of store view slots slot (retired_back view now s.same store slot r) (length left - 1, within, sym last)) i) full;
-          numbered = λ fewer. numbered_back view now s.same numbered;
+          recorded = λ fewer. recorded_back view now s.same recorded;
         }
       where
         vacant : slot.number ≡ (slot.number - 1) + 1 → is_in slot.number now.files ≡ true → is_some (get_or places (slot.number - 1) None) ≡ false
@@ -159,10 +156,10 @@ module _ {F : Type 0} (store : Store) (state : F → FileState) (slots : List Sl
 
   -- all slots were taken in
   pub all_placed : (now : GateView) (left : List SlotValue) (places : List (Option F)) → AreLastPlaced store state slots view now left places → length left ≡ 0 → length slots ≡ 272
-      → All (λ place. IsSome place) places × ArePlaced store view slots (place_state state) 272 places × AreNumbered (events_of view.all)
+      → All (λ place. IsSome place) places × ArePlaced store view slots (place_state state) 272 places × AreRecorded view
   all_placed now left places s none many =
       let full : All (λ place. IsSome place) places = all_pass is_some places (omega (arith, s.counted, s.many, none, many)) in
-      (full, λ i within. (s.placed i (full i None (omega (arith, within, s.many)))).0, s.numbered (omega (arith, none, many)))
+      (full, λ i within. (s.placed i (full i None (omega (arith, within, s.many)))).0, s.recorded (omega (arith, none, many)))
 
 -- THE FILES
 -- The first files were taken out of their places.

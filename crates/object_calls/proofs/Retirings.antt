@@ -16,7 +16,7 @@ use Rattle.call_history.specs.Sessions.{CallerSession}
 use Rattle.call_history.specs.Shown.{BeginsAll}
 use Rattle.object_slots.specs.Value.{SlotValue}
 use Rattle.object_calls.specs.Finished.{HasCounted}
-use Rattle.object_calls.specs.Retiring.{IsPlaced, IsRetired}
+use Rattle.object_calls.specs.Retiring.{AreRecorded, IsPlaced, IsRetired}
 use Rattle.object_calls.proofs.Stacks.{last_of_all, rest_of_all}
 
 -- The views have the same history: they differ at most in which seats are out.
@@ -72,7 +72,7 @@ module _ (old new : GateView) (same : IsSameHistory old new) where
   pass_back p fits = keep_pass new old p (sym same.all) (λ is. sym same.mounted ∙ is) (sym same.decided) fits
 
   pub retired_back : (store : Store) (slot : SlotValue) → IsRetired store new slot → IsRetired store old slot
-  retired_back store slot r = record { seat = r.seat; is = r.is; own = r.own; fits = slot_back r.seat.knows r.fits; tagged = subst AreTagged same.all r.tagged }
+  retired_back store slot r = record { seat = r.seat; is = r.is; own = r.own; fits = slot_back r.seat.knows r.fits }
 
   pub placed_back : (store : Store) (slots : List SlotValue) (n : ℕ) (left : FileState) → IsPlaced store new slots n left → IsPlaced store old slots n left
   placed_back store slots n left p = record {
@@ -84,7 +84,6 @@ module _ (old new : GateView) (same : IsSameHistory old new) where
     is = p.is;
     own = p.own;
     fits = slot_back p.seat.knows p.fits;
-    tagged = subst AreTagged same.all p.tagged;
   }
 
   pub counted_back : {E : Type 0} (s : CallerSession E) → BeginsAll new s.pass → s.made ≡ count_of s.number (events_of new.all) → HasCounted old s
@@ -93,8 +92,8 @@ module _ (old new : GateView) (same : IsSameHistory old new) where
     made = made ∙ ap (λ (l : List HistoryRecord). count_of s.number (events_of l)) same.all;
   }
 
-  pub numbered_back : AreNumbered (events_of new.all) → AreNumbered (events_of old.all)
-  numbered_back numbered = subst (λ (l : List HistoryRecord). AreNumbered (events_of l)) same.all numbered
+  pub recorded_back : AreRecorded new → AreRecorded old
+  recorded_back r = record { numbered = subst (λ (l : List HistoryRecord). AreNumbered (events_of l)) same.all r.numbered; tagged = subst AreTagged same.all r.tagged }
 
 -- THE SESSIONS
 -- the last sessions are retired

@@ -6,8 +6,8 @@ use Rattle.hmac_keys.specs.KeyTable.{rpmb_key}
 use Rattle.object_calls.specs.Services.{ServiceValue}
 use Rattle.rpmb_card.specs.Port.{PortState}
 use Rattle.served_calls.specs.Answered.{GoesOnWithout, IsAnswered}
-use Rattle.served_calls.specs.Devices.{DevicesGoOn}
-use Rattle.served_calls.specs.Standing.{Serving, devices_in}
+use Rattle.device_counts.specs.Devices.{DevicesGoOn}
+use Rattle.device_counts.specs.Serving.{Serving, devices_in}
 use Rattle.suppositions.specs.Stores.{Store}
 use Rattle.tee_types.specs.declared.call.Call.{Call}
 use Rattle.tee_types.specs.declared.reply.Reply.{Reply}

@@ -28,7 +28,7 @@ use Rattle.call_history.specs.Shown.{BeginsAll}
 use Rattle.gate_parts.specs.ClosedStores.{dishonest_in}
 use Rattle.gate_parts.specs.Phases.{phase_under}
 use Rattle.object_slots.specs.Value.{SlotValue}
-use Rattle.served_calls.specs.Slots.{AreOfObjectFiles}
+use Rattle.device_counts.specs.Slots.{AreOfObjectFiles}
 use Rattle.object_calls.specs.Files.{files_of}
 use Rattle.object_calls.specs.Services.{ServiceValue}
 

@@ -10,7 +10,7 @@ use Rattle.locked_gate.specs.LockedGates.{LockedGateValue}
 use Rattle.locked_slots.specs.LockedSlots.{IsLockedSlot}
 use Rattle.locked_slots.specs.Opening.{first_slot}
 use Rattle.mounted_store.specs.Generations.{generation_in}
-use Rattle.served_calls.specs.Slots.{AreOfObjectFiles, AreSlots}
+use Rattle.device_counts.specs.Slots.{AreOfObjectFiles, AreSlots}
 use Rattle.object_calls.specs.Files.{files_of}
 
 -- the gate, the slots of the files, file 1 first, and the key that the applications' keys come from

@@ -3,16 +3,16 @@
 ghost use Rattle.std.specs.Prelude.{◌≡◌, ◌∷◌, ◌+◌, ◌≤◌, ◌<◌, ℕ, All, IsSome, drop, false, true, vec_len};
 ghost use Rattle.std.specs.Option.{option_map};
 ghost use Rattle.std.specs.Vec.{vec_capacity};
-ghost use Rattle.store_model.specs.History.{AreNumbered};
 ghost use Rattle.store_model.specs.Record.{events_of};
 ghost use Rattle.history_seats.specs.Numbers.{is_in, without};
+ghost use Rattle.history_seats.specs.Tags.{AreTagged};
 ghost use Rattle.object_calls.specs.Files.{files_of};
 ghost use Rattle.object_calls.specs.Finished.{GivesBack, HaveCounted, LeavesStore};
 ghost use Rattle.object_calls.specs.Places.{AreFree, place_state};
-ghost use Rattle.object_calls.specs.Retiring.{AreObjectSlots, ArePlaced, IsPlaced, IsRetired};
+ghost use Rattle.object_calls.specs.Retiring.{AreObjectSlots, ArePlaced, AreRecorded, IsPlaced, IsRetired};
 ghost use Rattle.object_calls.specs.Services.{OpensAsHonest};
 ghost use Rattle.object_calls.specs.Sessions.{AreCallers};
-ghost use Rattle.served_calls.specs.Slots.{AreOfObjectFiles};
+ghost use Rattle.device_counts.specs.Slots.{AreOfObjectFiles};
 
 use crate::bench::{Bench, with_dir};
 use crate::places::{put_file, taken_files};
@@ -63,7 +63,7 @@ fn retire_slot<F: StoreFile + Drop, L: StoreName>(
     // The file had a seat out, and has none any more.
     ensures out { is_in slot.number journal.old.knows.files ≡ true }
     ensures gone { is_in slot.number journal.new.knows.files ≡ false }
-    ensures numbered { AreNumbered (events_of journal.old.knows.all) }
+    ensures recorded { AreRecorded journal.old.knows }
 {
     let SlotParts { file, seat } = slot.into_slot().into_parts();
     journal.retire(seat);
@@ -83,7 +83,7 @@ fn retire_slots<F: StoreFile + Drop, L: StoreName>(
     ensures many { vec_len result ≡ 272 }
     ensures full { All (λ place. IsSome place) result.items }
     ensures placed { ArePlaced L.store journal.old.knows slots.items (place_state F.state) 272 result.items }
-    ensures numbered { AreNumbered (events_of journal.old.knows.all) }
+    ensures recorded { AreRecorded journal.old.knows }
 {
     let mut left = slots;
     let mut places = places;
@@ -121,6 +121,8 @@ pub fn close_slots<F: StoreFile + Drop, R: RpmbPort + Drop, E: Entropy + Drop, L
     // Each file of an object is as the slot of its number left it.
     ensures placed { (i : ℕ) → i < 272
         → IsPlaced L.store gate.journal.knows slots.items (i + 1) (files_of F.state result.bench.files.items (i + 1)) }
+    // Faults and commits have their tags.
+    ensures tagged { AreTagged gate.journal.knows.all }
     ensures leaves { LeavesStore L.store gate.journal.knows (files_of F.state result.bench.files.items) (R.state result.bench.card) result.doubt }
 {
     let (gate, mut journal) = gate.into_parts();

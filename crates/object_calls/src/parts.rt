@@ -9,7 +9,6 @@ use crate::service::Service;
 use locked_gate::LockedGate;
 use locked_slots::LockedSlot;
 use rpmb_card::RpmbPort;
-use std::alloc::Global;
 use suppositions::StoreName;
 use tee_ports::StoreFile;
 
@@ -26,8 +25,6 @@ pub struct ServiceParts<F: StoreFile + Drop, R: RpmbPort + Drop, L: StoreName> {
     pub places: Vec<Option<F>>,
     /// A list without a file, that has room for all 273.
     pub room: Vec<F>,
-    /// The allocator.
-    pub alloc: Global,
 }
 
 impl<F: StoreFile + Drop, R: RpmbPort + Drop, L: StoreName> Service<F, R, L> {
@@ -48,7 +45,7 @@ impl<F: StoreFile + Drop, R: RpmbPort + Drop, L: StoreName> Service<F, R, L> {
             storage_key,
             places,
             room,
-            alloc,
+            alloc: _,
         } = self;
         ServiceParts {
             gate,
@@ -56,7 +53,6 @@ impl<F: StoreFile + Drop, R: RpmbPort + Drop, L: StoreName> Service<F, R, L> {
             storage_key,
             places,
             room,
-            alloc,
         }
     }
 }

@@ -17,7 +17,7 @@ use tee_types::NoMemory;
 pub(crate) fn free_places<F: Drop>(alloc: Global) -> Result<Vec<Option<F>>, NoMemory>
     ensures { IfOk result (λ places. AreFree places.items) }
 {
-    let mut places = Vec::new(alloc);
+    let mut places = Vec::with_capacity(alloc, FILES - 1)?;
     for i in 1..FILES {
         let _ = i;
         places.push(None)?;

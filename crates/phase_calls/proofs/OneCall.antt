@@ -15,14 +15,14 @@ use Rattle.store_model.specs.declared.event.Mark.{Mark}
 use Rattle.script_text.specs.declared.script.Step.TheVariants.{Call as CallStep}
 use Rattle.suppositions.specs.Stores.{Store}
 use Rattle.call_history.specs.Sessions.{CallerSession}
-use Rattle.served_calls.specs.Answered.{events_at, landing_events}
-use Rattle.served_calls.specs.Counts.{Rise, told_of}
-use Rattle.served_calls.specs.Devices.{CountsGrow, Devices, DevicesGoOn, faults_of}
-use Rattle.served_calls.specs.Standing.{devices_in}
-use Rattle.served_calls.proofs.CarriedCounts.{added_by, counts_of-call, counts_of-landing, draws_of-call, draws_of-landing}
-use Rattle.served_calls.proofs.Cards.{TellsCard-call, TellsCard-landing}
-use Rattle.served_calls.proofs.Counting.{counts_grow}
-use Rattle.served_calls.proofs.Tellings.{Rise-told_of}
+use Rattle.device_counts.specs.Events.{events_at, landing_events}
+use Rattle.device_counts.specs.Counts.{Rise, told_of}
+use Rattle.device_counts.specs.Devices.{CountsGrow, Devices, DevicesGoOn, faults_of}
+use Rattle.device_counts.specs.Serving.{devices_in}
+use Rattle.device_counts.proofs.CarriedCounts.{added_by, counts_of-call, counts_of-landing, draws_of-call, draws_of-landing}
+use Rattle.device_counts.proofs.Cards.{TellsCard-call, TellsCard-landing}
+use Rattle.device_counts.proofs.Counting.{counts_grow}
+use Rattle.device_counts.proofs.Tellings.{Rise-told_of}
 use Rattle.object_calls.specs.Arming.{IsOnBench}
 use Rattle.object_calls.specs.Calling.{AnswersCall, serving}
 use Rattle.object_calls.specs.Services.{ServiceValue}

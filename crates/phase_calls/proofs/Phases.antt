@@ -5,19 +5,19 @@ use Rattle.disk_model.specs.State.{FileState}
 use Rattle.rpmb_card.specs.Port.{PortState}
 use Rattle.hmac_keys.specs.KeyTable.{rpmb_key}
 use Rattle.suppositions.specs.Stores.{Store}
-use Rattle.served_calls.proofs.Counting.{devices_go_on_none, devices_go_on_then}
+use Rattle.device_counts.proofs.Counting.{devices_go_on_none, devices_go_on_then}
 use Rattle.tee_types.specs.declared.reply.Device.{Device}
 use Rattle.tee_types.specs.declared.reply.Device.TheVariants.{Card}
 use Rattle.store_model.specs.declared.event.Event.{Event}
 use Rattle.script_text.specs.declared.script.Mode.{Mode}
 use Rattle.script_text.specs.declared.script.Step.{Step}
 use Rattle.call_history.specs.Sessions.{CallerSession}
-use Rattle.served_calls.specs.Answered.{events_at}
-use Rattle.served_calls.specs.Cards.{TellsCard}
-use Rattle.served_calls.specs.Counts.{Rise, counts_of, draws_of}
-use Rattle.served_calls.proofs.CarriedCounts.{counts_of-append, draws_of-append}
-use Rattle.served_calls.proofs.Cards.{TellsCard-append, TellsCard-none}
-use Rattle.served_calls.proofs.Rises.{Rise-append}
+use Rattle.device_counts.specs.Events.{events_at}
+use Rattle.device_counts.specs.Cards.{TellsCard}
+use Rattle.device_counts.specs.Counts.{Rise, counts_of, draws_of}
+use Rattle.device_counts.proofs.CarriedCounts.{counts_of-append, draws_of-append}
+use Rattle.device_counts.proofs.Cards.{TellsCard-append, TellsCard-none}
+use Rattle.device_counts.proofs.Rises.{Rise-append}
 use Rattle.object_calls.specs.Arming.{IsOnBench}
 use Rattle.object_calls.specs.Services.{ServiceValue}
 use Rattle.phase_calls.specs.Making.{MakesCalls, MakesFront, bench_devices, faults_at}

@@ -7,10 +7,10 @@ use Rattle.tee_types.specs.declared.reply.Device.{Device}
 use Rattle.store_model.specs.declared.event.Event.{Event}
 use Rattle.call_history.specs.Sessions.{CallerSession}
 use Rattle.script_text.specs.declared.script.Step.{Step}
-use Rattle.served_calls.specs.Answered.{events_at}
-use Rattle.served_calls.specs.Cards.{TellsCard}
-use Rattle.served_calls.specs.Counts.{Rise, counts_of, draws_of}
-use Rattle.served_calls.specs.Devices.{Devices, DevicesGoOn, devices_of, faults_of}
+use Rattle.device_counts.specs.Events.{events_at}
+use Rattle.device_counts.specs.Cards.{TellsCard}
+use Rattle.device_counts.specs.Counts.{Rise, counts_of, draws_of}
+use Rattle.device_counts.specs.Devices.{Devices, DevicesGoOn, devices_of, faults_of}
 use Rattle.suppositions.specs.Stores.{Store}
 use Rattle.object_calls.specs.Arming.{IsOnBench}
 use Rattle.object_calls.specs.Services.{ServiceValue}

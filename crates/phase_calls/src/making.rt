@@ -4,7 +4,7 @@ ghost use Rattle.std.specs.Prelude.{◌≡◌, ◌<◌, [], ◌∷◌, length, t
 ghost use Rattle.script_text.specs.Script.{IsPlaced, is_call};
 ghost use Rattle.script_text.specs.declared.script.Mode.{Mode};
 ghost use Rattle.script_text.specs.declared.script.Step.TheVariants.{Call as CallStep};
-ghost use Rattle.served_calls.specs.Answered.{events_at};
+ghost use Rattle.device_counts.specs.Events.{events_at};
 ghost use Rattle.object_calls.specs.Sessions.{AreSeated};
 ghost use Rattle.phase_calls.specs.Making.{MakesCalls, MakesFront};
 ghost use Rattle.phase_calls.specs.Reliable.{StayReliable};

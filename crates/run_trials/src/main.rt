@@ -1,4 +1,7 @@
-//! Tries what may go wrong with a device while a store is formatted, mounted and changed: calls of the directory's file, of the objects' files
+//! Runs `run`. First the rows of standard input: scripts, each with the output and the status that it must have (`rows.rt` says how a row is
+//! written). Then trials.
+//!
+//! The table is of what may go wrong with a device while a store is formatted, mounted and changed: calls of the directory's file, of the objects' files
 //! and of the card fail, or the device stops there, answers of the card are lost, and draws fail. Then the power fails, by each seed, and the
 //! objects are listed; or another object is asked about, and the objects are listed then.
 //!
@@ -14,15 +17,25 @@
 //! second writes it too. They say how many file keys, vectors and nonces there are, and how many different ones. Nothing else tells that
 //! they are drawn anew and are no constants.
 //!
-//! The last line is of scripts of four sessions on threads, two of each application, which call the same few objects. The calls of each
+//! Then come scripts of four sessions on threads, two of each application, which call the same few objects. The calls of each
 //! history are run once more as a serial script, in the history's order: the replies and the objects must be the same.
+//!
+//! The next line is of two applications on threads whose files wait for each other: a call of each has to be under way at once.
+//!
+//! The last table is of power cuts behind phases on threads. Four sessions make, write, rename and delete objects, while the directory's file or
+//! the card stops or fails at one of its first calls. Then the power fails, and a list must show the objects that the calls of the history leave,
+//! run once more as a serial script over new devices, but for those that a device kept from being done; or these with the one call that the
+//! card did not confirm. A list that shows neither has lost an object, or invented one.
 #![tactic(auto)]
 
 use acts::ACTS;
 use draws::draw_lines;
+use meetings::meeting_line;
 use mishaps::{Device, Mishap};
 use openings::Opening;
+use power_cuts::cut_lines;
 use replays::replay_line;
+use rows::run_rows;
 use std::sync::Wait;
 use std::thread::Threads;
 use subjects::Subject;
@@ -30,13 +43,19 @@ use table::{head_line, row_line};
 use texts::Texts;
 
 mod acts;
+mod busy;
 mod devices;
 mod draws;
 mod facts;
+mod histories;
 mod kept_port;
+mod meeting_file;
+mod meetings;
 mod mishaps;
 mod openings;
+mod power_cuts;
 mod replays;
+mod rows;
 mod runs;
 mod subjects;
 mod table;
@@ -94,9 +113,12 @@ fn print_table<W: Print + AllocGlobal + Threads + Wait + Sync>(rt: &W) -> anyhow
 }
 
 fn main(rt: HostRuntime) -> anyhow::Result<()> {
+    run_rows(&rt)?;
     print_line(&rt, head_line(rt.alloc())?.as_str())?;
     let lost = print_table(&rt)?;
     println!(rt; "{lost} lost")?;
     print_line(&rt, draw_lines(&rt, rt.alloc())?.trim_end())?;
-    print_line(&rt, replay_line(&rt, rt.alloc())?.as_str())
+    print_line(&rt, replay_line(&rt, rt.alloc())?.as_str())?;
+    print_line(&rt, meeting_line(&rt, rt.alloc())?.as_str())?;
+    print_line(&rt, cut_lines(&rt, rt.alloc())?.trim_end())
 }

@@ -1,6 +1,7 @@
 // Scripts of sessions on threads that meet at the same objects, and their histories once more, one call after another.
 
 use crate::devices::new_bench;
+use crate::histories::{call_in, push_done_calls};
 use crate::runs::{reliable, run_script};
 use anyhow::Context;
 use seed_words::SeedEntropy;
@@ -58,22 +59,10 @@ fn script_of(alloc: Global, number: u8) -> Result<String, AllocError> {
     Ok(script)
 }
 
-// The call of a history's line, if it has one.
-fn call_in(line: &str) -> Option<&str> {
-    let (front, _) = line.split_once(" -> ")?;
-    let (_, call) = front.split_once(" ")?;
-    Some(call)
-}
-
 // The calls of a history in its order, as a serial script.
 fn replay_of(alloc: Global, history: &str) -> Result<String, AllocError> {
     let mut script = String::from_str(alloc, SESSIONS)?;
-    for line in history.lines() {
-        if let Some(call) = call_in(line) {
-            script.push_str(call)?;
-            script.push_str("\n")?;
-        }
-    }
+    push_done_calls(&mut script, history)?;
     script.push_str("list\n")?;
     Ok(script)
 }
@@ -94,27 +83,53 @@ fn output_of<W: Threads + Wait + Sync>(
     Ok(ran.output)
 }
 
-// Whether the calls of a script on threads have the same replies, and leave the same objects, one after another in the order of the history.
-fn is_replayed<W: Threads + Wait + Sync>(
+// How many calls a history has.
+fn calls_in(history: &str) -> u64 {
+    history.lines().fold(
+        0u64,
+        |calls, line| calls.saturating_add(u64::from(call_in(line).is_some())),
+    )
+}
+
+/// What became of the scripts so far.
+#[derive(Drop)]
+struct Replays {
+    calls: u64,
+    differ: u64,
+}
+
+// Runs a script on threads, and the calls of its history once more, one after another in its order: they must have the same replies, and
+// leave the same objects.
+fn replay<W: Threads + Wait + Sync>(
     rt: &W,
     alloc: Global,
     number: u8,
-) -> anyhow::Result<bool> {
+    replays: &mut Replays,
+) -> anyhow::Result<()> {
     let script = script_of(alloc, number)?;
     let ran = output_of(rt, alloc, script.as_str())?;
     let history = history_in(ran.as_str())?;
     let replay = replay_of(alloc, history)?;
     let again = output_of(rt, alloc, replay.as_str())?;
-    Ok(history_in(again.as_str())? == history)
+    replays.calls = replays.calls.saturating_add(calls_in(history));
+    if history_in(again.as_str())? != history {
+        replays.differ = replays.differ.saturating_add(1);
+    }
+    Ok(())
 }
 
-/// The line that says how many scripts were run on threads, and how many of their histories are not those of their calls one after another.
+/// The line that says how many scripts were run on threads, how many calls their histories have, and how many of these are not those of their
+/// calls one after another.
 pub fn replay_line<W: Threads + Wait + Sync>(rt: &W, alloc: Global) -> anyhow::Result<String> {
-    let mut differ = 0u8;
+    let mut replays = Replays {
+        calls: 0,
+        differ: 0,
+    };
     for number in 0..SCRIPTS {
-        if !is_replayed(rt, alloc, number)? {
-            differ = differ.saturating_add(1);
-        }
+        replay(rt, alloc, number, &mut replays)?;
     }
-    Ok(format!(in alloc; "{SCRIPTS} scripts on threads, {differ} differ from their replay")?)
+    Ok(format!(in alloc;
+        "{SCRIPTS} scripts on threads, {} calls, {} differ from their replay",
+        replays.calls, replays.differ
+    )?)
 }

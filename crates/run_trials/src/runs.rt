@@ -2,23 +2,29 @@
 
 ghost use Rattle.std.specs.Prelude.{◌≡◌, vec_len, IfOk};
 
-use crate::devices::KeptBench;
+use crate::kept_port::KeptPort;
 use anyhow::{Context, bail};
 use bench_run::{RunEnd, Status, run};
+use mem_files::MemFile;
+use object_calls::Bench;
+use rpmb_card::CardRig;
 use sim_bench::simulator_keys;
 use std::alloc::Global;
 use std::sync::Wait;
 use std::thread::Threads;
-use tee_ports::{Entropy, ListEntropy, MemSink, MemSource};
+use tee_ports::{Entropy, FileRig, ListEntropy, MemSink, MemSource};
 
 /// How a run ended, what it put, and the devices as it left them.
 #[derive(Drop)]
-pub struct Ran {
+pub struct RanOver<F, R> {
     /// No mount was refused.
     pub is_done: bool,
     pub output: String,
-    pub bench: KeptBench,
+    pub bench: Bench<F, R>,
 }
+
+/// A run over files in memory and a card that keeps its frames.
+pub type Ran = RanOver<MemFile, KeptPort>;
 
 /// More calls of a device than a run here makes.
 pub const MOST_CALLS: u64 = 64;
@@ -58,13 +64,13 @@ fn is_done(status: &Status) -> anyhow::Result<bool> {
 }
 
 /// Runs a script over these devices.
-pub fn try_script<W: Threads + Wait + Sync>(
+pub fn try_script<W: Threads + Wait + Sync, F: FileRig + Drop + Send, R: CardRig + Drop + Send>(
     rt: &W,
     alloc: Global,
     script: &str,
-    bench: KeptBench,
+    bench: Bench<F, R>,
     entropy: &mut ListEntropy,
-) -> anyhow::Result<Ran>
+) -> anyhow::Result<RanOver<F, R>>
     requires { vec_len bench.files ≡ 273 }
     ensures { IfOk result (λ ran. vec_len ran.bench.files ≡ 273) }
 {
@@ -83,7 +89,7 @@ pub fn try_script<W: Threads + Wait + Sync>(
         entropy,
     );
     let text = str::from_utf8(sink.bytes()).context("no text")?;
-    Ok(Ran {
+    Ok(RanOver {
         is_done: is_done(&status)?,
         output: String::from_str(alloc, text)?,
         bench,
@@ -91,13 +97,13 @@ pub fn try_script<W: Threads + Wait + Sync>(
 }
 
 /// The same, for a script whose run is done.
-pub fn run_script<W: Threads + Wait + Sync>(
+pub fn run_script<W: Threads + Wait + Sync, F: FileRig + Drop + Send, R: CardRig + Drop + Send>(
     rt: &W,
     alloc: Global,
     script: &str,
-    bench: KeptBench,
+    bench: Bench<F, R>,
     entropy: &mut ListEntropy,
-) -> anyhow::Result<Ran>
+) -> anyhow::Result<RanOver<F, R>>
     requires { vec_len bench.files ≡ 273 }
     ensures { IfOk result (λ ran. vec_len ran.bench.files ≡ 273) }
 {

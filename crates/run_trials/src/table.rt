@@ -1,17 +1,18 @@
-// The lines of the table.
+// The lines of the tables.
 
 use crate::mishaps::{Device, Mishap};
+use crate::power_cuts::Cuts;
 use crate::tally::Tally;
 use std::alloc::{AllocError, Global};
 
-/// How wide the columns of words are, and those of numbers behind them.
+/// How wide the columns of words are, and those of numbers behind them. Only the cuts have six of these.
 const ACT: usize = 22;
 
 const DEVICE: usize = 8;
 
 const MISHAP: usize = 14;
 
-const NUMBERS: [usize; 5] = [6, 7, 8, 7, 6];
+const NUMBERS: [usize; 6] = [6, 7, 8, 7, 6, 9];
 
 // Pushes so many spaces.
 fn push_spaces(line: &mut String, count: usize) -> Result<(), AllocError> {
@@ -42,13 +43,26 @@ fn words_line(alloc: Global, act: &str, device: &str, mishap: &str) -> Result<St
     Ok(line)
 }
 
+// Pushes words, or numbers, each at the right of its column.
+fn push_columns(line: &mut String, columns: &[&str]) -> Result<(), AllocError> {
+    for (column, width) in columns.iter().zip(NUMBERS.iter()) {
+        push_number(line, column, *width)?;
+    }
+    Ok(())
+}
+
+// Pushes counts.
+fn push_counts(alloc: Global, line: &mut String, counts: &[u64]) -> Result<(), AllocError> {
+    for (count, width) in counts.iter().zip(NUMBERS.iter()) {
+        push_number(line, format!(in alloc; "{count}")?.as_str(), *width)?;
+    }
+    Ok(())
+}
+
 /// The head of the table.
 pub fn head_line(alloc: Global) -> Result<String, AllocError> {
     let mut line = words_line(alloc, "act", "device", "mishap")?;
-    let heads = ["calls", "tries", "before", "after", "lost"];
-    for (head, width) in heads.iter().zip(NUMBERS.iter()) {
-        push_number(&mut line, head, *width)?;
-    }
+    push_columns(&mut line, &["calls", "tries", "before", "after", "lost"])?;
     Ok(line)
 }
 
@@ -61,9 +75,37 @@ pub fn row_line(
     tally: &Tally,
 ) -> Result<String, AllocError> {
     let mut line = words_line(alloc, act, device.name(), mishap.name())?;
-    let counts = tally.counts();
-    for (count, width) in counts.iter().zip(NUMBERS.iter()) {
-        push_number(&mut line, format!(in alloc; "{count}")?.as_str(), *width)?;
-    }
+    push_counts(alloc, &mut line, &tally.counts())?;
+    Ok(line)
+}
+
+/// The head of the table of cuts.
+pub fn cut_head_line(alloc: Global) -> Result<String, AllocError> {
+    let mut line = words_line(alloc, "power cuts", "device", "mishap")?;
+    push_columns(
+        &mut line,
+        &["calls", "cuts", "told", "landed", "lost", "invented"],
+    )?;
+    Ok(line)
+}
+
+/// A line of the table of cuts.
+pub fn cut_line(
+    alloc: Global,
+    device: Device,
+    mishap: Mishap,
+    calls: u64,
+    cuts: &Cuts,
+) -> Result<String, AllocError> {
+    let mut line = words_line(alloc, "phase on threads", device.name(), mishap.name())?;
+    let counts = [
+        calls,
+        cuts.cuts,
+        cuts.told,
+        cuts.landed,
+        cuts.lost,
+        cuts.invented,
+    ];
+    push_counts(alloc, &mut line, &counts)?;
     Ok(line)
 }

@@ -29,8 +29,8 @@ fn arm_line(alloc: Global, device: Device, arm: Arm) -> Result<String, AllocErro
     }
 }
 
-// Pushes the lines that arm the device. No line arms the draws.
-fn push_arms(alloc: Global, script: &mut String, trouble: Trouble) -> Result<(), AllocError> {
+/// Pushes the lines that arm the device. No line arms the draws.
+pub fn push_arms(alloc: Global, script: &mut String, trouble: Trouble) -> Result<(), AllocError> {
     let device = trouble.device;
     if device == Device::Draws {
         return Ok(());

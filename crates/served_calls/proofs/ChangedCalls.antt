@@ -26,12 +26,13 @@ use Rattle.tee_types.specs.declared.reply.Cause.TheVariants.{CardResult, Fault, 
 use Rattle.tee_types.specs.declared.reply.Device.TheVariants.{Card, Dir, Entropy, File}
 use Rattle.tee_types.specs.declared.reply.Reply.{Reply}
 use Rattle.tee_types.specs.declared.reply.Reply.TheVariants.{Done, NotAvailable, Refused}
-use Rattle.served_calls.specs.Devices.{AccusesRightly, CostsDoubt, Devices, Grows, file_in}
+use Rattle.device_counts.specs.Devices.{AccusesRightly, CostsDoubt, Devices, Grows, file_in}
 use Rattle.served_calls.specs.Ready.{KnowsCard}
-use Rattle.served_calls.specs.Slots.{AreSlots}
-use Rattle.served_calls.specs.Standing.{ServesObject, Serving, devices_in}
+use Rattle.device_counts.specs.Slots.{AreSlots}
+use Rattle.served_calls.specs.Standing.{ServesObject}
+use Rattle.device_counts.specs.Serving.{Serving, devices_in}
 use Rattle.served_calls.proofs.CommittedCalls.{committed_appends, committed_goes_on, committed_mark, committed_still, end_accuses, end_costs}
-use Rattle.served_calls.proofs.Counting.{same_file_goes_on}
+use Rattle.device_counts.proofs.Counting.{same_file_goes_on}
 use Rattle.served_calls.proofs.ToldCalls.{file_from, file_to, is_object_file, quiet_goes_on, served_appends, served_quiet, serves_ok, stays_serves}
 
 -- a reply that is done or refused accuses no device

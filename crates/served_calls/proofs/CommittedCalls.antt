@@ -29,10 +29,10 @@ use Rattle.tee_types.specs.declared.reply.Reply.{Reply}
 use Rattle.tee_types.specs.declared.reply.Reply.TheVariants.{NotAvailable}
 use Rattle.object_slots.specs.Value.{SlotValue}
 use Rattle.served_calls.specs.Appended.{AppendsCall}
-use Rattle.served_calls.specs.Devices.{AccusesRightly, CostsDoubt, Devices, TellsNoCard, devices_of}
+use Rattle.device_counts.specs.Devices.{AccusesRightly, CostsDoubt, Devices, TellsNoCard, devices_of}
 use Rattle.served_calls.specs.Ready.{KnowsCard}
-use Rattle.served_calls.proofs.Cards.{no_card_told, steps_told}
-use Rattle.served_calls.proofs.Counting.{GateGrows, end_grows, end_still}
+use Rattle.device_counts.proofs.Cards.{no_card_told, steps_told}
+use Rattle.device_counts.proofs.Counting.{GateGrows, end_grows, end_still}
 use Rattle.served_calls.proofs.ToldCalls.{GatesGoOn}
 
 -- The event.

@@ -31,10 +31,11 @@ use Rattle.tee_types.specs.declared.reply.Device.TheVariants.{Card, Dir, Entropy
 use Rattle.tee_types.specs.declared.reply.Reply.{Reply}
 use Rattle.tee_types.specs.declared.reply.Reply.TheVariants.{CounterSpent, Handle, NotAvailable}
 use Rattle.served_calls.specs.Appended.{AppendsCall}
-use Rattle.served_calls.specs.Devices.{AccusesRightly, CostsDoubt, Devices, Grows}
+use Rattle.device_counts.specs.Devices.{AccusesRightly, CostsDoubt, Devices, Grows}
 use Rattle.served_calls.specs.Ready.{KnowsCard}
-use Rattle.served_calls.specs.Slots.{AreSlots}
-use Rattle.served_calls.specs.Standing.{ServesObject, Serving, devices_in}
+use Rattle.device_counts.specs.Slots.{AreSlots}
+use Rattle.served_calls.specs.Standing.{ServesObject}
+use Rattle.device_counts.specs.Serving.{Serving, devices_in}
 use Rattle.served_calls.proofs.CommittedCalls.{committed_appends, committed_goes_on, committed_mark, committed_still, end_accuses, end_costs}
 use Rattle.served_calls.proofs.ToldCalls.{GatesGoOn, file_from, file_to, is_object_file, none_appended, quiet_goes_on, same_gate, serves_err, serves_ok, told_accuses_file}
 

@@ -1,9 +1,4 @@
 pub mod SlotLists
-pub mod Counting
-pub mod Rises
-pub mod Tellings
-pub mod CarriedCounts
-pub mod Cards
 pub mod ToldCalls
 pub mod CommittedCalls
 pub mod ChangedCalls

@@ -18,9 +18,10 @@ use Rattle.tee_types.specs.declared.call.Call.{Call}
 use Rattle.tee_types.specs.declared.reply.Reply.{Reply}
 use Rattle.tee_types.specs.declared.reply.Reply.TheVariants.{NotAvailable}
 use Rattle.served_calls.specs.Appended.{AppendsCall}
-use Rattle.served_calls.specs.Devices.{AccusesRightly, Devices, file_in}
-use Rattle.served_calls.specs.Slots.{AreSlots}
-use Rattle.served_calls.specs.Standing.{ServesObject, devices_in}
+use Rattle.device_counts.specs.Devices.{AccusesRightly, Devices, file_in}
+use Rattle.device_counts.specs.Slots.{AreSlots}
+use Rattle.served_calls.specs.Standing.{ServesObject}
+use Rattle.device_counts.specs.Serving.{devices_in}
 use Rattle.served_calls.proofs.CommittedCalls.{none_some}
 use Rattle.served_calls.proofs.ToldCalls.{GatesGoOn, quiet_goes_on}
 

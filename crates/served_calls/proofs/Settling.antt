@@ -1,8 +1,6 @@
 -- What becomes of a commit in doubt before a call is answered.
 use Rattle.std.proofs.Common.{◌≡◌, ◌++◌, ◌∷◌, [], ℕ, List, None, Ok, Err, Option, Result, Some, sym, ap, ◌∙◌, subst, inl, inr}
-use Rattle.std.proofs.lemmas.List.{append-nil, map-append}
-use Rattle.std.proofs.lemmas.List.Elements.{Contains-push_cases}
-use Rattle.core_parts.specs.Joined.{IsObjectFile}
+use Rattle.std.proofs.lemmas.List.{append-nil}
 use Rattle.disk_model.specs.Calls.{GoesOn}
 use Rattle.disk_model.specs.State.{FileState}
 use Rattle.gate_calls.specs.Resolved.{HasResolved, IsSettled, StaysInDoubt, WasResolved}
@@ -15,23 +13,14 @@ use Rattle.store_commit.specs.Gates.{GateValue}
 use Rattle.store_commit.specs.declared.gate.Doubted.{Doubted}
 use Rattle.store_commit.specs.declared.resolve.Resolved.{Resolved}
 use Rattle.store_commit.specs.declared.resolve.Resolved.TheVariants.{Dropped, Landed}
-use Rattle.store_model.specs.Record.{events_of, file_of}
+use Rattle.store_model.specs.Record.{events_of}
 use Rattle.tee_types.specs.declared.reply.Cause.{Cause}
-use Rattle.served_calls.specs.Answered.{events_at, landing_events}
-use Rattle.served_calls.specs.Devices.{PortGoesOn}
-use Rattle.served_calls.specs.Slots.{AreOfObjectFiles}
+use Rattle.device_counts.specs.Events.{events_at, landing_events}
+use Rattle.device_counts.specs.Devices.{PortGoesOn}
+use Rattle.device_counts.specs.Slots.{AreOfObjectFiles}
+use Rattle.device_counts.proofs.MoreRecords.{events_more, tagged_more}
 use Rattle.served_calls.proofs.CommittedCalls.{none_some}
-use Rattle.served_calls.proofs.Counting.{grows_le, same_file_goes_on, same_port_goes_on}
-
--- records and one more, whose tag, if it has one, names an object's file
-pub tagged_more : (records : List HistoryRecord) (last : HistoryRecord) → ((file : ℕ) → file_of last ≡ Some file → IsObjectFile file) → AreOfObjectFiles records → AreOfObjectFiles (records ++ last ∷ [])
-tagged_more records last own files r file has is = elim (Contains-push_cases records last r has) [
-  | inl among ↦ files r file among is
-  | inr here ↦ own file (ap file_of here ∙ is)
-]
-
-pub events_more : (records : List HistoryRecord) (last : HistoryRecord) → events_of (records ++ last ∷ []) ≡ events_of records ++ last.event ∷ []
-events_more records last = map-append (λ (r : HistoryRecord). r.event) records (last ∷ [])
+use Rattle.device_counts.proofs.Counting.{grows_le, same_file_goes_on, same_port_goes_on}
 
 module _ {F R : Type 0} (of_file : F → FileState) (of_port : R → PortState) (key : List ℕ) where
   -- The history has at most one landing more, and the gate's devices go on.

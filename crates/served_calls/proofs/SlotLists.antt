@@ -6,9 +6,9 @@ use Rattle.std.proofs.lemmas.List.{get_or-set_other, get_or-set_same, length-set
 use Rattle.disk_model.specs.Calls.{GoesOn}
 use Rattle.disk_model.specs.State.{FileState}
 use Rattle.object_slots.specs.Value.{SlotValue}
-use Rattle.served_calls.specs.Devices.{file_in, no_slot}
-use Rattle.served_calls.specs.Slots.{AreSlots}
-use Rattle.served_calls.proofs.Counting.{same_file_goes_on}
+use Rattle.device_counts.specs.Devices.{file_in, no_slot}
+use Rattle.device_counts.specs.Slots.{AreSlots}
+use Rattle.device_counts.proofs.Counting.{same_file_goes_on}
 
 module _ (slots : List SlotValue) (place : ℕ) (new : SlotValue) (are : AreSlots slots) (within : place < length slots) where
   pub slots_after : new.number ≡ place + 1 → AreSlots (slice_set slots place new)

@@ -26,10 +26,11 @@ use Rattle.tee_types.specs.declared.reply.Device.TheVariants.{Card, Dir, Entropy
 use Rattle.tee_types.specs.declared.reply.Reply.{Reply}
 use Rattle.tee_types.specs.declared.reply.Reply.TheVariants.{NotAvailable}
 use Rattle.served_calls.specs.Appended.{AppendsCall, AppendsNone}
-use Rattle.served_calls.specs.Devices.{AccusesRightly, CostsDoubt, Devices, DevicesGoOn, Grows, PortGoesOn, file_in, no_slot}
-use Rattle.served_calls.specs.Slots.{AreSlots}
-use Rattle.served_calls.specs.Standing.{ServesObject, Serving, devices_in}
-use Rattle.served_calls.proofs.Counting.{same_file_goes_on, same_port_goes_on}
+use Rattle.device_counts.specs.Devices.{AccusesRightly, CostsDoubt, Devices, DevicesGoOn, Grows, PortGoesOn, file_in, no_slot}
+use Rattle.device_counts.specs.Slots.{AreSlots}
+use Rattle.served_calls.specs.Standing.{ServesObject}
+use Rattle.device_counts.specs.Serving.{Serving, devices_in}
+use Rattle.device_counts.proofs.Counting.{same_file_goes_on, same_port_goes_on}
 use Rattle.served_calls.proofs.SlotLists.{file_changed, files_go_on, slots_after}
 
 -- the gate's devices go on, and the count of the session's entropy stands still or rose

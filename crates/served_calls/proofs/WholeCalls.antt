@@ -35,12 +35,14 @@ use Rattle.tee_types.specs.declared.reply.Reply.{Reply}
 use Rattle.tee_types.specs.declared.reply.Reply.TheVariants.{NotAvailable}
 use Rattle.served_calls.specs.Answered.{GoesOnWith, GoesOnWithout, ServesCall}
 use Rattle.served_calls.specs.Appended.{AppendsCall}
-use Rattle.served_calls.specs.Devices.{AccusesRightly, CostsDoubt, Devices, DevicesGoOn, PortGoesOn, TellsNoCard, faults_of, file_in}
-use Rattle.served_calls.specs.Slots.{AreOfObjectFiles, AreSlots}
-use Rattle.served_calls.specs.Standing.{ServesObject, Serving, devices_in}
-use Rattle.served_calls.proofs.Cards.{doubted_counts}
-use Rattle.served_calls.proofs.Counting.{counts_grow, devices_go_on_then, grows_le, grows_rose, grows_twice}
-use Rattle.served_calls.proofs.Settling.{Settles, events_more, reserved_settles, same_settles, settled_settles, stays_settles, tagged_more, was_settles}
+use Rattle.device_counts.specs.Devices.{AccusesRightly, CostsDoubt, Devices, DevicesGoOn, PortGoesOn, TellsNoCard, faults_of, file_in}
+use Rattle.device_counts.specs.Slots.{AreOfObjectFiles, AreSlots}
+use Rattle.served_calls.specs.Standing.{ServesObject}
+use Rattle.device_counts.specs.Serving.{Serving, devices_in}
+use Rattle.device_counts.proofs.Cards.{doubted_counts}
+use Rattle.device_counts.proofs.Counting.{counts_grow, devices_go_on_then, grows_le, grows_rose, grows_twice}
+use Rattle.device_counts.proofs.MoreRecords.{events_more, tagged_more}
+use Rattle.served_calls.proofs.Settling.{Settles, reserved_settles, same_settles, settled_settles, stays_settles, was_settles}
 use Rattle.served_calls.proofs.RuledCalls.{plain_accuses, ruled_appends}
 
 -- the key of the store's card

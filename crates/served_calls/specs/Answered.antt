@@ -1,5 +1,5 @@
 -- What a served call is answered, and what it leaves of the history: at most the landing of the commit that was in doubt, and then the call.
-use Rattle.std.specs.Prelude.{Err, List, None, Ok, Option, Result, Some, [], length, ℕ, ◌+◌, ◌++◌, ◌∷◌, ◌≡◌}
+use Rattle.std.specs.Prelude.{Err, Ok, Option, Result, [], length, ℕ, ◌+◌, ◌++◌, ◌∷◌, ◌≡◌}
 use Rattle.call_history.specs.Sessions.{CallerSession, IsCallerOf, session_value}
 use Rattle.disk_model.specs.State.{FileState}
 use Rattle.gate_calls.specs.Seen.{GoesOn}
@@ -7,25 +7,15 @@ use Rattle.hmac_keys.specs.KeyTable.{rpmb_key}
 use Rattle.locked_gate.specs.declared.answered.Answer.{Answer}
 use Rattle.locked_gate.specs.LockedGates.{LockedGateValue}
 use Rattle.rpmb_card.specs.Port.{PortState}
-use Rattle.served_calls.specs.Devices.{AccusesRightly, CostsDoubt, DevicesGoOn}
-use Rattle.served_calls.specs.Slots.{AreOfObjectFiles, AreSlots}
-use Rattle.served_calls.specs.Standing.{Serving, devices_in}
-use Rattle.store_model.specs.Record.{events_of}
-use Rattle.store_model.specs.declared.event.Event.{Event}
-use Rattle.store_model.specs.declared.event.Event.TheVariants.{Call as CallEvent, Landed}
+use Rattle.device_counts.specs.Devices.{AccusesRightly, CostsDoubt, DevicesGoOn}
+use Rattle.device_counts.specs.Slots.{AreOfObjectFiles, AreSlots}
+use Rattle.device_counts.specs.Serving.{Serving, devices_in}
+use Rattle.device_counts.specs.Events.{events_at, landing_events}
+use Rattle.store_model.specs.declared.event.Event.TheVariants.{Call as CallEvent}
 use Rattle.store_model.specs.declared.event.Mark.{Mark}
 use Rattle.suppositions.specs.Sessions.{Extends}
 use Rattle.suppositions.specs.Stores.{Store}
 use Rattle.tee_types.specs.declared.call.Call.{Call}
-
--- the event of the commit in doubt that landed, if it did
-abbrev pub landing_events : Option ℕ → List Event
-landing_events None = []
-landing_events (Some commit) = Landed commit ∷ []
-
--- the events of a gate's history
-abbrev pub events_at : {F R : Type 0} → LockedGateValue F R → List Event
-events_at gate = events_of gate.journal.knows.all
 
 -- The history goes on, where a commit in doubt landed with its landing, and then with the session's next event, at that place.
 pub record GoesOnWith {F R E : Type 0} (store : Store) (old new : LockedGateValue F R) (was now : CallerSession E) (call : Call) (answer : Answer) : Type 0 where

@@ -8,7 +8,7 @@ use Rattle.object_slots.specs.Value.{SlotValue}
 use Rattle.rpmb_card.specs.Card.{CardState}
 use Rattle.rpmb_card.specs.Port.{PortState}
 use Rattle.rpmb_host.specs.Honest.{HasCard}
-use Rattle.served_calls.specs.Slots.{AreSlots}
+use Rattle.device_counts.specs.Slots.{AreSlots}
 use Rattle.suppositions.specs.Stores.{Store}
 
 -- The host has that key, and a card that is told with it has the gate's counter.

@@ -2,7 +2,7 @@
 
 ghost use Rattle.std.specs.Prelude.{◌≡◌, ◌+◌, ◌<◌, length, Some};
 ghost use Rattle.crash_core.specs.EntryLists.{entry_at};
-ghost use Rattle.served_calls.specs.Slots.{AreSlots};
+ghost use Rattle.device_counts.specs.Slots.{AreSlots};
 
 use locked_gate::LockedGate;
 use locked_slots::LockedSlot;

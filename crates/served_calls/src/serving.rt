@@ -6,7 +6,7 @@ ghost use Rattle.call_history.specs.Sessions.{IsCallerOf};
 ghost use Rattle.gate_calls.specs.Rulings.{is_on_object};
 ghost use Rattle.served_calls.specs.Answered.{ServesCall};
 ghost use Rattle.served_calls.specs.Ready.{IsReady};
-ghost use Rattle.served_calls.specs.Slots.{AreSlots};
+ghost use Rattle.device_counts.specs.Slots.{AreSlots};
 ghost use Rattle.served_calls.specs.Standing.{ServesObject};
 
 use crate::changing::{truncate, write};

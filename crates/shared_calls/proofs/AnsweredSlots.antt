@@ -28,10 +28,10 @@ use Rattle.tee_types.specs.declared.reply.Cause.TheVariants.{CardResult, Fault, 
 use Rattle.tee_types.specs.declared.reply.Device.TheVariants.{Card, Dir, Entropy, File}
 use Rattle.tee_types.specs.declared.reply.Reply.{Reply}
 use Rattle.tee_types.specs.declared.reply.Reply.TheVariants.{NotAvailable}
-use Rattle.served_calls.specs.Counts.{told_of}
-use Rattle.served_calls.specs.Devices.{Devices}
-use Rattle.shared_calls.specs.Kept.{KeepsSlot}
-use Rattle.shared_calls.proofs.KeptSlots.{keeps-answered, keeps-shown, own-file}
+use Rattle.device_counts.specs.Counts.{told_of}
+use Rattle.device_counts.specs.Devices.{Devices}
+use Rattle.shared_parts.specs.Kept.{KeepsSlot}
+use Rattle.shared_parts.proofs.KeptSlots.{keeps-answered, keeps-shown, own-file}
 
 -- a reply that accuses no object's file carries no count of one
 pub told-none : (file : ℕ) (reply : Reply) → fault_in_reply reply ≡ None → told_of (File file) reply ≡ []

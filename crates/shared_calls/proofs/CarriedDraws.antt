@@ -14,10 +14,10 @@ use Rattle.tee_types.specs.declared.reply.Cause.TheVariants.{CardResult, Fault, 
 use Rattle.tee_types.specs.declared.reply.Device.TheVariants.{Card, Dir, Entropy, File}
 use Rattle.tee_types.specs.declared.reply.Reply.{Reply}
 use Rattle.tee_types.specs.declared.reply.Reply.TheVariants.{NotAvailable}
-use Rattle.served_calls.specs.Devices.{AccusesRightly, Devices, devices_of}
+use Rattle.device_counts.specs.Devices.{AccusesRightly, Devices, devices_of}
 use Rattle.served_calls.specs.Ready.{KnowsCard}
 use Rattle.served_calls.proofs.CommittedCalls.{end_accuses}
-use Rattle.shared_calls.specs.Counts.{CarriesDraws}
+use Rattle.shared_parts.specs.Counts.{CarriesDraws}
 
 -- as it accuses rightly
 pub carries-accused : (key : List ℕ) (d0 d1 : Devices) (reply : Reply) → AccusesRightly key d0 d1 reply → CarriesDraws d0.draws d1.draws reply

@@ -21,20 +21,20 @@ use Rattle.tee_types.specs.declared.call.Call.{Call}
 use Rattle.tee_types.specs.declared.reply.Device.TheVariants.{File}
 use Rattle.tee_types.specs.declared.reply.Reply.{Reply}
 use Rattle.tee_types.specs.declared.reply.Reply.TheVariants.{Done}
-use Rattle.served_calls.specs.Counts.{told_of}
-use Rattle.served_calls.specs.Devices.{Devices, Grows}
+use Rattle.device_counts.specs.Counts.{told_of}
+use Rattle.device_counts.specs.Devices.{Devices, Grows}
 use Rattle.served_calls.specs.Ready.{KnowsCard}
-use Rattle.served_calls.proofs.Counting.{end_grows}
+use Rattle.device_counts.proofs.Counting.{end_grows}
 use Rattle.shared_calls.specs.Changing.{CarriesStaged, HasStaged, told_staged}
-use Rattle.shared_calls.specs.Counts.{CarriesDraws}
-use Rattle.shared_calls.specs.Kept.{KeepsGate, KeepsSlot}
-use Rattle.shared_calls.specs.Rounds.{IsAnswered}
+use Rattle.shared_parts.specs.Counts.{CarriesDraws}
+use Rattle.shared_parts.specs.Kept.{KeepsGate, KeepsSlot}
+use Rattle.shared_parts.specs.Rounds.{IsAnswered}
 use Rattle.shared_calls.proofs.CarriedDraws.{carries-committed}
-use Rattle.shared_calls.proofs.CarriedRounds.{carries-grown}
+use Rattle.shared_parts.proofs.CarriedRounds.{carries-grown}
 use Rattle.shared_calls.proofs.CommittedCalls.{committed-answers, committed-still}
 use Rattle.shared_calls.proofs.AnsweredSlots.{keeps-brought, keeps-served}
 use Rattle.shared_calls.proofs.KeptCalls.{keeps-committed}
-use Rattle.shared_calls.proofs.KeptSlots.{keeps-shown, own-file}
+use Rattle.shared_parts.proofs.KeptSlots.{keeps-shown, own-file}
 use Rattle.shared_calls.proofs.Served.{slot-answers}
 use Rattle.shared_calls.proofs.SparedGates.{SparesGate, failure-spares, keeps-spared}
 

@@ -14,9 +14,9 @@ use Rattle.suppositions.specs.Sessions.{Extends}
 use Rattle.suppositions.specs.Stores.{Store}
 use Rattle.tee_types.specs.declared.call.Call.{Call}
 use Rattle.tee_types.specs.declared.reply.Reply.{Reply}
-use Rattle.served_calls.specs.Devices.{Grows}
-use Rattle.shared_calls.specs.Rounds.{IsAnswered}
-use Rattle.served_calls.proofs.Counting.{end_grows, end_still, grows_grows, grows_le}
+use Rattle.device_counts.specs.Devices.{Grows}
+use Rattle.shared_parts.specs.Rounds.{IsAnswered}
+use Rattle.device_counts.proofs.Counting.{end_grows, end_still, grows_grows, grows_le}
 
 module _ {F R E : Type 0} (of_file : F → FileState) (of_port : R → PortState) (draws : E → ℕ) (store : Store) (old new : LockedGateValue F R) (file : ℕ) (was now : CallerSession E) (call : Call) (own : Reply)
     (change : EntryChange) (Reliable : Type 0) (answer : Answer) (c : IsCommitted of_file of_port store old new file was now call own change Reliable (draws was.entropy) (draws now.entropy) answer) where

@@ -24,18 +24,18 @@ use Rattle.tee_types.specs.declared.call.Call.{Call}
 use Rattle.tee_types.specs.declared.reply.Cause.TheVariants.{CardResult, Fault, Frame}
 use Rattle.tee_types.specs.declared.reply.Device.TheVariants.{Card, Dir, Entropy, File}
 use Rattle.tee_types.specs.declared.reply.Reply.{Reply}
-use Rattle.served_calls.specs.Counts.{told_of}
-use Rattle.served_calls.specs.Devices.{Devices, Grows}
+use Rattle.device_counts.specs.Counts.{told_of}
+use Rattle.device_counts.specs.Devices.{Devices, Grows}
 use Rattle.served_calls.specs.Ready.{KnowsCard}
 use Rattle.shared_calls.specs.Creating.{AccusesAtMost, told_made}
-use Rattle.shared_calls.specs.Kept.{KeepsGate, KeepsSlot}
-use Rattle.shared_calls.specs.Rounds.{EndsRound, IsAnswered, IsWaiting}
+use Rattle.shared_parts.specs.Kept.{KeepsGate, KeepsSlot}
+use Rattle.shared_parts.specs.Rounds.{EndsRound, IsAnswered, IsWaiting}
 use Rattle.shared_calls.proofs.AnsweredSlots.{keeps-brought, keeps-served}
 use Rattle.shared_calls.proofs.CommittedCalls.{committed-answers, committed-grows, committed-still}
 use Rattle.shared_calls.proofs.KeptCalls.{keeps-committed}
 use Rattle.shared_calls.proofs.Served.{slot-answers}
 use Rattle.shared_calls.proofs.SparedGates.{SparesGate, keeps-spared}
-use Rattle.shared_calls.proofs.Waiting.{answers-then}
+use Rattle.shared_parts.proofs.Waiting.{answers-then}
 
 -- That an object was not made is served as what its file gives is.
 module _ {F R E : Type 0} (store : Store) (old new : LockedGateValue F R) (file : ℕ) (was now : CallerSession E) (object : NewObject) (why : Unmade) (answer : Answer)

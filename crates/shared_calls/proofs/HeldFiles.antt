@@ -5,8 +5,8 @@ use Rattle.disk_model.specs.State.{FileState}
 use Rattle.locked_gate.specs.LockedGates.{LockedGateValue}
 use Rattle.rpmb_card.specs.Port.{PortState}
 use Rattle.suppositions.specs.Stores.{Store}
-use Rattle.served_calls.specs.Devices.{Devices}
-use Rattle.shared_calls.specs.Kept.{KeepsGate}
+use Rattle.device_counts.specs.Devices.{Devices}
+use Rattle.shared_parts.specs.Kept.{KeepsGate}
 use Rattle.shared_calls.proofs.KeptGates.{keeps-same}
 
 module _ {F R : Type 0} (of_file : F → FileState) (of_port : R → PortState) (store : Store) (before : Devices) (old : LockedGateValue F R) (k : KeepsGate of_file of_port store before old) where

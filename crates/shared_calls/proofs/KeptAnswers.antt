@@ -21,17 +21,17 @@ use Rattle.suppositions.specs.Stores.{Store}
 use Rattle.tee_types.specs.declared.call.Call.{Call}
 use Rattle.tee_types.specs.declared.reply.Device.TheVariants.{File}
 use Rattle.tee_types.specs.declared.reply.Reply.{Reply}
-use Rattle.served_calls.specs.Counts.{Rise, told_of}
-use Rattle.served_calls.specs.Devices.{Devices}
-use Rattle.served_calls.proofs.Counting.{grows_le}
-use Rattle.served_calls.proofs.Tellings.{Rise-told_of}
+use Rattle.device_counts.specs.Counts.{Rise, told_of}
+use Rattle.device_counts.specs.Devices.{Devices}
+use Rattle.device_counts.proofs.Counting.{grows_le}
+use Rattle.device_counts.proofs.Tellings.{Rise-told_of}
 use Rattle.served_calls.proofs.ToldCalls.{told_accuses_file}
-use Rattle.shared_calls.specs.Counts.{told_if}
+use Rattle.shared_parts.specs.Counts.{told_if}
 use Rattle.rpmb_card.specs.Port.{PortState}
-use Rattle.shared_calls.specs.Kept.{KeepsGate, KeepsSlot}
+use Rattle.shared_parts.specs.Kept.{KeepsGate, KeepsSlot}
 use Rattle.shared_calls.proofs.AnsweredSlots.{keeps-served}
 use Rattle.shared_calls.proofs.KeptCalls.{keeps-told}
-use Rattle.shared_calls.proofs.KeptSlots.{keeps-called}
+use Rattle.shared_parts.proofs.KeptSlots.{keeps-called}
 use Rattle.shared_calls.proofs.StageCounts.{of_stage}
 
 -- the file counted what the reply carries for it

@@ -22,19 +22,20 @@ use Rattle.store_model.specs.declared.event.Event.TheVariants.{Call as CallEvent
 use Rattle.suppositions.specs.Stores.{Store}
 use Rattle.tee_types.specs.declared.call.Call.{Call}
 use Rattle.tee_types.specs.declared.reply.Reply.{Reply}
-use Rattle.served_calls.specs.Answered.{events_at, landing_events}
+use Rattle.device_counts.specs.Events.{events_at, landing_events}
 use Rattle.served_calls.specs.Appended.{AppendsCall}
-use Rattle.served_calls.specs.Devices.{AccusesRightly, CostsDoubt, Devices, file_in}
+use Rattle.device_counts.specs.Devices.{AccusesRightly, CostsDoubt, Devices, file_in}
 use Rattle.served_calls.specs.Ready.{KnowsCard}
-use Rattle.served_calls.specs.Slots.{AreOfObjectFiles}
-use Rattle.served_calls.proofs.Cards.{settled_counts}
+use Rattle.device_counts.specs.Slots.{AreOfObjectFiles}
+use Rattle.device_counts.proofs.Cards.{settled_counts}
 use Rattle.served_calls.proofs.ChangedCalls.{done_accuses}
 use Rattle.served_calls.proofs.CommittedCalls.{committed_appends, committed_goes_on, committed_mark, end_accuses, end_costs}
 use Rattle.served_calls.proofs.RuledCalls.{plain_accuses, ruled_appends}
-use Rattle.served_calls.proofs.Settling.{Settles, events_more, reserved_settles, settled_settles, settles_reserved, tagged_more}
+use Rattle.device_counts.proofs.MoreRecords.{events_more, tagged_more}
+use Rattle.served_calls.proofs.Settling.{Settles, reserved_settles, settled_settles, settles_reserved}
 use Rattle.served_calls.proofs.ToldCalls.{GatesGoOn, quiet_goes_on, told_accuses_file, told_appends, told_quiet}
 use Rattle.served_calls.proofs.WholeCalls.{alone_goes_on, precedes_accuses, precedes_settles, unserved_settles}
-use Rattle.shared_calls.specs.Kept.{KeepsGate}
+use Rattle.shared_parts.specs.Kept.{KeepsGate}
 use Rattle.shared_calls.proofs.KeptGates.{keeps-appended, keeps-call, keeps-same, keeps-settled}
 
 -- while no commit is in doubt, a card that is told with the host's key has the gate's counter

@@ -18,19 +18,20 @@ use Rattle.tee_types.specs.declared.call.Call.{Call}
 use Rattle.tee_types.specs.declared.reply.Device.{Device}
 use Rattle.tee_types.specs.declared.reply.Device.TheVariants.{Card, Dir}
 use Rattle.tee_types.specs.declared.reply.Reply.{Reply}
-use Rattle.served_calls.specs.Answered.{events_at, landing_events}
+use Rattle.device_counts.specs.Events.{events_at, landing_events}
 use Rattle.served_calls.specs.Appended.{AppendsCall}
-use Rattle.served_calls.specs.Cards.{TellsCard}
-use Rattle.served_calls.specs.Counts.{Rise, counts_of}
-use Rattle.served_calls.specs.Devices.{AccusesRightly, CostsDoubt, Devices, PortGoesOn}
-use Rattle.served_calls.specs.Slots.{AreOfObjectFiles}
-use Rattle.served_calls.proofs.Cards.{TellsCard-append, TellsCard-call, TellsCard-landing}
-use Rattle.served_calls.proofs.CarriedCounts.{counts_of-append, counts_of-call, counts_of-landing}
-use Rattle.served_calls.proofs.Counting.{grows_le, port_goes_on_then, same_port_goes_on}
-use Rattle.served_calls.proofs.Rises.{Rise-append}
-use Rattle.served_calls.proofs.Settling.{Settles, events_more, quiet_settles, tagged_more}
-use Rattle.served_calls.proofs.Tellings.{Rise-told_of}
-use Rattle.shared_calls.specs.Kept.{AreOfSessions, KeepsGate}
+use Rattle.device_counts.specs.Cards.{TellsCard}
+use Rattle.device_counts.specs.Counts.{Rise, counts_of}
+use Rattle.device_counts.specs.Devices.{AccusesRightly, CostsDoubt, Devices, PortGoesOn}
+use Rattle.device_counts.specs.Slots.{AreOfObjectFiles}
+use Rattle.device_counts.proofs.Cards.{TellsCard-append, TellsCard-call, TellsCard-landing}
+use Rattle.device_counts.proofs.CarriedCounts.{counts_of-append, counts_of-call, counts_of-landing}
+use Rattle.device_counts.proofs.Counting.{grows_le, port_goes_on_then, same_port_goes_on}
+use Rattle.device_counts.proofs.Rises.{Rise-append}
+use Rattle.device_counts.proofs.MoreRecords.{events_more, tagged_more}
+use Rattle.served_calls.proofs.Settling.{Settles, quiet_settles}
+use Rattle.device_counts.proofs.Tellings.{Rise-told_of}
+use Rattle.shared_parts.specs.Kept.{AreOfSessions, KeepsGate}
 
 -- the counts of a list of events behind another
 pub counted-then : (device : Device) (from at to : ℕ) (first then all : List Event) → all ≡ first ++ then → Rise from at (counts_of device first) → Rise at to (counts_of device then)

@@ -1,4 +1,3 @@
-pub mod Waiting
 pub mod Served
 pub mod GivenVersions
 pub mod ReadObjects
@@ -15,9 +14,7 @@ mod HeldFiles
 mod ShownSlots
 mod MadeObjects
 mod SparedGates
-mod CarriedRounds
 mod KeptGates
 mod KeptCalls
-pub mod KeptSlots
 mod CarriedDraws
 mod KeptAnswers

@@ -9,14 +9,14 @@ use Rattle.node_image.specs.declared.node.RootRef.{RootRef}
 use Rattle.object_slots.specs.Value.{SlotValue}
 use Rattle.tee_types.specs.declared.reply.Device.TheVariants.{File}
 use Rattle.tee_types.specs.declared.reply.Reply.{Reply}
-use Rattle.served_calls.specs.Counts.{Rise, told_of}
-use Rattle.served_calls.specs.Devices.{Devices}
-use Rattle.served_calls.proofs.Counting.{grows_le}
+use Rattle.device_counts.specs.Counts.{Rise, told_of}
+use Rattle.device_counts.specs.Devices.{Devices}
+use Rattle.device_counts.proofs.Counting.{grows_le}
 use Rattle.served_calls.proofs.CreatedCalls.{unmade_accuses_file}
-use Rattle.served_calls.proofs.Tellings.{Rise-told_of}
+use Rattle.device_counts.proofs.Tellings.{Rise-told_of}
 use Rattle.shared_calls.specs.Creating.{told_made}
-use Rattle.shared_calls.specs.Kept.{KeepsSlot}
-use Rattle.shared_calls.proofs.KeptSlots.{keeps-called, keeps-moved, keeps-untold}
+use Rattle.shared_parts.specs.Kept.{KeepsSlot}
+use Rattle.shared_parts.proofs.KeptSlots.{keeps-called, keeps-moved, keeps-untold}
 use Rattle.shared_calls.proofs.StageCounts.{of_stage}
 
 -- The reply carries what the file counted, where no object was made.

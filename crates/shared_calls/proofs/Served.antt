@@ -8,7 +8,7 @@ use Rattle.object_answers.specs.Served.{IsServed}
 use Rattle.store_model.specs.declared.event.Mark.TheVariants.{Unchanged}
 use Rattle.suppositions.specs.Stores.{Store}
 use Rattle.tee_types.specs.declared.call.Call.{Call}
-use Rattle.shared_calls.specs.Rounds.{IsAnswered}
+use Rattle.shared_parts.specs.Rounds.{IsAnswered}
 
 module _ {E F R : Type 0} (store : Store) (call : Call) (was now : CallerSession E) (answer : Answer) (old new : LockedGateValue F R) where
   pub slot-answers : (file : ℕ) → IsServed store old new was now file call answer → IsAnswered store was now call answer

@@ -16,10 +16,10 @@ use Rattle.store_model.specs.Record.{fault_in_reply}
 use Rattle.suppositions.specs.Stores.{Store}
 use Rattle.tee_types.specs.declared.call.Call.{Call}
 use Rattle.tee_types.specs.declared.reply.Reply.{Reply}
-use Rattle.served_calls.specs.Devices.{Devices}
-use Rattle.shared_calls.specs.Kept.{KeepsSlot}
+use Rattle.device_counts.specs.Devices.{Devices}
+use Rattle.shared_parts.specs.Kept.{KeepsSlot}
 use Rattle.shared_calls.proofs.AnsweredSlots.{keeps-brought}
-use Rattle.shared_calls.proofs.KeptSlots.{keeps-moved, keeps-shown, own-file}
+use Rattle.shared_parts.proofs.KeptSlots.{keeps-moved, keeps-shown, own-file}
 
 -- the slot then
 abbrev pub shown_slot : (knows : GateView) (slot : SlotValue) → FitsGate knows slot → SlotValue

@@ -26,17 +26,17 @@ use Rattle.tee_types.specs.declared.reply.Cause.TheVariants.{CardResult, Fault, 
 use Rattle.tee_types.specs.declared.reply.Device.TheVariants.{Card, Dir, Entropy, File}
 use Rattle.tee_types.specs.declared.reply.Reply.{Reply}
 use Rattle.tee_types.specs.declared.reply.Reply.TheVariants.{Corrupt, NotAvailable}
-use Rattle.served_calls.specs.Answered.{events_at}
+use Rattle.device_counts.specs.Events.{events_at}
 use Rattle.served_calls.specs.Appended.{AppendsCall}
-use Rattle.served_calls.specs.Cards.{CostsTwo, IsNoFrame}
-use Rattle.served_calls.specs.Counts.{Rise, told_of}
-use Rattle.served_calls.specs.Devices.{Devices}
-use Rattle.served_calls.specs.Slots.{AreOfObjectFiles}
-use Rattle.served_calls.proofs.CarriedCounts.{counts_of-call}
-use Rattle.served_calls.proofs.Counting.{grows_le}
-use Rattle.served_calls.proofs.Settling.{events_more, tagged_more}
+use Rattle.device_counts.specs.Cards.{CostsTwo, IsNoFrame}
+use Rattle.device_counts.specs.Counts.{Rise, told_of}
+use Rattle.device_counts.specs.Devices.{Devices}
+use Rattle.device_counts.specs.Slots.{AreOfObjectFiles}
+use Rattle.device_counts.proofs.CarriedCounts.{counts_of-call}
+use Rattle.device_counts.proofs.Counting.{grows_le}
+use Rattle.device_counts.proofs.MoreRecords.{events_more, tagged_more}
 use Rattle.served_calls.proofs.ToldCalls.{GatesGoOn, quiet_goes_on, told_appends}
-use Rattle.shared_calls.specs.Kept.{KeepsGate}
+use Rattle.shared_parts.specs.Kept.{KeepsGate}
 use Rattle.shared_calls.proofs.KeptGates.{keeps-added, known-session}
 
 -- The reply accuses neither the directory's file nor the card.

@@ -7,11 +7,11 @@ use Rattle.change_calls.specs.declared.staged.Staged.TheVariants.{Root, Unstaged
 use Rattle.disk_model.specs.State.{FileState}
 use Rattle.suppositions.specs.Stores.{Store}
 use Rattle.tee_types.specs.declared.reply.Reply.{Reply}
-use Rattle.served_calls.specs.Devices.{AccusesRightly, Devices, Grows}
+use Rattle.device_counts.specs.Devices.{AccusesRightly, Devices, Grows}
 use Rattle.served_calls.proofs.ChangedCalls.{change_accuses_file, change_drawn, change_still}
 use Rattle.shared_calls.specs.Changing.{CarriesStaged}
-use Rattle.shared_calls.specs.Names.{no_devices}
-use Rattle.shared_calls.specs.Rounds.{IsWaiting}
+use Rattle.shared_parts.specs.Names.{no_devices}
+use Rattle.shared_parts.specs.Rounds.{IsWaiting}
 use Rattle.shared_calls.proofs.CarriedDraws.{carries-accused}
 
 -- a session whose entropy drew waits still

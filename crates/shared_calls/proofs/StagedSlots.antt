@@ -16,14 +16,14 @@ use Rattle.object_slots.specs.Value.{HasStage, SlotValue, without_stage}
 use Rattle.suppositions.specs.Stores.{Store}
 use Rattle.tee_types.specs.declared.reply.Device.TheVariants.{File}
 use Rattle.tee_types.specs.declared.reply.Reply.{Reply}
-use Rattle.served_calls.specs.Counts.{Rise, told_of}
-use Rattle.served_calls.specs.Devices.{Devices}
-use Rattle.served_calls.proofs.Counting.{grows_le}
-use Rattle.served_calls.proofs.Tellings.{Rise-told_of}
+use Rattle.device_counts.specs.Counts.{Rise, told_of}
+use Rattle.device_counts.specs.Devices.{Devices}
+use Rattle.device_counts.proofs.Counting.{grows_le}
+use Rattle.device_counts.proofs.Tellings.{Rise-told_of}
 use Rattle.shared_calls.specs.Changing.{HasStaged, told_staged}
-use Rattle.shared_calls.specs.Kept.{KeepsSlot}
+use Rattle.shared_parts.specs.Kept.{KeepsSlot}
 use Rattle.shared_calls.proofs.GivenVersions.{gives-moved}
-use Rattle.shared_calls.proofs.KeptSlots.{keeps-called, keeps-moved, keeps-untold}
+use Rattle.shared_parts.proofs.KeptSlots.{keeps-called, keeps-moved, keeps-untold}
 use Rattle.shared_calls.proofs.StageCounts.{change-accuses, of_stage}
 
 module _ {X : Type 0} (store : Store) (old new : SlotValue) (e : DirEntry) (asked : DataCall) (locked : IsLockedSlot store old) (given : GivesEntry old e)

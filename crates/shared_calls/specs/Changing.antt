@@ -7,10 +7,10 @@ use Rattle.history_seats.specs.Records.{Version}
 use Rattle.locked_slots.specs.LockedSlots.{IsLockedSlot}
 use Rattle.locked_slots.specs.Reads.{GivesVersion}
 use Rattle.object_slots.specs.Value.{SlotValue, without_stage}
-use Rattle.served_calls.specs.Counts.{told_of}
+use Rattle.device_counts.specs.Counts.{told_of}
 use Rattle.suppositions.specs.Stores.{Store}
 use Rattle.tee_types.specs.declared.reply.Device.TheVariants.{File}
-use Rattle.shared_calls.specs.Counts.{CarriesDraws}
+use Rattle.shared_parts.specs.Counts.{CarriesDraws}
 
 -- The slot gives a version, and the change of its object is staged, or the reply says why not. No commit of it is in doubt, and without its
 -- stage it may stand behind its lock.

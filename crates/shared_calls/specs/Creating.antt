@@ -7,11 +7,11 @@ use Rattle.create_calls.specs.declared.unmade.Unmade.{Unmade}
 use Rattle.create_calls.specs.declared.unmade.Unmade.TheVariants.{Failed, Spent}
 use Rattle.node_image.specs.declared.node.RootRef.{RootRef}
 use Rattle.object_slots.specs.Value.{SlotValue}
-use Rattle.served_calls.specs.Counts.{told_of}
+use Rattle.device_counts.specs.Counts.{told_of}
 use Rattle.suppositions.specs.Stores.{Store}
 use Rattle.tee_types.specs.declared.reply.Cause.TheVariants.{Fault}
 use Rattle.tee_types.specs.declared.reply.Device.TheVariants.{Entropy, File}
-use Rattle.shared_calls.specs.Counts.{CarriesDraws}
+use Rattle.shared_parts.specs.Counts.{CarriesDraws}
 
 -- where there is no object, no other device is accused than that file and the session's entropy
 abbrev pub AccusesAtMost : (file : ℕ) → Result RootRef Unmade → Type 0

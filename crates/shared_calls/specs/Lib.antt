@@ -1,5 +1,3 @@
-pub mod Names
-pub mod Rounds
 pub mod Ready
 pub mod Looks
 pub mod Meeting
@@ -8,6 +6,4 @@ pub mod Describing
 pub mod Opening
 pub mod Naming
 pub mod Creating
-pub mod Counts
 pub mod Changing
-pub mod Kept

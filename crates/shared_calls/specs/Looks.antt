@@ -6,7 +6,7 @@ use Rattle.suppositions.specs.Stores.{Store}
 use Rattle.tee_types.specs.declared.call.Call.{Call}
 use Rattle.shared_calls.specs.declared.look.Look.{Look}
 use Rattle.shared_calls.specs.declared.look.Look.TheVariants.{Again, Answered, Found}
-use Rattle.shared_calls.specs.Rounds.{IsAnswered, IsWaiting}
+use Rattle.shared_parts.specs.Rounds.{IsAnswered, IsWaiting}
 
 -- the call is answered, or waits still; or memory ran out
 abbrev pub EndsLook : {E T X : Type 0} → Store → (was now : CallerSession E) → Call → Result (Look T) X → Type 0

@@ -4,15 +4,14 @@ ghost use Rattle.std.specs.Prelude.{◌≡◌, ◌≤◌, true, IfOk, IsNone, If
 ghost use Rattle.call_history.specs.Sessions.{IsCallerOf};
 ghost use Rattle.gate_calls.specs.Rulings.{is_on_object};
 ghost use Rattle.shared_calls.specs.Ready.{IsReady};
-ghost use Rattle.shared_calls.specs.Rounds.{EndsRound};
-ghost use Rattle.shared_calls.specs.Counts.{CarriesDraws};
+ghost use Rattle.shared_parts.specs.Rounds.{EndsRound};
+ghost use Rattle.shared_parts.specs.Counts.{CarriesDraws};
 
-use crate::gate::SharedGate;
-use crate::names::DevicesName;
 use call_history::Session;
 use gate_calls::answer_alone;
 use locked_gate::Answer;
 use rpmb_card::RpmbPort;
+use shared_parts::{DevicesName, SharedGate};
 use std::alloc::Global;
 use suppositions::StoreName;
 use tee_ports::{Entropy, StoreFile};

@@ -9,23 +9,20 @@ ghost use Rattle.create_calls.specs.Clearing.{IsClearSlot};
 ghost use Rattle.create_calls.specs.Finished.{MayTellIfUnmade};
 ghost use Rattle.create_calls.specs.Reserving.{IsReserved};
 ghost use Rattle.create_calls.specs.Rules.{MayCreate};
-ghost use Rattle.served_calls.specs.Devices.{Grows};
+ghost use Rattle.device_counts.specs.Devices.{Grows};
 ghost use Rattle.shared_calls.specs.Creating.{AccusesAtMost, HasMade, CarriesMade, told_made};
 ghost use Rattle.shared_calls.specs.Looks.{EndsLook, IfAnswered, IfFound};
 ghost use Rattle.shared_calls.specs.Ready.{IsReady};
-ghost use Rattle.shared_calls.specs.Rounds.{EndsRound, IsAnswered, IsWaiting};
-ghost use Rattle.shared_calls.specs.Kept.{KeepsSlot};
-ghost use Rattle.shared_calls.specs.Counts.{CarriesDraws};
+ghost use Rattle.shared_parts.specs.Rounds.{EndsRound, IsAnswered, IsWaiting};
+ghost use Rattle.shared_parts.specs.Kept.{KeepsSlot};
+ghost use Rattle.shared_parts.specs.Counts.{CarriesDraws};
 
 use crate::beginning::begin;
-use crate::gate::SharedGate;
 use crate::look::Look;
-use crate::names::DevicesName;
+use crate::taking::take_soon;
 use call_history::Session;
 use call_rules::{Decision, NewPlace};
-use create_calls::{
-    Unmade, call_of, clear, finish, give_back, give_up, make_unless_spent, reserve,
-};
+use create_calls::{Unmade, clear, finish, give_back, give_up, make_unless_spent, reserve};
 use gate_calls::answer_ruled;
 use hmac_keys::tsk;
 use locked_gate::Answer;
@@ -33,8 +30,9 @@ use locked_slots::LockedSlot;
 use node_image::RootRef;
 use object_slots::Slot;
 use rpmb_card::RpmbPort;
+use shared_parts::{DevicesName, SharedGate};
 use std::alloc::Global;
-use std::sync::{Mutex, Wait};
+use std::sync::{Mutex, MutexGuard, Wait};
 use suppositions::StoreName;
 use tee_ports::{Entropy, StoreFile};
 use tee_types::{Bytes, Call, Flags, NoMemory, ObjectId};
@@ -354,10 +352,12 @@ fn round_slot<
 >(
     rt: &W,
     alloc: Global,
+    mut first: MutexGuard<'_, SharedGate<F, R, L>>,
     gate: &Mutex<SharedGate<F, R, L>>,
     slot: &mut Slot<F>,
     storage_key: &[u8; 32],
     session: &mut Session<E>,
+    call: &Call,
     id: ObjectId,
     flags: Flags,
     attributes: &Bytes,
@@ -365,6 +365,7 @@ fn round_slot<
 ) -> Result<Option<Answer>, NoMemory>
     requires caller { IsCallerOf L.store session.old }
     requires few { length L.store.mounted.applications ≤ 16 }
+    requires call { call.now ≡ Create id flags attributes.now bytes.now }
     requires keyed { storage_key.now ≡ ssk L.store.keys.huk L.store.keys.chip }
     requires locked { IsLockedSlot L.store slot.old }
     requires kept { KeepsSlot L.devices slot.old [] }
@@ -376,23 +377,17 @@ fn round_slot<
     ensures kept { KeepsSlot L.devices slot.new [] }
     ensures drawn { IfOk result (λ found. IfSome found (λ answer. CarriesDraws (E.faults session.old.entropy) (E.faults session.new.entropy) answer.reply)) }
 {
-    let call = call_of(alloc, id, flags, attributes, bytes)?;
     let looked = look_first(
-        alloc,
-        &mut gate.lock(rt),
-        slot,
-        session,
-        &call,
-        id,
-        flags,
-        attributes,
-        bytes,
+        alloc, &mut first, slot, session, call, id, flags, attributes, bytes,
     )?;
+    drop(first);
     let counter = match looked {
         Look::Answered(answer) => return Ok(Some(answer)),
         Look::Found(counter) => counter,
         Look::Again => return Ok(None),
     };
+    // The call for the event.
+    let kept = call.copy(alloc)?;
     let made = make_slot::<F, L, E>(
         alloc,
         counter,
@@ -404,10 +399,10 @@ fn round_slot<
     )?;
     look_last(
         alloc,
-        &mut gate.lock(rt),
+        &mut take_soon(rt, gate),
         slot,
         session,
-        call,
+        kept,
         id,
         flags,
         attributes,
@@ -418,6 +413,7 @@ fn round_slot<
 
 /// A round of a Create, with the lock of the slot of the file that `look_for_file` gave: two looks at the gate, and between them the object
 /// is made. None where the call has to begin again. What was made and is not brought to the gate is let go.
+/// `call` is that Create.
 ///
 /// # Errors
 ///
@@ -431,10 +427,12 @@ pub(crate) fn round<
 >(
     rt: &W,
     alloc: Global,
+    first: MutexGuard<'_, SharedGate<F, R, L>>,
     gate: &Mutex<SharedGate<F, R, L>>,
     slot: &mut LockedSlot<F, L>,
     storage_key: &[u8; 32],
     session: &mut Session<E>,
+    call: &Call,
     id: ObjectId,
     flags: Flags,
     attributes: &Bytes,
@@ -442,6 +440,7 @@ pub(crate) fn round<
 ) -> Result<Option<Answer>, NoMemory>
     requires caller { IsCallerOf L.store session.old }
     requires few { length L.store.mounted.applications ≤ 16 }
+    requires call { call.now ≡ Create id flags attributes.now bytes.now }
     requires keyed { storage_key.now ≡ ssk L.store.keys.huk L.store.keys.chip }
     requires kept { KeepsSlot L.devices slot.old [] }
     ensures ends { EndsRound L.store session.old session.new (Create id flags attributes.now bytes.now) result }
@@ -454,10 +453,12 @@ pub(crate) fn round<
     round_slot(
         rt,
         alloc,
+        first,
         gate,
         &mut slot.slot,
         storage_key,
         session,
+        call,
         id,
         flags,
         attributes,

@@ -2,26 +2,24 @@
 
 ghost use Rattle.std.specs.Prelude.{◌≡◌, ◌≤◌, IfSome, IfOk, []};
 ghost use Rattle.call_history.specs.Sessions.{IsCallerOf};
-ghost use Rattle.served_calls.specs.Devices.{Grows};
+ghost use Rattle.device_counts.specs.Devices.{Grows};
 ghost use Rattle.shared_calls.specs.Looks.{EndsLook, IfAnswered, IfFound};
 ghost use Rattle.shared_calls.specs.Naming.{MayDelete};
 ghost use Rattle.shared_calls.specs.Ready.{IsReady};
-ghost use Rattle.shared_calls.specs.Rounds.{EndsRound};
-ghost use Rattle.shared_calls.specs.Kept.{KeepsSlot};
-ghost use Rattle.shared_calls.specs.Counts.{CarriesDraws};
+ghost use Rattle.shared_parts.specs.Rounds.{EndsRound};
+ghost use Rattle.shared_parts.specs.Kept.{KeepsSlot};
+ghost use Rattle.shared_parts.specs.Counts.{CarriesDraws};
 
 use crate::beginning::begin;
-use crate::gate::SharedGate;
 use crate::look::Look;
-use crate::names::DevicesName;
 use call_history::Session;
 use call_rules::{Decision, OpenObject};
 use gate_calls::answer_ruled;
 use locked_gate::Answer;
 use locked_slots::LockedSlot;
 use rpmb_card::RpmbPort;
+use shared_parts::{DevicesName, SharedGate};
 use std::alloc::Global;
-use std::sync::{Mutex, Wait};
 use suppositions::StoreName;
 use tee_ports::{Entropy, StoreFile};
 use tee_types::{Call, NoMemory};
@@ -87,8 +85,18 @@ pub(crate) fn file_of<
     }
 }
 
-// The one look: the object is deleted, where the slot is its file's.
-fn delete_held<F: StoreFile + Drop, R: RpmbPort + Drop, L: StoreName + DevicesName, E: Entropy>(
+/// The one look of a Delete, with the lock of a slot: the object is deleted, where the slot is its file's. None where the call has to begin
+/// again.
+///
+/// # Errors
+///
+/// Memory ran out. The session has no event more.
+pub(crate) fn delete_held<
+    F: StoreFile + Drop,
+    R: RpmbPort + Drop,
+    L: StoreName + DevicesName,
+    E: Entropy,
+>(
     alloc: Global,
     gate: &mut SharedGate<F, R, L>,
     slot: &mut LockedSlot<F, L>,
@@ -115,35 +123,4 @@ fn delete_held<F: StoreFile + Drop, R: RpmbPort + Drop, L: StoreName + DevicesNa
     // Tells how the gate and the card stand to each other.
     let _doubt = gate.gate.doubt();
     Ok(Some(name_calls::delete(&mut gate.gate, slot, session, &found, handle)))
-}
-
-/// A round of a Delete, with the lock of the slot of its object's file: one look at the gate. None where the call has to begin again.
-///
-/// # Errors
-///
-/// Memory ran out. The session has no event more.
-pub(crate) fn round<
-    W: Wait,
-    F: StoreFile + Drop,
-    R: RpmbPort + Drop,
-    L: StoreName + DevicesName,
-    E: Entropy,
->(
-    rt: &W,
-    alloc: Global,
-    gate: &Mutex<SharedGate<F, R, L>>,
-    slot: &mut LockedSlot<F, L>,
-    session: &mut Session<E>,
-    handle: u32,
-) -> Result<Option<Answer>, NoMemory>
-    requires caller { IsCallerOf L.store session.old }
-    requires kept { KeepsSlot L.devices slot.old [] }
-    ensures ends { EndsRound L.store session.old session.new (Call.Delete handle) result }
-    ensures counted { Grows (E.faults session.old.entropy) (E.faults session.new.entropy) }
-    ensures reliable { E.is_reliable session.old.entropy → E.is_reliable session.new.entropy }
-    ensures still { E.is_reliable session.old.entropy → E.faults session.new.entropy ≡ E.faults session.old.entropy }
-    ensures kept { KeepsSlot L.devices slot.new [] }
-    ensures drawn { IfOk result (λ found. IfSome found (λ answer. CarriesDraws (E.faults session.old.entropy) (E.faults session.new.entropy) answer.reply)) }
-{
-    delete_held(alloc, &mut gate.lock(rt), slot, session, handle)
 }

@@ -8,17 +8,16 @@ ghost use Rattle.shared_calls.specs.Describing.{HasDescribed};
 ghost use Rattle.shared_calls.specs.Looks.{EndsLook, IfAnswered, IfFound};
 ghost use Rattle.shared_calls.specs.Meeting.{MayLoad};
 ghost use Rattle.shared_calls.specs.Ready.{IsReady};
-ghost use Rattle.shared_calls.specs.Rounds.{EndsRound};
-ghost use Rattle.shared_calls.specs.Kept.{KeepsSlot};
-ghost use Rattle.shared_calls.specs.Counts.{CarriesDraws};
-ghost use Rattle.served_calls.specs.Counts.{told_of};
+ghost use Rattle.shared_parts.specs.Rounds.{EndsRound};
+ghost use Rattle.shared_parts.specs.Kept.{KeepsSlot};
+ghost use Rattle.shared_parts.specs.Counts.{CarriesDraws};
+ghost use Rattle.device_counts.specs.Counts.{told_of};
 ghost use Rattle.tee_types.specs.declared.reply.Device.TheVariants.{File};
 
 use crate::beginning::begin;
-use crate::gate::SharedGate;
 use crate::look::Look;
 use crate::meeting::meet_held;
-use crate::names::DevicesName;
+use crate::taking::take_soon;
 use call_history::Session;
 use call_rules::{Decision, OpenObject};
 use gate_calls::answer_ruled;
@@ -27,8 +26,9 @@ use locked_gate::Answer;
 use locked_slots::LockedSlot;
 use object_answers::{answer_info, describe_object};
 use rpmb_card::RpmbPort;
+use shared_parts::{DevicesName, SharedGate};
 use std::alloc::Global;
-use std::sync::{Mutex, Wait};
+use std::sync::{Mutex, MutexGuard, Wait};
 use store_model::Handle;
 use suppositions::StoreName;
 use tee_ports::{Entropy, StoreFile};
@@ -199,6 +199,7 @@ pub(crate) fn round<
 >(
     rt: &W,
     alloc: Global,
+    mut first: MutexGuard<'_, SharedGate<F, R, L>>,
     gate: &Mutex<SharedGate<F, R, L>>,
     slot: &mut LockedSlot<F, L>,
     storage_key: &[u8; 32],
@@ -215,7 +216,8 @@ pub(crate) fn round<
     ensures kept { KeepsSlot L.devices slot.new [] }
     ensures drawn { IfOk result (λ found. IfSome found (λ answer. CarriesDraws (E.faults session.old.entropy) (E.faults session.new.entropy) answer.reply)) }
 {
-    let looked = look_first(alloc, &mut gate.lock(rt), slot, session, handle)?;
+    let looked = look_first(alloc, &mut first, slot, session, handle)?;
+    drop(first);
     let found = match looked {
         Look::Answered(answer) => return Ok(Some(answer)),
         Look::Found(found) => found,
@@ -226,7 +228,7 @@ pub(crate) fn round<
     let by = found.handle;
     look_last(
         alloc,
-        &mut gate.lock(rt),
+        &mut take_soon(rt, gate),
         slot,
         session,
         handle,

@@ -4,7 +4,7 @@ use locked_gate::Answer;
 
 /// What a look of a call at the gate gave.
 #[derive(Debug, Drop)]
-pub(crate) enum Look<T> {
+pub enum Look<T> {
     /// The call is answered.
     Answered(Answer),
     /// What the call needs of an object.

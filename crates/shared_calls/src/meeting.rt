@@ -7,14 +7,13 @@ ghost use Rattle.locked_slots.specs.Reads.{GivesVersion};
 ghost use Rattle.object_answers.specs.Meeting.{StillGives};
 ghost use Rattle.shared_calls.specs.Meeting.{IsMet};
 ghost use Rattle.shared_calls.specs.Ready.{IsReady};
-ghost use Rattle.shared_calls.specs.Kept.{KeepsSlot};
+ghost use Rattle.shared_parts.specs.Kept.{KeepsSlot};
 
-use crate::gate::SharedGate;
-use crate::names::DevicesName;
 use call_history::Session;
 use locked_slots::LockedSlot;
 use object_answers::meet_entry;
 use rpmb_card::RpmbPort;
+use shared_parts::{DevicesName, SharedGate};
 use store_commit::Held;
 use suppositions::StoreName;
 use tee_ports::{Entropy, StoreFile};

@@ -7,15 +7,14 @@ ghost use Rattle.shared_calls.specs.Looks.{EndsLook, IfAnswered, IfFound};
 ghost use Rattle.shared_calls.specs.Meeting.{MayLoad};
 ghost use Rattle.shared_calls.specs.Opening.{HasLoaded, MayOpen};
 ghost use Rattle.shared_calls.specs.Ready.{IsReady};
-ghost use Rattle.shared_calls.specs.Rounds.{EndsRound};
-ghost use Rattle.shared_calls.specs.Kept.{KeepsSlot};
-ghost use Rattle.shared_calls.specs.Counts.{CarriesDraws, told_if};
+ghost use Rattle.shared_parts.specs.Rounds.{EndsRound};
+ghost use Rattle.shared_parts.specs.Kept.{KeepsSlot};
+ghost use Rattle.shared_parts.specs.Counts.{CarriesDraws, told_if};
 
 use crate::beginning::begin;
-use crate::gate::SharedGate;
 use crate::look::Look;
 use crate::meeting::meet_held;
-use crate::names::DevicesName;
+use crate::taking::take_soon;
 use call_history::Session;
 use call_rules::Decision;
 use gate_calls::answer_ruled;
@@ -24,8 +23,9 @@ use locked_gate::Answer;
 use locked_slots::LockedSlot;
 use object_answers::{answer_open, load_or_reply};
 use rpmb_card::RpmbPort;
+use shared_parts::{DevicesName, SharedGate};
 use std::alloc::Global;
-use std::sync::{Mutex, Wait};
+use std::sync::{Mutex, MutexGuard, Wait};
 use store_commit::Held;
 use suppositions::StoreName;
 use tee_ports::{Entropy, StoreFile};
@@ -194,6 +194,7 @@ pub(crate) fn round<
 >(
     rt: &W,
     alloc: Global,
+    mut first: MutexGuard<'_, SharedGate<F, R, L>>,
     gate: &Mutex<SharedGate<F, R, L>>,
     slot: &mut LockedSlot<F, L>,
     storage_key: &[u8; 32],
@@ -211,7 +212,8 @@ pub(crate) fn round<
     ensures kept { KeepsSlot L.devices slot.new [] }
     ensures drawn { IfOk result (λ found. IfSome found (λ answer. CarriesDraws (E.faults session.old.entropy) (E.faults session.new.entropy) answer.reply)) }
 {
-    let looked = look_first(alloc, &mut gate.lock(rt), slot, session, id, flags)?;
+    let looked = look_first(alloc, &mut first, slot, session, id, flags)?;
+    drop(first);
     let held = match looked {
         Look::Answered(answer) => return Ok(Some(answer)),
         Look::Found(held) => held,
@@ -220,7 +222,7 @@ pub(crate) fn round<
     let unloaded = load_slot(alloc, slot, storage_key, &held)?;
     look_last(
         alloc,
-        &mut gate.lock(rt),
+        &mut take_soon(rt, gate),
         slot,
         session,
         id,

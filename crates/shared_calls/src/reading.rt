@@ -9,17 +9,16 @@ ghost use Rattle.shared_calls.specs.Looks.{EndsLook, IfAnswered, IfFound};
 ghost use Rattle.shared_calls.specs.Meeting.{MayLoad};
 ghost use Rattle.shared_calls.specs.Reading.{HasRead};
 ghost use Rattle.shared_calls.specs.Ready.{IsReady};
-ghost use Rattle.shared_calls.specs.Rounds.{EndsRound};
-ghost use Rattle.shared_calls.specs.Kept.{KeepsSlot};
-ghost use Rattle.shared_calls.specs.Counts.{CarriesDraws};
-ghost use Rattle.served_calls.specs.Counts.{told_of};
+ghost use Rattle.shared_parts.specs.Rounds.{EndsRound};
+ghost use Rattle.shared_parts.specs.Kept.{KeepsSlot};
+ghost use Rattle.shared_parts.specs.Counts.{CarriesDraws};
+ghost use Rattle.device_counts.specs.Counts.{told_of};
 ghost use Rattle.tee_types.specs.declared.reply.Device.TheVariants.{File};
 
 use crate::beginning::begin;
-use crate::gate::SharedGate;
 use crate::look::Look;
 use crate::meeting::meet_held;
-use crate::names::DevicesName;
+use crate::taking::take_soon;
 use call_history::Session;
 use call_rules::{Decision, OpenObject};
 use gate_calls::answer_ruled;
@@ -28,8 +27,9 @@ use locked_gate::Answer;
 use locked_slots::LockedSlot;
 use object_answers::{answer_read, read_object};
 use rpmb_card::RpmbPort;
+use shared_parts::{DevicesName, SharedGate};
 use std::alloc::Global;
-use std::sync::{Mutex, Wait};
+use std::sync::{Mutex, MutexGuard, Wait};
 use suppositions::StoreName;
 use tee_ports::{Entropy, StoreFile};
 use tee_types::{Call, NoMemory, Reply};
@@ -212,6 +212,7 @@ pub(crate) fn round<
 >(
     rt: &W,
     alloc: Global,
+    mut first: MutexGuard<'_, SharedGate<F, R, L>>,
     gate: &Mutex<SharedGate<F, R, L>>,
     slot: &mut LockedSlot<F, L>,
     storage_key: &[u8; 32],
@@ -229,7 +230,8 @@ pub(crate) fn round<
     ensures kept { KeepsSlot L.devices slot.new [] }
     ensures drawn { IfOk result (λ found. IfSome found (λ answer. CarriesDraws (E.faults session.old.entropy) (E.faults session.new.entropy) answer.reply)) }
 {
-    let looked = look_first(alloc, &mut gate.lock(rt), slot, session, handle, size)?;
+    let looked = look_first(alloc, &mut first, slot, session, handle, size)?;
+    drop(first);
     let found = match looked {
         Look::Answered(answer) => return Ok(Some(answer)),
         Look::Found(found) => found,
@@ -240,7 +242,7 @@ pub(crate) fn round<
     let at = found.handle.position;
     look_last(
         alloc,
-        &mut gate.lock(rt),
+        &mut take_soon(rt, gate),
         slot,
         session,
         handle,

@@ -8,20 +8,19 @@ ghost use Rattle.call_history.specs.Sessions.{IsCallerOf};
 ghost use Rattle.call_rules.specs.Objects.{IsRightful};
 ghost use Rattle.change_calls.specs.Staging.{resizing};
 ghost use Rattle.shared_calls.specs.Changing.{HasStaged, CarriesStaged, told_staged};
-ghost use Rattle.served_calls.specs.Devices.{Grows};
+ghost use Rattle.device_counts.specs.Devices.{Grows};
 ghost use Rattle.shared_calls.specs.Looks.{EndsLook, IfAnswered, IfFound};
 ghost use Rattle.shared_calls.specs.Meeting.{MayLoad};
 ghost use Rattle.shared_calls.specs.Ready.{IsReady};
-ghost use Rattle.shared_calls.specs.Rounds.{EndsRound, IsAnswered, IsWaiting};
-ghost use Rattle.shared_calls.specs.Kept.{KeepsSlot};
-ghost use Rattle.shared_calls.specs.Counts.{CarriesDraws};
+ghost use Rattle.shared_parts.specs.Rounds.{EndsRound, IsAnswered, IsWaiting};
+ghost use Rattle.shared_parts.specs.Kept.{KeepsSlot};
+ghost use Rattle.shared_parts.specs.Counts.{CarriesDraws};
 
 use crate::beginning::begin;
 use crate::changing::{answer_held, give_up};
-use crate::gate::SharedGate;
 use crate::look::Look;
 use crate::meeting::meet_held;
-use crate::names::DevicesName;
+use crate::taking::take_soon;
 use call_history::Session;
 use call_rules::{Decision, OpenObject, truncate_refusal};
 use change_calls::{Staged, answer_truncate, meet_staged, truncate_object};
@@ -31,8 +30,9 @@ use locked_gate::Answer;
 use locked_slots::LockedSlot;
 use object_slots::Slot;
 use rpmb_card::RpmbPort;
+use shared_parts::{DevicesName, SharedGate};
 use std::alloc::Global;
-use std::sync::{Mutex, Wait};
+use std::sync::{Mutex, MutexGuard, Wait};
 use suppositions::StoreName;
 use tee_ports::{Entropy, StoreFile};
 use tee_types::{Call, NoMemory, Reply};
@@ -313,7 +313,7 @@ fn truncate_slot<
     let staged = stage_slot::<F, L, E>(alloc, slot, storage_key, session, found, size)?;
     look_last(
         alloc,
-        &mut gate.lock(rt),
+        &mut take_soon(rt, gate),
         slot,
         session,
         handle,
@@ -337,6 +337,7 @@ pub(crate) fn round<
 >(
     rt: &W,
     alloc: Global,
+    mut first: MutexGuard<'_, SharedGate<F, R, L>>,
     gate: &Mutex<SharedGate<F, R, L>>,
     slot: &mut LockedSlot<F, L>,
     storage_key: &[u8; 32],
@@ -354,7 +355,8 @@ pub(crate) fn round<
     ensures kept { KeepsSlot L.devices slot.new [] }
     ensures drawn { IfOk result (λ found. IfSome found (λ answer. CarriesDraws (E.faults session.old.entropy) (E.faults session.new.entropy) answer.reply)) }
 {
-    let looked = look_first(alloc, &mut gate.lock(rt), slot, session, handle, size)?;
+    let looked = look_first(alloc, &mut first, slot, session, handle, size)?;
+    drop(first);
     let found = match looked {
         Look::Answered(answer) => return Ok(Some(answer)),
         Look::Found(found) => found,

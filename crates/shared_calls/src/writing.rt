@@ -8,20 +8,19 @@ ghost use Rattle.call_history.specs.Sessions.{IsCallerOf};
 ghost use Rattle.call_rules.specs.Objects.{IsRightful};
 ghost use Rattle.change_calls.specs.Staging.{writing};
 ghost use Rattle.shared_calls.specs.Changing.{HasStaged, CarriesStaged, told_staged};
-ghost use Rattle.served_calls.specs.Devices.{Grows};
+ghost use Rattle.device_counts.specs.Devices.{Grows};
 ghost use Rattle.shared_calls.specs.Looks.{EndsLook, IfAnswered, IfFound};
 ghost use Rattle.shared_calls.specs.Meeting.{MayLoad};
 ghost use Rattle.shared_calls.specs.Ready.{IsReady};
-ghost use Rattle.shared_calls.specs.Rounds.{EndsRound, IsAnswered, IsWaiting};
-ghost use Rattle.shared_calls.specs.Kept.{KeepsSlot};
-ghost use Rattle.shared_calls.specs.Counts.{CarriesDraws};
+ghost use Rattle.shared_parts.specs.Rounds.{EndsRound, IsAnswered, IsWaiting};
+ghost use Rattle.shared_parts.specs.Kept.{KeepsSlot};
+ghost use Rattle.shared_parts.specs.Counts.{CarriesDraws};
 
 use crate::beginning::begin;
 use crate::changing::{answer_held, give_up};
-use crate::gate::SharedGate;
 use crate::look::Look;
 use crate::meeting::meet_held;
-use crate::names::DevicesName;
+use crate::taking::take_soon;
 use call_history::Session;
 use call_rules::{Decision, OpenObject, write_refusal};
 use change_calls::{Staged, answer_write, meet_staged, write_object};
@@ -31,8 +30,9 @@ use locked_gate::Answer;
 use locked_slots::LockedSlot;
 use object_slots::Slot;
 use rpmb_card::RpmbPort;
+use shared_parts::{DevicesName, SharedGate};
 use std::alloc::Global;
-use std::sync::{Mutex, Wait};
+use std::sync::{Mutex, MutexGuard, Wait};
 use suppositions::StoreName;
 use tee_ports::{Entropy, StoreFile};
 use tee_types::{Bytes, Call, NoMemory};
@@ -330,7 +330,7 @@ fn write_slot<
     let at = found.handle.position;
     look_last(
         alloc,
-        &mut gate.lock(rt),
+        &mut take_soon(rt, gate),
         slot,
         session,
         call,
@@ -357,6 +357,7 @@ pub(crate) fn round<
 >(
     rt: &W,
     alloc: Global,
+    mut first: MutexGuard<'_, SharedGate<F, R, L>>,
     gate: &Mutex<SharedGate<F, R, L>>,
     slot: &mut LockedSlot<F, L>,
     storage_key: &[u8; 32],
@@ -376,15 +377,8 @@ pub(crate) fn round<
     ensures kept { KeepsSlot L.devices slot.new [] }
     ensures drawn { IfOk result (λ found. IfSome found (λ answer. CarriesDraws (E.faults session.old.entropy) (E.faults session.new.entropy) answer.reply)) }
 {
-    let looked = look_first(
-        alloc,
-        &mut gate.lock(rt),
-        slot,
-        session,
-        call,
-        handle,
-        bytes,
-    )?;
+    let looked = look_first(alloc, &mut first, slot, session, call, handle, bytes)?;
+    drop(first);
     let found = match looked {
         Look::Answered(answer) => return Ok(Some(answer)),
         Look::Found(found) => found,

@@ -14,7 +14,7 @@ use Rattle.script_text.specs.declared.script.Step.{Step}
 use Rattle.script_text.specs.declared.script.Step.TheVariants.{Call as CallStep, Control as ControlStep}
 use Rattle.script_text.specs.Script.{IsPlaced, is_call}
 use Rattle.phase_calls.specs.Steps.{AreCalls, calls_in}
-use Rattle.shared_calls.specs.Kept.{AreOfSessions}
+use Rattle.shared_parts.specs.Kept.{AreOfSessions}
 
 cond-append : (own : Bool) (call : Call) (first then : List Call) → cond own (call ∷ (first ++ then)) (first ++ then) ≡ cond own (call ∷ first) first ++ then
 cond-append true call first then = refl

@@ -19,17 +19,17 @@ use Rattle.script_text.specs.declared.script.Step.{Step}
 use Rattle.object_slots.specs.Value.{SlotValue}
 use Rattle.locked_gate.specs.LockedGates.{LockedGateValue}
 use Rattle.tee_types.specs.declared.reply.Device.TheVariants.{Card, Dir, File}
-use Rattle.served_calls.specs.Cards.{TellsCard}
-use Rattle.served_calls.specs.Counts.{Rise, counts_of, draws_of}
-use Rattle.served_calls.specs.Devices.{Devices, PortGoesOn}
-use Rattle.served_calls.proofs.Rises.{Rise-still}
+use Rattle.device_counts.specs.Cards.{TellsCard}
+use Rattle.device_counts.specs.Counts.{Rise, counts_of, draws_of}
+use Rattle.device_counts.specs.Devices.{Devices, PortGoesOn}
+use Rattle.device_counts.proofs.Rises.{Rise-still}
 use Rattle.object_calls.specs.Files.{files_of}
 use Rattle.object_calls.specs.Finished.{HasCounted, HaveCounted, LeavesStore}
 use Rattle.object_calls.specs.Retiring.{IsPlaced}
 use Rattle.object_calls.specs.Sessions.{AreCallers, AreSeated, HaveNoEvents}
 use Rattle.phase_calls.specs.Reliable.{AreFresh, AreReliable}
 use Rattle.phase_calls.specs.Steps.{AreCalls, calls_in}
-use Rattle.shared_calls.specs.Kept.{AreOfSessions, KeepsGate}
+use Rattle.shared_parts.specs.Kept.{AreOfSessions, KeepsGate}
 use Rattle.shared_phases.specs.Closing.{ClosesShared}
 use Rattle.shared_phases.specs.OwnCalls.{HasMade, HasStopped, HaveWorked, is_done, own_calls}
 use Rattle.shared_phases.specs.OwnDraws.{own_draws}
@@ -37,6 +37,7 @@ use Rattle.shared_phases.specs.Seen.{seen_by}
 use Rattle.shared_phases.specs.Sharing.{AreKept}
 use Rattle.shared_phases.proofs.Calls.{calls_in-past, calls_of-begins, calls_of-none, calls_of-past}
 use Rattle.shared_phases.proofs.Draws.{draws_of-begins, draws_of-none}
+use Rattle.history_seats.specs.Tags.{AreTagged}
 use Rattle.shared_phases.proofs.Sharings.{each_counted, each_goes_on}
 
 module _ {E : Type 0} (is_reliable : E → Type 0) (draws : E → ℕ) (store : Store) where
@@ -159,7 +160,7 @@ worked_callers is_reliable draws store steps was now many worked i d within = el
 -- The store was closed.
 module _ {F R : Type 0} (of_file : F → FileState) (of_port : R → PortState) (store : Store) (before : Devices) (gate : LockedGateValue F R) (keeps : KeepsGate of_file of_port store before gate)
     (slots : List SlotValue) (kept : AreKept before (length slots) slots) (files : List F) (card : R) (front : files ≡ gate.gate.dir.file ∷ drop 1 files)
-    (placed : (i : ℕ) → i < 272 → IsPlaced store gate.journal.knows slots (i + 1) (files_of of_file files (i + 1))) where
+    (placed : (i : ℕ) → i < 272 → IsPlaced store gate.journal.knows slots (i + 1) (files_of of_file files (i + 1))) (tagged : AreTagged gate.journal.knows.all) where
   abbrev all : List Event
   all = events_of gate.journal.knows.all
 
@@ -176,9 +177,9 @@ module _ {F R : Type 0} (of_file : F → FileState) (of_port : R → PortState) 
     leaves = leaves;
     dir = subst (λ (l : List F). GoesOn before.dir (files_of of_file l 0)) (sym front) keeps.dir;
     dir_counted = subst (λ (p : List F × List Event). Rise (before.dir).faults (files_of of_file p.0 0).faults (counts_of Dir p.1)) (λ i. (sym front i, sym is i)) keeps.dir_counted;
-    each = each_goes_on store before slots kept gate.journal.knows (files_of of_file files) placed;
+    each = each_goes_on store before slots kept gate.journal.knows tagged (files_of of_file files) placed;
     each_counted = λ file own. subst (λ (l : List Event). Rise (before.file file).faults (files_of of_file files file).faults (counts_of (File file) l)) (sym is)
-        (each_counted store before slots kept gate.journal.knows (files_of of_file files) placed file own);
+        (each_counted store before slots kept gate.journal.knows tagged (files_of of_file files) placed file own);
     port = subst (λ (r : R). PortGoesOn (rpmb_key store.keys.huk) before.card (of_port r)) (sym port) keeps.card;
     port_counted = subst (λ (p : R × List Event). Rise (before.card).faults (of_port p.0).faults (counts_of Card p.1)) (λ i. (sym port i, sym is i)) keeps.card_counted;
     told = subst (TellsCard (rpmb_key store.keys.huk) before.card) (sym is) keeps.card_told;

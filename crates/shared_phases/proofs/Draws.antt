@@ -12,10 +12,10 @@ use Rattle.store_model.specs.History.{count_of, numbers_of}
 use Rattle.store_model.specs.Record.{events_of}
 use Rattle.history_seats.specs.Records.{HistoryRecord, IsUpToDate, is_of_session}
 use Rattle.history_seats.proofs.Numbering.{count-append, count-begins}
-use Rattle.served_calls.specs.Counts.{Rise, draws_of, told_of}
-use Rattle.served_calls.specs.Devices.{Grows}
-use Rattle.served_calls.proofs.CarriedCounts.{draws_of-append}
-use Rattle.shared_calls.specs.Counts.{CarriesDraws}
+use Rattle.device_counts.specs.Counts.{Rise, draws_of, told_of}
+use Rattle.device_counts.specs.Devices.{Grows}
+use Rattle.device_counts.proofs.CarriedCounts.{draws_of-append}
+use Rattle.shared_parts.specs.Counts.{CarriesDraws}
 
 -- a session without events has no counts
 cond-none : (own : Bool) (number : ℕ) (numbers told rest : List ℕ) → length (cond own (number ∷ numbers) numbers) ≡ 0 → (length numbers ≡ 0 → rest ≡ []) → cond own (told ++ rest) rest ≡ []

@@ -10,14 +10,14 @@ use Rattle.history_seats.specs.Views.{PassView, Sight}
 use Rattle.suppositions.specs.Stores.{Store}
 use Rattle.call_history.specs.Sessions.{CallerSession, IsCallerOf}
 use Rattle.locked_gate.specs.declared.answered.Answer.{Answer}
-use Rattle.shared_calls.specs.Rounds.{IsAnswered, IsWaiting}
+use Rattle.shared_parts.specs.Rounds.{IsAnswered, IsWaiting}
 use Rattle.script_text.specs.declared.script.Step.{Step}
 use Rattle.phase_calls.specs.Steps.{calls_in}
 use Rattle.tee_types.specs.declared.reply.Device.TheVariants.{Entropy}
-use Rattle.served_calls.specs.Counts.{Rise, draws_of, told_of}
-use Rattle.served_calls.specs.Devices.{Grows}
-use Rattle.served_calls.proofs.Rises.{Rise-append}
-use Rattle.shared_calls.specs.Counts.{CarriesDraws}
+use Rattle.device_counts.specs.Counts.{Rise, draws_of, told_of}
+use Rattle.device_counts.specs.Devices.{Grows}
+use Rattle.device_counts.proofs.Rises.{Rise-append}
+use Rattle.shared_parts.specs.Counts.{CarriesDraws}
 use Rattle.shared_phases.specs.OwnCalls.{HasMade, HasStopped, own_calls}
 use Rattle.shared_phases.specs.OwnDraws.{own_draws}
 use Rattle.shared_phases.specs.Seen.{seen_by}

@@ -16,8 +16,8 @@ use Rattle.suppositions.specs.Stores.{Store}
 use Rattle.suppositions.proofs.Mending.{some_same}
 use Rattle.object_slots.specs.Value.{SlotValue}
 use Rattle.store_commit.specs.Gates.{GateValue}
-use Rattle.served_calls.specs.Devices.{Devices}
-use Rattle.served_calls.proofs.Counting.{same_file_goes_on, same_port_goes_on}
+use Rattle.device_counts.specs.Devices.{Devices}
+use Rattle.device_counts.proofs.Counting.{same_file_goes_on, same_port_goes_on}
 use Rattle.object_calls.specs.Files.{files_of}
 use Rattle.object_calls.specs.Opening.{OpeningValue, bench_files, entries_in}
 use Rattle.object_calls.specs.Retiring.{IsPlaced}
@@ -25,11 +25,12 @@ use Rattle.object_calls.specs.Services.{ServiceValue, slot_for}
 use Rattle.object_calls.specs.Serving.{ServesOpening}
 use Rattle.object_calls.proofs.Files.{files_behind}
 use Rattle.object_calls.proofs.FirstParts.{none_tagged}
-use Rattle.served_calls.specs.Cards.{TellsCard}
-use Rattle.served_calls.specs.Counts.{Rise, counts_of}
-use Rattle.served_calls.proofs.Cards.{TellsCard-none}
-use Rattle.shared_calls.specs.Kept.{AreOfSessions, KeepsGate, KeepsSlot}
-use Rattle.shared_calls.proofs.KeptSlots.{counts-seen}
+use Rattle.device_counts.specs.Cards.{TellsCard}
+use Rattle.device_counts.specs.Counts.{Rise, counts_of}
+use Rattle.device_counts.proofs.Cards.{TellsCard-none}
+use Rattle.history_seats.specs.Tags.{AreTagged}
+use Rattle.shared_parts.specs.Kept.{AreOfSessions, KeepsGate, KeepsSlot}
+use Rattle.shared_parts.proofs.KeptSlots.{counts-seen}
 use Rattle.shared_phases.specs.Sharing.{AreKept, opening_devices}
 
 -- ONE SLOT AFTER ANOTHER
@@ -84,7 +85,7 @@ module _ {F R : Type 0} (of_file : F → FileState) (of_port : R → PortState) 
         subst (λ (slot : SlotValue). KeepsSlot (opening_devices of_file of_port o) slot []) (sym (served.slots i d within)) (first_slot_kept i within)
 
 -- AS IT IS CLOSED, its slots in whatever order
-module _ (store : Store) (before : Devices) (slots : List SlotValue) (kept : AreKept before (length slots) slots) (view : GateView) where
+module _ (store : Store) (before : Devices) (slots : List SlotValue) (kept : AreKept before (length slots) slots) (view : GateView) (tagged : AreTagged view.all) where
   module _ (file : ℕ) (left : FileState) (placed : IsPlaced store view slots file left) where
     own_kept : KeepsSlot before placed.slot []
     own_kept =
@@ -106,7 +107,7 @@ module _ (store : Store) (before : Devices) (slots : List SlotValue) (kept : Are
         let was : Rise (before.file file).faults placed.slot.file.faults (seen ++ []) =
         subst (λ (n : ℕ). Rise (before.file n).faults placed.slot.file.faults (counts_of (File n) (events_of placed.seat.knows.seen) ++ [])) placed.number (own_kept.counted placed.seat placed.is) in
         subst (λ (counts : List ℕ). Rise (before.file file).faults left.faults counts)
-        (append-nil seen ∙ sym (counts-seen file placed.seat.knows.seen begins.rest view.all begins.is placed.tagged lacks))
+        (append-nil seen ∙ sym (counts-seen file placed.seat.knows.seen begins.rest view.all begins.is tagged lacks))
         (subst (λ (f : FileState). Rise (before.file file).faults f.faults (seen ++ [])) (sym placed.file) was)
 
   module _ (files : ℕ → FileState) (placed : (i : ℕ) → i < 272 → IsPlaced store view slots (i + 1) (files (i + 1))) where

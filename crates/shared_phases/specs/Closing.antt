@@ -12,9 +12,9 @@ use Rattle.history_seats.specs.Views.{GateView}
 use Rattle.core_parts.specs.Joined.{IsObjectFile}
 use Rattle.suppositions.specs.Stores.{Store}
 use Rattle.script_text.specs.declared.script.Step.{Step}
-use Rattle.served_calls.specs.Cards.{TellsCard}
-use Rattle.served_calls.specs.Counts.{Rise, counts_of, draws_of}
-use Rattle.served_calls.specs.Devices.{Devices, PortGoesOn}
+use Rattle.device_counts.specs.Cards.{TellsCard}
+use Rattle.device_counts.specs.Counts.{Rise, counts_of, draws_of}
+use Rattle.device_counts.specs.Devices.{Devices, PortGoesOn}
 use Rattle.object_calls.specs.Finished.{LeavesStore}
 use Rattle.phase_calls.specs.Steps.{calls_in}
 

@@ -2,7 +2,7 @@
 use Rattle.std.specs.Prelude.{ℕ, ◌≡◌, List}
 use Rattle.store_model.specs.Record.{events_of}
 use Rattle.call_history.specs.Sessions.{CallerSession}
-use Rattle.served_calls.specs.Counts.{Rise, draws_of}
+use Rattle.device_counts.specs.Counts.{Rise, draws_of}
 use Rattle.shared_phases.specs.Seen.{seen_by}
 
 -- the counts that the session's events carry for its entropy in its view, in order

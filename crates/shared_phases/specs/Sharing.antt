@@ -3,9 +3,9 @@ use Rattle.std.specs.Prelude.{◌<◌, ℕ, List, [], slice_index_or}
 use Rattle.disk_model.specs.State.{FileState}
 use Rattle.rpmb_card.specs.Port.{PortState}
 use Rattle.object_slots.specs.Value.{SlotValue}
-use Rattle.served_calls.specs.Devices.{Devices}
+use Rattle.device_counts.specs.Devices.{Devices}
 use Rattle.object_calls.specs.Opening.{OpeningValue, bench_files}
-use Rattle.shared_calls.specs.Kept.{KeepsSlot}
+use Rattle.shared_parts.specs.Kept.{KeepsSlot}
 
 -- the devices of a store that is mounted, with no generator
 abbrev pub opening_devices : {F R : Type 0} → (F → FileState) → (R → PortState) → OpeningValue F R → Devices

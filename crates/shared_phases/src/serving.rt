@@ -8,7 +8,7 @@ ghost use Rattle.object_calls.specs.Opening.{IsKeyed};
 ghost use Rattle.object_calls.specs.Sessions.{AreCallers, AreSeated, AreUnseated, HaveNoEvents};
 ghost use Rattle.phase_calls.specs.Reliable.{AreFresh, AreReliable};
 ghost use Rattle.phase_calls.specs.Steps.{AreCalls};
-ghost use Rattle.shared_calls.specs.Kept.{KeepsGate};
+ghost use Rattle.shared_parts.specs.Kept.{KeepsGate};
 ghost use Rattle.shared_phases.specs.Closing.{ClosesShared};
 ghost use Rattle.shared_phases.specs.OwnCalls.{HaveWorked};
 ghost use Rattle.shared_phases.specs.Sharing.{AreKept, opening_devices};
@@ -21,7 +21,8 @@ use hmac_keys::Keys;
 use object_calls::{Bench, Closed, FILES, Opening, Service, ServiceParts, close_slots};
 use rpmb_card::RpmbPort;
 use script_text::Step;
-use shared_calls::{DevicesName, SharedGate, SharedSlot, SharedStore};
+use shared_parts::{DevicesName, SharedGate, SharedSlot};
+use shared_store::SharedStore;
 use std::alloc::Global;
 use std::marker::Brand;
 use std::sync::{Mutex, Wait};
@@ -84,7 +85,6 @@ fn share_and_close<
         storage_key,
         room,
         places,
-        alloc: _,
     } = service.into_parts();
     let SharedSlots {
         slots,

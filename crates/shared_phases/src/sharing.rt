@@ -5,7 +5,7 @@ ghost use Rattle.std.specs.Vec.{vec_capacity};
 ghost use Rattle.shared_phases.specs.Sharing.{AreKept};
 
 use locked_slots::LockedSlot;
-use shared_calls::{DevicesName, SharedSlot};
+use shared_parts::{DevicesName, SharedSlot};
 use std::sync::Mutex;
 use suppositions::StoreName;
 use tee_ports::StoreFile;

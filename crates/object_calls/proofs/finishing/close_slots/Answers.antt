@@ -9,7 +9,7 @@ use Rattle.object_calls.specs.Finished.{HaveCounted}
 use Rattle.object_calls.specs.Retiring.{IsPlaced}
 use Rattle.object_calls.proofs.LeftStores.{dir_first, leaves_parts}
 use Rattle.object_calls.proofs.Placings.{placed_taken}
-use Rattle.object_calls.proofs.Retirings.{IsSameHistory, placed_back, sessions_same}
+use Rattle.object_calls.proofs.Retirings.{IsSameHistory, placed_back, recorded_back, sessions_same}
 use Rattle.object_calls.proofs.finishing.close_slots.Goals as goal
 
 pub returns-clause-counted : goal.returns-clause-counted
@@ -39,6 +39,15 @@ returns-clause-placed g c = λ i within.
     (placed_back s.journal.knows later same store slots (i + 1) (files_of state files i)
     (placed_taken store later slots state 272 c.retire_slots-places.result.items files c.taken_files-files.ensures.files c.retire_slots-places.ensures.placed i within))
 
+pub returns-clause-tagged : goal.returns-clause-tagged
+returns-clause-tagged g c =
+    let s : LockedGateValue g.row.F.Denot g.row.R.Denot = c.args.gate in
+    let later : GateView = c.retire_sessions.new.journal.knows in
+    let same : IsSameHistory s.journal.knows later =
+    subst (λ (j : JournalValue). IsSameHistory j.knows later) c.into_parts-gate.ensures.journal
+    (sessions_same c.into_parts-gate.result.1 c.retire_sessions.new.journal later.sessions c.retire_sessions.ensures.journal) in
+    (recorded_back s.journal.knows later same c.retire_slots-places.ensures.recorded).tagged
+
 pub returns-clause-leaves : goal.returns-clause-leaves
 returns-clause-leaves g c =
     let state = g.F.StoreFile.state in
@@ -56,7 +65,7 @@ returns-clause-leaves g c =
     leaves_parts state port g.met.F.StoreFile.sound store s later c.into_parts-gate.ensures.tied c.requires.tagged same slots files
     (sym c.taken_files-files.result.ok.0 ∙ c.taken_files-files.ensures.len ∙ c.retire_slots-places.ensures.many)
     (placed_taken store later slots state 272 c.retire_slots-places.result.items files c.taken_files-files.ensures.files c.retire_slots-places.ensures.placed)
-    c.retire_slots-places.ensures.numbered c.requires.opens
+    c.retire_slots-places.ensures.recorded c.requires.opens
     (subst (λ (x : GateValue g.row.F.Denot g.row.R.Denot). DoubtStands (gate_sides state port x) x.doubt) is c.doubt-doubt.ensures.stands)
     (subst (λ (x : GateValue g.row.F.Denot g.row.R.Denot). AreHolds x.dir.dir.entries x.holds) is c.doubt-doubt.ensures.held)
     c.doubt-doubt.result (subst (λ (x : GateValue g.row.F.Denot g.row.R.Denot). c.doubt-doubt.result ≡ option_map (λ d. d.number) x.doubt) is c.doubt-doubt.ensures.number)

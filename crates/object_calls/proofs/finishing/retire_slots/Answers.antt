@@ -39,7 +39,7 @@ loop-slot-preserved g c =
       placed = one_placed g.L.StoreName.store g.F.StoreFile.state c.args.slots.items c.args.journal.now.knows l.journal.knows l.left.items l.places.items l.invariant.placed c.requires.objects
           (omega (arith, some, l.left.ok.0)) after.knows slot c.retire_slot-file.result c.pop.new.self.items c.put_file.new.places.items last
           (popped_rest l.left.items (vec_len l.left) l.left.ok.0 c.pop.new.self.items c.in-Some.ensures.rest) (c.put_file.ensures ∙ ap (λ n. slice_set l.places.items (n - 1) (Some c.retire_slot-file.result)) c.number-number.ensures.number) retired.retired retired.file retired.out
-          (ap (λ (j : JournalValue). j.knows.files) retired.journal) retired.gone retired.numbered (files_same l.journal after rest retired.journal);
+          (ap (λ (j : JournalValue). j.knows.files) retired.journal) retired.gone retired.recorded (files_same l.journal after rest retired.journal);
     }
 
 pub returns : goal.returns
@@ -53,5 +53,5 @@ returns g c =
       many = omega (arith, l.invariant.placed.many, l.places.ok.0);
       full = all.0;
       placed = all.1;
-      numbered = all.2;
+      recorded = all.2;
     }

@@ -3,7 +3,7 @@ use Rattle.tee_types.specs.declared.call.Call.TheVariants.{Delete}
 use Rattle.tee_types.specs.declared.reply.Reply.TheVariants.{Done}
 use Rattle.served_calls.proofs.ChangedCalls.{committed_serves}
 use Rattle.served_calls.proofs.CommittedCalls.{committed_still}
-use Rattle.served_calls.proofs.Counting.{same_file_goes_on}
+use Rattle.device_counts.proofs.Counting.{same_file_goes_on}
 use Rattle.served_calls.proofs.naming.delete.Goals as goal
 
 pub returns-clause-serves : goal.returns-clause-serves

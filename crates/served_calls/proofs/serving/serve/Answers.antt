@@ -8,7 +8,7 @@ use Rattle.history_seats.specs.Views.{GateView}
 use Rattle.locked_gate.specs.Commits.{IsCalm}
 use Rattle.rpmb_host.specs.Honest.{HasCard}
 use Rattle.store_commit.specs.Gates.{DoubtStands, GateValue, gate_sides}
-use Rattle.served_calls.proofs.Cards.{settled_counts}
+use Rattle.device_counts.proofs.Cards.{settled_counts}
 use Rattle.served_calls.proofs.Settling.{Settles, reserved_settles, settled_settles, settles_reserved}
 use Rattle.served_calls.proofs.WholeCalls.{alone_serves, none_serves, object_serves, unserved_serves}
 use Rattle.served_calls.proofs.serving.serve.Goals as goal

@@ -3,7 +3,7 @@ use Rattle.std.proofs.Common.{[], subst, sym}
 use Rattle.change_calls.specs.Replies.{IsDoneOrRefused}
 use Rattle.core_parts.specs.Joined.{IsObjectFile}
 use Rattle.object_slots.specs.Value.{SlotValue}
-use Rattle.shared_calls.specs.Kept.{KeepsSlot}
+use Rattle.shared_parts.specs.Kept.{KeepsSlot}
 use Rattle.shared_calls.proofs.AnsweredSlots.{done-faultless, keeps-shown-served, told-none}
 use Rattle.shared_calls.proofs.KeptCalls.{keeps-done}
 use Rattle.shared_calls.proofs.Served.{slot-answers}

@@ -1,7 +1,7 @@
 -- What was staged goes, and the slot without a stage is as it was.
 use Rattle.std.proofs.Common.{inl}
 use Rattle.shared_calls.specs.Changing.{told_staged}
-use Rattle.shared_calls.proofs.KeptSlots.{keeps-untold}
+use Rattle.shared_parts.proofs.KeptSlots.{keeps-untold}
 use Rattle.shared_calls.proofs.StagedSlots.{given-up, given-up-keeps, root-staged, unstaged-locked}
 use Rattle.shared_calls.proofs.changing.give_up.Goals as goal
 

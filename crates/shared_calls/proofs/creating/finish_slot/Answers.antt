@@ -10,7 +10,7 @@ use Rattle.shared_calls.specs.Ready.{IsReady}
 use Rattle.shared_calls.proofs.FinishedCreates.{finished-answers, finished-draws, finished-gate, finished-slot, finished-still}
 use Rattle.shared_calls.proofs.HeldFiles.{idle-held, keeps-held, keeps-reseated}
 use Rattle.shared_calls.proofs.KeptCalls.{known-card}
-use Rattle.shared_calls.proofs.KeptSlots.{own-file}
+use Rattle.shared_parts.proofs.KeptSlots.{own-file}
 use Rattle.shared_calls.proofs.MadeObjects.{keeps-unmade}
 use Rattle.shared_calls.proofs.ShownSlots.{keeps-shown_slot, sees-shown, shown_slot}
 use Rattle.shared_calls.proofs.creating.finish_slot.Goals as goal

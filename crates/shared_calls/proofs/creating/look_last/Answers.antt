@@ -6,7 +6,7 @@ use Rattle.tee_types.specs.declared.call.Call.TheVariants.{Create}
 use Rattle.shared_calls.specs.declared.look.Look.{Look}
 use Rattle.shared_calls.specs.Creating.{told_made}
 use Rattle.shared_calls.specs.Looks.{EndsLook}
-use Rattle.shared_calls.specs.Rounds.{IsWaiting}
+use Rattle.shared_parts.specs.Rounds.{IsWaiting}
 use Rattle.shared_calls.proofs.FinishedCreates.{finish-ends}
 use Rattle.shared_calls.proofs.MadeObjects.{keeps-unmade}
 use Rattle.shared_calls.proofs.creating.look_last.Goals as goal

@@ -4,8 +4,8 @@ use Rattle.std.proofs.lemmas.Result.{err_from_is_err_and}
 use Rattle.tee_types.specs.declared.call.Call.TheVariants.{Create}
 use Rattle.shared_calls.specs.declared.look.Look.{Look}
 use Rattle.shared_calls.specs.Looks.{EndsLook}
-use Rattle.shared_calls.specs.Rounds.{IsWaiting}
-use Rattle.shared_calls.proofs.Waiting.{ends-then, waits-then}
+use Rattle.shared_parts.specs.Rounds.{IsWaiting}
+use Rattle.shared_parts.proofs.Waiting.{ends-then, waits-then}
 use Rattle.shared_calls.proofs.creating.round_slot.Goals as goal
 
 pub returns-in_err-made-clause-ends : goal.returns-in_err-made-clause-ends

@@ -5,11 +5,11 @@ use Rattle.gate_calls.specs.Served.{IsServed}
 use Rattle.locked_gate.specs.declared.answered.Answer.{Answer}
 use Rattle.tee_types.specs.declared.call.Call.{Call}
 use Rattle.tee_types.specs.declared.call.Call.TheVariants.{Create}
-use Rattle.shared_calls.specs.Rounds.{EndsRound, IsWaiting}
+use Rattle.shared_parts.specs.Rounds.{EndsRound, IsWaiting}
 use Rattle.shared_calls.proofs.KeptCalls.{keeps-ruled}
 use Rattle.shared_calls.proofs.RefusedCalls.{refused-plain}
 use Rattle.shared_calls.proofs.Served.{ruled-answers}
-use Rattle.shared_calls.proofs.Waiting.{answers-then}
+use Rattle.shared_parts.proofs.Waiting.{answers-then}
 use Rattle.shared_calls.proofs.creating.rule.Goals as goal
 
 pub invariant_of-gate : goal.invariant_of-gate

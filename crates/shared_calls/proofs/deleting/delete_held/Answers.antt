@@ -11,7 +11,7 @@ use Rattle.shared_calls.specs.Ready.{IsReady}
 use Rattle.shared_calls.proofs.CommittedCalls.{committed-answers, committed-grows, committed-still}
 use Rattle.shared_calls.proofs.KeptCalls.{keeps-committed, known-card}
 use Rattle.shared_calls.proofs.ShownSlots.{keeps-shown-brought}
-use Rattle.shared_calls.proofs.Waiting.{answers-then}
+use Rattle.shared_parts.proofs.Waiting.{answers-then}
 use Rattle.shared_calls.proofs.deleting.delete_held.Goals as goal
 
 pub returns-clause-ends : goal.returns-clause-ends

@@ -10,15 +10,15 @@ use Rattle.tee_types.specs.declared.reply.Device.TheVariants.{File}
 use Rattle.tee_types.specs.declared.call.Call.TheVariants.{Info}
 use Rattle.call_rules.specs.declared.decision.OpenObject.{OpenObject}
 use Rattle.call_history.specs.Sessions.{CallerSession}
-use Rattle.served_calls.specs.Counts.{told_of}
+use Rattle.device_counts.specs.Counts.{told_of}
 use Rattle.shared_calls.specs.declared.look.Look.{Look}
-use Rattle.shared_calls.specs.Kept.{KeepsSlot}
+use Rattle.shared_parts.specs.Kept.{KeepsSlot}
 use Rattle.shared_calls.specs.Looks.{EndsLook}
-use Rattle.shared_calls.specs.Rounds.{IsWaiting}
+use Rattle.shared_parts.specs.Rounds.{IsWaiting}
 use Rattle.shared_calls.proofs.KeptAnswers.{gate-keeps, slot-keeps}
-use Rattle.shared_calls.proofs.KeptSlots.{keeps-untold}
+use Rattle.shared_parts.proofs.KeptSlots.{keeps-untold}
 use Rattle.shared_calls.proofs.Served.{slot-answers}
-use Rattle.shared_calls.proofs.Waiting.{answers-then}
+use Rattle.shared_parts.proofs.Waiting.{answers-then}
 use Rattle.shared_calls.proofs.describing.look_last.Goals as goal
 
 pub answer_info-requires-clause-describes : goal.answer_info-requires-clause-describes

@@ -4,8 +4,8 @@ use Rattle.history_seats.specs.Records.{Version}
 use Rattle.locked_slots.specs.Reads.{GivesVersion}
 use Rattle.object_answers.specs.Meeting.{StillGives}
 use Rattle.object_slots.specs.Value.{SlotValue}
-use Rattle.shared_calls.specs.Kept.{KeepsSlot}
-use Rattle.shared_calls.proofs.KeptSlots.{keeps-shown, own-file}
+use Rattle.shared_parts.specs.Kept.{KeepsSlot}
+use Rattle.shared_parts.proofs.KeptSlots.{keeps-shown, own-file}
 use Rattle.shared_calls.proofs.meeting.meet_held.Goals as goal
 
 pub returns-clause-still : goal.returns-clause-still

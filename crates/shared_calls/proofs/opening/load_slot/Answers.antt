@@ -3,7 +3,7 @@ use Rattle.std.proofs.Common.{[], subst, sym}
 use Rattle.object_slots.specs.Value.{SlotValue}
 use Rattle.locked_slots.specs.Fills.{GivesEntry}
 use Rattle.shared_calls.proofs.OpenedObjects.{has-loaded}
-use Rattle.shared_calls.specs.Kept.{KeepsSlot}
+use Rattle.shared_parts.specs.Kept.{KeepsSlot}
 use Rattle.shared_calls.proofs.KeptAnswers.{keeps-loaded}
 use Rattle.shared_calls.proofs.opening.load_slot.Goals as goal
 

@@ -9,18 +9,18 @@ use Rattle.store_commit.specs.declared.look.Held.{Held}
 use Rattle.tee_types.specs.declared.call.Call.TheVariants.{Open}
 use Rattle.shared_calls.specs.declared.look.Look.{Look}
 use Rattle.shared_calls.specs.Looks.{EndsLook}
-use Rattle.shared_calls.specs.Rounds.{IsWaiting}
+use Rattle.shared_parts.specs.Rounds.{IsWaiting}
 use Rattle.shared_calls.proofs.OpenedObjects.{loaded-entry}
 use Rattle.shared_calls.proofs.Served.{slot-answers}
-use Rattle.shared_calls.proofs.Waiting.{answers-then}
+use Rattle.shared_parts.proofs.Waiting.{answers-then}
 use Rattle.locked_slots.specs.Fits.{SeesWhole}
 use Rattle.object_answers.specs.Opening.{open_reply}
 use Rattle.tee_types.specs.declared.reply.Device.TheVariants.{File}
-use Rattle.served_calls.specs.Counts.{told_of}
-use Rattle.shared_calls.specs.Counts.{told_if}
-use Rattle.shared_calls.specs.Kept.{KeepsSlot}
+use Rattle.device_counts.specs.Counts.{told_of}
+use Rattle.shared_parts.specs.Counts.{told_if}
+use Rattle.shared_parts.specs.Kept.{KeepsSlot}
 use Rattle.shared_calls.proofs.KeptAnswers.{gate-keeps, open-cause, open-told, slot-keeps}
-use Rattle.shared_calls.proofs.KeptSlots.{keeps-untold}
+use Rattle.shared_parts.proofs.KeptSlots.{keeps-untold}
 use Rattle.shared_calls.proofs.opening.look_last.Goals as goal
 
 pub answer_open-requires-clause-ready : goal.answer_open-requires-clause-ready

@@ -4,7 +4,7 @@ use Rattle.shared_calls.specs.declared.look.Look.{Look}
 use Rattle.store_commit.specs.declared.look.Held.{Held}
 use Rattle.tee_types.specs.declared.call.Call.TheVariants.{Open}
 use Rattle.shared_calls.specs.Looks.{EndsLook}
-use Rattle.shared_calls.proofs.Waiting.{ends-then}
+use Rattle.shared_parts.proofs.Waiting.{ends-then}
 use Rattle.shared_calls.proofs.opening.round.Goals as goal
 
 pub returns-clause-ends : goal.returns-clause-ends

@@ -6,11 +6,11 @@ use Rattle.store_model.specs.Machine.{MachineState, Session}
 use Rattle.tee_types.specs.declared.call.Call.TheVariants.{Read}
 use Rattle.call_rules.specs.Plain.{IsPlain}
 use Rattle.locked_gate.specs.declared.answered.Answer.{Answer}
-use Rattle.shared_calls.specs.Rounds.{EndsRound}
+use Rattle.shared_parts.specs.Rounds.{EndsRound}
 use Rattle.shared_calls.proofs.KeptCalls.{keeps-ruled}
 use Rattle.shared_calls.proofs.RefusedCalls.{refused-plain}
 use Rattle.shared_calls.proofs.Served.{ruled-answers}
-use Rattle.shared_calls.proofs.Waiting.{answers-then}
+use Rattle.shared_parts.proofs.Waiting.{answers-then}
 use Rattle.shared_calls.proofs.reading.look.Goals as goal
 
 pub answer_ruled-requires-clause-told : goal.answer_ruled-requires-clause-told

@@ -3,7 +3,7 @@ use Rattle.std.proofs.Common.{[], subst, sym}
 use Rattle.object_slots.specs.Value.{SlotValue}
 use Rattle.locked_slots.specs.Fills.{GivesEntry}
 use Rattle.shared_calls.proofs.ReadObjects.{has-read}
-use Rattle.shared_calls.specs.Kept.{KeepsSlot}
+use Rattle.shared_parts.specs.Kept.{KeepsSlot}
 use Rattle.shared_calls.proofs.KeptAnswers.{keeps-read, read-cause}
 use Rattle.shared_calls.proofs.reading.read_slot.Goals as goal
 

@@ -4,8 +4,8 @@ use Rattle.shared_calls.specs.declared.look.Look.{Look}
 use Rattle.call_rules.specs.declared.decision.OpenObject.{OpenObject}
 use Rattle.tee_types.specs.declared.call.Call.TheVariants.{Read}
 use Rattle.shared_calls.specs.Looks.{EndsLook}
-use Rattle.shared_calls.proofs.Waiting.{ends-then}
-use Rattle.shared_calls.proofs.KeptSlots.{keeps-untold}
+use Rattle.shared_parts.proofs.Waiting.{ends-then}
+use Rattle.shared_parts.proofs.KeptSlots.{keeps-untold}
 use Rattle.shared_calls.proofs.reading.round.Goals as goal
 
 pub returns-clause-ends : goal.returns-clause-ends

@@ -3,11 +3,11 @@ use Rattle.std.proofs.Common.{Ok, Option, subst, sym}
 use Rattle.call_rules.specs.Plain.{IsPlain}
 use Rattle.locked_gate.specs.declared.answered.Answer.{Answer}
 use Rattle.tee_types.specs.declared.call.Call.TheVariants.{Rename}
-use Rattle.shared_calls.specs.Rounds.{EndsRound, IsWaiting}
+use Rattle.shared_parts.specs.Rounds.{EndsRound, IsWaiting}
 use Rattle.shared_calls.proofs.KeptCalls.{keeps-ruled}
 use Rattle.shared_calls.proofs.RefusedCalls.{refused-plain}
 use Rattle.shared_calls.proofs.Served.{ruled-answers}
-use Rattle.shared_calls.proofs.Waiting.{answers-then}
+use Rattle.shared_parts.proofs.Waiting.{answers-then}
 use Rattle.shared_calls.proofs.renaming.look.Goals as goal
 
 pub invariant_of-gate : goal.invariant_of-gate

@@ -4,8 +4,8 @@ use Rattle.call_rules.specs.declared.decision.OpenObject.{OpenObject}
 use Rattle.tee_types.specs.declared.call.Call.TheVariants.{Truncate}
 use Rattle.shared_calls.specs.declared.look.Look.{Look}
 use Rattle.shared_calls.specs.Looks.{EndsLook}
-use Rattle.served_calls.proofs.Counting.{grows_grows, grows_le}
-use Rattle.shared_calls.proofs.Waiting.{ends-then}
+use Rattle.device_counts.proofs.Counting.{grows_grows, grows_le}
+use Rattle.shared_parts.proofs.Waiting.{ends-then}
 use Rattle.shared_calls.proofs.truncating.round.Goals as goal
 
 pub returns-clause-ends : goal.returns-clause-ends

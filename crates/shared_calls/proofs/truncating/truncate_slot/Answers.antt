@@ -1,7 +1,7 @@
 -- The last look follows the stage.
 use Rattle.tee_types.specs.declared.call.Call.TheVariants.{Truncate}
-use Rattle.served_calls.proofs.Counting.{grows_grows}
-use Rattle.shared_calls.proofs.Waiting.{ends-then}
+use Rattle.device_counts.proofs.Counting.{grows_grows}
+use Rattle.shared_parts.proofs.Waiting.{ends-then}
 use Rattle.shared_calls.proofs.truncating.truncate_slot.Goals as goal
 
 pub returns-clause-ends : goal.returns-clause-ends

@@ -5,10 +5,10 @@ use Rattle.gate_calls.specs.Served.{IsServed}
 use Rattle.locked_gate.specs.declared.answered.Answer.{Answer}
 use Rattle.tee_types.specs.declared.call.Call.{Call}
 use Rattle.tee_types.specs.declared.call.Call.TheVariants.{Write}
-use Rattle.shared_calls.specs.Rounds.{EndsRound, IsWaiting}
+use Rattle.shared_parts.specs.Rounds.{EndsRound, IsWaiting}
 use Rattle.shared_calls.proofs.KeptCalls.{keeps-ruled}
 use Rattle.shared_calls.proofs.Served.{ruled-answers}
-use Rattle.shared_calls.proofs.Waiting.{answers-then}
+use Rattle.shared_parts.proofs.Waiting.{answers-then}
 use Rattle.shared_calls.proofs.writing.look.Goals as goal
 
 pub invariant_of-gate : goal.invariant_of-gate

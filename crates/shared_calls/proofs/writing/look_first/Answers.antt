@@ -13,8 +13,8 @@ use Rattle.tee_types.specs.declared.call.Call.{Call}
 use Rattle.tee_types.specs.declared.call.Call.TheVariants.{Write}
 use Rattle.shared_calls.specs.declared.look.Look.{Look}
 use Rattle.shared_calls.specs.Looks.{EndsLook, IfFound}
-use Rattle.shared_calls.specs.Rounds.{IsAnswered}
-use Rattle.shared_calls.proofs.Waiting.{answers-then}
+use Rattle.shared_parts.specs.Rounds.{IsAnswered}
+use Rattle.shared_parts.proofs.Waiting.{answers-then}
 use Rattle.shared_calls.proofs.writing.look_first.Goals as goal
 
 pub answer_held-requires-clause-kind : goal.answer_held-requires-clause-kind

@@ -6,8 +6,8 @@ use Rattle.call_rules.specs.declared.decision.OpenObject.{OpenObject}
 use Rattle.shared_calls.specs.declared.look.Look.{Look}
 use Rattle.shared_calls.specs.Looks.{EndsLook, IfFound}
 use Rattle.tee_types.specs.declared.call.Call.TheVariants.{Write}
-use Rattle.served_calls.proofs.Counting.{grows_grows, grows_le}
-use Rattle.shared_calls.proofs.Waiting.{answers-then}
+use Rattle.device_counts.proofs.Counting.{grows_grows, grows_le}
+use Rattle.shared_parts.proofs.Waiting.{answers-then}
 use Rattle.shared_calls.proofs.writing.look_last.Goals as goal
 
 pub returns-clause-ends : goal.returns-clause-ends

@@ -4,9 +4,9 @@ use Rattle.call_rules.specs.declared.decision.OpenObject.{OpenObject}
 use Rattle.tee_types.specs.declared.call.Call.TheVariants.{Write}
 use Rattle.shared_calls.specs.declared.look.Look.{Look}
 use Rattle.shared_calls.specs.Looks.{EndsLook}
-use Rattle.shared_calls.specs.Rounds.{EndsRound}
-use Rattle.served_calls.proofs.Counting.{grows_grows, grows_le}
-use Rattle.shared_calls.proofs.Waiting.{ends-then}
+use Rattle.shared_parts.specs.Rounds.{EndsRound}
+use Rattle.device_counts.proofs.Counting.{grows_grows, grows_le}
+use Rattle.shared_parts.proofs.Waiting.{ends-then}
 use Rattle.shared_calls.proofs.writing.round.Goals as goal
 
 pub returns-clause-ends : goal.returns-clause-ends

@@ -2,7 +2,7 @@
 use Rattle.std.proofs.Common.{◌≡◌, IfOk, List, ℕ, subst}
 use Rattle.change_calls.specs.Staging.{writing}
 use Rattle.shared_calls.specs.Changing.{CarriesStaged, HasStaged}
-use Rattle.served_calls.specs.Devices.{Grows}
+use Rattle.device_counts.specs.Devices.{Grows}
 use Rattle.shared_calls.proofs.StageCounts.{drawn-waits, stage-carries, stage-grows, stage-still}
 use Rattle.shared_calls.proofs.StagedSlots.{has-staged, stage-keeps}
 use Rattle.shared_calls.proofs.writing.stage_slot.Goals as goal

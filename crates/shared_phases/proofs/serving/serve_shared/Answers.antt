@@ -1,11 +1,11 @@
 use Rattle.std.proofs.Common.{◌≡◌, ◌∙◌, ◌++◌, ℕ, List, ap, drop, length, sym, subst, take}
 use Rattle.suppositions.specs.Stores.{Store}
 use Rattle.call_history.specs.Sessions.{CallerSession}
-use Rattle.served_calls.specs.Devices.{Devices}
+use Rattle.device_counts.specs.Devices.{Devices}
 use Rattle.object_calls.specs.Files.{files_of}
 use Rattle.object_calls.specs.Sessions.{AreSeated, DrawAlike, HaveNoEvents}
 use Rattle.object_calls.proofs.Files.{refilled}
-use Rattle.shared_calls.specs.Kept.{KeepsGate}
+use Rattle.shared_parts.specs.Kept.{KeepsGate}
 use Rattle.shared_phases.specs.Sharing.{AreKept}
 use Rattle.shared_phases.proofs.Sharings.{first_gate_kept, first_slots_kept}
 use Rattle.phase_calls.specs.Reliable.{AreFresh, AreReliable}

@@ -58,7 +58,7 @@ returns-then-done-clause-closed g c =
     let steps = subst (λ (l : List (CallerSession g.row.E.Denot)). AreCalls (length l) calls) (sym begun) c.requires.calls in
     closes_shared g.F.StoreFile.state g.R.RpmbPort.state store g.L.DevicesName.devices gate c.into_gate.ensures.keeps slots.items
     (subst (λ (n : ℕ). AreKept g.L.DevicesName.devices n slots.items) place c.unshare_slots-slots.ensures.keep) closed.result.bench.files.items closed.result.bench.card closed.ensures.dir
-    closed.ensures.placed (AreReliable g.E.Entropy.is_reliable sessions.items) calls closed.result.history.events closed.result.doubt closed.ensures.events
+    closed.ensures.placed closed.ensures.tagged (AreReliable g.E.Entropy.is_reliable sessions.items) calls closed.result.history.events closed.result.doubt closed.ensures.events
     (all_serve g.E.Entropy.is_reliable g.E.Entropy.faults store was new calls seated unmade c.make_beside.auto.sessions c.make_beside.ensures done gate.journal.knows counted steps
     c.into_gate.ensures.keeps.sessions)
     (all_drawn g.E.Entropy.is_reliable g.E.Entropy.faults store was new calls seated unmade c.make_beside.auto.sessions c.make_beside.ensures done gate.journal.knows counted fresh)

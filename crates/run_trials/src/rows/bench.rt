@@ -1,0 +1,41 @@
+// The bench of a row's run.
+
+ghost use Rattle.std.specs.Prelude.{◌≡◌, vec_len, IfOk};
+
+use crate::rows::settings::Settings;
+use object_calls::FILES;
+use rpmb_card::CardRig;
+use sim_bench::{SimBench, blank_bench, worn};
+use std::alloc::Global;
+
+// The bench that the row before left, or devices that were never used.
+fn first_bench(
+    alloc: Global,
+    settings: &Settings,
+    before: Option<SimBench>,
+) -> anyhow::Result<SimBench>
+    ensures { IfOk result (λ bench. vec_len bench.files ≡ 273) }
+{
+    match before {
+        Some(bench) if settings.same_bench && bench.files.len() == FILES => Ok(bench),
+        _ => Ok(blank_bench(alloc)?),
+    }
+}
+
+/// The bench for a row's run, with what its settings do to it.
+pub fn bench_for(
+    alloc: Global,
+    settings: &Settings,
+    before: Option<SimBench>,
+) -> anyhow::Result<SimBench>
+    ensures { IfOk result (λ bench. vec_len bench.files ≡ 273) }
+{
+    let mut bench = first_bench(alloc, settings, before)?;
+    if settings.is_worn {
+        bench = worn(alloc, bench)?;
+    }
+    if settings.card_fails > 0 {
+        bench.card.fail_call(settings.card_fails)?;
+    }
+    Ok(bench)
+}

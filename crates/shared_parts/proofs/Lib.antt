@@ -1,0 +1,3 @@
+pub mod Waiting
+pub mod CarriedRounds
+pub mod KeptSlots

@@ -1,0 +1,4 @@
+pub mod Names
+pub mod Kept
+pub mod Rounds
+pub mod Counts

@@ -1,0 +1,153 @@
+//! A store that threads serve beside each other.
+
+ghost use Rattle.std.specs.Prelude.{◌≡◌, ◌≤◌, length, vec_len, IfOk, IfSome};
+ghost use Rattle.hmac_keys.specs.KeyTable.{ssk};
+ghost use Rattle.call_history.specs.Sessions.{IsCallerOf};
+ghost use Rattle.device_counts.specs.Devices.{Grows};
+ghost use Rattle.shared_parts.specs.Counts.{CarriesDraws};
+ghost use Rattle.shared_parts.specs.Rounds.{EndsCall, EndsRound};
+
+use call_history::Session;
+use locked_gate::Answer;
+use rpmb_card::RpmbPort;
+use shared_calls::{Look, file_of, round, take_soon};
+use shared_parts::{DevicesName, SharedGate, SharedSlot};
+use std::alloc::Global;
+use std::sync::{Mutex, MutexGuard, Wait};
+use suppositions::StoreName;
+use tee_ports::{Entropy, StoreFile};
+use tee_types::{Call, NoMemory};
+
+/// The store that `L` names, as threads share it: the gate, and the slot of each object's file, each behind a lock of its own.
+#[derive(Drop)]
+pub struct SharedStore<F: StoreFile + Drop, R: RpmbPort + Drop, L: StoreName + DevicesName> {
+    gate: Mutex<SharedGate<F, R, L>>,
+    // File 1 first.
+    slots: Vec<Mutex<SharedSlot<F, L>>>,
+    storage_key: [u8; 32],
+    ghost keyed: { storage_key ≡ ssk L.store.keys.huk L.store.keys.chip },
+    ghost few: { length L.store.mounted.applications ≤ 16 },
+    ghost many: { vec_len slots ≡ 272 },
+}
+
+impl<F: StoreFile + Drop, R: RpmbPort + Drop, L: StoreName + DevicesName> SharedStore<F, R, L> {
+    /// A store of this gate and of these 272 slots, that of file 1 first. `storage_key` is the key that the applications' keys come from.
+    pub fn new(
+        gate: SharedGate<F, R, L>,
+        slots: Vec<Mutex<SharedSlot<F, L>>>,
+        storage_key: [u8; 32],
+    ) -> SharedStore<F, R, L>
+        requires keyed { storage_key ≡ ssk L.store.keys.huk L.store.keys.chip }
+        requires few { length L.store.mounted.applications ≤ 16 }
+        requires many { vec_len slots ≡ 272 }
+    {
+        SharedStore {
+            gate: Mutex::new(gate),
+            slots,
+            storage_key,
+        }
+    }
+
+    /// The gate and the slots, once no thread shares the store any more.
+    pub fn into_parts(self) -> (SharedGate<F, R, L>, Vec<Mutex<SharedSlot<F, L>>>)
+        ensures many { vec_len result.1 ≡ 272 }
+    {
+        let SharedStore {
+            gate,
+            slots,
+            storage_key: _,
+        } = self;
+        (gate.into_inner(), slots)
+    }
+
+    // The lock of the slot of that file, if the store has one.
+    fn slot_of(&self, file: u16) -> Option<&Mutex<SharedSlot<F, L>>> {
+        self.slots.get(usize::from(file).checked_sub(1)?)
+    }
+
+    // The lock of a slot, and the gate's: where another thread has the slot's, the gate's is given back first, and taken again behind it.
+    fn take_slot<'a, W: Wait>(
+        &'a self,
+        rt: &W,
+        gate: MutexGuard<'a, SharedGate<F, R, L>>,
+        lock: &'a Mutex<SharedSlot<F, L>>,
+    ) -> (
+        MutexGuard<'a, SharedGate<F, R, L>>,
+        MutexGuard<'a, SharedSlot<F, L>>,
+    ) {
+        if let Some(slot) = lock.try_lock() {
+            return (gate, slot);
+        }
+        drop(gate);
+        let slot = lock.lock(rt);
+        (take_soon(rt, &self.gate), slot)
+    }
+
+    // Looks at the gate, and makes a round with the lock of the slot that the call needs, if it needs one. Where that lock is free, the first look
+    // of the round is made before the gate's is given back. None where the call has to begin again.
+    fn attempt<W: Wait, E: Entropy>(
+        &self,
+        rt: &W,
+        alloc: Global,
+        session: &mut Session<E>,
+        call: &Call,
+    ) -> Result<Option<Answer>, NoMemory>
+        requires caller { IsCallerOf L.store session.old }
+        ensures ends { EndsRound L.store session.old session.new call.now result }
+        ensures counted { Grows (E.faults session.old.entropy) (E.faults session.new.entropy) }
+        ensures reliable { E.is_reliable session.old.entropy → E.is_reliable session.new.entropy }
+        ensures still { E.is_reliable session.old.entropy → E.faults session.new.entropy ≡ E.faults session.old.entropy }
+        ensures drawn { IfOk result (λ found. IfSome found (λ answer. CarriesDraws (E.faults session.old.entropy) (E.faults session.new.entropy) answer.reply)) }
+    {
+        let key = &self.storage_key;
+        let mut gate = take_soon(rt, &self.gate);
+        let file = match file_of(alloc, &mut gate, session, call)? {
+            Look::Answered(answer) => return Ok(Some(answer)),
+            Look::Found(file) => file,
+            Look::Again => return Ok(None),
+        };
+        let Some(lock) = self.slot_of(file) else {
+            return Ok(None);
+        };
+        let (gate, mut slot) = self.take_slot(rt, gate, lock);
+        round(
+            rt,
+            alloc,
+            gate,
+            &self.gate,
+            &mut slot.slot,
+            key,
+            session,
+            call,
+        )
+    }
+
+    /// Serves a call of a session, beside those that other threads serve for theirs: a commit in doubt is resolved unless the call is a misuse,
+    /// and the call is answered and appended to the one history. It waits for the locks of the gate and of one slot, and begins again for as long
+    /// as others change what it found.
+    ///
+    /// # Errors
+    ///
+    /// Memory ran out. The session has no event more.
+    pub fn call<W: Wait, E: Entropy>(
+        &self,
+        rt: &W,
+        alloc: Global,
+        session: &mut Session<E>,
+        call: &Call,
+    ) -> Result<Answer, NoMemory>
+        requires caller { IsCallerOf L.store session.old }
+        ensures ends { EndsCall L.store session.old session.new call.now result }
+        ensures counted { Grows (E.faults session.old.entropy) (E.faults session.new.entropy) }
+        ensures reliable { E.is_reliable session.old.entropy → E.is_reliable session.new.entropy }
+        ensures still { E.is_reliable session.old.entropy → E.faults session.new.entropy ≡ E.faults session.old.entropy }
+        ensures drawn { IfOk result (λ answer. CarriesDraws (E.faults session.old.entropy) (E.faults session.new.entropy) answer.reply) }
+    {
+        for _ in rt.forever() {
+            if let Some(answer) = self.attempt(rt, alloc, session, call)? {
+                return Ok(answer);
+            }
+        }
+        unreachable!()
+    }
+}

@@ -1,0 +1,9 @@
+pub mod Joined
+pub mod Words
+pub mod Rounds
+pub mod Scripts
+pub mod Texts
+pub mod Outcome
+pub mod Tallies
+pub mod Numbers
+pub mod Laws

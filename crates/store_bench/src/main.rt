@@ -1,0 +1,94 @@
+//! Measures the ciphers, the keys and commits in trees. With no argument it does a small fixed work of each kind, and prints a digest of
+//! what came out of a cipher, and how many calls of the file and written bytes a commit takes: these never vary. With the argument
+//! `time` it also reports on standard error how many million bytes a second each cipher took in, and how long a commit took.
+#![tactic(auto)]
+
+use std::alloc::Global;
+use std::env;
+use std::time::Instant;
+
+mod ciphers;
+mod trees;
+
+use ciphers::{BYTES_A_ROUND, Work};
+use trees::{TreeBench, commits};
+
+/// How many times a cipher's work is done for its digest, and for its time.
+const DIGEST_ROUNDS: u32 = 16;
+
+const TIMED_ROUNDS: u32 = 8192;
+
+/// How many blocks of data the objects have.
+const SIZES: [u8; 3] = [1, 16, 255];
+
+/// How many commits are counted, and how many are timed.
+const COUNTED_COMMITS: u32 = 2;
+
+const TIMED_COMMITS: u32 = 256;
+
+/// Prints the digest of a cipher's work.
+fn print_digest(rt: &impl Print, alloc: Global, work: Work) -> anyhow::Result<()> {
+    let digest = hex::encode(alloc, work.digest_after(DIGEST_ROUNDS))?;
+    println!(rt; "{} {digest}", work.name())?;
+    Ok(())
+}
+
+/// Reports how fast a cipher is.
+fn time_work(rt: &HostRuntime, work: Work) -> anyhow::Result<()> {
+    let start = Instant::now(rt)?;
+    let digest = hex::encode(rt.alloc(), work.digest_after(TIMED_ROUNDS))?;
+    let micros = start.elapsed(rt)?.as_micros().max(1);
+    let bytes = u128::from(TIMED_ROUNDS) * u128::from(BYTES_A_ROUND);
+    eprintln!(rt; "{} {} MB/s {digest}", work.name(), bytes / micros)?;
+    Ok(())
+}
+
+/// Prints what a commit takes.
+fn print_commit(rt: &impl Print, alloc: Global, blocks: u8) -> anyhow::Result<()> {
+    let mut bench = TreeBench::new(alloc, blocks)?;
+    commits(alloc, &mut bench.object, COUNTED_COMMITS)?;
+    let (calls, bytes) = bench.taken();
+    let rounds = u64::from(COUNTED_COMMITS);
+    let (calls, bytes) = (calls / rounds, bytes / rounds);
+    println!(rt; "{blocks} blocks of data: {calls} calls, {bytes} bytes written")?;
+    Ok(())
+}
+
+/// Reports how long a commit takes.
+fn time_commits(rt: &HostRuntime, blocks: u8) -> anyhow::Result<()> {
+    let mut bench = TreeBench::new(rt.alloc(), blocks)?;
+    let start = Instant::now(rt)?;
+    commits(rt.alloc(), &mut bench.object, TIMED_COMMITS)?;
+    let nanos = start.elapsed(rt)?.as_nanos() / u128::from(TIMED_COMMITS);
+    eprintln!(rt; "{blocks} blocks of data: {nanos} ns")?;
+    Ok(())
+}
+
+/// Whether times are asked for: by the argument `time`, and no other is taken.
+fn is_timed(rt: &HostRuntime) -> anyhow::Result<bool> {
+    let mut timed = false;
+    for argument in env::args(rt)?.skip(1) {
+        if argument.as_str() != "time" {
+            anyhow::bail!("usage: store_bench [time]");
+        }
+        timed = true;
+    }
+    Ok(timed)
+}
+
+fn main(rt: HostRuntime) -> anyhow::Result<()> {
+    let timed = is_timed(&rt)?;
+    for work in Work::ALL {
+        print_digest(&rt, rt.alloc(), work)?;
+        if timed {
+            time_work(&rt, work)?;
+        }
+    }
+    for blocks in SIZES {
+        print_commit(&rt, rt.alloc(), blocks)?;
+        if timed {
+            time_commits(&rt, blocks)?;
+        }
+    }
+    Ok(())
+}
