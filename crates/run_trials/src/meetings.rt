@@ -1,11 +1,11 @@
 // Two applications whose files wait for each other: both calls have to be under way at once.
 
-ghost use Rattle.std.specs.Prelude.{◌≡◌, vec_len, IfOk, OnOk};
+ghost use Rattle.std.specs.Prelude.{◌≡◌, vec_len, IfOk};
 
 use crate::meeting_file::{Meeting, MeetingFile};
 use crate::runs::{reliable, run_script};
-use anyhow::Context;
-use object_calls::Bench;
+use anyhow::bail;
+use object_calls::{Bench, FILES};
 use sim_bench::{CardPort, blank_bench};
 use std::alloc::{AllocError, Global};
 use std::sync::{Arc, Wait};
@@ -26,9 +26,7 @@ const SECOND: &str =
 const FILES_THAT_MEET: [usize; 2] = [1, 2];
 
 // Devices that were never used, whose files wait for nobody.
-fn new_bench(alloc: Global) -> Result<MeetingBench, AllocError>
-    ensures { IfOk result (λ bench. vec_len bench.files ≡ 273) }
-{
+fn new_bench(alloc: Global) -> Result<MeetingBench, AllocError> {
     let Bench { files, card } = blank_bench(alloc)?;
     let mut waiting = Vec::with_capacity(alloc, files.len())?;
     for file in files {
@@ -40,10 +38,19 @@ fn new_bench(alloc: Global) -> Result<MeetingBench, AllocError>
     })
 }
 
-// Has the next read of each of the two files wait for that of the other.
-fn arrange(bench: &mut MeetingBench, meeting: &Arc<Meeting, Global>) -> Result<(), AllocError>
-    ensures { OnOk result (vec_len bench.new.files ≡ vec_len bench.old.files) }
+// The bench, which has all its files.
+fn whole(bench: MeetingBench) -> anyhow::Result<MeetingBench>
+    ensures { IfOk result (λ bench. vec_len bench.files ≡ 273) }
 {
+    if bench.files.len() == FILES {
+        Ok(bench)
+    } else {
+        bail!("a bench without all its files")
+    }
+}
+
+// Has the next read of each of the two files wait for that of the other.
+fn arrange(bench: &mut MeetingBench, meeting: &Arc<Meeting, Global>) -> Result<(), AllocError> {
     for number in FILES_THAT_MEET {
         if let Some(file) = bench.files.get_mut(number) {
             file.wait_at(Arc::try_clone(meeting)?);
@@ -55,11 +62,11 @@ fn arrange(bench: &mut MeetingBench, meeting: &Arc<Meeting, Global>) -> Result<(
 /// The line that says how many of two files were read while the other one was: both, where two calls are served at the same time. One lock
 /// round everything, or a thread for all calls, has none.
 pub fn meeting_line<W: Threads + Wait + Sync>(rt: &W, alloc: Global) -> anyhow::Result<String> {
-    let first = run_script(rt, alloc, FIRST, new_bench(alloc)?, &mut reliable())?;
+    let first = run_script(rt, alloc, FIRST, whole(new_bench(alloc)?)?, &mut reliable())?;
     let mut bench = first.bench;
     let meeting = Arc::new(alloc, Meeting::new())?;
     arrange(&mut bench, &meeting)?;
-    let second = run_script(rt, alloc, SECOND, bench, &mut reliable())?;
+    let second = run_script(rt, alloc, SECOND, whole(bench)?, &mut reliable())?;
     let read = second
         .output
         .lines()
