@@ -26,7 +26,7 @@ impl Meeting {
         }
     }
 
-    // Waits until two have come, and counts those that saw both.
+    // Waits until two are there, and counts those that saw both. Who has waited long enough leaves.
     fn meet(&self) {
         self.arrived.fetch_add(1, Ordering::SeqCst);
         for _ in 0..LOOKS {
@@ -36,6 +36,8 @@ impl Meeting {
             }
             yield_now();
         }
+        // It goes on alone, so one that comes later does not meet it.
+        self.arrived.fetch_sub(1, Ordering::SeqCst);
     }
 
     /// How many saw the other one come.
