@@ -51,7 +51,7 @@ module _ {F R : Type 0} (of_file : F → FileState) (of_port : R → PortState) 
 
   read_known : (file : ℕ) → Known (old.files file) (new.files file) → Known (opened file) (new.files file)
   read_known file (inl honest) = inl honest
-  read_known file (inr steady) = inr ((mount_goes_on of_file of_port keys old l.opened l.mounts file).steady steady)
+  read_known file (inr steady) = inr (subst (λ (t : Bool). IsTrue t) (sym (mount_goes_on of_file of_port keys old l.opened l.mounts file).steady) steady)
 
   module _ (s : Standing) (card : CardState) (holds : HoldsLeft keys old s) (sound : AreSound old.files) (has : HasCard old.card (rpmb_key keys.huk) card) where
     opened_left : AreFollowed old.files new.files → AreLeft s (objects_in of_file of_port keys l.opened)

@@ -52,8 +52,13 @@ impl<F: StoreFile> BlockFile<F> {
         self.tree.length()
     }
 
-    // Reads block k.
-    pub(crate) fn read_page(&mut self, k: u32, page: &mut Page) -> Result<(), TreeFault>
+    /// Reads block `k` into the page. Takes no memory.
+    ///
+    /// # Errors
+    ///
+    /// `BadTag` where the block has not the tag of its node, as the file reads when the call ends. Besides `Failed`, where a call of the
+    /// file failed. The page may then hold anything.
+    pub fn read_page(&mut self, k: u32, page: &mut Page) -> Result<(), TreeFault>
         requires { k < self.old.tree.head.greatest }
         ensures answer { PageAnswer self.old.key self.old.tree (F.state self.old.file) (F.state self.new.file) k result page.new }
         ensures widths { IfErr result HasFaultWidths }

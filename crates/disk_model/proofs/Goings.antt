@@ -1,5 +1,5 @@
 -- What every call, and so every run of calls, leaves of a file's meanings and counts.
-use Rattle.std.proofs.Common.{◌≡◌, ◌⊎◌, inl, inr, IsTrue, refl, ◌∙◌, arith}
+use Rattle.std.proofs.Common.{◌≡◌, ◌⊎◌, inl, inr, Bool, IsTrue, refl, sym, subst, ◌∙◌, arith}
 use Rattle.disk_model.specs.Faults.{Rose}
 use Rattle.disk_model.specs.State.{FileState}
 use Rattle.disk_model.specs.Calls.{Known, GoesOn}
@@ -7,7 +7,7 @@ use Rattle.disk_model.specs.Calls.{Known, GoesOn}
 pub goes_on_none : (s : FileState) → GoesOn s s
 goes_on_none s = record {
   honest = λ h. h;
-  steady = λ h. h;
+  steady = refl;
   calm = λ h. h;
   tells = refl;
   tells_arms = refl;
@@ -20,7 +20,7 @@ goes_on_none s = record {
 pub goes_on_then : (a b c : FileState) → GoesOn a b → GoesOn b c → GoesOn a c
 goes_on_then a b c first second = record {
   honest = λ h. first.honest (second.honest h);
-  steady = λ h. second.steady (first.steady h);
+  steady = second.steady ∙ first.steady;
   calm = λ h. second.calm (first.calm h);
   tells = second.tells ∙ first.tells;
   tells_arms = second.tells_arms ∙ first.tells_arms;
@@ -46,4 +46,14 @@ first_known a b c second (inr steady) = inr steady
 
 pub then_known : (a b c : FileState) → GoesOn a b → Known a c → Known b c
 then_known a b c first (inl honest) = inl honest
-then_known a b c first (inr steady) = inr (first.steady steady)
+then_known a b c first (inr steady) = inr (subst (λ (t : Bool). IsTrue t) (sym first.steady) steady)
+
+-- A file that can be followed at the end of a run, since it is honest then or steady, can be followed through it.
+pub known_at_end : (a b : FileState) → GoesOn a b → Known b b → Known a b
+known_at_end a b goes (inl honest) = inl honest
+known_at_end a b goes (inr steady) = inr (subst (λ (t : Bool). IsTrue t) goes.steady steady)
+
+-- and could be at its start
+pub known_at_start : (a b : FileState) → GoesOn a b → Known a b → Known a a
+known_at_start a b goes (inl honest) = inl (goes.honest honest)
+known_at_start a b goes (inr steady) = inr steady

@@ -9,11 +9,11 @@ use Rattle.disk_model.specs.State.{FileState}
 abbrev pub Known : FileState → FileState → Type 0
 Known old new = IsTrue new.honest ⊎ IsTrue old.steady
 
--- The meanings go on: honesty is only lost, steadiness and calm last, counts only rise, and a calm file counted a fault
--- only where it counted one for want of memory.
+-- The meanings go on: honesty is only lost, steadiness is neither lost nor gained, calm lasts, counts only rise, and a calm
+-- file counted a fault only where it counted one for want of memory.
 pub record GoesOn (old new : FileState) : Type 0 where
   pub honest : IsTrue new.honest → IsTrue old.honest
-  pub steady : IsTrue old.steady → IsTrue new.steady
+  pub steady : new.steady ≡ old.steady
   pub calm : IsTrue old.calm → IsTrue new.calm
   pub tells : new.tells ≡ old.tells
   pub tells_arms : new.tells_arms ≡ old.tells_arms

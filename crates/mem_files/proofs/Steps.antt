@@ -85,7 +85,7 @@ module _ (a : FileState) (armed : IsArmed a) where
       → GoesOn a (record (begun a) { reads = reads; settled = settled; trail = trail; pending_from = from; written = written })
   goes_on reads settled trail from written more = record {
     honest = from_struck.honest;
-    steady = λ h. h;
+    steady = refl;
     calm = λ h. h;
     tells = refl;
     tells_arms = refl;
@@ -116,7 +116,7 @@ module _ (a : FileState) (armed : IsArmed a) where
     written = ap (λ (s : FileState). s.written) fails.same;
     goes_on = record {
       honest = λ h. from_struck.honest (was_honest h);
-      steady = λ h. subst (λ (x : Bool). IsTrue x) (sym (ap (λ (s : FileState). s.steady) fails.same)) h;
+      steady = ap (λ (s : FileState). s.steady) fails.same;
       calm = λ h. subst (λ (x : Bool). IsTrue x) (sym (ap (λ (s : FileState). s.calm) fails.same)) h;
       tells = ap (λ (s : FileState). s.tells) fails.same;
       tells_arms = ap (λ (s : FileState). s.tells_arms) fails.same;

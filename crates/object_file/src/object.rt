@@ -1,7 +1,8 @@
 //! An object in its tree.
 
-ghost use Rattle.std.specs.Prelude.{◌≡◌, ◌⊎◌, ◌+◌, ◌-◌, ◌≤◌, ◌++◌, length, drop, min, true, None, Some, IfErr, IfOk, IfSome, IsSome, IsSomeAnd, IsTrue, OnErr, OnOk, Result};
+ghost use Rattle.std.specs.Prelude.{◌≡◌, ◌⊎◌, ◌+◌, ◌-◌, ◌<◌, ◌≤◌, ◌++◌, length, drop, min, true, None, Some, IfErr, IfOk, IfSome, IsSome, IsSomeAnd, IsTrue, OnErr, OnOk, Result};
 ghost use Rattle.aes_block.specs.WrappedKey.{unwrapped_of};
+ghost use Rattle.disk_model.specs.Arms.{count_call};
 ghost use Rattle.disk_model.specs.Calls.{Known, Rests, Syncs};
 ghost use Rattle.disk_model.specs.Keeps.{Anywhere, Keeps};
 ghost use Rattle.htree_file.specs.Answers.{FilePassed, HasCause, HasFaultWidths, IsFailed};
@@ -9,6 +10,7 @@ ghost use Rattle.htree_file.specs.Opening.{IsVerified, load_of};
 ghost use Rattle.htree_file.specs.Selected.{KeepsFirm};
 ghost use Rattle.htree_file.specs.Standing.{IsFirm, Told};
 ghost use Rattle.page_bytes.specs.Ranges.{meets, read_range};
+ghost use Rattle.block_file.specs.Parts.{PageAnswer};
 ghost use Rattle.block_file.specs.Reads.{AreBytes, BlocksAnswer, IsReadFault, after_calls, blocks_of};
 ghost use Rattle.store_model.specs.Data.{bytes_at, meets_block};
 ghost use Rattle.store_model.specs.Object.{Damaged, Sound};
@@ -23,7 +25,7 @@ use crate::fault::{ObjectBroken, ObjectFault};
 use crate::loading::read_attributes;
 use block_file::BlockFile;
 use dir_records::DirEntry;
-use htree_file::{Broken, Tree, TreeFault};
+use htree_file::{Broken, Page, Tree, TreeFault};
 use node_image::RootRef;
 use std::alloc::Global;
 use std::marker::Model;
@@ -176,6 +178,27 @@ impl<F: StoreFile> ObjectFile<F> {
         ensures fault { IfErr result IsReadFault }
     {
         self.file.read(FIRST_BLOCK + u64::from(at), into)
+    }
+
+    /// Reads block `k` of the object's tree into the page. Block 0 has the attributes, and the data begin with block 1. Takes no memory.
+    ///
+    /// # Errors
+    ///
+    /// `BadTag` where the block has not the tag of its node, as the file reads when the call ends. Besides `Failed`, where a call of the
+    /// file failed. The page may then hold anything.
+    pub fn read_page(&mut self, k: u32, page: &mut Page) -> Result<(), TreeFault>
+        requires { k < self.old.tree.tree.head.greatest }
+        ensures answer { PageAnswer self.old.tree.key self.old.tree.tree
+            (F.state self.old.tree.file) (F.state self.new.tree.file) k result page.new }
+        ensures widths { IfErr result HasFaultWidths }
+        // The block is read once, and nothing else is asked of the file.
+        ensures once { IsTrue (F.state self.old.tree.file).tells_arms →
+            (F.state self.new.tree.file).arms ≡ count_call (F.state self.old.tree.file).arms }
+        ensures same { self.new ≡ record self.old { tree = record self.old.tree { file = self.new.tree.file } } }
+        ensures rests { Rests (F.state self.old.tree.file) (F.state self.new.tree.file) }
+        ensures cause { HasCause (F.state self.old.tree.file) (F.state self.new.tree.file) result }
+    {
+        self.file.read_page(k, page)
     }
 
     /// Settles the stage, and gives its reference.

@@ -9,3 +9,6 @@ pub mod SettleAnswers
 pub mod VersionLaws
 pub mod FrontLaws
 pub mod GiveLaws
+pub mod KeptPages
+pub mod CacheEntries
+pub mod Askings

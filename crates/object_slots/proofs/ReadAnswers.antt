@@ -32,6 +32,6 @@ read_refused old new o at before after fault kind blocks corrupt behind verified
   verified = verified;
   rests = rests;
   cause = fault_cause old new fault cause;
-  once = tt;
+  asks = tt;
   steps = read_steps old new sound rests;
 }

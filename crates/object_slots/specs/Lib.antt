@@ -2,6 +2,7 @@ pub mod Value
 pub mod Inside
 pub mod Faults
 pub mod Steps
+pub mod Pages
 pub mod Reads
 pub mod Loads
 pub mod Makes

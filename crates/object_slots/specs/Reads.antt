@@ -1,5 +1,5 @@
 -- What a read of an object answers.
-use Rattle.std.specs.Prelude.{◌≡◌, ℕ, ◌+◌, ◌-◌, ◌++◌, List, length, drop, min, Bool, true, false, Result, Ok, Err, IfErr, IfOk, IsTrue}
+use Rattle.std.specs.Prelude.{◌≡◌, ℕ, ◌+◌, ◌-◌, ◌≤◌, ◌++◌, List, length, drop, min, Bool, true, false, Result, Ok, Err, IfErr, IfOk, IsTrue}
 use Rattle.std.specs.List.{list_any}
 use Rattle.disk_model.specs.State.{FileState}
 use Rattle.disk_model.specs.Calls.{Rests}
@@ -32,6 +32,10 @@ CorruptAnswer c asked (Err Corrupt) = list_any asked c.bad ≡ true
 CorruptAnswer c asked (Err (NoEntropy count)) = list_any asked c.bad ≡ false
 CorruptAnswer c asked (Err fault) = Unit {0}
 
+-- at most so many calls were made of a file that tells its arms
+abbrev pub AsksAtMost : (most : ℕ) → (old new : FileState) → Type 0
+AsksAtMost most old new = IsTrue old.tells_arms → (asked : ℕ) × (asked ≤ most) × (new.arms ≡ after_calls asked old.arms)
+
 -- how many bytes a read gives
 abbrev pub read_count : HeldObject → (at count : ℕ) → ℕ
 read_count o at count = min count (size_in o - at)
@@ -56,5 +60,5 @@ pub record ReadsObject (old new : FileState) (o : HeldObject) (at : ℕ) (before
   pub rests : Rests old new
   pub cause : HasCause old new result
   pub steps : ReadSteps old new
-  -- each block is read once
-  pub once : IfOk result (λ n. IsTrue old.tells_arms → new.arms ≡ after_calls (blocks_of (read_range o.tree.tree.head.length (4096 + at) (length before))) old.arms)
+  -- each block is read at most once
+  pub asks : IfOk result (λ n. AsksAtMost (blocks_of (read_range o.tree.tree.head.length (4096 + at) (length before))) old new)

@@ -3,7 +3,7 @@ ghost use Rattle.std.specs.Prelude.{◌≡◌};
 ghost use Rattle.object_slots.specs.Inside.{IsContent, file_in, holding_in};
 ghost use Rattle.object_slots.specs.Value.{with_stage, without_stage};
 
-use object_file::ObjectFile;
+use crate::cached::CachedObject;
 use tee_ports::StoreFile;
 
 /// The file of a slot, with the object that is loaded from it or was made in it.
@@ -12,11 +12,11 @@ pub(crate) enum Content<F: StoreFile + Drop> {
     /// No tree is loaded.
     Free(F),
     /// An object that was made, and is not committed.
-    Made(ObjectFile<F>),
+    Made(CachedObject<F>),
     /// A committed object without a stage.
-    Live(ObjectFile<F>),
+    Live(CachedObject<F>),
     /// A committed object with a settled stage.
-    Staged(ObjectFile<F>),
+    Staged(CachedObject<F>),
 }
 
 impl<F: StoreFile + Drop> Content<F> {

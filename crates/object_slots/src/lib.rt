@@ -2,15 +2,19 @@
 //! of its own.
 //!
 //! A slot is free, where no tree is loaded, or it has an object: a committed one, with or without a settled stage, or one that was made
-//! and is not committed. A stage is settled before its reference is given. What the calls say of an honest file is said in terms of the
+//! and is not committed. A stage is settled before its reference is given. The pages of a committed object that were read last are kept in
+//! memory; what the calls say is the same with them and without, but for how often a read asks the file. What the calls say of an honest file is said in terms of the
 //! object; what they say of any file is marked so.
 #![tactic(auto)]
 
+mod cached;
+mod cached_reads;
 mod content;
 mod fault;
 pub mod laws;
 mod load;
 mod make;
+mod page_cache;
 mod read;
 mod slot;
 mod stage;

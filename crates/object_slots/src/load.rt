@@ -3,6 +3,7 @@ ghost use Rattle.dir_records.specs.Form.{HasForm};
 ghost use Rattle.object_slots.specs.Inside.{IsContent, file_in, holding_in};
 ghost use Rattle.object_slots.specs.Loads.{LoadsObject};
 
+use crate::cached::CachedObject;
 use crate::content::Content;
 use crate::fault::{SlotFault, load_fault};
 use dir_records::DirEntry;
@@ -22,7 +23,7 @@ pub(crate) fn load_object<F: StoreFile + Drop>(
     ensures loads { LoadsObject (F.state file) (file_in F.state result.0) tsk.now entry.now (holding_in result.0) result.1 }
 {
     match ObjectFile::load(alloc, file, tsk, entry) {
-        Ok(object) => (Content::Live(object), Ok(())),
+        Ok(object) => (Content::Live(CachedObject::new(alloc, object)), Ok(())),
         Err(ObjectBroken { file, fault }) => (Content::Free(file), Err(load_fault(fault))),
     }
 }

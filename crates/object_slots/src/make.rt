@@ -6,6 +6,7 @@ ghost use Rattle.object_slots.specs.Faults.{HasCause, HasCauses, IsFileFault};
 ghost use Rattle.object_slots.specs.Inside.{IsContent, file_in, holding_in};
 ghost use Rattle.object_slots.specs.Makes.{IsCut, MakesObject};
 
+use crate::cached::CachedObject;
 use crate::content::Content;
 use crate::fault::{SlotFault, slot_fault};
 use htree_file::Broken;
@@ -47,7 +48,7 @@ pub(crate) fn make_object<F: StoreFile + Drop, E: Entropy>(
 {
     match cut_file(&mut file) {
         Ok(()) => match ObjectFile::make(alloc, file, tsk, attributes, bytes, entropy) {
-            Ok((object, root)) => (Content::Made(object), Ok(root)),
+            Ok((object, root)) => (Content::Made(CachedObject::new(alloc, object)), Ok(root)),
             Err(Broken { file, fault }) => (Content::Free(file), Err(slot_fault(fault))),
         },
         Err(fault) => (Content::Free(file), Err(fault)),

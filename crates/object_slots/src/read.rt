@@ -3,13 +3,13 @@ ghost use Rattle.std.specs.Prelude.{◌≡◌};
 ghost use Rattle.object_slots.specs.Reads.{ReadsObject};
 ghost use Rattle.object_slots.specs.Value.{apart};
 
+use crate::cached::CachedObject;
 use crate::fault::{SlotFault, slot_fault};
-use object_file::ObjectFile;
 use tee_ports::StoreFile;
 
-/// Reads data of an object into the front of `into`, and says how many bytes. It takes no memory.
-pub(crate) fn read_object<F: StoreFile>(
-    object: &mut ObjectFile<F>,
+/// Reads data of an object into the front of `into`, and says how many bytes.
+pub(crate) fn read_object<F: StoreFile + Drop>(
+    object: &mut CachedObject<F>,
     at: u32,
     into: &mut [u8],
 ) -> Result<usize, SlotFault>

@@ -212,7 +212,7 @@ impl<F: StoreFile + Drop> Slot<F> {
     }
 
     /// Reads data from the place `at` on into the front of `into`, fewer bytes where the end is nearer, and says how many. It reads each
-    /// block that has one of these bytes, once. Takes no memory.
+    /// block that has one of these bytes once, but for those whose pages it kept, and keeps the pages for which it finds memory.
     ///
     /// # Errors
     ///
@@ -289,7 +289,7 @@ impl<F: StoreFile + Drop> Slot<F> {
         let Some(Content::Live(object)) = self.content.take() else {
             unreachable!()
         };
-        let (content, answer) = write_object(alloc, object, at, bytes, entropy);
+        let (content, answer) = write_object(alloc, object.into_object(), at, bytes, entropy);
         self.content = Some(content);
         answer
     }
@@ -318,7 +318,7 @@ impl<F: StoreFile + Drop> Slot<F> {
         let Some(Content::Live(object)) = self.content.take() else {
             unreachable!()
         };
-        let (content, answer) = truncate_object(alloc, object, size, entropy);
+        let (content, answer) = truncate_object(alloc, object.into_object(), size, entropy);
         self.content = Some(content);
         answer
     }

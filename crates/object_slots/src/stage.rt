@@ -7,6 +7,7 @@ ghost use Rattle.object_slots.specs.Inside.{IsContent, file_in, holding_in};
 ghost use Rattle.object_slots.specs.Stages.{OpensStage, SettlesObject, StagesObject, resize_change, write_change};
 ghost use Rattle.object_slots.specs.Value.{apart};
 
+use crate::cached::CachedObject;
 use crate::content::Content;
 use crate::fault::{SlotFault, slot_fault};
 use htree_file::TreeFault;
@@ -58,6 +59,7 @@ fn open_truncate<F: StoreFile, E: Entropy>(
 
 // Settles the stage, or gives it up.
 fn settle_object<F: StoreFile + Drop>(
+    alloc: Global,
     mut object: ObjectFile<F>,
 ) -> (Content<F>, Result<RootRef, SlotFault>)
     requires open { IsSome object.tree.stage }
@@ -67,10 +69,13 @@ fn settle_object<F: StoreFile + Drop>(
     ensures settles { SettlesObject (F.state object.tree.file) (file_in F.state result.0) (apart object) object.tree.stage (holding_in result.0) result.1 }
 {
     match object.settle() {
-        Ok(root) => (Content::Staged(object), Ok(root)),
+        Ok(root) => (Content::Staged(CachedObject::new(alloc, object)), Ok(root)),
         Err(fault) => {
             object.drop_stage();
-            (Content::Live(object), Err(slot_fault(fault)))
+            (
+                Content::Live(CachedObject::new(alloc, object)),
+                Err(slot_fault(fault)),
+            )
         }
     }
 }
@@ -93,8 +98,11 @@ pub(crate) fn write_object<F: StoreFile + Drop, E: Entropy>(
         (E.is_reliable entropy.old) (E.is_reliable entropy.new) result.1 }
 {
     match open_write(alloc, &mut object, at, bytes, entropy) {
-        Ok(()) => settle_object(object),
-        Err(fault) => (Content::Live(object), Err(slot_fault(fault))),
+        Ok(()) => settle_object(alloc, object),
+        Err(fault) => (
+            Content::Live(CachedObject::new(alloc, object)),
+            Err(slot_fault(fault)),
+        ),
     }
 }
 
@@ -115,7 +123,10 @@ pub(crate) fn truncate_object<F: StoreFile + Drop, E: Entropy>(
         (E.is_reliable entropy.old) (E.is_reliable entropy.new) result.1 }
 {
     match open_truncate(alloc, &mut object, size, entropy) {
-        Ok(()) => settle_object(object),
-        Err(fault) => (Content::Live(object), Err(slot_fault(fault))),
+        Ok(()) => settle_object(alloc, object),
+        Err(fault) => (
+            Content::Live(CachedObject::new(alloc, object)),
+            Err(slot_fault(fault)),
+        ),
     }
 }

@@ -18,7 +18,7 @@ returns-in-Err-clause-loads g c =
 pub returns-in-Ok-clause-loads : goal.returns-in-Ok-clause-loads
 returns-in-Ok-clause-loads g c =
     let e = c.in-Ok.ensures in
-    record {
+    rw c.new.ensures (record {
       leaves = (
         apart c.in-Ok.object,
         refl,
@@ -40,9 +40,9 @@ returns-in-Ok-clause-loads g c =
       cause = e.passed;
       three = e.three;
       steps = read_steps (g.F.StoreFile.state c.args.file) (g.F.StoreFile.state c.in-Ok.object.tree.file) (g.met.F.StoreFile.sound c.in-Ok.object.tree.file) e.rests;
-    }
+    })
 
 pub returns-in-Ok-clause-content : goal.returns-in-Ok-clause-content
 returns-in-Ok-clause-content g c =
     let e = c.in-Ok.ensures in
-    (e.idle, omega (arith, ap (λ (r : RootRef). r.version) e.root, c.requires.version))
+    rw c.new.ensures (e.idle, omega (arith, ap (λ (r : RootRef). r.version) e.root, c.requires.version))

@@ -15,7 +15,7 @@ returns-in-Ok-make-clause-makes g c =
     let new = g.F.StoreFile.state c.in-Ok-make.object.tree.file in
     let e = c.in-Ok-make.ensures in
     let cut = c.in-Ok.ensures in
-    record {
+    rw c.new.ensures (record {
       leaves = (
         apart c.in-Ok-make.object,
         refl,
@@ -26,7 +26,7 @@ returns-in-Ok-make-clause-makes g c =
       keeps = keeps_then Nowhere old mid new cut.keeps e.keeps;
       sound = tt;
       steps = taker_steps old new (g.met.F.StoreFile.sound c.in-Ok-make.object.tree.file) (keeps_then Nowhere old mid new cut.keeps e.keeps);
-    }
+    })
 
 pub returns-in-Err-make-clause-makes : goal.returns-in-Err-make-clause-makes
 returns-in-Err-make-clause-makes g c =

@@ -31,5 +31,5 @@ returns-in-Ok-clause-reads g c =
       rests = r.rests;
       cause = e.cause;
       steps = read_steps (g.F.StoreFile.state c.args.object.now.tree.file) (g.F.StoreFile.state c.read.new.self.tree.file) (g.met.F.StoreFile.sound c.read.new.self.tree.file) r.rests;
-      once = e.once;
+      asks = e.asks;
     }

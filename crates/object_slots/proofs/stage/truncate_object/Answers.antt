@@ -40,7 +40,7 @@ returns-in-Ok-clause-causes g c =
     c.in-Ok.ensures.opens.keeps.goes_on c.in-Ok.ensures.causes c.settle_object.ensures.settles.cause c.settle_object.ensures.settles.kind
 
 pub returns-in-Err-clause-content : goal.returns-in-Err-clause-content
-returns-in-Err-clause-content g c = (
+returns-in-Err-clause-content g c = rw c.new.ensures (
   c.in-Err.ensures.opens.none,
   subst (λ (h : HeldObject). h.tree.root.version < 2) (sym (apart_same {F = g.row.F.Denot} c.args.object c.open_truncate.new.object c.open_truncate.ensures.same)) c.requires.bit,
 )
@@ -51,10 +51,10 @@ returns-in-Err-clause-stages g c =
     let o = c.args.object in
     let p = c.open_truncate.new.object in
     let same = ap (λ (h : HeldObject). live h) (apart_same {F = g.row.F.Denot} o p c.open_truncate.ensures.same) in
-    rw c.slot_fault.ensures (stages_refused (apart o) (resize_change (apart o) c.args.size) _ (state o.tree.file) (state p.tree.file) p.tree.stage (live (apart p)) (Unit {0}) c.in-Err.fault
+    rw (c.slot_fault.ensures, c.new.ensures) (stages_refused (apart o) (resize_change (apart o) c.args.size) _ (state o.tree.file) (state p.tree.file) p.tree.stage (live (apart p)) (Unit {0}) c.in-Err.fault
     (g.met.F.StoreFile.sound o.tree.file) (g.met.F.StoreFile.sound p.tree.file) c.requires.bit c.in-Err.ensures.causes.kind same c.in-Err.ensures.opens)
 
 pub returns-in-Err-clause-causes : goal.returns-in-Err-clause-causes
 returns-in-Err-clause-causes g c =
     let state = g.F.StoreFile.state in
-    rw c.slot_fault.ensures (causes_refused _ _ _ _ IsChangeFault (state c.args.object.tree.file) (state c.open_truncate.new.object.tree.file) (Unit {0}) RootRef c.in-Err.fault c.in-Err.ensures.causes)
+    rw (c.slot_fault.ensures, c.new.ensures) (causes_refused _ _ _ _ IsChangeFault (state c.args.object.tree.file) (state c.open_truncate.new.object.tree.file) (Unit {0}) RootRef c.in-Err.fault c.in-Err.ensures.causes)
