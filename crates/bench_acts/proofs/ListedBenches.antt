@@ -1,5 +1,7 @@
 -- A bench that was mounted, listed and closed.
-use Rattle.std.proofs.Common.{◌≡◌, ◌≢◌, ◌∙◌, ℕ, List, Option, None, refl, sym, ap, subst, inl, inr, IsTrue}
+use Rattle.std.proofs.Common.{◌≡◌, ◌≢◌, ◌∙◌, ℕ, List, Option, None, length, refl, sym, ap, subst, inl, inr, IsTrue}
+use Rattle.std.proofs.lemmas.List.{length-map}
+use Rattle.std.specs.Map.{keys_of}
 use Rattle.disk_model.specs.State.{FileState, Sound}
 use Rattle.disk_model.specs.Calls.{GoesOn, Rests}
 use Rattle.disk_model.specs.Keeps.{Anywhere}
@@ -14,7 +16,7 @@ use Rattle.rpmb_card.specs.Port.{PortState}
 use Rattle.tee_types.specs.declared.reply.Cause.TheVariants.{Fault, Frame as FrameCause, CardResult as ResultCause}
 use Rattle.tee_types.specs.declared.reply.Device.TheVariants.{Dir, File, Card, Entropy}
 use Rattle.store_model.specs.declared.name.ObjectName.{ObjectName}
-use Rattle.store_model.specs.Object.{ObjectMap}
+use Rattle.store_model.specs.Object.{Object, ObjectMap}
 use Rattle.store_commit.specs.declared.fault.MountFault.{MountFault}
 use Rattle.store_commit.specs.declared.fault.MountFault.TheVariants.{NoStore, CardBlock, Directory, Frame, CardResult, Failed, Spent, NoMemory}
 use Rattle.crash_core.specs.Mounting.{held_in}
@@ -41,6 +43,10 @@ only_read a b c sound first rests = record {
   reads = λ known. rests.reads (then_known a b c (first.keeps).goes_on known) ∙ first.reads (first_known a b c rests.goes_on known);
 }
 
+-- two maps with the same names have as many objects
+length-named : (a b : ObjectMap) → keys_of a ≡ keys_of b → length a ≡ length b
+length-named a b same = sym (length-map a (λ (e : ObjectName × Object). e.0)) ∙ ap length same ∙ length-map b (λ (e : ObjectName × Object). e.0)
+
 module _ {F R : Type 0} (state : F → FileState) (port : R → PortState) (keys : Keys) (old new : BenchState) (o : OpeningValue F R)
     (mounts : IsMounted state port keys old o) (keeps : KeepsDevices old (opening_state state port o)) (passed : HasPassed old (opening_state state port o))
     (sound : (file : ℕ) → Sound (bench_files state o file)) (card : new.card ≡ (opening_state state port o).card) where
@@ -59,16 +65,17 @@ module _ {F R : Type 0} (state : F → FileState) (port : R → PortState) (keys
   honest_told sound_new honest file = ((sound_new file).told (honest file), inl (honest file))
 
   pub listed_bench : (lines : List ℕ) → ((file : ℕ) → Sound (new.files file)) → IsListed (entries_in o) o.storage_key (bench_files state o) new.files lines
-      → (objects : ObjectMap) × ListsBench state port keys old new objects lines
+      → (objects : ObjectMap) × (length objects ≡ length (objects_in state port keys o)) × ListsBench state port keys old new objects lines
   listed_bench lines sound_new shows = (
     objects,
+    length-named objects (objects_in state port keys o) names,
     record {
       opened = o;
       mounts = mounts;
       shows = shows;
       objects_are = refl;
       lines_are = listed.lines_are;
-      names = shown_names entries o.storage_key (distinct_names entries are) first listed.steps shows.last new.files listed.shows shows.whole (λ e. (held_in keys (reads_of first) e).object);
+      names = names;
       told = told;
       honest = λ honest. told (honest_told sound_new honest);
       card = card;
@@ -94,6 +101,9 @@ module _ {F R : Type 0} (state : F → FileState) (port : R → PortState) (keys
 
       objects : ObjectMap
       objects = objects_of (shows.listed).steps
+
+      names : keys_of (objects_of (shows.listed).steps) ≡ keys_of (objects_in state port keys o)
+      names = shown_names entries o.storage_key (distinct_names entries are) first listed.steps shows.last new.files listed.shows shows.whole (λ e. (held_in keys (reads_of first) e).object)
 
       told : ((file : ℕ) → Told (bench_files state o file) (new.files file)) → objects_of (shows.listed).steps ≡ objects_in state port keys o
       told followed = shown_map entries o.storage_key (distinct_names entries are) first listed.steps shows.last new.files listed.shows shows.whole (λ e. (held_in keys (reads_of first) e).object)

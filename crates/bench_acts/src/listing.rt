@@ -1,6 +1,6 @@
 //! The objects of a bench, listed.
 
-ghost use Rattle.std.specs.Prelude.{◌≡◌, vec_len, IfErr, IfOk, MatchResult};
+ghost use Rattle.std.specs.Prelude.{◌≡◌, length, vec_len, IfErr, IfOk, MatchResult};
 ghost use Rattle.store_model.specs.Object.{ObjectMap};
 ghost use Rattle.object_calls.specs.Opening.{bench_files, entries_in};
 ghost use Rattle.bench_acts.specs.Benches.{IsFed, KeepsDevices, bench_state};
@@ -23,6 +23,8 @@ use tee_ports::{Entropy, FileRig};
 pub struct Listing<F, R> {
     /// The bench.
     pub bench: Bench<F, R>,
+    /// How many objects there are.
+    pub objects: u16,
     /// The line of each object, in the order of their names.
     pub lines: Vec<u8>,
 }
@@ -83,7 +85,8 @@ fn list_mounted<F: FileRig + Drop, R: RpmbPort + Drop, E: Entropy>(
 ) -> Result<Listing<F, R>, Halted<F, R>>
     requires { vec_len bench.files ≡ 273 }
     ensures answer { MatchResult result
-        (λ l. (objects : ObjectMap) × ListsBench F.state R.state keys.now (bench_state F.state R.state bench) (bench_state F.state R.state l.bench) objects l.lines.items)
+        (λ l. (objects : ObjectMap) × (length objects ≡ l.objects)
+        × ListsBench F.state R.state keys.now (bench_state F.state R.state bench) (bench_state F.state R.state l.bench) objects l.lines.items)
         (λ h. StopsListing F.state R.state keys.now (bench_state F.state R.state bench) (bench_state F.state R.state h.bench) (E.faults entropy.old) (E.faults entropy.new) h.fault) }
     ensures keeps { IfErr result (λ h. KeepsDevices (bench_state F.state R.state bench) (bench_state F.state R.state h.bench)) }
     ensures undrawn { IfOk result (λ l. E.faults entropy.new ≡ E.faults entropy.old) }
@@ -94,10 +97,15 @@ fn list_mounted<F: FileRig + Drop, R: RpmbPort + Drop, E: Entropy>(
     match mount_bench(alloc, bench, keys, entropy) {
         Ok(mounted) => {
             let mut opening = mounted;
+            let objects = opening.objects();
             match list_opening(alloc, &mut opening) {
                 Ok(lines) => {
                     let bench = opening.close();
-                    Ok(Listing { bench, lines })
+                    Ok(Listing {
+                        bench,
+                        objects,
+                        lines,
+                    })
                 }
                 Err(fault) => {
                     let bench = opening.close();
@@ -122,8 +130,8 @@ pub fn list_objects<F: FileRig + Drop, R: RpmbPort + Drop, E: Entropy>(
     entropy: &mut E,
 ) -> Result<Listing<F, R>, Halted<F, R>>
     requires { vec_len bench.files ≡ 273 }
-    ensures lists { IfOk result (λ l. (objects : ObjectMap) × ListsBench F.state R.state keys.now (bench_state F.state R.state bench) (bench_state F.state R.state l.bench)
-        objects l.lines.items) }
+    ensures lists { IfOk result (λ l. (objects : ObjectMap) × (length objects ≡ l.objects)
+        × ListsBench F.state R.state keys.now (bench_state F.state R.state bench) (bench_state F.state R.state l.bench) objects l.lines.items) }
     ensures fed { IfOk result (λ l. IsFed (bench_state F.state R.state bench) (bench_state F.state R.state l.bench)) }
     ensures undrawn { IfOk result (λ l. E.faults entropy.new ≡ E.faults entropy.old) }
     ensures refused { IfErr result (λ h. IsListRefused F.state R.state keys.now (bench_state F.state R.state bench) (bench_state F.state R.state h.bench)

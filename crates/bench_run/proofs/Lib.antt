@@ -8,3 +8,4 @@ pub mod Flushed
 pub mod Scripts
 pub mod Loops
 pub mod Wholes
+pub mod Soaks

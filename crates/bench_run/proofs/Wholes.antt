@@ -1,6 +1,5 @@
 -- From the parts of a run to the whole.
-use Rattle.std.proofs.Common.{◌≡◌, ◌≤◌, ◌⊎◌, inl, inr, ℕ, Bool, true, List, [], ◌++◌, length, refl, sym, ap, ◌∙◌, arith, Option, Some, None, Result, Ok, Err, append-nil, length-append, ⊎_elim}
-use Rattle.std.proofs.lemmas.Bool.{false≢true}
+use Rattle.std.proofs.Common.{◌≡◌, ◌≤◌, ◌⊎◌, inl, inr, ℕ, List, [], ◌++◌, length, refl, sym, ap, ◌∙◌, arith, Option, Some, None, Result, Ok, Err, append-nil, length-append, ⊎_elim}
 use Rattle.script_text.specs.declared.reading.ScriptFault.{ScriptFault}
 use Rattle.script_text.specs.declared.reading.ScriptFault.TheVariants.{BadLine as BadLineFault, TooManyApps, NoMemory as NoMemoryFault}
 use Rattle.script_text.specs.Parsed.{IsParsed}
@@ -29,29 +28,29 @@ silent_is taken = record { put = refl; start = refl; records = refl }
 abbrev pub silent : List ℕ → Trace
 silent taken = record { taken = taken; put = []; start = None; records = [] }
 
-pub HasCause-read : (w : World) (taken : List ℕ) (status : Status) → IsReadError w.source_failed (length taken) status → HasCause w true (silent taken) status
+pub HasCause-read : (w : World) (taken : List ℕ) (status : Status) → IsReadError w.source_failed (length taken) status → HasCause w (silent taken) status
 HasCause-read w taken Done h = absurd h
 HasCause-read w taken Usage h = absurd h
 HasCause-read w taken (BadLine line) h = absurd h
-HasCause-read w taken ReadFault h = (refl, h.0, h.1, silent_is taken)
+HasCause-read w taken ReadFault h = (h.0, h.1, silent_is taken)
 HasCause-read w taken WriteFault h = absurd h
-HasCause-read w taken (TooLong Bytes) h = (refl, h, silent_is taken)
+HasCause-read w taken (TooLong Bytes) h = (h, silent_is taken)
 HasCause-read w taken (TooLong (Apps n)) h = absurd h
 HasCause-read w taken (MountRefused fault) h = absurd h
 HasCause-read w taken (DeviceFault fault) h = absurd h
-HasCause-read w taken NoMemory h = refl
+HasCause-read w taken NoMemory h = tt
 
 -- the script that was taken was run
-pub HasCause-act : (w : World) (t : Trace) (script : ScriptValue) (status : Status) → HasActCause (w.sink_failed ⊎ w.sink_full) t.put (run_output script t.start t.records) status → WasRead w t → script_of t.taken ≡ Ok script → HasCause w true t status
-HasCause-act w t script Done h read is = (refl, read, (script, is, h))
+pub HasCause-act : (w : World) (t : Trace) (script : ScriptValue) (status : Status) → HasActCause (w.sink_failed ⊎ w.sink_full) t.put (run_output script t.start t.records) status → WasRead w t → script_of t.taken ≡ Ok script → HasCause w t status
+HasCause-act w t script Done h read is = (read, (script, is, h))
 HasCause-act w t script Usage h read is = absurd h
 HasCause-act w t script (BadLine line) h read is = absurd h
 HasCause-act w t script ReadFault h read is = absurd h
-HasCause-act w t script WriteFault h read is = (refl, read, (script, is), h)
+HasCause-act w t script WriteFault h read is = (read, (script, is), h)
 HasCause-act w t script (TooLong excess) h read is = absurd h
-HasCause-act w t script (MountRefused fault) h read is = (refl, read, h.0, (script, is, h.1))
-HasCause-act w t script (DeviceFault fault) h read is = (refl, read, h.0, (script, is, h.1))
-HasCause-act w t script NoMemory h read is = refl
+HasCause-act w t script (MountRefused fault) h read is = (read, h.0, (script, is, h.1))
+HasCause-act w t script (DeviceFault fault) h read is = (read, h.0, (script, is, h.1))
+HasCause-act w t script NoMemory h read is = tt
 
 done_script : (t : Trace) (script : ScriptValue) (fault : ScriptFault) → script_of t.taken ≡ Ok script → script_of t.taken ≡ Err fault → ⊥
 done_script t script fault ok err = let e : ◌≡◌ {A = Result ScriptValue ScriptFault} (Ok script) (Err fault) = sym ok ∙ err in cc
@@ -63,66 +62,52 @@ one_fault t one other a b = let e : ◌≡◌ {A = Result ScriptValue ScriptFaul
 two_faults : (line n : ℕ) → BadLineFault line ≡ TooManyApps n → ⊥
 two_faults line n e = cc
 
-pub IsExact-cause : (w : World) (form : Bool) (t : Trace) (status : Status) → HasCause w form t status → IsExact w form t status
-IsExact-cause w form t Done h = record {
-  usage = λ no. absurd (false≢true (sym no ∙ h.0));
-  bad_line = λ line yes read err. absurd (done_script t h.2.0 (BadLineFault line) h.2.1 err);
-  too_many = λ n yes read err. absurd (done_script t h.2.0 (TooManyApps n) h.2.1 err);
-  too_long = λ yes long. absurd (omega (arith, h.1.1));
+pub IsExact-cause : (w : World) (t : Trace) (status : Status) → HasCause w t status → IsExact w t status
+IsExact-cause w t Done h = record {
+  bad_line = λ line read err. absurd (done_script t h.1.0 (BadLineFault line) h.1.1 err);
+  too_many = λ n read err. absurd (done_script t h.1.0 (TooManyApps n) h.1.1 err);
+  too_long = λ long. absurd (omega (arith, h.0.1));
 }
-IsExact-cause w form t Usage h = record {
-  usage = λ no. refl;
-  bad_line = λ line yes read err. absurd (false≢true (sym h.0 ∙ yes));
-  too_many = λ n yes read err. absurd (false≢true (sym h.0 ∙ yes));
-  too_long = λ yes long. absurd (false≢true (sym h.0 ∙ yes));
+IsExact-cause w t Usage h = absurd h
+IsExact-cause w t (BadLine l) h = record {
+  bad_line = λ line read err. let e = one_fault t (BadLineFault l) (BadLineFault line) h.1 err in let same : l ≡ line = cc in inl (ap BadLine same);
+  too_many = λ n read err. absurd (two_faults l n (one_fault t (BadLineFault l) (TooManyApps n) h.1 err));
+  too_long = λ long. absurd (omega (arith, h.0.1));
 }
-IsExact-cause w form t (BadLine l) h = record {
-  usage = λ no. absurd (false≢true (sym no ∙ h.0));
-  bad_line = λ line yes read err. let e = one_fault t (BadLineFault l) (BadLineFault line) h.2 err in let same : l ≡ line = cc in inl (ap BadLine same);
-  too_many = λ n yes read err. absurd (two_faults l n (one_fault t (BadLineFault l) (TooManyApps n) h.2 err));
-  too_long = λ yes long. absurd (omega (arith, h.1.1));
+IsExact-cause w t ReadFault h = record {
+  bad_line = λ line read err. inr (inr h.0);
+  too_many = λ n read err. inr (inr h.0);
+  too_long = λ long. absurd (omega (arith, h.1));
 }
-IsExact-cause w form t ReadFault h = record {
-  usage = λ no. absurd (false≢true (sym no ∙ h.0));
-  bad_line = λ line yes read err. inr (inr h.1);
-  too_many = λ n yes read err. inr (inr h.1);
-  too_long = λ yes long. absurd (omega (arith, h.2));
+IsExact-cause w t WriteFault h = record {
+  bad_line = λ line read err. absurd (done_script t h.1.0 (BadLineFault line) h.1.1 err);
+  too_many = λ n read err. absurd (done_script t h.1.0 (TooManyApps n) h.1.1 err);
+  too_long = λ long. absurd (omega (arith, h.0.1));
 }
-IsExact-cause w form t WriteFault h = record {
-  usage = λ no. absurd (false≢true (sym no ∙ h.0));
-  bad_line = λ line yes read err. absurd (done_script t h.2.0 (BadLineFault line) h.2.1 err);
-  too_many = λ n yes read err. absurd (done_script t h.2.0 (TooManyApps n) h.2.1 err);
-  too_long = λ yes long. absurd (omega (arith, h.1.1));
+IsExact-cause w t (TooLong Bytes) h = record {
+  bad_line = λ line read err. absurd (omega (arith, h.0, read.1));
+  too_many = λ n read err. absurd (omega (arith, h.0, read.1));
+  too_long = λ long. inl refl;
 }
-IsExact-cause w form t (TooLong Bytes) h = record {
-  usage = λ no. absurd (false≢true (sym no ∙ h.0));
-  bad_line = λ line yes read err. absurd (omega (arith, h.1, read.1));
-  too_many = λ n yes read err. absurd (omega (arith, h.1, read.1));
-  too_long = λ yes long. inl refl;
+IsExact-cause w t (TooLong (Apps m)) h = record {
+  bad_line = λ line read err. absurd (two_faults line m (one_fault t (BadLineFault line) (TooManyApps m) err h.1));
+  too_many = λ n read err. let e = one_fault t (TooManyApps m) (TooManyApps n) h.1 err in let same : m ≡ n = cc in inl (ap (λ k. TooLong (Apps k)) same);
+  too_long = λ long. absurd (omega (arith, h.0.1));
 }
-IsExact-cause w form t (TooLong (Apps m)) h = record {
-  usage = λ no. absurd (false≢true (sym no ∙ h.0));
-  bad_line = λ line yes read err. absurd (two_faults line m (one_fault t (BadLineFault line) (TooManyApps m) err h.2));
-  too_many = λ n yes read err. let e = one_fault t (TooManyApps m) (TooManyApps n) h.2 err in let same : m ≡ n = cc in inl (ap (λ k. TooLong (Apps k)) same);
-  too_long = λ yes long. absurd (omega (arith, h.1.1));
+IsExact-cause w t (MountRefused fault) h = record {
+  bad_line = λ line read err. absurd (done_script t h.2.0 (BadLineFault line) h.2.1 err);
+  too_many = λ n read err. absurd (done_script t h.2.0 (TooManyApps n) h.2.1 err);
+  too_long = λ long. absurd (omega (arith, h.0.1));
 }
-IsExact-cause w form t (MountRefused fault) h = record {
-  usage = λ no. absurd (false≢true (sym no ∙ h.0));
-  bad_line = λ line yes read err. absurd (done_script t h.3.0 (BadLineFault line) h.3.1 err);
-  too_many = λ n yes read err. absurd (done_script t h.3.0 (TooManyApps n) h.3.1 err);
-  too_long = λ yes long. absurd (omega (arith, h.1.1));
+IsExact-cause w t (DeviceFault fault) h = record {
+  bad_line = λ line read err. absurd (done_script t h.2.0 (BadLineFault line) h.2.1 err);
+  too_many = λ n read err. absurd (done_script t h.2.0 (TooManyApps n) h.2.1 err);
+  too_long = λ long. absurd (omega (arith, h.0.1));
 }
-IsExact-cause w form t (DeviceFault fault) h = record {
-  usage = λ no. absurd (false≢true (sym no ∙ h.0));
-  bad_line = λ line yes read err. absurd (done_script t h.3.0 (BadLineFault line) h.3.1 err);
-  too_many = λ n yes read err. absurd (done_script t h.3.0 (TooManyApps n) h.3.1 err);
-  too_long = λ yes long. absurd (omega (arith, h.1.1));
-}
-IsExact-cause w form t NoMemory h = record {
-  usage = λ no. absurd (false≢true (sym no ∙ h));
-  bad_line = λ line yes read err. inr (inl refl);
-  too_many = λ n yes read err. inr (inl refl);
-  too_long = λ yes long. inr refl;
+IsExact-cause w t NoMemory h = record {
+  bad_line = λ line read err. inr (inl refl);
+  too_many = λ n read err. inr (inl refl);
+  too_long = λ long. inr refl;
 }
 
 -- a source that tells its bytes and has ended gave them all
@@ -142,19 +127,19 @@ taken-le left_old (Some rest) taken bytes takes told =
     omega (arith, ap length same, length-append taken rest)
 
 -- what a run needs to end well
-pub completed : (left_old left_new held_old held_new : Option (List ℕ)) (w : World) (status : Status) (t : Trace) (bytes : List ℕ) (script : ScriptValue) → IsRun left_old left_new held_old held_new w true status t → (w.source_ended → (rest : List ℕ) → left_new ≡ Some rest → rest ≡ []) → left_old ≡ Some bytes → length bytes ≤ 16777216 → script_of bytes ≡ Ok script → ¬ w.source_failed → ¬ w.sink_failed → ¬ w.sink_full → RunsItsScript status
+pub completed : (left_old left_new held_old held_new : Option (List ℕ)) (w : World) (status : Status) (t : Trace) (bytes : List ℕ) (script : ScriptValue) → IsRun left_old left_new held_old held_new w status t → (w.source_ended → (rest : List ℕ) → left_new ≡ Some rest → rest ≡ []) → left_old ≡ Some bytes → length bytes ≤ 16777216 → script_of bytes ≡ Ok script → ¬ w.source_failed → ¬ w.sink_failed → ¬ w.sink_full → RunsItsScript status
 completed left_old left_new held_old held_new w Done t bytes script run ends told short is source sink room = tt
-completed left_old left_new held_old held_new w Usage t bytes script run ends told short is source sink room = absurd (false≢true (sym run.cause.0))
+completed left_old left_new held_old held_new w Usage t bytes script run ends told short is source sink room = absurd run.cause
 completed left_old left_new held_old held_new w (BadLine line) t bytes script run ends told short is source sink room =
-    let same = all_taken left_old left_new t.taken bytes run.trace.taken (ends run.cause.1.0) told in
-    absurd (done_script t script (BadLineFault line) (ap script_of same ∙ is) run.cause.2)
-completed left_old left_new held_old held_new w ReadFault t bytes script run ends told short is source sink room = absurd (source run.cause.1)
-completed left_old left_new held_old held_new w WriteFault t bytes script run ends told short is source sink room = absurd (⊎_elim sink room run.cause.3)
+    let same = all_taken left_old left_new t.taken bytes run.trace.taken (ends run.cause.0.0) told in
+    absurd (done_script t script (BadLineFault line) (ap script_of same ∙ is) run.cause.1)
+completed left_old left_new held_old held_new w ReadFault t bytes script run ends told short is source sink room = absurd (source run.cause.0)
+completed left_old left_new held_old held_new w WriteFault t bytes script run ends told short is source sink room = absurd (⊎_elim sink room run.cause.2)
 completed left_old left_new held_old held_new w (TooLong Bytes) t bytes script run ends told short is source sink room =
-    absurd (omega (arith, run.cause.1, taken-le left_old left_new t.taken bytes run.trace.taken told))
+    absurd (omega (arith, run.cause.0, taken-le left_old left_new t.taken bytes run.trace.taken told))
 completed left_old left_new held_old held_new w (TooLong (Apps n)) t bytes script run ends told short is source sink room =
-    let same = all_taken left_old left_new t.taken bytes run.trace.taken (ends run.cause.1.0) told in
-    absurd (done_script t script (TooManyApps n) (ap script_of same ∙ is) run.cause.2)
+    let same = all_taken left_old left_new t.taken bytes run.trace.taken (ends run.cause.0.0) told in
+    absurd (done_script t script (TooManyApps n) (ap script_of same ∙ is) run.cause.1)
 completed left_old left_new held_old held_new w (MountRefused fault) t bytes script run ends told short is source sink room = tt
 completed left_old left_new held_old held_new w (DeviceFault fault) t bytes script run ends told short is source sink room = tt
 completed left_old left_new held_old held_new w NoMemory t bytes script run ends told short is source sink room = tt
@@ -162,20 +147,20 @@ completed left_old left_new held_old held_new w NoMemory t bytes script run ends
 pub IsTraceOf-silent : (left_old left_new held : Option (List ℕ)) (taken : List ℕ) → TakesFirst left_old left_new taken → length taken ≤ 16777217 → IsTraceOf left_old left_new held held (silent taken)
 IsTraceOf-silent left_old left_new held taken takes short = record { taken = takes; bounded = short; put = Appends-none held; text = inl (silent_is taken) }
 
-pub IsRun-cause : (left_old left_new held_old held_new : Option (List ℕ)) (w : World) (form : Bool) (status : Status) (t : Trace) → IsTraceOf left_old left_new held_old held_new t → HasCause w form t status → IsRun left_old left_new held_old held_new w form status t
-IsRun-cause left_old left_new held_old held_new w form status t trace cause = record { trace = trace; cause = cause; exact = IsExact-cause w form t status cause }
+pub IsRun-cause : (left_old left_new held_old held_new : Option (List ℕ)) (w : World) (status : Status) (t : Trace) → IsTraceOf left_old left_new held_old held_new t → HasCause w t status → IsRun left_old left_new held_old held_new w status t
+IsRun-cause left_old left_new held_old held_new w status t trace cause = record { trace = trace; cause = cause; exact = IsExact-cause w t status cause }
 
-pub HasCause-script : (w : World) (taken : List ℕ) (status : Status) → IsScriptError (script_of taken) status → WasRead w (silent taken) → HasCause w true (silent taken) status
+pub HasCause-script : (w : World) (taken : List ℕ) (status : Status) → IsScriptError (script_of taken) status → WasRead w (silent taken) → HasCause w (silent taken) status
 HasCause-script w taken Done h read = absurd h
 HasCause-script w taken Usage h read = absurd h
-HasCause-script w taken (BadLine line) h read = (refl, read, h, silent_is taken)
+HasCause-script w taken (BadLine line) h read = (read, h, silent_is taken)
 HasCause-script w taken ReadFault h read = absurd h
 HasCause-script w taken WriteFault h read = absurd h
 HasCause-script w taken (TooLong Bytes) h read = absurd h
-HasCause-script w taken (TooLong (Apps n)) h read = (refl, read, h, silent_is taken)
+HasCause-script w taken (TooLong (Apps n)) h read = (read, h, silent_is taken)
 HasCause-script w taken (MountRefused fault) h read = absurd h
 HasCause-script w taken (DeviceFault fault) h read = absurd h
-HasCause-script w taken NoMemory h read = refl
+HasCause-script w taken NoMemory h read = tt
 
 pub IsScriptError-fault : (fault : ScriptFault) (meant : Result ScriptValue ScriptFault) → IsParsed (Err fault) meant → IsScriptError meant (status_of fault)
 IsScriptError-fault (BadLineFault line) meant h = h

@@ -1,9 +1,8 @@
 -- The statuses of a run, and why each comes.
-use Rattle.std.specs.Prelude.{ℕ, ◌≡◌, ◌≤◌, ◌⊎◌, Bool, true, false, List, [], ◌∷◌, length, Option, Ok, Err, codes}
+use Rattle.std.specs.Prelude.{ℕ, ◌≡◌, ◌≤◌, ◌⊎◌, List, length, Option, Ok, Err}
 use Rattle.script_text.specs.declared.reading.ScriptFault.TheVariants.{BadLine as BadLineFault, TooManyApps}
 use Rattle.script_text.specs.Script.{ScriptValue}
 use Rattle.script_text.specs.Grammar.{script_of}
-use Rattle.script_text.specs.Words.{same_word}
 use Rattle.run_streams.specs.declared.status.Status.{Status}
 use Rattle.run_streams.specs.declared.status.Status.TheVariants.{BadLine, DeviceFault, Done, MountRefused, NoMemory, ReadFault, TooLong, Usage, WriteFault}
 use Rattle.run_streams.specs.declared.status.Excess.TheVariants.{Bytes, Apps}
@@ -30,32 +29,31 @@ abbrev pub WasTold : World → Trace → ScriptValue → Type 0
 WasTold w t script = IsWholeTextOf t script ⊎ w.sink_failed ⊎ w.sink_full
 
 -- a status comes only where its cause holds
-abbrev pub HasCause : World → Bool → Trace → Status → Type 0
-HasCause w form t Done = (form ≡ true) × WasRead w t × OfScript t.taken (IsWholeTextOf t)
-HasCause w form t Usage = (form ≡ false) × (t.taken ≡ []) × IsSilent t
-HasCause w form t (BadLine line) = (form ≡ true) × WasRead w t × (script_of t.taken ≡ Err (BadLineFault line)) × IsSilent t
-HasCause w form t ReadFault = (form ≡ true) × w.source_failed × (length t.taken ≤ 16777216) × IsSilent t
-HasCause w form t WriteFault = (form ≡ true) × WasRead w t × ((script : ScriptValue) × (script_of t.taken ≡ Ok script)) × (w.sink_failed ⊎ w.sink_full)
-HasCause w form t (TooLong Bytes) = (form ≡ true) × (length t.taken ≡ 16777217) × IsSilent t
-HasCause w form t (TooLong (Apps n)) = (form ≡ true) × WasRead w t × (script_of t.taken ≡ Err (TooManyApps n)) × IsSilent t
-HasCause w form t (MountRefused fault) = (form ≡ true) × WasRead w t × IsRefusal fault × OfScript t.taken (IsWholeTextOf t)
-HasCause w form t (DeviceFault fault) = (form ≡ true) × WasRead w t × IsDeviceFault fault × OfScript t.taken (WasTold w t)
-HasCause w form t NoMemory = form ≡ true
+abbrev pub HasCause : World → Trace → Status → Type 0
+HasCause w t Done = WasRead w t × OfScript t.taken (IsWholeTextOf t)
+HasCause w t Usage = ⊥
+HasCause w t (BadLine line) = WasRead w t × (script_of t.taken ≡ Err (BadLineFault line)) × IsSilent t
+HasCause w t ReadFault = w.source_failed × (length t.taken ≤ 16777216) × IsSilent t
+HasCause w t WriteFault = WasRead w t × ((script : ScriptValue) × (script_of t.taken ≡ Ok script)) × (w.sink_failed ⊎ w.sink_full)
+HasCause w t (TooLong Bytes) = (length t.taken ≡ 16777217) × IsSilent t
+HasCause w t (TooLong (Apps n)) = WasRead w t × (script_of t.taken ≡ Err (TooManyApps n)) × IsSilent t
+HasCause w t (MountRefused fault) = WasRead w t × IsRefusal fault × OfScript t.taken (IsWholeTextOf t)
+HasCause w t (DeviceFault fault) = WasRead w t × IsDeviceFault fault × OfScript t.taken (WasTold w t)
+HasCause w t NoMemory = Unit {0}
 
--- Where the words, the length or the text decide the status, it comes, or want of memory stands in its place. A fault of the source
+-- Where the length or the text decides the status, it comes, or want of memory stands in its place. A fault of the source
 -- may come before what its bytes would decide; faults of reading and writing, and mounts that are refused or fail, have no line here,
 -- since `HasCause` shuts other statuses out.
-pub record IsExact (w : World) (form : Bool) (t : Trace) (status : Status) : Type 0 where
-  pub usage : form ≡ false → status ≡ Usage
-  pub bad_line : (line : ℕ) → form ≡ true → WasRead w t → script_of t.taken ≡ Err (BadLineFault line) → (status ≡ BadLine line) ⊎ (status ≡ NoMemory) ⊎ w.source_failed
-  pub too_many : (n : ℕ) → form ≡ true → WasRead w t → script_of t.taken ≡ Err (TooManyApps n) → (status ≡ TooLong (Apps n)) ⊎ (status ≡ NoMemory) ⊎ w.source_failed
-  pub too_long : form ≡ true → length t.taken ≡ 16777217 → (status ≡ TooLong Bytes) ⊎ (status ≡ NoMemory)
+pub record IsExact (w : World) (t : Trace) (status : Status) : Type 0 where
+  pub bad_line : (line : ℕ) → WasRead w t → script_of t.taken ≡ Err (BadLineFault line) → (status ≡ BadLine line) ⊎ (status ≡ NoMemory) ⊎ w.source_failed
+  pub too_many : (n : ℕ) → WasRead w t → script_of t.taken ≡ Err (TooManyApps n) → (status ≡ TooLong (Apps n)) ⊎ (status ≡ NoMemory) ⊎ w.source_failed
+  pub too_long : length t.taken ≡ 16777217 → (status ≡ TooLong Bytes) ⊎ (status ≡ NoMemory)
 
--- What holds of a run that ended with that status.
-pub record IsRun (left_old left_new held_old held_new : Option (List ℕ)) (w : World) (form : Bool) (status : Status) (t : Trace) : Type 0 where
+-- What holds of the run of a source that ended with that status.
+pub record IsRun (left_old left_new held_old held_new : Option (List ℕ)) (w : World) (status : Status) (t : Trace) : Type 0 where
   pub trace : IsTraceOf left_old left_new held_old held_new t
-  pub cause : HasCause w form t status
-  pub exact : IsExact w form t status
+  pub cause : HasCause w t status
+  pub exact : IsExact w t status
 
 -- The script was run: to its end, or until a mount was refused or failed, or memory ran out.
 abbrev pub RunsItsScript : Status → Type 0
@@ -64,8 +62,3 @@ RunsItsScript NoMemory = Unit {0}
 RunsItsScript (MountRefused fault) = Unit {0}
 RunsItsScript (DeviceFault fault) = Unit {0}
 RunsItsScript _ = ⊥
-
--- the words are the one word `run`
-abbrev pub is_run_form : List (List ℕ) → Bool
-is_run_form (word ∷ []) = same_word word (codes "run")
-is_run_form _ = false

@@ -34,12 +34,12 @@ module _ {F R : Type 0} (of_file : F → FileState) (of_port : R → PortState) 
   EndsActs drew draws keys applications arms acts records old new NoMemory = Unit {0}
   EndsActs drew draws keys applications arms acts records old new _ = ⊥
 
-  -- The bench was opened, and went through acts of the script.
-  pub record Opened (drew draws : ℕ) (keys : Keys) (script : ScriptValue) (start : Option MountFault) (records : List RunRecord) (handed given : BenchState) (status : Status) : Type 0 where
+  -- The bench was opened, and went through these acts.
+  pub record Opened (drew draws : ℕ) (keys : Keys) (applications : List (List ℕ)) (acts : List Act) (start : Option MountFault) (records : List RunRecord) (handed given : BenchState) (status : Status) : Type 0 where
     pub shown : start ≡ None
     pub between : BenchState
     pub opens : OpensBench keys handed between
-    pub ends : EndsActs drew draws keys (applications_of script) [] (acts_of Serial script.steps) records between given status
+    pub ends : EndsActs drew draws keys applications [] acts records between given status
 
   -- The bench was not opened, for that reason.
   pub record NotOpened (drew draws : ℕ) (keys : Keys) (start : Option MountFault) (records : List RunRecord) (handed given : BenchState) (fault : MountFault) : Type 0 where
@@ -56,9 +56,14 @@ module _ {F R : Type 0} (of_file : F → FileState) (of_port : R → PortState) 
   Shut drew draws keys start records handed given _ = ⊥
 
   -- one or the other
+  abbrev pub EndsRun : (drew draws : ℕ) → Keys → (applications : List (List ℕ)) → List Act → (start : Option MountFault) → List RunRecord → (handed given : BenchState) → Status → Type 0
+  EndsRun drew draws keys applications acts start records handed given status =
+      Opened drew draws keys applications acts start records handed given status ⊎ Shut drew draws keys start records handed given status
+
+  -- the acts are those of the script
   abbrev pub EndsScript : (drew draws : ℕ) → Keys → ScriptValue → (start : Option MountFault) → List RunRecord → (handed given : BenchState) → Status → Type 0
   EndsScript drew draws keys script start records handed given status =
-      Opened drew draws keys script start records handed given status ⊎ Shut drew draws keys start records handed given status
+      EndsRun drew draws keys (applications_of script) (acts_of Serial script.steps) start records handed given status
 
   -- What the run did to the bench. Where no script was run, it is the bench that was handed in.
   abbrev pub EndsBench : (drew draws : ℕ) → Keys → Trace → (handed given : BenchState) → Status → Type 0

@@ -4,7 +4,9 @@ pub mod Trace
 pub mod Course
 pub mod Ending
 pub mod Causes
+pub mod Forms
 pub mod Points
 pub mod Ready
 pub mod Tells
 pub mod Running
+pub mod Soaks

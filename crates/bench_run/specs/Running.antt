@@ -3,6 +3,7 @@ use Rattle.std.specs.Prelude.{ℕ, ◌≡◌, ◌+◌, ◌<◌, List, ◌++◌, 
 use Rattle.disk_model.specs.State.{FileState}
 use Rattle.hmac_keys.specs.declared.Keys.{Keys}
 use Rattle.rpmb_card.specs.Port.{PortState}
+use Rattle.script_text.specs.declared.script.Mode.TheVariants.{Serial}
 use Rattle.script_text.specs.Script.{ScriptValue}
 use Rattle.store_commit.specs.declared.fault.MountFault.{MountFault}
 use Rattle.tee_ports.specs.Streams.{Appends}
@@ -14,7 +15,7 @@ use Rattle.bench_run.specs.declared.standing.RunEnd.{RunEnd}
 use Rattle.bench_run.specs.Text.{Act, RunRecord, acts_of, acts_text, run_output}
 use Rattle.bench_run.specs.Trace.{applications_of}
 use Rattle.bench_run.specs.Course.{Goes}
-use Rattle.bench_run.specs.Ending.{EndsActs, EndsScript}
+use Rattle.bench_run.specs.Ending.{EndsActs, EndsRun}
 use Rattle.bench_run.specs.Points.{Point, arms_behind, phases_in, point_of}
 use Rattle.bench_run.specs.Ready.{IsReady}
 use Rattle.bench_run.specs.Tells.{HasActCause}
@@ -50,12 +51,17 @@ module _ {F R : Type 0} (of_file : F → FileState) (of_port : R → PortState) 
     pub ends : EndsFrom drew draws keys script failed (point_of of_file of_port script held_old run) held_new (bench_state of_file of_port end.bench) end.status
     pub whole : vec_len end.bench.files ≡ 273
 
-  -- The run of a script.
-  pub record RunsScript (drew draws : ℕ) (keys : Keys) (script : ScriptValue) (failed : Type 0) (held_old held_new : Option (List ℕ)) (handed given : BenchState) (status : Status) : Type 0 where
+  -- A bench was opened, acts were done on it, and their text was put. `output` is the text, by what was recorded.
+  pub record RunsActs (drew draws : ℕ) (keys : Keys) (applications : List (List ℕ)) (acts : List Act) (output : Option MountFault → List RunRecord → List ℕ) (failed : Type 0) (held_old held_new : Option (List ℕ)) (handed given : BenchState) (status : Status) : Type 0 where
     pub put : List ℕ
     pub start : Option MountFault
     pub records : List RunRecord
     pub appended : Appends held_old held_new put
-    pub begins : Begins put (run_output script start records)
-    pub ends : EndsScript of_file of_port image Reliable drew draws keys script start records handed given status
-    pub cause : HasActCause failed put (run_output script start records) status
+    pub begins : Begins put (output start records)
+    pub ends : EndsRun of_file of_port image Reliable drew draws keys applications acts start records handed given status
+    pub cause : HasActCause failed put (output start records) status
+
+  -- The run of a script.
+  abbrev pub RunsScript : (drew draws : ℕ) → Keys → ScriptValue → (failed : Type 0) → (held_old held_new : Option (List ℕ)) → (handed given : BenchState) → Status → Type 0
+  RunsScript drew draws keys script failed held_old held_new handed given status =
+      RunsActs drew draws keys (applications_of script) (acts_of Serial script.steps) (run_output script) failed held_old held_new handed given status

@@ -28,6 +28,12 @@ TellsRefusal failed held_old held_new kept fault (DeviceFault told) =
 TellsRefusal failed held_old held_new kept fault NoMemory = Stops held_old held_new kept (refusal_line fault)
 TellsRefusal failed held_old held_new kept fault _ = ⊥
 
+-- The last text of a run was put, or the sink would not take it.
+abbrev pub TellsLines : (failed : Type 0) → (held_old held_new : Option (List ℕ)) → (lines : List ℕ) → Status → Type 0
+TellsLines failed held_old held_new lines Done = Appends held_old held_new lines
+TellsLines failed held_old held_new lines WriteFault = failed × Stops held_old held_new lines []
+TellsLines failed held_old held_new lines _ = ⊥
+
 -- The text of an act went behind what was kept, and nothing else changed.
 pub record IsSent {F R : Type 0} (held_old held_new : Option (List ℕ)) (text : List ℕ) (run next : Run F R) : Type 0 where
   pub sends : Sends held_old held_new run.kept.items next.kept.items text

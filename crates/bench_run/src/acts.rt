@@ -87,7 +87,7 @@ fn do_list<K: Sink, F: FileRig + Drop, R: CardRig + Drop, E: Entropy + Drop>(
         kept,
     } = run;
     match list_objects(alloc, bench, keys, entropy) {
-        Ok(Listing { bench, lines }) => {
+        Ok(Listing { bench, lines, .. }) => {
             let run = Run {
                 bench,
                 arms,

@@ -35,7 +35,7 @@ fn calls_length(steps: &[Step]) -> usize
 }
 
 /// The calls from that step on, up to the next control.
-fn calls_from(script: &Script, at: usize) -> &[Step]
+pub(crate) fn calls_from(script: &Script, at: usize) -> &[Step]
     requires { at ≤ length script.now.steps }
     ensures calls { result.now ≡ take (prefix_len is_call (drop at script.now.steps)) (drop at script.now.steps) }
     ensures count { length result.now ≡ prefix_len is_call (drop at script.now.steps) }

@@ -5,10 +5,10 @@ ghost use Rattle.script_text.specs.declared.script.Control.TheVariants.{List as 
 ghost use Rattle.tee_ports.specs.Faults.{Rose};
 ghost use Rattle.run_text.specs.Text.{control_line, events_text, phase_line};
 ghost use Rattle.run_streams.specs.Sending.{IsWriteError, Sends, Stops};
-ghost use Rattle.bench_run.specs.Tells.{IsCutOff, IsSent};
+ghost use Rattle.bench_run.specs.Tells.{IsCutOff, IsSent, TellsLines};
 
 use crate::standing::{Run, RunEnd};
-use run_streams::{Status, send_control, send_lines, send_phase};
+use run_streams::{Status, flush, send_control, send_lines, send_phase};
 use script_text::{Control, Mode, Script};
 use store_model::History;
 use tee_ports::Sink;
@@ -88,5 +88,17 @@ pub(crate) fn tell_phase<K: Sink, F: Drop, R: Drop>(
             status,
             bench: run.bench,
         }),
+    }
+}
+
+/// Puts the last lines of a run, and tells how it ends.
+pub(crate) fn tell_lines<K: Sink>(lines: Vec<u8>, sink: &mut K) -> Status
+    ensures tells { TellsLines (Rose (K.faults sink.old) (K.faults sink.new) ⊎ K.is_full sink.new) (K.held sink.old) (K.held sink.new) lines.items result }
+    ensures counted { K.faults sink.old ≤ K.faults sink.new }
+{
+    let mut kept = lines;
+    match flush(sink, &mut kept, 0) {
+        Ok(()) => Status::Done,
+        Err(status) => status,
     }
 }

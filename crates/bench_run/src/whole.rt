@@ -1,6 +1,6 @@
-//! The top call: a script is read, run on a bench and written.
+//! The top call: a script is read, run on a bench and written, or a soak is.
 
-ghost use Rattle.std.specs.Prelude.{◌≡◌, ◌≤◌, ◌↔◌, ℕ, List, Some, Ok, true, false, length, map, vec_len, MatchResult};
+ghost use Rattle.std.specs.Prelude.{◌≡◌, ◌≤◌, ◌⊎◌, ◌↔◌, ℕ, List, None, Some, Ok, length, map, vec_len, MatchResult};
 ghost use Rattle.std.specs.String.{string_bytes};
 ghost use Rattle.tee_ports.specs.Faults.{Rose};
 ghost use Rattle.script_text.specs.Script.{ScriptValue};
@@ -10,9 +10,13 @@ ghost use Rattle.bench_acts.specs.Benches.{bench_state};
 ghost use Rattle.bench_run.specs.Trace.{Trace, IsTraceOf};
 ghost use Rattle.bench_run.specs.Ready.{IsSound};
 ghost use Rattle.bench_run.specs.Ending.{EndsBench};
-ghost use Rattle.bench_run.specs.Causes.{RunsItsScript, HasCause, IsRun, is_run_form};
+ghost use Rattle.bench_run.specs.Causes.{RunsItsScript, HasCause, IsRun};
+ghost use Rattle.bench_run.specs.Forms.{form_of};
+ghost use Rattle.bench_run.specs.Soaks.{RunsSoak};
 
+use crate::form::{Form, form_of};
 use crate::playing::run_script;
+use crate::soaking::run_soak;
 use crate::standing::RunEnd;
 use hmac_keys::Keys;
 use object_calls::Bench;
@@ -23,16 +27,6 @@ use std::alloc::Global;
 use std::sync::Wait;
 use std::thread::Threads;
 use tee_ports::{Entropy, FileRig, Sink, Source};
-
-/// Whether the words are the one word `run`.
-fn is_run(words: &[String]) -> bool
-    ensures { result ≡ is_run_form (map string_bytes words.now) }
-{
-    match words {
-        [word] => word.as_bytes() == b"run".as_slice(),
-        _ => false,
-    }
-}
 
 /// The status of a text that is no script.
 fn status_of(fault: ScriptFault) -> Status
@@ -83,7 +77,7 @@ fn run_source<
           source_ended = S.has_ended source.new;
           sink_failed = Rose (K.faults sink.old) (K.faults sink.new);
           sink_full = K.is_full sink.new;
-        }) true t result.status
+        }) t result.status
         × EndsBench F.state R.state F.crash_image (E.is_reliable entropy.old) (E.faults entropy.old) (E.faults entropy.new) keys.now t (bench_state F.state R.state bench) (bench_state F.state R.state result.bench) result.status }
     ensures whole { vec_len result.bench.files ≡ 273 }
 {
@@ -99,8 +93,9 @@ fn run_source<
     run_script(rt, alloc, &script, sink, bench, keys, entropy)
 }
 
-/// Does all that the program does: tests the words, reads the script from the source to its end, opens the bench, runs the script's
-/// steps on it, and writes the history to the sink.
+/// Does all that the program does, in the form that the words have. `run`: reads the script from the source to its end, opens the bench, runs
+/// the script's steps on it, and writes the history to the sink. `soak N`: opens the bench, makes the calls that follow from the number
+/// as one phase on threads, lists the objects that it leaves, and writes five lines of what came of it; no source is read.
 ///
 /// `rt` starts the threads of phases that have their applications on threads, and waits for them; so it is not claimed that a run comes to
 /// its end. `words` are those behind the program's name. A card whose block 0 is blank is formatted. Want of memory is the one status
@@ -123,33 +118,43 @@ pub fn run<
     entropy: &mut E,
 ) -> RunEnd<F, R>
     requires { vec_len bench.files ≡ 273 }
-    // What was taken, put and recorded, why the run ended so, and what it did to the bench.
-    ensures run { (t : Trace)
+    // `run`: what was taken, put and recorded, why the run ended so, and what it did to the bench.
+    ensures run { form_of (map string_bytes words.now) ≡ Some Form.Run → (t : Trace)
         × IsRun (S.left source.old) (S.left source.new) (K.held sink.old) (K.held sink.new) (record {
           source_failed = Rose (S.faults source.old) (S.faults source.new);
           source_ended = S.has_ended source.new;
           sink_failed = Rose (K.faults sink.old) (K.faults sink.new);
           sink_full = K.is_full sink.new;
-        }) (is_run_form (map string_bytes words.now)) result.status t
+        }) result.status t
         × EndsBench F.state R.state F.crash_image (E.is_reliable entropy.old) (E.faults entropy.old) (E.faults entropy.new) keys.now t (bench_state F.state R.state bench) (bench_state F.state R.state result.bench) result.status }
-
-    // Usage comes exactly where the words are not the one word `run`.
-    ensures usage { (result.status ≡ Status.Usage) ↔ (is_run_form (map string_bytes words.now) ≡ false) }
 
     // A script within the limit is done, or a mount is refused or fails, or there is no memory, where the source and the sink do not
     // fail and the sink has room.
-    ensures complete { (bytes : List ℕ) (script : ScriptValue) → is_run_form (map string_bytes words.now) ≡ true
+    ensures complete { (bytes : List ℕ) (script : ScriptValue) → form_of (map string_bytes words.now) ≡ Some Form.Run
         → S.left source.old ≡ Some bytes → length bytes ≤ 16777216 → script_of bytes ≡ Ok script
         → ¬ Rose (S.faults source.old) (S.faults source.new)
         → ¬ Rose (K.faults sink.old) (K.faults sink.new) → ¬ K.is_full sink.new
         → RunsItsScript result.status }
+
+    // `soak N`: what was put and recorded, why it ended so, and what it did to the bench.
+    ensures soak { (number : ℕ) → form_of (map string_bytes words.now) ≡ Some (Form.Soak number)
+        → RunsSoak F.state R.state F.crash_image (E.is_reliable entropy.old) keys.now number (E.faults entropy.old) (E.faults entropy.new)
+        (Rose (K.faults sink.old) (K.faults sink.new) ⊎ K.is_full sink.new) (K.held sink.old) (K.held sink.new)
+        (bench_state F.state R.state bench) (bench_state F.state R.state result.bench) result.status }
+    ensures unread { (number : ℕ) → form_of (map string_bytes words.now) ≡ Some (Form.Soak number) → source.new ≡ source.old }
+
+    // Usage comes exactly where the words have no form, and then nothing is done.
+    ensures usage { (result.status ≡ Status.Usage) ↔ (form_of (map string_bytes words.now) ≡ None) }
+    ensures undone { form_of (map string_bytes words.now) ≡ None
+        → (result.bench ≡ bench) × (source.new ≡ source.old) × (sink.new ≡ sink.old) × (entropy.new ≡ entropy.old) }
     ensures whole { vec_len result.bench.files ≡ 273 }
 {
-    if !is_run(words) {
-        return RunEnd {
+    match form_of(words) {
+        Some(Form::Run) => run_source(rt, alloc, source, sink, bench, keys, entropy),
+        Some(Form::Soak(number)) => run_soak(rt, alloc, number, sink, bench, keys, entropy),
+        None => RunEnd {
             status: Status::Usage,
             bench,
-        };
+        },
     }
-    run_source(rt, alloc, source, sink, bench, keys, entropy)
 }

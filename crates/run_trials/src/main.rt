@@ -22,6 +22,8 @@
 //!
 //! The next line is of two applications on threads whose files wait for each other: a call of each has to be under way at once.
 //!
+//! The line behind it is of soaks: each is run twice, and its calls are made on the machine of the model, which must leave the same objects.
+//!
 //! The last table is of power cuts behind phases on threads. Four sessions make, write, rename and delete objects, while the directory's file or
 //! the card stops or fails at one of its first calls. Then the power fails, and a list must show the objects that the calls of the history leave,
 //! run once more as a serial script over new devices, but for those that a device kept from being done; or these with the one call that the
@@ -36,6 +38,7 @@ use openings::Opening;
 use power_cuts::cut_lines;
 use replays::replay_line;
 use rows::run_rows;
+use soaks::soak_line;
 use std::sync::Wait;
 use std::thread::Threads;
 use subjects::Subject;
@@ -49,6 +52,7 @@ mod draws;
 mod facts;
 mod histories;
 mod kept_port;
+mod machine;
 mod meeting_file;
 mod meetings;
 mod mishaps;
@@ -57,6 +61,7 @@ mod power_cuts;
 mod replays;
 mod rows;
 mod runs;
+mod soaks;
 mod subjects;
 mod table;
 mod tally;
@@ -120,5 +125,6 @@ fn main(rt: HostRuntime) -> anyhow::Result<()> {
     print_line(&rt, draw_lines(&rt, rt.alloc())?.trim_end())?;
     print_line(&rt, replay_line(&rt, rt.alloc())?.as_str())?;
     print_line(&rt, meeting_line(&rt, rt.alloc())?.as_str())?;
+    print_line(&rt, soak_line(&rt, rt.alloc())?.as_str())?;
     print_line(&rt, cut_lines(&rt, rt.alloc())?.trim_end())
 }

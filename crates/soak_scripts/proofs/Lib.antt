@@ -8,4 +8,5 @@ pub mod PrintedWords
 pub mod ReadTexts
 pub mod SoakTexts
 pub mod Tallies
+pub mod CountedCommits
 pub mod Written

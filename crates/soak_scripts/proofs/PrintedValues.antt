@@ -15,9 +15,7 @@ use Rattle.hex.specs.Hex.{IsBytes, decode_of, encode_lower, encode_with, lower_d
 use Rattle.hex.proofs.HexLemmas.{decode_of-encode_lower, length-encode_with}
 use Rattle.script_text.specs.Words.{are_digits, bytes_of, id_of, number_of, numeral_of, offset_of, same_word}
 use Rattle.soak_scripts.proofs.PrintedWords.{IsWord, is_ink}
-
-both : (a b : Bool) → a ≡ true → b ≡ true → (a && b) ≡ true
-both a b h k = rw (h, k)
+use Rattle.soak_scripts.proofs.Numerals.{both}
 
 ink_digit : (byte : ℕ) → 48 ≤ byte → byte ≤ 57 → is_ink byte ≡ true
 ink_digit byte low high = grind (arith, nat_tests)

@@ -8,6 +8,7 @@ use Rattle.std.proofs.lemmas.List.Sums.{AllPass-from_list_all, list_all-from_All
 use Rattle.std.proofs.lemmas.List.Folds.{list_all-append}
 use Rattle.std.proofs.lemmas.List.Splits.{slice_split_at, slice_split_none, length-slice_split}
 use Rattle.script_text.specs.Lines.{lines_of, words_of, is_ascii, is_blank, has_bytes}
+use Rattle.soak_scripts.proofs.Numerals.{both}
 
 -- a byte that is printed in a word
 abbrev pub is_ink : ℕ → Bool
@@ -60,9 +61,6 @@ words_of-join word (next ∷ words) is are =
     ap (filter has_bytes) (slice_split_at is_blank word 32 (join_with_byte 32 (next ∷ words)) (All-shut_out is_ink is_blank not_blank word is.ink) refl)
     ∙ ap (λ t. cond t (word ∷ rest) rest) is.some
     ∙ ap (λ r. word ∷ r) (words_of-join next words are.0 are.1)
-
-both : (a b : Bool) → a ≡ true → b ≡ true → (a && b) ≡ true
-both a b h k = rw (h, k)
 
 -- a line of words is printed
 pub printed-join : (word : List ℕ) (words : List (List ℕ)) → IsWord word → AreWords words → list_all is_printed (join_with_byte 32 (word ∷ words)) ≡ true

@@ -5,5 +5,6 @@ pub mod Scripts
 pub mod Texts
 pub mod Outcome
 pub mod Tallies
+pub mod CountedCommits
 pub mod Numbers
 pub mod Laws

@@ -1,13 +1,12 @@
 -- What came of a soak, in five lines.
-use Rattle.std.specs.Prelude.{ℕ, Bool, true, false, not, ◌||◌, List, ◌++◌, count_by, codes, decimal}
+use Rattle.std.specs.Prelude.{ℕ, Bool, true, false, not, ◌||◌, List, ◌++◌, count_by, codes, decimal, length}
 use Rattle.hex.specs.Hex.{encode_lower}
 use Rattle.sha2.specs.Sha256.{sha256}
 use Rattle.tee_types.specs.declared.reply.Reply.{Reply}
 use Rattle.tee_types.specs.declared.reply.Reply.TheVariants.{Done, Handle, Content, Info, Found, Refused}
 use Rattle.store_model.specs.declared.event.Event.{Event}
 use Rattle.store_model.specs.declared.event.Event.TheVariants.{Call as CallEvent, Landed}
-use Rattle.store_model.specs.declared.event.Mark.{Mark}
-use Rattle.store_model.specs.declared.event.Mark.TheVariants.{Made}
+use Rattle.store_model.specs.Commits.{commits_of}
 use Rattle.soak_scripts.specs.declared.outcome.Tally.{Tally}
 
 -- the call was done
@@ -28,29 +27,18 @@ is_refused _ = false
 abbrev pub is_other : Reply → Bool
 is_other reply = not (is_good reply || is_refused reply)
 
--- a commit was made
-abbrev pub is_made : Mark → Bool
-is_made (Made commit) = true
-is_made _ = false
-
 -- the event is a call, and its reply passes the test
 abbrev pub is_answered : (Reply → Bool) → Event → Bool
 is_answered test (CallEvent session number call reply mark) = test reply
 is_answered test (Landed commit) = false
 
--- the event is a call that made a commit, or a commit in doubt that landed
-abbrev pub is_commit : Event → Bool
-is_commit (CallEvent session number call reply mark) = is_made mark
-is_commit (Landed commit) = true
-
--- how many calls there are, by their replies, and how many commits
+-- how many calls there are, by their replies
 abbrev pub tally_of : List Event → Tally
 tally_of events = record {
   calls = count_by (is_answered (λ reply. true)) events;
   good = count_by (is_answered is_good) events;
   refused = count_by (is_answered is_refused) events;
   other = count_by (is_answered is_other) events;
-  commits = count_by is_commit events;
 }
 
 abbrev pub number_line : ℕ → List ℕ
@@ -62,8 +50,8 @@ calls_line tally = codes "apps 8 calls " ++ decimal tally.calls ++ codes "\n"
 abbrev pub replies_line : Tally → List ℕ
 replies_line tally = codes "ok " ++ decimal tally.good ++ codes " refused " ++ decimal tally.refused ++ codes " other " ++ decimal tally.other ++ codes "\n"
 
-abbrev pub commits_line : Tally → (objects : ℕ) → List ℕ
-commits_line tally objects = codes "commits " ++ decimal tally.commits ++ codes " objects " ++ decimal objects ++ codes "\n"
+abbrev pub commits_line : (commits objects : ℕ) → List ℕ
+commits_line commits objects = codes "commits " ++ decimal commits ++ codes " objects " ++ decimal objects ++ codes "\n"
 
 -- the SHA-256 of the lines of the objects
 abbrev pub digest_line : List ℕ → List ℕ
@@ -72,4 +60,4 @@ digest_line lines = codes "digest " ++ encode_lower (sha256 lines) ++ codes "\n"
 -- the text of the soak of that number with these events, where so many objects are left, which have these lines
 unfoldable pub soak_lines : (number : ℕ) → List Event → (objects : ℕ) → (lines : List ℕ) → List ℕ
 soak_lines number events objects lines =
-    number_line number ++ calls_line (tally_of events) ++ replies_line (tally_of events) ++ commits_line (tally_of events) objects ++ digest_line lines
+    number_line number ++ calls_line (tally_of events) ++ replies_line (tally_of events) ++ commits_line (length (commits_of events)) objects ++ digest_line lines

@@ -2,7 +2,7 @@
 use Rattle.std.specs.Prelude.{ℕ, ◌+◌, ◌<◌, ◌^◌, Bool, true, if◌then◌else◌}
 use Rattle.store_model.specs.declared.event.Event.{Event}
 use Rattle.soak_scripts.specs.declared.outcome.Tally.{Tally}
-use Rattle.soak_scripts.specs.Outcome.{is_answered, is_commit, is_good, is_other, is_refused}
+use Rattle.soak_scripts.specs.Outcome.{is_answered, is_good, is_other, is_refused}
 
 -- one, where the test was passed
 abbrev pub one_if : Bool → ℕ
@@ -14,7 +14,6 @@ with_event tally event = record {
   good = tally.good + one_if (is_answered is_good event);
   refused = tally.refused + one_if (is_answered is_refused event);
   other = tally.other + one_if (is_answered is_other event);
-  commits = tally.commits + one_if (is_commit event);
 }
 
 -- Each number of a tally may rise by one.
@@ -23,4 +22,3 @@ pub record HasRoom (tally : Tally) : Type 0 where
   pub good : tally.good + 1 < 2 ^ 64
   pub refused : tally.refused + 1 < 2 ^ 64
   pub other : tally.other + 1 < 2 ^ 64
-  pub commits : tally.commits + 1 < 2 ^ 64

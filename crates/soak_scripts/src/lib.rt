@@ -2,6 +2,7 @@
 //! it.
 #![tactic(auto)]
 
+mod commits;
 mod laws;
 mod number;
 mod outcome;

@@ -2,16 +2,17 @@
 
 ghost use Rattle.std.specs.Prelude.{◌≡◌, ◌<◌, ◌++◌, codes, decimal, length, slice_get, Some, IfOk, OnOk};
 ghost use Rattle.sha2.specs.Sha256.{sha256};
-ghost use Rattle.soak_scripts.specs.Outcome.{calls_line, commits_line, digest_line, is_good, is_made, is_refused, number_line, replies_line, soak_lines, tally_of};
+ghost use Rattle.soak_scripts.specs.Outcome.{calls_line, commits_line, digest_line, is_good, is_refused, number_line, replies_line, soak_lines, tally_of};
 ghost use Rattle.soak_scripts.specs.Tallies.{HasRoom, with_event};
 
+use crate::commits::commit_count;
 use run_text::{put, put_word_hex, put_word_number};
 use sha2::{Digest, Sha256};
 use std::alloc::Global;
-use store_model::{Event, History, Mark};
+use store_model::{Event, History};
 use tee_types::{NoMemory, Reply};
 
-/// How many calls there are, by their replies, and how many commits.
+/// How many calls there are, by their replies.
 #[derive(Clone, Copy, Debug)]
 pub(crate) struct Tally {
     /// All calls.
@@ -22,8 +23,6 @@ pub(crate) struct Tally {
     pub refused: u64,
     /// Those that were neither.
     pub other: u64,
-    /// The commits that were made, and those in doubt that landed.
-    pub commits: u64,
 }
 
 /// Whether the reply says that the call was done.
@@ -50,16 +49,6 @@ fn is_refused(reply: &Reply) -> bool
     }
 }
 
-/// Whether a commit was made.
-fn is_made(mark: Mark) -> bool
-    ensures { result ≡ is_made mark }
-{
-    match mark {
-        Mark::Made(_) => true,
-        _ => false,
-    }
-}
-
 /// The tally with one event more.
 fn with_event(tally: Tally, event: &Event) -> Tally
     requires { HasRoom tally }
@@ -67,22 +56,21 @@ fn with_event(tally: Tally, event: &Event) -> Tally
 {
     let mut tally = tally;
     match event {
-        Event::Call { reply, mark, .. } => {
+        Event::Call { reply, .. } => {
             let good = is_good(reply);
             let refused = is_refused(reply);
             tally.calls += 1;
             tally.good += u64::from(good);
             tally.refused += u64::from(refused);
             tally.other += u64::from(!(good || refused));
-            tally.commits += u64::from(is_made(*mark));
         }
-        Event::Landed { .. } => tally.commits += 1,
+        Event::Landed { .. } => {}
     }
     tally
 }
 
 /// The event at that place.
-fn event_at(history: &History, place: u64) -> &Event
+pub(crate) fn event_at(history: &History, place: u64) -> &Event
     requires { place < length history.now.events }
     ensures { slice_get history.now.events place ≡ Some result.now }
 {
@@ -98,7 +86,6 @@ fn tally_of(history: &History) -> Tally
         good: 0,
         refused: 0,
         other: 0,
-        commits: 0,
     };
     for place in 0..history.len() {
         tally = with_event(tally, event_at(history, place));
@@ -126,10 +113,10 @@ fn put_replies(out: &mut Vec<u8>, tally: Tally) -> Result<(), NoMemory>
 }
 
 /// Appends the line of the commits.
-fn put_commits(out: &mut Vec<u8>, tally: Tally, objects: u64) -> Result<(), NoMemory>
-    ensures { OnOk result (out.new.items ≡ out.old.items ++ commits_line tally objects) }
+fn put_commits(out: &mut Vec<u8>, commits: u64, objects: u64) -> Result<(), NoMemory>
+    ensures { OnOk result (out.new.items ≡ out.old.items ++ commits_line commits objects) }
 {
-    put_word_number(out, b"commits ", tally.commits)?;
+    put_word_number(out, b"commits ", commits)?;
     put_word_number(out, b" objects ", objects)?;
     put(out, b"\n")
 }
@@ -166,7 +153,7 @@ pub fn soak_lines(
     put_number_line(&mut text, b"soak ", number as u64)?;
     put_number_line(&mut text, b"apps 8 calls ", tally.calls)?;
     put_replies(&mut text, tally)?;
-    put_commits(&mut text, tally, objects)?;
+    put_commits(&mut text, commit_count(history), objects)?;
     put_digest(&mut text, lines)?;
     Ok(text)
 }

@@ -1,4 +1,4 @@
-use Rattle.std.proofs.Common.{◌∷◌, List, sym, subst}
+use Rattle.std.proofs.Common.{◌∷◌, ◌∙◌, List, sym, subst}
 use Rattle.object_calls.specs.Files.{files_of}
 use Rattle.object_calls.specs.Opening.{bench_files, entries_in}
 use Rattle.object_calls.proofs.Files.{files_sound}
@@ -14,13 +14,14 @@ returns-in-Ok-list_opening-clause-answer g c =
     let port = g.R.RpmbPort.state in
     let o = c.in-Ok.mounted in
     let o1 = c.list_opening.new.opening in
-    listed_bench state port c.args.keys.now (bench_state state port c.args.bench) (bench_state state port c.close-bench.result) o c.in-Ok.ensures.mounts c.in-Ok.ensures.keeps c.in-Ok.ensures.passed
+    let listed = listed_bench state port c.args.keys.now (bench_state state port c.args.bench) (bench_state state port c.close-bench.result) o c.in-Ok.ensures.mounts c.in-Ok.ensures.keeps c.in-Ok.ensures.passed
     (files_sound state g.met.F.StoreFile.sound (o.gate.dir.file ∷ o.files))
     (closed_card port o c.list_opening.new.opening c.close-bench.result.card c.close-bench.ensures.card c.list_opening.ensures.same)
     c.in-Ok-list_opening.lines.items
     (files_sound state g.met.F.StoreFile.sound c.close-bench.result.files.items)
     (subst (λ (l : List g.row.F.Denot). IsListed (entries_in o) o.storage_key (bench_files state o) (files_of state l) c.in-Ok-list_opening.lines.items) (sym c.close-bench.ensures.files)
-    c.in-Ok-list_opening.ensures.answer)
+    c.in-Ok-list_opening.ensures.answer) in
+    (listed.0, listed.1 ∙ c.objects-objects.ensures.objects c.args.keys.now, listed.2)
 
 pub returns-in-Err-list_opening-clause-answer : goal.returns-in-Err-list_opening-clause-answer
 returns-in-Err-list_opening-clause-answer g c =

@@ -8,8 +8,8 @@ returns-in-Ok-clause-ok g c = λ first lasts script ready next.
     let run = c.args.run in
     let lists = c.in-Ok.ensures.lists in
     let listed = record run { bench = c.in-Ok.field-0.bench; at = run.at + 1 } in
-    let done = HasDone-list g.F.StoreFile.state g.R.RpmbPort.state g.F.FileRig.crash_image (g.E.Entropy.is_reliable first) c.args.keys.now script run listed lists.0 _ ready next refl c.in-Ok.ensures.whole lists.1 in
-    let text = list_text script run.number lists.0 c.as_slice.result.now (c.as_slice.ensures.value ∙ lists.1.lines_are) in
+    let done = HasDone-list g.F.StoreFile.state g.R.RpmbPort.state g.F.FileRig.crash_image (g.E.Entropy.is_reliable first) c.args.keys.now script run listed lists.0 _ ready next refl c.in-Ok.ensures.whole lists.2 in
+    let text = list_text script run.number lists.0 c.as_slice.result.now (c.as_slice.ensures.value ∙ (lists.2).lines_are) in
     goes-on g.F.StoreFile.state g.R.RpmbPort.state g.F.FileRig.crash_image (g.E.Entropy.is_reliable first) c.args.keys.now script run listed c.tell_list.result _ _ _ _ _ done text c.tell_list.ensures.ok
 
 pub returns-in-Ok-clause-err : goal.returns-in-Ok-clause-err
@@ -17,8 +17,8 @@ returns-in-Ok-clause-err g c = λ first lasts script ready next.
     let run = c.args.run in
     let lists = c.in-Ok.ensures.lists in
     let listed = record run { bench = c.in-Ok.field-0.bench; at = run.at + 1 } in
-    let done = HasDone-list g.F.StoreFile.state g.R.RpmbPort.state g.F.FileRig.crash_image (g.E.Entropy.is_reliable first) c.args.keys.now script run listed lists.0 _ ready next refl c.in-Ok.ensures.whole lists.1 in
-    let text = list_text script run.number lists.0 c.as_slice.result.now (c.as_slice.ensures.value ∙ lists.1.lines_are) in
+    let done = HasDone-list g.F.StoreFile.state g.R.RpmbPort.state g.F.FileRig.crash_image (g.E.Entropy.is_reliable first) c.args.keys.now script run listed lists.0 _ ready next refl c.in-Ok.ensures.whole lists.2 in
+    let text = list_text script run.number lists.0 c.as_slice.result.now (c.as_slice.ensures.value ∙ (lists.2).lines_are) in
     cut-off g.F.StoreFile.state g.R.RpmbPort.state g.F.FileRig.crash_image (g.E.Entropy.is_reliable first) c.args.keys.now script run listed c.tell_list.result _ _ _ _ _ done text _ _ _ c.tell_list.ensures.err
 
 pub returns-in-Err-clause-err : goal.returns-in-Err-clause-err

@@ -1,16 +1,24 @@
-use Rattle.std.proofs.Common.{[], arith, refl, sym, ◌∙◌}
-use Rattle.tee_ports.proofs.Streams.{TakesFirst-none}
-use Rattle.bench_run.proofs.Wholes.{IsRun-cause, completed, IsTraceOf-silent, silent, silent_is}
+use Rattle.std.proofs.Common.{◌≡◌, ◌⊎◌, ℕ, Option, Some, sym, ap, ◌∙◌, subst}
+use Rattle.tee_ports.specs.Faults.{Rose}
+use Rattle.bench_acts.specs.Benches.{bench_state}
+use Rattle.bench_run.specs.declared.form.Form.{Form}
+use Rattle.bench_run.specs.declared.form.Form.TheVariants.{Soak}
+use Rattle.bench_run.specs.Soaks.{RunsSoak}
+use Rattle.bench_run.proofs.Wholes.{IsRun-cause, completed}
 use Rattle.bench_run.proofs.whole.run.Goals as goal
 
-pub returns-then-not-is_run-clause-run : goal.returns-then-not-is_run-clause-run
-returns-then-not-is_run-clause-run g c = (
-  silent [],
-  IsRun-cause _ _ _ _ _ _ _ _ (IsTraceOf-silent _ _ _ [] (TakesFirst-none _) (omega arith)) (sym c.is_run.ensures ∙ c.if-not-is_run.true, refl, silent_is []),
-  refl,
-)
-
-pub returns-clause-complete : goal.returns-clause-complete
-returns-clause-complete g c = λ bytes script form told short is source sink room.
+pub returns-in-Some-Run-clause-complete : goal.returns-in-Some-Run-clause-complete
+returns-in-Some-Run-clause-complete g c = λ bytes script form told short is source sink room.
     let x = c.run_source.ensures.run in
-    completed _ _ _ _ _ c.run_source.result.status x.0 bytes script (IsRun-cause _ _ _ _ _ _ _ _ x.1 x.2) (λ ended rest left. (g.met.S.Source.told_end c.run_source.new.source rest left).0 ended) told short is source sink room
+    completed _ _ _ _ _ c.run_source.result.status x.0 bytes script (IsRun-cause _ _ _ _ _ _ _ x.1 x.2) (λ ended rest left. (g.met.S.Source.told_end c.run_source.new.source rest left).0 ended) told short is source sink room
+
+pub returns-in-Some-Soak-clause-soak : goal.returns-in-Some-Soak-clause-soak
+returns-in-Some-Soak-clause-soak g c = λ number form.
+    let state = g.F.StoreFile.state in
+    let port = g.R.RpmbPort.state in
+    let e : ◌≡◌ {A = Option Form} (Some (Soak c.in-Some-Soak.number)) (Some (Soak number)) = ap Some (sym c.in-Some-Soak.field-0-is) ∙ sym c.in-Some-Soak.is ∙ c.form_of.ensures ∙ form in
+    let same : c.in-Some-Soak.number ≡ number = cc in
+    subst (λ (n : ℕ). RunsSoak state port g.F.FileRig.crash_image (g.E.Entropy.is_reliable c.args.entropy.now) c.args.keys.now n
+    (g.E.Entropy.faults c.args.entropy.now) (g.E.Entropy.faults c.run_soak.new.entropy)
+    (Rose (g.K.Sink.faults c.args.sink.now) (g.K.Sink.faults c.run_soak.new.sink) ⊎ g.K.Sink.is_full c.run_soak.new.sink) (g.K.Sink.held c.args.sink.now) (g.K.Sink.held c.run_soak.new.sink)
+    (bench_state state port c.args.bench) (bench_state state port c.run_soak.result.bench) c.run_soak.result.status) same c.run_soak.ensures.soak

@@ -1,0 +1,142 @@
+// The machine of the model: the calls of a script, one after another, on a map of objects without files, and the objects that are left, as
+// their applications see them.
+
+use anyhow::{Context, bail};
+use object_calls::{Shown, ShownObject};
+use object_lines::print_object;
+use script_text::{Script, Step};
+use std::alloc::{AllocError, Global};
+use std::marker::Model;
+use store_model::State;
+use tee_types::{AppId, Bytes, Call, Flags, ObjectId, READ, Reply};
+use tree_paths::NodeSet;
+
+/// A store has no more objects.
+const MOST_OBJECTS: u32 = 256;
+
+/// More bytes than an object of a soak has.
+const MOST_BYTES: u32 = 1 << 20;
+
+/// The machine, with a session for each application of a script.
+#[derive(Drop)]
+pub struct Machine {
+    state: State,
+    sessions: usize,
+}
+
+impl Model for Machine {
+    ghost use Rattle.std.specs.Prelude.{◌≡◌, length};
+    ghost use Rattle.store_model.specs.Machine.{MachineState};
+
+    ghost Value = { MachineState };
+
+    ghost view = { λ m. m.state };
+
+    ghost invariant = { λ m. length m.state.sessions ≡ m.sessions };
+}
+
+impl Machine {
+    // The machine without objects, and a session for each application.
+    fn new(alloc: Global, apps: &[AppId]) -> Result<Machine, AllocError> {
+        Ok(Machine {
+            state: State::empty(alloc, apps)?,
+            sessions: apps.len(),
+        })
+    }
+
+    // The reply to a call of that session.
+    fn ask(&mut self, alloc: Global, session: u32, call: &Call) -> anyhow::Result<Reply> {
+        if self.sessions <= session as usize {
+            bail!("no session of that number");
+        }
+        Ok(self.state.apply(alloc, session, call))
+    }
+
+    // The number of a new handle or enumerator.
+    fn ask_number(&mut self, alloc: Global, session: u32, call: &Call) -> anyhow::Result<u32> {
+        match self.ask(alloc, session, call)? {
+            Reply::Handle(number) => Ok(number),
+            _ => bail!("no number"),
+        }
+    }
+
+    /// Makes the calls of a script.
+    pub fn run(alloc: Global, script: &Script) -> anyhow::Result<Machine> {
+        let mut machine = Machine::new(alloc, script.applications())?;
+        for step in script.all_steps() {
+            if let Step::Call { app, call } = step {
+                let _ = machine.ask(alloc, *app, call)?;
+            }
+        }
+        Ok(machine)
+    }
+
+    // An object of that session's application.
+    fn shown(
+        &mut self,
+        alloc: Global,
+        session: u32,
+        app: AppId,
+        id: ObjectId,
+    ) -> anyhow::Result<Shown> {
+        let flags = Flags { bits: READ };
+        let handle = self.ask_number(alloc, session, &Call::Open { id, flags })?;
+        let Reply::Info {
+            size,
+            attributes,
+            ..
+        } = self.ask(alloc, session, &Call::Info { handle })?
+        else {
+            bail!("an object without attributes");
+        };
+        let read = Call::Read {
+            handle,
+            size: MOST_BYTES,
+        };
+        let Reply::Content(bytes) = self.ask(alloc, session, &read)? else {
+            bail!("an object without data");
+        };
+        let _ = self.ask(alloc, session, &Call::Close { handle })?;
+        Ok(Shown {
+            app,
+            id,
+            size,
+            object: ShownObject::Sound {
+                attributes,
+                bytes,
+                bad: NodeSet::none(),
+            },
+        })
+    }
+
+    // Pushes the lines of the objects of that session's application.
+    fn push_lines(
+        &mut self,
+        alloc: Global,
+        session: u32,
+        app: AppId,
+        lines: &mut Vec<u8>,
+    ) -> anyhow::Result<()> {
+        let number = self.ask_number(alloc, session, &Call::EnumNew)?;
+        let _ = self.ask(alloc, session, &Call::EnumStart { number })?;
+        for _ in 0..MOST_OBJECTS {
+            let Reply::Found { id, .. } = self.ask(alloc, session, &Call::EnumNext { number })?
+            else {
+                break;
+            };
+            let shown = self.shown(alloc, session, app, id)?;
+            print_object(&shown, lines)?;
+        }
+        Ok(())
+    }
+
+    /// The lines of the objects, in the order of the applications.
+    pub fn lines(&mut self, alloc: Global, apps: &[AppId]) -> anyhow::Result<Vec<u8>> {
+        let mut lines = Vec::new(alloc);
+        for (session, app) in apps.iter().enumerate() {
+            let session = u32::try_from(session).context("too many applications")?;
+            self.push_lines(alloc, session, *app, &mut lines)?;
+        }
+        Ok(lines)
+    }
+}
