@@ -5,5 +5,4 @@ pub mod Draws
 pub mod Closings
 pub mod Ready
 pub mod Fed
-pub mod Results
 pub mod SharedClosings

@@ -1,5 +1,5 @@
 -- A soak, from its parts to the whole.
-use Rattle.std.proofs.Common.{◌≡◌, ◌⊎◌, ℕ, inl, inr, List, [], ◌∷◌, ◌++◌, length, map, take, refl, sym, ap, ◌∙◌, subst, arith, append-nil, Option, None, zero, suc}
+use Rattle.std.proofs.Common.{◌≡◌, ◌⊎◌, ℕ, inl, inr, List, [], ◌∷◌, ◌++◌, length, map, drop, take, refl, sym, ap, ◌∙◌, subst, arith, append-nil, Option, None, zero, suc}
 use Rattle.std.specs.List.{prefix_len}
 use Rattle.std.proofs.lemmas.List.{take_all}
 use Rattle.disk_model.specs.State.{FileState}
@@ -13,7 +13,7 @@ use Rattle.script_text.specs.declared.script.Control.TheVariants.{List as ListCo
 use Rattle.script_text.specs.declared.script.Mode.TheVariants.{Threads}
 use Rattle.script_text.specs.declared.script.Step.{Step}
 use Rattle.script_text.specs.declared.script.Step.TheVariants.{Call as CallStep, Control as ControlStep}
-use Rattle.script_text.specs.Script.{is_call}
+use Rattle.script_text.specs.Script.{ScriptValue, is_call}
 use Rattle.tee_types.specs.declared.call.Call.{Call}
 use Rattle.object_lines.specs.Lines.{refusal_line, why_text}
 use Rattle.bench_acts.specs.Benches.{BenchState}
@@ -21,10 +21,12 @@ use Rattle.bench_acts.specs.ListedBenches.{IsListRefused}
 use Rattle.bench_acts.specs.Opens.{OpensBench}
 use Rattle.bench_phases.specs.Phases.{RunsPhase}
 use Rattle.bench_phases.specs.Refusals.{IsGivenUp}
+use Rattle.bench_phases.proofs.Ready.{runs_where}
 use Rattle.run_streams.specs.declared.status.Status.{Status}
 use Rattle.run_streams.specs.declared.status.Status.TheVariants.{BadLine, DeviceFault, Done, MountRefused, NoMemory, ReadFault, TooLong, Usage, WriteFault}
 use Rattle.soak_scripts.specs.Joined.{joined}
-use Rattle.soak_scripts.specs.Scripts.{app_calls, app_steps, soak_calls}
+use Rattle.soak_scripts.specs.Scripts.{app_calls, app_steps, soak_calls, soak_script}
+use Rattle.bench_run.specs.Trace.{applications_of}
 use Rattle.bench_run.specs.Refusals.{IsDeviceFault, IsRefusal}
 use Rattle.bench_run.specs.Text.{Do, Listed, PhaseRecord, Ran, Refused, RunRecord, Serve}
 use Rattle.bench_run.specs.Ending.{EndsActs, EndsRun, RecordsRefusal}
@@ -48,7 +50,7 @@ prefix_len-joined number zero = refl
 prefix_len-joined number (suc apps) = prefix_len-append (joined (app_steps number) apps) (app_steps number apps) (prefix_len-joined number apps) (prefix_len-app apps (app_calls number apps))
 
 -- all steps of a soak behind its mode are calls
-pub take-soak_calls : (number : ℕ) → take (prefix_len is_call (soak_calls number)) (soak_calls number) ≡ soak_calls number
+take-soak_calls : (number : ℕ) → take (prefix_len is_call (soak_calls number)) (soak_calls number) ≡ soak_calls number
 take-soak_calls number = ap (λ n. take n (soak_calls number)) (prefix_len-joined number 8) ∙ take_all (length (soak_calls number)) (soak_calls number) (omega arith)
 
 -- a soak has eight applications
@@ -63,6 +65,18 @@ refusal_line-memory NoMemoryFault is = refl
 refusal_line-memory fault is = ap refusal_line (sym is)
 
 module _ {F R : Type 0} (of_file : F → FileState) (of_port : R → PortState) (image : FileState → ℕ → ℕ → List ℕ) (Reliable : Type 0) (keys : Keys) (number : ℕ) where
+  -- a phase of the calls behind the first step of its script
+  pub RunsPhase-soak : (Later : Type 0) (script : ScriptValue) (applications : List (List ℕ)) (calls : List Step) (old new : BenchState) (opening : ObjectMap) (events : List Event)
+      → script ≡ soak_script number → applications ≡ applications_of script → calls ≡ take (prefix_len is_call (drop 1 script.steps)) (drop 1 script.steps) → (Reliable → Later)
+      → RunsPhase of_file of_port Later keys applications [] Threads calls old new opening events
+      → RunsPhase of_file of_port Reliable keys (soak_applications number) [] Threads (soak_calls number) old new opening events
+  RunsPhase-soak Later script applications calls old new opening events is apps_are calls_are lasts runs =
+      let apps : applications ≡ soak_applications number = apps_are ∙ ap applications_of is in
+      let steps : calls ≡ soak_calls number = calls_are ∙ ap (λ (s : ScriptValue). take (prefix_len is_call (drop 1 s.steps)) (drop 1 s.steps)) is ∙ take-soak_calls number in
+      let Runs : List (List ℕ) → List Step → Type 0 = λ a c. RunsPhase of_file of_port Reliable keys a [] Threads c old new opening events in
+      subst (Runs (soak_applications number)) steps (subst (λ (a : List (List ℕ)). Runs a calls) apps
+      (runs_where of_file of_port Later Reliable keys applications [] Threads calls old new opening events lasts runs))
+
   -- both acts were done
   pub GoesThrough-acts : (old between new : BenchState) (opening : ObjectMap) (events : List Event) (lines : List ℕ)
       → RunsPhase of_file of_port Reliable keys (soak_applications number) [] Threads (soak_calls number) old between opening events → TellsObjects of_file of_port keys number events between new lines

@@ -6,6 +6,7 @@ use Rattle.hmac_keys.specs.KeyTable.{rpmb_key}
 use Rattle.object_calls.specs.Services.{ServiceValue}
 use Rattle.rpmb_card.specs.Port.{PortState}
 use Rattle.served_calls.specs.Answered.{GoesOnWithout, IsAnswered}
+use Rattle.served_calls.specs.Held.{KeepsHolds}
 use Rattle.device_counts.specs.Devices.{DevicesGoOn}
 use Rattle.device_counts.specs.Serving.{Serving, devices_in}
 use Rattle.suppositions.specs.Stores.{Store}
@@ -27,4 +28,6 @@ module _ {F R E : Type 0} (of_file : F → FileState) (of_port : R → PortState
   pub record AnswersCall (store : Store) (old new : ServiceValue F R) (was now : CallerSession E) (call : Call) (place : Option ℕ) (reply : Reply) : Type 0 where
     pub at : AnswersAt store (serving old was) (serving new now) call place reply
     pub devices : DevicesGoOn (rpmb_key store.keys.huk) (devices_in of_file of_port draws (serving old was)) (devices_in of_file of_port draws (serving new now))
+    -- no session holds a file but for a commit in doubt, where none did before
+    pub held : KeepsHolds old.gate.gate new.gate.gate
     pub storage_key : new.storage_key ≡ old.storage_key

@@ -63,10 +63,11 @@ fn is_done(status: &Status) -> anyhow::Result<bool> {
     }
 }
 
-/// Runs a script over these devices.
-pub fn try_script<W: Threads + Wait + Sync, F: FileRig + Drop + Send, R: CardRig + Drop + Send>(
+/// Does what the words say over these devices, with a script to read.
+pub fn run_words<W: Threads + Wait + Sync, F: FileRig + Drop + Send, R: CardRig + Drop + Send>(
     rt: &W,
     alloc: Global,
+    words: &[String],
     script: &str,
     bench: Bench<F, R>,
     entropy: &mut ListEntropy,
@@ -76,12 +77,11 @@ pub fn try_script<W: Threads + Wait + Sync, F: FileRig + Drop + Send, R: CardRig
 {
     let mut source = MemSource::new(alloc, script.as_bytes(), &[])?;
     let mut sink = MemSink::new(alloc, 65_536, &[])?;
-    let words = vec![in alloc; String::from_str(alloc, "run")?]?;
     let keys = simulator_keys();
     let RunEnd { status, bench } = run(
         rt,
         alloc,
-        &words,
+        words,
         &mut source,
         &mut sink,
         bench,
@@ -94,6 +94,21 @@ pub fn try_script<W: Threads + Wait + Sync, F: FileRig + Drop + Send, R: CardRig
         output: String::from_str(alloc, text)?,
         bench,
     })
+}
+
+/// Runs a script over these devices.
+pub fn try_script<W: Threads + Wait + Sync, F: FileRig + Drop + Send, R: CardRig + Drop + Send>(
+    rt: &W,
+    alloc: Global,
+    script: &str,
+    bench: Bench<F, R>,
+    entropy: &mut ListEntropy,
+) -> anyhow::Result<RanOver<F, R>>
+    requires { vec_len bench.files ≡ 273 }
+    ensures { IfOk result (λ ran. vec_len ran.bench.files ≡ 273) }
+{
+    let words = vec![in alloc; String::from_str(alloc, "run")?]?;
+    run_words(rt, alloc, &words, script, bench, entropy)
 }
 
 /// The same, for a script whose run is done.

@@ -1,16 +1,13 @@
 // Soaks, run twice, and their calls on the machine of the model.
 
+use crate::devices::new_bench;
 use crate::machine::Machine;
-use anyhow::{Context, bail};
-use bench_run::{RunEnd, Status, run};
-use seed_words::SeedEntropy;
+use crate::runs::{reliable, run_words};
 use sha2::{Digest, Sha256};
-use sim_bench::{blank_bench, simulator_keys};
 use soak_scripts::soak_script;
-use std::alloc::{AllocError, Global};
+use std::alloc::Global;
 use std::sync::Wait;
 use std::thread::Threads;
-use tee_ports::{MemSink, MemSource};
 
 /// The numbers of the soaks.
 const NUMBERS: [u32; 4] = [0, 1, 2, u32::MAX];
@@ -30,25 +27,8 @@ fn told<W: Threads + Wait + Sync>(rt: &W, alloc: Global, number: u32) -> anyhow:
         String::from_str(alloc, "soak")?,
         format!(in alloc; "{number}")?,
     ]?;
-    let mut source = MemSource::new(alloc, b"", &[])?;
-    let mut sink = MemSink::new(alloc, 65_536, &[])?;
-    let mut entropy = SeedEntropy::from_seed(&[0; 32]);
-    let bench = blank_bench(alloc)?;
-    let keys = simulator_keys();
-    let RunEnd { status, bench: _ } = run(
-        rt,
-        alloc,
-        &words,
-        &mut source,
-        &mut sink,
-        bench,
-        &keys,
-        &mut entropy,
-    );
-    if status != Status::Done {
-        bail!("a soak that is not done");
-    }
-    Ok(String::from_str(alloc, str::from_utf8(sink.bytes()).context("no text")?)?)
+    let ran = run_words(rt, alloc, &words, "", new_bench(alloc)?, &mut reliable())?;
+    Ok(ran.output)
 }
 
 // How many lines a text has.

@@ -1,5 +1,5 @@
 -- What a call that changes an object leaves of the store that serves it.
-use Rattle.std.proofs.Common.{◌≡◌, ◌<◌, ℕ, List, Err, IfOk, Ok, OnErr, Result, length, slice_index_or, sym, ap, ◌∙◌, subst, inl, inr}
+use Rattle.std.proofs.Common.{◌≡◌, ◌<◌, ℕ, List, Err, IfOk, None, Ok, OnErr, Result, length, slice_index_or, sym, ap, ◌∙◌, subst, inl, inr}
 use Rattle.std.specs.Prelude.{slice_set}
 use Rattle.call_history.specs.Sessions.{CallerSession, IsCallerOf}
 use Rattle.change_calls.specs.Causes.{HasChangeCause}
@@ -26,14 +26,14 @@ use Rattle.tee_types.specs.declared.reply.Cause.TheVariants.{CardResult, Fault, 
 use Rattle.tee_types.specs.declared.reply.Device.TheVariants.{Card, Dir, Entropy, File}
 use Rattle.tee_types.specs.declared.reply.Reply.{Reply}
 use Rattle.tee_types.specs.declared.reply.Reply.TheVariants.{Done, NotAvailable, Refused}
-use Rattle.device_counts.specs.Devices.{AccusesRightly, CostsDoubt, Devices, Grows, file_in}
+use Rattle.device_counts.specs.Devices.{AccusesRightly, CostsDoubt, Devices, Grows}
 use Rattle.served_calls.specs.Ready.{KnowsCard}
 use Rattle.device_counts.specs.Slots.{AreSlots}
 use Rattle.served_calls.specs.Standing.{ServesObject}
 use Rattle.device_counts.specs.Serving.{Serving, devices_in}
-use Rattle.served_calls.proofs.CommittedCalls.{committed_appends, committed_goes_on, committed_mark, committed_still, end_accuses, end_costs}
+use Rattle.served_calls.proofs.CommittedCalls.{committed_appends, committed_goes_on, committed_mark, committed_still, end_accuses, end_costs, end_holds}
 use Rattle.device_counts.proofs.Counting.{same_file_goes_on}
-use Rattle.served_calls.proofs.ToldCalls.{file_from, file_to, is_object_file, quiet_goes_on, served_appends, served_quiet, serves_ok, stays_serves}
+use Rattle.served_calls.proofs.ToldCalls.{file_from, file_to, is_object_file, quiet_goes_on, quiet_holds, served_appends, served_quiet, serves_ok, stays_serves}
 
 -- a reply that is done or refused accuses no device
 pub done_accuses : (key : List ℕ) (d0 d1 : Devices) (reply : Reply) → IsDoneOrRefused reply → AccusesRightly key d0 d1 reply
@@ -119,8 +119,8 @@ module _ {F R E : Type 0} (of_file : F → FileState) (of_port : R → PortState
   -- a commit with the slot of its object
   pub committed_serves : (call : Call) (own : Reply) (change : EntryChange) (Reliable : Type 0) (answer : Answer) (X : Type 0)
       → IsCommitted of_file of_port store old new before.number was now call own change Reliable (draws was.entropy) (draws now.entropy) answer → AccusesRightly key d0 d1 own
-      → Knows → FileGoesOn before.file after.file → ServesObject of_file of_port draws {X = X} store from to call (Ok answer)
-  committed_serves call own change Reliable answer X c accuses known file =
+      → Knows → old.gate.doubt ≡ None → FileGoesOn before.file after.file → ServesObject of_file of_port draws {X = X} store from to call (Ok answer)
+  committed_serves call own change Reliable answer X c accuses known idle file =
       let object = is_object_file of_file of_port draws store old new slots place before after was now are within stands same in
       serves_ok of_file of_port draws store old new slots place before after was now are within stands same call answer
       (committed_appends of_file of_port draws store old new before.number was now call own change Reliable answer object c)
@@ -128,37 +128,39 @@ module _ {F R E : Type 0} (of_file : F → FileState) (of_port : R → PortState
       (end_accuses of_file of_port draws old new slots (slice_set slots place after) was now key known c.end own c.gate.counts_are c.gate.cause accuses))
       (subst (CostsDoubt key d0 d1) (sym (committed_mark of_file of_port draws store old new before.number was now call own change Reliable answer object c))
       (end_costs of_file of_port draws old new slots (slice_set slots place after) was now key known c.end c.gate.cause))
+      (end_holds old.gate new.gate change c.end c.gate.holds idle)
       (committed_goes_on of_file of_port draws store old new before.number was now call own change Reliable answer c key known) file X
 
   -- a change of the object's data that was answered, or memory ran out
   pub changed_serves : (call : Call) (held : Held) (size : ℕ) (Reliable X : Type 0) (result : Result Answer X)
       → IsChangedOrNot of_file of_port Reliable (draws was.entropy) (draws now.entropy) store old new before after was now call held size result → IsCallerOf store was
-      → FileGoesOn before.file after.file → Knows → ServesObject of_file of_port draws store from to call result
-  changed_serves call held size Reliable X (Ok answer) (Meant m) caller file known =
+      → FileGoesOn before.file after.file → Knows → old.gate.doubt ≡ None → ServesObject of_file of_port draws store from to call result
+  changed_serves call held size Reliable X (Ok answer) (Meant m) caller file known idle =
       serves_ok of_file of_port draws store old new slots place before after was now are within stands same call answer
       (served_appends of_file of_port draws store old new slots place before after was now are within stands same call answer m.served) (done_accuses key d0 d1 answer.reply m.kind)
       (served_quiet of_file of_port draws store old new slots place before after was now are within stands same call answer m.served)
-      (quiet_goes_on of_file of_port draws key old.gate new.gate was now m.served.gate (inl m.undrawn)) file X
-  changed_serves call held size Reliable X (Ok answer) (Tried (Failed served kind cause)) caller file known =
+      (quiet_holds old.gate new.gate m.served.gate) (quiet_goes_on of_file of_port draws key old.gate new.gate was now m.served.gate (inl m.undrawn)) file X
+  changed_serves call held size Reliable X (Ok answer) (Tried (Failed served kind cause)) caller file known idle =
       serves_ok of_file of_port draws store old new slots place before after was now are within stands same call answer
       (served_appends of_file of_port draws store old new slots place before after was now are within stands same call answer served) (change_accuses Reliable answer.reply cause)
       (served_quiet of_file of_port draws store old new slots place before after was now are within stands same call answer served)
+      (quiet_holds old.gate new.gate served.gate)
       (quiet_goes_on of_file of_port draws key old.gate new.gate was now served.gate
       (change_drawn before.file after.file before.number Reliable (draws was.entropy) (draws now.entropy) answer.reply cause))
       file X
-  changed_serves call held size Reliable X (Ok answer) (Tried (Brought root c passed)) caller file known =
-      committed_serves call Done (renewal held root size) Reliable answer X c tt known file
-  changed_serves call held size Reliable X (Err e) stays caller file known =
+  changed_serves call held size Reliable X (Ok answer) (Tried (Brought root c passed)) caller file known idle =
+      committed_serves call Done (renewal held root size) Reliable answer X c tt known idle file
+  changed_serves call held size Reliable X (Err e) stays caller file known idle =
       stays_serves of_file of_port draws store old new slots place before after was now are within stands same call X e stays caller file
 
   -- a rename that was committed, or was not done at all
   pub renamed_serves : (call : Call) (change : EntryChange) (Reliable X : Type 0) (result : Result Answer X)
       → IfOk result (λ answer. IsCommitted of_file of_port store old new before.number was now call Done change Reliable (draws was.entropy) (draws now.entropy) answer)
-      → OnErr result ((new ≡ old) × (now ≡ was) × (after ≡ before)) → after.file ≡ before.file → IsCallerOf store was → Knows
+      → OnErr result ((new ≡ old) × (now ≡ was) × (after ≡ before)) → after.file ≡ before.file → IsCallerOf store was → Knows → old.gate.doubt ≡ None
       → ServesObject of_file of_port draws store from to call result
-  renamed_serves call change Reliable X (Ok answer) committed stays file caller known =
-      committed_serves call Done change Reliable answer X committed tt known (same_file_goes_on before.file after.file file)
-  renamed_serves call change Reliable X (Err e) committed stays file caller known =
+  renamed_serves call change Reliable X (Ok answer) committed stays file caller known idle =
+      committed_serves call Done change Reliable answer X committed tt known idle (same_file_goes_on before.file after.file file)
+  renamed_serves call change Reliable X (Err e) committed stays file caller known idle =
       stays_serves of_file of_port draws store old new slots place before after was now are within stands same call X e (stays.0, stays.1) caller
       (same_file_goes_on before.file after.file file)
 

@@ -1,7 +1,8 @@
 -- What a commit on an object leaves of the store that serves it.
-use Rattle.std.proofs.Common.{◌≡◌, ℕ, List, None, Some, refl, sym, ap, ◌∙◌, subst}
+use Rattle.std.proofs.Common.{◌≡◌, ℕ, List, None, Option, Some, refl, sym, ap, ◌∙◌, subst}
 use Rattle.call_history.specs.Sessions.{CallerSession, session_value}
 use Rattle.core_parts.specs.Joined.{IsObjectFile}
+use Rattle.crash_core.specs.EntryChanges.{file_put}
 use Rattle.disk_model.specs.State.{FileState}
 use Rattle.history_seats.specs.Views.{GateView}
 use Rattle.locked_gate.specs.declared.answered.Answer.{Answer}
@@ -13,7 +14,9 @@ use Rattle.rpmb_card.specs.Port.{PortState}
 use Rattle.rpmb_host.specs.Honest.{HadCard, HasCard}
 use Rattle.store_commit.specs.Causes.{CauseStands, Counted, EndCause, NoCard, counts}
 use Rattle.store_commit.specs.Counts.{CauseCounts, DoubtCounts, EndCounts, RoseAlone}
-use Rattle.store_commit.specs.Gates.{gate_sides}
+use Rattle.store_commit.specs.Changes.{change_of}
+use Rattle.store_commit.specs.Gates.{GateValue, LeavesHolds, file_in_doubt, gate_sides}
+use Rattle.store_commit.specs.Holds.{EndsHold, file_held, unless_file}
 use Rattle.store_commit.specs.declared.change.CommitEnd.{CommitEnd}
 use Rattle.store_commit.specs.declared.change.CommitEnd.TheVariants.{Doubtful, Dropped, Made, Spent}
 use Rattle.store_commit.specs.declared.change.EntryChange.{EntryChange}
@@ -29,6 +32,7 @@ use Rattle.tee_types.specs.declared.reply.Reply.{Reply}
 use Rattle.tee_types.specs.declared.reply.Reply.TheVariants.{NotAvailable}
 use Rattle.object_slots.specs.Value.{SlotValue}
 use Rattle.served_calls.specs.Appended.{AppendsCall}
+use Rattle.served_calls.specs.Held.{HoldsForDoubt, KeepsHolds}
 use Rattle.device_counts.specs.Devices.{AccusesRightly, CostsDoubt, Devices, TellsNoCard, devices_of}
 use Rattle.served_calls.specs.Ready.{KnowsCard}
 use Rattle.device_counts.proofs.Cards.{no_card_told, steps_told}
@@ -141,3 +145,29 @@ module _ {F R E : Type 0} (of_file : F → FileState) (of_port : R → PortState
 
 pub none_some : (x : ℕ) → None ≡ Some x → ⊥
 none_some x e = cc
+
+-- The files that are held behind it.
+pub not_some : (o : Option ℕ) → ((x : ℕ) → o ≡ Some x → ⊥) → o ≡ None
+not_some None none = refl
+not_some (Some x) none = absurd (none x refl)
+
+-- while no commit is in doubt no file is held
+pub unheld : {F R : Type 0} (gate : GateValue F R) → gate.doubt ≡ None → HoldsForDoubt gate → (session : ℕ) → file_held gate.holds session ≡ None
+unheld gate idle held session =
+    not_some (file_held gate.holds session) (λ x is. none_some x (sym (ap file_in_doubt idle) ∙ held session x is))
+
+none_without : (put : Option ℕ) (old new : List (Option ℕ)) → EndsHold put old new → ((session : ℕ) → file_held old session ≡ None) → (session : ℕ) → file_held new session ≡ None
+none_without None old new ends none session = ap (λ (l : List (Option ℕ)). file_held l session) ends ∙ none session
+none_without (Some file) old new ends none session = ends session ∙ ap (unless_file file) (none session)
+
+none_left : (change : EntryChange) (end : CommitEnd) (old new : List (Option ℕ)) → LeavesHolds change end old new → ((session : ℕ) → file_held old session ≡ None)
+    → (session : ℕ) → file_held new session ≡ None
+none_left change (Made n) old new leaves none session = none_without (file_put (change_of change)) old new leaves none session
+none_left change (Dropped cause) old new leaves none session = ap (λ (l : List (Option ℕ)). file_held l session) leaves ∙ none session
+none_left change (Doubtful n cause) old new leaves none session = ap (λ (l : List (Option ℕ)). file_held l session) leaves ∙ none session
+none_left change Spent old new leaves none session = ap (λ (l : List (Option ℕ)). file_held l session) leaves ∙ none session
+
+-- a commit that ended keeps no file held, where none was in doubt before
+pub end_holds : {F R : Type 0} (old new : GateValue F R) (change : EntryChange) (end : CommitEnd) → LeavesHolds change end old.holds new.holds → old.doubt ≡ None → KeepsHolds old new
+end_holds old new change end leaves idle held session file is =
+    absurd (none_some file (sym (none_left change end old.holds new.holds leaves (unheld old idle held) session) ∙ is))

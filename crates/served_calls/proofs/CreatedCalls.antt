@@ -1,5 +1,5 @@
 -- What a create leaves of the store that serves it.
-use Rattle.std.proofs.Common.{◌≡◌, ◌<◌, ◌++◌, ◌∷◌, ◌+◌, [], ℕ, List, Err, Ok, Result, Some, length, slice_index_or, refl, sym, ap, ◌∙◌, subst, inl, inr}
+use Rattle.std.proofs.Common.{◌≡◌, ◌<◌, ◌++◌, ◌∷◌, ◌+◌, [], ℕ, List, Err, None, Ok, Result, Some, length, slice_index_or, refl, sym, ap, ◌∙◌, subst, inl, inr}
 use Rattle.std.specs.Prelude.{slice_set}
 use Rattle.call_history.specs.Sessions.{CallerSession, IsCallerOf}
 use Rattle.call_rules.specs.declared.decision.NewPlace.{NewPlace}
@@ -20,6 +20,8 @@ use Rattle.locked_gate.specs.LockedGates.{LockedGateValue}
 use Rattle.object_commits.specs.CreateLaws.{index_of_place, new_entry}
 use Rattle.object_slots.specs.Value.{SlotValue}
 use Rattle.rpmb_card.specs.Port.{PortState}
+use Rattle.store_commit.specs.Gates.{GateValue}
+use Rattle.store_commit.specs.Holds.{file_held}
 use Rattle.store_commit.specs.declared.change.EntryChange.{EntryChange}
 use Rattle.store_commit.specs.declared.change.EntryChange.TheVariants.{Put}
 use Rattle.store_model.specs.declared.event.Mark.TheVariants.{Unchanged}
@@ -31,12 +33,14 @@ use Rattle.tee_types.specs.declared.reply.Device.TheVariants.{Card, Dir, Entropy
 use Rattle.tee_types.specs.declared.reply.Reply.{Reply}
 use Rattle.tee_types.specs.declared.reply.Reply.TheVariants.{CounterSpent, Handle, NotAvailable}
 use Rattle.served_calls.specs.Appended.{AppendsCall}
+use Rattle.served_calls.specs.Held.{HoldsForDoubt}
 use Rattle.device_counts.specs.Devices.{AccusesRightly, CostsDoubt, Devices, Grows}
 use Rattle.served_calls.specs.Ready.{KnowsCard}
 use Rattle.device_counts.specs.Slots.{AreSlots}
 use Rattle.served_calls.specs.Standing.{ServesObject}
 use Rattle.device_counts.specs.Serving.{Serving, devices_in}
-use Rattle.served_calls.proofs.CommittedCalls.{committed_appends, committed_goes_on, committed_mark, committed_still, end_accuses, end_costs}
+use Rattle.served_calls.proofs.CommittedCalls.{committed_appends, committed_goes_on, committed_mark, committed_still, end_accuses, end_costs, unheld}
+use Rattle.served_calls.proofs.HeldFiles.{IsHeldAlone, committed_holds, quiet_given, reserved_alone}
 use Rattle.served_calls.proofs.ToldCalls.{GatesGoOn, file_from, file_to, is_object_file, none_appended, quiet_goes_on, same_gate, serves_err, serves_ok, told_accuses_file}
 
 -- the gate once the session holds that file
@@ -92,6 +96,7 @@ unmade_accuses_file key d0 d1 number from to files counter Reliable reply cause 
 
 module _ {F R E : Type 0} (of_file : F → FileState) (of_port : R → PortState) (draws : E → ℕ) (store : Store) (old behind : LockedGateValue F R) (slots : List SlotValue) (place : ℕ) (before after : SlotValue)
     (was now : CallerSession E) (are : AreSlots slots) (within : place < length slots) (stands : before ≡ slice_index_or slots place before) (same : after.number ≡ before.number)
+    (idle : old.gate.doubt ≡ None) (holds : file_held (slice_set old.gate.holds was.number (Some before.number)) was.number ≡ Some before.number)
     (file : FileGoesOn before.file after.file) (known : KnowsCard (of_port old.gate.host.port) old.gate.host.key (rpmb_key store.keys.huk) old.gate.counter) where
   abbrev new : LockedGateValue F R
   new = given_back was.number behind
@@ -118,6 +123,10 @@ module _ {F R E : Type 0} (of_file : F → FileState) (of_port : R → PortState
   abbrev d1 : Devices
   d1 = devices_in of_file of_port draws to
 
+  -- the session alone holds a file, where no other held one before
+  alone : HoldsForDoubt old.gate → IsHeldAlone was.number before.number began.gate.holds
+  alone held = reserved_alone old.gate.holds was.number before.number (unheld old.gate idle held) holds
+
   object_file : IsObjectFile before.number
   object_file = is_object_file of_file of_port draws store old new slots place before after was now are within stands same
 
@@ -141,6 +150,7 @@ module _ {F R E : Type 0} (of_file : F → FileState) (of_port : R → PortState
       (subst (CostsDoubt key d0 d1)
       (sym (committed_mark of_file of_port draws store mid behind before.number was now (create_call object) own change Reliable answer object_file c))
       (end_costs of_file of_port draws mid behind slots (slice_set slots place after) was now key known c.end c.gate.cause))
+      (λ held. committed_holds was.number before.number behind change c.end mid.gate.holds (alone held) c.gate.holds c.gate.doubt (ap (λ (n : ℕ). Some n) b.file_is))
       (moved_goes_on (committed_goes_on of_file of_port draws store mid behind before.number was now (create_call object) own change Reliable answer c key known)) file X
 
   unmade_accuses : (counter : ℕ) (Reliable : Type 0) (reply : Reply) → UnmadeCause counter before.number before.file after.file Reliable (draws was.entropy) (draws now.entropy) reply
@@ -174,6 +184,7 @@ module _ {F R E : Type 0} (of_file : F → FileState) (of_port : R → PortState
   unmade_serves call counter Reliable answer X t cause =
       serves_ok of_file of_port draws store old new slots place before after was now are within stands same call answer
       (moved_appends store old new mid behind was now call answer refl refl (unmade_appends call answer t)) (unmade_accuses counter Reliable answer.reply cause) tt
+      (λ held. quiet_given was.number before.number behind mid.gate.holds (alone held) (ap (λ (g : GateValue F R). g.holds) t.gate) (ap (λ (g : GateValue F R). g.doubt) t.gate ∙ idle))
       (moved_goes_on (quiet_goes_on of_file of_port draws key mid.gate behind.gate was now t.gate
       (unmade_drawn counter before.number before.file after.file Reliable (draws was.entropy) (draws now.entropy) answer.reply cause)))
       file X
@@ -183,6 +194,7 @@ module _ {F R E : Type 0} (of_file : F → FileState) (of_port : R → PortState
   untold_serves call X e u caller =
       serves_err of_file of_port draws store old new slots place before after was now are within stands same call X e
       (none_appended store old new was now caller (ap (λ (g : LockedGateValue F R). g.journal.knows.all) u.gate) u.session)
+      (λ held. quiet_given was.number before.number behind began.gate.holds (alone held) (ap (λ (g : LockedGateValue F R). g.gate.holds) u.gate) (ap (λ (g : LockedGateValue F R). g.gate.doubt) u.gate ∙ idle))
       (moved_goes_on (quiet_goes_on of_file of_port draws key began.gate behind.gate was now
       (same_gate began.gate behind.gate (ap (λ (g : LockedGateValue F R). g.gate) u.gate)) (inl u.undrawn)))
       file
@@ -196,15 +208,17 @@ module _ {F R E : Type 0} (of_file : F → FileState) (of_port : R → PortState
 
 -- a create with the slot of the file that was reserved, of which memory may have run out
 pub created_serves : {F R E : Type 0} (of_file : F → FileState) (of_port : R → PortState) (draws : E → ℕ) (store : Store) (old mid new : LockedGateValue F R) (slots : List SlotValue) (place : ℕ) (before after : SlotValue)
-    (was now : CallerSession E) → AreSlots slots → place < length slots → before ≡ slice_index_or slots place before → after.number ≡ before.number
-    → (file : ℕ) → place + 1 ≡ file → mid ≡ reserved was.number file old → FileGoesOn before.file after.file
+    (was now : CallerSession E) → AreSlots slots → place < length slots → before ≡ slice_index_or slots place before → after.number ≡ before.number → old.gate.doubt ≡ None
+    → (file : ℕ) → place + 1 ≡ file → file_held mid.gate.holds was.number ≡ Some file → mid ≡ reserved was.number file old → FileGoesOn before.file after.file
     → IsCallerOf store was → KnowsCard (of_port old.gate.host.port) old.gate.host.key (rpmb_key store.keys.huk) old.gate.counter
     → (object : NewObject) (new_place : NewPlace) (Reliable X : Type 0) (result : Result Answer X)
     → Creates of_file of_port store mid new before.number before.file after.file was now object new_place Reliable (draws was.entropy) (draws now.entropy) result
     → ServesObject of_file of_port draws store (record { gate = old; slots = slots; session = was }) (record { gate = new; slots = slice_set slots place after; session = now }) (create_call object) result
-created_serves of_file of_port draws store old mid new slots place before after was now are within stands same file at is goes caller known object new_place Reliable X result creates =
+created_serves of_file of_port draws store old mid new slots place before after was now are within stands same idle file at is_held is goes caller known object new_place Reliable X result creates =
     let own : file ≡ before.number = sym at ∙ sym (are.numbered place before within) ∙ ap (λ (s : SlotValue). s.number) (sym stands) in
     let begins : mid ≡ reserved was.number before.number old = subst (λ (n : ℕ). mid ≡ reserved was.number n old) own is in
+    let holds : file_held (slice_set old.gate.holds was.number (Some before.number)) was.number ≡ Some before.number =
+    ap (λ (g : LockedGateValue _ _). file_held g.gate.holds was.number) (sym begins) ∙ is_held ∙ ap (λ (n : ℕ). Some n) own in
     let c : Creates of_file of_port store (reserved was.number before.number old) new before.number before.file after.file was now object new_place Reliable (draws was.entropy) (draws now.entropy) result =
     subst
     (λ (m : LockedGateValue _ _). Creates of_file of_port store m new before.number before.file after.file was now object new_place Reliable (draws was.entropy) (draws now.entropy) result) begins creates in
@@ -212,7 +226,7 @@ created_serves of_file of_port draws store old mid new slots place before after 
     (λ (n : LockedGateValue _ _). ServesObject of_file of_port draws store (record { gate = old; slots = slots; session = was }) (record { gate = n; slots = slice_set slots place after; session = now })
     (create_call object) result)
     (sym c.given_back)
-    (answered_serves of_file of_port draws store old c.behind slots place before after was now are within stands same goes known object new_place Reliable X result caller c.answered)
+    (answered_serves of_file of_port draws store old c.behind slots place before after was now are within stands same idle holds goes known object new_place Reliable X result caller c.answered)
 
 created_answered_still : {F R E : Type 0} (of_file : F → FileState) (of_port : R → PortState) (draws : E → ℕ) (store : Store) (old new : LockedGateValue F R) (file : ℕ) (before after : FileState)
     (was now : CallerSession E) (object : NewObject) (new_place : NewPlace) (Reliable X : Type 0) (result : Result Answer X)

@@ -2,7 +2,9 @@ pub mod SlotLists
 pub mod ToldCalls
 pub mod CommittedCalls
 pub mod ChangedCalls
+pub mod HeldFiles
 pub mod CreatedCalls
 pub mod Settling
+pub mod HeldSettling
 pub mod RuledCalls
 pub mod WholeCalls

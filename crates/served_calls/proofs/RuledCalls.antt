@@ -23,7 +23,7 @@ use Rattle.device_counts.specs.Slots.{AreSlots}
 use Rattle.served_calls.specs.Standing.{ServesObject}
 use Rattle.device_counts.specs.Serving.{devices_in}
 use Rattle.served_calls.proofs.CommittedCalls.{none_some}
-use Rattle.served_calls.proofs.ToldCalls.{GatesGoOn, quiet_goes_on}
+use Rattle.served_calls.proofs.ToldCalls.{GatesGoOn, quiet_goes_on, quiet_holds}
 
 -- the event has no tag
 unfoldable pub ruled_appends : {F R E : Type 0} (store : Store) (old new : LockedGateValue F R) (was now : CallerSession E) (call : Call) (answer : Answer) → IsServed store call answer old new was now
@@ -60,5 +60,6 @@ ruled_serves of_file of_port draws store old new slots was now call answer X s p
         costs = tt;
       };
       slots = are;
+      held = quiet_holds old.gate new.gate s.gate;
       devices = record { dir = gates.dir; file = λ n. goes_on_none (file_in slots n); card = gates.card; draws = gates.drawn };
     }

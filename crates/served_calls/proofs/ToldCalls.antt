@@ -26,6 +26,7 @@ use Rattle.tee_types.specs.declared.reply.Device.TheVariants.{Card, Dir, Entropy
 use Rattle.tee_types.specs.declared.reply.Reply.{Reply}
 use Rattle.tee_types.specs.declared.reply.Reply.TheVariants.{NotAvailable}
 use Rattle.served_calls.specs.Appended.{AppendsCall, AppendsNone}
+use Rattle.served_calls.specs.Held.{HoldsForDoubt, KeepsHolds}
 use Rattle.device_counts.specs.Devices.{AccusesRightly, CostsDoubt, Devices, DevicesGoOn, Grows, PortGoesOn, file_in, no_slot}
 use Rattle.device_counts.specs.Slots.{AreSlots}
 use Rattle.served_calls.specs.Standing.{ServesObject}
@@ -47,6 +48,9 @@ quiet_goes_on of_file of_port draws key old new was now same drawn = record {
   card = same_port_goes_on key (of_port old.host.port) (of_port new.host.port) (ap (λ (g : GateValue _ _). of_port g.host.port) same);
   drawn = drawn;
 }
+
+pub quiet_holds : {F R : Type 0} (old new : GateValue F R) → new ≡ record old { open_handles = new.open_handles } → KeepsHolds old new
+quiet_holds old new same held = subst (λ (g : GateValue _ _). HoldsForDoubt g) (sym same) held
 
 -- A session that was shown the history is as before, where it is the same.
 pub none_appended : {F R E : Type 0} (store : Store) (old new : LockedGateValue F R) (was now : CallerSession E) → IsCallerOf store was → new.journal.knows.all ≡ old.journal.knows.all
@@ -148,14 +152,14 @@ module _ {F R E : Type 0} (of_file : F → FileState) (of_port : R → PortState
   told_accuses reply told = told_accuses_file key d0 d1 before.number before.file after.file (λ n own. (file_from n own, file_to n own)) reply told
 
   pub serves_ok : (call : Call) (answer : Answer) → (appends : AppendsCall store old new was now call answer) → AccusesRightly key d0 d1 answer.reply → CostsDoubt key d0 d1 appends.mark
-      → GatesGoOn of_file of_port draws key old.gate new.gate was now → FileGoesOn before.file after.file → (X : Type 0)
+      → KeepsHolds old.gate new.gate → GatesGoOn of_file of_port draws key old.gate new.gate was now → FileGoesOn before.file after.file → (X : Type 0)
       → ServesObject of_file of_port draws {X = X} store from to call (Ok answer)
-  serves_ok call answer appends accuses costs gates file X =
-      record { answers = record { appends = appends; accuses = accuses; costs = costs }; slots = slots_to; devices = goes_on gates file }
+  serves_ok call answer appends accuses costs held gates file X =
+      record { answers = record { appends = appends; accuses = accuses; costs = costs }; slots = slots_to; held = held; devices = goes_on gates file }
 
-  pub serves_err : (call : Call) (X : Type 0) (e : X) → AppendsNone store old new was now → GatesGoOn of_file of_port draws key old.gate new.gate was now
+  pub serves_err : (call : Call) (X : Type 0) (e : X) → AppendsNone store old new was now → KeepsHolds old.gate new.gate → GatesGoOn of_file of_port draws key old.gate new.gate was now
       → FileGoesOn before.file after.file → ServesObject of_file of_port draws {X = X} store from to call (Err e)
-  serves_err call X e none gates file = record { answers = none; slots = slots_to; devices = goes_on gates file }
+  serves_err call X e none held gates file = record { answers = none; slots = slots_to; held = held; devices = goes_on gates file }
 
   -- the event of an answer that the slot's file gave
   pub served_appends : (call : Call) (answer : Answer) → IsServed store old new was now before.number call answer → AppendsCall store old new was now call answer
@@ -173,6 +177,7 @@ module _ {F R E : Type 0} (of_file : F → FileState) (of_port : R → PortState
       let gate : new.gate ≡ old.gate = ap (λ (g : LockedGateValue F R). g.gate) stays.0 in
       serves_err call X e
       (none_appended store old new was now caller (ap (λ (g : LockedGateValue F R). g.journal.knows.all) stays.0) (subst (λ (s : CallerSession E). s ≡ record was { entropy = s.entropy }) (sym stays.1) refl))
+      (quiet_holds old.gate new.gate (same_gate old.gate new.gate gate))
       (quiet_goes_on of_file of_port draws key old.gate new.gate was now (same_gate old.gate new.gate gate) (inl (ap (λ (s : CallerSession E). draws s.entropy) stays.1)))
       file
 
@@ -181,6 +186,6 @@ module _ {F R E : Type 0} (of_file : F → FileState) (of_port : R → PortState
       → FileGoesOn before.file after.file → IfOk result (λ answer. HasToldCause before.file after.file before.number answer.reply) → now.entropy ≡ was.entropy
       → ServesObject of_file of_port draws store from to call result
   told_serves call X (Ok answer) served caller file cause entropy =
-      serves_ok call answer (served_appends call answer served) (told_accuses answer.reply cause) (served_quiet call answer served)
+      serves_ok call answer (served_appends call answer served) (told_accuses answer.reply cause) (served_quiet call answer served) (quiet_holds old.gate new.gate served.gate)
       (quiet_goes_on of_file of_port draws key old.gate new.gate was now served.gate (inl (ap draws entropy))) file X
   told_serves call X (Err e) served caller file cause entropy = stays_serves call X e served caller file

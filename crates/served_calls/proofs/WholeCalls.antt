@@ -35,6 +35,7 @@ use Rattle.tee_types.specs.declared.reply.Reply.{Reply}
 use Rattle.tee_types.specs.declared.reply.Reply.TheVariants.{NotAvailable}
 use Rattle.served_calls.specs.Answered.{GoesOnWith, GoesOnWithout, ServesCall}
 use Rattle.served_calls.specs.Appended.{AppendsCall}
+use Rattle.served_calls.specs.Held.{KeepsHolds}
 use Rattle.device_counts.specs.Devices.{AccusesRightly, CostsDoubt, Devices, DevicesGoOn, PortGoesOn, TellsNoCard, faults_of, file_in}
 use Rattle.device_counts.specs.Slots.{AreOfObjectFiles, AreSlots}
 use Rattle.served_calls.specs.Standing.{ServesObject}
@@ -43,7 +44,9 @@ use Rattle.device_counts.proofs.Cards.{doubted_counts}
 use Rattle.device_counts.proofs.Counting.{counts_grow, devices_go_on_then, grows_le, grows_rose, grows_twice}
 use Rattle.device_counts.proofs.MoreRecords.{events_more, tagged_more}
 use Rattle.served_calls.proofs.Settling.{Settles, reserved_settles, same_settles, settled_settles, stays_settles, was_settles}
+use Rattle.served_calls.proofs.HeldSettling.{precedes_holds, room_holds, unserved_holds}
 use Rattle.served_calls.proofs.RuledCalls.{plain_accuses, ruled_appends}
+use Rattle.served_calls.proofs.ToldCalls.{quiet_holds}
 
 -- the key of the store's card
 abbrev card_key : Store → List ℕ
@@ -100,7 +103,7 @@ module _ {F R E : Type 0} (of_file : F → FileState) (of_port : R → PortState
 
 -- A call that was left to an object's file.
 module _ {F R E : Type 0} (of_file : F → FileState) (of_port : R → PortState) (draws : E → ℕ) (store : Store) (old mid new : LockedGateValue F R) (slots after : List SlotValue) (was shown now : CallerSession E)
-    (settled : Settles of_file of_port (card_key store) old mid) (drawn : draws was.entropy ≤ draws shown.entropy) (number : shown.number ≡ was.number) (made : shown.made ≡ was.made) (goes_on : GoesOn store was shown) where
+    (settled : Settles of_file of_port (card_key store) old mid) (settled_held : KeepsHolds old.gate mid.gate) (drawn : draws was.entropy ≤ draws shown.entropy) (number : shown.number ≡ was.number) (made : shown.made ≡ was.made) (goes_on : GoesOn store was shown) where
   abbrev d0 : Devices
   d0 = devices_in of_file of_port draws (record { gate = old; slots = slots; session = was })
 
@@ -131,6 +134,7 @@ module _ {F R E : Type 0} (of_file : F → FileState) (of_port : R → PortState
     slots = s.slots;
     tagged = λ files. subst AreOfObjectFiles (sym s.answers.appends.all)
         (tagged_more mid.journal.knows.all s.answers.appends.last s.answers.appends.tagged (settled.tagged files));
+    held = λ held. s.held (settled_held held);
     devices = devices_go_on_then (card_key store) d0 dm da began s.devices;
   }
   object_serves call X (Err e) s = record {
@@ -138,6 +142,7 @@ module _ {F R E : Type 0} (of_file : F → FileState) (of_port : R → PortState
         (λ end event place x. goes_on end event place (s.answers.goes_on end event place x)) s.answers.all;
     slots = s.slots;
     tagged = λ files. subst AreOfObjectFiles (sym s.answers.all) (settled.tagged files);
+    held = λ held. s.held (settled_held held);
     devices = devices_go_on_then (card_key store) d0 dm da began s.devices;
   }
 
@@ -224,6 +229,9 @@ module _ {F R E : Type 0} (of_file : F → FileState) (of_port : R → PortState
         };
         slots = are;
         tagged = λ files. subst AreOfObjectFiles (sym a.all) (tagged_more s.between.journal.knows.all a.last a.tagged (settled.tagged files));
+        held = λ held.
+            quiet_holds s.between.gate new.gate s.served.gate
+            (precedes_holds of_file of_port Reliable (draws was.entropy) (draws now.entropy) old s.between answer.reply s.precedes (room_holds first.gate old.gate ready held));
         devices = alone_goes_on s.between settled s.served.gate;
       }
 
@@ -239,15 +247,19 @@ module _ {F R E : Type 0} (of_file : F → FileState) (of_port : R → PortState
       ])
 
   -- the gate as memory ran out
-  pub none_serves : AreSlots slots → (call : Call) (X : Type 0) (e : X) → Settles of_file of_port (card_key store) first new → IsCallerOf store now → now.number ≡ was.number → now.made ≡ was.made → GoesOn store was now
+  pub none_serves : AreSlots slots → (call : Call) (X : Type 0) (e : X) → Settles of_file of_port (card_key store) first new → KeepsHolds first.gate new.gate → IsCallerOf store now → now.number ≡ was.number → now.made ≡ was.made → GoesOn store was now
       → ServesCall of_file of_port draws {X = X} store from to call (Err e)
-  none_serves are call X e settled caller number made goes_on = record {
+  none_serves are call X e settled held caller number made goes_on = record {
     answers = none_goes_on of_file of_port draws store first new new was now settled caller number made goes_on refl;
     slots = are;
     tagged = settled.tagged;
+    held = held;
     devices = alone_goes_on new settled refl;
   }
 
   pub unserved_serves : AreSlots slots → (call : Call) (X : Type 0) (e : X) → IsUnserved of_file of_port Reliable (draws was.entropy) (draws now.entropy) store old new was now
       → ServesCall of_file of_port draws {X = X} store from to call (Err e)
-  unserved_serves are call X e u = none_serves are call X e (unserved_settles u) u.caller u.number u.made u.goes_on
+  unserved_serves are call X e u =
+      none_serves are call X e (unserved_settles u)
+      (λ held. unserved_holds of_file of_port Reliable (draws was.entropy) (draws now.entropy) store old new was now u (room_holds first.gate old.gate ready held))
+      u.caller u.number u.made u.goes_on

@@ -13,6 +13,7 @@ use Rattle.device_counts.specs.Serving.{Serving, devices_in}
 use Rattle.device_counts.specs.Events.{events_at, landing_events}
 use Rattle.store_model.specs.declared.event.Event.TheVariants.{Call as CallEvent}
 use Rattle.store_model.specs.declared.event.Mark.{Mark}
+use Rattle.served_calls.specs.Held.{KeepsHolds}
 use Rattle.suppositions.specs.Sessions.{Extends}
 use Rattle.suppositions.specs.Stores.{Store}
 use Rattle.tee_types.specs.declared.call.Call.{Call}
@@ -53,4 +54,6 @@ module _ {F R E : Type 0} (of_file : F → FileState) (of_port : R → PortState
     pub answers : IsAnsweredOrNot store old new call result
     pub slots : AreSlots new.slots
     pub tagged : AreOfObjectFiles old.gate.journal.knows.all → AreOfObjectFiles new.gate.journal.knows.all
+    -- no session holds a file but for a commit in doubt, where none did before
+    pub held : KeepsHolds old.gate.gate new.gate.gate
     pub devices : DevicesGoOn (rpmb_key store.keys.huk) (devices_in of_file of_port draws old) (devices_in of_file of_port draws new)

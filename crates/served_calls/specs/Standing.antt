@@ -5,6 +5,7 @@ use Rattle.hmac_keys.specs.KeyTable.{rpmb_key}
 use Rattle.locked_gate.specs.declared.answered.Answer.{Answer}
 use Rattle.rpmb_card.specs.Port.{PortState}
 use Rattle.served_calls.specs.Appended.{AppendsCall, AppendsNone}
+use Rattle.served_calls.specs.Held.{KeepsHolds}
 use Rattle.device_counts.specs.Devices.{AccusesRightly, CostsDoubt, DevicesGoOn}
 use Rattle.device_counts.specs.Serving.{Serving, devices_in}
 use Rattle.device_counts.specs.Slots.{AreSlots}
@@ -23,8 +24,9 @@ module _ {F R E : Type 0} (of_file : F → FileState) (of_port : R → PortState
   AnswersOrNot store old new call (Ok answer) = Answers store old new call answer
   AnswersOrNot store old new call (Err none) = AppendsNone store old.gate new.gate old.session new.session
 
-  -- What a call on an object leaves: so much of it, whole slots, and devices that go on.
+  -- What a call on an object leaves: so much of it, whole slots, no file that is held but for a commit in doubt, and devices that go on.
   pub record ServesObject {X : Type 0} (store : Store) (old new : Serving F R E) (call : Call) (result : Result Answer X) : Type 0 where
     pub answers : AnswersOrNot store old new call result
     pub slots : AreSlots new.slots
+    pub held : KeepsHolds old.gate.gate new.gate.gate
     pub devices : DevicesGoOn (rpmb_key store.keys.huk) (devices_in of_file of_port draws old) (devices_in of_file of_port draws new)

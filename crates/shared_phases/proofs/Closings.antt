@@ -1,5 +1,5 @@
 -- What a store that was shared is, once it is closed.
-use Rattle.std.proofs.Common.{Err, IfOk, Ok, Result, ◌≤◌, ◌≡◌, ◌∙◌, ◌+◌, ◌<◌, ◌⊎◌, ℕ, List, [], ◌∷◌, ◌++◌, drop, length, slice_index_or, true, Option, refl, sym, ap, subst, inl, inr, arith}
+use Rattle.std.proofs.Common.{◌≤◌, ◌≡◌, ◌∙◌, ◌+◌, ◌<◌, ◌⊎◌, ℕ, List, [], ◌∷◌, ◌++◌, drop, length, slice_index_or, true, Option, refl, sym, ap, subst, inl, inr, arith}
 use Rattle.std.specs.List.{list_all}
 use Rattle.std.proofs.lemmas.Bool.{cases_lt, eqb-true}
 use Rattle.std.proofs.lemmas.List.Sums.{AllPass-from_list_all}
@@ -206,7 +206,3 @@ closes_where A B store before calls files card events narrower c = record {
   drawn = c.drawn;
   undrawn = λ b. c.undrawn (narrower b);
 }
-
-pub if_ok : {A X : Type 0} (result : Result A X) (P Q : A → Type 0) → ((a : A) → P a → Q a) → IfOk result P → IfOk result Q
-if_ok (Ok a) P Q each holds = each a holds
-if_ok (Err x) P Q each holds = tt

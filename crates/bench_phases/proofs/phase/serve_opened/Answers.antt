@@ -9,7 +9,7 @@ use Rattle.bench_phases.specs.Closing.{ClosesStore}
 use Rattle.bench_phases.specs.Phases.{ServesOpened}
 use Rattle.bench_phases.proofs.Closings.{closes_where}
 use Rattle.bench_phases.proofs.Ready.{ready-applications, ready-keyed, serves_opened}
-use Rattle.bench_phases.proofs.Results.{if_ok}
+use Rattle.std.proofs.lemmas.Result.{IfOk-weaker}
 use Rattle.bench_phases.proofs.phase.serve_opened.Goals as goal
 
 pub serve_once-requires-clause-keyed : goal.serve_once-requires-clause-keyed
@@ -34,7 +34,7 @@ returns-in-Ok-clause-serves g c =
     let armed : OpeningValue g.row.F.Denot g.row.R.Denot = c.make_ready.new.opening in
     let reliable = g.E.Entropy.is_reliable c.args.entropy.now in
     let sessions = AreReliable g.E.Entropy.is_reliable c.in-Ok.sessions.items in
-    if_ok c.serve_once.result
+    IfOk-weaker c.serve_once.result
     (λ x. ClosesStore sessions (store_in keys of_file of_port armed) (opening_state of_file of_port armed) c.args.mode c.args.calls.now (bench_state of_file of_port x.bench) x.history.events)
     (λ x. ServesOpened of_file of_port reliable keys c.args.applications.now c.args.arms.now c.args.mode c.args.calls.now c.args.opening (bench_state of_file of_port x.bench) x.history.events)
     (λ x closes. serves_opened of_file of_port c.args.applications.now c.args.arms.now c.args.opening armed c.in-Ok.ensures.ready reliable keys c.args.mode c.args.calls.now (bench_state of_file of_port x.bench)

@@ -10,7 +10,7 @@ use Rattle.phase_calls.specs.Steps.{AreCalls}
 use Rattle.object_calls.specs.Services.{ServiceValue}
 use Rattle.bench_acts.specs.Benches.{bench_state, opening_state}
 use Rattle.bench_phases.specs.Closing.{ClosesStore}
-use Rattle.bench_phases.proofs.Results.{if_ok}
+use Rattle.std.proofs.lemmas.Result.{IfOk-weaker}
 use Rattle.bench_phases.proofs.Closings.{begins_devices, closes_where}
 use Rattle.phase_calls.proofs.DrawnAlike.{fresh_alike, reliable_alike}
 use Rattle.bench_phases.proofs.serving.serve_calls.Goals as goal
@@ -61,7 +61,7 @@ returns-in-Ok-clause-closed g c = λ mode.
     let service : ServiceValue g.row.F.Denot g.row.R.Denot = c.in-Ok.service in
     let before = opening_state of_file of_port c.args.opening in
     let after : List (CallerSession g.row.E.Denot) = take sessions.len (new ++ drop (length new) sessions.items) in
-    if_ok c.make_and_close.result
+    IfOk-weaker c.make_and_close.result
     (λ x. ClosesStore (AreReliable is_reliable after) store before mode c.args.calls.now (bench_state of_file of_port x.bench) x.history.events)
     (λ x. ClosesStore (AreReliable is_reliable sessions.items) store before mode c.args.calls.now (bench_state of_file of_port x.bench) x.history.events)
     (λ x closes. closes_where (AreReliable is_reliable after) (AreReliable is_reliable sessions.items) store before mode c.args.calls.now (bench_state of_file of_port x.bench) x.history.events

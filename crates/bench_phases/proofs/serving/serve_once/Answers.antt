@@ -6,7 +6,7 @@ use Rattle.script_text.specs.declared.script.Mode.{Mode}
 use Rattle.script_text.specs.declared.script.Mode.TheVariants.{Threads}
 use Rattle.bench_acts.specs.Benches.{bench_state, opening_state}
 use Rattle.bench_phases.specs.Closing.{ClosesStore}
-use Rattle.bench_phases.proofs.Results.{if_ok}
+use Rattle.std.proofs.lemmas.Result.{IfOk-weaker}
 use Rattle.bench_phases.proofs.SharedClosings.{shared_closes}
 use Rattle.shared_phases.specs.Closing.{ClosesShared}
 use Rattle.shared_phases.specs.Sharing.{opening_devices}
@@ -28,7 +28,7 @@ returns-in-Threads-clause-closed g c =
     subst
     (λ (mode : Mode). IfOk c.serve_shared_once.result (λ x. ClosesStore reliable store (opening_state of_file of_port c.args.opening) mode calls (bench_state of_file of_port x.bench) x.history.events))
     (sym c.in-Threads.is)
-    (if_ok c.serve_shared_once.result
+    (IfOk-weaker c.serve_shared_once.result
     (λ x. ClosesShared reliable store (opening_devices of_file of_port c.args.opening) calls (files_of of_file x.bench.files.items) (of_port x.bench.card) x.history.events)
     (λ x. ClosesStore reliable store (opening_state of_file of_port c.args.opening) Threads calls (bench_state of_file of_port x.bench) x.history.events)
     (λ x closes. shared_closes of_file of_port reliable store c.args.opening calls (bench_state of_file of_port x.bench) x.history.events closes) c.serve_shared_once.ensures.closed)

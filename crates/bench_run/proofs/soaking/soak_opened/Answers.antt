@@ -1,20 +1,14 @@
-use Rattle.std.proofs.Common.{◌≡◌, ℕ, List, [], ◌⊎◌, length, drop, take, refl, sym, ap, ◌∙◌, subst, arith}
-use Rattle.std.specs.List.{prefix_len}
+use Rattle.std.proofs.Common.{◌≡◌, ◌⊎◌, length, refl, sym, ap, ◌∙◌, subst, arith}
 use Rattle.std.proofs.lemmas.List.{length-map}
 use Rattle.std.proofs.lemmas.Result.{IfErr-weaker, IfOk-weaker}
 use Rattle.phase_calls.specs.Steps.{AreCalls}
-use Rattle.script_text.specs.declared.script.Mode.TheVariants.{Threads}
-use Rattle.script_text.specs.declared.script.Step.{Step}
-use Rattle.script_text.specs.Script.{Declaration, ScriptValue, is_call}
+use Rattle.script_text.specs.Script.{Declaration, ScriptValue}
 use Rattle.store_commit.specs.declared.fault.MountFault.TheVariants.{NoMemory}
-use Rattle.soak_scripts.specs.Scripts.{soak_calls}
 use Rattle.bench_acts.specs.Benches.{bench_state}
 use Rattle.bench_acts.specs.ListedBenches.{IsListRefused}
-use Rattle.bench_phases.specs.Phases.{RunsPhase}
-use Rattle.bench_phases.proofs.Ready.{runs_where}
-use Rattle.bench_run.specs.Soaks.{GoesThrough, IsBroken, TellsObjects, soak_applications}
+use Rattle.bench_run.specs.Soaks.{GoesThrough, IsBroken, TellsObjects}
 use Rattle.bench_run.specs.Trace.{applications_of}
-use Rattle.bench_run.proofs.Soaks.{GoesThrough-acts, IsBroken-memory, IsBroken-phase, IsBroken-told, length-soak_applications, take-soak_calls}
+use Rattle.bench_run.proofs.Soaks.{GoesThrough-acts, IsBroken-memory, IsBroken-phase, IsBroken-told, RunsPhase-soak, length-soak_applications}
 use Rattle.bench_run.proofs.soaking.soak_opened.Goals as goal
 
 pub returns-in_default-clause-err : goal.returns-in_default-clause-err
@@ -33,49 +27,38 @@ pub returns-in-Ok-run_phase-clause-ok : goal.returns-in-Ok-run_phase-clause-ok
 returns-in-Ok-run_phase-clause-ok g c = λ first lasts.
     let state = g.F.StoreFile.state in
     let port = g.R.RpmbPort.state in
-    let number = c.args.number in
-    let keys = c.args.keys.now in
+    let image = g.F.FileRig.crash_image in
     let rel = g.E.Entropy.is_reliable first in
+    let keys = c.args.keys.now in
+    let number = c.args.number in
     let opened = c.in-Ok-run_phase.field-0 in
     let runs = c.in-Ok-run_phase.ensures.runs in
     let old = bench_state state port c.args.bench in
     let between = bench_state state port opened.bench in
-    let events = opened.history.events in
-    let calls = c.calls_from-calls.result.now in
-    let calls_are : calls ≡ soak_calls number = c.calls_from-calls.ensures.calls ∙ ap (λ (s : ScriptValue). take (prefix_len is_call (drop 1 s.steps)) (drop 1 s.steps)) c.in-Ok.ensures ∙ take-soak_calls number in
-    let apps_are : c.applications.result.now ≡ soak_applications number = c.applications.ensures ∙ ap applications_of c.in-Ok.ensures in
-    let Runs : List (List ℕ) → List Step → Type 0 = λ apps steps. RunsPhase state port rel keys apps [] Threads steps old between runs.0 events in
-    let ran : Runs (soak_applications number) (soak_calls number) =
-    subst (Runs (soak_applications number)) calls_are (subst (λ (a : List (List ℕ)). Runs a calls) apps_are
-    (runs_where state port (g.E.Entropy.is_reliable c.args.entropy.now) rel keys _ _ _ _ old between runs.0 events lasts runs.2)) in
-    IfOk-weaker c.tell_soak.result (λ s. TellsObjects state port keys number events between (bench_state state port s.bench) s.lines.items)
-    (λ s. GoesThrough state port g.F.FileRig.crash_image rel keys number old (bench_state state port s.bench) s.lines.items)
-    (λ s told. GoesThrough-acts state port g.F.FileRig.crash_image rel keys number old between (bench_state state port s.bench) runs.0 events s.lines.items ran told) c.tell_soak.ensures.ok
+    let ran = RunsPhase-soak state port image rel keys number _ c.in-Ok.script _ _ old between runs.0 opened.history.events c.in-Ok.ensures c.applications.ensures c.calls_from-calls.ensures.calls lasts runs.2 in
+    IfOk-weaker c.tell_soak.result (λ s. TellsObjects state port keys number opened.history.events between (bench_state state port s.bench) s.lines.items)
+    (λ s. GoesThrough state port image rel keys number old (bench_state state port s.bench) s.lines.items)
+    (λ s told. GoesThrough-acts state port image rel keys number old between (bench_state state port s.bench) runs.0 opened.history.events s.lines.items ran told) c.tell_soak.ensures.ok
 
 pub returns-in-Ok-run_phase-clause-err : goal.returns-in-Ok-run_phase-clause-err
 returns-in-Ok-run_phase-clause-err g c = λ first lasts.
     let state = g.F.StoreFile.state in
     let port = g.R.RpmbPort.state in
-    let number = c.args.number in
-    let keys = c.args.keys.now in
+    let image = g.F.FileRig.crash_image in
     let rel = g.E.Entropy.is_reliable first in
+    let keys = c.args.keys.now in
+    let number = c.args.number in
     let opened = c.in-Ok-run_phase.field-0 in
     let runs = c.in-Ok-run_phase.ensures.runs in
     let old = bench_state state port c.args.bench in
     let between = bench_state state port opened.bench in
-    let events = opened.history.events in
-    let calls = c.calls_from-calls.result.now in
-    let calls_are : calls ≡ soak_calls number = c.calls_from-calls.ensures.calls ∙ ap (λ (s : ScriptValue). take (prefix_len is_call (drop 1 s.steps)) (drop 1 s.steps)) c.in-Ok.ensures ∙ take-soak_calls number in
-    let apps_are : c.applications.result.now ≡ soak_applications number = c.applications.ensures ∙ ap applications_of c.in-Ok.ensures in
-    let Runs : List (List ℕ) → List Step → Type 0 = λ apps steps. RunsPhase state port rel keys apps [] Threads steps old between runs.0 events in
-    let ran : Runs (soak_applications number) (soak_calls number) =
-    subst (Runs (soak_applications number)) calls_are (subst (λ (a : List (List ℕ)). Runs a calls) apps_are
-    (runs_where state port (g.E.Entropy.is_reliable c.args.entropy.now) rel keys _ _ _ _ old between runs.0 events lasts runs.2)) in
+    let ran = RunsPhase-soak state port image rel keys number _ c.in-Ok.script _ _ old between runs.0 opened.history.events c.in-Ok.ensures c.applications.ensures c.calls_from-calls.ensures.calls lasts runs.2 in
     let mid = g.E.Entropy.faults c.run_phase.new.entropy in
+    let drew = g.E.Entropy.faults c.args.entropy.now in
     let draws = g.E.Entropy.faults c.tell_soak.new.entropy in
     IfErr-weaker c.tell_soak.result (λ h. (h.fault ≡ NoMemory) ⊎ IsListRefused state port keys between (bench_state state port h.bench) mid draws h.fault)
-    (λ h. IsBroken state port g.F.FileRig.crash_image rel keys number (g.E.Entropy.faults c.args.entropy.now) draws old (bench_state state port h.bench) h.fault)
-    (λ h why. IsBroken-told state port g.F.FileRig.crash_image rel keys number (g.E.Entropy.faults c.args.entropy.now) draws old between (bench_state state port h.bench) runs.0 events h.fault ran mid c.in-Ok-run_phase.ensures.undrawn why)
+    (λ h. IsBroken state port image rel keys number drew draws old (bench_state state port h.bench) h.fault)
+    (λ h why. IsBroken-told state port image rel keys number drew draws old between (bench_state state port h.bench) runs.0 opened.history.events h.fault ran mid c.in-Ok-run_phase.ensures.undrawn why)
     c.tell_soak.ensures.err
 
 pub returns-clause-err : goal.returns-clause-err

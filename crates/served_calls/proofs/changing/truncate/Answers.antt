@@ -19,7 +19,7 @@ returns-clause-serves g c =
     let done = c.truncate-2 in
     changed_serves g.F.StoreFile.state g.R.RpmbPort.state g.E.Entropy.faults g.L.StoreName.store c.args.gate.now done.new.gate c.args.slots.now.items c.place_of-place.result
     c.index_mut-slot.result.now done.new.slot c.args.session.now done.new.session c.requires.ready.slots_are c.place_of-place.ensures.within c.index_mut-slot.ensures.value
-    done.ensures.number (Truncate c.args.handle c.args.size) _ _ _ _ done.result done.ensures.changed c.requires.ready.calm.caller done.ensures.goes_on c.requires.ready.known
+    done.ensures.number (Truncate c.args.handle c.args.size) _ _ _ _ done.result done.ensures.changed c.requires.ready.calm.caller done.ensures.goes_on c.requires.ready.known c.requires.ready.idle
 
 pub returns-clause-still : goal.returns-clause-still
 returns-clause-still g c =

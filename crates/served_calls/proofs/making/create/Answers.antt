@@ -26,7 +26,7 @@ returns-clause-serves g c =
     let within : place < length slots = omega (arith, at, c.reserve-file.ensures.reserved.numbered.1, c.requires.ready.slots_are.many) in
     created_serves g.F.StoreFile.state g.R.RpmbPort.state g.E.Entropy.faults g.L.StoreName.store c.args.gate.now c.reserve-file.new.gate done.new.gate slots place
     c.index_mut-slot.result.now done.new.slot c.args.session.now done.new.session c.requires.ready.slots_are within c.index_mut-slot.ensures.value done.ensures.number
-    file at c.reserve-file.ensures.same done.ensures.goes_on c.requires.ready.calm.caller c.requires.ready.known
+    c.requires.ready.idle file at c.reserve-file.ensures.reserved.held c.reserve-file.ensures.same done.ensures.goes_on c.requires.ready.calm.caller c.requires.ready.known
     (record { id = c.args.id; flags = c.args.flags; attributes = c.args.attributes.now; bytes = c.args.bytes.now }) c.in-Needs.place _ _ done.result done.ensures.creates
 
 pub returns-clause-still : goal.returns-clause-still

@@ -11,7 +11,7 @@ returns-clause-serves g c =
     let done = c.delete-2 in
     committed_serves g.F.StoreFile.state g.R.RpmbPort.state g.E.Entropy.faults g.L.StoreName.store c.args.gate.now done.new.gate c.args.slots.now.items c.place_of-place.result
     c.index_mut-slot.result.now done.new.slot c.args.session.now done.new.session c.requires.ready.slots_are c.place_of-place.ensures.within c.index_mut-slot.ensures.value
-    done.ensures.number (Delete c.args.handle) Done _ _ done.result _ done.ensures.committed tt c.requires.ready.known
+    done.ensures.number (Delete c.args.handle) Done _ _ done.result _ done.ensures.committed tt c.requires.ready.known c.requires.ready.idle
     (same_file_goes_on c.index_mut-slot.result.now.file done.new.slot.file done.ensures.file)
 
 pub returns-clause-still : goal.returns-clause-still

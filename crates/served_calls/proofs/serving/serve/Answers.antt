@@ -9,6 +9,8 @@ use Rattle.locked_gate.specs.Commits.{IsCalm}
 use Rattle.rpmb_host.specs.Honest.{HasCard}
 use Rattle.store_commit.specs.Gates.{DoubtStands, GateValue, gate_sides}
 use Rattle.device_counts.proofs.Cards.{settled_counts}
+use Rattle.served_calls.specs.Held.{KeepsHolds}
+use Rattle.served_calls.proofs.HeldSettling.{room_holds, settled_holds}
 use Rattle.served_calls.proofs.Settling.{Settles, reserved_settles, settled_settles, settles_reserved}
 use Rattle.served_calls.proofs.WholeCalls.{alone_serves, none_serves, object_serves, unserved_serves}
 use Rattle.served_calls.proofs.serving.serve.Goals as goal
@@ -47,10 +49,13 @@ returns-in_err-reserve-2-clause-serves g c =
     settles_reserved of_file of_port key c.args.gate.now alone.new.gate c.reserve-2.new.self c.reserve-2.ensures.gate c.reserve-2.ensures.knows
     (reserved_settles of_file of_port key c.args.gate.now c.reserve.new.self alone.new.gate c.reserve.ensures.gate c.reserve.ensures.knows
     (settled_settles of_file of_port key c.reserve.new.self alone.new.gate left.settled)) in
+    let held : KeepsHolds c.args.gate.now.gate c.reserve-2.new.self.gate = λ held.
+    room_holds alone.new.gate.gate c.reserve-2.new.self.gate c.reserve-2.ensures.gate
+    (settled_holds of_file of_port c.reserve.new.self alone.new.gate left.settled (room_holds c.args.gate.now.gate c.reserve.new.self.gate c.reserve.ensures.gate held)) in
     let p = err_from_is_err_and c.from_residual-in_err-reserve-2.result c.from_residual-in_err-reserve-2.ensures.1 in
     rw (p.1)
     (none_serves of_file of_port g.E.Entropy.faults store c.args.gate.now c.reserve.new.self c.reserve-2.new.self c.args.slots.now.items c.args.session.now alone.new.session
-    c.reserve.ensures.gate c.reserve.ensures.knows (Unit {0}) alone.ensures.counted c.doubt-doubt.ensures.locked.card_key c.doubt-doubt.ensures.stands c.requires.slots c.args.call.now _ p.0 settled left.calm.caller left.number left.made
+    c.reserve.ensures.gate c.reserve.ensures.knows (Unit {0}) alone.ensures.counted c.doubt-doubt.ensures.locked.card_key c.doubt-doubt.ensures.stands c.requires.slots c.args.call.now _ p.0 settled held left.calm.caller left.number left.made
     left.goes_on)
 
 pub serve_object-requires-clause-ready : goal.serve_object-requires-clause-ready
@@ -105,6 +110,9 @@ returns-clause-serves g c =
     settles_reserved of_file of_port key c.args.gate.now alone.new.gate c.reserve-2.new.self c.reserve-2.ensures.gate c.reserve-2.ensures.knows
     (reserved_settles of_file of_port key c.args.gate.now c.reserve.new.self alone.new.gate c.reserve.ensures.gate c.reserve.ensures.knows
     (settled_settles of_file of_port key c.reserve.new.self alone.new.gate left.settled)) in
+    let held : KeepsHolds c.args.gate.now.gate c.reserve-2.new.self.gate = λ held.
+    room_holds alone.new.gate.gate c.reserve-2.new.self.gate c.reserve-2.ensures.gate
+    (settled_holds of_file of_port c.reserve.new.self alone.new.gate left.settled (room_holds c.args.gate.now.gate c.reserve.new.self.gate c.reserve.ensures.gate held)) in
     let done = c.serve_object in
     object_serves of_file of_port g.E.Entropy.faults store c.args.gate.now c.reserve-2.new.self done.new.gate c.args.slots.now.items done.new.slots.items c.args.session.now alone.new.session
-    done.new.session settled alone.ensures.counted left.number left.made left.goes_on c.args.call.now _ done.result done.ensures.serves
+    done.new.session settled held alone.ensures.counted left.number left.made left.goes_on c.args.call.now _ done.result done.ensures.serves

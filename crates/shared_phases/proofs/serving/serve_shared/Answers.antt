@@ -12,7 +12,8 @@ use Rattle.phase_calls.specs.Reliable.{AreFresh, AreReliable}
 use Rattle.phase_calls.specs.Steps.{AreCalls}
 use Rattle.phase_calls.proofs.DrawnAlike.{fresh_alike, reliable_alike}
 use Rattle.shared_phases.specs.Closing.{ClosesShared}
-use Rattle.shared_phases.proofs.Closings.{closes_where, if_ok}
+use Rattle.std.proofs.lemmas.Result.{IfOk-weaker}
+use Rattle.shared_phases.proofs.Closings.{closes_where}
 use Rattle.shared_phases.proofs.serving.serve_shared.Goals as goal
 
 pub share_and_close-requires-clause-gate : goal.share_and_close-requires-clause-gate
@@ -78,7 +79,7 @@ returns-in-Ok-serve-clause-closed g c =
     let many : length new ≡ sessions.len = c.serve.auto.sessions ∙ c.deref_mut.ensures.len in
     let same : c.deref_mut.result.now ≡ sessions.items = c.deref_mut.ensures.value in
     let after : List (CallerSession g.row.E.Denot) = take sessions.len (new ++ drop (length new) sessions.items) in
-    if_ok c.share_and_close.result
+    IfOk-weaker c.share_and_close.result
     (λ x. ClosesShared (AreReliable is_reliable after) store before calls (files_of of_file x.bench.files.items) (of_port x.bench.card) x.history.events)
     (λ x. ClosesShared (AreReliable is_reliable sessions.items) store before calls (files_of of_file x.bench.files.items) (of_port x.bench.card) x.history.events)
     (λ x closes. closes_where (AreReliable is_reliable after) (AreReliable is_reliable sessions.items) store before calls (files_of of_file x.bench.files.items) (of_port x.bench.card) x.history.events

@@ -27,9 +27,9 @@ returns-clause-answers g c =
       | in-Ok w ↦
           let done = w.in-Ok.ensures.serves in
           subst (λ (p : Option ℕ × Reply). AnswersCall of_file of_port faults store was now c.args.session.now c.serve.new.session c.args.call.now p.0 p.1)
-          (λ j. ((sym w.result-is j).place, (sym w.result-is j).reply)) (record { at = done.answers; devices = done.devices; storage_key = refl })
+          (λ j. ((sym w.result-is j).place, (sym w.result-is j).reply)) (record { at = done.answers; devices = done.devices; held = done.held; storage_key = refl })
       | in-Err w ↦
           let done = w.in-Err.ensures.serves in
           subst (λ (p : Option ℕ × Reply). AnswersCall of_file of_port faults store was now c.args.session.now c.serve.new.session c.args.call.now p.0 p.1)
-          (λ j. ((sym w.result-is j).place, (sym w.result-is j).reply)) (record { at = (refl, done.answers); devices = done.devices; storage_key = refl })
+          (λ j. ((sym w.result-is j).place, (sym w.result-is j).reply)) (record { at = (refl, done.answers); devices = done.devices; held = done.held; storage_key = refl })
     ])
