@@ -4,17 +4,21 @@
 use anyhow::{Context, bail};
 use object_calls::{Shown, ShownObject};
 use object_lines::print_object;
-use script_text::{Script, Step};
+use run_text::{print_control, print_event};
+use script_text::{Control, Script, Step};
 use std::alloc::{AllocError, Global};
 use std::marker::Model;
-use store_model::State;
-use tee_types::{AppId, Bytes, Call, Flags, ObjectId, READ, Reply};
+use store_model::{Event, Mark, State};
+use tee_types::{AppId, Call, Flags, ObjectId, READ, Reply};
 use tree_paths::NodeSet;
 
 /// A store has no more objects.
 const MOST_OBJECTS: u32 = 256;
 
-/// More bytes than an object of a soak has.
+/// More handles than a session of a trial opens.
+const MOST_HANDLES: u32 = 128;
+
+/// More bytes than an object of a trial has.
 const MOST_BYTES: u32 = 1 << 20;
 
 /// The machine, with a session for each application of a script.
@@ -69,6 +73,52 @@ impl Machine {
             }
         }
         Ok(machine)
+    }
+
+    // Makes a call, and prints its event as a run does.
+    fn print_call(
+        &mut self,
+        alloc: Global,
+        names: &Script,
+        place: u64,
+        session: u32,
+        call: &Call,
+        out: &mut Vec<u8>,
+    ) -> anyhow::Result<()> {
+        let reply = self.ask(alloc, session, call)?;
+        let event = Event::Call {
+            session,
+            number: place,
+            call: call.copy(alloc)?,
+            reply,
+            mark: Mark::Unchanged,
+        };
+        print_event(place, names, &event, out)?;
+        Ok(())
+    }
+
+    /// Makes the calls of a script. Gives their history and the objects that are left, as a run prints them.
+    pub fn print(alloc: Global, script: &Script) -> anyhow::Result<Vec<u8>> {
+        let mut machine = Machine::new(alloc, script.applications())?;
+        let mut out = Vec::new(alloc);
+        let mut place = 0u64;
+        for step in script.all_steps() {
+            if let Step::Call { app, call } = step {
+                machine.print_call(alloc, script, place, *app, call, &mut out)?;
+                place = place.saturating_add(1);
+            }
+        }
+        print_control(&Control::List, &mut out)?;
+        out.extend_from_slice(&machine.lines(alloc, script.applications())?)?;
+        Ok(out)
+    }
+
+    // Closes what a session has open.
+    fn close_all(&mut self, alloc: Global, session: u32) -> anyhow::Result<()> {
+        for handle in 0..MOST_HANDLES {
+            let _ = self.ask(alloc, session, &Call::Close { handle })?;
+        }
+        Ok(())
     }
 
     // An object of that session's application.
@@ -130,10 +180,17 @@ impl Machine {
         Ok(())
     }
 
-    /// The lines of the objects, in the order of the applications.
+    /// The lines of the objects, in the order of the applications. All handles are closed.
     pub fn lines(&mut self, alloc: Global, apps: &[AppId]) -> anyhow::Result<Vec<u8>> {
         let mut lines = Vec::new(alloc);
+        for session in 0..u32::try_from(apps.len()).context("too many applications")? {
+            self.close_all(alloc, session)?;
+        }
         for (session, app) in apps.iter().enumerate() {
+            // Sessions of one application have the same objects.
+            if apps.iter().take(session).any(|other| other == app) {
+                continue;
+            }
             let session = u32::try_from(session).context("too many applications")?;
             self.push_lines(alloc, session, *app, &mut lines)?;
         }

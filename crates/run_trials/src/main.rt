@@ -18,7 +18,8 @@
 //! they are drawn anew and are no constants.
 //!
 //! Then come scripts of four sessions on threads, two of each application, which call the same few objects. The calls of each
-//! history are run once more as a serial script, in the history's order: the replies and the objects must be the same.
+//! history are run once more as a serial script, in the history's order, and on the machine of the model: the replies and the objects must
+//! be the same.
 //!
 //! The next line is of two applications on threads whose files wait for each other: a call of each has to be under way at once.
 //!

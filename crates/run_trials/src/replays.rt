@@ -2,8 +2,10 @@
 
 use crate::devices::new_bench;
 use crate::histories::{call_in, push_done_calls};
+use crate::machine::Machine;
 use crate::runs::{reliable, run_script};
-use anyhow::Context;
+use anyhow::{Context, bail};
+use script_text::{Script, parse};
 use seed_words::SeedEntropy;
 use std::alloc::{AllocError, Global};
 use std::sync::Wait;
@@ -15,6 +17,9 @@ const SCRIPTS: u8 = 200;
 
 /// How many calls each of them has.
 const CALLS_OF_SCRIPT: u64 = 60;
+
+/// More bytes than a script here has.
+const MOST_BYTES: usize = 1 << 20;
 
 /// Two sessions of each of two applications.
 const SESSIONS: &str =
@@ -95,11 +100,22 @@ fn calls_in(history: &str) -> u64 {
 #[derive(Drop)]
 struct Replays {
     calls: u64,
+    /// How many histories are not those of their calls on a store.
     differ: u64,
+    /// How many are not those of their calls on the machine.
+    apart: u64,
 }
 
-// Runs a script on threads, and the calls of its history once more, one after another in its order: they must have the same replies, and
-// leave the same objects.
+// The script that a text is.
+fn script_in(alloc: Global, text: &str) -> anyhow::Result<Script> {
+    if text.len() > MOST_BYTES {
+        bail!("too long a script");
+    }
+    parse(alloc, text.as_bytes()).ok().context("no script")
+}
+
+// Runs a script on threads, and the calls of its history once more, one after another in its order, on a store and on the machine of the
+// model: they must have the same replies, and leave the same objects.
 fn replay<W: Threads + Wait + Sync>(
     rt: &W,
     alloc: Global,
@@ -115,21 +131,26 @@ fn replay<W: Threads + Wait + Sync>(
     if history_in(again.as_str())? != history {
         replays.differ = replays.differ.saturating_add(1);
     }
+    let script = script_in(alloc, replay.as_str())?;
+    if Machine::print(alloc, &script)?.as_slice() != history.as_bytes() {
+        replays.apart = replays.apart.saturating_add(1);
+    }
     Ok(())
 }
 
 /// The line that says how many scripts were run on threads, how many calls their histories have, and how many of these are not those of their
-/// calls one after another.
+/// calls one after another, on a store and on the machine of the model.
 pub fn replay_line<W: Threads + Wait + Sync>(rt: &W, alloc: Global) -> anyhow::Result<String> {
     let mut replays = Replays {
         calls: 0,
         differ: 0,
+        apart: 0,
     };
     for number in 0..SCRIPTS {
         replay(rt, alloc, number, &mut replays)?;
     }
     Ok(format!(in alloc;
-        "{SCRIPTS} scripts on threads, {} calls, {} differ from their replay",
-        replays.calls, replays.differ
+        "{SCRIPTS} scripts on threads, {} calls, {} differ from their replay, {} from the machine's",
+        replays.calls, replays.differ, replays.apart
     )?)
 }
