@@ -20,10 +20,7 @@ pub(crate) enum Form {
 fn soak_of(word: &String) -> Option<Form>
     ensures { result ≡ option_map Form.Soak (soak_number_of (string_bytes word.now)) }
 {
-    match soak_number(word.as_str()) {
-        Some(number) => Some(Form::Soak(number)),
-        None => None,
-    }
+    soak_number(word.as_str()).map(Form::Soak)
 }
 
 /// The form that the words have, if they have one.

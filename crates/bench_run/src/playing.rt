@@ -10,11 +10,11 @@ use crate::acts::do_control;
 use crate::phase::do_phase;
 use crate::refusing::tell_refusal;
 use crate::standing::{Run, RunEnd};
+use crate::telling::tell_lines;
 use bench_acts::open_bench;
 use hmac_keys::Keys;
 use object_calls::{Bench, Halted};
 use rpmb_card::CardRig;
-use run_streams::{Status, flush};
 use script_text::{Mode, Script, Step};
 use std::alloc::Global;
 use std::sync::Wait;
@@ -64,15 +64,9 @@ fn finish<K: Sink, F: FileRig + Drop, R: CardRig + Drop, E: Entropy>(
     requires all { length script.now.steps ≤ run.at }
     ensures { (drew draws : ℕ) (first : E) → EndsAt F.state R.state F.crash_image (E.is_reliable first) drew draws keys.now script.now (Rose (K.faults sink.old) (K.faults sink.new) ⊎ K.is_full sink.new) (K.held sink.old) (K.held sink.new) run result }
 {
-    let mut run = run;
-    let status = match flush(sink, &mut run.kept, 0) {
-        Ok(()) => Status::Done,
-        Err(status) => status,
-    };
-    RunEnd {
-        status,
-        bench: run.bench,
-    }
+    let Run { bench, kept, .. } = run;
+    let status = tell_lines(kept, sink);
+    RunEnd { status, bench }
 }
 
 /// Does the acts of a script on a bench that was opened.
