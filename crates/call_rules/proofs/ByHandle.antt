@@ -10,7 +10,7 @@ use Rattle.store_model.specs.Calls.{is_done}
 use Rattle.store_model.specs.Files.{is_misuse}
 use Rattle.dir_records.specs.declared.entry.DirEntry.{DirEntry}
 use Rattle.open_table.specs.Table.{TableState}
-use Rattle.store_commit.specs.NameIndex.{IsEntryNamed}
+use Rattle.dir_index.specs.EntryNames.{IsEntryNamed}
 use Rattle.call_rules.specs.Matches.{Matches}
 use Rattle.call_rules.specs.Objects.{RefusesRight}
 

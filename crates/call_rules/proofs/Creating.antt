@@ -14,14 +14,14 @@ use Rattle.store_model.specs.Handles.{has_open, create_refusals, lacks_room}
 use Rattle.dir_index.specs.Index.{named}
 use Rattle.dir_records.specs.declared.entry.DirEntry.{DirEntry}
 use Rattle.open_table.specs.Table.{TableState}
-use Rattle.store_commit.specs.declared.look.Held.{Held}
+use Rattle.dir_index.specs.declared.Held.{Held}
 use Rattle.call_rules.specs.declared.decision.NewPlace.{NewPlace}
-use Rattle.crash_core.specs.DirectoryLaws.{AreEntries}
-use Rattle.store_commit.specs.NameIndex.{IsEntryNamed}
+use Rattle.core_laws.specs.DirectoryLaws.{AreEntries}
+use Rattle.dir_index.specs.EntryNames.{IsEntryNamed}
 use Rattle.call_rules.specs.Matches.{Matches}
 use Rattle.call_rules.specs.Rows.{IsPlaceAfter, create_rows, is_busy}
 use Rattle.call_rules.proofs.Lookups.{held_is}
-use Rattle.call_rules.proofs.Sharing.{busy_is}
+use Rattle.call_rules.proofs.OpenSharing.{busy_is}
 use Rattle.call_rules.proofs.Room.{lacks_is}
 use Rattle.call_rules.proofs.Refusals.{rows_before, rows_after}
 

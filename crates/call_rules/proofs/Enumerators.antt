@@ -14,8 +14,8 @@ use Rattle.store_model.specs.Object.{ObjectMap}
 use Rattle.store_model.specs.Machine.{Session, MachineState, Outcome, session_at, with_session, unless_refused}
 use Rattle.store_model.specs.Enumerating.{is_of, shown, next_object, by_cursor, enum_new_of, enum_start_of, enum_gives, enum_next_of, enum_reset_of, enum_free_of}
 use Rattle.dir_records.specs.declared.entry.DirEntry.{DirEntry}
-use Rattle.machine_shape.specs.Shapes.{HasShape}
-use Rattle.machine_shape.proofs.LookedUp.{next_objects}
+use Rattle.call_rules.specs.Shapes.{HasShape}
+use Rattle.call_rules.proofs.LookedUp.{next_objects}
 use Rattle.call_rules.specs.Nexts.{IsNextBy}
 use Rattle.call_rules.specs.Told.{IsTold, told}
 use Rattle.call_rules.proofs.Refusals.{refused_told}

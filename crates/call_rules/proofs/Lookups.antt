@@ -3,10 +3,10 @@ use Rattle.std.proofs.Common.{◌≡◌, ◌∙◌, List, Option, Some, is_some,
 use Rattle.store_model.specs.declared.name.ObjectName.{ObjectName}
 use Rattle.store_model.specs.Object.{ObjectMap, object_at, holds}
 use Rattle.dir_records.specs.declared.entry.DirEntry.{DirEntry}
-use Rattle.store_commit.specs.declared.look.Held.{Held}
-use Rattle.store_commit.specs.NameIndex.{IsEntryNamed}
-use Rattle.machine_shape.specs.Shapes.{HasShape}
-use Rattle.machine_shape.proofs.LookedUp.{named_objects}
+use Rattle.dir_index.specs.declared.Held.{Held}
+use Rattle.dir_index.specs.EntryNames.{IsEntryNamed}
+use Rattle.call_rules.specs.Shapes.{HasShape}
+use Rattle.call_rules.proofs.LookedUp.{named_objects}
 use Rattle.call_rules.specs.Objects.{HasObject}
 
 module _ (entries : List (Option DirEntry)) (objects : ObjectMap) (shape : HasShape entries objects) (name : ObjectName) where

@@ -13,9 +13,9 @@ use Rattle.store_model.specs.Handles.{allows_open, open_refusals, open_of, open_
 use Rattle.dir_index.specs.Index.{named}
 use Rattle.dir_records.specs.declared.entry.DirEntry.{DirEntry}
 use Rattle.open_table.specs.Table.{TableState, allows_on_file}
-use Rattle.crash_core.specs.DirectoryLaws.{AreEntries}
-use Rattle.store_commit.specs.declared.look.Held.{Held}
-use Rattle.store_commit.specs.NameIndex.{IsEntryNamed}
+use Rattle.core_laws.specs.DirectoryLaws.{AreEntries}
+use Rattle.dir_index.specs.declared.Held.{Held}
+use Rattle.dir_index.specs.EntryNames.{IsEntryNamed}
 use Rattle.call_rules.specs.Matches.{Matches}
 use Rattle.call_rules.specs.Objects.{IsOpened, open_sound}
 use Rattle.store_model.specs.Calls.{outcome_of}
@@ -23,7 +23,7 @@ use Rattle.call_rules.proofs.Proper.{proper_unless}
 use Rattle.call_rules.specs.Rows.{open_rows}
 use Rattle.call_rules.specs.Told.{IsTold}
 use Rattle.call_rules.proofs.Lookups.{entry_object, held_is}
-use Rattle.call_rules.proofs.Sharing.{allowed_is}
+use Rattle.call_rules.proofs.OpenSharing.{allowed_is}
 use Rattle.call_rules.proofs.Refusals.{rows_before, rows_after, open_told, misuse_no_file}
 use Rattle.store_model.specs.Files.{is_misuse}
 

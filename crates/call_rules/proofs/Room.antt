@@ -6,11 +6,11 @@ use Rattle.store_model.specs.declared.name.ObjectName.{ObjectName}
 use Rattle.store_model.specs.Object.{ObjectMap}
 use Rattle.store_model.specs.Handles.{lacks_room}
 use Rattle.dir_records.specs.declared.entry.DirEntry.{DirEntry}
-use Rattle.crash_core.specs.DirectoryLaws.{AreEntries}
-use Rattle.store_commit.specs.declared.look.Held.{Held}
-use Rattle.store_commit.specs.NameIndex.{IsEntryNamed, IsFirstFree}
-use Rattle.machine_shape.specs.Shapes.{HasShape}
-use Rattle.machine_shape.proofs.LookedUp.{free_places}
+use Rattle.core_laws.specs.DirectoryLaws.{AreEntries}
+use Rattle.dir_index.specs.declared.Held.{Held}
+use Rattle.dir_index.specs.EntryNames.{IsEntryNamed, IsFirstFree}
+use Rattle.call_rules.specs.Shapes.{HasShape}
+use Rattle.call_rules.proofs.LookedUp.{free_places}
 use Rattle.call_rules.specs.declared.decision.NewPlace.{NewPlace}
 use Rattle.call_rules.specs.declared.decision.NewPlace.TheVariants.{Replaces, Adds}
 use Rattle.call_rules.specs.Rows.{IsPlaceAfter}

@@ -1,36 +1,27 @@
--- Sharing by files and sharing by names.
-use Rattle.std.proofs.Common.{◌≡◌, ◌∙◌, ◌&&◌, ℕ, Bool, List, Option, Some, None, sym, ap}
-use Rattle.std.specs.List.{list_all, list_any}
+-- Compatible rights: in either order, and never with a handle that may rename.
+use Rattle.std.proofs.Common.{◌≡◌, Bool, true, false, not, ◌&&◌, ◌||◌, refl, ap}
 use Rattle.tee_types.specs.declared.flags.Flags.{Flags}
-use Rattle.store_model.specs.declared.name.ObjectName.{ObjectName}
-use Rattle.store_model.specs.Object.{holds}
-use Rattle.store_model.specs.Machine.{Session, MachineState}
-use Rattle.store_model.specs.Handles.{has_open, allows_open}
-use Rattle.dir_records.specs.declared.entry.DirEntry.{DirEntry}
-use Rattle.open_table.specs.Table.{TableState, allows_on_file}
-use Rattle.crash_core.specs.DirectoryLaws.{AreEntries}
-use Rattle.machine_shape.specs.SharingLaws.{FilesAllowAsNames, FilesAreOpenAsNames}
-use Rattle.machine_shape.proofs.SharedFiles.{allows-same, open-same}
-use Rattle.store_commit.specs.declared.look.Held.{Held}
-use Rattle.store_commit.specs.NameIndex.{IsEntryNamed}
-use Rattle.call_rules.specs.Matches.{Matches}
-use Rattle.call_rules.specs.Rows.{is_busy}
-use Rattle.call_rules.proofs.Lookups.{held_is}
+use Rattle.tee_types.specs.Rights.{has, are_compatible, read_bit, write_bit, write_meta_bit, share_read_bit, share_write_bit}
 
-module _ (entries : List (Option DirEntry)) (table : TableState) (caller : Session) (s : MachineState) (i : ℕ)
-    (are : AreEntries entries) (m : Matches entries table caller s i) (name : ObjectName) where
-  pub allowed_is : (held : Held) (flags : Flags) → IsEntryNamed entries name (Some held)
-      → list_all (allows_open name flags) s.sessions ≡ allows_on_file table (held.entry).file flags
-  allowed_is held flags is = let law : FilesAllowAsNames = allows-same in
-      ap (λ (n : ObjectName). list_all (allows_open n flags) s.sessions) (sym is.1) ∙ sym (law entries table s.sessions m.handles are.single are.distinct held.index held.entry is.0 flags)
+or-turned : (a b : Bool) → (a || b) ≡ (b || a)
+or-turned true true = refl
+or-turned true false = refl
+or-turned false true = refl
+or-turned false false = refl
 
-  open_is : (held : Held) → IsEntryNamed entries name (Some held) → list_any (has_open name) s.sessions ≡ is_busy table (Some held)
-  open_is held is = let law : FilesAreOpenAsNames = open-same in
-      ap (λ (n : ObjectName). list_any (has_open n) s.sessions) (sym is.1)
-      ∙ sym (law entries table s.sessions m.handles are.single are.distinct held.index held.entry is.0)
+and-turned : (a b : Bool) → (a && b) ≡ (b && a)
+and-turned true true = refl
+and-turned true false = refl
+and-turned false true = refl
+and-turned false false = refl
 
-  -- a handle is open on the object of that name
-  pub busy_is : (found : Option Held) → IsEntryNamed entries name found → (holds s.objects name && list_any (has_open name) s.sessions) ≡ is_busy table found
-  busy_is (Some held) is =
-      ap (λ (b : Bool). b && list_any (has_open name) s.sessions) (held_is entries s.objects m.shaped name (Some held) is) ∙ open_is held is
-  busy_is None none = ap (λ (b : Bool). b && list_any (has_open name) s.sessions) (held_is entries s.objects m.shaped name None none)
+pub are_compatible-turned : (a b : Flags) → are_compatible a b ≡ are_compatible b a
+are_compatible-turned a b = λ i.
+    not (or-turned (has a write_meta_bit) (has b write_meta_bit) i)
+    && (not (or-turned (has a read_bit) (has b read_bit) i) || and-turned (has a share_read_bit) (has b share_read_bit) i)
+    && (not (or-turned (has a write_bit) (has b write_bit) i) || and-turned (has a share_write_bit) (has b share_write_bit) i)
+
+pub are_compatible-alone : (a b : Flags) → has a write_meta_bit ≡ true → are_compatible a b ≡ false
+are_compatible-alone a b alone = ap
+    (λ (m : Bool). not (m || has b write_meta_bit) && (not (has a read_bit || has b read_bit) || (has a share_read_bit && has b share_read_bit))
+    && (not (has a write_bit || has b write_bit) || (has a share_write_bit && has b share_write_bit))) alone

@@ -6,3 +6,17 @@ pub mod Places
 pub mod Objects
 pub mod Rows
 pub mod Nexts
+pub mod Shapes
+pub mod MappedLaws
+pub mod ShapeLaws
+pub mod Numbers
+pub mod LookLaws
+pub mod ChangeLaws
+pub mod OpenHandles
+pub mod WellOpened
+pub mod HandleLaws
+pub mod SharingLaws
+pub mod OpenLaws
+pub mod EventLaws
+pub use Rattle.dir_index.specs.EntryNames
+pub use Rattle.dir_index.specs.Index

@@ -3,7 +3,7 @@ use Rattle.std.specs.Prelude.{◌≡◌, ℕ, List, Option, Some, None}
 use Rattle.enumerators.specs.declared.cursor.Cursor.{Cursor}
 use Rattle.enumerators.specs.declared.cursor.Cursor.TheVariants.{Idle, First, After}
 use Rattle.dir_records.specs.declared.entry.DirEntry.{DirEntry}
-use Rattle.store_commit.specs.NameIndex.{IsNextAbove}
+use Rattle.dir_index.specs.EntryNames.{IsNextAbove}
 
 -- none where it is not started; else the application's least, or the least above the last one that it gave
 abbrev pub IsNextBy : List (Option DirEntry) → (app : List ℕ) → Cursor → Option DirEntry → Type 0

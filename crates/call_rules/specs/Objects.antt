@@ -15,7 +15,7 @@ use Rattle.store_model.specs.Files.{is_misuse}
 use Rattle.store_model.specs.Calls.{outcome_of, reply_of}
 use Rattle.dir_records.specs.declared.entry.DirEntry.{DirEntry}
 use Rattle.call_rules.specs.declared.decision.OpenObject.{OpenObject}
-use Rattle.store_commit.specs.NameIndex.{IsEntryNamed}
+use Rattle.dir_index.specs.EntryNames.{IsEntryNamed}
 
 -- An object of that name and of that size is there, sound or damaged.
 pub record HasObject (objects : ObjectMap) (name : ObjectName) (size : ℕ) : Type 0 where

@@ -4,7 +4,7 @@ use Rattle.store_model.specs.declared.name.ObjectName.{ObjectName}
 use Rattle.dir_records.specs.declared.entry.DirEntry.{DirEntry}
 use Rattle.call_rules.specs.declared.decision.NewPlace.{NewPlace}
 use Rattle.call_rules.specs.declared.decision.NewPlace.TheVariants.{Replaces, Adds}
-use Rattle.store_commit.specs.NameIndex.{IsEntryNamed, IsFirstFree}
+use Rattle.dir_index.specs.EntryNames.{IsEntryNamed, IsFirstFree}
 
 -- The entry of that name; or no entry has the name, and the first free one.
 abbrev pub IsNewPlace : List (Option DirEntry) → ObjectName → NewPlace → Type 0

@@ -10,10 +10,10 @@ use Rattle.tee_types.specs.Limits.{most_attribute_bytes}
 use Rattle.tee_types.specs.Rights.{overwrite_bit, has, is_known}
 use Rattle.dir_records.specs.declared.entry.DirEntry.{DirEntry}
 use Rattle.open_table.specs.Table.{TableState, is_file_open}
-use Rattle.store_commit.specs.declared.look.Held.{Held}
+use Rattle.dir_index.specs.declared.Held.{Held}
 use Rattle.call_rules.specs.declared.decision.NewPlace.{NewPlace}
 use Rattle.call_rules.specs.declared.decision.NewPlace.TheVariants.{Replaces, Adds}
-use Rattle.store_commit.specs.NameIndex.{IsFirstFree}
+use Rattle.dir_index.specs.EntryNames.{IsFirstFree}
 
 -- a handle is open on the file of that entry
 abbrev pub is_busy : TableState → Option Held → Bool

@@ -4,11 +4,11 @@ ghost use Rattle.std.specs.Prelude.{◌≡◌, List, Option};
 ghost use Rattle.dir_index.specs.Index.{named};
 ghost use Rattle.dir_records.specs.declared.entry.DirEntry.{DirEntry};
 ghost use Rattle.open_table.specs.Table.{TableState, allows_on_file, is_file_open};
-ghost use Rattle.crash_core.specs.DirectoryLaws.{AreEntries};
-ghost use Rattle.store_commit.specs.NameIndex.{IsEntryNamed, IsFirstFree, IsNextAbove};
+ghost use Rattle.core_laws.specs.DirectoryLaws.{AreEntries};
+ghost use Rattle.dir_index.specs.EntryNames.{IsEntryNamed, IsFirstFree, IsNextAbove};
 
+use dir_index::Held;
 use dir_records::DirEntry;
-use store_commit::Held;
 use tee_types::{AppId, Flags, ObjectId};
 
 /// The committed entries of a directory, and the open handles of all sessions.

@@ -1,6 +1,6 @@
 //! What is decided of a call.
 
-use store_commit::Held;
+use dir_index::Held;
 use store_model::Handle;
 use tee_types::Reply;
 

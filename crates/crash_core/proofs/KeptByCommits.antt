@@ -14,7 +14,7 @@ use Rattle.store_model.specs.Object.{Object, ObjectMap}
 use Rattle.store_model.specs.Machine.{MachineState}
 use Rattle.store_model.specs.Calls.{state_after}
 use Rattle.store_model.specs.Doubt.{Doubt}
-use Rattle.store_model.specs.Standing.{Standing, opening, replay, standing_after, standing_landed}
+use Rattle.store_model.specs.ReplayState.{ReplayState, opening, replay, replay_after, replay_landed}
 use Rattle.store_model.specs.Legal.{IsLegalEvent, IsLegalFrom}
 use Rattle.store_model.specs.Laws.{UnchangedMapsStay}
 use Rattle.store_model.specs.Makes.{CommitsMakeChanges}
@@ -25,7 +25,7 @@ use Rattle.crash_core.specs.EntryLists.{AreDistinct, IsUnnamed}
 use Rattle.crash_core.specs.EntryChanges.{Clear, EntryChange, Put, changed, file_put}
 use Rattle.crash_core.specs.Mounting.{Held}
 use Rattle.crash_core.specs.Sights.{Shows, Sight, sight_of}
-use Rattle.crash_core.specs.CoreState.{Core, IsTrusted, PendingCommit, Phase, put, standing}
+use Rattle.crash_core.specs.CoreState.{Core, IsTrusted, PendingCommit, Phase, put, replay_state}
 use Rattle.crash_core.specs.Seals.{IsSeal, PutShows, sealed_card}
 use Rattle.crash_core.specs.Appends.{IsAppend, IsCommitted, IsDone, LeavesState, committed, freed, with_record}
 use Rattle.crash_core.specs.Holding.{CardNames, DirectoryStands, Holds, PendingStands, SealedStands, held_at}
@@ -78,8 +78,8 @@ module _ {Root : Type 0} (phase : Phase) (c : Core Root) (h : Holds phase c) whe
   }
 
   -- the commit that is pending is not sealed: the card names the committed directory
-  still_names : (p : PendingCommit) → c.pending ≡ Some p → p.sealed ≡ None → CardNames c.card c.root (standing phase c).counter
-  still_names p is none = unsealed phase c.files c.card c.root c.entries (standing phase c) c.pending
+  still_names : (p : PendingCommit) → c.pending ≡ Some p → p.sealed ≡ None → CardNames c.card c.root (replay_state phase c).counter
+  still_names p is none = unsealed phase c.files c.card c.root c.entries (replay_state phase c) c.pending
       (λ q other. let both : Some p ≡ Some q = sym is ∙ other in let same : p ≡ q = cc (both) in subst (λ (x : PendingCommit). x.sealed ≡ None) same none) h.pending
 
   pub drop_commit_holds : (p : PendingCommit) → c.pending ≡ Some p → p.sealed ≡ None → Holds phase (record c { pending = None })
@@ -110,9 +110,9 @@ module _ {Root : Type 0} (phase : Phase) (c : Core Root) (h : Holds phase c) whe
 
   -- the directory that is sealed stands, with the map that the machine leaves
   sealed_directory : CommitsMakeChanges → (p : PendingCommit) (dir : RootRef) → IsSeal phase c p dir → IsTrusted phase 0
-      → DirectoryStands phase c.files dir (changed c.entries p.change) (state_after (standing phase c).state p.session p.call).objects
+      → DirectoryStands phase c.files dir (changed c.entries p.change) (state_after (replay_state phase c).state p.session p.call).objects
   sealed_directory commits p dir s trusted =
-      let d : DirectoryStands phase c.files c.root c.entries ((standing phase c).state).objects = h.committed trusted in
+      let d : DirectoryStands phase c.files c.root c.entries ((replay_state phase c).state).objects = h.committed trusted in
       let key : List ℕ = directory_key phase.keys in
       let what : Sight = sight_of key (c.files 0).reads dir in
       let reads = directory_seen key (c.files 0).reads dir (changed c.entries p.change) (s.holds trusted) in
@@ -125,11 +125,11 @@ module _ {Root : Type 0} (phase : Phase) (c : Core Root) (h : Holds phase c) whe
         holds = entries_changed d.held c.entries p.change s.object d.holds;
         each = each_changed d.held p.change s.object s.shows d.each;
         map_is =
-            change_enters ((standing phase c).state).objects c.entries d.held d.holds d.map_is (stand_distinct phase c.files c.root c.entries _ d) c.card.counter s.made p.change s.object s.change after
-            ∙ sym (made_leaves (standing phase c).state p.session commits p.call s.made s.due s.makes);
+            change_enters ((replay_state phase c).state).objects c.entries d.held d.holds d.map_is (stand_distinct phase c.files c.root c.entries _ d) c.card.counter s.made p.change s.object s.change after
+            ∙ sym (made_leaves (replay_state phase c).state p.session commits p.call s.made s.due s.makes);
       }
 
-  sealed_names : (p : PendingCommit) (dir : RootRef) → c.pending ≡ Some p → p.sealed ≡ None → IsSeal phase c p dir → CardNames (sealed_card c.card dir) dir ((standing phase c).counter + 1)
+  sealed_names : (p : PendingCommit) (dir : RootRef) → c.pending ≡ Some p → p.sealed ≡ None → IsSeal phase c p dir → CardNames (sealed_card c.card dir) dir ((replay_state phase c).counter + 1)
   sealed_names p dir is none s =
       let old = still_names p is none in
       record {
@@ -169,7 +169,7 @@ freed_other (Put k e) takes file actor taken = elim (cases_eq file e.file) [
 freed_other (Clear k) takes file actor taken = (λ same. cc (same), taken)
 
 -- what stands of a pending commit where the history stands otherwise: the counter is the same, and the state where there is one
-module _ (phase : Phase) (files : ℕ → FileState) (card : CardState) (root : RootRef) (entries : List (Option DirEntry)) (s t : Standing) (counter : t.counter ≡ s.counter) where
+module _ (phase : Phase) (files : ℕ → FileState) (card : CardState) (root : RootRef) (entries : List (Option DirEntry)) (s t : ReplayState) (counter : t.counter ≡ s.counter) where
   names_so : (dir : RootRef) (more : ℕ) → CardNames card dir (s.counter + more) → CardNames card dir (t.counter + more)
   names_so dir more names = subst (λ (n : ℕ). CardNames card dir (n + more)) (sym counter) names
 
@@ -189,46 +189,46 @@ module _ (phase : Phase) (files : ℕ → FileState) (card : CardState) (root : 
   pending_so (Some p) (inr state) stands = sealed_so p p.sealed state stands
 
 module _ {Root : Type 0} (quiet : UnchangedMapsStay) (phase : Phase) (c : Core Root) (h : Holds phase c) where
-  module _ (r : Record Root) (legal : IsLegalEvent phase.dishonest (standing phase c) r.event (file_of r)) where
+  module _ (r : Record Root) (legal : IsLegalEvent phase.tampered (replay_state phase c) r.event (file_of r)) where
     -- where the history stands after the record
-    next : (d : Core Root) → d.history ≡ c.history → standing phase (with_record r d) ≡ standing_after (standing phase c) r.event (file_of r)
+    next : (d : Core Root) → d.history ≡ c.history → replay_state phase (with_record r d) ≡ replay_after (replay_state phase c) r.event (file_of r)
     next d same =
         ap (λ (l : List (Record Root)). replay (opening phase.begins) (l ++ r ∷ [])) same
         ∙ replay_push (opening phase.begins) c.history r
 
-    legal_next : IsLegalFrom phase.dishonest (opening phase.begins) (c.history ++ r ∷ [])
-    legal_next = legal_push phase.dishonest (opening phase.begins) c.history r h.legal legal
+    legal_next : IsLegalFrom phase.tampered (opening phase.begins) (c.history ++ r ∷ [])
+    legal_next = legal_push phase.tampered (opening phase.begins) c.history r h.legal legal
 
     -- the event leaves the directory, the map of objects and the counter
-    same_holds : ((standing_after (standing phase c) r.event (file_of r)).state).objects ≡ ((standing phase c).state).objects
-        → (standing_after (standing phase c) r.event (file_of r)).counter ≡ (standing phase c).counter → LeavesState phase c r → Holds phase (with_record r c)
+    same_holds : ((replay_after (replay_state phase c) r.event (file_of r)).state).objects ≡ ((replay_state phase c).state).objects
+        → (replay_after (replay_state phase c) r.event (file_of r)).counter ≡ (replay_state phase c).counter → LeavesState phase c r → Holds phase (with_record r c)
     same_holds objects counter still =
-        let here : standing phase (with_record r c) ≡ standing_after (standing phase c) r.event (file_of r) = next c refl in
+        let here : replay_state phase (with_record r c) ≡ replay_after (replay_state phase c) r.event (file_of r) = next c refl in
         record {
           sound = h.sound;
           honest = h.honest;
           legal = legal_next;
           taken = h.taken;
-          committed = λ trusted. named_so phase c.files c.root c.entries _ _ (sym (ap (λ (s : Standing). (s.state).objects) here ∙ objects)) (h.committed trusted);
-          pending = subst (λ (s : Standing). PendingStands phase c.files c.card c.root c.entries s c.pending) (sym here)
-              (pending_so phase c.files c.card c.root c.entries (standing phase c) (standing_after (standing phase c) r.event (file_of r)) counter c.pending still h.pending);
+          committed = λ trusted. named_so phase c.files c.root c.entries _ _ (sym (ap (λ (s : ReplayState). (s.state).objects) here ∙ objects)) (h.committed trusted);
+          pending = subst (λ (s : ReplayState). PendingStands phase c.files c.card c.root c.entries s c.pending) (sym here)
+              (pending_so phase c.files c.card c.root c.entries (replay_state phase c) (replay_after (replay_state phase c) r.event (file_of r)) counter c.pending still h.pending);
         }
 
     -- the sealed commit is committed
     committed_holds : (p : PendingCommit) (dir : RootRef) → c.pending ≡ Some p → p.sealed ≡ Some dir
-        → ((standing_after (standing phase c) r.event (file_of r)).state).objects ≡ (state_after (standing phase c).state p.session p.call).objects
-        → (standing_after (standing phase c) r.event (file_of r)).counter ≡ (standing phase c).counter + 1 → Holds phase (with_record r (committed c p dir))
+        → ((replay_after (replay_state phase c) r.event (file_of r)).state).objects ≡ (state_after (replay_state phase c).state p.session p.call).objects
+        → (replay_after (replay_state phase c) r.event (file_of r)).counter ≡ (replay_state phase c).counter + 1 → Holds phase (with_record r (committed c p dir))
     committed_holds p dir is sealed objects counter =
-        let here : standing phase (with_record r (committed c p dir)) ≡ standing_after (standing phase c) r.event (file_of r) = next (committed c p dir) refl in
-        let stands : SealedStands phase c.files c.card c.root c.entries (standing phase c) p (Some dir) =
-        subst (SealedStands phase c.files c.card c.root c.entries (standing phase c) p) sealed
-        (subst (PendingStands phase c.files c.card c.root c.entries (standing phase c)) is h.pending) in
+        let here : replay_state phase (with_record r (committed c p dir)) ≡ replay_after (replay_state phase c) r.event (file_of r) = next (committed c p dir) refl in
+        let stands : SealedStands phase c.files c.card c.root c.entries (replay_state phase c) p (Some dir) =
+        subst (SealedStands phase c.files c.card c.root c.entries (replay_state phase c) p) sealed
+        (subst (PendingStands phase c.files c.card c.root c.entries (replay_state phase c)) is h.pending) in
         record {
           sound = h.sound;
           honest = h.honest;
           legal = legal_next;
-          committed = λ trusted. named_so phase c.files dir (changed c.entries p.change) _ _ (sym (ap (λ (s : Standing). (s.state).objects) here ∙ objects)) (stands.1 trusted);
-          pending = subst (CardNames c.card dir) (sym (ap (λ (s : Standing). s.counter) here ∙ counter)) stands.0;
+          committed = λ trusted. named_so phase c.files dir (changed c.entries p.change) _ _ (sym (ap (λ (s : ReplayState). (s.state).objects) here ∙ objects)) (stands.1 trusted);
+          pending = subst (CardNames c.card dir) (sym (ap (λ (s : ReplayState). s.counter) here ∙ counter)) stands.0;
           taken = λ file actor taken.
               let other = freed_other p.change c.takes file actor taken in
               unnamed_changed c.entries p.change file (h.taken file actor other.1) other.0;
@@ -236,37 +236,37 @@ module _ {Root : Type 0} (quiet : UnchangedMapsStay) (phase : Phase) (c : Core R
 
     -- the commit of that session and call is committed
     is_committed_holds : (session : ℕ) (call : Call) (done : Core Root) → IsCommitted c session call done
-        → ((standing_after (standing phase c) r.event (file_of r)).state).objects ≡ (state_after (standing phase c).state session call).objects
-        → (standing_after (standing phase c) r.event (file_of r)).counter ≡ (standing phase c).counter + 1 → Holds phase (with_record r done)
+        → ((replay_after (replay_state phase c) r.event (file_of r)).state).objects ≡ (state_after (replay_state phase c).state session call).objects
+        → (replay_after (replay_state phase c) r.event (file_of r)).counter ≡ (replay_state phase c).counter + 1 → Holds phase (with_record r done)
     is_committed_holds session call done made objects counter =
         let p = made.commit in
-        let same : (state_after (standing phase c).state session call).objects ≡ (state_after (standing phase c).state p.session p.call).objects =
-        ap (λ (s : ℕ). (state_after (standing phase c).state s call).objects) (sym made.of.session_is)
-        ∙ ap (λ (x : Call). (state_after (standing phase c).state p.session x).objects) (sym made.of.call_is) in
+        let same : (state_after (replay_state phase c).state session call).objects ≡ (state_after (replay_state phase c).state p.session p.call).objects =
+        ap (λ (s : ℕ). (state_after (replay_state phase c).state s call).objects) (sym made.of.session_is)
+        ∙ ap (λ (x : Call). (state_after (replay_state phase c).state p.session x).objects) (sym made.of.call_is) in
         subst (λ (d : Core Root). Holds phase (with_record r d)) (sym made.next) (committed_holds p made.dir made.of.is made.sealed (objects ∙ same) counter)
 
   -- an open doubt is of the next number
-  doubted : (d : Doubt) → (standing phase c).doubt ≡ Some d → d.commit ≡ (standing phase c).counter + 1
-  doubted = doubt_next phase.dishonest (opening phase.begins) c.history h.legal (none_next phase.begins.counter None refl)
+  doubted : (d : Doubt) → (replay_state phase c).doubt ≡ Some d → d.commit ≡ (replay_state phase c).counter + 1
+  doubted = doubt_next phase.tampered (opening phase.begins) c.history h.legal (none_next phase.begins.counter None refl)
 
-  event_holds : (event : Event) (tag : Option (Tag Root)) (done : Core Root) → IsLegalEvent phase.dishonest (standing phase c) event (file_of {Root = Root} (record { event = event; tag = tag }))
+  event_holds : (event : Event) (tag : Option (Tag Root)) (done : Core Root) → IsLegalEvent phase.tampered (replay_state phase c) event (file_of {Root = Root} (record { event = event; tag = tag }))
       → IsDone phase c (record { event = event; tag = tag }) event done → Holds phase (with_record (record { event = event; tag = tag }) done)
   event_holds (CallEvent session number call reply Unchanged) tag done legal is =
       let r : Record Root = record { event = CallEvent session number call reply Unchanged; tag = tag } in
       subst (λ (d : Core Root). Holds phase (with_record r d)) (sym is.0)
-      (same_holds r legal (quiet phase.dishonest (standing phase c) session call reply (file_of r) legal) refl is.1)
+      (same_holds r legal (quiet phase.tampered (replay_state phase c) session call reply (file_of r) legal) refl is.1)
   event_holds (CallEvent session number call reply (Made commit)) tag done legal is =
       let r : Record Root = record { event = CallEvent session number call reply (Made commit); tag = tag } in
-      is_committed_holds r legal session call done is refl (made_next phase.dishonest (standing phase c) session call reply commit (file_of r) legal)
+      is_committed_holds r legal session call done is refl (made_next phase.tampered (replay_state phase c) session call reply commit (file_of r) legal)
   event_holds (CallEvent session number call reply (Doubtful commit)) tag done legal is =
       let r : Record Root = record { event = CallEvent session number call reply (Doubtful commit); tag = tag } in
       subst (λ (d : Core Root). Holds phase (with_record r d)) (sym is.0) (same_holds r legal refl refl (inr refl))
   event_holds (Landed commit) tag done legal is =
       let doubt : Doubt = is.0 in
-      let s : Standing = standing phase c in
+      let s : ReplayState = replay_state phase c in
       is_committed_holds (record { event = Landed commit; tag = tag }) legal doubt.session doubt.call done is.2
-      (ap (λ (d : Option Doubt). ((standing_landed s d).state).objects) is.1)
-      (ap (λ (d : Option Doubt). (standing_landed s d).counter) is.1 ∙ doubted doubt is.1)
+      (ap (λ (d : Option Doubt). ((replay_landed s d).state).objects) is.1)
+      (ap (λ (d : Option Doubt). (replay_landed s d).counter) is.1 ∙ doubted doubt is.1)
 
   pub append_holds : (r : Record Root) (new : Core Root) → IsAppend phase c r new → Holds phase new
   append_holds r new step = subst (Holds phase) (sym step.is) (event_holds r.event r.tag step.done step.legal step.does)

@@ -4,13 +4,13 @@ use Rattle.disk_model.specs.State.{FileState, Sound}
 use Rattle.disk_model.specs.Keeps.{FileCall, write, sync, rest}
 use Rattle.node_image.specs.declared.node.RootRef.{RootRef}
 use Rattle.rpmb_card.specs.Card.{CardState}
-use Rattle.store_model.specs.Standing.{Standing}
+use Rattle.store_model.specs.ReplayState.{ReplayState}
 use Rattle.dir_records.specs.declared.entry.DirEntry.{DirEntry}
 use Rattle.crash_core.specs.MountedObject.{root_of}
 use Rattle.crash_core.specs.EntryLists.{IsNamed}
 use Rattle.crash_core.specs.EntryChanges.{Clear, EntryChange, Put, changed}
 use Rattle.crash_core.specs.Sights.{Misses}
-use Rattle.crash_core.specs.CoreState.{Core, IsTrusted, PendingCommit, Phase, put, standing}
+use Rattle.crash_core.specs.CoreState.{Core, IsTrusted, PendingCommit, Phase, put, replay_state}
 use Rattle.crash_core.specs.FileSteps.{IsFileStep, MissesNamed, MissesPending, MissesSealed}
 use Rattle.crash_core.specs.CoreSteps.{IsOpenCommit}
 use Rattle.crash_core.specs.Holding.{CardNames, DirectoryStands, Holds, PendingStands, SealedStands}
@@ -18,13 +18,13 @@ use Rattle.crash_core.proofs.Lists.{put_each, set_at}
 use Rattle.crash_core.proofs.Moves.{IsRoot, MissesNext, MissesOnceSealed, MissesUnder, directory_moved, names_files, pending_moved}
 
 -- of a commit that is not sealed the card names the committed directory
-pub unsealed : (phase : Phase) (files : ℕ → FileState) (card : CardState) (root : RootRef) (entries : List (Option DirEntry)) (s : Standing) (pending : Option PendingCommit)
+pub unsealed : (phase : Phase) (files : ℕ → FileState) (card : CardState) (root : RootRef) (entries : List (Option DirEntry)) (s : ReplayState) (pending : Option PendingCommit)
     → ((p : PendingCommit) → pending ≡ Some p → p.sealed ≡ None) → PendingStands phase files card root entries s pending → CardNames card root s.counter
 unsealed phase files card root entries s None none stands = stands
 unsealed phase files card root entries s (Some p) none stands = subst (SealedStands phase files card root entries s p) (none p refl) stands
 
 -- and back
-pub not_sealed : (phase : Phase) (files : ℕ → FileState) (card : CardState) (root : RootRef) (entries : List (Option DirEntry)) (s : Standing) (p : PendingCommit) → p.sealed ≡ None
+pub not_sealed : (phase : Phase) (files : ℕ → FileState) (card : CardState) (root : RootRef) (entries : List (Option DirEntry)) (s : ReplayState) (p : PendingCommit) → p.sealed ≡ None
     → CardNames card root s.counter → PendingStands phase files card root entries s (Some p)
 not_sealed phase files card root entries s p none names = subst (SealedStands phase files card root entries s p) (sym none) names
 
@@ -73,7 +73,7 @@ module _ {Root : Type 0} (phase : Phase) (c : Core Root) (h : Holds phase c) whe
     honest = λ k. put_each (λ (n : ℕ) (s : FileState). IsTrusted phase n → IsTrue s.honest) c.files file new k step.honest (h.honest k);
     legal = h.legal;
     committed = λ trusted. directory_moved phase c.files file call new (h.sound file) step c.root c.entries _ trusted (misses trusted) (h.committed trusted);
-    pending = pending_moved phase c.files file call new (h.sound file) step c.card c.root c.entries (standing phase c) c.pending next h.pending;
+    pending = pending_moved phase c.files file call new (h.sound file) step c.card c.root c.entries (replay_state phase c) c.pending next h.pending;
     taken = h.taken;
   }
 
@@ -129,16 +129,16 @@ module _ {Root : Type 0} (phase : Phase) (c : Core Root) (h : Holds phase c) whe
   pub directory_holds : (p : PendingCommit) (from upto : ℕ) (new : FileState) → IsOpenCommit c p → (IsTrusted phase 0 → Misses from upto (c.files 0).reads c.root)
       → IsFileStep phase 0 (write from upto) (c.files 0) new → Holds phase (record c { files = put c.files 0 new; pending = Some p })
   directory_holds p from upto new open_ misses step =
-      let names : CardNames c.card c.root (standing phase c).counter = unsealed phase c.files c.card c.root c.entries (standing phase c) c.pending (open_commit c p open_) h.pending in
+      let names : CardNames c.card c.root (replay_state phase c).counter = unsealed phase c.files c.card c.root c.entries (replay_state phase c) c.pending (open_commit c p open_) h.pending in
       record {
         sound = λ k. put_each (λ (n : ℕ) (s : FileState). Sound s) c.files 0 new k step.sound (h.sound k);
         honest = λ k. put_each (λ (n : ℕ) (s : FileState). IsTrusted phase n → IsTrue s.honest) c.files 0 new k step.honest (h.honest k);
         legal = h.legal;
         committed = λ trusted. directory_moved phase c.files 0 (write from upto) new (h.sound 0) step c.root c.entries _ trusted (own (h.committed trusted)) (h.committed trusted);
-        pending = not_sealed phase (put c.files 0 new) c.card c.root c.entries (standing phase c) p open_.1 names;
+        pending = not_sealed phase (put c.files 0 new) c.card c.root c.entries (replay_state phase c) p open_.1 names;
         taken = h.taken;
       }
     where
-      own : DirectoryStands phase c.files c.root c.entries ((standing phase c).state).objects → MissesUnder phase (write from upto) (c.files 0).reads c.root c.entries 0
+      own : DirectoryStands phase c.files c.root c.entries ((replay_state phase c).state).objects → MissesUnder phase (write from upto) (c.files 0).reads c.root c.entries 0
       own d trusted root (inl same) = subst (Misses from upto (c.files 0).reads) (sym same.1) (misses trusted)
       own d trusted root (inr named) = absurd (names_files phase c.files c.root c.entries _ d root named)

@@ -9,7 +9,7 @@ use Rattle.rpmb_card.specs.Card.{CardState}
 use Rattle.store_model.specs.declared.name.ObjectName.{ObjectName}
 use Rattle.store_model.specs.Name.{name_cmp}
 use Rattle.store_model.specs.Object.{Object, ObjectMap}
-use Rattle.store_model.specs.Standing.{Standing}
+use Rattle.store_model.specs.ReplayState.{ReplayState}
 use Rattle.store_model.specs.Laws.{UnchangedMapsStay}
 use Rattle.store_model.specs.Makes.{CommitsMakeChanges}
 use Rattle.dir_records.specs.declared.entry.DirEntry.{DirEntry}
@@ -22,7 +22,7 @@ use Rattle.crash_core.specs.DeviceKeys.{directory_key, object_key}
 use Rattle.crash_core.specs.Pictures.{IsPictureOf, Picture, block_zero}
 use Rattle.crash_core.specs.Mounting.{Held, all_held_in, directory_by, map_of, mounted, mounted_directory, mounted_entries, unless_fault}
 use Rattle.crash_core.specs.Sights.{Sight}
-use Rattle.crash_core.specs.CoreState.{Core, IsTrusted, PendingCommit, Phase, standing}
+use Rattle.crash_core.specs.CoreState.{Core, IsTrusted, PendingCommit, Phase, replay_state}
 use Rattle.crash_core.specs.Holding.{CardNames, DirectoryStands, Holds, PendingStands, SealedStands, entries_held, held_at}
 use Rattle.crash_core.specs.Theorem.{EveryPictureMounts, HonestPicturesMount, IsTrustedName, MountsTo, SameBut, map_on_card, map_sealed}
 use Rattle.crash_core.proofs.EntryMaps.{ins, is_at, self, tied}
@@ -101,7 +101,7 @@ module _ (phase : Phase) (files : ℕ → FileState) (card : CardState) (picture
             (subst (λ (l : List (Option DirEntry)). SameBut Same (map_of d.held) (map_of (all_held_in phase.keys picture.images l))) d.holds same);
       }
 
-  module _ (trusted : IsTrusted phase 0) (root : RootRef) (entries : List (Option DirEntry)) (s : Standing) (committed : DirectoryStands phase files root entries (s.state).objects) where
+  module _ (trusted : IsTrusted phase 0) (root : RootRef) (entries : List (Option DirEntry)) (s : ReplayState) (committed : DirectoryStands phase files root entries (s.state).objects) where
     sealed_mounts : (p : PendingCommit) (sealed : Option RootRef) → SealedStands phase files card root entries s p sealed → MountsTo phase picture (map_sealed s.state p sealed)
     sealed_mounts p None stands = directory_mounts root entries (s.state).objects s.counter stands committed
     sealed_mounts p (Some dir) stands = directory_mounts dir (changed entries p.change) _ _ stands.0 (stands.1 trusted)
@@ -112,9 +112,9 @@ module _ (phase : Phase) (files : ℕ → FileState) (card : CardState) (picture
 
 -- Every picture of a state that holds mounts.
 pub holds_mounts : {Root : Type 0} (phase : Phase) (c : Core Root) (picture : Picture) → Holds phase c → IsPictureOf c.files c.card picture → IsTrusted phase 0
-    → MountsTo phase picture (map_on_card (standing phase c).state c.pending)
+    → MountsTo phase picture (map_on_card (replay_state phase c).state c.pending)
 holds_mounts phase c picture h is trusted =
-    pending_mounts phase c.files c.card picture is trusted c.root c.entries (standing phase c) (h.committed trusted) c.pending h.pending
+    pending_mounts phase c.files c.card picture is trusted c.root c.entries (replay_state phase c) (h.committed trusted) c.pending h.pending
 
 pub every-picture-mounts : {Root : Type 0} → UnchangedMapsStay → CommitsMakeChanges → EveryPictureMounts Root
 every-picture-mounts quiet commits phase start now steps picture good run is trusted =

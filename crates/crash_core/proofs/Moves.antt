@@ -6,7 +6,7 @@ use Rattle.disk_model.specs.Keeps.{FileCall}
 use Rattle.node_image.specs.declared.node.RootRef.{RootRef}
 use Rattle.rpmb_card.specs.Card.{CardState}
 use Rattle.store_model.specs.Object.{ObjectMap}
-use Rattle.store_model.specs.Standing.{Standing}
+use Rattle.store_model.specs.ReplayState.{ReplayState}
 use Rattle.dir_records.specs.declared.entry.DirEntry.{DirEntry}
 use Rattle.crash_core.specs.MountedObject.{root_of}
 use Rattle.crash_core.specs.DeviceKeys.{directory_key}
@@ -74,14 +74,14 @@ module _ (phase : Phase) (files : ℕ → FileState) (file : ℕ) (call : FileCa
     map_is = d.map_is;
   }
 
-  sealed_moved : (card : CardState) (dir : RootRef) (entries : List (Option DirEntry)) (s : Standing) (p : PendingCommit) (sealed : Option RootRef) → MissesOnceSealed phase call (files file).reads entries p.change sealed file
+  sealed_moved : (card : CardState) (dir : RootRef) (entries : List (Option DirEntry)) (s : ReplayState) (p : PendingCommit) (sealed : Option RootRef) → MissesOnceSealed phase call (files file).reads entries p.change sealed file
       → SealedStands phase files card dir entries s p sealed → SealedStands phase (put files file new) card dir entries s p sealed
   sealed_moved card dir entries s p None misses stands = stands
   sealed_moved card dir entries s p (Some next) misses stands =
       (stands.0, λ trusted. directory_moved next (changed entries p.change) _ trusted misses (stands.1 trusted))
 
   -- So does that of a commit that is pending.
-  pub pending_moved : (card : CardState) (dir : RootRef) (entries : List (Option DirEntry)) (s : Standing) (pending : Option PendingCommit) → MissesNext phase call (files file).reads entries pending file
+  pub pending_moved : (card : CardState) (dir : RootRef) (entries : List (Option DirEntry)) (s : ReplayState) (pending : Option PendingCommit) → MissesNext phase call (files file).reads entries pending file
       → PendingStands phase files card dir entries s pending → PendingStands phase (put files file new) card dir entries s pending
   pending_moved card dir entries s None misses stands = stands
   pending_moved card dir entries s (Some p) misses stands = sealed_moved card dir entries s p p.sealed misses stands

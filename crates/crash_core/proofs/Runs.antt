@@ -1,11 +1,11 @@
 -- Every step of the core machine keeps what holds of it, and so does every run from a start.
 use Rattle.std.proofs.Common.{◌≡◌, List, [], ◌∷◌, sym, ap, subst}
-use Rattle.store_model.specs.Standing.{Standing, opening, replay}
+use Rattle.store_model.specs.ReplayState.{ReplayState, opening, replay}
 use Rattle.store_model.specs.Record.{Record}
 use Rattle.store_model.specs.Legal.{IsLegalFrom}
 use Rattle.store_model.specs.Laws.{UnchangedMapsStay}
 use Rattle.store_model.specs.Makes.{CommitsMakeChanges}
-use Rattle.crash_core.specs.CoreState.{Core, Phase, standing}
+use Rattle.crash_core.specs.CoreState.{Core, Phase, replay_state}
 use Rattle.crash_core.specs.CoreSteps.{Append, CoreStep, DropCommit, DropStage, DropTaking, IsRun, IsStep, RestFile, Seal, SyncDirectory, SyncFile, TakeFile, WriteDirectory, WriteFile}
 use Rattle.crash_core.specs.Holding.{CardNames, DirectoryStands, Holds, PendingStands}
 use Rattle.crash_core.specs.Theorem.{IsStart}
@@ -34,14 +34,14 @@ module _ {Root : Type 0} (quiet : UnchangedMapsStay) (commits : CommitsMakeChang
 -- it holds of a start
 pub start_holds : {Root : Type 0} (phase : Phase) (c : Core Root) → IsStart phase c → Holds phase c
 start_holds {Root = Root} phase c s =
-    let first : Standing = opening phase.begins in
-    let empty : standing phase c ≡ first = ap (λ (l : List (Record Root)). replay (opening phase.begins) l) s.no_history in
+    let first : ReplayState = opening phase.begins in
+    let empty : replay_state phase c ≡ first = ap (λ (l : List (Record Root)). replay (opening phase.begins) l) s.no_history in
     record {
       sound = s.sound;
       honest = s.honest;
-      legal = subst (IsLegalFrom phase.dishonest first) (sym s.no_history) tt;
-      committed = λ trusted. subst (DirectoryStands phase c.files c.root c.entries) (sym (ap (λ (x : Standing). (x.state).objects) empty)) (s.directory trusted);
-      pending = subst (PendingStands phase c.files c.card c.root c.entries (standing phase c)) (sym s.no_pending)
-          (subst (CardNames c.card c.root) (sym (ap (λ (x : Standing). x.counter) empty)) s.card);
+      legal = subst (IsLegalFrom phase.tampered first) (sym s.no_history) tt;
+      committed = λ trusted. subst (DirectoryStands phase c.files c.root c.entries) (sym (ap (λ (x : ReplayState). (x.state).objects) empty)) (s.directory trusted);
+      pending = subst (PendingStands phase c.files c.card c.root c.entries (replay_state phase c)) (sym s.no_pending)
+          (subst (CardNames c.card c.root) (sym (ap (λ (x : ReplayState). x.counter) empty)) s.card);
       taken = λ file actor taken. absurd (cc (taken, s.no_takes file));
     }

@@ -8,10 +8,10 @@ use Rattle.store_model.specs.declared.event.Mark.{Mark}
 use Rattle.store_model.specs.declared.event.Mark.TheVariants.{Unchanged, Made, Doubtful}
 use Rattle.store_model.specs.Record.{Record, file_of}
 use Rattle.store_model.specs.Doubt.{Doubt}
-use Rattle.store_model.specs.Standing.{standing_after}
+use Rattle.store_model.specs.ReplayState.{replay_after}
 use Rattle.store_model.specs.Legal.{IsLegalEvent}
 use Rattle.crash_core.specs.EntryChanges.{EntryChange, Put, Clear, changed}
-use Rattle.crash_core.specs.CoreState.{Core, PendingCommit, Phase, put, standing}
+use Rattle.crash_core.specs.CoreState.{Core, PendingCommit, Phase, put, replay_state}
 
 -- the file that a change puts is no longer taken
 abbrev pub freed : EntryChange → (ℕ → Option ℕ) → ℕ → Option ℕ
@@ -42,7 +42,7 @@ pub record IsCommitted {Root : Type 0} (c : Core Root) (session : ℕ) (call : C
 
 -- While a commit is pending, an event that neither makes it nor doubts it leaves the machine's state.
 abbrev pub LeavesState : {Root : Type 0} → Phase → Core Root → Record Root → Type 0
-LeavesState phase c r = (c.pending ≡ None) ⊎ ((standing_after (standing phase c) r.event (file_of r)).state ≡ (standing phase c).state)
+LeavesState phase c r = (c.pending ≡ None) ⊎ ((replay_after (replay_state phase c) r.event (file_of r)).state ≡ (replay_state phase c).state)
 
 -- what a call's event does to all but the history, by its mark
 abbrev pub IsMarked : {Root : Type 0} → Phase → Core Root → Record Root → ℕ → Call → Mark → Core Root → Type 0
@@ -52,11 +52,11 @@ IsMarked phase c r session call (Doubtful commit) new = (new ≡ c) × (p : Pend
 
 abbrev pub IsDone : {Root : Type 0} → Phase → Core Root → Record Root → Event → Core Root → Type 0
 IsDone phase c r (CallEvent session number call reply mark) new = IsMarked phase c r session call mark new
-IsDone phase c r (Landed commit) new = (doubt : Doubt) × ((standing phase c).doubt ≡ Some doubt) × IsCommitted c doubt.session doubt.call new
+IsDone phase c r (Landed commit) new = (doubt : Doubt) × ((replay_state phase c).doubt ≡ Some doubt) × IsCommitted c doubt.session doubt.call new
 
 -- The event is appended: the history stays legal.
 pub record IsAppend {Root : Type 0} (phase : Phase) (c : Core Root) (r : Record Root) (new : Core Root) : Type 0 where
-  pub legal : IsLegalEvent phase.dishonest (standing phase c) r.event (file_of r)
+  pub legal : IsLegalEvent phase.tampered (replay_state phase c) r.event (file_of r)
   pub done : Core Root
   pub does : IsDone phase c r r.event done
   pub is : new ≡ with_record r done

@@ -6,7 +6,7 @@ use Rattle.hmac_keys.specs.declared.Keys.{Keys}
 use Rattle.tee_types.specs.declared.call.Call.{Call}
 use Rattle.rpmb_card.specs.Card.{CardState}
 use Rattle.store_model.specs.Record.{Record}
-use Rattle.store_model.specs.Standing.{PhaseOpening, Standing, opening, replay}
+use Rattle.store_model.specs.ReplayState.{PhaseOpening, ReplayState, opening, replay}
 use Rattle.dir_records.specs.declared.entry.DirEntry.{DirEntry}
 use Rattle.crash_core.specs.EntryChanges.{EntryChange}
 
@@ -35,16 +35,16 @@ pub record Core (Root : Type 0) : Type 0 where
 -- what the history begins with.
 pub record Phase : Type 0 where
   pub keys : Keys
-  pub dishonest : List ℕ
+  pub tampered : List ℕ
   pub begins : PhaseOpening
 
 -- where the history stands
-abbrev pub standing : {Root : Type 0} → Phase → Core Root → Standing
-standing phase c = replay (opening phase.begins) c.history
+abbrev pub replay_state : {Root : Type 0} → Phase → Core Root → ReplayState
+replay_state phase c = replay (opening phase.begins) c.history
 
 -- the file is honest to the end
 abbrev pub IsTrusted : Phase → ℕ → Type 0
-IsTrusted phase file = Contains phase.dishonest file → ⊥
+IsTrusted phase file = Contains phase.tampered file → ⊥
 
 -- the function with another value at one number
 abbrev pub put : {A : Type 0} → (ℕ → A) → ℕ → A → ℕ → A

@@ -6,7 +6,7 @@ use Rattle.node_image.specs.declared.node.RootRef.{RootRef}
 use Rattle.rpmb_card.specs.Card.{CardState}
 use Rattle.store_model.specs.Object.{ObjectMap}
 use Rattle.store_model.specs.Calls.{state_after}
-use Rattle.store_model.specs.Standing.{Standing, opening}
+use Rattle.store_model.specs.ReplayState.{ReplayState, opening}
 use Rattle.store_model.specs.Legal.{IsLegalFrom}
 use Rattle.dir_records.specs.declared.entry.DirEntry.{DirEntry}
 use Rattle.crash_core.specs.Directory.{directory_from}
@@ -17,7 +17,7 @@ use Rattle.crash_core.specs.EntryChanges.{changed}
 use Rattle.crash_core.specs.Pictures.{block_zero}
 use Rattle.crash_core.specs.Mounting.{Held, map_of}
 use Rattle.crash_core.specs.Sights.{Sight, Shows, Stands}
-use Rattle.crash_core.specs.CoreState.{Core, IsTrusted, PendingCommit, Phase, standing}
+use Rattle.crash_core.specs.CoreState.{Core, IsTrusted, PendingCommit, Phase, replay_state}
 
 abbrev pub held_at : List (Option Held) → ℕ → Option Held
 held_at held index = get_or held index None
@@ -43,21 +43,21 @@ pub record CardNames (card : CardState) (dir : RootRef) (counter : ℕ) : Type 0
   pub counted : card.counter ≡ counter
 
 -- Once a commit is sealed, the card names the directory that it leaves, which stands beside the committed one. Before, it names that one.
-abbrev pub SealedStands : Phase → (ℕ → FileState) → CardState → RootRef → List (Option DirEntry) → Standing → PendingCommit → Option RootRef → Type 0
+abbrev pub SealedStands : Phase → (ℕ → FileState) → CardState → RootRef → List (Option DirEntry) → ReplayState → PendingCommit → Option RootRef → Type 0
 SealedStands phase files card root entries s p None = CardNames card root s.counter
 SealedStands phase files card root entries s p (Some dir) =
     CardNames card dir (s.counter + 1)
     × (IsTrusted phase 0 → DirectoryStands phase files dir (changed entries p.change) (state_after s.state p.session p.call).objects)
 
-abbrev pub PendingStands : Phase → (ℕ → FileState) → CardState → RootRef → List (Option DirEntry) → Standing → Option PendingCommit → Type 0
+abbrev pub PendingStands : Phase → (ℕ → FileState) → CardState → RootRef → List (Option DirEntry) → ReplayState → Option PendingCommit → Type 0
 PendingStands phase files card root entries s None = CardNames card root s.counter
 PendingStands phase files card root entries s (Some p) = SealedStands phase files card root entries s p p.sealed
 
 pub record Holds {Root : Type 0} (phase : Phase) (c : Core Root) : Type 0 where
   pub sound : (file : ℕ) → Sound (c.files file)
   pub honest : (file : ℕ) → IsTrusted phase file → IsTrue (c.files file).honest
-  pub legal : IsLegalFrom phase.dishonest (opening phase.begins) c.history
+  pub legal : IsLegalFrom phase.tampered (opening phase.begins) c.history
   -- the committed directory stands, and holds the objects of the history
-  pub committed : IsTrusted phase 0 → DirectoryStands phase c.files c.root c.entries ((standing phase c).state).objects
-  pub pending : PendingStands phase c.files c.card c.root c.entries (standing phase c) c.pending
+  pub committed : IsTrusted phase 0 → DirectoryStands phase c.files c.root c.entries ((replay_state phase c).state).objects
+  pub pending : PendingStands phase c.files c.card c.root c.entries (replay_state phase c) c.pending
   pub taken : (file actor : ℕ) → c.takes file ≡ Some actor → IsUnnamed c.entries file

@@ -11,7 +11,7 @@ use Rattle.crash_core.specs.CardBlock.{IsReference, root_block}
 use Rattle.crash_core.specs.DeviceKeys.{directory_key}
 use Rattle.crash_core.specs.EntryChanges.{EntryChange, Put, Clear, IsChange, changed}
 use Rattle.crash_core.specs.Sights.{Shows}
-use Rattle.crash_core.specs.CoreState.{Core, IsTrusted, PendingCommit, Phase, standing}
+use Rattle.crash_core.specs.CoreState.{Core, IsTrusted, PendingCommit, Phase, replay_state}
 
 -- The card after a write of its block 0, whole, which raises the counter by one.
 abbrev pub sealed_card : CardState → RootRef → CardState
@@ -29,9 +29,9 @@ pub record IsSeal {Root : Type 0} (phase : Phase) (c : Core Root) (p : PendingCo
   pub settled : IsTrusted phase 0 → pending (c.files 0) ≡ []
   pub holds : IsTrusted phase 0 → directory_of (directory_key phase.keys) (c.files 0).reads dir ≡ Ok (changed c.entries p.change)
   -- the machine commits the pending call, and the change is the one that this makes
-  pub due : is_commit_due (standing phase c) p.session p.call ≡ true
+  pub due : is_commit_due (replay_state phase c) p.session p.call ≡ true
   pub made : MapChange
-  pub makes : MakesChange (standing phase c).state p.session p.call made
+  pub makes : MakesChange (replay_state phase c).state p.session p.call made
   pub object : Object
-  pub change : IsChange ((standing phase c).state).objects c.entries c.card.counter made p.change object
+  pub change : IsChange ((replay_state phase c).state).objects c.entries c.card.counter made p.change object
   pub shows : PutShows phase c.files p.change object

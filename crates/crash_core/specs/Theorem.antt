@@ -14,7 +14,7 @@ use Rattle.crash_core.specs.Entries.{name_of}
 use Rattle.crash_core.specs.EntryLists.{entry_at}
 use Rattle.crash_core.specs.Pictures.{IsPictureOf, Picture}
 use Rattle.crash_core.specs.Mounting.{mounted, mounted_directory}
-use Rattle.crash_core.specs.CoreState.{Core, IsTrusted, PendingCommit, Phase, standing}
+use Rattle.crash_core.specs.CoreState.{Core, IsTrusted, PendingCommit, Phase, replay_state}
 use Rattle.crash_core.specs.CoreSteps.{CoreStep, IsRun}
 use Rattle.crash_core.specs.Holding.{CardNames, DirectoryStands}
 
@@ -62,11 +62,11 @@ map_on_card state (Some p) = map_sealed state p p.sealed
 abbrev pub EveryPictureMounts : Type 0 → Type 0
 EveryPictureMounts Root =
     (phase : Phase) (start now : Core Root) (steps : List (CoreStep Root)) (picture : Picture) → IsStart phase start → IsRun phase start steps now
-    → IsPictureOf now.files now.card picture → IsTrusted phase 0 → MountsTo phase picture (map_on_card (standing phase now).state now.pending)
+    → IsPictureOf now.files now.card picture → IsTrusted phase 0 → MountsTo phase picture (map_on_card (replay_state phase now).state now.pending)
 
 -- Where every file is, it is that map.
 abbrev pub HonestPicturesMount : Type 0 → Type 0
 HonestPicturesMount Root =
     (phase : Phase) (start now : Core Root) (steps : List (CoreStep Root)) (picture : Picture) → IsStart phase start → IsRun phase start steps now
     → IsPictureOf now.files now.card picture → ((file : ℕ) → IsTrusted phase file)
-    → mounted phase.keys picture ≡ Ok (map_on_card (standing phase now).state now.pending)
+    → mounted phase.keys picture ≡ Ok (map_on_card (replay_state phase now).state now.pending)

@@ -13,7 +13,7 @@ use Rattle.htree_file.specs.Standing.{IsFirm}
 use Rattle.htree_file.specs.Pages.{Opened, opened_of}
 use Rattle.node_image.specs.Selection.{selected_tree}
 use Rattle.crash_core.proofs.SameDirectory.{directory_same}
-use Rattle.dir_file.specs.Held.{IsHeld}
+use Rattle.dir_file.specs.Held.{IsDurable}
 use Rattle.dir_file.specs.Inside.{DirInside, NextFits}
 use Rattle.htree_file.specs.Value.{Staged}
 use Rattle.htree_file.specs.Value.{TreeValue}
@@ -76,7 +76,7 @@ blank_holds pages b = record {
 
 -- a directory that is made is held
 pub made_held : (s : FileState) (tsk : List ℕ) (root : RootRef) (tree : Loaded) (pages : List (List ℕ)) → Sound s → IsFirm s root tree → AreBlank pages
-    → load_of s.reads root ≡ Ok tree → opened_of tsk s.reads root ≡ Ok (blank pages) → IsHeld s tsk root tree no_entries
+    → load_of s.reads root ≡ Ok tree → opened_of tsk s.reads root ≡ Ok (blank pages) → IsDurable s tsk root tree no_entries
 made_held s tsk root tree pages sound firm b loads opens = record {
   firm = firm;
   entries_are = λ image left.

@@ -29,7 +29,7 @@ use Rattle.dir_records.specs.Form.{record_of}
 use Rattle.crash_core.specs.Directory.{directory_of}
 use Rattle.crash_core.proofs.SameDirectory.{directory_same}
 use Rattle.dir_file.specs.View.{DirView, StagedDirectory}
-use Rattle.dir_file.specs.Held.{IsHeld, IsStaged}
+use Rattle.dir_file.specs.Held.{IsDurable, IsStaged}
 use Rattle.dir_file.specs.Stages.{SettlesDirectory}
 use Rattle.dir_file.specs.declared.file.NextEntry.{NextEntry}
 use Rattle.dir_file.specs.EntryForms.{Fits}
@@ -121,7 +121,7 @@ module _ {F : Type 0} (t u : TreeValue F) (old new : FileState) (tsk : List ℕ)
           keeps = keeps;
           firm = kept;
           held = held_kept old new (view_of t tsk entries next) sound still kept;
-          next = if_staged (staged_of t.stage next entries) (λ (x : StagedDirectory). IsTrue new.honest → IsStaged old tsk x → IsHeld new tsk x.root x.tree x.entries) (stage_at s n entries) is
+          next = if_staged (staged_of t.stage next entries) (λ (x : StagedDirectory). IsTrue new.honest → IsStaged old tsk x → IsDurable new tsk x.root x.tree x.entries) (stage_at s n entries) is
               (λ honest staged.
               let stands : IsFirm new s.root s.tree = at_stage t.stage (λ (x : Staged). IsTrue new.honest → load_of old.reads x.root ≡ Ok x.tree → IsFirm new x.root x.tree) s p.2 firm honest staged.loads in
               record {

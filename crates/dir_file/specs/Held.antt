@@ -9,7 +9,7 @@ use Rattle.crash_core.specs.Directory.{directory_of}
 use Rattle.dir_file.specs.View.{StagedDirectory}
 
 -- in every image that the file may leave, the reference names one and the same tree, and the directory is these entries
-pub record IsHeld (s : FileState) (tsk : List ℕ) (root : RootRef) (tree : Loaded) (entries : List (Option DirEntry)) : Type 0 where
+pub record IsDurable (s : FileState) (tsk : List ℕ) (root : RootRef) (tree : Loaded) (entries : List (Option DirEntry)) : Type 0 where
   pub firm : IsFirm s root tree
   pub entries_are : (image : List ℕ) → LeftNow s image → directory_of tsk image root ≡ Ok entries
 

@@ -10,13 +10,13 @@ use Rattle.htree_file.specs.Opening.{IsVerified}
 use Rattle.htree_file.specs.Selected.{KeepsFirm, Lies}
 use Rattle.dir_records.specs.declared.entry.DirEntry.{DirEntry}
 use Rattle.dir_file.specs.EntryForms.{AreEntriesOf}
-use Rattle.dir_file.specs.Held.{IsHeld, IsStaged}
+use Rattle.dir_file.specs.Held.{IsDurable, IsStaged}
 use Rattle.dir_file.specs.Loading.{IsReadDirectory}
 use Rattle.dir_file.specs.View.{DirView, StagedDirectory}
 
 -- the committed directory stays in every image, where it was in each
 abbrev pub KeepsHeld : (old new : FileState) → DirView → Type 0
-KeepsHeld old new was = IsTrue new.honest → IsHeld old was.tsk was.root was.tree was.entries → IsHeld new was.tsk was.root was.tree was.entries
+KeepsHeld old new was = IsTrue new.honest → IsDurable old was.tsk was.root was.tree was.entries → IsDurable new was.tsk was.root was.tree was.entries
 
 -- the stage has the entries with one changed, in the version that the committed tree does not select
 pub record IsNext (was : DirView) (index : ℕ) (entry : Option DirEntry) (s : StagedDirectory) : Type 0 where
@@ -38,7 +38,7 @@ pub record StagesEntry (old new : FileState) (was now : DirView) (index : ℕ) (
   pub firm : KeepsFirm old new was.root was.tree
   pub held : KeepsHeld old new was
   -- as the file reads, the stage's reference names the entries with the one changed
-  pub staged : OnOk result (IsTrue new.honest → IsHeld old was.tsk was.root was.tree was.entries → IfSome now.stage (IsStaged new was.tsk))
+  pub staged : OnOk result (IsTrue new.honest → IsDurable old was.tsk was.root was.tree was.entries → IfSome now.stage (IsStaged new was.tsk))
   -- of any file: where the committed tree's nodes seal pages that hold the committed entries, those of the stage seal pages that
   -- hold its own; and each node that was written has no spare bits in its flags
   pub seals : OnOk result (IsReadDirectory was.tsk was.tree (Ok was.entries) → IfSome now.stage (λ s. IsReadDirectory was.tsk s.tree (Ok s.entries)))
@@ -59,4 +59,4 @@ pub record SettlesDirectory (old new : FileState) (was now : DirView) {A : Type 
   pub firm : KeepsFirm old new was.root was.tree
   pub held : KeepsHeld old new was
   -- in every image the stage's reference names its entries
-  pub next : OnOk result (IfSome was.stage (λ s. IsTrue new.honest → IsStaged old was.tsk s → IsHeld new was.tsk s.root s.tree s.entries))
+  pub next : OnOk result (IfSome was.stage (λ s. IsTrue new.honest → IsStaged old was.tsk s → IsDurable new was.tsk s.root s.tree s.entries))

@@ -5,7 +5,7 @@ ghost use Rattle.htree_file.specs.Answers.{FaultCause, FilePassed};
 ghost use Rattle.htree_file.specs.Making.{DrawFault, IsDrawFault, IsMakeFault, NamesVersionZero, NotEntropy, Nowhere};
 ghost use Rattle.htree_file.specs.Opening.{IsVerified};
 ghost use Rattle.dir_file.specs.EntryForms.{no_entries};
-ghost use Rattle.dir_file.specs.Held.{IsHeld};
+ghost use Rattle.dir_file.specs.Held.{IsDurable};
 ghost use Rattle.dir_file.specs.Loading.{IsReadDirectory};
 ghost use Rattle.dir_file.specs.Making.{AreBlank};
 
@@ -67,7 +67,7 @@ impl<F: StoreFile> DirFile<F> {
         ensures pages { IfOk result (λ made. IsReadDirectory tsk.now made.0.dir.tree (Result.Ok no_entries)) }
         // In every image that the file may leave, the reference names the directory without objects.
         ensures held { IfOk result (λ made. IsTrue (F.state made.0.file).honest →
-            IsHeld (F.state made.0.file) tsk.now made.1 made.0.dir.tree no_entries) }
+            IsDurable (F.state made.0.file) tsk.now made.1 made.0.dir.tree no_entries) }
         ensures keeps { IfOk result (λ made. Keeps Nowhere (F.state file) (F.state made.0.file)) }
         ensures keeps_err { IfErr result (λ b. Keeps Nowhere (F.state file) (F.state b.file)) }
         ensures fault { IfErr result (λ b. IsMakeFault b.fault) }

@@ -1,3 +1,4 @@
 pub mod Index
 pub mod Above
 pub mod Search
+pub mod EntryNames

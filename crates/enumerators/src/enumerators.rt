@@ -6,10 +6,7 @@ ghost use Rattle.enumerators.specs.Places.{IsPlaceOf};
 use crate::{Cursor, EnumFault, place_of};
 use std::alloc::Global;
 use std::marker::Model;
-use tee_types::ObjectId;
-
-// The greatest number of live enumerators of a session.
-const MAX_ENUMERATORS: usize = 64;
+use tee_types::{MAX_ENUMERATORS, ObjectId};
 
 /// The enumerators of a session. They are numbered 0, 1, 2 and so on in the order in which they are given, and a
 /// number is never given again. A contract sees the live ones by number, and the number of the next one.

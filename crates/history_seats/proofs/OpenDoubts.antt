@@ -5,7 +5,7 @@ use Rattle.store_model.specs.declared.event.Event.TheVariants.{Call as CallEvent
 use Rattle.store_model.specs.declared.event.Mark.TheVariants.{Unchanged, Made, Doubtful}
 use Rattle.store_model.specs.Doubt.{Doubt}
 use Rattle.store_model.specs.Record.{file_of}
-use Rattle.store_model.specs.Standing.{Standing, keeps_doubt, replay, standing_after, standing_landed}
+use Rattle.store_model.specs.ReplayState.{ReplayState, keeps_doubt, replay, replay_after, replay_landed}
 use Rattle.history_seats.specs.Records.{HistoryRecord}
 use Rattle.history_seats.specs.Settling.{HasMark, IsOpenDoubt, is_settling_mark, settles}
 use Rattle.history_seats.proofs.Lists.{neither, no_some, or_false}
@@ -100,20 +100,20 @@ kept : (keeps : Bool) (before : Option Doubt) (doubt : Doubt) → elim keeps as 
 kept true before doubt is = is
 kept false before doubt is = absurd (no_some doubt is)
 
-landed-gone : (s : Standing) (o : Option Doubt) (doubt : Doubt) → s.doubt ≡ o → (standing_landed s o).doubt ≡ Some doubt → ⊥
+landed-gone : (s : ReplayState) (o : Option Doubt) (doubt : Doubt) → s.doubt ≡ o → (replay_landed s o).doubt ≡ Some doubt → ⊥
 landed-gone s None doubt none is = no_some doubt (sym none ∙ is)
 landed-gone s (Some other) doubt some_ is = no_some doubt is
 
 -- the doubt is that of a record, or was there before them all
-open-within : (s : Standing) (records : List HistoryRecord) (doubt : Doubt) → (replay s records).doubt ≡ Some doubt
+open-within : (s : ReplayState) (records : List HistoryRecord) (doubt : Doubt) → (replay s records).doubt ≡ Some doubt
     → IsOpenDoubt doubt.commit 0 records ⊎ ((any_settles records ≡ false) × (s.doubt ≡ Some doubt))
 open-within s [] doubt is = inr (refl, is)
-open-within s (r ∷ records) doubt is = elim (open-within (standing_after s r.event (file_of r)) records doubt is) [
+open-within s (r ∷ records) doubt is = elim (open-within (replay_after s r.event (file_of r)) records doubt is) [
   | inl d ↦ inl (record { front = r ∷ d.front; doubted = d.doubted; back = d.back; is = ap (λ (l : List HistoryRecord). r ∷ l) d.is; marked = d.marked; last = d.last; late = omega arith })
   | inr q ↦ one r.event refl q.0 q.1
 ]
   where
-    one : (event : Event) → r.event ≡ event → any_settles records ≡ false → (standing_after s event (file_of r)).doubt ≡ Some doubt
+    one : (event : Event) → r.event ≡ event → any_settles records ≡ false → (replay_after s event (file_of r)).doubt ≡ Some doubt
         → IsOpenDoubt doubt.commit 0 (r ∷ records) ⊎ ((any_settles (r ∷ records) ≡ false) × (s.doubt ≡ Some doubt))
     one (CallEvent session number call reply Unchanged) same none e =
         inr (or_false (settles r.event) (any_settles records) (ap settles same) none, kept (keeps_doubt reply) s.doubt doubt e)
@@ -134,7 +134,7 @@ open-within s (r ∷ records) doubt is = elim (open-within (standing_after s r.e
         own n e = cc
     one (Landed commit) same none e = absurd (landed-gone s s.doubt doubt refl e)
 
-pub replayed-open : (start : Standing) (records : List HistoryRecord) (doubt : Doubt) → start.doubt ≡ None → (replay start records).doubt ≡ Some doubt → IsOpenDoubt doubt.commit 0 records
+pub replayed-open : (start : ReplayState) (records : List HistoryRecord) (doubt : Doubt) → start.doubt ≡ None → (replay start records).doubt ≡ Some doubt → IsOpenDoubt doubt.commit 0 records
 replayed-open start records doubt none is = elim (open-within start records doubt is) [
   | inl d ↦ d
   | inr q ↦ absurd (no_some doubt (sym none ∙ q.1))

@@ -4,7 +4,7 @@ use Rattle.std.specs.List.{list_any}
 use Rattle.store_model.specs.declared.event.Event.{Event}
 use Rattle.store_model.specs.declared.event.Mark.TheVariants.{Unchanged, Doubtful}
 use Rattle.store_model.specs.Doubt.{Doubt}
-use Rattle.store_model.specs.Standing.{Standing, replay}
+use Rattle.store_model.specs.ReplayState.{ReplayState, replay}
 use Rattle.history_seats.specs.Records.{HistoryRecord, concerns_object}
 use Rattle.history_seats.specs.Settling.{Pending, calm, settling, is_landing, HasMark, IsOpenDoubt}
 use Rattle.history_seats.specs.Mounts.{Mounted}
@@ -28,7 +28,7 @@ DoubtsStayOpen =
 -- The doubt that a replay has open at its end is open in the records.
 abbrev pub ReplayedDoubtsAreOpen : Type 0
 ReplayedDoubtsAreOpen =
-    (start : Standing) (records : List HistoryRecord) (doubt : Doubt) → start.doubt ≡ None → (replay start records).doubt ≡ Some doubt
+    (start : ReplayState) (records : List HistoryRecord) (doubt : Doubt) → start.doubt ≡ None → (replay start records).doubt ≡ Some doubt
     → IsOpenDoubt doubt.commit 0 records
 
 -- A doubt that a view has open, below the view's place, does not land past the view.

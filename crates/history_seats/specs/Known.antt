@@ -1,7 +1,7 @@
 -- What records tell to a view whose place is z: there each doubt below z is decided, so that none of those leaves anything.
 use Rattle.std.specs.Prelude.{◌≡◌, ◌⊎◌, ℕ, List, Option, Some}
 use Rattle.store_model.specs.Machine.{Session}
-use Rattle.store_model.specs.Standing.{Standing, replay}
+use Rattle.store_model.specs.ReplayState.{ReplayState, replay}
 use Rattle.history_seats.specs.Records.{Version, HistoryRecord}
 use Rattle.history_seats.specs.Settling.{Pending, open_from}
 use Rattle.history_seats.specs.Mounts.{Entry, Mounted}
@@ -18,7 +18,7 @@ abbrev pub directory_from : ℕ → Mounted → List HistoryRecord → Pending (
 directory_from z mounted records = open_from z records (directory_of mounted records)
 
 -- a session of a phase that begins so
-abbrev pub session_from : (z session : ℕ) → Standing → List HistoryRecord → Pending Session
+abbrev pub session_from : (z session : ℕ) → ReplayState → List HistoryRecord → Pending Session
 session_from z session start records = open_from z records (session_of session (replay start records))
 
 -- the records give the version for some generation of the file

@@ -2,3 +2,5 @@ pub mod Serving
 pub mod Pages
 pub mod Commas
 pub mod DataBlocks
+pub mod Shapes
+pub mod Forms

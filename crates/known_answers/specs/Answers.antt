@@ -16,9 +16,9 @@ use Rattle.known_answers.specs.Lines.{hex_word, two_words, spaced}
 use Rattle.known_answers.specs.Trees.{tree_line, IsMadeLine}
 use Rattle.known_answers.specs.Entries.{entry_line}
 use Rattle.known_answers.specs.Objects.{object_line}
-use Rattle.question_lines.specs.declared.questions.Parts.{Parts}
-use Rattle.question_lines.specs.declared.questions.Question.{Question}
-use Rattle.question_lines.specs.declared.questions.Question.TheVariants.{Aes, AesInverse, Ghash, GcmSeal, GcmOpen, Hmac, Ssk, Tsk, DirTsk, RpmbKey, Wrap, Unwrap, FrameMac, FrameFields, Card, Worn, Tree, TreeMake, Entry, Object}
+use Rattle.known_answers.specs.declared.questions.Parts.{Parts}
+use Rattle.known_answers.specs.declared.questions.Question.{Question}
+use Rattle.known_answers.specs.declared.questions.Question.TheVariants.{Aes, AesInverse, Ghash, GcmSeal, GcmOpen, Hmac, Ssk, Tsk, DirTsk, RpmbKey, Wrap, Unwrap, FrameMac, FrameFields, Card, Worn, Tree, TreeMake, Entry, Object}
 
 -- the fields of a frame, in their order
 abbrev pub fields_line : Frame → List ℕ

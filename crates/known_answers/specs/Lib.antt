@@ -4,3 +4,9 @@ pub mod Trees
 pub mod Entries
 pub mod Objects
 pub mod Answers
+pub mod Words
+pub mod Subjects
+pub mod Asks
+pub mod Refusals
+pub mod Forms
+pub mod LineForms

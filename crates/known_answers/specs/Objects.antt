@@ -7,7 +7,7 @@ use Rattle.store_model.specs.Object.{Object, Damaged, Sound}
 use Rattle.crash_core.specs.MountedObject.{mounted_object}
 use Rattle.known_answers.specs.Lines.{hex_word}
 use Rattle.known_answers.specs.Entries.{record_line}
-use Rattle.question_lines.specs.declared.questions.ObjectImage.{ObjectImage}
+use Rattle.known_answers.specs.declared.questions.ObjectImage.{ObjectImage}
 
 -- numbers, each behind a comma
 abbrev pub behind_commas : List ℕ → List ℕ

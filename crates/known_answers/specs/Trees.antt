@@ -9,8 +9,8 @@ use Rattle.node_image.specs.Selection.{row}
 use Rattle.htree_file.specs.Opening.{Loaded}
 use Rattle.htree_file.specs.Pages.{Opened, opened_of, page_in}
 use Rattle.known_answers.specs.Lines.{hex_word, two_words}
-use Rattle.question_lines.specs.declared.questions.TreeImage.{TreeImage}
-use Rattle.question_lines.specs.declared.questions.TreePages.{TreePages}
+use Rattle.known_answers.specs.declared.questions.TreeImage.{TreeImage}
+use Rattle.known_answers.specs.declared.questions.TreePages.{TreePages}
 
 -- what stands for a block: the hash of its page, or that it is bad
 abbrev pub page_word : Option (List ℕ) → List ℕ

@@ -8,13 +8,13 @@ ghost use Rattle.known_answers.specs.Lines.{hex_word, spaced};
 
 use crate::entries::entry_line;
 use crate::objects::mounted_line;
+use crate::questions::{Parts, Question, WornCard};
 use crate::trees::{made_tree, opened_tree};
 use crate::words::{push_word, two_words, word_of};
 use aes_block::{Aes128, unwrap_key, wrap};
 use gcm_mode::{open_text, seal};
 use ghash_field::Ghash;
 use hmac_keys::{Keys, dir_tsk, hmac, rpmb_key, ssk, tsk};
-use question_lines::{Parts, Question, WornCard};
 use rpmb_card::SimCard;
 use rpmb_frame::{Frame, mac};
 use std::alloc::{AllocError, Global};

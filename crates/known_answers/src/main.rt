@@ -1,19 +1,23 @@
 //! Answers questions about the ciphers, the keys, the card, tree files, entries of the directory and their objects, for
 //! comparison with answers from elsewhere: a line of standard input is one question, and a line of standard output its answer.
 //!
-//! A line is a word and its arguments, one space apart. Each argument is bytes in hex, in either case,
-//! or `-` for none; a version, a length and a counter are numbers in decimal. Empty lines and lines that begin with `#` are passed over. A line that cannot be
-//! read ends the program with status 1, and its number on standard error.
+//! A line is a word and its arguments, one space apart. Each argument is bytes in hex, in either case, or `-` for none; a version, a length
+//! and a counter are numbers in decimal. Empty lines and lines that begin with `#` are passed over. A line that cannot be read ends the
+//! program with status 1, and its number on standard error.
 #![tactic(auto)]
+
+mod answers;
+mod arguments;
+mod entries;
+mod objects;
+mod question_lines;
+mod questions;
+mod subjects;
+mod trees;
+mod words;
 
 use anyhow::Context;
 use question_lines::parse;
-
-mod answers;
-mod entries;
-mod objects;
-mod trees;
-mod words;
 
 fn main(rt: HostRuntime) -> anyhow::Result<()> {
     let mut number = 0u64;

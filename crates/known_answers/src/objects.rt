@@ -14,13 +14,13 @@ ghost use Rattle.known_answers.specs.Files.{IsKept};
 ghost use Rattle.known_answers.specs.Objects.{bad_word, bytes_word, content_word, object_line, object_words};
 
 use crate::entries::bad_line;
+use crate::questions::ObjectImage;
 use crate::trees::file_of;
 use crate::words::{push_number, push_word, word_of};
 use dir_records::DirEntry;
 use htree_file::{Page, TreeFault};
 use node_image::greatest_node;
 use object_file::{ObjectFault, ObjectFile};
-use question_lines::ObjectImage;
 use sha2::{Digest, Sha256};
 use std::alloc::{AllocError, Global};
 use tee_ports::StoreFile;

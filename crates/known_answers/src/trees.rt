@@ -9,11 +9,11 @@ ghost use Rattle.known_answers.specs.Trees.{IsMadeLine, fault_line, made_line, o
 ghost use Rattle.mem_files.specs.Memory.{file_state};
 ghost use Rattle.node_image.specs.Layout.{is_sized};
 
+use crate::questions::{TreeImage, TreePages};
 use crate::words::{push_number, push_word, two_words, word_of};
 use htree_file::{Tree, TreeFault};
 use mem_files::MemFile;
 use node_image::{RootRef, greatest_node};
-use question_lines::{TreeImage, TreePages};
 use sha2::{Digest, Sha256};
 use std::alloc::{AllocError, Global};
 use tee_ports::{FileRig, Image, ListEntropy, StoreFile};

@@ -19,8 +19,8 @@ use Rattle.block_file.specs.Reads.{AreBytes, BlocksAnswer, IsReadFault}
 use Rattle.block_file.proofs.Reading.{bad_stands, page_first, page_then, told_first}
 use Rattle.tree_paths.specs.declared.node_set.NodeSet.{NodeSet}
 use Rattle.tree_paths.specs.Paths.{holds}
-use Rattle.object_calls.specs.Reads.{ShowsNext, ShowsPart, failure_in}
-use Rattle.object_calls.specs.Shown.{ShowsBlock, ShowsData}
+use Rattle.object_calls.specs.ObjectReads.{ShowsNext, ShowsPart, failure_in}
+use Rattle.object_calls.specs.ShownObjects.{ShowsBlock, ShowsData}
 use borrow.Rule.Slice.PartMut.{put_mid}
 
 -- a failure of the file is told by its count

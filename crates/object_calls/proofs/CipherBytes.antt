@@ -22,7 +22,7 @@ use Rattle.node_image.specs.declared.node.NodeImage.{NodeImage}
 use Rattle.node_image.specs.declared.head.Head.{Head}
 use Rattle.hmac_keys.specs.Hmac.{hmac}
 use Rattle.htree_file.specs.Pages.{page_of, tag_of}
-use Rattle.suppositions.proofs.Mending.{none_some, some_same}
+use Rattle.core_laws.proofs.Mending.{none_some, some_same}
 
 -- LISTS OF BYTES
 no_bytes : IsBytes []

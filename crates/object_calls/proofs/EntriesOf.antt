@@ -6,7 +6,7 @@ use Rattle.dir_records.specs.Form.{HasForm}
 use Rattle.crash_core.specs.Entries.{first_double}
 use Rattle.crash_core.specs.EntryLists.{AreDistinct, entry_at}
 use Rattle.crash_core.proofs.Doubles.{below, names_distinct}
-use Rattle.dir_file.specs.EntryForms.{AreEntriesOf}
+use Rattle.store_commit.specs.EntryForms.{AreEntriesOf}
 
 pub form_at : (entries : List (Option DirEntry)) → AreEntriesOf entries → (index : ℕ) (e : DirEntry) → entry_at entries index ≡ Some e → HasForm e
 form_at entries are index e at = subst (λ (o : Option DirEntry). IfSome o HasForm) at (are.forms index (below entries index e at))

@@ -4,7 +4,7 @@ use Rattle.std.specs.Prelude.{slice_set}
 use Rattle.std.proofs.lemmas.List.{append-nil, drop_all, take_all}
 use Rattle.disk_model.specs.State.{FileState, Sound}
 use Rattle.disk_model.proofs.Soundness.{agree_settled}
-use Rattle.object_calls.specs.Files.{files_of, no_file, object_files}
+use Rattle.object_calls.specs.OpeningFiles.{files_of, no_file, object_files}
 
 pub no_file-sound : Sound no_file
 no_file-sound = record { bytes = agree_settled [] true; told = λ h. refl; calm = λ tells none. refl; steady = λ tells none. refl }

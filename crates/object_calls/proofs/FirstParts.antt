@@ -12,27 +12,27 @@ use Rattle.history_seats.specs.Mounts.{Mounted, Served}
 use Rattle.history_seats.specs.Numbers.{is_in}
 use Rattle.history_seats.specs.Records.{HistoryRecord}
 use Rattle.history_seats.specs.Views.{GateView, Sight, SlotView, new_gate}
-use Rattle.core_parts.specs.Opened.{first_view}
-use Rattle.core_parts.proofs.Contained.{contains_none}
-use Rattle.suppositions.specs.Stores.{Store}
+use Rattle.core_laws.specs.Opened.{first_view}
+use Rattle.core_laws.proofs.Contained.{contains_none}
+use Rattle.core_laws.specs.Stores.{Store}
 use Rattle.store_commit.specs.declared.gate.Doubted.{Doubted}
-use Rattle.call_history.specs.Journals.{IsJournalOf, told_of}
-use Rattle.gate_ties.specs.Ties.{IsTied}
-use Rattle.locked_gate.specs.LockedGates.{IsClosingTied, IsLockedGate, change_in_doubt}
-use Rattle.locked_gate.proofs.Knowing.{directory-entries}
-use Rattle.locked_slots.specs.LockedSlots.{IsLockedSlot}
-use Rattle.locked_slots.specs.Opening.{first_slot}
-use Rattle.object_slots.specs.Value.{SlotValue, free}
-use Rattle.mounted_store.specs.Generations.{generation_in}
-use Rattle.mounted_store.specs.MountLaws.{IsFirstView}
-use Rattle.mounted_store.specs.MountedStores.{IsMountedStore}
-use Rattle.mounted_store.proofs.MountedParts.{mounted_slots_are_locked, mounts_begin_gates}
-use Rattle.object_calls.specs.Files.{files_of}
+use Rattle.serial_calls.specs.Journals.{IsJournalOf, told_of}
+use Rattle.core_laws.specs.Ties.{IsTied}
+use Rattle.serial_calls.specs.GuardedGates.{IsClosingTied, GateInvariant, change_in_doubt}
+use Rattle.serial_calls.proofs.Knowing.{directory-entries}
+use Rattle.serial_calls.specs.GuardedSlots.{SlotInvariant}
+use Rattle.serial_calls.specs.FirstSlots.{first_slot}
+use Rattle.serial_calls.specs.SlotValues.{SlotValue, free}
+use Rattle.object_calls.specs.Generations.{generation_in}
+use Rattle.object_calls.specs.MountLaws.{IsFirstView}
+use Rattle.object_calls.specs.MountedStores.{IsMountedStore}
+use Rattle.object_calls.proofs.MountedParts.{mounted_slots_are_guarded, mounts_begin_gates}
+use Rattle.object_calls.specs.OpeningFiles.{files_of}
 use Rattle.object_calls.specs.OpenedStores.{IsStoreOf}
 use Rattle.object_calls.specs.Opening.{IsOpening, OpeningValue, bench_files, entries_in}
 use Rattle.object_calls.specs.Seats.{HasTold, IsSplitting}
 use Rattle.object_calls.specs.Services.{AreFirstSlots, MayBeFirst, OpensAsHonest}
-use Rattle.device_counts.specs.Slots.{AreNumberedSlots, AreOfObjectFiles}
+use Rattle.serial_calls.specs.Slots.{AreNumberedSlots, AreOfObjectFiles}
 use Rattle.object_calls.proofs.Files.{files_sound}
 use Rattle.object_calls.proofs.HonestOpenings.{opens_as_honest}
 
@@ -54,17 +54,17 @@ module _ {F R : Type 0} (state : F → FileState) (port : R → PortState) (soun
   pub may_be_first : MayBeFirst store (entries_in o) state o.files
   may_be_first i within =
       let behind : bench_files state o (i + 1) ≡ files_of state o.files i = let next : i + 1 ≡ suc i = omega arith in ap (bench_files state o) next in
-      subst (λ (f : FileState). IsLockedSlot store (first_slot store (i + 1) (generation_in (entries_in o) (i + 1)) f)) behind
-      (mounted_slots_are_locked store (bench_files state o) (entries_in o) (i + 1) mounted_store)
+      subst (λ (f : FileState). SlotInvariant store (first_slot store (i + 1) (generation_in (entries_in o) (i + 1)) f)) behind
+      (mounted_slots_are_guarded store (bench_files state o) (entries_in o) (i + 1) mounted_store)
 
-  pub first_gate : (view : GateView) → IsFirstView store view → IsLockedGate store o.gate view None
+  pub first_gate : (view : GateView) → IsFirstView store view → GateInvariant store o.gate view None
   first_gate view first =
       let b = mounts_begin_gates store (bench_files state o) (entries_in o) o.gate.open_handles view mounted_store opening.unopened first in
       record {
         journal = b.journal;
         tied = subst (λ (n : ℕ). IsTied store view (entries_in o) n (change_in_doubt o.gate.doubt)) (ap (λ (s : Store). s.counter) of.is)
             (subst (λ (d : Option Doubted). IsTied store view (entries_in o) store.counter (change_in_doubt d)) (sym opening.idle) b.tied);
-        handles = λ guess answered. b.handles guess;
+        handles = λ scenario answered. b.handles scenario;
         closes = subst (λ (d : Option Doubted). IsClosingTied store view d None) (sym opening.idle) refl;
         directory_key = opening.keyed ∙ ap dir_tsk of.keyed.storage;
         card_key = of.keyed.card;

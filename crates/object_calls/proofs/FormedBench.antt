@@ -7,9 +7,9 @@ use Rattle.rpmb_card.specs.Port.{PortState}
 use Rattle.store_model.specs.Object.{ObjectMap}
 use Rattle.crash_core.specs.CardBlock.{root_in}
 use Rattle.crash_core.specs.Mounting.{all_held_in, directory_by, map_of, mounted_directory, mounted_entries}
-use Rattle.dir_file.specs.EntryForms.{no_entries}
+use Rattle.store_commit.specs.EntryForms.{no_entries}
 use Rattle.store_commit.specs.Formats.{Formats}
-use Rattle.object_calls.specs.Files.{files_of}
+use Rattle.object_calls.specs.OpeningFiles.{files_of}
 use Rattle.object_calls.specs.Formed.{MountsToNone}
 
 -- free entries name no object

@@ -1,4 +1,4 @@
--- A supposition by which all files are honest changes none of the objects that a mounted store opens with.
+-- A tamper scenario by which all files are honest changes none of the objects that a mounted store opens with.
 use Rattle.std.proofs.Common.{◌≡◌, ℕ, List, [], ◌∷◌, map, Option, Some, None, if◌then◌else◌, option_map, is_eq, inl, refl, sym, ap, ◌∙◌}
 use Rattle.std.specs.Prelude.{Contains}
 use Rattle.std.specs.Map.{keys_of}
@@ -16,15 +16,15 @@ use Rattle.dir_records.specs.declared.entry.DirEntry.{DirEntry}
 use Rattle.history_seats.specs.Mounts.{MountedEntry}
 use Rattle.history_seats.specs.Numbers.{is_in}
 use Rattle.history_seats.specs.Records.{Version}
-use Rattle.core_parts.proofs.Contained.{contains_first, contains_later}
-use Rattle.suppositions.specs.Guesses.{Guess, object_under, supposed_under}
-use Rattle.suppositions.specs.Spellings.{IsReal, object_spelt, spelling_of}
-use Rattle.suppositions.specs.Stores.{OpensMounted, Store, mounted_named, object_for, objects_under}
-use Rattle.suppositions.proofs.Mending.{some_same}
-use Rattle.gate_ties.specs.TieLaws.{AreRising}
-use Rattle.mounted_store.specs.MountedStores.{IsMountedStore}
-use Rattle.mounted_store.proofs.ListedEntries.{found_there}
-use Rattle.mounted_store.proofs.MountedViews.{mounts_tell_entries}
+use Rattle.core_laws.proofs.Contained.{contains_first, contains_later}
+use Rattle.core_laws.specs.TamperScenarios.{TamperScenario, object_under, supposed_under}
+use Rattle.core_laws.specs.Decodings.{IsReal, object_decoded, decoding_of}
+use Rattle.core_laws.specs.Stores.{OpensMounted, Store, mounted_named, object_for, objects_under}
+use Rattle.core_laws.proofs.Mending.{some_same}
+use Rattle.core_laws.specs.TieLaws.{AreRising}
+use Rattle.object_calls.specs.MountedStores.{IsMountedStore}
+use Rattle.object_calls.proofs.ListedEntries.{found_there}
+use Rattle.object_calls.proofs.MountedViews.{mounts_tell_entries}
 use Rattle.object_calls.specs.Services.{OpensAsHonest}
 
 -- a map of a list whose elements stay
@@ -38,30 +38,30 @@ altered-same files records [] = tt
 altered-same files records (e ∷ objects) = (record { name = refl; object = inl refl }, altered-same files records objects)
 
 module _ (store : Store) (opens : OpensMounted store) (rising : AreRising store.objects)
-    (real : (m : MountedEntry) → Contains store.mounted.entries m → IsReal store.keys m.version) (guess : Guess) (none : guess.dishonest ≡ []) where
+    (real : (m : MountedEntry) → Contains store.mounted.entries m → IsReal store.keys m.version) (scenario : TamperScenario) (none : scenario.tampered ≡ []) where
   -- what stands for a version is what it spells out, its object
-  object_under-real : (file generation : ℕ) (v : Version) → IsReal store.keys v → object_under store.keys guess file generation v ≡ v.object
+  object_under-real : (file generation : ℕ) (v : Version) → IsReal store.keys v → object_under store.keys scenario file generation v ≡ v.object
   object_under-real file generation v is =
-      ap (λ (l : List ℕ). object_spelt v.size v.attributes (if is_in file l then supposed_under store.keys guess file generation v else spelling_of store.keys v)) none
-      ∙ is.spells
+      ap (λ (l : List ℕ). object_decoded v.size v.attributes (if is_in file l then supposed_under store.keys scenario file generation v else decoding_of store.keys v)) none
+      ∙ is.decodes
 
   -- an object of the map is found by its name
   found : (e : ObjectName × Object) → Contains store.objects e → object_at store.objects e.0 ≡ Some e.1
   found e there = lookup-from_Contains alike e.0 e.1 store.objects (IsDistinct-from_sorted name_cmp (keys_of store.objects) rising) there
 
-  stays : (e : ObjectName × Object) → object_at store.objects e.0 ≡ Some e.1 → object_for store.keys guess (mounted_named e.0 store.mounted) e.1 ≡ e.1
+  stays : (e : ObjectName × Object) → object_at store.objects e.0 ≡ Some e.1 → object_for store.keys scenario (mounted_named e.0 store.mounted) e.1 ≡ e.1
   stays e has = by_entry (mounted_named e.0 store.mounted) refl
     where
-      by_entry : (o : Option MountedEntry) → mounted_named e.0 store.mounted ≡ o → object_for store.keys guess o e.1 ≡ e.1
+      by_entry : (o : Option MountedEntry) → mounted_named e.0 store.mounted ≡ o → object_for store.keys scenario o e.1 ≡ e.1
       by_entry None is = refl
       by_entry (Some m) is =
           object_under-real m.entry.file m.entry.generation m.version (real m (found_there (λ (x : MountedEntry). is_eq (name_cmp e.0 x.entry.name)) store.mounted.entries m is))
           ∙ some_same m.version.object e.1 (sym (ap (option_map (λ (x : MountedEntry). x.version.object)) is) ∙ sym (opens e.0) ∙ has)
 
-  objects_under-honest : objects_under store guess ≡ store.objects
+  objects_under-honest : objects_under store scenario ≡ store.objects
   objects_under-honest =
-      map-same (λ (e : ObjectName × Object). (e.0, object_for store.keys guess (mounted_named e.0 store.mounted) e.1)) store.objects
+      map-same (λ (e : ObjectName × Object). (e.0, object_for store.keys scenario (mounted_named e.0 store.mounted) e.1)) store.objects
       (λ e there. λ i. (e.0, stays e (found e there) i))
 
 pub opens_as_honest : (store : Store) (files : ℕ → FileState) (entries : List (Option DirEntry)) → IsMountedStore store files entries → OpensAsHonest store
-opens_as_honest store files entries o guess none = let t = mounts_tell_entries store files entries o in objects_under-honest store t.objects t.rising t.real guess none
+opens_as_honest store files entries o scenario none = let t = mounts_tell_entries store files entries o in objects_under-honest store t.objects t.rising t.real scenario none

@@ -14,7 +14,7 @@ use Rattle.store_model.specs.LegalHistory.{IsLegal, doubt_of, opening_with}
 use Rattle.store_model.specs.Object.{ObjectMap}
 use Rattle.store_model.specs.Record.{concerns_file, events_of}
 use Rattle.store_model.specs.Sound.{IsObjectMap}
-use Rattle.store_model.specs.Standing.{Standing, replay}
+use Rattle.store_model.specs.ReplayState.{ReplayState, replay}
 use Rattle.store_model.specs.History.{AreNumbered}
 use Rattle.store_model.specs.Doubt.{Doubt}
 use Rattle.history_seats.specs.Numbers.{is_in}
@@ -22,32 +22,32 @@ use Rattle.history_seats.specs.Records.{HistoryRecord, IsUpToDate}
 use Rattle.history_seats.specs.Rule.{SlotFits}
 use Rattle.history_seats.specs.Views.{GateView}
 use Rattle.crash_core.specs.Pictures.{IsPictureOf, Picture}
-use Rattle.core_parts.specs.SlotParts.{SlotHolds, SlotPart}
-use Rattle.core_parts.specs.Joined.{IsObjectFile}
-use Rattle.core_parts.proofs.Contained.{contains_first, contains_later, contains_cases, contains_none}
-use Rattle.suppositions.specs.Guesses.{Guess, nothing_back}
-use Rattle.suppositions.specs.Stores.{Store, phase_of, standing_at}
-use Rattle.suppositions.specs.Answered.{AreAnswered, AreOwnLegal}
-use Rattle.suppositions.proofs.Answers.{own-whole}
-use Rattle.suppositions.proofs.Narrowing.{all_answered}
+use Rattle.core_laws.specs.SlotParts.{SlotHolds, SlotPart}
+use Rattle.core_laws.specs.Joined.{IsObjectFile}
+use Rattle.core_laws.proofs.Contained.{contains_first, contains_later, contains_cases, contains_none}
+use Rattle.core_laws.specs.TamperScenarios.{TamperScenario, nothing_back}
+use Rattle.core_laws.specs.Stores.{Store, phase_of, replay_at}
+use Rattle.core_laws.specs.Answered.{AreAnswered, AreOwnLegal}
+use Rattle.core_laws.proofs.Answers.{own-whole}
+use Rattle.core_laws.proofs.Narrowing.{all_answered}
 use Rattle.store_commit.specs.declared.gate.Doubted.{Doubted}
 use Rattle.store_commit.specs.Gates.{DoubtStands, GateValue, gate_sides}
 use Rattle.store_commit.specs.Holds.{AreHolds}
 use Rattle.store_commit.specs.Sides.{Sides}
-use Rattle.gate_ties.specs.Ties.{DoubtedChange, IsStandingDoubt, IsTied}
-use Rattle.gate_parts.specs.ClosedStores.{AreSlotsOf, IsClosedStore, SupposesDishonest, dishonest_in, no_slot, slots_of, store_files}
-use Rattle.gate_parts.specs.Ties.{doubted_change}
-use Rattle.gate_parts.proofs.ClosedStores.{closed_stores_mount, dishonest_files_are_supposed, honest_stores_mount}
-use Rattle.gate_parts.proofs.Ties.{ties_tell}
-use Rattle.object_slots.specs.Steps.{part}
-use Rattle.object_slots.specs.Value.{SlotValue}
-use Rattle.locked_gate.specs.declared.gate.Closing.{Closing}
-use Rattle.locked_gate.specs.LockedGates.{IsLockedGate, LockedGateValue, change_in_doubt}
-use Rattle.object_calls.specs.Files.{files_of}
-use Rattle.object_calls.specs.Finished.{AreAllHonest, GivesBack, IsAnsweredOrEnds, IsDoubtLeft, IsMapLeft, LeavesHonest, LeavesStore, PicturesMountAfter, end_standing}
+use Rattle.core_laws.specs.Ties.{DoubtedChange, IsReplayDoubt, IsTied}
+use Rattle.serial_calls.specs.ClosedStores.{AreSlotsOf, IsClosedStore, SupposesTampered, tampered_in, no_slot, slots_of, store_files}
+use Rattle.serial_calls.specs.CoreTies.{doubted_change}
+use Rattle.serial_calls.proofs.ClosedStores.{closed_stores_mount, tampered_files_are_supposed, honest_stores_mount}
+use Rattle.serial_calls.proofs.Ties.{ties_tell}
+use Rattle.serial_calls.specs.SlotCalls.{part}
+use Rattle.serial_calls.specs.SlotValues.{SlotValue}
+use Rattle.serial_calls.specs.declared.Closing.{Closing}
+use Rattle.serial_calls.specs.GuardedGates.{GateInvariant, GuardedGateValue, change_in_doubt}
+use Rattle.object_calls.specs.OpeningFiles.{files_of}
+use Rattle.object_calls.specs.FinishedPhase.{AreAllHonest, GivesBack, IsAnsweredOrEnds, IsDoubtLeft, IsMapLeft, LeavesHonest, LeavesStore, PicturesMountAfter, end_replay}
 use Rattle.object_calls.specs.Retiring.{ArePlaced, AreRecorded, IsPlaced}
 use Rattle.object_calls.specs.Services.{OpensAsHonest, ServiceValue}
-use Rattle.device_counts.specs.Slots.{AreOfObjectFiles, AreSlots}
+use Rattle.serial_calls.specs.Slots.{AreOfObjectFiles, AreSlots}
 use Rattle.object_calls.proofs.Files.{files-past}
 use Rattle.object_calls.proofs.HonestHistories.{all_answered as all_answered_honest, events_legal}
 use Rattle.object_calls.proofs.HonestOpenings.{altered-same}
@@ -94,7 +94,7 @@ doubt_words None = refl
 doubt_words (Some d) = refl
 
 module _ {F R : Type 0} (state : F → FileState) (port : R → PortState) (sound : (f : F) → Sound (state f)) (store : Store) (gate : GateValue F R) (view : GateView)
-    (closing : Option Closing) (taken : List SlotValue) (others : List F) (locked : IsLockedGate store gate view closing) (stands : DoubtStands (gate_sides state port gate) gate.doubt)
+    (closing : Option Closing) (taken : List SlotValue) (others : List F) (guarded : GateInvariant store gate view closing) (stands : DoubtStands (gate_sides state port gate) gate.doubt)
     (held : AreHolds gate.dir.dir.entries gate.holds) (tagged : AreOfObjectFiles view.all) (many : length others ≡ 272) (placed : ArePlaced store view taken state 272 others) (opens : OpensAsHonest store) where
   abbrev g : Sides
   g = gate_sides state port gate
@@ -146,72 +146,72 @@ module _ {F R : Type 0} (state : F → FileState) (port : R → PortState) (soun
   same_files = λ j file. same_file file j
 
   -- THE HISTORY
-  supposed : (guess : Guess) → guess.dishonest ≡ dishonest_in files → SupposesDishonest guess (store_files g slots)
-  supposed guess is = dishonest_files_are_supposed guess (store_files g slots) (is ∙ ap dishonest_in (sym same_files))
+  supposed : (scenario : TamperScenario) → scenario.tampered ≡ tampered_in files → SupposesTampered scenario (store_files g slots)
+  supposed scenario is = tampered_files_are_supposed scenario (store_files g slots) (is ∙ ap tampered_in (sym same_files))
 
-  own_of : (guess : Guess) (file : ℕ) (own : IsObjectFile file) → IsTrue (files file).honest → is_in file guess.dishonest ≡ false → AreOwnLegal store guess file view.all
-  own_of guess file own honest off =
+  own_of : (scenario : TamperScenario) (file : ℕ) (own : IsObjectFile file) → IsTrue (files file).honest → is_in file scenario.tampered ≡ false → AreOwnLegal store scenario file view.all
+  own_of scenario file own honest off =
       let p = placed_at file own in
       let begins : IsUpToDate (concerns_file file) p.seat.knows.seen view.all =
       subst (λ (n : ℕ). IsUpToDate (concerns_file n) p.seat.knows.seen view.all) p.own.own p.fits.sees.begins in
-      own-whole store guess file p.seat.knows.seen view.all begins (p.own.legal honest guess off)
+      own-whole store scenario file p.seat.knows.seen view.all begins (p.own.legal honest scenario off)
 
-  off_of : (guess : Guess) (file : ℕ) → (IsObjectFile file → ⊥) → AreOwnLegal store guess file view.all
-  off_of guess file off front r back split names answered = absurd (off (tagged r file (subst (λ (l : List HistoryRecord). Contains l r) split (contains_between front r back)) names))
+  off_of : (scenario : TamperScenario) (file : ℕ) → (IsObjectFile file → ⊥) → AreOwnLegal store scenario file view.all
+  off_of scenario file off front r back split names answered = absurd (off (tagged r file (subst (λ (l : List HistoryRecord). Contains l r) split (contains_between front r back)) names))
 
-  own_legal : (guess : Guess) → guess.dishonest ≡ dishonest_in files → (file : ℕ) → Contains guess.dishonest file ⊎ AreOwnLegal store guess file view.all
-  own_legal guess is file = elim (object_or_not file) [
-    | inr off ↦ inr (off_of guess file off)
-    | inl own ↦ elim (cases_Bool (is_in file guess.dishonest)) [
-      | inl among ↦ inl (in-contains file guess.dishonest among)
+  own_legal : (scenario : TamperScenario) → scenario.tampered ≡ tampered_in files → (file : ℕ) → Contains scenario.tampered file ⊎ AreOwnLegal store scenario file view.all
+  own_legal scenario is file = elim (object_or_not file) [
+    | inr off ↦ inr (off_of scenario file off)
+    | inl own ↦ elim (cases_Bool (is_in file scenario.tampered)) [
+      | inl among ↦ inl (in-contains file scenario.tampered among)
       | inr off ↦
           let honest : IsTrue (files file).honest =
-          subst (λ (s : FileState). IsTrue s.honest) (same_file file) (supposed guess is file own.1 (λ there. true≢false (sym (contains-in file guess.dishonest there) ∙ off))) in
-          inr (own_of guess file own honest off)
+          subst (λ (s : FileState). IsTrue s.honest) (same_file file) (supposed scenario is file own.1 (λ there. true≢false (sym (contains-in file scenario.tampered there) ∙ off))) in
+          inr (own_of scenario file own honest off)
     ]
   ]
 
   answered_or : IsAnsweredOrEnds store view files
-  answered_or guess is = all_answered store guess view.all (locked.journal.fair guess) (own_legal guess is)
+  answered_or scenario is = all_answered store scenario view.all (guarded.journal.fair scenario) (own_legal scenario is)
 
   tied_words : IsTied store view gate.dir.dir.entries gate.counter (option_map doubted_change gate.doubt)
-  tied_words = subst (λ (d : Option DoubtedChange). IsTied store view gate.dir.dir.entries gate.counter d) (doubt_words gate.doubt) locked.tied
+  tied_words = subst (λ (d : Option DoubtedChange). IsTied store view gate.dir.dir.entries gate.counter d) (doubt_words gate.doubt) guarded.tied
 
-  closed : (guess : Guess) (card : CardState) → SupposesDishonest guess (store_files g slots) → AreAnswered store guess view.all
-      → HasCard (port gate.host.port) (rpmb_key store.keys.huk) card → IsClosedStore store guess g gate.doubt gate.holds card view slots
-  closed guess card dishonest answered has = record {
+  closed : (scenario : TamperScenario) (card : CardState) → SupposesTampered scenario (store_files g slots) → AreAnswered store scenario view.all
+      → HasCard (port gate.host.port) (rpmb_key store.keys.huk) card → IsClosedStore store scenario g gate.doubt gate.holds card view slots
+  closed scenario card tampered answered has = record {
     gate = record {
-      tsk = locked.directory_key;
+      tsk = guarded.directory_key;
       sound = sound gate.dir.file;
       stands = stands;
       held = held;
-      told = record { own = card; has = subst (λ (k : List ℕ). HasCard (port gate.host.port) k card) (sym locked.card_key) has; same = record { key = refl; counter = refl; blocks = refl } };
+      told = record { own = card; has = subst (λ (k : List ℕ). HasCard (port gate.host.port) k card) (sym guarded.card_key) has; same = record { key = refl; counter = refl; blocks = refl } };
     };
-    tied = ties_tell store guess view gate.dir.dir.entries gate.counter gate.doubt locked.journal.mounted tied_words answered (locked.journal.in_step guess answered);
+    tied = ties_tell store scenario view gate.dir.dir.entries gate.counter gate.doubt guarded.journal.mounted tied_words answered (guarded.journal.in_step scenario answered);
     slots_hold = slots_hold;
-    dishonest = dishonest;
+    tampered = tampered;
   }
 
   mounts_after : PicturesMountAfter store view files (port gate.host.port)
-  mounts_after guess card picture is answered has left trusted =
-      closed_stores_mount store guess g gate.doubt gate.holds card view slots picture (closed guess card (supposed guess is) answered has)
+  mounts_after scenario card picture is answered has left trusted =
+      closed_stores_mount store scenario g gate.doubt gate.holds card view slots picture (closed scenario card (supposed scenario is) answered has)
       (subst (λ (f : ℕ → FileState). IsPictureOf f card picture) (sym same_files) left) trusted
 
   doubt_by : (doubt : Option Doubted) → IsTied store view gate.dir.dir.entries gate.counter (change_in_doubt doubt) → IsDoubtLeft store view (option_map (λ d. d.number) doubt)
-  doubt_by None tied guess answered = inr refl
-  doubt_by (Some d) tied guess answered =
-      let s : IsStandingDoubt (standing_at store guess view.all) gate.dir.dir.entries _ = tied.doubt.stands guess answered in
+  doubt_by None tied scenario answered = inr refl
+  doubt_by (Some d) tied scenario answered =
+      let s : IsReplayDoubt (replay_at store scenario view.all) gate.dir.dir.entries _ = tied.doubt.stands scenario answered in
       inl (ap (λ (n : ℕ). Some n) (sym s.number) ∙ ap (option_map (λ (x : Doubt). x.commit)) (sym s.is_open))
 
   doubted_is : (doubt : Option ℕ) → doubt ≡ option_map (λ d. d.number) gate.doubt → IsDoubtLeft store view doubt
-  doubted_is doubt is = subst (IsDoubtLeft store view) (sym is) (doubt_by gate.doubt locked.tied)
+  doubted_is doubt is = subst (IsDoubtLeft store view) (sym is) (doubt_by gate.doubt guarded.tied)
 
   -- WHERE EVERY FILE IS HONEST
-  abbrev plain : Guess
+  abbrev plain : TamperScenario
   plain = nothing_back []
 
-  standing_is : standing_at store plain view.all ≡ end_standing store view
-  standing_is = ap (λ (m : ObjectMap). replay (opening_with (phase_of store) m) view.all) (opens plain refl)
+  replay_is : replay_at store plain view.all ≡ end_replay store view
+  replay_is = ap (λ (m : ObjectMap). replay (opening_with (phase_of store) m) view.all) (opens plain refl)
 
   module _ (honest : AreAllHonest files) where
     own_each : (file : ℕ) → AreOwnLegal store plain file view.all
@@ -221,23 +221,23 @@ module _ {F R : Type 0} (state : F → FileState) (port : R → PortState) (soun
     ]
 
     answered_plain : AreAnswered store plain view.all
-    answered_plain = all_answered_honest store plain view.all (locked.journal.fair plain) own_each
+    answered_plain = all_answered_honest store plain view.all (guarded.journal.fair plain) own_each
 
-    supposed_plain : SupposesDishonest plain (store_files g slots)
+    supposed_plain : SupposesTampered plain (store_files g slots)
     supposed_plain file within off = subst (λ (s : FileState). IsTrue s.honest) (sym (same_file file)) (honest file)
 
     map_left : (card : CardState) (picture : Picture) → HasCard (port gate.host.port) (rpmb_key store.keys.huk) card → IsPictureOf files card picture
-        → IsMapLeft store.keys picture (end_standing store view)
+        → IsMapLeft store.keys picture (end_replay store view)
     map_left card picture has left =
-        subst (IsMapLeft store.keys picture) standing_is
+        subst (IsMapLeft store.keys picture) replay_is
         (honest_stores_mount store plain g gate.doubt gate.holds card view slots picture (closed plain card supposed_plain answered_plain has)
         (subst (λ (f : ℕ → FileState). IsPictureOf f card picture) (sym same_files) left) (λ file. contains_none file))
 
     leaves_honest : (doubt : Option ℕ) → IsDoubtLeft store view doubt → LeavesHonest store view files (port gate.host.port) doubt
     leaves_honest doubt doubted = record {
       events_legal = subst (λ (m : ObjectMap). IsLegalFrom [] (opening_with (phase_of store) m) view.all) (opens plain refl)
-          (events_legal store plain view.all (locked.journal.fair plain) own_each);
-      doubt_left = subst (λ (s : Standing). (doubt ≡ doubt_of s) ⊎ (doubt ≡ None)) standing_is (doubted plain answered_plain);
+          (events_legal store plain view.all (guarded.journal.fair plain) own_each);
+      doubt_left = subst (λ (s : ReplayState). (doubt ≡ doubt_of s) ⊎ (doubt ≡ None)) replay_is (doubted plain answered_plain);
       mounts = map_left;
     }
 
@@ -265,14 +265,14 @@ module _ {F R : Type 0} (state : F → FileState) (port : R → PortState) (soun
   }
 
 -- The parts of a store that is closed: its gate, its history once the sessions' seats were taken in, and its files.
-module _ {F R : Type 0} (state : F → FileState) (port : R → PortState) (sound : (f : F) → Sound (state f)) (store : Store) (s : LockedGateValue F R) (later : GateView)
-    (locked : IsLockedGate store s.gate s.journal.knows s.closing) (tagged : AreOfObjectFiles s.journal.knows.all) (same : IsSameHistory s.journal.knows later)
+module _ {F R : Type 0} (state : F → FileState) (port : R → PortState) (sound : (f : F) → Sound (state f)) (store : Store) (s : GuardedGateValue F R) (later : GateView)
+    (guarded : GateInvariant store s.gate s.journal.knows s.closing) (tagged : AreOfObjectFiles s.journal.knows.all) (same : IsSameHistory s.journal.knows later)
     (taken : List SlotValue) (others : List F) (many : length others ≡ 272) (placed : ArePlaced store later taken state 272 others) (recorded : AreRecorded later) (opens : OpensAsHonest store) where
   pub leaves_parts : DoubtStands (gate_sides state port s.gate) s.gate.doubt → AreHolds s.gate.dir.dir.entries s.gate.holds → (doubt : Option ℕ)
       → doubt ≡ option_map (λ d. d.number) s.gate.doubt → (dir : F) (card : R) (files : List F) → dir ≡ s.gate.dir.file → card ≡ s.gate.host.port → files ≡ dir ∷ others
       → LeavesStore store s.journal.knows (files_of state files) (port card) doubt
   leaves_parts stands held doubt doubt_is dir card files dir_is card_is files_are =
-      let all = leaves state port sound store s.gate s.journal.knows s.closing taken others locked stands held tagged many
+      let all = leaves state port sound store s.gate s.journal.knows s.closing taken others guarded stands held tagged many
       (λ i within. placed_back s.journal.knows later same store taken (i + 1) (files_of state others i) (placed i within)) opens doubt doubt_is (recorded_back s.journal.knows later same recorded).numbered in
       subst (λ (l : List F). LeavesStore store s.journal.knows (files_of state l) (port card) doubt) (sym (files_are ∙ ap (λ (f : F). f ∷ others) dir_is))
       (subst (λ (r : R). LeavesStore store s.journal.knows (files_of state (s.gate.dir.file ∷ others)) (port r) doubt) (sym card_is) all)

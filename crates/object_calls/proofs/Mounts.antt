@@ -21,9 +21,9 @@ use Rattle.store_commit.specs.Mounts.{HasRootRead, MountHeard, MountRefused, Ope
 use Rattle.store_commit.specs.declared.fault.MountFault.{MountFault}
 use Rattle.store_commit.specs.declared.fault.MountFault.TheVariants.{NoStore, CardBlock, Directory, Frame, CardResult, Failed, Spent, NoMemory}
 use Rattle.object_calls.specs.Begins.{IsWholeOpening, MountsAsRead}
-use Rattle.object_calls.specs.Files.{files_of, object_files}
+use Rattle.object_calls.specs.OpeningFiles.{files_of, object_files}
 use Rattle.object_calls.specs.Opening.{IsKeyed, IsOpening, OpeningValue, bench_files}
-use Rattle.object_calls.specs.Refusals.{BenchCounts, BenchHeard, BenchRefused, GateRefuses}
+use Rattle.object_calls.specs.MountRefusals.{BenchCounts, BenchHeard, BenchRefused, GateRefuses}
 use Rattle.object_calls.specs.Syncing.{StopsSyncing, SyncsNamed}
 use Rattle.object_calls.proofs.EntriesOf.{file_from_one}
 use Rattle.object_calls.proofs.Files.{files_behind}

@@ -13,7 +13,7 @@ use Rattle.crash_core.specs.Entries.{name_of}
 use Rattle.crash_core.specs.EntryLists.{entry_at}
 use Rattle.crash_core.proofs.Doubles.{below as at_below}
 use Rattle.crash_core.proofs.EntryMaps.{self}
-use Rattle.object_calls.specs.Entries.{IsNextEntry, is_nearer, is_past, nearer_of}
+use Rattle.object_calls.specs.OpeningEntries.{IsNextEntry, is_nearer, is_past, nearer_of}
 
 -- the least above among the first entries
 pub record IsLeastBefore (entries : List (Option DirEntry)) (after : Option ObjectName) (count : ℕ) (e : DirEntry) : Type 0 where

@@ -5,10 +5,10 @@ use Rattle.hmac_keys.specs.KeyTable.{tsk}
 use Rattle.store_model.specs.declared.name.ObjectName.{ObjectName}
 use Rattle.dir_records.specs.declared.entry.DirEntry.{DirEntry}
 use Rattle.store_commit.specs.declared.fault.MountFault.{MountFault}
-use Rattle.object_calls.specs.declared.shown.Shown.{Shown}
-use Rattle.object_calls.specs.declared.shown.ShownObject.{ShownObject}
-use Rattle.object_calls.specs.Entries.{IsLeastPast}
-use Rattle.object_calls.specs.Files.{files_of, object_files}
+use Rattle.object_calls.specs.declared.shown_object.Shown.{Shown}
+use Rattle.object_calls.specs.declared.shown_object.ShownObject.{ShownObject}
+use Rattle.object_calls.specs.OpeningEntries.{IsLeastPast}
+use Rattle.object_calls.specs.OpeningFiles.{files_of, object_files}
 use Rattle.object_calls.specs.Next.{NextAnswer, ReadsObject, ReadsOne, ShowAnswer}
 use Rattle.object_calls.proofs.Files.{files_behind}
 use Rattle.object_calls.proofs.Rearming.{reads_bench}

@@ -38,12 +38,12 @@ use Rattle.crash_core.specs.EntryLists.{entry_at}
 use Rattle.crash_core.specs.Entries.{name_of}
 use Rattle.crash_core.specs.MountedObject.{contents_of, mounted_object, object_in, object_of, object_or_damaged, object_with, root_of}
 use Rattle.crash_core.specs.Opening.{opening_map, reads_of}
-use Rattle.dir_file.specs.EntryForms.{AreEntriesOf}
-use Rattle.suppositions.proofs.Images.{image_real}
-use Rattle.mounted_store.proofs.OpeningMaps.{opening-rises}
+use Rattle.store_commit.specs.EntryForms.{AreEntriesOf}
+use Rattle.core_laws.proofs.Images.{image_real}
+use Rattle.object_calls.proofs.OpeningMaps.{opening-rises}
 use Rattle.object_calls.specs.ObjectMaps.{ReadsBytes}
 use Rattle.object_calls.specs.Opening.{AreIdentified}
-use Rattle.object_calls.proofs.Counting.{length-map_of}
+use Rattle.object_calls.proofs.EntryCounting.{length-map_of}
 use Rattle.object_calls.proofs.EntriesOf.{distinct_names}
 use Rattle.object_calls.proofs.CipherBytes.{bytes-mapped, bytes-take, hmac_bytes, page_bytes, unwrapped_bytes}
 

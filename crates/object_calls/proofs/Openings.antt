@@ -48,7 +48,7 @@ module _ {F R : Type 0} (state : F → FileState) (port : R → PortState) (soun
   honest_mount keys card picture keyed has left honest =
       let phase : Phase = record {
         keys = keys;
-        dishonest = [];
+        tampered = [];
         begins = record { objects = opening_map keys (bench_files state o) (entries_in o); files = λ name. None; applications = []; counter = o.gate.counter };
       } in
       let there : BeginsThere phase state o = record { keyed = keyed; counter = refl; objects = λ trusted. refl; honest = λ file trusted. honest file } in

@@ -8,12 +8,12 @@ use Rattle.disk_model.specs.State.{FileState}
 use Rattle.history_seats.specs.Numbers.{is_in, without}
 use Rattle.history_seats.specs.Views.{GateView}
 use Rattle.history_seats.proofs.Numbers.{stays_in}
-use Rattle.core_parts.specs.Joined.{IsObjectFile}
-use Rattle.suppositions.specs.Stores.{Store}
-use Rattle.locked_slots.specs.LockedSlots.{IsSlotOf}
-use Rattle.object_slots.specs.Value.{SlotValue}
-use Rattle.object_calls.specs.Files.{files_of}
-use Rattle.object_calls.specs.Places.{AreFree, place_state}
+use Rattle.core_laws.specs.Joined.{IsObjectFile}
+use Rattle.core_laws.specs.Stores.{Store}
+use Rattle.serial_calls.specs.GuardedSlots.{IsSlotOf}
+use Rattle.serial_calls.specs.SlotValues.{SlotValue}
+use Rattle.object_calls.specs.OpeningFiles.{files_of}
+use Rattle.object_calls.specs.SlotPlaces.{AreFree, place_state}
 use Rattle.object_calls.specs.Retiring.{AreObjectSlots, ArePlaced, AreRecorded, IsPlaced, IsRetired}
 use Rattle.object_calls.proofs.Files.{files_else, files_here}
 use Rattle.object_calls.proofs.Retirings.{IsSameHistory, recorded_back, retired_back, same_itself, same_then}

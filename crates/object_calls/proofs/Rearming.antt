@@ -13,8 +13,8 @@ use Rattle.disk_model.specs.Arms.{Taint}
 use Rattle.disk_model.specs.Controls.{failure_armed, stop_armed, taint_armed}
 use Rattle.tee_types.specs.declared.reply.Device.{Device}
 use Rattle.tee_types.specs.declared.reply.Device.TheVariants.{Dir, File, Card, Entropy}
-use Rattle.object_calls.specs.Arming.{ArmsOne, FailsOnBench, StayDevices, StopsOnBench, TaintsOnBench}
-use Rattle.object_calls.specs.Files.{files_of}
+use Rattle.object_calls.specs.OpeningArms.{ArmsOne, FailsOnBench, StayDevices, StopsOnBench, TaintsOnBench}
+use Rattle.object_calls.specs.OpeningFiles.{files_of}
 use Rattle.object_calls.specs.Next.{ReadsObject, ReadsOne}
 use Rattle.object_calls.specs.Opening.{IsOpening}
 use Rattle.object_calls.proofs.Files.{files_behind, files_else, files_get, files_here}

@@ -10,12 +10,12 @@ use Rattle.history_seats.specs.Rule.{PassFits, SlotFits}
 use Rattle.history_seats.specs.Tags.{AreTagged}
 use Rattle.history_seats.specs.Views.{GateView, PassView, SlotView}
 use Rattle.history_seats.proofs.Keeping.{keep_pass, keep_slot}
-use Rattle.suppositions.specs.Stores.{Store}
-use Rattle.call_history.specs.Journals.{JournalValue}
-use Rattle.call_history.specs.Sessions.{CallerSession}
-use Rattle.call_history.specs.Shown.{BeginsAll}
-use Rattle.object_slots.specs.Value.{SlotValue}
-use Rattle.object_calls.specs.Finished.{HasCounted}
+use Rattle.core_laws.specs.Stores.{Store}
+use Rattle.serial_calls.specs.Journals.{JournalValue}
+use Rattle.serial_calls.specs.CallerSessions.{CallerSession}
+use Rattle.serial_calls.specs.SessionViews.{BeginsAll}
+use Rattle.serial_calls.specs.SlotValues.{SlotValue}
+use Rattle.object_calls.specs.FinishedPhase.{HasCounted}
 use Rattle.object_calls.specs.Retiring.{AreRecorded, IsPlaced, IsRetired}
 use Rattle.object_calls.proofs.Stacks.{last_of_all, rest_of_all}
 

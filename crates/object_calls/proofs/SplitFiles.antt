@@ -5,12 +5,12 @@ use Rattle.std.proofs.lemmas.List.{get_or_append_left, get_or_push, length-appen
 use Rattle.disk_model.specs.State.{FileState}
 use Rattle.dir_records.specs.declared.entry.DirEntry.{DirEntry}
 use Rattle.history_seats.specs.Views.{GateView}
-use Rattle.suppositions.specs.Stores.{Store}
-use Rattle.object_slots.specs.Value.{SlotValue}
-use Rattle.locked_slots.specs.LockedSlots.{IsLockedSlot}
-use Rattle.locked_slots.specs.Opening.{first_slot}
-use Rattle.mounted_store.specs.Generations.{generation_in}
-use Rattle.object_calls.specs.Files.{files_of}
+use Rattle.core_laws.specs.Stores.{Store}
+use Rattle.serial_calls.specs.SlotValues.{SlotValue}
+use Rattle.serial_calls.specs.GuardedSlots.{SlotInvariant}
+use Rattle.serial_calls.specs.FirstSlots.{first_slot}
+use Rattle.object_calls.specs.Generations.{generation_in}
+use Rattle.object_calls.specs.OpeningFiles.{files_of}
 use Rattle.object_calls.specs.Seats.{HasTold}
 use Rattle.object_calls.specs.Services.{AreFirstSlots, MayBeFirst, slot_for}
 use Rattle.object_calls.proofs.Files.{files_get}
@@ -36,10 +36,10 @@ module _ {F : Type 0} (store : Store) (entries : List (Option DirEntry)) (state 
     file_next file is = files_get state files (length slots) file more (last_left files left (length slots) s.left_are file more is)
 
     pub may_be_next : MayBeFirst store entries state files → (file : F) (number : ℕ) → number ≡ length slots + 1 → file ≡ get_or left (length left - 1) file
-        → IsLockedSlot store (first_slot store number (generation_in entries number) (state file))
+        → SlotInvariant store (first_slot store number (generation_in entries number) (state file))
     may_be_next may file number is last =
-        subst (λ (n : ℕ). IsLockedSlot store (first_slot store n (generation_in entries n) (state file))) (sym is)
-        (subst (λ (f : FileState). IsLockedSlot store (first_slot store (length slots + 1) (generation_in entries (length slots + 1)) f)) (file_next file last) (may (length slots) more))
+        subst (λ (n : ℕ). SlotInvariant store (first_slot store n (generation_in entries n) (state file))) (sym is)
+        (subst (λ (f : FileState). SlotInvariant store (first_slot store (length slots + 1) (generation_in entries (length slots + 1)) f)) (file_next file last) (may (length slots) more))
 
     pub one_split : (after : GateView) (file : F) (number : ℕ) (slot : SlotValue) (slots_after : List SlotValue) (left_after : List F) → number ≡ length slots + 1
         → file ≡ get_or left (length left - 1) file → slot ≡ first_slot store number (generation_in entries number) (state file) → slots_after ≡ slots ++ slot ∷ []

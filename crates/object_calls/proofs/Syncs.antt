@@ -15,7 +15,7 @@ use Rattle.crash_core.specs.EntryLists.{entry_at}
 use Rattle.tee_types.specs.declared.reply.Cause.{Cause}
 use Rattle.tee_types.specs.declared.reply.Cause.TheVariants.{Fault, Frame, CardResult}
 use Rattle.tee_types.specs.declared.reply.Device.TheVariants.{Dir, File, Card, Entropy}
-use Rattle.object_calls.specs.Files.{files_of, object_files}
+use Rattle.object_calls.specs.OpeningFiles.{files_of, object_files}
 use Rattle.object_calls.specs.Syncing.{FileSynced, IsOnlySynced, StopsSyncing, SyncFailed, SyncsNamed, SyncsOne}
 use Rattle.object_calls.proofs.Files.{files_behind, object_else, object_get, object_here}
 

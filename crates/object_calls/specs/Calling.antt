@@ -1,15 +1,15 @@
 -- What a call of a served store is answered.
 use Rattle.std.specs.Prelude.{None, Option, Some, ℕ, ◌≡◌}
-use Rattle.call_history.specs.Sessions.{CallerSession}
+use Rattle.serial_calls.specs.CallerSessions.{CallerSession}
 use Rattle.disk_model.specs.State.{FileState}
 use Rattle.hmac_keys.specs.KeyTable.{rpmb_key}
 use Rattle.object_calls.specs.Services.{ServiceValue}
 use Rattle.rpmb_card.specs.Port.{PortState}
-use Rattle.served_calls.specs.Answered.{GoesOnWithout, IsAnswered}
-use Rattle.served_calls.specs.Held.{KeepsHolds}
-use Rattle.device_counts.specs.Devices.{DevicesGoOn}
-use Rattle.device_counts.specs.Serving.{Serving, devices_in}
-use Rattle.suppositions.specs.Stores.{Store}
+use Rattle.serial_calls.specs.ServedAnswers.{GoesOnWithout, IsAnswered}
+use Rattle.serial_calls.specs.HeldFiles.{KeepsHolds}
+use Rattle.serial_calls.specs.Devices.{DevicesGoOn}
+use Rattle.serial_calls.specs.Rising.{Serving, devices_in}
+use Rattle.core_laws.specs.Stores.{Store}
 use Rattle.tee_types.specs.declared.call.Call.{Call}
 use Rattle.tee_types.specs.declared.reply.Reply.{Reply}
 use Rattle.tee_types.specs.declared.reply.Reply.TheVariants.{NoMemory}

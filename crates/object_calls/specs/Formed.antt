@@ -8,7 +8,7 @@ use Rattle.rpmb_card.specs.Port.{PortState}
 use Rattle.rpmb_host.specs.Honest.{HasCard}
 use Rattle.crash_core.specs.Mounting.{mounted}
 use Rattle.crash_core.specs.Pictures.{IsPictureOf, Picture}
-use Rattle.object_calls.specs.Files.{files_of}
+use Rattle.object_calls.specs.OpeningFiles.{files_of}
 
 -- Where the directory's file is honest and the card was told and had the key, every picture mounts to no objects.
 abbrev pub MountsToNone : {F : Type 0} → (F → FileState) → List F → (p0 p1 : PortState) → Keys → Type 0

@@ -12,10 +12,10 @@ use Rattle.tee_types.specs.declared.reply.Cause.TheVariants.{Fault}
 use Rattle.tee_types.specs.declared.reply.Device.TheVariants.{File}
 use Rattle.store_commit.specs.declared.fault.MountFault.{MountFault}
 use Rattle.store_commit.specs.declared.fault.MountFault.TheVariants.{Failed, NoMemory}
-use Rattle.object_calls.specs.declared.shown.Shown.{Shown}
-use Rattle.object_calls.specs.declared.shown.ShownObject.{ShownObject}
-use Rattle.object_calls.specs.Entries.{IsLeastPast, IsNonePast}
-use Rattle.object_calls.specs.Shown.{ShowsEntry}
+use Rattle.object_calls.specs.declared.shown_object.Shown.{Shown}
+use Rattle.object_calls.specs.declared.shown_object.ShownObject.{ShownObject}
+use Rattle.object_calls.specs.OpeningEntries.{IsLeastPast, IsNonePast}
+use Rattle.object_calls.specs.ShownObjects.{ShowsEntry}
 
 -- reads of that file alone
 pub record ReadsOne (old new : ℕ → FileState) (file : ℕ) : Type 0 where

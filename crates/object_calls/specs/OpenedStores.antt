@@ -5,8 +5,8 @@ use Rattle.hmac_keys.specs.declared.Keys.{Keys}
 use Rattle.rpmb_card.specs.Port.{PortState}
 use Rattle.crash_core.specs.Opening.{opening_map}
 use Rattle.history_seats.specs.Mounts.{Mounted, Served, ServedDevice}
-use Rattle.suppositions.specs.Stores.{Store}
-use Rattle.mounted_store.specs.MountedEntries.{mounted_entries}
+use Rattle.core_laws.specs.Stores.{Store}
+use Rattle.object_calls.specs.MountedEntries.{mounted_entries}
 use Rattle.object_calls.specs.Opening.{IsKeyed, OpeningValue, bench_files, entries_in}
 
 abbrev pub served_file : FileState → ServedDevice

@@ -7,10 +7,10 @@ use Rattle.hmac_keys.specs.declared.Keys.{Keys}
 use Rattle.hmac_keys.specs.KeyTable.{dir_tsk, rpmb_key, ssk}
 use Rattle.dir_records.specs.declared.entry.DirEntry.{DirEntry}
 use Rattle.crash_core.specs.EntryLists.{entry_at}
-use Rattle.dir_file.specs.EntryForms.{AreEntriesOf}
+use Rattle.store_commit.specs.EntryForms.{AreEntriesOf}
 use Rattle.store_commit.specs.Gates.{GateValue}
 use Rattle.store_commit.specs.Holds.{file_held}
-use Rattle.object_calls.specs.Files.{files_of}
+use Rattle.object_calls.specs.OpeningFiles.{files_of}
 
 pub record OpeningValue (F R : Type 0) : Type 0 where
   -- the directory in its file, and the card

@@ -6,11 +6,11 @@ use Rattle.store_model.specs.Record.{events_of}
 use Rattle.history_seats.specs.Rule.{SlotFits}
 use Rattle.history_seats.specs.Tags.{AreTagged}
 use Rattle.history_seats.specs.Views.{GateView, Sight, SlotView}
-use Rattle.core_parts.specs.Joined.{IsObjectFile}
-use Rattle.suppositions.specs.Stores.{Store}
-use Rattle.locked_slots.specs.LockedSlots.{IsSlotOf}
-use Rattle.object_slots.specs.Value.{SlotValue}
-use Rattle.object_calls.specs.Files.{files_of}
+use Rattle.core_laws.specs.Joined.{IsObjectFile}
+use Rattle.core_laws.specs.Stores.{Store}
+use Rattle.serial_calls.specs.GuardedSlots.{IsSlotOf}
+use Rattle.serial_calls.specs.SlotValues.{SlotValue}
+use Rattle.object_calls.specs.OpeningFiles.{files_of}
 
 -- each slot is of a file of an object
 abbrev pub AreObjectSlots : List SlotValue → Type 0

@@ -3,7 +3,7 @@ use Rattle.std.specs.Prelude.{◌≡◌, ◌≤◌, ℕ, false, [], Some, unwrap
 use Rattle.atomic_table.specs.Seated.{TableId}
 use Rattle.history_seats.specs.Numbers.{is_in}
 use Rattle.history_seats.specs.Views.{GateView, Sight, new_gate}
-use Rattle.suppositions.specs.Stores.{Store}
+use Rattle.core_laws.specs.Stores.{Store}
 
 -- The table has no other seat than the gate's, which knows nothing.
 pub record IsUnused (table : TableId) (seat : Sight GateView) : Type 0 where

@@ -3,19 +3,19 @@ use Rattle.std.specs.Prelude.{◌≡◌, ◌<◌, ◌+◌, ◌≤◌, ℕ, List,
 use Rattle.disk_model.specs.State.{FileState}
 use Rattle.hmac_keys.specs.KeyTable.{ssk}
 use Rattle.dir_records.specs.declared.entry.DirEntry.{DirEntry}
-use Rattle.suppositions.specs.Guesses.{Guess}
-use Rattle.suppositions.specs.Stores.{Store, objects_under}
-use Rattle.object_slots.specs.Value.{SlotValue}
-use Rattle.locked_gate.specs.LockedGates.{LockedGateValue}
-use Rattle.locked_slots.specs.LockedSlots.{IsLockedSlot}
-use Rattle.locked_slots.specs.Opening.{first_slot}
-use Rattle.mounted_store.specs.Generations.{generation_in}
-use Rattle.device_counts.specs.Slots.{AreOfObjectFiles, AreSlots}
-use Rattle.object_calls.specs.Files.{files_of}
+use Rattle.core_laws.specs.TamperScenarios.{TamperScenario}
+use Rattle.core_laws.specs.Stores.{Store, objects_under}
+use Rattle.serial_calls.specs.SlotValues.{SlotValue}
+use Rattle.serial_calls.specs.GuardedGates.{GuardedGateValue}
+use Rattle.serial_calls.specs.GuardedSlots.{SlotInvariant}
+use Rattle.serial_calls.specs.FirstSlots.{first_slot}
+use Rattle.object_calls.specs.Generations.{generation_in}
+use Rattle.serial_calls.specs.Slots.{AreOfObjectFiles, AreSlots}
+use Rattle.object_calls.specs.OpeningFiles.{files_of}
 
 -- the gate, the slots of the files, file 1 first, and the key that the applications' keys come from
 pub record ServiceValue (F R : Type 0) : Type 0 where
-  pub gate : LockedGateValue F R
+  pub gate : GuardedGateValue F R
   pub slots : List SlotValue
   pub storage_key : List ℕ
 
@@ -25,18 +25,18 @@ slot_for store entries state files i = first_slot store (i + 1) (generation_in e
 
 -- each such slot may stand behind its lock
 abbrev pub MayBeFirst : {F : Type 0} → Store → List (Option DirEntry) → (F → FileState) → List F → Type 0
-MayBeFirst store entries state files = (i : ℕ) → i < length files → IsLockedSlot store (slot_for store entries state files i)
+MayBeFirst store entries state files = (i : ℕ) → i < length files → SlotInvariant store (slot_for store entries state files i)
 
 -- the first so many slots are these
 abbrev pub AreFirstSlots : {F : Type 0} → Store → List (Option DirEntry) → (F → FileState) → List F → (count : ℕ) → List SlotValue → Type 0
 AreFirstSlots store entries state files count slots = (i : ℕ) (d : SlotValue) → i < count → slice_index_or slots i d ≡ slot_for store entries state files i
 
--- No supposition by which all files are honest has other objects at the opening than the store's.
+-- No tamper scenario by which all files are honest has other objects at the opening than the store's.
 abbrev pub OpensAsHonest : Store → Type 0
-OpensAsHonest store = (guess : Guess) → guess.dishonest ≡ [] → objects_under store guess ≡ store.objects
+OpensAsHonest store = (scenario : TamperScenario) → scenario.tampered ≡ [] → objects_under store scenario ≡ store.objects
 
 -- What always holds of a store that is served, beside what holds behind its locks.
-pub record IsService {F R : Type 0} (store : Store) (gate : LockedGateValue F R) (slots : List SlotValue) (storage_key : List ℕ) : Type 0 where
+pub record IsService {F R : Type 0} (store : Store) (gate : GuardedGateValue F R) (slots : List SlotValue) (storage_key : List ℕ) : Type 0 where
   pub slots_are : AreSlots slots
   pub tagged : AreOfObjectFiles gate.journal.knows.all
   pub keyed : storage_key ≡ ssk store.keys.huk store.keys.chip

@@ -4,8 +4,8 @@ ghost use Rattle.std.specs.Prelude.{◌≡◌, ◌∷◌, length, OnErr, OnOk};
 ghost use Rattle.rpmb_card.specs.Arms.{arm_loss};
 ghost use Rattle.rpmb_card.specs.Port.{Rearmed};
 ghost use Rattle.store_commit.specs.Gates.{GateValue};
-ghost use Rattle.object_calls.specs.Arming.{FailsOnBench, IsFileOnBench, IsOnBench, StayDevices, StopsOnBench, TaintsOnBench};
-ghost use Rattle.object_calls.specs.Files.{files_of};
+ghost use Rattle.object_calls.specs.OpeningArms.{FailsOnBench, IsFileOnBench, IsOnBench, StayDevices, StopsOnBench, TaintsOnBench};
+ghost use Rattle.object_calls.specs.OpeningFiles.{files_of};
 ghost use Rattle.object_calls.specs.Opening.{bench_files};
 
 use crate::opening::Opening;

@@ -5,9 +5,6 @@ ghost use Rattle.std.specs.Vec.{vec_capacity};
 
 use store_commit::MountFault;
 
-/// How many files a bench has: the directory's, and 272 of objects.
-pub const FILES: usize = 273;
-
 /// The devices of a store: 273 files, and the way to the card. File 0 has the directory, and each of the others an object or none.
 #[derive(Drop)]
 pub struct Bench<F, R> {

@@ -6,37 +6,44 @@
 //! copied.
 //!
 //! A store that is served has a slot of each file of an object. Its phase ends with the seats of all slots and sessions taken in. The slots
-//! may come in any order then: a file has one seat, so each file comes once, to the place of its number.
+//! may come in any order then: a file has one seat, so each file comes once, to the place of its number. What a gate, a slot and a journal
+//! have to hold as a phase begins follows from what the mount found (`mount_laws`).
 #![tactic(auto)]
 
 mod arms;
 mod bench;
-mod calling;
-mod data;
-mod finishing;
-mod forming;
+mod block_reading;
+mod file_places;
+mod file_syncing;
+mod formatting;
+mod mount_laws;
 mod mounting;
-mod next;
+mod object_data;
+mod object_walk;
 mod opening;
-mod parts;
-mod phase;
-mod places;
-mod reading;
+mod phase_end;
+mod seat_splitting;
 mod service;
+mod service_call;
+mod service_parts;
 mod session;
-mod shown;
-mod splitting;
-mod syncing;
+mod shown_object;
+mod whole_phase;
 
-pub use bench::{Bench, BlockRead, FILES, Halted};
-pub use calling::Answer;
-pub use finishing::{Closed, close_slots};
-pub use forming::format;
+pub use bench::{Bench, BlockRead, Halted};
+pub use block_reading::card_block;
+pub use core_laws::StoreName;
+pub use formatting::format;
+pub use mount_laws::{mounted_slots_are_guarded, mounts_begin_gates, mounts_tell_entries};
 pub use mounting::mount;
 pub use opening::Opening;
-pub use parts::ServiceParts;
-pub use phase::{close_at_once, close_unserved};
-pub use reading::card_block;
+pub use phase_end::{Closed, close_slots};
+pub use serial_calls::Session;
 pub use service::Service;
+pub use service_call::Answer;
+pub use service_parts::ServiceParts;
 pub use session::SessionFault;
-pub use shown::{Shown, ShownObject};
+pub use shown_object::{Shown, ShownObject};
+pub use store_commit::MountFault;
+pub use store_model::ObjectName;
+pub use whole_phase::{close_at_once, close_unserved};

@@ -6,14 +6,14 @@ ghost use Rattle.store_commit.specs.Causes.{counts};
 ghost use Rattle.store_commit.specs.Gates.{gate_sides};
 ghost use Rattle.store_commit.specs.Mounts.{LeavesDevices, OpensGate};
 ghost use Rattle.object_calls.specs.Begins.{IsWholeOpening, MountsAsRead};
-ghost use Rattle.object_calls.specs.Files.{files_of};
+ghost use Rattle.object_calls.specs.OpeningFiles.{files_of};
 ghost use Rattle.object_calls.specs.Opening.{IsKeyed, bench_files, entries_in};
-ghost use Rattle.object_calls.specs.Refusals.{BenchCounts, BenchHeard, BenchRefused};
+ghost use Rattle.object_calls.specs.MountRefusals.{BenchCounts, BenchHeard, BenchRefused};
 ghost use Rattle.object_calls.specs.Syncing.{SyncsNamed};
 
 use crate::bench::{Bench, Halted, take_dir, with_dir};
+use crate::file_syncing::sync_named;
 use crate::opening::Opening;
-use crate::syncing::sync_named;
 use history_seats::HistoryTable;
 use hmac_keys::{Keys, ssk};
 use rpmb_card::RpmbPort;

@@ -3,30 +3,28 @@
 ghost use Rattle.std.specs.Prelude.{◌≡◌, ◌+◌, ◌≤◌, [], vec_len, IfErr, IfOk, OnErr, OnOk};
 ghost use Rattle.std.specs.Vec.{vec_capacity};
 ghost use Rattle.object_calls.specs.OpenedStores.{IsStoreOf};
-ghost use Rattle.object_calls.specs.Serving.{ServesOpening};
+ghost use Rattle.object_calls.specs.ServedPhases.{ServesOpening};
 ghost use Rattle.object_calls.specs.Services.{IsService, ServiceValue};
-ghost use Rattle.object_calls.specs.Sessions.{AreSeated, AreUnseated, DrawAlike, HaveNoEvents};
+ghost use Rattle.object_calls.specs.OpeningSessions.{AreSeated, AreUnseated, DrawAlike, HaveNoEvents};
 
-use crate::bench::FILES;
+use crate::file_places::free_places;
 use crate::opening::Opening;
-use crate::places::free_places;
-use crate::splitting::{SplitSlots, split_passes, split_slots};
-use call_history::{Journal, Session};
-use locked_gate::LockedGate;
-use locked_slots::LockedSlot;
+use crate::seat_splitting::{SplitSlots, split_passes, split_slots};
+use core_laws::StoreName;
 use rpmb_card::RpmbPort;
+use serial_calls::{GuardedGate, GuardedSlot, Journal, Session};
 use std::alloc::Global;
 use std::marker::Model;
 use store_model::History;
-use suppositions::StoreName;
 use tee_ports::{Entropy, StoreFile};
+use tee_types::FILES;
 
 /// A mounted store that is served: the gate, and a slot of each file of an object. `L` names the store.
 #[derive(Drop)]
 pub struct Service<F: StoreFile + Drop, R: RpmbPort + Drop, L: StoreName> {
-    pub(crate) gate: LockedGate<F, R, L>,
+    pub(crate) gate: GuardedGate<F, R, L>,
     // The slot of file 1 first.
-    pub(crate) slots: Vec<LockedSlot<F, L>>,
+    pub(crate) slots: Vec<GuardedSlot<F, L>>,
     // The key that the applications' keys come from.
     pub(crate) storage_key: [u8; 32],
     // Where the files of objects come to at the end, by their numbers: it has no file.
@@ -39,7 +37,7 @@ pub struct Service<F: StoreFile + Drop, R: RpmbPort + Drop, L: StoreName> {
 impl<F: StoreFile + Drop, R: RpmbPort + Drop, L: StoreName> Model for Service<F, R, L> {
     ghost use Rattle.std.specs.Prelude.{◌≡◌, ◌≤◌, vec_len};
     ghost use Rattle.std.specs.Vec.{vec_capacity};
-    ghost use Rattle.object_calls.specs.Places.{AreFree};
+    ghost use Rattle.object_calls.specs.SlotPlaces.{AreFree};
     ghost use Rattle.object_calls.specs.Services.{IsService, ServiceValue};
 
     ghost Value = { ServiceValue F R };
@@ -90,7 +88,7 @@ impl<F: StoreFile + Drop, R: RpmbPort + Drop> Opening<F, R> {
         split_passes::<E, L>(&table, &mut seat, sessions);
         let journal = Journal::new(table, seat, History::new(alloc));
         Ok(Service {
-            gate: LockedGate::new(gate, journal),
+            gate: GuardedGate::new(gate, journal),
             slots,
             storage_key,
             places,

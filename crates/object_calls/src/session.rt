@@ -1,15 +1,14 @@
 //! The sessions of a mounted store, before it is served.
 
 ghost use Rattle.std.specs.Prelude.{◌≡◌, ◌++◌, ◌∷◌, [], length, IfErr, IfOk, OnErr, OnOk};
-ghost use Rattle.object_calls.specs.Sessions.{IsSessionRefused, unseated};
+ghost use Rattle.object_calls.specs.OpeningSessions.{IsSessionRefused, unseated};
 
 use crate::opening::Opening;
-use call_history::Session;
 use rpmb_card::RpmbPort;
-use store_commit::SESSIONS;
+use serial_calls::Session;
 use store_model::Session as SessionState;
 use tee_ports::{Entropy, StoreFile};
-use tee_types::AppId;
+use tee_types::{AppId, MAX_SESSIONS};
 
 /// Why a session was not opened. What it would have drawn from is given back.
 #[derive(Drop)]
@@ -37,7 +36,7 @@ impl<F: StoreFile + Drop, R: RpmbPort + Drop> Opening<F, R> {
         ensures same { OnErr result (self.new ≡ self.old) }
     {
         let number = self.applications.len();
-        if number >= SESSIONS {
+        if number >= MAX_SESSIONS {
             return Err(SessionFault::TooMany(entropy));
         }
         let Ok(state) = SessionState::new(self.alloc, app) else {

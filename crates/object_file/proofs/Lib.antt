@@ -4,3 +4,7 @@ pub mod FirstBlock
 pub mod MadeObjects
 pub mod Mounting
 pub mod HeldObjects
+pub use Rattle.crash_core.proofs.BadBlocks
+pub use Rattle.crash_core.proofs.ObjectChanges
+pub use Rattle.crash_core.proofs.SameDirectory
+pub use Rattle.crash_core.proofs.Sightings

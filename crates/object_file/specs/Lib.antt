@@ -4,3 +4,5 @@ pub mod Loading
 pub mod Making
 pub mod Corrupt
 pub mod Changes
+pub use Rattle.crash_core.specs.DeviceKeys
+pub use Rattle.crash_core.specs.MountedObject

@@ -6,7 +6,7 @@ use Rattle.disk_model.specs.State.{FileState}
 use Rattle.page_bytes.specs.declared.range.ByteRange.{ByteRange}
 use Rattle.page_bytes.specs.Ranges.{end_block, first_block}
 use Rattle.block_file.specs.Reads.{after_calls, blocks_of}
-use Rattle.object_slots.specs.Reads.{AsksAtMost}
+use Rattle.object_slots.specs.SlotReads.{AsksAtMost}
 
 after_calls-add : (m n : ℕ) (arms : Arms) → after_calls n (after_calls m arms) ≡ after_calls (m + n) arms
 after_calls-add m zero arms = let same : m ≡ m + zero = omega arith in ap (λ (x : ℕ). after_calls x arms) same

@@ -3,10 +3,10 @@ use Rattle.std.proofs.Common.{◌≡◌, ◌⊎◌, inl, inr, ◌∙◌, ℕ, Li
 use Rattle.std.proofs.lemmas.Bool.{eqb-true}
 use Rattle.std.specs.Prelude.{Contains, OnErr, OnOk}
 use Rattle.std.specs.Map.{lookup}
-use Rattle.core_parts.proofs.Contained.{contains_mapped, contains_none, mapped_contains}
+use Rattle.core_laws.proofs.Contained.{contains_mapped, contains_none, mapped_contains}
 use Rattle.lru.specs.LruCache.{LruCache, lru_cache, promoted, put_entries}
 use Rattle.lru.proofs.CallerLemmas.{Contains-lookup, Contains-promoted, Contains-put_entries, IsPut}
-use Rattle.object_slots.specs.Pages.{kept_in, pages_of}
+use Rattle.object_slots.specs.CachedPages.{kept_in, pages_of}
 
 -- what a cache of some pages keeps
 pub kept_some : {V : Type 0} (held : Option (LruCache ℕ V)) (bytes : V → List ℕ) (cache : LruCache ℕ V) (shown : List (ℕ × List ℕ))

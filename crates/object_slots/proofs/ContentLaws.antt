@@ -5,7 +5,7 @@ use Rattle.node_image.specs.declared.head.Head.{Head}
 use Rattle.htree_file.specs.Value.{Staged}
 use Rattle.object_slots.specs.declared.content.Content.{Content}
 use Rattle.object_slots.specs.declared.content.Content.TheVariants.{Free, Made, Live, Staged as Kept}
-use Rattle.object_slots.specs.Inside.{IsFilled, file_in, file_of}
+use Rattle.object_slots.specs.SlotInside.{IsFilled, file_in, file_of}
 
 -- what holds of every file holds of a content's
 pub sound_in : {F : Type 0} (state : F → FileState) → ((file : F) → Sound (state file)) → (content : Content F) → Sound (file_in state content)

@@ -13,9 +13,9 @@ use Rattle.store_model.specs.Object.{Contents}
 use Rattle.object_file.specs.Corrupt.{CorruptAnswer as TreeCorrupt}
 use Rattle.object_slots.specs.declared.fault.SlotFault.{SlotFault}
 use Rattle.object_slots.specs.declared.fault.SlotFault.TheVariants.{Corrupt, Failed, NoEntropy, NoMemory}
-use Rattle.object_slots.specs.Faults.{DrawFault, FaultCause, HasCause, HasCauses, IsFileFault, NotDrawn, slot_fault}
-use Rattle.object_slots.specs.Reads.{CorruptAnswer, ReadFault}
-use Rattle.object_slots.specs.Value.{HeldObject}
+use Rattle.object_slots.specs.SlotFaults.{DrawFault, FaultCause, HasCause, HasCauses, IsFileFault, NotDrawn, slot_fault}
+use Rattle.object_slots.specs.SlotReads.{CorruptAnswer, ReadFault}
+use Rattle.object_slots.specs.SlotValues.{HeldObject}
 
 -- the cause of a tree's fault is the slot's
 pub fault_cause : (old new : FileState) (fault : TreeFault) → TreeCause old new fault → FaultCause old new (slot_fault fault)

@@ -14,13 +14,13 @@ use Rattle.page_bytes.specs.Ranges.{meets, needs}
 use Rattle.page_bytes.proofs.Content.{bytes_from-is}
 use Rattle.block_file.specs.Reads.{AreBytes, WasRead}
 use Rattle.tee_types.specs.declared.call.Call.TheVariants.{Read}
-use Rattle.suppositions.specs.Given.{Gave, is_asked}
-use Rattle.suppositions.specs.Spellings.{Spelling, page_spelt, spelled}
+use Rattle.core_laws.specs.Given.{Gave, is_asked}
+use Rattle.core_laws.specs.Decodings.{Decoding, page_decoded, tree_decoding}
 use Rattle.object_file.specs.Value.{size_in}
 use Rattle.object_slots.specs.Fronts.{HasFront}
 use Rattle.object_slots.specs.Gives.{ChangesGive, ReadsTell}
-use Rattle.object_slots.specs.Reads.{ReadsObject, read_count}
-use Rattle.object_slots.specs.Value.{HeldObject}
+use Rattle.object_slots.specs.SlotReads.{ReadsObject, read_count}
+use Rattle.object_slots.specs.SlotValues.{HeldObject}
 
 -- what is there where a test holds
 abbrev pub when : (b : Bool) → (b ≡ true → List ℕ) → List ℕ
@@ -48,14 +48,14 @@ module _ (wrap : List ℕ) (old new : FileState) (o : HeldObject) (key : o.tree.
   abbrev pub block : ℕ → List ℕ
   block k = cond (k == 0) front.seals.0 (when (asked k) (λ is. (read k is).1.ciphertext))
 
-  abbrev pub sp : Spelling
-  sp = spelled wrap block o.tree.tree
+  abbrev pub sp : Decoding
+  sp = tree_decoding wrap block o.tree.tree
 
-  page_front : page_spelt sp 0 ≡ Some front.page
+  page_front : page_decoded sp 0 ≡ Some front.page
   page_front = (λ i. page_of (sym key i) o.tree.tree.head (at_node o.tree.tree.nodes 1) 0 front.seals.0) ∙ front.seals.1
 
   -- the page of a block that was read
-  pub page_read : (k : ℕ) (page : List ℕ) → 1 ≤ k → ((is : asked k ≡ true) → (read k is).0 ≡ page) → asked k ≡ true → page_spelt sp k ≡ Some page
+  pub page_read : (k : ℕ) (page : List ℕ) → 1 ≤ k → ((is : asked k ≡ true) → (read k is).0 ≡ page) → asked k ≡ true → page_decoded sp k ≡ Some page
   page_read k page behind one is =
       let node : NodeImage = at_node o.tree.tree.nodes (k + 1) in
       let f : asked k ≡ true → List ℕ = λ e. (read k e).1.ciphertext in
@@ -63,19 +63,19 @@ module _ (wrap : List ℕ) (old new : FileState) (o : HeldObject) (key : o.tree.
       (λ i. page_of (sym key i) o.tree.tree.head node k (own i))
       ∙ when-true (asked k) f (λ c. page_of o.tree.key o.tree.tree.head node k c ≡ Some page) (λ e. (read k e).1.opens ∙ ap (λ (q : List ℕ). Some q) (one e)) is
 
-  page_good : (k : ℕ) → 1 ≤ k → asked k ≡ true → IsSome (page_spelt sp k)
+  page_good : (k : ℕ) → 1 ≤ k → asked k ≡ true → IsSome (page_decoded sp k)
   page_good k behind is =
       let node : NodeImage = at_node o.tree.tree.nodes (k + 1) in
       let f : asked k ≡ true → List ℕ = λ e. (read k e).1.ciphertext in
       let own : block k ≡ when (asked k) f = cond-false (k == 0) front.seals.0 (when (asked k) f) (ne_eqb k 0 (λ same. omega (arith, behind, same))) in
-      let same : page_spelt sp k ≡ page_of o.tree.key o.tree.tree.head node k (when (asked k) f) = λ i. page_of (sym key i) o.tree.tree.head node k (own i) in
+      let same : page_decoded sp k ≡ page_of o.tree.key o.tree.tree.head node k (when (asked k) f) = λ i. page_of (sym key i) o.tree.tree.head node k (own i) in
       subst IsSome (sym same)
       (when-true (asked k) f (λ c. IsSome (page_of o.tree.key o.tree.tree.head node k c)) (λ e. subst IsSome (sym (read k e).1.opens) refl) is)
 
   -- block 0 and the others were given
-  pub good_blocks : ((k : ℕ) → asked k ≡ true → 1 ≤ k) → (k : ℕ) → ((k == 0) || asked k) ≡ true → IsSome (page_spelt sp k)
+  pub good_blocks : ((k : ℕ) → asked k ≡ true → 1 ≤ k) → (k : ℕ) → ((k == 0) || asked k) ≡ true → IsSome (page_decoded sp k)
   good_blocks behind k any = elim (or_true (k == 0) (asked k) any) [
-    | inl zero ↦ subst (λ (j : ℕ). IsSome (page_spelt sp j)) (sym (eqb-true k 0 zero)) (subst IsSome (sym page_front) refl)
+    | inl zero ↦ subst (λ (j : ℕ). IsSome (page_decoded sp j)) (sym (eqb-true k 0 zero)) (subst IsSome (sym page_front) refl)
     | inr one ↦ page_good k (behind k one) one
   ]
 
@@ -93,17 +93,17 @@ module _ (wrap : List ℕ) (old new : FileState) (o : HeldObject) (at : ℕ) (be
   abbrev was : (k : ℕ) → met k ≡ true → WasRead o.tree.key o.tree.tree old new k
   was k is = (bytes.pages k, bytes.read k is)
 
-  good : (k : ℕ) → is_asked (size_in o) at (Read handle (length before)) k ≡ true → IsSome (page_spelt (sp wrap old new o key front met was) k)
+  good : (k : ℕ) → is_asked (size_in o) at (Read handle (length before)) k ≡ true → IsSome (page_decoded (sp wrap old new o key front met was) k)
   good k any = good_blocks wrap old new o key front met was (λ j is. met_data at count j is) k any
 
   abbrev given : o.tree.tree.head.length ≡ 4096 + size_in o → Gave wrap o.tree.root (size_in o) (is_asked (size_in o) at (Read handle (length before)))
   given long = record { tree = o.tree.tree; verified = reads.verified; long = long; block = block wrap old new o key front met was; good = good }
 
-  told : length after ≡ length before → take n after ≡ bytes_from (page_spelt (sp wrap old new o key front met was)) (4096 + at) (min (length before) (size_in o - at))
+  told : length after ≡ length before → take n after ≡ bytes_from (page_decoded (sp wrap old new o key front met was)) (4096 + at) (min (length before) (size_in o - at))
   told whole =
       let within : n ≤ length after = omega (arith, reads.count, whole) in
       let long : length (take n after) ≡ count = length-take-le n after within ∙ reads.count in
-      sym (bytes_from-is (page_spelt (sp wrap old new o key front met was)) (4096 + at) count (take n after) long (λ i lt.
+      sym (bytes_from-is (page_decoded (sp wrap old new o key front met was)) (4096 + at) count (take n after) long (λ i lt.
       let k : ℕ = (4096 + at + i) / 4096 in
       let is : met k ≡ true = meets_place (4096 + at) count i lt in
       get_or-take n after i 0 (omega (arith, lt, reads.count)) ∙ bytes.are i lt

@@ -11,9 +11,9 @@ use Rattle.htree_file.specs.Pages.{block_in}
 use Rattle.htree_file.specs.Standing.{Told}
 use Rattle.htree_file.specs.Value.{TreeValue}
 use Rattle.block_file.specs.Reads.{IsPage}
-use Rattle.core_parts.proofs.Contained.{contains_none}
+use Rattle.core_laws.proofs.Contained.{contains_none}
 use Rattle.object_file.specs.Value.{ObjectValue}
-use Rattle.object_slots.specs.Pages.{AreKept}
+use Rattle.object_slots.specs.CachedPages.{AreKept}
 
 -- what is told, and can be followed at the end of a run, could be followed through it, and at its start
 told_through : (a b : FileState) → GoesOn a b → Told b b → Told a b

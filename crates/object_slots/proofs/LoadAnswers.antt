@@ -5,14 +5,14 @@ use Rattle.disk_model.specs.Calls.{Rests}
 use Rattle.htree_file.specs.declared.fault.TreeFault.TheVariants.{BadHead, BadTag, Damaged as DamagedNode, Failed, NoEntropy, NoMemory, Short}
 use Rattle.htree_file.specs.Standing.{Told}
 use Rattle.store_model.specs.Object.{Damaged}
-use Rattle.crash_core.specs.MountedObject.{mounted_object}
+use Rattle.object_file.specs.MountedObject.{mounted_object}
 use Rattle.dir_records.specs.declared.entry.DirEntry.{DirEntry}
 use Rattle.object_file.specs.declared.fault.ObjectFault.{ObjectFault}
 use Rattle.object_file.specs.declared.fault.ObjectFault.TheVariants.{Tree, WrongSize}
 use Rattle.object_file.specs.Loading.{IsObjectFault, IsOutsideObject, ObjectCause, ObjectDiffers, fault_of}
-use Rattle.object_slots.specs.Faults.{FaultCause, load_fault}
+use Rattle.object_slots.specs.SlotFaults.{FaultCause, load_fault}
 use Rattle.object_slots.specs.Loads.{IsRefusedBy, LoadFault, LoadsObject}
-use Rattle.object_slots.specs.Value.{free}
+use Rattle.object_slots.specs.SlotValues.{free}
 use Rattle.object_slots.proofs.FaultLaws.{fault_cause}
 use Rattle.object_slots.proofs.StepLaws.{read_steps}
 

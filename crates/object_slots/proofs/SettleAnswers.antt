@@ -11,10 +11,10 @@ use Rattle.htree_file.specs.Opening.{load_of}
 use Rattle.htree_file.specs.Standing.{IsFirm}
 use Rattle.htree_file.specs.Value.{Staged}
 use Rattle.object_file.specs.Value.{ObjectValue}
-use Rattle.object_slots.specs.Faults.{IsFileFault, slot_fault}
-use Rattle.object_slots.specs.Inside.{IsStageKept, with_own_stage}
-use Rattle.object_slots.specs.Stages.{SettlesObject}
-use Rattle.object_slots.specs.Value.{HeldObject, IsHolding, apart, live, staged}
+use Rattle.object_slots.specs.SlotFaults.{IsFileFault, slot_fault}
+use Rattle.object_slots.specs.SlotInside.{IsStageKept, with_own_stage}
+use Rattle.object_slots.specs.SlotStages.{SettlesObject}
+use Rattle.object_slots.specs.SlotValues.{HeldObject, IsHolding, apart, live, staged}
 use Rattle.object_slots.proofs.FaultLaws.{fault_cause}
 
 pub opened : (o : Option Staged) → IsSome o → (s : Staged) × (o ≡ Some s)

@@ -28,10 +28,10 @@ use Rattle.object_file.specs.Held.{held_in}
 use Rattle.object_file.specs.Value.{ObjectValue, size_in}
 use Rattle.object_slots.specs.declared.fault.SlotFault.{SlotFault}
 use Rattle.object_slots.specs.declared.fault.SlotFault.TheVariants.{Corrupt, Failed, NoEntropy, NoMemory}
-use Rattle.object_slots.specs.Faults.{IsFileFault, slot_fault}
-use Rattle.object_slots.specs.Reads.{CorruptAnswer}
-use Rattle.object_slots.specs.Stages.{DataChange, HoldsStage, IsStageOf, OpensStage, SettlesObject, StageFault, StagesObject}
-use Rattle.object_slots.specs.Value.{HeldObject, Holding, apart, live, staged}
+use Rattle.object_slots.specs.SlotFaults.{IsFileFault, slot_fault}
+use Rattle.object_slots.specs.SlotReads.{CorruptAnswer}
+use Rattle.object_slots.specs.SlotStages.{DataChange, HoldsStage, IsStageOf, OpensStage, SettlesObject, StageFault, StagesObject}
+use Rattle.object_slots.specs.SlotValues.{HeldObject, Holding, apart, live, staged}
 use Rattle.object_slots.proofs.FaultLaws.{corrupt_fault}
 use Rattle.object_slots.proofs.SettleAnswers.{at_some, opened}
 use Rattle.object_slots.proofs.StepLaws.{stage_steps}

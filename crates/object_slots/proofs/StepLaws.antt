@@ -5,10 +5,10 @@ use Rattle.disk_model.specs.Calls.{Rests}
 use Rattle.disk_model.specs.Keeps.{Keeps, rest}
 use Rattle.htree_file.specs.Making.{Nowhere}
 use Rattle.htree_file.specs.Selected.{Lies}
-use Rattle.core_parts.specs.SlotSteps.{CallFile, Stager, Taker}
-use Rattle.core_parts.proofs.FileRuns.{file_runs_are_steps, kept_steps}
-use Rattle.object_slots.specs.Steps.{ReadSteps, StageSteps, TakerSteps, part}
-use Rattle.object_slots.specs.Value.{HeldObject}
+use Rattle.core_laws.specs.SlotSteps.{CallFile, Stager, Taker}
+use Rattle.core_laws.proofs.FileRuns.{file_runs_are_steps, kept_steps}
+use Rattle.object_slots.specs.SlotCalls.{ReadSteps, StageSteps, TakerSteps, part}
+use Rattle.object_slots.specs.SlotValues.{HeldObject}
 
 pub read_steps : (old new : FileState) → Sound new → Rests old new → ReadSteps old new
 read_steps old new sound rests view stage =

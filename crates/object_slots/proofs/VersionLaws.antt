@@ -12,20 +12,20 @@ use Rattle.htree_file.specs.Opening.{Loaded, load_of}
 use Rattle.htree_file.specs.Pages.{Opened}
 use Rattle.htree_file.specs.Standing.{IsFirm, OpensTo, Told}
 use Rattle.store_model.specs.Object.{Contents, Damaged, Object, Sound}
-use Rattle.crash_core.specs.DeviceKeys.{object_key}
-use Rattle.crash_core.specs.MountedObject.{object_in, object_or_damaged, root_of}
-use Rattle.crash_core.proofs.SameDirectory.{opened_same}
+use Rattle.object_file.specs.DeviceKeys.{object_key}
+use Rattle.object_file.specs.MountedObject.{object_in, object_or_damaged, root_of}
+use Rattle.object_file.proofs.SameDirectory.{opened_same}
 use Rattle.dir_records.specs.declared.entry.DirEntry.{DirEntry}
 use Rattle.history_seats.specs.Records.{Version}
-use Rattle.core_parts.specs.SlotParts.{IsShownIn, VersionStands}
-use Rattle.core_parts.specs.GateParts.{IsVersionOf}
+use Rattle.core_laws.specs.SlotParts.{IsShownIn, VersionStands}
+use Rattle.core_laws.specs.GateParts.{IsVersionOf}
 use Rattle.object_file.specs.Changes.{adopted}
 use Rattle.object_file.specs.Value.{size_in}
 use Rattle.object_file.proofs.HeldObjects.{held-is}
 use Rattle.object_slots.specs.Makes.{new_contents}
-use Rattle.object_slots.specs.Stages.{HoldsStage}
-use Rattle.object_slots.specs.Value.{HeldObject}
-use Rattle.object_slots.specs.Versions.{HasVersion, LoadedAreVersions, MadeAreVersions, RefusedAreDamaged, StagesAreVersions, VersionsAreHeld}
+use Rattle.object_slots.specs.SlotStages.{HoldsStage}
+use Rattle.object_slots.specs.SlotValues.{HeldObject}
+use Rattle.object_slots.specs.SlotVersions.{HasVersion, LoadedAreVersions, MadeAreVersions, RefusedAreDamaged, StagesAreVersions, VersionsAreHeld}
 
 -- what the file reads as shows a version that stands
 shown_now : (keys : Keys) (s : FileState) (v : Version) → SoundFile s → VersionStands keys s v → IsShownIn keys s.reads v

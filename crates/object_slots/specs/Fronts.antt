@@ -8,8 +8,8 @@ use Rattle.dir_records.specs.declared.entry.DirEntry.{DirEntry}
 use Rattle.object_file.specs.Changes.{adopted}
 use Rattle.object_slots.specs.Loads.{IsLoadedBy}
 use Rattle.object_slots.specs.Makes.{IsMade}
-use Rattle.object_slots.specs.Stages.{DataChange, IsStageOf}
-use Rattle.object_slots.specs.Value.{HeldObject}
+use Rattle.object_slots.specs.SlotStages.{DataChange, IsStageOf}
+use Rattle.object_slots.specs.SlotValues.{HeldObject}
 
 -- The node of block 0 seals a page of 4,096 bytes that begins with the attributes.
 pub record HasFront (o : HeldObject) : Type 0 where

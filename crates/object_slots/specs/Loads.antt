@@ -7,16 +7,16 @@ use Rattle.htree_file.specs.Opening.{IsVerified, load_of}
 use Rattle.htree_file.specs.Standing.{Told}
 use Rattle.block_file.specs.Reads.{AreBytes, after_calls}
 use Rattle.store_model.specs.Object.{Damaged, Sound}
-use Rattle.crash_core.specs.MountedObject.{mounted_object, root_of}
+use Rattle.object_file.specs.MountedObject.{mounted_object, root_of}
 use Rattle.dir_records.specs.declared.entry.DirEntry.{DirEntry}
 use Rattle.object_file.specs.declared.fault.ObjectFault.{ObjectFault}
 use Rattle.object_file.specs.Held.{held_in}
 use Rattle.object_file.specs.Loading.{IsFirstRead, IsObjectFault, IsOutsideObject, ObjectDiffers, fault_of}
 use Rattle.object_slots.specs.declared.fault.SlotFault.{SlotFault}
 use Rattle.object_slots.specs.declared.fault.SlotFault.TheVariants.{Corrupt, NoEntropy}
-use Rattle.object_slots.specs.Faults.{HasCause}
-use Rattle.object_slots.specs.Steps.{ReadSteps}
-use Rattle.object_slots.specs.Value.{HeldObject, Holding, free, live}
+use Rattle.object_slots.specs.SlotFaults.{HasCause}
+use Rattle.object_slots.specs.SlotCalls.{ReadSteps}
+use Rattle.object_slots.specs.SlotValues.{HeldObject, Holding, free, live}
 
 -- The object was loaded by the entry, under the application's key.
 pub record IsLoadedBy (old new : FileState) (tsk : List ℕ) (e : DirEntry) (o : HeldObject) : Type 0 where

@@ -11,13 +11,13 @@ use Rattle.htree_file.specs.Making.{NamesVersionZero, Nowhere}
 use Rattle.htree_file.specs.Opening.{IsVerified, load_of}
 use Rattle.htree_file.specs.Standing.{IsFirm}
 use Rattle.store_model.specs.Object.{Contents, Sound}
-use Rattle.crash_core.specs.MountedObject.{object_in}
+use Rattle.object_file.specs.MountedObject.{object_in}
 use Rattle.object_file.specs.Held.{held_in}
 use Rattle.object_file.specs.Making.{IsObjectPage}
 use Rattle.object_slots.specs.declared.fault.SlotFault.{SlotFault}
-use Rattle.object_slots.specs.Faults.{IsSound}
-use Rattle.object_slots.specs.Steps.{TakerSteps}
-use Rattle.object_slots.specs.Value.{HeldObject, Holding, free, made}
+use Rattle.object_slots.specs.SlotFaults.{IsSound}
+use Rattle.object_slots.specs.SlotCalls.{TakerSteps}
+use Rattle.object_slots.specs.SlotValues.{HeldObject, Holding, free, made}
 
 -- a new object
 abbrev pub new_contents : (attributes bytes : List ℕ) → Contents

@@ -10,7 +10,7 @@ ghost use Rattle.store_model.specs.Data.{bytes_at, meets_block};
 ghost use Rattle.object_file.specs.Corrupt.{CorruptAnswer};
 ghost use Rattle.object_file.specs.Held.{held_in};
 ghost use Rattle.object_file.specs.Value.{size_in};
-ghost use Rattle.object_slots.specs.Reads.{AsksAtMost};
+ghost use Rattle.object_slots.specs.SlotReads.{AsksAtMost};
 
 use crate::cached_reads::{FIRST_BLOCK, read_bytes};
 use crate::page_cache::PageCache;
@@ -29,7 +29,7 @@ pub(crate) struct CachedObject<F: StoreFile + Drop> {
 
 impl<F: StoreFile + Drop> Model for CachedObject<F> {
     ghost use Rattle.object_file.specs.Value.{ObjectValue};
-    ghost use Rattle.object_slots.specs.Pages.{AreKept};
+    ghost use Rattle.object_slots.specs.CachedPages.{AreKept};
 
     ghost Value = { ObjectValue F };
 

@@ -9,8 +9,8 @@ ghost use Rattle.page_bytes.specs.Pages.{bytes_from};
 ghost use Rattle.page_bytes.specs.Ranges.{meets, read_range};
 ghost use Rattle.block_file.specs.Parts.{PartAnswer};
 ghost use Rattle.block_file.specs.Reads.{AreBytes, BlocksAnswer, IsPage, IsReadFault, blocks_of};
-ghost use Rattle.object_slots.specs.Pages.{AreKept};
-ghost use Rattle.object_slots.specs.Reads.{AsksAtMost};
+ghost use Rattle.object_slots.specs.CachedPages.{AreKept};
+ghost use Rattle.object_slots.specs.SlotReads.{AsksAtMost};
 
 use crate::page_cache::PageCache;
 use htree_file::{Page, TreeFault};

@@ -1,7 +1,7 @@
 // What a slot holds.
 ghost use Rattle.std.specs.Prelude.{◌≡◌};
-ghost use Rattle.object_slots.specs.Inside.{IsContent, file_in, holding_in};
-ghost use Rattle.object_slots.specs.Value.{with_stage, without_stage};
+ghost use Rattle.object_slots.specs.SlotInside.{IsContent, file_in, holding_in};
+ghost use Rattle.object_slots.specs.SlotValues.{with_stage, without_stage};
 
 use crate::cached::CachedObject;
 use tee_ports::StoreFile;

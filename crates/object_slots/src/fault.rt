@@ -1,6 +1,6 @@
 // Why a call on a slot is refused.
 ghost use Rattle.std.specs.Prelude.{◌≡◌};
-ghost use Rattle.object_slots.specs.Faults.{load_fault, slot_fault};
+ghost use Rattle.object_slots.specs.SlotFaults.{load_fault, slot_fault};
 
 use htree_file::TreeFault;
 use object_file::ObjectFault;

@@ -1,7 +1,7 @@
 // Pages that are kept in memory.
 ghost use Rattle.std.specs.Prelude.{◌≡◌, ◌⊎◌, ◌+◌, ◌≤◌, ℕ, List, [], length, Contains, IfOk};
 ghost use Rattle.std.specs.Bool.{OnFalse, OnTrue};
-ghost use Rattle.object_slots.specs.Pages.{CopiesKept, kept_in, pages_of};
+ghost use Rattle.object_slots.specs.CachedPages.{CopiesKept, kept_in, pages_of};
 
 use lru::LruCache;
 use page_bytes::ByteRange;
@@ -22,7 +22,7 @@ pub(crate) struct PageCache {
 
 impl Model for PageCache {
     ghost use Rattle.std.specs.Prelude.{ℕ, List};
-    ghost use Rattle.object_slots.specs.Pages.{kept_in};
+    ghost use Rattle.object_slots.specs.CachedPages.{kept_in};
 
     ghost Value = { List (ℕ × List ℕ) };
 

@@ -4,19 +4,19 @@ ghost use Rattle.disk_model.specs.State.{Sound};
 ghost use Rattle.htree_file.specs.Opening.{IsVerified};
 ghost use Rattle.dir_records.specs.Form.{HasForm};
 ghost use Rattle.object_file.specs.Value.{size_in};
-ghost use Rattle.object_slots.specs.Faults.{HasCauses};
+ghost use Rattle.object_slots.specs.SlotFaults.{HasCauses};
 ghost use Rattle.object_slots.specs.Loads.{LoadsObject};
 ghost use Rattle.object_slots.specs.Makes.{MakesObject};
-ghost use Rattle.object_slots.specs.Reads.{ReadsObject};
-ghost use Rattle.object_slots.specs.Stages.{StagesObject, resize_change, write_change};
-ghost use Rattle.object_slots.specs.Value.{HasNoStage, HasStage, IfLive, IsFree, IsHolding, IsLive, committed, free, with_stage, without_stage};
+ghost use Rattle.object_slots.specs.SlotReads.{ReadsObject};
+ghost use Rattle.object_slots.specs.SlotStages.{StagesObject, resize_change, write_change};
+ghost use Rattle.object_slots.specs.SlotValues.{HasNoStage, HasStage, IfLive, IsFree, IsHolding, IsLive, committed, free, with_stage, without_stage};
 
 use crate::content::Content;
+use crate::creating::make_object;
 use crate::fault::SlotFault;
-use crate::load::load_object;
-use crate::make::make_object;
-use crate::read::read_object;
-use crate::stage::{truncate_object, write_object};
+use crate::loading::load_object;
+use crate::reading::read_object;
+use crate::staging::{truncate_object, write_object};
 use dir_records::DirEntry;
 use history_seats::SlotSeat;
 use node_image::RootRef;
@@ -41,8 +41,8 @@ pub struct Slot<F: StoreFile + Drop> {
 
 impl<F: StoreFile + Drop> Model for Slot<F> {
     ghost use Rattle.std.specs.Prelude.{◌≡◌, IfSome};
-    ghost use Rattle.object_slots.specs.Inside.{IsFilled, file_of, holding_of};
-    ghost use Rattle.object_slots.specs.Value.{SlotValue};
+    ghost use Rattle.object_slots.specs.SlotInside.{IsFilled, file_of, holding_of};
+    ghost use Rattle.object_slots.specs.SlotValues.{SlotValue};
 
     ghost Value = { SlotValue };
 

@@ -5,11 +5,11 @@ ghost use Rattle.std.specs.Prelude.{◌≡◌, vec_len, IfOk, OnOk};
 use crate::kept_port::KeptPort;
 use crate::mishaps::{Arm, Device, Trouble};
 use mem_files::MemFile;
-use object_calls::{Bench, FILES};
 use rpmb_card::{CardRig, NoMemory};
-use sim_bench::blank_bench;
+use script_runner::{Bench, blank_bench};
 use std::alloc::{AllocError, Global};
 use tee_ports::FileRig;
+use tee_types::FILES;
 
 /// Files in memory, and a card that keeps its frames.
 pub type KeptBench = Bench<MemFile, KeptPort>;

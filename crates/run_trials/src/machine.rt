@@ -2,10 +2,8 @@
 // their applications see them.
 
 use anyhow::{Context, bail};
-use object_calls::{Shown, ShownObject};
-use object_lines::print_object;
-use run_text::{print_control, print_event};
-use script_text::{Control, Script, Step};
+use script_runner::{Shown, ShownObject, print_object};
+use script_text::{Control, Script, Step, print_control, print_event};
 use std::alloc::{AllocError, Global};
 use std::marker::Model;
 use store_model::{Event, Mark, State};

@@ -5,11 +5,11 @@ ghost use Rattle.std.specs.Prelude.{◌≡◌, vec_len, IfOk};
 use crate::meeting_file::{Meeting, MeetingFile};
 use crate::runs::{reliable, run_script};
 use anyhow::bail;
-use object_calls::{Bench, FILES};
-use sim_bench::{CardPort, blank_bench};
+use script_runner::{Bench, CardPort, blank_bench};
 use std::alloc::{AllocError, Global};
 use std::sync::{Arc, Wait};
 use std::thread::Threads;
+use tee_types::FILES;
 
 /// Files that may wait, and a card.
 type MeetingBench = Bench<MeetingFile, CardPort>;

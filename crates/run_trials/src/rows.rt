@@ -17,7 +17,7 @@
 
 use anyhow::Context;
 use row::Row;
-use sim_bench::SimBench;
+use script_runner::SimBench;
 use std::sync::Wait;
 use std::thread::Threads;
 use trial::{difference, run_row};

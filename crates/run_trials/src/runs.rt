@@ -4,11 +4,9 @@ ghost use Rattle.std.specs.Prelude.{◌≡◌, vec_len, IfOk};
 
 use crate::kept_port::KeptPort;
 use anyhow::{Context, bail};
-use bench_run::{RunEnd, Status, run};
 use mem_files::MemFile;
-use object_calls::Bench;
 use rpmb_card::CardRig;
-use sim_bench::simulator_keys;
+use script_runner::{Bench, RunEnd, Status, run, simulator_keys};
 use std::alloc::Global;
 use std::sync::Wait;
 use std::thread::Threads;

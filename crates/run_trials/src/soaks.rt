@@ -3,8 +3,8 @@
 use crate::devices::new_bench;
 use crate::machine::Machine;
 use crate::runs::{reliable, run_words};
+use seed_words::soak_script;
 use sha2::{Digest, Sha256};
-use soak_scripts::soak_script;
 use std::alloc::Global;
 use std::sync::Wait;
 use std::thread::Threads;

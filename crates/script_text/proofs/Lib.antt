@@ -7,3 +7,5 @@ pub mod Rows
 pub mod FormedCalls
 pub mod FormedControls
 pub mod FormedSteps
+pub mod Printing
+pub mod PrintedRows

@@ -6,3 +6,5 @@ pub mod Controls
 pub mod Grammar
 pub mod Parsed
 pub mod Laws
+pub mod Forms
+pub mod Text

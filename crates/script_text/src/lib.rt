@@ -1,13 +1,24 @@
-//! Scripts of applications: their grammar, read.
+//! Scripts of applications and the text of a run: the grammar both ways.
+//!
+//! `parse` reads a script. `print_phase`, `print_event` and `print_control` write the lines of a run, and the `put_` functions the words of a
+//! line.
 #![tactic(auto)]
 
+mod append_text;
 mod calls;
 mod controls;
 pub mod laws;
+mod print_call;
+mod print_lines;
+mod print_reply;
 mod reading;
 mod script;
 mod values;
 mod words;
 
-pub use reading::{MAX_APPLICATIONS, ScriptFault, parse};
+pub use append_text::{
+    put, put_bytes, put_hex, put_number, put_word_bytes, put_word_hex, put_word_number,
+};
+pub use print_lines::{print_control, print_event, print_phase};
+pub use reading::{ScriptFault, parse};
 pub use script::{Arm, Control, Mode, Script, Step};

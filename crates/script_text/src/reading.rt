@@ -12,10 +12,7 @@ use crate::script::{Script, Step};
 use crate::values::{is_name, same, uuid};
 use crate::words::{cut_line, cut_word, is_ascii, two};
 use std::alloc::{AllocError, Global};
-use tee_types::NoMemory;
-
-/// The greatest number of applications that a script may declare.
-pub const MAX_APPLICATIONS: u32 = 16;
+use tee_types::{MAX_APPLICATIONS, NoMemory};
 
 /// Why a text is not read as a script.
 #[derive(Clone, Copy, Debug, PartialEq, Eq)]

@@ -1,1 +1,11 @@
 pub mod Words
+pub mod Joined
+pub mod SoakWords
+pub mod Rounds
+pub mod Scripts
+pub mod Texts
+pub mod Outcome
+pub mod Tallies
+pub mod CountedCommits
+pub mod Numbers
+pub mod Laws

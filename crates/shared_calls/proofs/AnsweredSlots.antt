@@ -1,37 +1,37 @@
 -- What always holds of a slot, as what was answered or committed with it is appended.
 use Rattle.std.proofs.Common.{◌≡◌, ◌++◌, ◌∷◌, [], ℕ, None, Some, ap, refl, subst, sym}
-use Rattle.call_history.specs.Sessions.{CallerSession}
-use Rattle.change_calls.specs.Replies.{IsDoneOrRefused}
+use Rattle.serial_calls.specs.CallerSessions.{CallerSession}
+use Rattle.serial_calls.specs.ChangeReplies.{IsDoneOrRefused}
 use Rattle.disk_model.specs.State.{FileState}
 use Rattle.history_seats.specs.Changes.{slot_renewed}
 use Rattle.history_seats.specs.Records.{HistoryRecord}
 use Rattle.history_seats.specs.Views.{GateView, Sight, SlotView}
-use Rattle.locked_gate.specs.declared.answered.Answer.{Answer}
-use Rattle.locked_gate.specs.Ends.{IsCommitEnd, mark_told, reply_told}
-use Rattle.locked_gate.specs.LockedGates.{LockedGateValue}
-use Rattle.locked_slots.specs.Fits.{FitsGate, SeesWhole}
-use Rattle.locked_slots.specs.LockedSlots.{IsLockedSlot}
-use Rattle.object_answers.specs.Served.{IsServed}
-use Rattle.object_commits.specs.Bringing.{IsCommitted}
-use Rattle.object_slots.specs.Value.{SlotValue}
+use Rattle.serial_calls.specs.declared.PlacedReply.{PlacedReply}
+use Rattle.serial_calls.specs.GateEnds.{IsCommitEnd, mark_told, reply_told}
+use Rattle.serial_calls.specs.GuardedGates.{GuardedGateValue}
+use Rattle.serial_calls.specs.Fits.{FitsGate, SeesWhole}
+use Rattle.serial_calls.specs.GuardedSlots.{SlotInvariant}
+use Rattle.serial_calls.specs.AnswerServed.{IsServed}
+use Rattle.serial_calls.specs.ObjectCommits.{IsCommitted}
+use Rattle.serial_calls.specs.SlotValues.{SlotValue}
 use Rattle.rpmb_card.specs.Port.{PortState}
-use Rattle.store_commit.specs.declared.change.CommitEnd.{CommitEnd}
-use Rattle.store_commit.specs.declared.change.CommitEnd.TheVariants.{Doubtful, Dropped, Made, Spent}
-use Rattle.store_commit.specs.declared.change.EntryChange.{EntryChange}
+use Rattle.serial_calls.specs.declared.CommitEnd.{CommitEnd}
+use Rattle.serial_calls.specs.declared.CommitEnd.TheVariants.{Doubtful, Dropped, Made, Spent}
+use Rattle.serial_calls.specs.declared.EntryChange.{EntryChange}
 use Rattle.store_model.specs.Record.{fault_in_reply}
 use Rattle.store_model.specs.declared.event.Event.TheVariants.{Call as CallEvent}
 use Rattle.store_model.specs.declared.event.Mark.{Mark}
 use Rattle.store_model.specs.declared.event.Mark.TheVariants.{Unchanged}
-use Rattle.suppositions.specs.Stores.{Store}
+use Rattle.serial_calls.specs.Stores.{Store}
 use Rattle.tee_types.specs.declared.call.Call.{Call}
 use Rattle.tee_types.specs.declared.reply.Cause.TheVariants.{CardResult, Fault, Frame}
 use Rattle.tee_types.specs.declared.reply.Device.TheVariants.{Card, Dir, Entropy, File}
 use Rattle.tee_types.specs.declared.reply.Reply.{Reply}
 use Rattle.tee_types.specs.declared.reply.Reply.TheVariants.{NotAvailable}
-use Rattle.device_counts.specs.Counts.{told_of}
-use Rattle.device_counts.specs.Devices.{Devices}
-use Rattle.shared_parts.specs.Kept.{KeepsSlot}
-use Rattle.shared_parts.proofs.KeptSlots.{keeps-answered, keeps-shown, own-file}
+use Rattle.serial_calls.specs.DeviceCounts.{told_of}
+use Rattle.serial_calls.specs.Devices.{Devices}
+use Rattle.shared_calls.specs.Kept.{KeepsSlot}
+use Rattle.shared_calls.proofs.KeptSlots.{keeps-answered, keeps-shown, own-file}
 
 -- a reply that accuses no object's file carries no count of one
 pub told-none : (file : ℕ) (reply : Reply) → fault_in_reply reply ≡ None → told_of (File file) reply ≡ []
@@ -59,16 +59,16 @@ module _ (before : Devices) (old new : SlotValue) (number : new.number ≡ old.n
   Told reply = KeepsSlot before old (told_of (File old.number) reply)
 
   -- it was shown the history first
-  shown-answered : (store : Store) → IsLockedSlot store old → (was now : GateView) → FitsGate was old → SeesWhole now new → (last : HistoryRecord) (session event : ℕ) (call : Call) (reply : Reply) (mark : Mark)
+  shown-answered : (store : Store) → SlotInvariant store old → (was now : GateView) → FitsGate was old → SeesWhole now new → (last : HistoryRecord) (session event : ℕ) (call : Call) (reply : Reply) (mark : Mark)
       → now.all ≡ was.all ++ last ∷ [] → last.event ≡ CallEvent session event call reply mark → Told reply → KeepsSlot before new []
-  shown-answered store locked was now agreed sees last session event call reply mark all is_event k =
+  shown-answered store guarded was now agreed sees last session event call reply mark all is_event k =
       let seat : Sight SlotView = record agreed.seat { knows = slot_renewed was agreed.seat.knows } in
       let shown : SlotValue = record old { seat = Some seat } in
       let saw : SeesWhole was shown = record { seat = seat; is = refl; whole = refl } in
       keeps-answered before shown new number file was now last session event call reply mark saw sees all is_event
-      (keeps-shown before old shown refl refl was (told_of (File old.number) reply) agreed (own-file store old locked) saw k)
+      (keeps-shown before old shown refl refl was (told_of (File old.number) reply) agreed (own-file store old guarded) saw k)
 
-  module _ {F R E : Type 0} (store : Store) (gate behind : LockedGateValue F R) (was now : CallerSession E) (call : Call) (answer : Answer) (sees : SeesWhole behind.journal.knows new) where
+  module _ {F R E : Type 0} (store : Store) (gate behind : GuardedGateValue F R) (was now : CallerSession E) (call : Call) (answer : PlacedReply) (sees : SeesWhole behind.journal.knows new) where
     module _ (of : ℕ) (s : IsServed store gate behind was now of call answer) where
       all_served : behind.journal.knows.all ≡ gate.journal.knows.all ++ s.last ∷ []
       all_served = ap (λ (k : GateView). k.all) s.knows
@@ -79,15 +79,15 @@ module _ (before : Devices) (old new : SlotValue) (number : new.number ≡ old.n
           keeps-answered before old new number file gate.journal.knows behind.journal.knows s.last was.number was.made call answer.reply Unchanged saw sees all_served s.event k
 
       -- and it was shown the history before
-      pub keeps-shown-served : IsLockedSlot store old → FitsGate gate.journal.knows old → Told answer.reply → KeepsSlot before new []
-      keeps-shown-served locked agreed k =
-          shown-answered store locked gate.journal.knows behind.journal.knows agreed sees s.last was.number was.made call answer.reply Unchanged all_served s.event k
+      pub keeps-shown-served : SlotInvariant store old → FitsGate gate.journal.knows old → Told answer.reply → KeepsSlot before new []
+      keeps-shown-served guarded agreed k =
+          shown-answered store guarded gate.journal.knows behind.journal.knows agreed sees s.last was.number was.made call answer.reply Unchanged all_served s.event k
 
     -- a commit was brought with it
-    pub keeps-brought : (of_file : F → FileState) (of_port : R → PortState) (of : ℕ) (own : Reply) (change : EntryChange) (Reliable : Type 0) (drew draws : ℕ)
+    pub keeps-committable : (of_file : F → FileState) (of_port : R → PortState) (of : ℕ) (own : Reply) (change : EntryChange) (Reliable : Type 0) (drew draws : ℕ)
         → IsCommitted of_file of_port store gate behind of was now call own change Reliable drew draws answer → fault_in_reply own ≡ None → SeesWhole gate.journal.knows old → KeepsSlot before old []
         → KeepsSlot before new []
-    keeps-brought of_file of_port of own change Reliable drew draws c none saw k =
+    keeps-committable of_file of_port of own change Reliable drew draws c none saw k =
         let reply : Reply = reply_told c.end own in
         keeps-answered before old new number file gate.journal.knows behind.journal.knows c.last was.number was.made call reply (mark_told c.end) saw sees (ap (λ (k : GateView). k.all) c.knows) c.event
         (subst (KeepsSlot before old) (sym (told-none old.number reply (end-faultless gate.gate.counter c.end own c.gate.is_end none))) k)

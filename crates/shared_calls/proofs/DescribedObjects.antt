@@ -4,19 +4,19 @@ use Rattle.dir_records.specs.declared.entry.DirEntry.{DirEntry}
 use Rattle.disk_model.specs.State.{FileState}
 use Rattle.history_seats.specs.Records.{Version}
 use Rattle.history_seats.specs.Views.{GateView}
-use Rattle.locked_slots.specs.Fills.{GivesEntry}
-use Rattle.locked_slots.specs.Reads.{GivesVersion}
-use Rattle.object_answers.specs.Describing.{DescribesEntry, DescribesObject, SaysIfTold}
-use Rattle.object_answers.specs.Meeting.{StillGives}
-use Rattle.object_answers.proofs.MetAgain.{describes-again}
-use Rattle.object_slots.specs.Value.{SlotValue}
+use Rattle.serial_calls.specs.Fills.{GivesEntry}
+use Rattle.serial_calls.specs.GuardedReads.{GivesVersion}
+use Rattle.serial_calls.specs.InfoAnswers.{DescribesEntry, DescribesObject, SaysIfTold}
+use Rattle.serial_calls.specs.SlotCatchUp.{StillGives}
+use Rattle.serial_calls.proofs.MetAgain.{describes-again}
+use Rattle.serial_calls.specs.SlotValues.{SlotValue}
 use Rattle.store_model.specs.declared.session.Handle.{Handle}
-use Rattle.suppositions.specs.Stores.{Store}
+use Rattle.serial_calls.specs.Stores.{Store}
 use Rattle.tee_types.specs.declared.reply.Reply.{Reply}
 use Rattle.tee_types.specs.declared.reply.Reply.TheVariants.{Corrupt, Info, NotAvailable}
-use Rattle.shared_calls.specs.Describing.{HasDescribed}
-use Rattle.shared_calls.specs.Meeting.{IsMet}
-use Rattle.shared_calls.proofs.GivenVersions.{gives-moved}
+use Rattle.shared_calls.specs.SharedInfo.{HasDescribed}
+use Rattle.shared_calls.specs.SharedCatchUp.{IsMet}
+use Rattle.shared_calls.proofs.SharedVersions.{gives-moved}
 
 module _ {X : Type 0} (store : Store) (old new : SlotValue) (e : DirEntry) (handle : Handle) (given : GivesEntry old e) (same : new ≡ record old { file = new.file; holds = new.holds }) where
   pub has-described : (result : Result Reply X) → ((v : Version) → GivesVersion old v → IfOk result (DescribesObject store old.file new v handle)) → IfOk result (HasDescribed store new handle)

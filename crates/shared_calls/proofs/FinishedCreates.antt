@@ -1,47 +1,47 @@
 -- A create that ended at the gate, as a call that was answered, and what always holds behind it.
 use Rattle.std.proofs.Common.{◌≡◌, [], ℕ, Err, IfSome, IsNone, None, Ok, Option, Result, Some, ap, arith, inl, refl, subst, sym}
-use Rattle.call_history.specs.Sessions.{CallerSession}
+use Rattle.serial_calls.specs.CallerSessions.{CallerSession}
 use Rattle.call_rules.specs.declared.decision.NewPlace.{NewPlace}
-use Rattle.core_parts.specs.Joined.{IsObjectFile}
-use Rattle.create_calls.specs.Finished.{IsBroughtNew, IsFinished, IsToldWhy}
-use Rattle.create_calls.specs.Finished.IsBroughtOrSpent.{Brought, Unbrought}
-use Rattle.create_calls.specs.Rules.{NewObject, create_call}
-use Rattle.create_calls.specs.Unmade.{reply_unmade}
-use Rattle.create_calls.specs.declared.unmade.Unmade.{Unmade}
-use Rattle.create_calls.specs.declared.unmade.Unmade.TheVariants.{Failed, Spent}
+use Rattle.serial_calls.specs.Joined.{IsObjectFile}
+use Rattle.serial_calls.specs.CreateEnds.{IsCommittableNew, IsFinished, IsToldWhy}
+use Rattle.serial_calls.specs.CreateEnds.IsCommittableOrSpent.{Committable, Uncommittable}
+use Rattle.serial_calls.specs.Rules.{NewObject, create_call}
+use Rattle.serial_calls.specs.CreateFailure.{reply_unmade}
+use Rattle.serial_calls.specs.declared.create_failure.CreateFailure.{CreateFailure}
+use Rattle.serial_calls.specs.declared.create_failure.CreateFailure.TheVariants.{Failed, Spent}
 use Rattle.disk_model.specs.State.{FileState}
 use Rattle.hmac_keys.specs.KeyTable.{rpmb_key}
-use Rattle.locked_gate.specs.LockedGates.{LockedGateValue}
-use Rattle.locked_gate.specs.declared.answered.Answer.{Answer}
-use Rattle.locked_slots.specs.Fits.{SeesWhole}
+use Rattle.serial_calls.specs.GuardedGates.{GuardedGateValue}
+use Rattle.serial_calls.specs.declared.PlacedReply.{PlacedReply}
+use Rattle.serial_calls.specs.Fits.{SeesWhole}
 use Rattle.node_image.specs.declared.node.RootRef.{RootRef}
-use Rattle.object_answers.specs.Served.{IsServed}
-use Rattle.object_slots.specs.Value.{SlotValue}
+use Rattle.serial_calls.specs.AnswerServed.{IsServed}
+use Rattle.serial_calls.specs.SlotValues.{SlotValue}
 use Rattle.rpmb_card.specs.Port.{PortState}
-use Rattle.store_commit.specs.Noting.{NotesReply}
-use Rattle.suppositions.specs.Stores.{Store}
+use Rattle.open_table.specs.HandleChanges.{NotesReply}
+use Rattle.serial_calls.specs.Stores.{Store}
 use Rattle.tee_types.specs.declared.call.Call.{Call}
 use Rattle.tee_types.specs.declared.reply.Cause.TheVariants.{CardResult, Fault, Frame}
 use Rattle.tee_types.specs.declared.reply.Device.TheVariants.{Card, Dir, Entropy, File}
 use Rattle.tee_types.specs.declared.reply.Reply.{Reply}
-use Rattle.device_counts.specs.Counts.{told_of}
-use Rattle.device_counts.specs.Devices.{Devices, Grows}
-use Rattle.served_calls.specs.Ready.{KnowsCard}
-use Rattle.shared_calls.specs.Creating.{AccusesAtMost, told_made}
-use Rattle.shared_parts.specs.Kept.{KeepsGate, KeepsSlot}
-use Rattle.shared_parts.specs.Rounds.{EndsRound, IsAnswered, IsWaiting}
-use Rattle.shared_calls.proofs.AnsweredSlots.{keeps-brought, keeps-served}
-use Rattle.shared_calls.proofs.CommittedCalls.{committed-answers, committed-grows, committed-still}
+use Rattle.serial_calls.specs.DeviceCounts.{told_of}
+use Rattle.serial_calls.specs.Devices.{Devices, Grows}
+use Rattle.serial_calls.specs.ServeReady.{KnowsCard}
+use Rattle.shared_calls.specs.SharedCreate.{AccusesAtMost, told_made}
+use Rattle.shared_calls.specs.Kept.{KeepsGate, KeepsSlot}
+use Rattle.shared_calls.specs.Attempts.{EndsAttempt, IsAnswered, IsWaiting}
+use Rattle.shared_calls.proofs.AnsweredSlots.{keeps-committable, keeps-served}
+use Rattle.shared_calls.proofs.SharedCommits.{committed-answers, committed-grows, committed-still}
 use Rattle.shared_calls.proofs.KeptCalls.{keeps-committed}
 use Rattle.shared_calls.proofs.Served.{slot-answers}
 use Rattle.shared_calls.proofs.SparedGates.{SparesGate, keeps-spared}
-use Rattle.shared_parts.proofs.Waiting.{answers-then}
+use Rattle.shared_calls.proofs.Waiting.{answers-then}
 
 -- That an object was not made is served as what its file gives is.
-module _ {F R E : Type 0} (store : Store) (old new : LockedGateValue F R) (file : ℕ) (was now : CallerSession E) (object : NewObject) (why : Unmade) (answer : Answer)
+module _ {F R E : Type 0} (store : Store) (old new : GuardedGateValue F R) (file : ℕ) (was now : CallerSession E) (object : NewObject) (why : CreateFailure) (answer : PlacedReply)
     (t : IsToldWhy store old new file was now object why answer) where
   -- no handle is noted of it
-  unmade-notes : (reason : Unmade) → new.gate.open_handles.records ≡ old.gate.open_handles.records
+  unmade-notes : (reason : CreateFailure) → new.gate.open_handles.records ≡ old.gate.open_handles.records
       → NotesReply old.gate.open_handles new.gate.open_handles file was.number (create_call object) (reply_unmade reason)
   unmade-notes (Failed cause) same = same
   unmade-notes Spent same = same
@@ -66,7 +66,7 @@ module _ {F R E : Type 0} (store : Store) (old new : LockedGateValue F R) (file 
   unmade-answers = slot-answers store (create_call object) was now answer old new file unmade-served
 
 -- neither the directory's file nor the card is accused
-unmade-spares : (file : ℕ) (why : Unmade) → AccusesAtMost file (Err why) → SparesGate (reply_unmade why)
+unmade-spares : (file : ℕ) (why : CreateFailure) → AccusesAtMost file (Err why) → SparesGate (reply_unmade why)
 unmade-spares file (Failed (Fault (File n) count)) accuses = tt
 unmade-spares file (Failed (Fault Entropy count)) accuses = tt
 unmade-spares file (Failed (Fault Dir count)) accuses = absurd accuses
@@ -75,8 +75,8 @@ unmade-spares file (Failed (Frame fault)) accuses = absurd accuses
 unmade-spares file (Failed (CardResult result)) accuses = absurd accuses
 unmade-spares file Spent accuses = tt
 
-module _ {F R E : Type 0} (of_file : F → FileState) (of_port : R → PortState) (store : Store) (old new : LockedGateValue F R) (file : ℕ) (was now : CallerSession E)
-    (faults : E → ℕ) (object : NewObject) (place : NewPlace) (Reliable : Type 0) (answer : Answer) where
+module _ {F R E : Type 0} (of_file : F → FileState) (of_port : R → PortState) (store : Store) (old new : GuardedGateValue F R) (file : ℕ) (was now : CallerSession E)
+    (faults : E → ℕ) (object : NewObject) (place : NewPlace) (Reliable : Type 0) (answer : PlacedReply) where
   abbrev drew : ℕ
   drew = faults was.entropy
 
@@ -84,63 +84,63 @@ module _ {F R E : Type 0} (of_file : F → FileState) (of_port : R → PortState
   draws = faults now.entropy
 
   abbrev Brings : Type 0
-  Brings = IsBroughtNew of_file of_port store old new file was now object place Reliable drew draws answer
+  Brings = IsCommittableNew of_file of_port store old new file was now object place Reliable drew draws answer
 
-  abbrev Finishes : Result RootRef Unmade → Type 0
+  abbrev Finishes : Result RootRef CreateFailure → Type 0
   Finishes made = IsFinished of_file of_port store old new file was now object place Reliable drew draws made answer
 
-  brought-answers : Brings → IsAnswered store was now (create_call object) answer
-  brought-answers b = committed-answers of_file of_port faults store old new file was now (create_call object) _ _ Reliable answer b.committed
+  committable-answers : Brings → IsAnswered store was now (create_call object) answer
+  committable-answers b = committed-answers of_file of_port faults store old new file was now (create_call object) _ _ Reliable answer b.committed
 
-  brought-draws : Brings → Grows drew draws
-  brought-draws b = committed-grows of_file of_port faults store old new file was now (create_call object) _ _ Reliable answer b.committed drew (omega arith)
+  committable-draws : Brings → Grows drew draws
+  committable-draws b = committed-grows of_file of_port faults store old new file was now (create_call object) _ _ Reliable answer b.committed drew (omega arith)
 
-  brought-still : Brings → Reliable → draws ≡ drew
-  brought-still b = committed-still of_file of_port faults store old new file was now (create_call object) _ _ Reliable answer b.committed
+  committable-still : Brings → Reliable → draws ≡ drew
+  committable-still b = committed-still of_file of_port faults store old new file was now (create_call object) _ _ Reliable answer b.committed
 
-  pub finished-answers : (made : Result RootRef Unmade) → Finishes made → IsAnswered store was now (create_call object) answer
-  finished-answers (Ok root) (Brought b low) = brought-answers b.0
-  finished-answers (Ok root) (Unbrought t spent) = unmade-answers store old new file was now object Spent answer t
+  pub finished-answers : (made : Result RootRef CreateFailure) → Finishes made → IsAnswered store was now (create_call object) answer
+  finished-answers (Ok root) (Committable b low) = committable-answers b.0
+  finished-answers (Ok root) (Uncommittable t spent) = unmade-answers store old new file was now object Spent answer t
   finished-answers (Err why) t = unmade-answers store old new file was now object why answer t
 
-  pub finished-draws : (made : Result RootRef Unmade) → Finishes made → Grows drew draws
-  finished-draws (Ok root) (Brought b low) = brought-draws b.0
-  finished-draws (Ok root) (Unbrought t spent) = inl (ap faults t.undrawn)
+  pub finished-draws : (made : Result RootRef CreateFailure) → Finishes made → Grows drew draws
+  finished-draws (Ok root) (Committable b low) = committable-draws b.0
+  finished-draws (Ok root) (Uncommittable t spent) = inl (ap faults t.undrawn)
   finished-draws (Err why) t = inl (ap faults t.undrawn)
 
-  pub finished-still : (made : Result RootRef Unmade) → Finishes made → Reliable → draws ≡ drew
-  finished-still (Ok root) (Brought b low) reliable = brought-still b.0 reliable
-  finished-still (Ok root) (Unbrought t spent) reliable = ap faults t.undrawn
+  pub finished-still : (made : Result RootRef CreateFailure) → Finishes made → Reliable → draws ≡ drew
+  finished-still (Ok root) (Committable b low) reliable = committable-still b.0 reliable
+  finished-still (Ok root) (Uncommittable t spent) reliable = ap faults t.undrawn
   finished-still (Err why) t reliable = ap faults t.undrawn
 
   -- The gate, which knows its card.
   module _ (before : Devices) (of_object : IsObjectFile file) (known : KnowsCard (of_port old.gate.host.port) old.gate.host.key (rpmb_key store.keys.huk) old.gate.counter)
       (k : KeepsGate of_file of_port store before old) where
-    gate-told : (why : Unmade) → AccusesAtMost file (Err why) → IsToldWhy store old new file was now object why answer → KeepsGate of_file of_port store before new
+    gate-told : (why : CreateFailure) → AccusesAtMost file (Err why) → IsToldWhy store old new file was now object why answer → KeepsGate of_file of_port store before new
     gate-told why accuses t =
         keeps-spared of_file of_port store before old new was now file of_object (create_call object) answer (unmade-served store old new file was now object why answer t) (subst SparesGate (sym t.reply) (unmade-spares file why accuses)) k
 
-    pub finished-gate : (made : Result RootRef Unmade) → AccusesAtMost file made → Finishes made → KeepsGate of_file of_port store before new
-    finished-gate (Ok root) accuses (Brought b low) =
+    pub finished-gate : (made : Result RootRef CreateFailure) → AccusesAtMost file made → Finishes made → KeepsGate of_file of_port store before new
+    finished-gate (Ok root) accuses (Committable b low) =
         keeps-committed of_file of_port store before faults old new file of_object was now (create_call object) _ _ Reliable answer (λ d0 d1. tt) known (b.0).committed k
-    finished-gate (Ok root) accuses (Unbrought t spent) = gate-told Spent tt t
+    finished-gate (Ok root) accuses (Uncommittable t spent) = gate-told Spent tt t
     finished-gate (Err why) accuses t = gate-told why accuses t
 
   -- The slot, which was shown the history.
   module _ (before : Devices) (from to : SlotValue) (number : to.number ≡ from.number) (rests : to.file ≡ from.file) (saw : SeesWhole old.journal.knows from) (sees : SeesWhole new.journal.knows to) where
-    slot-told : (why : Unmade) → IsToldWhy store old new file was now object why answer → KeepsSlot before from (told_of (File from.number) (reply_unmade why)) → KeepsSlot before to []
+    slot-told : (why : CreateFailure) → IsToldWhy store old new file was now object why answer → KeepsSlot before from (told_of (File from.number) (reply_unmade why)) → KeepsSlot before to []
     slot-told why t k =
         keeps-served before from to number rests store old new was now (create_call object) answer sees file (unmade-served store old new file was now object why answer t) saw
         (subst (λ (r : Reply). KeepsSlot before from (told_of (File from.number) r)) (sym t.reply) k)
 
-    pub finished-slot : (made : Result RootRef Unmade) → Finishes made → KeepsSlot before from (told_made from.number made) → KeepsSlot before to []
-    finished-slot (Ok root) (Brought b low) k =
-        keeps-brought before from to number rests store old new was now (create_call object) answer sees of_file of_port file _ _ Reliable drew draws (b.0).committed refl saw k
-    finished-slot (Ok root) (Unbrought t spent) k = slot-told Spent t k
+    pub finished-slot : (made : Result RootRef CreateFailure) → Finishes made → KeepsSlot before from (told_made from.number made) → KeepsSlot before to []
+    finished-slot (Ok root) (Committable b low) k =
+        keeps-committable before from to number rests store old new was now (create_call object) answer sees of_file of_port file _ _ Reliable drew draws (b.0).committed refl saw k
+    finished-slot (Ok root) (Uncommittable t spent) k = slot-told Spent t k
     finished-slot (Err why) t k = slot-told why t k
 
 -- it was answered, or has to be begun again
-pub finish-ends : {E : Type 0} (X : Type 0) (store : Store) (was between now : CallerSession E) → IsWaiting store was between → (call : Call) (result : Option Answer)
-    → IfSome result (IsAnswered store between now call) → (IsNone result → now ≡ between) → EndsRound {X = X} store was now call (Ok result)
+pub finish-ends : {E : Type 0} (X : Type 0) (store : Store) (was between now : CallerSession E) → IsWaiting store was between → (call : Call) (result : Option PlacedReply)
+    → IfSome result (IsAnswered store between now call) → (IsNone result → now ≡ between) → EndsAttempt {X = X} store was now call (Ok result)
 finish-ends X store was between now first call (Some answer) answered waits = answers-then store was between now first call answer answered
 finish-ends X store was between now first call None answered waits = subst (IsWaiting store was) (sym (waits refl)) first

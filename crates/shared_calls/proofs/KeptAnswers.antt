@@ -1,37 +1,37 @@
 -- What a slot keeps as its object is read, and as what was read is answered.
 use Rattle.std.proofs.Common.{◌≡◌, ◌≤◌, [], ℕ, List, Err, IfOk, None, Ok, Option, Result, Some, ap, refl, subst, sym}
 use Rattle.std.specs.Prelude.{MatchResult}
-use Rattle.call_history.specs.Sessions.{CallerSession}
+use Rattle.serial_calls.specs.CallerSessions.{CallerSession}
 use Rattle.disk_model.specs.Calls.{Rests}
 use Rattle.disk_model.specs.State.{FileState}
 use Rattle.history_seats.specs.Records.{Version}
-use Rattle.locked_gate.specs.declared.answered.Answer.{Answer}
-use Rattle.locked_gate.specs.LockedGates.{LockedGateValue}
-use Rattle.locked_slots.specs.Fits.{SeesWhole}
-use Rattle.object_answers.specs.Causes.{HasToldCause}
-use Rattle.object_answers.specs.Describing.{DescribesObject}
-use Rattle.object_answers.specs.Opening.{open_reply}
-use Rattle.object_answers.specs.Reading.{ReadsAnswer}
-use Rattle.object_answers.specs.Ready.{IsReady}
-use Rattle.object_answers.specs.Served.{IsServed}
-use Rattle.object_slots.specs.Value.{SlotValue}
+use Rattle.serial_calls.specs.declared.PlacedReply.{PlacedReply}
+use Rattle.serial_calls.specs.GuardedGates.{GuardedGateValue}
+use Rattle.serial_calls.specs.Fits.{SeesWhole}
+use Rattle.serial_calls.specs.AnswerCauses.{HasToldCause}
+use Rattle.serial_calls.specs.InfoAnswers.{DescribesObject}
+use Rattle.serial_calls.specs.OpenAnswers.{open_reply}
+use Rattle.serial_calls.specs.ReadAnswers.{ReadsAnswer}
+use Rattle.serial_calls.specs.ReadyEntries.{IsReady}
+use Rattle.serial_calls.specs.AnswerServed.{IsServed}
+use Rattle.serial_calls.specs.SlotValues.{SlotValue}
 use Rattle.store_model.specs.Machine.{Session}
 use Rattle.store_model.specs.declared.session.Handle.{Handle}
-use Rattle.suppositions.specs.Stores.{Store}
+use Rattle.serial_calls.specs.Stores.{Store}
 use Rattle.tee_types.specs.declared.call.Call.{Call}
 use Rattle.tee_types.specs.declared.reply.Device.TheVariants.{File}
 use Rattle.tee_types.specs.declared.reply.Reply.{Reply}
-use Rattle.device_counts.specs.Counts.{Rise, told_of}
-use Rattle.device_counts.specs.Devices.{Devices}
-use Rattle.device_counts.proofs.Counting.{grows_le}
-use Rattle.device_counts.proofs.Tellings.{Rise-told_of}
-use Rattle.served_calls.proofs.ToldCalls.{told_accuses_file}
-use Rattle.shared_parts.specs.Counts.{told_if}
+use Rattle.serial_calls.specs.DeviceCounts.{Rise, told_of}
+use Rattle.serial_calls.specs.Devices.{Devices}
+use Rattle.serial_calls.proofs.CountGrowth.{grows_le}
+use Rattle.serial_calls.proofs.Tellings.{Rise-told_of}
+use Rattle.serial_calls.proofs.ToldCalls.{told_accuses_file}
+use Rattle.shared_calls.specs.SharedCounts.{told_if}
 use Rattle.rpmb_card.specs.Port.{PortState}
-use Rattle.shared_parts.specs.Kept.{KeepsGate, KeepsSlot}
+use Rattle.shared_calls.specs.Kept.{KeepsGate, KeepsSlot}
 use Rattle.shared_calls.proofs.AnsweredSlots.{keeps-served}
 use Rattle.shared_calls.proofs.KeptCalls.{keeps-told}
-use Rattle.shared_parts.proofs.KeptSlots.{keeps-called}
+use Rattle.shared_calls.proofs.KeptSlots.{keeps-called}
 use Rattle.shared_calls.proofs.StageCounts.{of_stage}
 
 -- the file counted what the reply carries for it
@@ -92,7 +92,7 @@ module _ (before : Devices) where
     keeps-loaded X store v (Err e) ready = none
 
   -- A reply that a slot's file gave is appended, once the slot was shown the history: `first` is the slot before that, `met` behind it.
-  module _ {F R E : Type 0} (of_file : F → FileState) (of_port : R → PortState) (store : Store) (gate after : LockedGateValue F R) (was now : CallerSession E) (call : Call) (answer : Answer) (first met new : SlotValue)
+  module _ {F R E : Type 0} (of_file : F → FileState) (of_port : R → PortState) (store : Store) (gate after : GuardedGateValue F R) (was now : CallerSession E) (call : Call) (answer : PlacedReply) (first met new : SlotValue)
       (moved : met ≡ record first { seat = met.seat }) (from : FileState) (reply : Reply) (cause : HasToldCause from first.file first.number reply) (is : answer.reply ≡ reply)
       (s : IsServed store gate after was now met.number call answer) (k : KeepsSlot before met (told_of (File first.number) reply)) where
     met-number : met.number ≡ first.number

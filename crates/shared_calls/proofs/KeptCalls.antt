@@ -1,41 +1,41 @@
 -- The gate keeps what always holds of its devices, over each call that is made of it.
 use Rattle.std.proofs.Common.{◌≡◌, ◌<◌, ◌≤◌, ◌++◌, ◌∷◌, [], ℕ, List, None, append_assoc, length, ap, ◌∙◌, inl, refl, subst, sym}
-use Rattle.call_history.specs.Sessions.{CallerSession}
+use Rattle.serial_calls.specs.CallerSessions.{CallerSession}
 use Rattle.call_rules.specs.Plain.{IsPlain}
-use Rattle.change_calls.specs.Replies.{IsDoneOrRefused}
-use Rattle.core_parts.specs.Joined.{IsObjectFile}
+use Rattle.serial_calls.specs.ChangeReplies.{IsDoneOrRefused}
+use Rattle.serial_calls.specs.Joined.{IsObjectFile}
 use Rattle.disk_model.specs.State.{FileState}
-use Rattle.gate_calls.specs.Served.{IsLeft, IsServed, IsServedAlone, IsUnserved}
+use Rattle.serial_calls.specs.GateServed.{IsLeft, IsServed, IsServedAlone, IsUnserved}
 use Rattle.history_seats.specs.Records.{HistoryRecord}
 use Rattle.hmac_keys.specs.KeyTable.{rpmb_key}
-use Rattle.locked_gate.specs.declared.answered.Answer.{Answer}
-use Rattle.locked_gate.specs.LockedGates.{LockedGateValue}
-use Rattle.object_answers.specs.Causes.{HasToldCause}
-use Rattle.object_answers.specs.Served.{IsServed as IsServedWith}
-use Rattle.object_commits.specs.Bringing.{IsCommitted}
+use Rattle.serial_calls.specs.declared.PlacedReply.{PlacedReply}
+use Rattle.serial_calls.specs.GuardedGates.{GuardedGateValue}
+use Rattle.serial_calls.specs.AnswerCauses.{HasToldCause}
+use Rattle.serial_calls.specs.AnswerServed.{IsServed as IsServedWith}
+use Rattle.serial_calls.specs.ObjectCommits.{IsCommitted}
 use Rattle.rpmb_card.specs.Port.{PortState}
 use Rattle.rpmb_host.specs.Honest.{HasCard}
-use Rattle.store_commit.specs.Gates.{DoubtStands, GateValue, gate_sides}
-use Rattle.store_commit.specs.declared.change.EntryChange.{EntryChange}
+use Rattle.serial_calls.specs.Gates.{DoubtStands, GateValue, gate_sides}
+use Rattle.serial_calls.specs.declared.EntryChange.{EntryChange}
 use Rattle.store_model.specs.Record.{events_of}
 use Rattle.store_model.specs.declared.event.Event.TheVariants.{Call as CallEvent}
-use Rattle.suppositions.specs.Stores.{Store}
+use Rattle.serial_calls.specs.Stores.{Store}
 use Rattle.tee_types.specs.declared.call.Call.{Call}
 use Rattle.tee_types.specs.declared.reply.Reply.{Reply}
-use Rattle.device_counts.specs.Events.{events_at, landing_events}
-use Rattle.served_calls.specs.Appended.{AppendsCall}
-use Rattle.device_counts.specs.Devices.{AccusesRightly, CostsDoubt, Devices, file_in}
-use Rattle.served_calls.specs.Ready.{KnowsCard}
-use Rattle.device_counts.specs.Slots.{AreOfObjectFiles}
-use Rattle.device_counts.proofs.Cards.{settled_counts}
-use Rattle.served_calls.proofs.ChangedCalls.{done_accuses}
-use Rattle.served_calls.proofs.CommittedCalls.{committed_appends, committed_goes_on, committed_mark, end_accuses, end_costs}
-use Rattle.served_calls.proofs.RuledCalls.{plain_accuses, ruled_appends}
-use Rattle.device_counts.proofs.MoreRecords.{events_more, tagged_more}
-use Rattle.served_calls.proofs.Settling.{Settles, reserved_settles, settled_settles, settles_reserved}
-use Rattle.served_calls.proofs.ToldCalls.{GatesGoOn, quiet_goes_on, told_accuses_file, told_appends, told_quiet}
-use Rattle.served_calls.proofs.WholeCalls.{alone_goes_on, precedes_accuses, precedes_settles, unserved_settles}
-use Rattle.shared_parts.specs.Kept.{KeepsGate}
+use Rattle.serial_calls.specs.EventCounts.{events_at, landing_events}
+use Rattle.serial_calls.specs.Appended.{AppendsCall}
+use Rattle.serial_calls.specs.Devices.{AccusesRightly, CostsDoubt, Devices, file_in}
+use Rattle.serial_calls.specs.ServeReady.{KnowsCard}
+use Rattle.serial_calls.specs.Slots.{AreOfObjectFiles}
+use Rattle.serial_calls.proofs.Cards.{settled_counts}
+use Rattle.serial_calls.proofs.ChangedCalls.{done_accuses}
+use Rattle.serial_calls.proofs.CommittedCalls.{committed_appends, committed_goes_on, committed_mark, end_accuses, end_costs}
+use Rattle.serial_calls.proofs.RuledCalls.{plain_accuses, ruled_appends}
+use Rattle.serial_calls.proofs.MoreRecords.{events_more, tagged_more}
+use Rattle.serial_calls.proofs.ServeSettling.{Settles, reserved_settles, settled_settles, settles_reserved}
+use Rattle.serial_calls.proofs.ToldCalls.{GatesGoOn, quiet_goes_on, told_accuses_file, told_appends, told_quiet}
+use Rattle.serial_calls.proofs.WholeCalls.{alone_goes_on, precedes_accuses, precedes_settles, unserved_settles}
+use Rattle.shared_calls.specs.Kept.{KeepsGate}
 use Rattle.shared_calls.proofs.KeptGates.{keeps-appended, keeps-call, keeps-same, keeps-settled}
 
 -- while no commit is in doubt, a card that is told with the host's key has the gate's counter
@@ -52,21 +52,21 @@ module _ {F R : Type 0} (of_file : F → FileState) (of_port : R → PortState) 
   abbrev key : List ℕ
   key = rpmb_key store.keys.huk
 
-  abbrev Keeps : LockedGateValue F R → Type 0
+  abbrev Keeps : GuardedGateValue F R → Type 0
   Keeps gate = KeepsGate of_file of_port store before gate
 
   -- the gate's devices, with these files of objects, and a count of draws
-  abbrev devices_at : LockedGateValue F R → (files : ℕ → FileState) → (draws : ℕ) → Devices
+  abbrev devices_at : GuardedGateValue F R → (files : ℕ → FileState) → (draws : ℕ) → Devices
   devices_at gate files draws = record { dir = of_file gate.gate.dir.file; file = files; card = of_port gate.gate.host.port; draws = draws }
 
   -- room was made
-  pub keeps-reserved : (old new : LockedGateValue F R) → new.gate ≡ record old.gate { open_handles = new.gate.open_handles; room = new.gate.room }
+  pub keeps-reserved : (old new : GuardedGateValue F R) → new.gate ≡ record old.gate { open_handles = new.gate.open_handles; room = new.gate.room }
       → new.journal.knows ≡ old.journal.knows → Keeps old → Keeps new
   keeps-reserved old new gate knows k =
       keeps-same of_file of_port store before old new k (ap (λ k. k.all) knows) (ap (λ (g : GateValue F R). of_file g.dir.file) gate) (ap (λ (g : GateValue F R). of_port g.host.port) gate)
 
   -- the rules answered
-  pub keeps-ruled : {E : Type 0} (old new : LockedGateValue F R) (was now : CallerSession E) (call : Call) (answer : Answer) → IsServed store call answer old new was now → IsPlain answer.reply
+  pub keeps-ruled : {E : Type 0} (old new : GuardedGateValue F R) (was now : CallerSession E) (call : Call) (answer : PlacedReply) → IsServed store call answer old new was now → IsPlain answer.reply
       → Keeps old → Keeps new
   unfolding ruled_appends
   keeps-ruled old new was now call answer s plain k =
@@ -75,7 +75,7 @@ module _ {F R : Type 0} (of_file : F → FileState) (of_port : R → PortState) 
       (plain_accuses key (devices_at old (file_in []) 0) (devices_at new (file_in []) 0) answer.reply plain) tt
 
   -- The reply of an object's file was told.
-  module _ {E : Type 0} (old new : LockedGateValue F R) (was now : CallerSession E) (file : ℕ) (object : IsObjectFile file) (call : Call) (answer : Answer)
+  module _ {E : Type 0} (old new : GuardedGateValue F R) (was now : CallerSession E) (file : ℕ) (object : IsObjectFile file) (call : Call) (answer : PlacedReply)
       (s : IsServedWith store old new was now file call answer) (k : Keeps old) where
     gates : GatesGoOn of_file of_port (λ e. 0) key old.gate new.gate was now
     gates = quiet_goes_on of_file of_port (λ e. 0) key old.gate new.gate was now s.gate (inl refl)
@@ -94,8 +94,8 @@ module _ {F R : Type 0} (of_file : F → FileState) (of_port : R → PortState) 
         (told_quiet store old new was now file object call answer s key (devices_at old (file_in []) 0) (devices_at new (file_in []) 0))
 
   -- A commit was made, or not.
-  pub keeps-committed : {E : Type 0} (draws : E → ℕ) (old new : LockedGateValue F R) (file : ℕ) (object : IsObjectFile file) (was now : CallerSession E) (call : Call) (own : Reply) (change : EntryChange) (Reliable : Type 0)
-      (answer : Answer) → ((d0 d1 : Devices) → AccusesRightly key d0 d1 own) → KnowsCard (of_port old.gate.host.port) old.gate.host.key key old.gate.counter
+  pub keeps-committed : {E : Type 0} (draws : E → ℕ) (old new : GuardedGateValue F R) (file : ℕ) (object : IsObjectFile file) (was now : CallerSession E) (call : Call) (own : Reply) (change : EntryChange) (Reliable : Type 0)
+      (answer : PlacedReply) → ((d0 d1 : Devices) → AccusesRightly key d0 d1 own) → KnowsCard (of_port old.gate.host.port) old.gate.host.key key old.gate.counter
       → IsCommitted of_file of_port store old new file was now call own change Reliable (draws was.entropy) (draws now.entropy) answer → Keeps old → Keeps new
   keeps-committed draws old new file object was now call own change Reliable answer owns known c k =
       let gates : GatesGoOn of_file of_port draws key old.gate new.gate was now =
@@ -109,10 +109,10 @@ module _ {F R : Type 0} (of_file : F → FileState) (of_port : R → PortState) 
       (end_costs of_file of_port draws old new [] [] was now key known c.end c.gate.cause))
 
   -- What the gate does alone, behind the making of room.
-  module _ {E : Type 0} (draws : E → ℕ) (first old new : LockedGateValue F R) (was now : CallerSession E) (ready : old.gate ≡ record first.gate { open_handles = old.gate.open_handles; room = old.gate.room })
+  module _ {E : Type 0} (draws : E → ℕ) (first old new : GuardedGateValue F R) (was now : CallerSession E) (ready : old.gate ≡ record first.gate { open_handles = old.gate.open_handles; room = old.gate.room })
       (knows : old.journal.knows ≡ first.journal.knows) (Reliable : Type 0) (drawn : draws was.entropy ≤ draws now.entropy) (keyed : first.gate.host.key ≡ key)
       (stands : DoubtStands (gate_sides of_file of_port first.gate) first.gate.doubt) (k : Keeps first) where
-    pub keeps-alone : (call : Call) (answer : Answer) → IsServedAlone of_file of_port Reliable (draws was.entropy) (draws now.entropy) store call answer old new was now → Keeps new
+    pub keeps-alone : (call : Call) (answer : PlacedReply) → IsServedAlone of_file of_port Reliable (draws was.entropy) (draws now.entropy) store call answer old new was now → Keeps new
     unfolding ruled_appends
     keeps-alone call answer s =
         let settled : Settles of_file of_port key first s.between =
@@ -134,7 +134,7 @@ module _ {F R : Type 0} (of_file : F → FileState) (of_port : R → PortState) 
         (unserved_settles of_file of_port draws store first old new [] was now ready knows Reliable drawn keyed stands u)
 
   -- the call was left to an object's file, and room was made again
-  pub keeps-left : {E : Type 0} (first old mid new : LockedGateValue F R) (was now : CallerSession E) → old.gate ≡ record first.gate { open_handles = old.gate.open_handles; room = old.gate.room }
+  pub keeps-left : {E : Type 0} (first old mid new : GuardedGateValue F R) (was now : CallerSession E) → old.gate ≡ record first.gate { open_handles = old.gate.open_handles; room = old.gate.room }
       → old.journal.knows ≡ first.journal.knows → new.gate ≡ record mid.gate { open_handles = new.gate.open_handles; room = new.gate.room } → new.journal.knows ≡ mid.journal.knows
       → IsLeft of_file of_port store old mid was now → Keeps first → Keeps new
   keeps-left first old mid new was now ready knows again same left k =

@@ -1,37 +1,37 @@
 -- The gate's devices, and what the history tells of them, over a call.
 use Rattle.std.proofs.Common.{◌≡◌, ◌<◌, ◌++◌, ◌∷◌, [], ℕ, List, length, None, Option, Some, ap, ◌∙◌, subst, sym}
-use Rattle.call_history.specs.Sessions.{CallerSession}
+use Rattle.serial_calls.specs.CallerSessions.{CallerSession}
 use Rattle.disk_model.specs.Calls.{GoesOn}
 use Rattle.disk_model.specs.State.{FileState}
 use Rattle.disk_model.proofs.Goings.{goes_on_then}
 use Rattle.history_seats.specs.Records.{HistoryRecord}
 use Rattle.hmac_keys.specs.KeyTable.{rpmb_key}
-use Rattle.locked_gate.specs.declared.answered.Answer.{Answer}
-use Rattle.locked_gate.specs.LockedGates.{LockedGateValue}
+use Rattle.serial_calls.specs.declared.PlacedReply.{PlacedReply}
+use Rattle.serial_calls.specs.GuardedGates.{GuardedGateValue}
 use Rattle.rpmb_card.specs.Port.{PortState}
 use Rattle.store_model.specs.Record.{events_of}
 use Rattle.store_model.specs.declared.event.Event.{Event}
 use Rattle.store_model.specs.declared.event.Event.TheVariants.{Call as CallEvent, Landed}
 use Rattle.store_model.specs.declared.event.Mark.{Mark}
-use Rattle.suppositions.specs.Stores.{Store}
+use Rattle.serial_calls.specs.Stores.{Store}
 use Rattle.tee_types.specs.declared.call.Call.{Call}
 use Rattle.tee_types.specs.declared.reply.Device.{Device}
 use Rattle.tee_types.specs.declared.reply.Device.TheVariants.{Card, Dir}
 use Rattle.tee_types.specs.declared.reply.Reply.{Reply}
-use Rattle.device_counts.specs.Events.{events_at, landing_events}
-use Rattle.served_calls.specs.Appended.{AppendsCall}
-use Rattle.device_counts.specs.Cards.{TellsCard}
-use Rattle.device_counts.specs.Counts.{Rise, counts_of}
-use Rattle.device_counts.specs.Devices.{AccusesRightly, CostsDoubt, Devices, PortGoesOn}
-use Rattle.device_counts.specs.Slots.{AreOfObjectFiles}
-use Rattle.device_counts.proofs.Cards.{TellsCard-append, TellsCard-call, TellsCard-landing}
-use Rattle.device_counts.proofs.CarriedCounts.{counts_of-append, counts_of-call, counts_of-landing}
-use Rattle.device_counts.proofs.Counting.{grows_le, port_goes_on_then, same_port_goes_on}
-use Rattle.device_counts.proofs.Rises.{Rise-append}
-use Rattle.device_counts.proofs.MoreRecords.{events_more, tagged_more}
-use Rattle.served_calls.proofs.Settling.{Settles, quiet_settles}
-use Rattle.device_counts.proofs.Tellings.{Rise-told_of}
-use Rattle.shared_parts.specs.Kept.{AreOfSessions, KeepsGate}
+use Rattle.serial_calls.specs.EventCounts.{events_at, landing_events}
+use Rattle.serial_calls.specs.Appended.{AppendsCall}
+use Rattle.serial_calls.specs.Cards.{TellsCard}
+use Rattle.serial_calls.specs.DeviceCounts.{Rise, counts_of}
+use Rattle.serial_calls.specs.Devices.{AccusesRightly, CostsDoubt, Devices, PortGoesOn}
+use Rattle.serial_calls.specs.Slots.{AreOfObjectFiles}
+use Rattle.serial_calls.proofs.Cards.{TellsCard-append, TellsCard-call, TellsCard-landing}
+use Rattle.serial_calls.proofs.CarriedCounts.{counts_of-append, counts_of-call, counts_of-landing}
+use Rattle.serial_calls.proofs.CountGrowth.{grows_le, port_goes_on_then, same_port_goes_on}
+use Rattle.serial_calls.proofs.Rises.{Rise-append}
+use Rattle.serial_calls.proofs.MoreRecords.{events_more, tagged_more}
+use Rattle.serial_calls.proofs.ServeSettling.{Settles, quiet_settles}
+use Rattle.serial_calls.proofs.Tellings.{Rise-told_of}
+use Rattle.shared_calls.specs.Kept.{AreOfSessions, KeepsGate}
 
 -- the counts of a list of events behind another
 pub counted-then : (device : Device) (from at to : ℕ) (first then all : List Event) → all ≡ first ++ then → Rise from at (counts_of device first) → Rise at to (counts_of device then)
@@ -56,14 +56,14 @@ module _ {F R : Type 0} (of_file : F → FileState) (of_port : R → PortState) 
   abbrev key : List ℕ
   key = rpmb_key store.keys.huk
 
-  abbrev Keeps : LockedGateValue F R → Type 0
+  abbrev Keeps : GuardedGateValue F R → Type 0
   Keeps gate = KeepsGate of_file of_port store before gate
 
   -- a call that was appended is of a session of the store
-  pub known-session : {E : Type 0} (old new : LockedGateValue F R) (was now : CallerSession E) (call : Call) (answer : Answer) → AppendsCall store old new was now call answer → was.number < sessions
+  pub known-session : {E : Type 0} (old new : GuardedGateValue F R) (was now : CallerSession E) (call : Call) (answer : PlacedReply) → AppendsCall store old new was now call answer → was.number < sessions
   known-session old new was now call answer a = subst (λ (n : ℕ). n < sessions) a.extends.number a.whole.session.known
 
-  module _ (old new : LockedGateValue F R) (k : Keeps old) where
+  module _ (old new : GuardedGateValue F R) (k : Keeps old) where
     abbrev dir_old : FileState
     dir_old = of_file old.gate.dir.file
 
@@ -122,7 +122,7 @@ module _ {F R : Type 0} (of_file : F → FileState) (of_port : R → PortState) 
           (TellsCard-call key d0 d1 landed session number call reply mark accuses costs)
 
       -- the same, by the one record that was appended
-      pub keeps-appended : {E : Type 0} (was now : CallerSession E) (call : Call) (answer : Answer) (a : AppendsCall store old new was now call answer)
+      pub keeps-appended : {E : Type 0} (was now : CallerSession E) (call : Call) (answer : PlacedReply) (a : AppendsCall store old new was now call answer)
           → AccusesRightly key d0 d1 answer.reply → CostsDoubt key d0 d1 a.mark → Keeps new
       keeps-appended was now call answer a accuses costs =
           keeps-call None was.number was.made call answer.reply a.mark (known-session old new was now call answer a)

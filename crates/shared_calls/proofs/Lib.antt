@@ -1,20 +1,29 @@
 pub mod Served
-pub mod GivenVersions
+pub mod SharedVersions
 pub mod ReadObjects
 pub mod DescribedObjects
 pub mod OpenedObjects
-pub mod CommittedCalls
+pub mod SharedCommits
 pub mod FinishedCreates
-pub mod StagedSlots
+pub mod SharedStages
 pub mod StageCounts
-pub mod ChangedCalls
+pub mod SharedChanges
 mod AnsweredSlots
 mod RefusedCalls
-mod HeldFiles
-mod ShownSlots
-mod MadeObjects
+mod SharedHolds
+mod SharedViews
+mod SharedObjects
 mod SparedGates
 mod KeptGates
 mod KeptCalls
 mod CarriedDraws
 mod KeptAnswers
+pub mod Waiting
+pub mod CarriedAttempts
+pub mod KeptSlots
+pub use Rattle.serial_calls.proofs.Cards
+pub use Rattle.serial_calls.proofs.CarriedCounts
+pub use Rattle.serial_calls.proofs.CountGrowth
+pub use Rattle.serial_calls.proofs.Rises
+pub use Rattle.serial_calls.proofs.SameMaps
+pub use Rattle.serial_calls.proofs.Tellings

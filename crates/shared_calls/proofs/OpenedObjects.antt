@@ -5,17 +5,17 @@ use Rattle.dir_records.specs.declared.entry.DirEntry.{DirEntry}
 use Rattle.disk_model.specs.State.{FileState}
 use Rattle.history_seats.specs.Records.{Version}
 use Rattle.history_seats.specs.Views.{GateView}
-use Rattle.locked_slots.specs.Fills.{GivesEntry}
-use Rattle.locked_slots.specs.Reads.{GivesVersion}
-use Rattle.object_answers.specs.Meeting.{StillGives}
-use Rattle.object_answers.specs.Ready.{IsReady, IsReadyEntry}
-use Rattle.object_answers.proofs.MetAgain.{ready-again}
-use Rattle.object_slots.specs.Value.{SlotValue}
-use Rattle.suppositions.specs.Stores.{Store}
+use Rattle.serial_calls.specs.Fills.{GivesEntry}
+use Rattle.serial_calls.specs.GuardedReads.{GivesVersion}
+use Rattle.serial_calls.specs.SlotCatchUp.{StillGives}
+use Rattle.serial_calls.specs.ReadyEntries.{IsReady, IsReadyEntry}
+use Rattle.serial_calls.proofs.MetAgain.{ready-again}
+use Rattle.serial_calls.specs.SlotValues.{SlotValue}
+use Rattle.serial_calls.specs.Stores.{Store}
 use Rattle.tee_types.specs.declared.reply.Reply.{Reply}
-use Rattle.shared_calls.specs.Meeting.{IsMet}
-use Rattle.shared_calls.specs.Opening.{HasLoaded}
-use Rattle.shared_calls.proofs.GivenVersions.{gives-moved}
+use Rattle.shared_calls.specs.SharedCatchUp.{IsMet}
+use Rattle.shared_calls.specs.SharedOpen.{HasLoaded}
+use Rattle.shared_calls.proofs.SharedVersions.{gives-moved}
 
 module _ {X : Type 0} (store : Store) (old new : SlotValue) (e : DirEntry) (given : GivesEntry old e) (same : new ≡ record old { file = new.file; holds = new.holds }) where
   pub has-loaded : (result : Result (Option Reply) X) → ((v : Version) → GivesVersion old v → IfOk result (IsReady store old.file new v)) → IfOk result (HasLoaded store new)

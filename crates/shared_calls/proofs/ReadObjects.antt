@@ -4,17 +4,17 @@ use Rattle.dir_records.specs.declared.entry.DirEntry.{DirEntry}
 use Rattle.disk_model.specs.State.{FileState}
 use Rattle.history_seats.specs.Records.{Version}
 use Rattle.history_seats.specs.Views.{GateView}
-use Rattle.locked_slots.specs.Fills.{GivesEntry}
-use Rattle.locked_slots.specs.Reads.{GivesVersion}
-use Rattle.object_answers.specs.Meeting.{StillGives}
-use Rattle.object_answers.specs.Reading.{ReadsAnswer, ReadsEntry}
-use Rattle.object_answers.proofs.MetAgain.{reads-again}
-use Rattle.object_slots.specs.Value.{SlotValue}
-use Rattle.suppositions.specs.Stores.{Store}
+use Rattle.serial_calls.specs.Fills.{GivesEntry}
+use Rattle.serial_calls.specs.GuardedReads.{GivesVersion}
+use Rattle.serial_calls.specs.SlotCatchUp.{StillGives}
+use Rattle.serial_calls.specs.ReadAnswers.{ReadsAnswer, ReadsEntry}
+use Rattle.serial_calls.proofs.MetAgain.{reads-again}
+use Rattle.serial_calls.specs.SlotValues.{SlotValue}
+use Rattle.serial_calls.specs.Stores.{Store}
 use Rattle.tee_types.specs.declared.reply.Reply.{Reply}
-use Rattle.shared_calls.specs.Meeting.{IsMet}
-use Rattle.shared_calls.specs.Reading.{HasRead}
-use Rattle.shared_calls.proofs.GivenVersions.{gives-moved}
+use Rattle.shared_calls.specs.SharedCatchUp.{IsMet}
+use Rattle.shared_calls.specs.SharedRead.{HasRead}
+use Rattle.shared_calls.proofs.SharedVersions.{gives-moved}
 
 module _ {X : Type 0} (store : Store) (old new : SlotValue) (e : DirEntry) (at count : ℕ) (given : GivesEntry old e) (same : new ≡ record old { file = new.file; holds = new.holds }) where
   pub has-read : (result : Result Reply X) → ((v : Version) → GivesVersion old v → IfOk result (ReadsAnswer store old.file new v at count)) → IfOk result (HasRead store new at count)

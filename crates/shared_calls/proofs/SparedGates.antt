@@ -1,24 +1,24 @@
 -- A gate, over the answer of an object's file that accuses no device of the gate.
 use Rattle.std.proofs.Common.{◌≡◌, ◌++◌, ◌∷◌, ◌∙◌, [], ℕ, List, None, ap, inl, refl, subst, sym}
-use Rattle.call_history.specs.Sessions.{CallerSession}
-use Rattle.change_calls.specs.Replies.{IsFailure}
-use Rattle.core_parts.specs.Joined.{IsObjectFile}
+use Rattle.serial_calls.specs.CallerSessions.{CallerSession}
+use Rattle.serial_calls.specs.ChangeReplies.{IsFailure}
+use Rattle.serial_calls.specs.Joined.{IsObjectFile}
 use Rattle.disk_model.specs.State.{FileState}
 use Rattle.history_seats.specs.Records.{HistoryRecord, Version}
 use Rattle.hmac_keys.specs.KeyTable.{rpmb_key}
-use Rattle.locked_gate.specs.declared.answered.Answer.{Answer}
-use Rattle.locked_gate.specs.LockedGates.{LockedGateValue}
-use Rattle.object_answers.specs.FileAnswers.{Fails, IsFileAnswer, Refuses, Tells, Undrawn}
-use Rattle.object_answers.specs.Served.{IsServed}
+use Rattle.serial_calls.specs.declared.PlacedReply.{PlacedReply}
+use Rattle.serial_calls.specs.GuardedGates.{GuardedGateValue}
+use Rattle.serial_calls.specs.FileAnswers.{Fails, IsFileAnswer, Refuses, Tells, Undrawn}
+use Rattle.serial_calls.specs.AnswerServed.{IsServed}
 use Rattle.rpmb_card.specs.Port.{PortState}
 use Rattle.store_model.specs.Record.{events_of}
 use Rattle.store_model.specs.declared.event.Event.{Event}
 use Rattle.store_model.specs.declared.event.Event.TheVariants.{Call as CallEvent}
 use Rattle.store_model.specs.declared.event.Mark.{Mark}
 use Rattle.store_model.specs.declared.event.Mark.TheVariants.{Doubtful}
-use Rattle.suppositions.specs.Given.{Tells as TellsSpelling, spelling_given}
-use Rattle.suppositions.specs.Spellings.{Spelling}
-use Rattle.suppositions.specs.Stores.{Store}
+use Rattle.serial_calls.specs.Given.{Tells as TellsDecoding, decoding_given}
+use Rattle.serial_calls.specs.Decodings.{Decoding}
+use Rattle.serial_calls.specs.Stores.{Store}
 use Rattle.tee_types.specs.declared.call.Call.{Call}
 use Rattle.tee_types.specs.declared.call.Call.TheVariants.{Info, Open, Read}
 use Rattle.tee_types.specs.declared.reply.Cause.{Cause}
@@ -26,17 +26,17 @@ use Rattle.tee_types.specs.declared.reply.Cause.TheVariants.{CardResult, Fault, 
 use Rattle.tee_types.specs.declared.reply.Device.TheVariants.{Card, Dir, Entropy, File}
 use Rattle.tee_types.specs.declared.reply.Reply.{Reply}
 use Rattle.tee_types.specs.declared.reply.Reply.TheVariants.{Corrupt, NotAvailable}
-use Rattle.device_counts.specs.Events.{events_at}
-use Rattle.served_calls.specs.Appended.{AppendsCall}
-use Rattle.device_counts.specs.Cards.{CostsTwo, IsNoFrame}
-use Rattle.device_counts.specs.Counts.{Rise, told_of}
-use Rattle.device_counts.specs.Devices.{Devices}
-use Rattle.device_counts.specs.Slots.{AreOfObjectFiles}
-use Rattle.device_counts.proofs.CarriedCounts.{counts_of-call}
-use Rattle.device_counts.proofs.Counting.{grows_le}
-use Rattle.device_counts.proofs.MoreRecords.{events_more, tagged_more}
-use Rattle.served_calls.proofs.ToldCalls.{GatesGoOn, quiet_goes_on, told_appends}
-use Rattle.shared_parts.specs.Kept.{KeepsGate}
+use Rattle.serial_calls.specs.EventCounts.{events_at}
+use Rattle.serial_calls.specs.Appended.{AppendsCall}
+use Rattle.serial_calls.specs.Cards.{CostsTwo, IsNoFrame}
+use Rattle.serial_calls.specs.DeviceCounts.{Rise, told_of}
+use Rattle.serial_calls.specs.Devices.{Devices}
+use Rattle.serial_calls.specs.Slots.{AreOfObjectFiles}
+use Rattle.serial_calls.proofs.CarriedCounts.{counts_of-call}
+use Rattle.serial_calls.proofs.CountGrowth.{grows_le}
+use Rattle.serial_calls.proofs.MoreRecords.{events_more, tagged_more}
+use Rattle.serial_calls.proofs.ToldCalls.{GatesGoOn, quiet_goes_on, told_appends}
+use Rattle.shared_calls.specs.Kept.{KeepsGate}
 use Rattle.shared_calls.proofs.KeptGates.{keeps-added, known-session}
 
 -- The reply accuses neither the directory's file nor the card.
@@ -48,20 +48,20 @@ SparesGate (NotAvailable (CardResult result)) = ⊥
 SparesGate reply = Unit {0}
 
 -- no spelling tells that a device failed
-tells-available : (sp : Spelling) (size attributes position : ℕ) (call : Call) (cause : Cause) → TellsSpelling sp size attributes position call (NotAvailable cause) → ⊥
+tells-available : (sp : Decoding) (size attributes position : ℕ) (call : Call) (cause : Cause) → TellsDecoding sp size attributes position call (NotAvailable cause) → ⊥
 tells-available sp size attributes position (Open id flags) cause tells = tells
 tells-available sp size attributes position (Read handle count) cause tells = tells
 tells-available sp size attributes position (Info handle) cause tells = tells
 tells-available sp size attributes position call cause tells = tells
 
-told-spares : (sp : Spelling) (size attributes position : ℕ) (call : Call) (reply : Reply) → IsFailure reply → TellsSpelling sp size attributes position call reply → SparesGate reply
+told-spares : (sp : Decoding) (size attributes position : ℕ) (call : Call) (reply : Reply) → IsFailure reply → TellsDecoding sp size attributes position call reply → SparesGate reply
 told-spares sp size attributes position call Corrupt failure tells = tt
 told-spares sp size attributes position call (NotAvailable cause) failure tells = absurd (tells-available sp size attributes position call cause tells)
 told-spares sp size attributes position call reply failure tells = absurd failure
 
 -- why an object's file gave nothing
 pub failure-spares : (store : Store) (file : FileState) (number : ℕ) (v : Version) (position : ℕ) (call : Call) (reply : Reply) → IsFailure reply → IsFileAnswer store file number v position call reply → SparesGate reply
-failure-spares store file number v position call reply failure (Tells told honest) = told-spares (spelling_given told.gave) v.size v.attributes position call reply failure told.tells
+failure-spares store file number v position call reply failure (Tells told honest) = told-spares (decoding_given told.gave) v.size v.attributes position call reply failure told.tells
 failure-spares store file number v position call reply failure (Refuses is honest) = subst SparesGate (sym is) tt
 failure-spares store file number v position call reply failure (Fails count is) = subst SparesGate (sym is) tt
 failure-spares store file number v position call reply failure (Undrawn count is spared) = subst SparesGate (sym is) tt
@@ -96,8 +96,8 @@ spares-costs from (Doubtful commit) (NotAvailable (Fault Card count)) spares = a
 spares-costs from (Doubtful commit) reply spares = tt
 spares-costs from mark reply spares = tt
 
-module _ {F R E : Type 0} (of_file : F → FileState) (of_port : R → PortState) (store : Store) (before : Devices) (old new : LockedGateValue F R) (was now : CallerSession E) (file : ℕ) (object : IsObjectFile file)
-    (call : Call) (answer : Answer) where
+module _ {F R E : Type 0} (of_file : F → FileState) (of_port : R → PortState) (store : Store) (before : Devices) (old new : GuardedGateValue F R) (was now : CallerSession E) (file : ℕ) (object : IsObjectFile file)
+    (call : Call) (answer : PlacedReply) where
   abbrev key : List ℕ
   key = rpmb_key store.keys.huk
 

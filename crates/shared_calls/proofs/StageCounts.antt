@@ -1,17 +1,17 @@
 -- How the stage of a change counts the faults of the file and of the session's entropy, and what it leaves of the session.
 use Rattle.std.proofs.Common.{◌≡◌, [], ℕ, Err, IfOk, Ok, OnErr, Result, ap, inl, refl}
-use Rattle.call_history.specs.Sessions.{CallerSession, IsCallerOf}
-use Rattle.change_calls.specs.Causes.{HasChangeCause, HasStageCause}
-use Rattle.change_calls.specs.declared.staged.Staged.{Staged}
-use Rattle.change_calls.specs.declared.staged.Staged.TheVariants.{Root, Unstaged}
+use Rattle.serial_calls.specs.CallerSessions.{CallerSession, IsCallerOf}
+use Rattle.serial_calls.specs.ChangeCauses.{HasChangeCause, HasStageCause}
+use Rattle.serial_calls.specs.declared.stage_result.Staged.{Staged}
+use Rattle.serial_calls.specs.declared.stage_result.Staged.TheVariants.{Root, Unstaged}
 use Rattle.disk_model.specs.State.{FileState}
-use Rattle.suppositions.specs.Stores.{Store}
+use Rattle.serial_calls.specs.Stores.{Store}
 use Rattle.tee_types.specs.declared.reply.Reply.{Reply}
-use Rattle.device_counts.specs.Devices.{AccusesRightly, Devices, Grows}
-use Rattle.served_calls.proofs.ChangedCalls.{change_accuses_file, change_drawn, change_still}
-use Rattle.shared_calls.specs.Changing.{CarriesStaged}
-use Rattle.shared_parts.specs.Names.{no_devices}
-use Rattle.shared_parts.specs.Rounds.{IsWaiting}
+use Rattle.serial_calls.specs.Devices.{AccusesRightly, Devices, Grows}
+use Rattle.serial_calls.proofs.ChangedCalls.{change_accuses_file, change_drawn, change_still}
+use Rattle.shared_calls.specs.SharedChange.{CarriesStaged}
+use Rattle.shared_calls.specs.Names.{no_devices}
+use Rattle.shared_calls.specs.Attempts.{IsWaiting}
 use Rattle.shared_calls.proofs.CarriedDraws.{carries-accused}
 
 -- a session whose entropy drew waits still

@@ -2,19 +2,18 @@
 
 ghost use Rattle.std.specs.Prelude.{◌≡◌, ◌≤◌, length, vec_len, IfOk, IfSome};
 ghost use Rattle.hmac_keys.specs.KeyTable.{ssk};
-ghost use Rattle.call_history.specs.Sessions.{IsCallerOf};
-ghost use Rattle.device_counts.specs.Devices.{Grows};
-ghost use Rattle.shared_parts.specs.Counts.{CarriesDraws};
-ghost use Rattle.shared_parts.specs.Rounds.{EndsCall, EndsRound};
+ghost use Rattle.shared_calls.specs.CallerSessions.{IsCallerOf};
+ghost use Rattle.shared_calls.specs.Devices.{Grows};
+ghost use Rattle.shared_calls.specs.SharedCounts.{CarriesDraws};
+ghost use Rattle.shared_calls.specs.Attempts.{EndsCall, EndsAttempt};
 
-use call_history::Session;
-use locked_gate::Answer;
 use rpmb_card::RpmbPort;
-use shared_calls::{Look, file_of, round, take_soon};
-use shared_parts::{DevicesName, SharedGate, SharedSlot};
+use shared_calls::{
+    DevicesName, PlacedReply, Session, SharedGate, SharedSlot, StoreName, Validation, attempt,
+    file_of, spin_then_lock,
+};
 use std::alloc::Global;
 use std::sync::{Mutex, MutexGuard, Wait};
-use suppositions::StoreName;
 use tee_ports::{Entropy, StoreFile};
 use tee_types::{Call, NoMemory};
 
@@ -80,37 +79,37 @@ impl<F: StoreFile + Drop, R: RpmbPort + Drop, L: StoreName + DevicesName> Shared
         }
         drop(gate);
         let slot = lock.lock(rt);
-        (take_soon(rt, &self.gate), slot)
+        (spin_then_lock(rt, &self.gate), slot)
     }
 
-    // Looks at the gate, and makes a round with the lock of the slot that the call needs, if it needs one. Where that lock is free, the first look
-    // of the round is made before the gate's is given back. None where the call has to begin again.
-    fn attempt<W: Wait, E: Entropy>(
+    // Validations at the gate, and makes a attempt with the lock of the slot that the call needs, if it needs one. Where that lock is free, the first validate
+    // of the attempt is made before the gate's is given back. None where the call has to begin again.
+    fn try_once<W: Wait, E: Entropy>(
         &self,
         rt: &W,
         alloc: Global,
         session: &mut Session<E>,
         call: &Call,
-    ) -> Result<Option<Answer>, NoMemory>
+    ) -> Result<Option<PlacedReply>, NoMemory>
         requires caller { IsCallerOf L.store session.old }
-        ensures ends { EndsRound L.store session.old session.new call.now result }
+        ensures ends { EndsAttempt L.store session.old session.new call.now result }
         ensures counted { Grows (E.faults session.old.entropy) (E.faults session.new.entropy) }
         ensures reliable { E.is_reliable session.old.entropy → E.is_reliable session.new.entropy }
         ensures still { E.is_reliable session.old.entropy → E.faults session.new.entropy ≡ E.faults session.old.entropy }
         ensures drawn { IfOk result (λ found. IfSome found (λ answer. CarriesDraws (E.faults session.old.entropy) (E.faults session.new.entropy) answer.reply)) }
     {
         let key = &self.storage_key;
-        let mut gate = take_soon(rt, &self.gate);
+        let mut gate = spin_then_lock(rt, &self.gate);
         let file = match file_of(alloc, &mut gate, session, call)? {
-            Look::Answered(answer) => return Ok(Some(answer)),
-            Look::Found(file) => file,
-            Look::Again => return Ok(None),
+            Validation::Answered(answer) => return Ok(Some(answer)),
+            Validation::Found(file) => file,
+            Validation::Retry => return Ok(None),
         };
         let Some(lock) = self.slot_of(file) else {
             return Ok(None);
         };
         let (gate, mut slot) = self.take_slot(rt, gate, lock);
-        round(
+        attempt(
             rt,
             alloc,
             gate,
@@ -135,7 +134,7 @@ impl<F: StoreFile + Drop, R: RpmbPort + Drop, L: StoreName + DevicesName> Shared
         alloc: Global,
         session: &mut Session<E>,
         call: &Call,
-    ) -> Result<Answer, NoMemory>
+    ) -> Result<PlacedReply, NoMemory>
         requires caller { IsCallerOf L.store session.old }
         ensures ends { EndsCall L.store session.old session.new call.now result }
         ensures counted { Grows (E.faults session.old.entropy) (E.faults session.new.entropy) }
@@ -144,7 +143,7 @@ impl<F: StoreFile + Drop, R: RpmbPort + Drop, L: StoreName + DevicesName> Shared
         ensures drawn { IfOk result (λ answer. CarriesDraws (E.faults session.old.entropy) (E.faults session.new.entropy) answer.reply) }
     {
         for _ in rt.forever() {
-            if let Some(answer) = self.attempt(rt, alloc, session, call)? {
+            if let Some(answer) = self.try_once(rt, alloc, session, call)? {
                 return Ok(answer);
             }
         }

@@ -24,7 +24,7 @@ use Rattle.crash_core.specs.Seals.{sealed_card}
 use Rattle.crash_core.proofs.CardBlocks.{root_in-block}
 use Rattle.crash_core.proofs.SameDirectory.{directory_same}
 use Rattle.dir_file.specs.View.{DirView, StagedDirectory, adopted}
-use Rattle.dir_file.specs.Held.{IsHeld}
+use Rattle.dir_file.specs.Held.{IsDurable}
 use Rattle.store_commit.specs.declared.change.EntryChange.{EntryChange}
 use Rattle.store_commit.specs.declared.change.CardEnd.TheVariants.{Landed, Lost, Unknown}
 use Rattle.store_commit.specs.declared.change.CommitEnd.TheVariants.{Made, Dropped, Doubtful}
@@ -37,14 +37,14 @@ use Rattle.store_commit.proofs.Preparing.{at_some, opened}
 
 -- in every image since, the committed reference has the same directory
 pub always : (s0 s1 : FileState) (d : DirView) → Sound s0 → Sound s1 → IsReference d.root → Keeps (Lies d.tree.nodes d.root.version) s0 s1
-    → IsHeld s0 d.tsk d.root d.tree d.entries → IsTrue s1.honest → (image : List ℕ) → LeftSince s1 (moment s0) image → directory_of d.tsk image d.root ≡ Ok d.entries
+    → IsDurable s0 d.tsk d.root d.tree d.entries → IsTrue s1.honest → (image : List ℕ) → LeftSince s1 (moment s0) image → directory_of d.tsk image d.root ≡ Ok d.entries
 always s0 s1 d sound still form keeps held honest image left =
     let stays = stays_firm s0 s1 d.root d.tree sound still form.bit keeps held.firm honest in
     directory_same image s0.reads d.root d.tree (selected_tree s0.reads d.root.version) (stays.always image left) (held.firm s0.reads (reads_left s0 sound)) d.tsk
     ∙ held.entries_are s0.reads (reads_left s0 sound)
 
 pub kept : (s0 s1 : FileState) (d : DirView) → Sound s0 → Sound s1 → IsReference d.root → Keeps (Lies d.tree.nodes d.root.version) s0 s1
-    → IsHeld s0 d.tsk d.root d.tree d.entries → IsTrue s1.honest → IsHeld s1 d.tsk d.root d.tree d.entries
+    → IsDurable s0 d.tsk d.root d.tree d.entries → IsTrue s1.honest → IsDurable s1 d.tsk d.root d.tree d.entries
 kept s0 s1 d sound still form keeps held honest = record {
   firm = (stays_firm s0 s1 d.root d.tree sound still form.bit keeps held.firm honest).firm;
   entries_are = λ image left. always s0 s1 d sound still form keeps held honest image (now_since s1 (moment s0) image still left);
@@ -82,7 +82,7 @@ module _ (s0 s2 : FileState) (d0 : DirView) (p0 p1 : PortState) (k0 k1 : List �
   honest_then : IsTrue s2.honest → IsTrue s0.honest
   honest_then honest = keeps.goes_on.honest honest
 
-  held_then : IsTrue s2.honest → IsHeld s2 d0.tsk d0.root d0.tree d0.entries
+  held_then : IsTrue s2.honest → IsDurable s2 d0.tsk d0.root d0.tree d0.entries
   held_then honest = kept s0 s2 d0 sound still settled.form keeps (settled.held (honest_then honest)) honest
 
   pub throughout : (d2 : DirView) (now : ℕ) → k1 ≡ k0 → Throughout (sides s0 d0 p0 k0 counter) (sides s2 d2 p1 k1 now)
@@ -110,8 +110,8 @@ module _ (s0 s2 : FileState) (d0 : DirView) (p0 p1 : PortState) (k0 k1 : List �
     next_is : IsStageOf true d0 change next
     next_is = at_some d1.stage (IsStageOf true d0 change) next stage_is.1 prepares.next
 
-    next_held : IsTrue s2.honest → IsHeld s2 d0.tsk next.root next.tree next.entries
-    next_held honest = at_some d1.stage (λ s. IsHeld s2 d0.tsk s.root s.tree s.entries) next stage_is.1 (prepares.stands honest (settled.held (honest_then honest)))
+    next_held : IsTrue s2.honest → IsDurable s2 d0.tsk next.root next.tree next.entries
+    next_held honest = at_some d1.stage (λ s. IsDurable s2 d0.tsk s.root s.tree s.entries) next stage_is.1 (prepares.stands honest (settled.held (honest_then honest)))
 
     root_is : root ≡ next.root
     root_is = at_some d1.stage (λ s. root ≡ s.root) next stage_is.1 is_root

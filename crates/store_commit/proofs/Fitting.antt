@@ -8,7 +8,7 @@ use Rattle.crash_core.specs.Entries.{is_double, name_of}
 use Rattle.crash_core.specs.EntryLists.{IsUnnamed, entry_at}
 use Rattle.crash_core.proofs.Names.{alike_is}
 use Rattle.dir_file.specs.EntryForms.{Fits}
-use Rattle.store_commit.specs.NameIndex.{IsEntryNamed}
+use Rattle.dir_index.specs.EntryNames.{IsEntryNamed}
 
 pub fits_new : (entries : List (Option DirEntry)) (index : ℕ) (e : DirEntry) → index < 256 → HasForm e → IsEntryNamed entries (name_of e) None → IsUnnamed entries e.file
     → Fits entries index (Some e)

@@ -19,7 +19,7 @@ use Rattle.crash_core.specs.DeviceKeys.{directory_key}
 use Rattle.crash_core.specs.Mounting.{directory_by, unless_fault}
 use Rattle.crash_core.proofs.CardBlocks.{root_in-block}
 use Rattle.dir_file.specs.EntryForms.{no_entries}
-use Rattle.dir_file.specs.Held.{IsHeld}
+use Rattle.dir_file.specs.Held.{IsDurable}
 use Rattle.store_commit.specs.declared.fault.MountFault.{MountFault}
 use Rattle.store_commit.specs.declared.fault.MountFault.TheVariants.{NoStore, CardBlock, Directory, Frame, CardResult, Failed, Spent, NoMemory}
 use Rattle.store_commit.specs.CardEnds.{IsSealedCard}
@@ -32,7 +32,7 @@ module _ (s : FileState) (p0 p1 p2 : PortState) (keys : Keys) (k k2 : List ℕ) 
     (stays : p1.card ≡ p0.card) (k_is : k ≡ rpmb_key keys.huk) (k2_is : k2 ≡ k)
     (told : (card : CardState) → HasCard p0 (rpmb_key keys.huk) card → card.counter ≡ counter) (unspent : counter ≢ last_counter)
     (block_is : block ≡ root_block root) (form : IsReference root) (port : Sound p0)
-    (held : IsTrue s.honest → IsHeld s (directory_key keys) root tree no_entries) where
+    (held : IsTrue s.honest → IsDurable s (directory_key keys) root tree no_entries) where
   still : (card : CardState) → HasCard p0 (rpmb_key keys.huk) card → HasCard p1 k card
   still card has = has_still p0 p1 (rpmb_key keys.huk) k card stays k_is has
 

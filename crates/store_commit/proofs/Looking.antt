@@ -13,7 +13,8 @@ use Rattle.crash_core.specs.EntryLists.{entry_at}
 use Rattle.crash_core.proofs.Names.{alike_is}
 use Rattle.dir_index.specs.Above.{IsLeastAbove, is_above}
 use Rattle.dir_index.specs.Index.{IndexState, index_at, named}
-use Rattle.store_commit.specs.NameIndex.{IsIndexOf, IsLeastEntry, IsNextAbove}
+use Rattle.store_commit.specs.NameIndex.{IsIndexOf}
+use Rattle.dir_index.specs.EntryNames.{IsLeastEntry, IsNextAbove}
 
 tied : (o : Ordering) → is_eq o ≡ true → o ≡ Equal
 tied Less h = absurd (cc (h))

@@ -29,7 +29,7 @@ use Rattle.crash_core.specs.DeviceKeys.{directory_key}
 use Rattle.crash_core.specs.Mounting.{directory_by, mounted_directory, unless_fault}
 use Rattle.dir_file.specs.View.{DirView}
 use Rattle.dir_file.specs.EntryForms.{AreEntriesOf}
-use Rattle.dir_file.specs.Held.{IsHeld}
+use Rattle.dir_file.specs.Held.{IsDurable}
 use Rattle.dir_file.specs.Loading.{DirCause, IsOutsideDir, IsReadDirectory}
 use Rattle.dir_file.specs.Refusals.{DirDiffers}
 use Rattle.store_commit.specs.declared.fault.MountFault.{MountFault}
@@ -162,7 +162,7 @@ module _ (old : FileState) (p0 p1 : PortState) (keys : Keys) (k : List ℕ) (cou
     (stays : p1.card ≡ p0.card) (same_key : k ≡ rpmb_key keys.huk) (tells : (card : CardState) → HasCard p0 (rpmb_key keys.huk) card → Tells card counter block)
     (names : Ok root ≡ block_answer (root_in block)) (form : IsReference root)
     (root_is : dir.root ≡ root) (idle : dir.stage ≡ None) (tsk_is : dir.tsk ≡ directory_key keys) (entries : AreEntriesOf dir.entries)
-    (held : IsTrue s.honest → IsHeld s (directory_key keys) root dir.tree dir.entries) where
+    (held : IsTrue s.honest → IsDurable s (directory_key keys) root dir.tree dir.entries) where
   abbrev g : Sides
   g = sides s dir p1 k counter
 
@@ -177,7 +177,7 @@ module _ (old : FileState) (p0 p1 : PortState) (keys : Keys) (k : List ℕ) (cou
     form = root_form;
     entries = entries;
     idle = idle;
-    held = λ honest. subst (λ (t : List ℕ). IsHeld s t dir.root dir.tree dir.entries) (sym tsk_is) (subst (λ (r : RootRef). IsHeld s (directory_key keys) r dir.tree dir.entries) (sym root_is) (held honest));
+    held = λ honest. subst (λ (t : List ℕ). IsDurable s t dir.root dir.tree dir.entries) (sym tsk_is) (subst (λ (r : RootRef). IsDurable s (directory_key keys) r dir.tree dir.entries) (sym root_is) (held honest));
     named = λ card has.
         let told = tells card (had card has) in
         record {

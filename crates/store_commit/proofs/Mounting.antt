@@ -10,7 +10,7 @@ use Rattle.htree_file.specs.Opening.{Loaded, load_of}
 use Rattle.htree_file.proofs.Firmness.{synced_firm}
 use Rattle.dir_records.specs.declared.entry.DirEntry.{DirEntry}
 use Rattle.crash_core.specs.Directory.{directory_of}
-use Rattle.dir_file.specs.Held.{IsHeld}
+use Rattle.dir_file.specs.Held.{IsDurable}
 
 -- after a sync, calls that change nothing leave nothing pending
 pub rests_pending : (a b c : FileState) → Syncs a b → Rests b c → pending c ≡ []
@@ -25,7 +25,7 @@ synced_rests a b c syncs rests honest image left =
 
 -- the directory that is loaded then is held
 pub mounted_held : (s : FileState) (tsk : List ℕ) (root : RootRef) (tree : Loaded) (entries : List (Option DirEntry)) → IsSynced s → IsTrue s.honest
-    → load_of s.reads root ≡ Ok tree → directory_of tsk s.reads root ≡ Ok entries → IsHeld s tsk root tree entries
+    → load_of s.reads root ≡ Ok tree → directory_of tsk s.reads root ≡ Ok entries → IsDurable s tsk root tree entries
 mounted_held s tsk root tree entries synced honest loads is = record {
   firm = synced_firm s root tree synced honest loads;
   entries_are = λ image left. ap (λ (b : List ℕ). directory_of tsk b root) (synced honest image left) ∙ is;

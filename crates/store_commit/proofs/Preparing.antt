@@ -10,7 +10,7 @@ use Rattle.htree_file.proofs.Firmness.{keeps_selected}
 use Rattle.tee_types.specs.declared.reply.Cause.{Cause}
 use Rattle.dir_records.specs.declared.entry.DirEntry.{DirEntry}
 use Rattle.dir_file.specs.View.{DirValue, DirView, StagedDirectory, adopted}
-use Rattle.dir_file.specs.Held.{IsHeld, IsStaged}
+use Rattle.dir_file.specs.Held.{IsDurable, IsStaged}
 use Rattle.dir_file.specs.Stages.{IsNext, SettlesDirectory, StagesEntry}
 use Rattle.store_commit.specs.declared.change.EntryChange.{EntryChange}
 use Rattle.store_commit.specs.declared.change.EntryChange.TheVariants.{Put, Clear}
@@ -79,8 +79,8 @@ module _ (old mid new : FileState) (was d now : DirView) (change : EntryChange) 
         stands = λ honest held. if_some now.stage (StageStands true new was.tsk) s' is
             (let tsk : d.tsk ≡ was.tsk = ap (λ v. v.tsk) staged.same in
             let stands : IsStaged mid was.tsk s = at_some d.stage (StageStands false mid was.tsk) s o.1 (staged.stands (settles.keeps.goes_on.honest honest) held) in
-            subst (λ (k : List ℕ). IsStaged mid k s → IsHeld new k s.root s.tree s.entries) tsk
-            (at_some d.stage (λ t. IsTrue new.honest → IsStaged mid d.tsk t → IsHeld new d.tsk t.root t.tree t.entries) s o.1 settles.next honest) stands);
+            subst (λ (k : List ℕ). IsStaged mid k s → IsDurable new k s.root s.tree s.entries) tsk
+            (at_some d.stage (λ t. IsTrue new.honest → IsStaged mid d.tsk t → IsDurable new d.tsk t.root t.tree t.entries) s o.1 settles.next honest) stands);
       }
 
   -- given up

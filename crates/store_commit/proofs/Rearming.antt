@@ -11,7 +11,7 @@ use Rattle.rpmb_card.specs.Port.{PortState}
 use Rattle.rpmb_host.specs.Honest.{HasCard}
 use Rattle.dir_index.specs.Index.{IndexState}
 use Rattle.dir_file.specs.View.{DirView, StagedDirectory}
-use Rattle.dir_file.specs.Held.{IsHeld}
+use Rattle.dir_file.specs.Held.{IsDurable}
 use Rattle.store_commit.specs.declared.gate.Doubted.{Doubted}
 use Rattle.store_commit.specs.Arming.{IsRearmedFile, IsRearmedPort}
 use Rattle.store_commit.specs.Gates.{DoubtStands, IsGate}
@@ -51,7 +51,7 @@ module _ (f : FileState) (d : DirView) (p : PortState) (key : List ℕ) (counter
   had : (card : CardState) → HasCard p1 key card → HasCard p key card
   had card has = record { told = has.told; keyed = has.keyed }
 
-  held : (tsk : List ℕ) (root : RootRef) (tree : Loaded) (entries : List (Option DirEntry)) → IsHeld f tsk root tree entries → IsHeld f1 tsk root tree entries
+  held : (tsk : List ℕ) (root : RootRef) (tree : Loaded) (entries : List (Option DirEntry)) → IsDurable f tsk root tree entries → IsDurable f1 tsk root tree entries
   held tsk root tree entries is = record { firm = is.firm; entries_are = is.entries_are }
 
   settled : IsSettled g → IsSettled h

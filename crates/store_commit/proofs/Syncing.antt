@@ -17,7 +17,7 @@ use Rattle.crash_core.specs.declared.fault.DirFault.{DirFault}
 use Rattle.crash_core.specs.declared.fault.DirFault.TheVariants.{Tree, WrongLength, Record, Double}
 use Rattle.crash_core.specs.Directory.{directory_of}
 use Rattle.htree_file.proofs.Causes.{fault_then, passed_then}
-use Rattle.dir_file.specs.Held.{IsHeld}
+use Rattle.dir_file.specs.Held.{IsDurable}
 use Rattle.store_commit.proofs.Mounting.{mounted_held, synced_rests}
 use Rattle.dir_file.specs.Loading.{DirCause, IsOutsideDir}
 
@@ -48,7 +48,7 @@ module _ (a b d : FileState) (syncs : Syncs a b) (rests : Rests b d) where
   synced_after = synced_rests a b d syncs rests
 
   pub held_after : Sound d → (tsk : List ℕ) (root : RootRef) (tree : Loaded) (entries : List (Option DirEntry)) → (Told b d → load_of d.reads root ≡ Ok tree) → (Told b d → directory_of tsk d.reads root ≡ Ok entries)
-      → IsTrue d.honest → IsHeld d tsk root tree entries
+      → IsTrue d.honest → IsDurable d tsk root tree entries
   held_after sound tsk root tree entries loads is honest =
       let told : Told b d = (sound.told honest, inl honest) in
       mounted_held d tsk root tree entries synced_after honest (loads told) (is told)

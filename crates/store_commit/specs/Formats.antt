@@ -21,7 +21,7 @@ use Rattle.tee_types.specs.declared.reply.Device.TheVariants.{Dir, Card, Entropy
 use Rattle.crash_core.specs.DeviceKeys.{directory_key}
 use Rattle.crash_core.specs.Mounting.{mounted_directory}
 use Rattle.dir_file.specs.EntryForms.{no_entries}
-use Rattle.dir_file.specs.Held.{IsHeld}
+use Rattle.dir_file.specs.Held.{IsDurable}
 use Rattle.store_commit.specs.declared.fault.MountFault.{MountFault}
 use Rattle.store_commit.specs.declared.fault.MountFault.TheVariants.{Frame, CardResult, Failed, Spent, NoMemory}
 use Rattle.store_commit.specs.Blocks.{picture_of}
@@ -50,7 +50,7 @@ pub record IsFormatWritten (file : FileState) (p0 p1 : PortState) (keys : Keys) 
   pub tree : Loaded
   pub frame : CardFrame
   pub written : IsRootWritten (rpmb_key keys.huk) p0 p1 root (Ok frame)
-  pub held : IsTrue file.honest → IsHeld file (directory_key keys) root tree no_entries
+  pub held : IsTrue file.honest → IsDurable file (directory_key keys) root tree no_entries
 
 -- after a fault the card is as before, or the store is formatted
 abbrev pub LeavesFormat : FileState → (p0 p1 : PortState) → Keys → Type 0

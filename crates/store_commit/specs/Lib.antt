@@ -19,3 +19,6 @@ pub mod Mounts
 pub mod Formats
 pub mod Marks
 pub mod Arming
+pub use Rattle.dir_file.specs.EntryForms
+pub use Rattle.dir_file.specs.Held
+pub use Rattle.dir_file.specs.View

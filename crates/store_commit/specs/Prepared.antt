@@ -13,7 +13,7 @@ use Rattle.tee_types.specs.declared.reply.Cause.TheVariants.{Fault, Frame, CardR
 use Rattle.tee_types.specs.declared.reply.Device.TheVariants.{Dir, File, Card, Entropy}
 use Rattle.dir_file.specs.View.{DirView, StagedDirectory}
 use Rattle.dir_file.specs.EntryForms.{AreEntriesOf}
-use Rattle.dir_file.specs.Held.{IsHeld, IsStaged}
+use Rattle.dir_file.specs.Held.{IsDurable, IsStaged}
 use Rattle.dir_file.specs.Stages.{StagesEntry}
 use Rattle.store_commit.specs.declared.change.EntryChange.{EntryChange}
 use Rattle.store_commit.specs.declared.change.EntryChange.TheVariants.{Put, Clear}
@@ -41,7 +41,7 @@ pub record IsStageOf (settled : Bool) (was : DirView) (change : EntryChange) (s 
 -- a stage stands: as the file reads, or once settled in every image
 abbrev pub StageStands : Bool → FileState → (tsk : List ℕ) → StagedDirectory → Type 0
 StageStands false new tsk s = IsStaged new tsk s
-StageStands true new tsk s = IsHeld new tsk s.root s.tree s.entries
+StageStands true new tsk s = IsDurable new tsk s.root s.tree s.entries
 
 -- a stage that is settled was written off the committed parts, and then synced
 abbrev pub IsSyncedBehind : Bool → (old new : FileState) → DirView → Type 0
@@ -56,7 +56,7 @@ pub record Prepares (settled : Bool) (old new : FileState) (was now : DirView) (
   pub next : OnOk result (IfSome now.stage (IsStageOf settled was change))
   pub keeps : Keeps (Lies was.tree.nodes was.root.version) old new
   pub synced : OnOk result (IsSyncedBehind settled old new was)
-  pub stands : OnOk result (IsTrue new.honest → IsHeld old was.tsk was.root was.tree was.entries → IfSome now.stage (StageStands settled new was.tsk))
+  pub stands : OnOk result (IsTrue new.honest → IsDurable old was.tsk was.root was.tree was.entries → IfSome now.stage (StageStands settled new was.tsk))
 
 -- a count rose, and no other
 abbrev pub SideCause : (old new : FileState) → (drew draws : ℕ) → Cause → Type 0

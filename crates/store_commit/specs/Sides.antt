@@ -14,7 +14,7 @@ use Rattle.crash_core.specs.Pictures.{Picture, SameCard, block_zero}
 use Rattle.crash_core.specs.Mounting.{mounted_directory}
 use Rattle.dir_file.specs.View.{DirView, StagedDirectory}
 use Rattle.dir_file.specs.EntryForms.{AreEntriesOf}
-use Rattle.dir_file.specs.Held.{IsHeld}
+use Rattle.dir_file.specs.Held.{IsDurable}
 
 pub record Sides : Type 0 where
   pub file : FileState
@@ -37,7 +37,7 @@ pub record IsSettled (g : Sides) : Type 0 where
   pub form : IsReference g.dir.root
   pub entries : AreEntriesOf g.dir.entries
   pub idle : g.dir.stage ≡ None
-  pub held : IsTrue g.file.honest → IsHeld g.file g.dir.tsk g.dir.root g.dir.tree g.dir.entries
+  pub held : IsTrue g.file.honest → IsDurable g.file g.dir.tsk g.dir.root g.dir.tree g.dir.entries
   pub named : (card : CardState) → HasCard g.port g.key card → Names card g.dir.root g.counter
 
 -- With a doubt: the card names the committed directory or the staged one, and both stand in every image.
@@ -48,8 +48,8 @@ pub record IsInDoubt (g : Sides) (next : StagedDirectory) : Type 0 where
   pub next_entries : AreEntriesOf next.entries
   pub is_open : g.dir.stage ≡ Some next
   pub settled : IsTrue next.settled
-  pub held : IsTrue g.file.honest → IsHeld g.file g.dir.tsk g.dir.root g.dir.tree g.dir.entries
-  pub next_held : IsTrue g.file.honest → IsHeld g.file g.dir.tsk next.root next.tree next.entries
+  pub held : IsTrue g.file.honest → IsDurable g.file g.dir.tsk g.dir.root g.dir.tree g.dir.entries
+  pub next_held : IsTrue g.file.honest → IsDurable g.file g.dir.tsk next.root next.tree next.entries
   pub named : (card : CardState) → HasCard g.port g.key card → Names card g.dir.root g.counter ⊎ Names card next.root (g.counter + 1)
 
 -- A picture of the directory's file and of the card, which may differ from the present one in the register alone.

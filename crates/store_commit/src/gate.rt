@@ -18,7 +18,7 @@ ghost use Rattle.store_commit.specs.declared.change.CommitEnd.TheVariants.{Spent
 
 use crate::change::{CommitEnd, EntryChange};
 use crate::commit::commit_parts;
-use crate::holds::{SESSIONS, end_hold};
+use crate::holds::end_hold;
 use crate::names::change_names;
 use dir_file::DirFile;
 use dir_index::DirIndex;
@@ -28,7 +28,7 @@ use rpmb_card::RpmbPort;
 use rpmb_host::Host;
 use std::marker::Model;
 use tee_ports::{Entropy, StoreFile};
-use tee_types::Flags;
+use tee_types::{Flags, MAX_SESSIONS};
 
 /// A commit that is in doubt.
 #[derive(Clone, Copy, PartialEq, Eq, Debug)]
@@ -52,7 +52,7 @@ pub struct Gate<F: StoreFile + Drop, R: RpmbPort + Drop> {
     pub(crate) doubt: Option<Doubted>,
     pub(crate) index: DirIndex,
     pub(crate) handles: OpenTable,
-    pub(crate) holds: [Option<u16>; SESSIONS],
+    pub(crate) holds: [Option<u16>; MAX_SESSIONS],
 }
 
 impl<F: StoreFile + Drop, R: RpmbPort + Drop> Model for Gate<F, R> {

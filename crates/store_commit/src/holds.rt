@@ -7,13 +7,11 @@ ghost use Rattle.store_commit.specs.Holds.{AreApart, AreHolds, EndsHoldOf, Holds
 
 use crate::change::EntryChange;
 use crate::gate::Gate;
-use crate::marks::{FILES, first_unmarked, mark_held, mark_named};
+use crate::marks::{first_unmarked, mark_held, mark_named};
 use dir_records::DirEntry;
 use rpmb_card::RpmbPort;
 use tee_ports::StoreFile;
-
-/// How many sessions a store has at most.
-pub const SESSIONS: usize = 16;
+use tee_types::{FILES, MAX_SESSIONS};
 
 // A hold, unless it is on that file.
 fn unless_file(file: u16, held: Option<u16>) -> Option<u16>
@@ -26,16 +24,16 @@ fn unless_file(file: u16, held: Option<u16>) -> Option<u16>
 }
 
 // Ends each hold on a file.
-fn drop_file(holds: &mut [Option<u16>; SESSIONS], file: u16)
+fn drop_file(holds: &mut [Option<u16>; MAX_SESSIONS], file: u16)
     ensures { HoldsWithout file holds.old holds.new }
 {
-    for session in 0..SESSIONS {
+    for session in 0..MAX_SESSIONS {
         holds[session] = unless_file(file, holds[session]);
     }
 }
 
 /// Ends the hold on the file that a change puts.
-pub(crate) fn end_hold(holds: &mut [Option<u16>; SESSIONS], change: &EntryChange)
+pub(crate) fn end_hold(holds: &mut [Option<u16>; MAX_SESSIONS], change: &EntryChange)
     ensures { EndsHoldOf change.now holds.old holds.new }
 {
     match change {
@@ -45,7 +43,7 @@ pub(crate) fn end_hold(holds: &mut [Option<u16>; SESSIONS], change: &EntryChange
 }
 
 // The least file that no entry names and no session holds, where one session at least holds none.
-fn free_file(entries: &[Option<DirEntry>], holds: &[Option<u16>; SESSIONS], session: u32) -> u16
+fn free_file(entries: &[Option<DirEntry>], holds: &[Option<u16>; MAX_SESSIONS], session: u32) -> u16
     requires entries { AreEntriesOf entries.now }
     requires holds { AreHolds entries.now holds.now }
     requires idle { (session < 16) × (file_held holds.now session ≡ None) }

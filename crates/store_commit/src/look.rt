@@ -2,22 +2,14 @@
 
 ghost use Rattle.std.specs.Prelude.{◌≡◌, length};
 ghost use Rattle.dir_index.specs.Index.{named};
-ghost use Rattle.store_commit.specs.NameIndex.{IsEntryNamed, IsFirstFree, IsNextAbove};
+ghost use Rattle.dir_index.specs.EntryNames.{IsEntryNamed, IsFirstFree, IsNextAbove};
 
 use crate::gate::{Gate, entry_of};
+use dir_index::Held;
 use dir_records::DirEntry;
 use rpmb_card::RpmbPort;
 use tee_ports::StoreFile;
 use tee_types::{AppId, ObjectId};
-
-/// An entry of the directory, with its index.
-#[derive(Clone, Copy, PartialEq, Eq, Debug)]
-pub struct Held {
-    /// The entry's index, below 256.
-    pub index: u16,
-    /// The entry.
-    pub entry: DirEntry,
-}
 
 // The first free one of 256 entries.
 fn first_free(entries: &[Option<DirEntry>]) -> Option<u16>

@@ -6,11 +6,8 @@ ghost use Rattle.dir_file.specs.EntryForms.{HasForms};
 ghost use Rattle.store_commit.specs.Holds.{file_held};
 ghost use Rattle.store_commit.specs.Marks.{AreMarked, IsFirstUnmarked, file_named, mark_count, marked};
 
-use crate::holds::SESSIONS;
 use dir_records::DirEntry;
-
-/// One more than the number of the last file.
-pub(crate) const FILES: usize = 273;
+use tee_types::{FILES, MAX_SESSIONS};
 
 // Marks a file, if there is one.
 fn mark(marks: &mut [bool; FILES], file: Option<u16>)
@@ -23,7 +20,7 @@ fn mark(marks: &mut [bool; FILES], file: Option<u16>)
 }
 
 // The file that a session holds.
-fn held_by(holds: &[Option<u16>; SESSIONS], session: usize) -> Option<u16>
+fn held_by(holds: &[Option<u16>; MAX_SESSIONS], session: usize) -> Option<u16>
     requires { session < 16 }
     ensures { result ≡ file_held holds.now session }
 {
@@ -52,11 +49,11 @@ pub(crate) fn mark_named(marks: &mut [bool; FILES], entries: &[Option<DirEntry>]
 }
 
 /// Marks the files that sessions hold.
-pub(crate) fn mark_held(marks: &mut [bool; FILES], holds: &[Option<u16>; SESSIONS])
+pub(crate) fn mark_held(marks: &mut [bool; FILES], holds: &[Option<u16>; MAX_SESSIONS])
     requires within { (session : _) (file : _) → file_held holds.now session ≡ Some file → file < 273 }
     ensures { AreMarked (file_held holds.now) 16 marks.old marks.new }
 {
-    for session in 0..SESSIONS {
+    for session in 0..MAX_SESSIONS {
         mark(marks, held_by(holds, session));
     }
 }

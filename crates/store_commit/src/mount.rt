@@ -14,7 +14,6 @@ ghost use Rattle.store_commit.specs.declared.fault.MountFault.TheVariants.{NoMem
 use crate::block::root_in;
 use crate::fault::{GateBroken, MountFault};
 use crate::gate::Gate;
-use crate::holds::SESSIONS;
 use crate::names::add_name;
 use crate::reading::read_card;
 use crate::sync::open_directory;
@@ -29,7 +28,7 @@ use rpmb_card::RpmbPort;
 use rpmb_host::Host;
 use std::alloc::Global;
 use tee_ports::{Entropy, StoreFile};
-use tee_types::{Cause, Device, NoMemory};
+use tee_types::{Cause, Device, MAX_SESSIONS, NoMemory};
 
 // What a fault of the directory is for a mount.
 fn directory_answer(fault: DirFault) -> MountFault
@@ -94,7 +93,7 @@ impl<F: StoreFile + Drop, R: RpmbPort + Drop> Gate<F, R> {
                 doubt: None,
                 index,
                 handles: OpenTable::new(alloc),
-                holds: [None; SESSIONS],
+                holds: [None; MAX_SESSIONS],
             }),
             Err(_) => Err(GateBroken {
                 dir: dir.into_file(),

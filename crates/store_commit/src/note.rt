@@ -3,7 +3,8 @@
 ghost use Rattle.std.specs.Prelude.{◌≡◌, ◌≤◌, ◌+◌, OnOk};
 ghost use Rattle.store_commit.specs.Gates.{names_due};
 ghost use Rattle.store_commit.specs.NameIndex.{HasSameNames};
-ghost use Rattle.store_commit.specs.Noting.{DropsHandle, Notes, NotesReply};
+ghost use Rattle.store_commit.specs.Noting.{Notes};
+ghost use Rattle.open_table.specs.HandleChanges.{DropsHandle, NotesReply};
 
 use crate::change::EntryChange;
 use crate::gate::{Doubted, Gate};

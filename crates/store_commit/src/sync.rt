@@ -10,7 +10,7 @@ ghost use Rattle.htree_file.specs.Opening.{IsVerified};
 ghost use Rattle.htree_file.specs.Standing.{Told};
 ghost use Rattle.crash_core.specs.Directory.{directory_of};
 ghost use Rattle.dir_file.specs.EntryForms.{AreEntriesOf};
-ghost use Rattle.dir_file.specs.Held.{IsHeld};
+ghost use Rattle.dir_file.specs.Held.{IsDurable};
 ghost use Rattle.dir_file.specs.Loading.{DirCause, IsOutsideDir, IsReadDirectory};
 ghost use Rattle.dir_file.specs.Refusals.{DirDiffers};
 
@@ -42,7 +42,7 @@ pub(crate) fn open_directory<F: StoreFile>(
     ensures synced { IfOk result (λ d. IsSynced (F.state d.file)) }
     ensures unwritten { IfOk result (λ d. pending (F.state d.file) ≡ []) }
     ensures held { IfOk result (λ d. IsTrue (F.state d.file).honest →
-        IsHeld (F.state d.file) tsk.now root d.dir.tree d.dir.entries) }
+        IsDurable (F.state d.file) tsk.now root d.dir.tree d.dir.entries) }
     ensures directory { IfOk result (λ d. Told (F.state file) (F.state d.file) →
         directory_of tsk.now (F.state d.file).reads root ≡ Result.Ok d.dir.entries) }
     ensures fault { IfErr result (λ b. IsOutsideDir b.fault ⊎ (Told (F.state file) (F.state b.file) →

@@ -16,7 +16,7 @@ use Rattle.store_model.specs.Calls.{state_after, is_commit}
 use Rattle.store_model.specs.Record.{Record, is_file, concerns_file, is_named}
 use Rattle.store_model.specs.Files.{FileMap, IsFree, object_named, file_named, files_after, makes_object, reads_file, is_misuse, is_corrupt}
 use Rattle.store_model.specs.Doubt.{Doubt}
-use Rattle.store_model.specs.Standing.{Standing, standing_after}
+use Rattle.store_model.specs.ReplayState.{ReplayState, replay_after}
 use Rattle.store_model.specs.Legal.{mark_of, counter_after, meant_by, is_commit_due, tells_object, IsHindered, IsLegalAnswer, stands_for_doubt, needs_file, IsFileOf, IsTagged, IsLegalEvent}
 use Rattle.store_model.specs.Legal.IsHindered.{NotMade, Unread, Unresolved}
 use Rattle.store_model.specs.Legal.IsLegalAnswer.{Answered, Unavailable, Doubted, FoundCorrupt, Spent}
@@ -24,17 +24,17 @@ use Rattle.store_model.proofs.Closeness.{listing, IsRising, AreClose, IsUnnamed}
 use Rattle.store_model.proofs.InStep.{over, agree}
 
 -- the replay with another map
-abbrev pub standing_over : Standing → ObjectMap → Standing
-standing_over s objects = record s { state = over s.state objects }
+abbrev pub replay_over : ReplayState → ObjectMap → ReplayState
+replay_over s objects = record s { state = over s.state objects }
 
 -- the two maps that a doubted call leaves
-pub record AreCloseLanded {Root : Type 0} (s : Standing) (b : ObjectMap) (records : List (Record Root)) (doubt : Doubt) : Type 0 where
+pub record AreCloseLanded {Root : Type 0} (s : ReplayState) (b : ObjectMap) (records : List (Record Root)) (doubt : Doubt) : Type 0 where
   pub close : AreClose (files_after s.files s.state doubt.session doubt.call doubt.file) records (state_after s.state doubt.session doubt.call).objects (state_after (over s.state b) doubt.session doubt.call).objects
   pub rising : IsRising (state_after s.state doubt.session doubt.call).objects
 
 -- The map of the replay and this one differ only in damage, at objects whose files none of these records names; and so do those with
 -- the doubted call landed.
-pub record IsInStep {Root : Type 0} (s : Standing) (b : ObjectMap) (records : List (Record Root)) : Type 0 where
+pub record IsInStep {Root : Type 0} (s : ReplayState) (b : ObjectMap) (records : List (Record Root)) : Type 0 where
   pub close : AreClose s.files records s.state.objects b
   pub rising : IsRising s.state.objects
   pub landed : (doubt : Doubt) → s.doubt ≡ Some doubt → AreCloseLanded s b records doubt
@@ -96,8 +96,8 @@ no-commit s i call (Misuse reason) is = quiet call
 no-commit s i call meant is = absurd (true≢false (sym is))
 
 -- a call makes an object over both maps
-pub makes-same : (s : Standing) (b : ObjectMap) (session : ℕ) (call : Call) → listing b ≡ listing s.state.objects
-    → makes_object call (meant_by (standing_over s b) session call) ≡ makes_object call (meant_by s session call)
+pub makes-same : (s : ReplayState) (b : ObjectMap) (session : ℕ) (call : Call) → listing b ≡ listing s.state.objects
+    → makes_object call (meant_by (replay_over s b) session call) ≡ makes_object call (meant_by s session call)
 makes-same s b session (Create id flags attributes bytes) listed =
     ap (makes_object (Create id flags attributes bytes)) (agree s.state b session listed (Create id flags attributes bytes) (λ name is. inr refl)).reply
 makes-same s b session (Open id flags) listed = refl
@@ -116,15 +116,15 @@ makes-same s b session (EnumReset number) listed = refl
 makes-same s b session (EnumFree number) listed = refl
 
 -- What an event leaves of the two maps.
-pub record IsStep {Root : Type 0} (dishonest : List ℕ) (s : Standing) (b : ObjectMap) (event : Event) (file : Option ℕ) (records : List (Record Root)) : Type 0 where
+pub record IsStep {Root : Type 0} (tampered : List ℕ) (s : ReplayState) (b : ObjectMap) (event : Event) (file : Option ℕ) (records : List (Record Root)) : Type 0 where
   pub left : ObjectMap
-  pub legal : IsLegalEvent dishonest (standing_over s b) event file
-  pub after : standing_after (standing_over s b) event file ≡ standing_over (standing_after s event file) left
-  pub in_step : IsInStep (standing_after s event file) left records
+  pub legal : IsLegalEvent tampered (replay_over s b) event file
+  pub after : replay_after (replay_over s b) event file ≡ replay_over (replay_after s event file) left
+  pub in_step : IsInStep (replay_after s event file) left records
 
-module _ {Root : Type 0} (dishonest : List ℕ) (s : Standing) (b : ObjectMap) (file : Option ℕ) (records : List (Record Root)) (session : ℕ) (call : Call) (reply : Reply) (mark : Mark) where
-  abbrev t : Standing
-  t = standing_over s b
+module _ {Root : Type 0} (tampered : List ℕ) (s : ReplayState) (b : ObjectMap) (file : Option ℕ) (records : List (Record Root)) (session : ℕ) (call : Call) (reply : Reply) (mark : Mark) where
+  abbrev t : ReplayState
+  t = replay_over s b
 
   -- what is legal does not depend on more of the machine than its answer
   module _ (same : meant_by t session call ≡ meant_by s session call) (due : is_commit_due t session call ≡ is_commit_due s session call) where
@@ -140,7 +140,7 @@ module _ {Root : Type 0} (dishonest : List ℕ) (s : Standing) (b : ObjectMap) (
     })
     hindered cause (Unresolved open_) = Unresolved (record { doubt = open_.doubt; is_open = open_.is_open; no_misuse = ap is_misuse same ∙ open_.no_misuse; of_card = open_.of_card })
 
-    pub answer : IsLegalAnswer dishonest s session call reply mark file → IsLegalAnswer dishonest t session call reply mark file
+    pub answer : IsLegalAnswer tampered s session call reply mark file → IsLegalAnswer tampered t session call reply mark file
     answer (Answered a) = Answered (record {
       replied = a.replied ∙ sym same;
       marked = a.marked ∙ ap (mark_of s.counter) (sym due);

@@ -16,7 +16,7 @@ use Rattle.store_model.specs.Calls.{state_after, is_commit}
 use Rattle.store_model.specs.Record.{Record, file_of, is_file, concerns_file, is_named}
 use Rattle.store_model.specs.Files.{files_after, reads_file, is_misuse, is_corrupt}
 use Rattle.store_model.specs.Doubt.{Doubt, follows, session_landed}
-use Rattle.store_model.specs.Standing.{Standing, is_of_card, is_undone, doubt_after, standing_after_call, standing_landed}
+use Rattle.store_model.specs.ReplayState.{ReplayState, is_of_card, is_undone, doubt_after, replay_after_call, replay_landed}
 use Rattle.store_model.specs.Legal.{mark_of, meant_by, is_commit_due, tells_object, IsHindered, IsLegalAnswer, stands_for_doubt, IsTagged, IsLegalCall, IsLegalLanding, IsLegalEvent}
 use Rattle.store_model.specs.Legal.IsHindered.{NotMade, Unread, Unresolved}
 use Rattle.store_model.specs.Legal.IsLegalAnswer.{Answered, Unavailable, Doubted, FoundCorrupt, Spent}
@@ -24,7 +24,7 @@ use Rattle.store_model.proofs.QuietCalls.{unchanged_maps_stay}
 use Rattle.store_model.proofs.Closeness.{IsRising, AreClose, IsUnnamed}
 use Rattle.store_model.proofs.InStep.{over, Matches, agree}
 use Rattle.store_model.proofs.CloseCommits.{misuse-same, commit-same, close-commit, rising-after}
-use Rattle.store_model.proofs.EventSteps.{standing_over, AreCloseLanded, IsInStep, IsStep, fewer, or-left, no-commit, answer, own-same, tagged-same, unread, makes-same}
+use Rattle.store_model.proofs.EventSteps.{replay_over, AreCloseLanded, IsInStep, IsStep, fewer, or-left, no-commit, answer, own-same, tagged-same, unread, makes-same}
 
 -- a reply of the machine that no device has a part in, where the mark is that of a commit
 made-due : (counter commit : ℕ) (due : Bool) → Made commit ≡ mark_of counter due → due ≡ true
@@ -32,7 +32,7 @@ made-due counter commit true is = refl
 made-due counter commit false is = absurd (cc (is))
 
 -- whether a misuse was found, by the ways in which a call may be answered for an open doubt
-module _ (dishonest : List ℕ) (s : Standing) (session : ℕ) (call : Call) (cause : Cause) (file : Option ℕ) where
+module _ (tampered : List ℕ) (s : ReplayState) (session : ℕ) (call : Call) (cause : Cause) (file : Option ℕ) where
   tells-no_misuse : (meant : Reply) → (tells_object meant || is_corrupt meant) ≡ true → is_misuse meant ≡ false
   tells-no_misuse (Misuse reason) tells = absurd (true≢false (sym tells))
   tells-no_misuse meant tells = refl
@@ -50,30 +50,30 @@ module _ (dishonest : List ℕ) (s : Standing) (session : ℕ) (call : Call) (ca
   same-cause other is = cc
 
   -- no misuse, where the answer is that the storage is not available
-  unavailable-no_misuse : IsLegalAnswer dishonest s session call (NotAvailable cause) Unchanged file → is_misuse (meant_by s session call) ≡ false
+  unavailable-no_misuse : IsLegalAnswer tampered s session call (NotAvailable cause) Unchanged file → is_misuse (meant_by s session call) ≡ false
   unavailable-no_misuse (Answered a) = ap is_misuse (sym a.replied)
   unavailable-no_misuse (Unavailable a) = hindered-no_misuse (subst (λ (c : Cause). IsHindered s session call c file) (sym (same-cause a.cause a.replied)) a.due)
   unavailable-no_misuse (Doubted a) = absurd (cc (a.marked))
   unavailable-no_misuse (FoundCorrupt a) = absurd (cc (a.replied))
   unavailable-no_misuse (Spent a) = absurd (cc (a.replied))
 
-module _ {Root : Type 0} (dishonest : List ℕ) (s : Standing) (b : ObjectMap) (r : Record Root) (records : List (Record Root)) (in_step : IsInStep s b (r ∷ records)) where
-  abbrev t : Standing
-  t = standing_over s b
+module _ {Root : Type 0} (tampered : List ℕ) (s : ReplayState) (b : ObjectMap) (r : Record Root) (records : List (Record Root)) (in_step : IsInStep s b (r ∷ records)) where
+  abbrev t : ReplayState
+  t = replay_over s b
 
   fewer-landed : (doubt : Doubt) → AreCloseLanded s b (r ∷ records) doubt → AreCloseLanded s b records doubt
   fewer-landed doubt landed = record { close = fewer _ r records _ _ landed.close; rising = landed.rising }
 
   -- a reply that stands for the open doubt leaves all
   module _ (session number : ℕ) (call : Call) (file : Option ℕ) where
-    pub for-doubt : (reply : Reply) (mark : Mark) (doubt : Option Doubt) → s.doubt ≡ doubt → stands_for_doubt doubt reply mark ≡ true → IsLegalCall dishonest s session call reply mark file
-        → IsStep dishonest s b (CallEvent session number call reply mark) file records
+    pub for-doubt : (reply : Reply) (mark : Mark) (doubt : Option Doubt) → s.doubt ≡ doubt → stands_for_doubt doubt reply mark ≡ true → IsLegalCall tampered s session call reply mark file
+        → IsStep tampered s b (CallEvent session number call reply mark) file records
     for-doubt (NotAvailable cause) Unchanged (Some d) is for legal = record {
       left = b;
       legal = record {
         declared = legal.declared;
         tagged = record {
-          own = λ n named. own-same dishonest s b file records session call (NotAvailable cause) Unchanged (makes-same s b session call in_step.close.listed) n (legal.tagged.own n named);
+          own = λ n named. own-same tampered s b file records session call (NotAvailable cause) Unchanged (makes-same s b session call in_step.close.listed) n (legal.tagged.own n named);
           needed = λ needs none. absurd (true≢false (sym needs ∙ (λ k. not (stands_for_doubt (is k) (NotAvailable cause) Unchanged) && reads_file call (meant_by t session call)) ∙ ap (λ (c : Bool). not c && reads_file call (meant_by t session call)) for));
           fault = legal.tagged.fault;
         };
@@ -84,7 +84,7 @@ module _ {Root : Type 0} (dishonest : List ℕ) (s : Standing) (b : ObjectMap) (
           due = Unresolved (record {
             doubt = d;
             is_open = is;
-            no_misuse = misuse-same s.state b session in_step.close.listed call ∙ unavailable-no_misuse dishonest s session call cause file legal.answer;
+            no_misuse = misuse-same s.state b session in_step.close.listed call ∙ unavailable-no_misuse tampered s session call cause file legal.answer;
             of_card = for;
           });
         });
@@ -112,7 +112,7 @@ module _ {Root : Type 0} (dishonest : List ℕ) (s : Standing) (b : ObjectMap) (
 
         tell : (read : Bool) → reads_file call (meant_by s session call) ≡ read → (n : ℕ) → s.files name ≡ Some n → is_file n file ≡ false → reads_file call (meant_by s session call) ≡ false
         tell true reads n has away =
-            absurd (unread dishonest s b file (r ∷ records) session call reply mark in_step.close tagged unexempt name named n has file refl away reads)
+            absurd (unread tampered s b file (r ∷ records) session call reply mark in_step.close tagged unexempt name named n has file refl away reads)
         tell false reads n has away = reads
 
         one : (object_at b name ≡ object_at s.state.objects name) ⊎ IsUnnamed s.files (r ∷ records) name → (object_at b name ≡ object_at s.state.objects name) ⊎ (reads_file call (meant_by s session call) ≡ false)
@@ -130,11 +130,11 @@ module _ {Root : Type 0} (dishonest : List ℕ) (s : Standing) (b : ObjectMap) (
     sessions : (state_after (over s.state b) session call).sessions ≡ (state_after s.state session call).sessions
     sessions = (agree s.state b session in_step.close.listed call alike).sessions
 
-    legal-over : (mark : Mark) → IsLegalCall dishonest s session call reply mark file → IsLegalCall dishonest t session call reply mark file
+    legal-over : (mark : Mark) → IsLegalCall tampered s session call reply mark file → IsLegalCall tampered t session call reply mark file
     legal-over mark legal = record {
       declared = legal.declared;
-      tagged = tagged-same dishonest s b file records session call reply mark same legal.tagged;
-      answer = answer dishonest s b file records session call reply mark same due-same legal.answer;
+      tagged = tagged-same tampered s b file records session call reply mark same legal.tagged;
+      answer = answer tampered s b file records session call reply mark same due-same legal.answer;
     }
 
     close-after : is_commit_due s session call ≡ true → AreClose (files_after s.files s.state session call file) records (state_after s.state session call).objects (state_after (over s.state b) session call).objects
@@ -146,16 +146,16 @@ module _ {Root : Type 0} (dishonest : List ℕ) (s : Standing) (b : ObjectMap) (
     state-over true = refl
     state-over false = λ k. record { objects = (state_after (over s.state b) session call).objects; sessions = sessions k }
 
-    unchanged : IsLegalCall dishonest s session call reply Unchanged file → IsStep dishonest s b (CallEvent session number call reply Unchanged) file records
+    unchanged : IsLegalCall tampered s session call reply Unchanged file → IsStep tampered s b (CallEvent session number call reply Unchanged) file records
     unchanged legal =
-        let legal_t : IsLegalCall dishonest t session call reply Unchanged file = legal-over Unchanged legal in
-        let left : ObjectMap = ((standing_after_call t session call reply Unchanged file).state).objects in
-        let same_a : ((standing_after_call s session call reply Unchanged file).state).objects ≡ s.state.objects = unchanged_maps_stay dishonest s session call reply file legal in
-        let same_b : left ≡ b = unchanged_maps_stay dishonest t session call reply file legal_t in
+        let legal_t : IsLegalCall tampered t session call reply Unchanged file = legal-over Unchanged legal in
+        let left : ObjectMap = ((replay_after_call t session call reply Unchanged file).state).objects in
+        let same_a : ((replay_after_call s session call reply Unchanged file).state).objects ≡ s.state.objects = unchanged_maps_stay tampered s session call reply file legal in
+        let same_b : left ≡ b = unchanged_maps_stay tampered t session call reply file legal_t in
         record {
           left = left;
           legal = legal_t;
-          after = λ k. record (standing_after_call s session call reply Unchanged file) { state = state-over (is_undone reply) k };
+          after = λ k. record (replay_after_call s session call reply Unchanged file) { state = state-over (is_undone reply) k };
           in_step = record {
             close = subst (λ (m : ObjectMap). AreClose s.files records m left) (sym same_a)
                 (subst (λ (m : ObjectMap). AreClose s.files records s.state.objects m) (sym same_b) (fewer s.files r records s.state.objects b in_step.close));
@@ -166,21 +166,21 @@ module _ {Root : Type 0} (dishonest : List ℕ) (s : Standing) (b : ObjectMap) (
       where
         -- an open doubt is left where nothing was done
         landed : (reply : Reply) (doubt : Doubt) → doubt_after reply s.doubt ≡ Some doubt
-            → AreCloseLanded (standing_after_call s session call reply Unchanged file) ((standing_after_call t session call reply Unchanged file).state).objects records doubt
+            → AreCloseLanded (replay_after_call s session call reply Unchanged file) ((replay_after_call t session call reply Unchanged file).state).objects records doubt
         landed (Misuse reason) doubt is = let landed = fewer-landed doubt (in_step.landed doubt is) in record { close = landed.close; rising = landed.rising }
         landed (NotAvailable cause) doubt is = kept (is_of_card cause) is
           where
             kept : (c : Bool) → elim c as (λ _. Option Doubt) [ true ↦ s.doubt | false ↦ None ] ≡ Some doubt
-                → AreCloseLanded (standing_after_call s session call (NotAvailable cause) Unchanged file) b records doubt
+                → AreCloseLanded (replay_after_call s session call (NotAvailable cause) Unchanged file) b records doubt
             kept true is = let landed = fewer-landed doubt (in_step.landed doubt is) in record { close = landed.close; rising = landed.rising }
             kept false is = absurd (cc (is))
         landed reply doubt is = absurd (cc (is))
 
-    made : (commit : ℕ) → IsLegalCall dishonest s session call reply (Made commit) file → IsStep dishonest s b (CallEvent session number call reply (Made commit)) file records
+    made : (commit : ℕ) → IsLegalCall tampered s session call reply (Made commit) file → IsStep tampered s b (CallEvent session number call reply (Made commit)) file records
     made commit legal = record {
       left = (state_after (over s.state b) session call).objects;
       legal = legal-over (Made commit) legal;
-      after = λ k. record (standing_after_call s session call reply (Made commit) file) { state = state-over false k };
+      after = λ k. record (replay_after_call s session call reply (Made commit) file) { state = state-over false k };
       in_step = record {
         close = close-after (due legal.answer);
         rising = rising-after s.state session call in_step.rising;
@@ -188,14 +188,14 @@ module _ {Root : Type 0} (dishonest : List ℕ) (s : Standing) (b : ObjectMap) (
       };
     }
       where
-        due : IsLegalAnswer dishonest s session call reply (Made commit) file → is_commit_due s session call ≡ true
+        due : IsLegalAnswer tampered s session call reply (Made commit) file → is_commit_due s session call ≡ true
         due (Answered a) = made-due s.counter commit (is_commit_due s session call) a.marked
         due (Unavailable a) = absurd (cc (a.marked))
         due (Doubted a) = absurd (cc (a.marked))
         due (FoundCorrupt a) = absurd (cc (a.marked))
         due (Spent a) = absurd (cc (a.marked))
 
-    doubtful : (commit : ℕ) → IsLegalCall dishonest s session call reply (Doubtful commit) file → IsStep dishonest s b (CallEvent session number call reply (Doubtful commit)) file records
+    doubtful : (commit : ℕ) → IsLegalCall tampered s session call reply (Doubtful commit) file → IsStep tampered s b (CallEvent session number call reply (Doubtful commit)) file records
     doubtful commit legal = record {
       left = b;
       legal = legal-over (Doubtful commit) legal;
@@ -203,7 +203,7 @@ module _ {Root : Type 0} (dishonest : List ℕ) (s : Standing) (b : ObjectMap) (
       in_step = record {
         close = fewer s.files r records s.state.objects b in_step.close;
         rising = in_step.rising;
-        landed = λ doubt is. subst (AreCloseLanded (standing_after_call s session call reply (Doubtful commit) file) b records) (own doubt is)
+        landed = λ doubt is. subst (AreCloseLanded (replay_after_call s session call reply (Doubtful commit) file) b records) (own doubt is)
             (record { close = close-after (due legal.answer); rising = rising-after s.state session call in_step.rising });
       };
     }
@@ -215,23 +215,23 @@ module _ {Root : Type 0} (dishonest : List ℕ) (s : Standing) (b : ObjectMap) (
         undoubted true is = cc
         undoubted false is = cc
 
-        due : IsLegalAnswer dishonest s session call reply (Doubtful commit) file → is_commit_due s session call ≡ true
+        due : IsLegalAnswer tampered s session call reply (Doubtful commit) file → is_commit_due s session call ≡ true
         due (Answered a) = absurd (undoubted (is_commit_due s session call) a.marked)
         due (Unavailable a) = absurd (cc (a.marked))
         due (Doubted a) = a.due
         due (FoundCorrupt a) = absurd (cc (a.marked))
         due (Spent a) = absurd (cc (a.marked))
 
-    call-alike : (mark : Mark) → IsLegalCall dishonest s session call reply mark file → IsStep dishonest s b (CallEvent session number call reply mark) file records
+    call-alike : (mark : Mark) → IsLegalCall tampered s session call reply mark file → IsStep tampered s b (CallEvent session number call reply mark) file records
     call-alike Unchanged legal = unchanged legal
     call-alike (Made commit) legal = made commit legal
     call-alike (Doubtful commit) legal = doubtful commit legal
 
-  call-step : (session number : ℕ) (call : Call) (reply : Reply) (mark : Mark) (file : Option ℕ) → file_of r ≡ file → IsLegalCall dishonest s session call reply mark file
-      → IsStep dishonest s b (CallEvent session number call reply mark) file records
+  call-step : (session number : ℕ) (call : Call) (reply : Reply) (mark : Mark) (file : Option ℕ) → file_of r ≡ file → IsLegalCall tampered s session call reply mark file
+      → IsStep tampered s b (CallEvent session number call reply mark) file records
   call-step session number call reply mark file is legal = one (stands_for_doubt s.doubt reply mark) refl
     where
-      one : (exempt : Bool) → stands_for_doubt s.doubt reply mark ≡ exempt → IsStep dishonest s b (CallEvent session number call reply mark) file records
+      one : (exempt : Bool) → stands_for_doubt s.doubt reply mark ≡ exempt → IsStep tampered s b (CallEvent session number call reply mark) file records
       one true for = for-doubt session number call file reply mark s.doubt refl for legal
       one false for = call-alike session number call reply file (matches session number call file reply mark legal.tagged is for) mark legal
 
@@ -244,7 +244,7 @@ module _ {Root : Type 0} (dishonest : List ℕ) (s : Standing) (b : ObjectMap) (
       one (Some h) = refl
   session_over i call = refl
 
-  landed-step : (commit : ℕ) (file : Option ℕ) → IsLegalLanding s commit file → IsStep dishonest s b (Landed commit) file records
+  landed-step : (commit : ℕ) (file : Option ℕ) → IsLegalLanding s commit file → IsStep tampered s b (Landed commit) file records
   landed-step commit file legal =
       let d : Doubt = legal.doubt in
       let landed = in_step.landed d legal.is_open in
@@ -252,19 +252,19 @@ module _ {Root : Type 0} (dishonest : List ℕ) (s : Standing) (b : ObjectMap) (
       record {
         left = left;
         legal = record { doubt = d; is_open = legal.is_open; number = legal.number; untagged = legal.untagged };
-        after = ap (standing_landed t) legal.is_open ∙ over-landed d ∙ ap (λ (o : Option Doubt). standing_over (standing_landed s o) left) (sym legal.is_open);
-        in_step = subst (λ (o : Option Doubt). IsInStep (standing_landed s o) left records) (sym legal.is_open) (record {
+        after = ap (replay_landed t) legal.is_open ∙ over-landed d ∙ ap (λ (o : Option Doubt). replay_over (replay_landed s o) left) (sym legal.is_open);
+        in_step = subst (λ (o : Option Doubt). IsInStep (replay_landed s o) left records) (sym legal.is_open) (record {
           close = fewer _ r records _ _ landed.close;
           rising = landed.rising;
           landed = λ doubt is. absurd (cc (is));
         });
       }
     where
-      over-landed : (d : Doubt) → standing_landed t (Some d) ≡ standing_over (standing_landed s (Some d)) (state_after (over s.state b) d.session d.call).objects
-      over-landed d = λ k. record (standing_landed t (Some d)) {
+      over-landed : (d : Doubt) → replay_landed t (Some d) ≡ replay_over (replay_landed s (Some d)) (state_after (over s.state b) d.session d.call).objects
+      over-landed d = λ k. record (replay_landed t (Some d)) {
         state = with_session (record s.state { objects = (state_after (over s.state b) d.session d.call).objects }) d.session (session_over d.session d.call k);
       }
 
-  pub event-step : (event : Event) (file : Option ℕ) → file_of r ≡ file → IsLegalEvent dishonest s event file → IsStep dishonest s b event file records
+  pub event-step : (event : Event) (file : Option ℕ) → file_of r ≡ file → IsLegalEvent tampered s event file → IsStep tampered s b event file records
   event-step (CallEvent session number call reply mark) file is legal = call-step session number call reply mark file is legal
   event-step (Landed commit) file is legal = landed-step commit file legal

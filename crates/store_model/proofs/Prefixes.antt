@@ -16,7 +16,7 @@ use Rattle.store_model.specs.Sound.{IsObject, IsObjectMap}
 use Rattle.store_model.specs.Files.{FileMap}
 use Rattle.store_model.specs.Record.{Record, file_of, is_named, events_of}
 use Rattle.store_model.specs.History.{numbers_of, AreNumbered}
-use Rattle.store_model.specs.Standing.{PhaseOpening, Standing, standing_after, replay}
+use Rattle.store_model.specs.ReplayState.{PhaseOpening, ReplayState, replay_after, replay}
 use Rattle.store_model.specs.Legal.{IsLegalFrom}
 use Rattle.store_model.specs.Damage.{HasLessDamage, IsMended, IsMaybeMended, IsAlteredBack}
 use Rattle.store_model.specs.LegalHistory.{IsLegal, opening_with, doubt_of}
@@ -24,18 +24,18 @@ use Rattle.store_model.specs.Laws.{PrefixesAreLegal}
 use Rattle.store_model.proofs.EventNumbers.{numbers-append}
 use Rattle.store_model.proofs.Maps.{at}
 use Rattle.store_model.proofs.Closeness.{listing, AreClose, IsUnnamed}
-use Rattle.store_model.proofs.EventSteps.{standing_over, IsInStep}
+use Rattle.store_model.proofs.EventSteps.{replay_over, IsInStep}
 use Rattle.store_model.proofs.LegalSteps.{event-step}
 
-legal-over : {Root : Type 0} (dishonest : List ℕ) (s : Standing) (b : ObjectMap) (records : List (Record Root)) → IsInStep s b records → IsLegalFrom dishonest s records → IsLegalFrom dishonest (standing_over s b) records
-legal-over dishonest s b [] in_step legal = tt
-legal-over dishonest s b (r ∷ records) in_step legal =
-    let step = event-step dishonest s b r records in_step r.event (file_of r) refl legal.0 in
-    (step.legal, subst (λ (x : Standing). IsLegalFrom dishonest x records) (sym step.after) (legal-over dishonest (standing_after s r.event (file_of r)) step.left records step.in_step legal.1))
+legal-over : {Root : Type 0} (tampered : List ℕ) (s : ReplayState) (b : ObjectMap) (records : List (Record Root)) → IsInStep s b records → IsLegalFrom tampered s records → IsLegalFrom tampered (replay_over s b) records
+legal-over tampered s b [] in_step legal = tt
+legal-over tampered s b (r ∷ records) in_step legal =
+    let step = event-step tampered s b r records in_step r.event (file_of r) refl legal.0 in
+    (step.legal, subst (λ (x : ReplayState). IsLegalFrom tampered x records) (sym step.after) (legal-over tampered (replay_after s r.event (file_of r)) step.left records step.in_step legal.1))
 
-legal-front : {Root : Type 0} (dishonest : List ℕ) (s : Standing) (front back : List (Record Root)) → IsLegalFrom dishonest s (front ++ back) → IsLegalFrom dishonest s front
-legal-front dishonest s [] back legal = tt
-legal-front dishonest s (r ∷ front) back legal = (legal.0, legal-front dishonest (standing_after s r.event (file_of r)) front back legal.1)
+legal-front : {Root : Type 0} (tampered : List ℕ) (s : ReplayState) (front back : List (Record Root)) → IsLegalFrom tampered s (front ++ back) → IsLegalFrom tampered s front
+legal-front tampered s [] back legal = tt
+legal-front tampered s (r ∷ front) back legal = (legal.0, legal-front tampered (replay_after s r.event (file_of r)) front back legal.1)
 
 -- names that are alike are one
 exact_names : CmpEqualImpliesEq name_cmp
@@ -43,7 +43,7 @@ exact_names a b is =
     let both : (a.app, a.id) ≡ (b.app, b.id) = exact_pairs (slice_cmp nat_cmp) (slice_cmp nat_cmp) exact_bytes exact_bytes (a.app, a.id) (b.app, b.id) is in
     λ k. record { app = (both k).0; id = (both k).1 }
 
-module _ {Root : Type 0} (files : FileMap) (dishonest : List ℕ) (front back : List (Record Root)) where
+module _ {Root : Type 0} (files : FileMap) (tampered : List ℕ) (front back : List (Record Root)) where
   is_held : Option ℕ → Bool
   is_held None = false
   is_held (Some file) = is_named front file
@@ -55,22 +55,22 @@ module _ {Root : Type 0} (files : FileMap) (dishonest : List ℕ) (front back : 
   mixed (e ∷ old) (f ∷ new) = (e.0, cond (is_held (files e.0)) f.1 e.1) ∷ mixed old new
 
   abbrev Altered : ObjectMap → ObjectMap → Type 0
-  Altered old new = IsAlteredBack files dishonest (front ++ back) old new
+  Altered old new = IsAlteredBack files tampered (front ++ back) old new
 
   held-file : (o : Option ℕ) (file : ℕ) (held : Bool) → is_held o ≡ held → o ≡ Some file → is_named front file ≡ held
   unfolding is_held
   held-file o file held is some = ap is_held (sym some) ∙ is
 
-  mixed-entry : (e f : ObjectName × Object) → IsMaybeMended files dishonest (front ++ back) e f → (held : Bool) → is_held (files e.0) ≡ held
-      → (cond held f.1 e.1 ≡ e.1) ⊎ IsMended files dishonest front e.0 e.1 (cond held f.1 e.1)
+  mixed-entry : (e f : ObjectName × Object) → IsMaybeMended files tampered (front ++ back) e f → (held : Bool) → is_held (files e.0) ≡ held
+      → (cond held f.1 e.1 ≡ e.1) ⊎ IsMended files tampered front e.0 e.1 (cond held f.1 e.1)
   mixed-entry e f maybe false is = inl refl
   mixed-entry e f maybe true is = one maybe.object
     where
-      one : (f.1 ≡ e.1) ⊎ IsMended files dishonest (front ++ back) e.0 e.1 f.1 → (f.1 ≡ e.1) ⊎ IsMended files dishonest front e.0 e.1 f.1
+      one : (f.1 ≡ e.1) ⊎ IsMended files tampered (front ++ back) e.0 e.1 f.1 → (f.1 ≡ e.1) ⊎ IsMended files tampered front e.0 e.1 f.1
       one (inl same) = inl same
       one (inr m) = inr (record { file = m.file; of_object = m.of_object; not_honest = m.not_honest; named = held-file (files e.0) m.file true is m.of_object; less = m.less })
 
-  mixed-altered : (old new : ObjectMap) → Altered old new → IsAlteredBack files dishonest front old (mixed old new)
+  mixed-altered : (old new : ObjectMap) → Altered old new → IsAlteredBack files tampered front old (mixed old new)
   unfolding mixed
   mixed-altered [] [] altered = tt
   mixed-altered [] (f ∷ new) altered = absurd altered
@@ -116,11 +116,11 @@ module _ {Root : Type 0} (files : FileMap) (dishonest : List ℕ) (front back : 
   same-size (Damaged n) (Sound d) less = less
   same-size (Damaged n) (Damaged m) less = less
 
-  mixed-size : (e f : ObjectName × Object) → IsMaybeMended files dishonest (front ++ back) e f → (held : Bool) → size_of (cond held f.1 e.1) ≡ size_of f.1
+  mixed-size : (e f : ObjectName × Object) → IsMaybeMended files tampered (front ++ back) e f → (held : Bool) → size_of (cond held f.1 e.1) ≡ size_of f.1
   mixed-size e f maybe true = refl
   mixed-size e f maybe false = one maybe.object
     where
-      one : (f.1 ≡ e.1) ⊎ IsMended files dishonest (front ++ back) e.0 e.1 f.1 → size_of e.1 ≡ size_of f.1
+      one : (f.1 ≡ e.1) ⊎ IsMended files tampered (front ++ back) e.0 e.1 f.1 → size_of e.1 ≡ size_of f.1
       one (inl same) = ap size_of (sym same)
       one (inr m) = sym (same-size e.1 f.1 m.less)
 
@@ -133,12 +133,12 @@ module _ {Root : Type 0} (files : FileMap) (dishonest : List ℕ) (front back : 
       λ k. (sym (altered.0).name k, mixed-size e f altered.0 (is_held (files e.0)) k) ∷ mixed-listed old new altered.1 k
 
   -- an object that is not taken from the altered map has a file that the beginning does not name, or is the same
-  mixed-first : (name : ObjectName) (e f : ObjectName × Object) → IsMaybeMended files dishonest (front ++ back) e f → at name e.0 ≡ true → (held : Bool) → is_held (files e.0) ≡ held
+  mixed-first : (name : ObjectName) (e f : ObjectName × Object) → IsMaybeMended files tampered (front ++ back) e f → at name e.0 ≡ true → (held : Bool) → is_held (files e.0) ≡ held
       → (cond held f.1 e.1 ≡ f.1) ⊎ IsUnnamed files front name
   mixed-first name e f maybe here true is = inl refl
   mixed-first name e f maybe here false is = one maybe.object
     where
-      one : (f.1 ≡ e.1) ⊎ IsMended files dishonest (front ++ back) e.0 e.1 f.1 → (e.1 ≡ f.1) ⊎ IsUnnamed files front name
+      one : (f.1 ≡ e.1) ⊎ IsMended files tampered (front ++ back) e.0 e.1 f.1 → (e.1 ≡ f.1) ⊎ IsUnnamed files front name
       one (inl same) = inl (sym same)
       one (inr m) = inr (record {
         file = m.file;
@@ -206,27 +206,27 @@ numbered-front front back numbered session =
     range-front 0 (numbers_of session (events_of front)) (numbers_of session (events_of back))
     (subst (λ (l : List ℕ). l ≡ range_with_len 0 (length l)) split (numbered session))
 
-pub prefix-legal : {Root : Type 0} (phase : PhaseOpening) (dishonest : List ℕ) (front back : List (Record Root)) (doubt : Option ℕ)
-    → IsLegal phase dishonest (front ++ back) doubt → (left : Option ℕ) × IsLegal phase dishonest front left
-prefix-legal phase dishonest front back doubt legal =
-    let begins : ObjectMap = mixed phase.files dishonest front back phase.objects legal.begins in (
+pub prefix-legal : {Root : Type 0} (phase : PhaseOpening) (tampered : List ℕ) (front back : List (Record Root)) (doubt : Option ℕ)
+    → IsLegal phase tampered (front ++ back) doubt → (left : Option ℕ) × IsLegal phase tampered front left
+prefix-legal phase tampered front back doubt legal =
+    let begins : ObjectMap = mixed phase.files tampered front back phase.objects legal.begins in (
       doubt_of (replay (opening_with phase begins) front),
       record {
         opens = legal.opens;
         begins = begins;
-        begins_sound = mixed-map phase.files dishonest front back phase.objects legal.begins legal.altered legal.opens legal.begins_sound;
-        altered = mixed-altered phase.files dishonest front back phase.objects legal.begins legal.altered;
-        events_legal = legal-over dishonest (opening_with phase legal.begins) begins front
+        begins_sound = mixed-map phase.files tampered front back phase.objects legal.begins legal.altered legal.opens legal.begins_sound;
+        altered = mixed-altered phase.files tampered front back phase.objects legal.begins legal.altered;
+        events_legal = legal-over tampered (opening_with phase legal.begins) begins front
             (record {
-              close = mixed-close phase.files dishonest front back phase.objects legal.begins legal.altered;
+              close = mixed-close phase.files tampered front back phase.objects legal.begins legal.altered;
               rising = (legal.begins_sound).rising;
               landed = λ d is. absurd (cc (is));
             })
-            (legal-front dishonest (opening_with phase legal.begins) front back legal.events_legal);
+            (legal-front tampered (opening_with phase legal.begins) front back legal.events_legal);
         doubt_left = inl refl;
         numbered = numbered-front front back legal.numbered;
       },
     )
 
 pub prefixes_are_legal : (Root : Type 0) → PrefixesAreLegal Root
-prefixes_are_legal Root phase dishonest front back doubt legal = prefix-legal phase dishonest front back doubt legal
+prefixes_are_legal Root phase tampered front back doubt legal = prefix-legal phase tampered front back doubt legal

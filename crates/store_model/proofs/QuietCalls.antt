@@ -23,7 +23,7 @@ use Rattle.store_model.specs.Data.{read_of, bytes_at, seek_base, write_of, write
 use Rattle.store_model.specs.Naming.{rename_of, delete_of}
 use Rattle.store_model.specs.Enumerating.{enum_new_of, enum_start_of, enum_next_of, enum_reset_of, enum_free_of, by_cursor, enum_gives, is_of}
 use Rattle.store_model.specs.Calls.{outcome_of, state_after, is_commit, size_by}
-use Rattle.store_model.specs.Standing.{Standing, is_undone, standing_after_call}
+use Rattle.store_model.specs.ReplayState.{ReplayState, is_undone, replay_after_call}
 use Rattle.store_model.specs.Legal.{IsLegalAnswer, is_commit_due, mark_of}
 use Rattle.store_model.specs.Legal.IsLegalAnswer.{Answered, Unavailable, Doubted, FoundCorrupt, Spent}
 use Rattle.store_model.specs.Laws.{OthersKeepMaps, UnchangedMapsStay}
@@ -169,29 +169,29 @@ kept_call s i (EnumFree number) = kept-cursor s _ (cursor_at (session_at s i).en
 pub others_keep_maps : OthersKeepMaps
 others_keep_maps s i call none = (kept_call s i call).kept none
 
-module _ (s : Standing) (session : ℕ) (call : Call) (file : Option ℕ) where
+module _ (s : ReplayState) (session : ℕ) (call : Call) (file : Option ℕ) where
   -- where the machine does not commit, an event that is no commit leaves the map, whatever it replies
-  quiet_reply : (reply : Reply) → is_commit_due s session call ≡ false → ((standing_after_call s session call reply Unchanged file).state).objects ≡ (s.state).objects
+  quiet_reply : (reply : Reply) → is_commit_due s session call ≡ false → ((replay_after_call s session call reply Unchanged file).state).objects ≡ (s.state).objects
   quiet_reply reply none = elim (is_undone reply) as (λ (b : Bool). (elim b as (λ _. MachineState) [ true ↦ s.state | false ↦ state_after s.state session call ]).objects ≡ (s.state).objects) [
     | true ↦ refl
     | false ↦ (kept_call s.state session call).kept none
   ]
 
   -- a call that is not done leaves the state
-  undone_reply : (reply : Reply) → is_undone reply ≡ true → ((standing_after_call s session call reply Unchanged file).state).objects ≡ (s.state).objects
+  undone_reply : (reply : Reply) → is_undone reply ≡ true → ((replay_after_call s session call reply Unchanged file).state).objects ≡ (s.state).objects
   undone_reply reply undone = ap (λ (b : Bool). (elim b as (λ _. MachineState) [ true ↦ s.state | false ↦ state_after s.state session call ]).objects) undone
 
   unmade : (b : Bool) (counter : ℕ) → Unchanged ≡ mark_of counter b → b ≡ false
   unmade true counter is = absurd (cc (is))
   unmade false counter is = refl
 
-  quiet_call : (dishonest : List ℕ) (reply : Reply) → IsLegalAnswer dishonest s session call reply Unchanged file
-      → ((standing_after_call s session call reply Unchanged file).state).objects ≡ (s.state).objects
-  quiet_call dishonest reply (Answered answered) = quiet_reply reply (unmade (is_commit_due s session call) s.counter answered.marked)
-  quiet_call dishonest reply (Unavailable unavailable) = undone_reply reply (ap is_undone unavailable.replied)
-  quiet_call dishonest reply (Doubted doubted) = absurd (cc (doubted.marked))
-  quiet_call dishonest reply (FoundCorrupt corrupt) = undone_reply reply (ap is_undone corrupt.replied)
-  quiet_call dishonest reply (Spent spent) = undone_reply reply (ap is_undone spent.replied)
+  quiet_call : (tampered : List ℕ) (reply : Reply) → IsLegalAnswer tampered s session call reply Unchanged file
+      → ((replay_after_call s session call reply Unchanged file).state).objects ≡ (s.state).objects
+  quiet_call tampered reply (Answered answered) = quiet_reply reply (unmade (is_commit_due s session call) s.counter answered.marked)
+  quiet_call tampered reply (Unavailable unavailable) = undone_reply reply (ap is_undone unavailable.replied)
+  quiet_call tampered reply (Doubted doubted) = absurd (cc (doubted.marked))
+  quiet_call tampered reply (FoundCorrupt corrupt) = undone_reply reply (ap is_undone corrupt.replied)
+  quiet_call tampered reply (Spent spent) = undone_reply reply (ap is_undone spent.replied)
 
 pub unchanged_maps_stay : UnchangedMapsStay
-unchanged_maps_stay dishonest s session call reply file legal = quiet_call s session call file dishonest reply legal.answer
+unchanged_maps_stay tampered s session call reply file legal = quiet_call s session call file tampered reply legal.answer

@@ -20,7 +20,7 @@ use Rattle.store_model.specs.declared.event.Mark.{Mark}
 use Rattle.store_model.specs.Record.{untagged, fault_in_reply}
 use Rattle.store_model.specs.Sound.{IsObject, IsObjectMap}
 use Rattle.store_model.specs.Files.{file_named}
-use Rattle.store_model.specs.Standing.{Standing, PhaseOpening, opening, replay}
+use Rattle.store_model.specs.ReplayState.{ReplayState, PhaseOpening, opening, replay}
 use Rattle.store_model.specs.Legal.{IsTagged, IsLegalFrom}
 use Rattle.store_model.specs.Legal.IsLegalAnswer.{Answered}
 use Rattle.store_model.specs.LegalHistory.{IsLegal, opening_with}
@@ -81,7 +81,7 @@ no_objects : IsObjectMap []
 unfolding IsStrictlySortedBy
 no_objects = record { few = lit≤ tt; rising = tt; named = All-nil (λ e. IsIdentifier (e.0).id); sound = All-nil (λ e. IsObject e.1) }
 
-no_tag : (s : Standing) (call : Call) (reply : Reply) (mark : Mark) → file_named s.files s.state 0 call ≡ None → fault_in_reply reply ≡ None
+no_tag : (s : ReplayState) (call : Call) (reply : Reply) (mark : Mark) → file_named s.files s.state 0 call ≡ None → fault_in_reply reply ≡ None
     → IsTagged s 0 call reply mark None
 no_tag s call reply mark none fault = record {
   own = λ number named. absurd (cc (named));

@@ -20,7 +20,7 @@ use Rattle.store_model.specs.declared.event.Mark.{Mark}
 use Rattle.store_model.specs.declared.event.Mark.TheVariants.{Unchanged, Made, Doubtful}
 use Rattle.store_model.specs.Record.{Record, file_of}
 use Rattle.store_model.specs.Doubt.{Doubt, session_landed}
-use Rattle.store_model.specs.Standing.{Standing, is_undone, standing_after_call, standing_landed, standing_after, replay}
+use Rattle.store_model.specs.ReplayState.{ReplayState, is_undone, replay_after_call, replay_landed, replay_after, replay}
 use Rattle.store_model.specs.Legal.{IsLegalFrom}
 use Rattle.store_model.specs.Laws.{SessionsStay}
 use Rattle.store_model.specs.Machine.{MachineState, Outcome, Session, applications, new_session, session_at, name_in, handle_at, unless_refused, first_refusal, refuse, by_handle, by_right, of_sound}
@@ -111,31 +111,31 @@ undone-length : (s : MachineState) (j : ℕ) (call : Call) (b : Bool) → length
 undone-length s j call true = refl
 undone-length s j call false = length-sessions s j call
 
-pub length-after : (s : Standing) (event : Event) (file : Option ℕ) → length ((standing_after s event file).state).sessions ≡ length (s.state).sessions
+pub length-after : (s : ReplayState) (event : Event) (file : Option ℕ) → length ((replay_after s event file).state).sessions ≡ length (s.state).sessions
 length-after s (CallEvent j number call reply mark) file = marked mark
   where
-    marked : (m : Mark) → length ((standing_after_call s j call reply m file).state).sessions ≡ length (s.state).sessions
+    marked : (m : Mark) → length ((replay_after_call s j call reply m file).state).sessions ≡ length (s.state).sessions
     marked Unchanged = undone-length s.state j call (is_undone reply)
     marked (Made commit) = length-sessions s.state j call
     marked (Doubtful commit) = refl
 length-after s (Landed commit) file = one s.doubt
   where
-    one : (o : Option Doubt) → length ((standing_landed s o).state).sessions ≡ length (s.state).sessions
+    one : (o : Option Doubt) → length ((replay_landed s o).state).sessions ≡ length (s.state).sessions
     one None = refl
     one (Some doubt) = length-set (s.state).sessions doubt.session (session_landed s.state doubt.session doubt.call)
 
-pub length-replay : {Root : Type 0} (s : Standing) (records : List (Record Root)) → length ((replay s records).state).sessions ≡ length (s.state).sessions
+pub length-replay : {Root : Type 0} (s : ReplayState) (records : List (Record Root)) → length ((replay s records).state).sessions ≡ length (s.state).sessions
 length-replay s [] = refl
-length-replay s (r ∷ records) = length-replay (standing_after s r.event (file_of r)) records ∙ length-after s r.event (file_of r)
+length-replay s (r ∷ records) = length-replay (replay_after s r.event (file_of r)) records ∙ length-after s r.event (file_of r)
 
 -- the replay and the legality of one record more
-pub replay-append : {Root : Type 0} (s : Standing) (xs ys : List (Record Root)) → replay s (xs ++ ys) ≡ replay (replay s xs) ys
+pub replay-append : {Root : Type 0} (s : ReplayState) (xs ys : List (Record Root)) → replay s (xs ++ ys) ≡ replay (replay s xs) ys
 replay-append s [] ys = refl
-replay-append s (x ∷ xs) ys = replay-append (standing_after s x.event (file_of x)) xs ys
+replay-append s (x ∷ xs) ys = replay-append (replay_after s x.event (file_of x)) xs ys
 
-pub legal-append : {Root : Type 0} (dishonest : List ℕ) (s : Standing) (xs ys : List (Record Root)) → IsLegalFrom dishonest s xs → IsLegalFrom dishonest (replay s xs) ys → IsLegalFrom dishonest s (xs ++ ys)
-legal-append dishonest s [] ys front back = back
-legal-append dishonest s (x ∷ xs) ys front back = (front.0, legal-append dishonest (standing_after s x.event (file_of x)) xs ys front.1 back)
+pub legal-append : {Root : Type 0} (tampered : List ℕ) (s : ReplayState) (xs ys : List (Record Root)) → IsLegalFrom tampered s xs → IsLegalFrom tampered (replay s xs) ys → IsLegalFrom tampered s (xs ++ ys)
+legal-append tampered s [] ys front back = back
+legal-append tampered s (x ∷ xs) ys front back = (front.0, legal-append tampered (replay_after s x.event (file_of x)) xs ys front.1 back)
 
 pub sessions_stay : (Root : Type 0) → SessionsStay Root
 sessions_stay Root s records = length-replay s records

@@ -8,7 +8,7 @@ use Rattle.store_model.specs.declared.event.Mark.TheVariants.{Unchanged, Made, D
 use Rattle.store_model.specs.Object.{ObjectMap}
 use Rattle.store_model.specs.Record.{Record}
 use Rattle.store_model.specs.Doubt.{state_landed}
-use Rattle.store_model.specs.Standing.{PhaseOpening, Standing, keeps_doubt}
+use Rattle.store_model.specs.ReplayState.{PhaseOpening, ReplayState, keeps_doubt}
 use Rattle.store_model.specs.LegalHistory.{IsLegal, end_of}
 
 -- the doubtful event that is left in doubt by a call with that reply, which changed nothing
@@ -32,15 +32,15 @@ abbrev pub commits_of : List Event → List Event
 commits_of events = commits_from None events
 
 -- the map of objects at the end of a legal history
-abbrev pub map_after : {Root : Type 0} {phase : PhaseOpening} {dishonest : List ℕ} {records : List (Record Root)} {doubt : Option ℕ}
-    → IsLegal phase dishonest records doubt → ObjectMap
+abbrev pub map_after : {Root : Type 0} {phase : PhaseOpening} {tampered : List ℕ} {records : List (Record Root)} {doubt : Option ℕ}
+    → IsLegal phase tampered records doubt → ObjectMap
 map_after legal = ((end_of legal).state).objects
 
 -- where the replay stands with the doubt, that map with the doubted call landed; none where there is no doubt
-abbrev pub with_doubt : Standing → Option ObjectMap
+abbrev pub with_doubt : ReplayState → Option ObjectMap
 with_doubt s = option_map (λ doubt. (state_landed s.state doubt).objects) s.doubt
 
 -- the same at the end of a legal history
-abbrev pub map_with_doubt : {Root : Type 0} {phase : PhaseOpening} {dishonest : List ℕ} {records : List (Record Root)} {doubt : Option ℕ}
-    → IsLegal phase dishonest records doubt → Option ObjectMap
+abbrev pub map_with_doubt : {Root : Type 0} {phase : PhaseOpening} {tampered : List ℕ} {records : List (Record Root)} {doubt : Option ℕ}
+    → IsLegal phase tampered records doubt → Option ObjectMap
 map_with_doubt legal = with_doubt (end_of legal)

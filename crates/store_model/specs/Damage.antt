@@ -22,18 +22,18 @@ HasLessDamage (Damaged size) (Sound new) = length new.bytes ≡ size
 HasLessDamage (Damaged size) (Damaged other) = other ≡ size
 
 -- The object of that name has less damage; its file is not honest, and a record names it.
-pub record IsMended {Root : Type 0} (files : FileMap) (dishonest : List ℕ) (records : List (Record Root)) (name : ObjectName) (old new : Object) : Type 0 where
+pub record IsMended {Root : Type 0} (files : FileMap) (tampered : List ℕ) (records : List (Record Root)) (name : ObjectName) (old new : Object) : Type 0 where
   pub file : ℕ
   pub of_object : files name ≡ Some file
-  pub not_honest : Contains dishonest file
+  pub not_honest : Contains tampered file
   pub named : is_named records file ≡ true
   pub less : HasLessDamage old new
 
 -- One entry of a map that may be altered back: it is the same, or its object is mended.
-pub record IsMaybeMended {Root : Type 0} (files : FileMap) (dishonest : List ℕ) (records : List (Record Root)) (old new : ObjectName × Object) : Type 0 where
+pub record IsMaybeMended {Root : Type 0} (files : FileMap) (tampered : List ℕ) (records : List (Record Root)) (old new : ObjectName × Object) : Type 0 where
   pub name : new.0 ≡ old.0
-  pub object : (new.1 ≡ old.1) ⊎ IsMended files dishonest records old.0 old.1 new.1
+  pub object : (new.1 ≡ old.1) ⊎ IsMended files tampered records old.0 old.1 new.1
 
 -- the second map is the first, altered back where these records name files that are not honest
 abbrev pub IsAlteredBack : {Root : Type 0} → FileMap → List ℕ → List (Record Root) → ObjectMap → ObjectMap → Type 0
-IsAlteredBack files dishonest records old new = AllZip (IsMaybeMended files dishonest records) old new
+IsAlteredBack files tampered records old new = AllZip (IsMaybeMended files tampered records) old new

@@ -14,15 +14,15 @@ use Rattle.store_model.specs.Machine.{MachineState, session_at}
 use Rattle.store_model.specs.Calls.{reply_of, state_after, is_commit}
 use Rattle.store_model.specs.Enumerating.{is_of, is_above, next_object}
 use Rattle.store_model.specs.Record.{Record}
-use Rattle.store_model.specs.Standing.{PhaseOpening, Standing, standing_after_call, replay}
+use Rattle.store_model.specs.ReplayState.{PhaseOpening, ReplayState, replay_after_call, replay}
 use Rattle.store_model.specs.Legal.{IsLegalCall}
 use Rattle.store_model.specs.LegalHistory.{IsLegal}
 
 -- What begins a legal history is one.
 abbrev pub PrefixesAreLegal : Type 0 → Type 0
 PrefixesAreLegal Root =
-    (phase : PhaseOpening) (dishonest : List ℕ) (front back : List (Record Root)) (doubt : Option ℕ)
-    → IsLegal phase dishonest (front ++ back) doubt → (left : Option ℕ) × IsLegal phase dishonest front left
+    (phase : PhaseOpening) (tampered : List ℕ) (front back : List (Record Root)) (doubt : Option ℕ)
+    → IsLegal phase tampered (front ++ back) doubt → (left : Option ℕ) × IsLegal phase tampered front left
 
 -- A well formed call leaves a map of objects.
 abbrev pub CallsKeepMaps : Type 0
@@ -37,9 +37,9 @@ OthersKeepMaps =
 -- A legal event that is marked as no commit leaves the map.
 abbrev pub UnchangedMapsStay : Type 0
 UnchangedMapsStay =
-    (dishonest : List ℕ) (s : Standing) (session : ℕ) (call : Call) (reply : Reply) (file : Option ℕ)
-    → IsLegalCall dishonest s session call reply Unchanged file
-    → ((standing_after_call s session call reply Unchanged file).state).objects ≡ (s.state).objects
+    (tampered : List ℕ) (s : ReplayState) (session : ℕ) (call : Call) (reply : Reply) (file : Option ℕ)
+    → IsLegalCall tampered s session call reply Unchanged file
+    → ((replay_after_call s session call reply Unchanged file).state).objects ≡ (s.state).objects
 
 -- A call changes no session but its own: no handle, position, enumerator or number of another.
 abbrev pub OtherSessionsStay : Type 0
@@ -49,7 +49,7 @@ OtherSessionsStay =
 -- No event makes a session or ends one.
 abbrev pub SessionsStay : Type 0 → Type 0
 SessionsStay Root =
-    (s : Standing) (records : List (Record Root)) → length ((replay s records).state).sessions ≡ length (s.state).sessions
+    (s : ReplayState) (records : List (Record Root)) → length ((replay s records).state).sessions ≡ length (s.state).sessions
 
 -- the object is one that an enumerator, so far, may give
 abbrev pub is_ahead : List ℕ → Cursor → ObjectName × Object → Bool

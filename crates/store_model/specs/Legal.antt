@@ -15,7 +15,7 @@ use Rattle.store_model.specs.Record.{Record, file_of, fault_in_reply}
 use Rattle.store_model.specs.Calls.{reply_of, is_commit}
 use Rattle.store_model.specs.Files.{IsFree, file_named, makes_object, reads_file, is_misuse, is_corrupt}
 use Rattle.store_model.specs.Doubt.{Doubt}
-use Rattle.store_model.specs.Standing.{Standing, is_of_card, standing_after}
+use Rattle.store_model.specs.ReplayState.{ReplayState, is_of_card, replay_after}
 
 -- the mark of a call that is answered as the machine does
 abbrev pub mark_of : ℕ → Bool → Mark
@@ -28,10 +28,10 @@ counter_after counter true = counter + 1
 counter_after counter false = counter
 
 -- what the machine answers to the call where the replay stands, and whether that is a commit
-abbrev pub meant_by : Standing → ℕ → Call → Reply
+abbrev pub meant_by : ReplayState → ℕ → Call → Reply
 meant_by s session call = reply_of s.state session call
 
-abbrev pub is_commit_due : Standing → ℕ → Call → Bool
+abbrev pub is_commit_due : ReplayState → ℕ → Call → Bool
 is_commit_due s session call = is_commit s.state session call (meant_by s session call)
 
 -- the call reads an object's file, or changes it
@@ -51,20 +51,20 @@ tells_object (InfoReply size position flags attributes) = true
 tells_object _ = false
 
 -- The event has the machine's reply; a commit raises the counter, which ends at 4,294,967,295.
-pub record IsAnswered (s : Standing) (session : ℕ) (call : Call) (reply : Reply) (mark : Mark) : Type 0 where
+pub record IsAnswered (s : ReplayState) (session : ℕ) (call : Call) (reply : Reply) (mark : Mark) : Type 0 where
   pub replied : reply ≡ meant_by s session call
   pub marked : mark ≡ mark_of s.counter (is_commit_due s session call)
   pub counted : counter_after s.counter (is_commit_due s session call) < 2 ^ 32
 
 -- The open doubt could not be resolved. A misuse is found before.
-pub record IsUnresolved (s : Standing) (session : ℕ) (call : Call) (cause : Cause) : Type 0 where
+pub record IsUnresolved (s : ReplayState) (session : ℕ) (call : Call) (cause : Cause) : Type 0 where
   pub doubt : Doubt
   pub is_open : s.doubt ≡ Some doubt
   pub no_misuse : is_misuse (meant_by s session call) ≡ false
   pub of_card : is_of_card cause ≡ true
 
 -- The object's file failed as it was read.
-pub record IsUnread (s : Standing) (session : ℕ) (call : Call) (cause : Cause) (file : Option ℕ) : Type 0 where
+pub record IsUnread (s : ReplayState) (session : ℕ) (call : Call) (cause : Cause) (file : Option ℕ) : Type 0 where
   pub touches : touches_file call ≡ true
   pub tells : (tells_object (meant_by s session call) || is_corrupt (meant_by s session call)) ≡ true
   pub number : ℕ
@@ -73,21 +73,21 @@ pub record IsUnread (s : Standing) (session : ℕ) (call : Call) (cause : Cause)
   pub failed : cause ≡ Fault (File number) count
 
 -- why a device keeps a call from being done
-pub data IsHindered (s : Standing) (session : ℕ) (call : Call) (cause : Cause) (file : Option ℕ) : Type 0 where
+pub data IsHindered (s : ReplayState) (session : ℕ) (call : Call) (cause : Cause) (file : Option ℕ) : Type 0 where
   -- a commit was due, and was not made
   NotMade : is_commit_due s session call ≡ true → IsHindered s session call cause file
   Unread : IsUnread s session call cause file → IsHindered s session call cause file
   Unresolved : IsUnresolved s session call cause → IsHindered s session call cause file
 
 -- TEE_ERROR_STORAGE_NOT_AVAILABLE: a device failed, and nothing was done.
-pub record IsUnavailable (s : Standing) (session : ℕ) (call : Call) (reply : Reply) (mark : Mark) (file : Option ℕ) : Type 0 where
+pub record IsUnavailable (s : ReplayState) (session : ℕ) (call : Call) (reply : Reply) (mark : Mark) (file : Option ℕ) : Type 0 where
   pub cause : Cause
   pub replied : reply ≡ NotAvailable cause
   pub marked : mark ≡ Unchanged
   pub due : IsHindered s session call cause file
 
 -- A commit was not confirmed: it is in doubt from here on.
-pub record IsDoubted (s : Standing) (session : ℕ) (call : Call) (reply : Reply) (mark : Mark) : Type 0 where
+pub record IsDoubted (s : ReplayState) (session : ℕ) (call : Call) (reply : Reply) (mark : Mark) : Type 0 where
   pub cause : Cause
   pub replied : reply ≡ NotAvailable cause
   pub marked : mark ≡ Doubtful (s.counter + 1)
@@ -96,29 +96,29 @@ pub record IsDoubted (s : Standing) (session : ℕ) (call : Call) (reply : Reply
 
 -- TEE_ERROR_CORRUPT_OBJECT: the object's file is not honest, and what it gave was refused. A commit was due, or an answer that tells
 -- of the object.
-pub record IsFoundCorrupt (dishonest : List ℕ) (s : Standing) (session : ℕ) (call : Call) (reply : Reply) (mark : Mark) (file : Option ℕ) : Type 0 where
+pub record IsFoundCorrupt (tampered : List ℕ) (s : ReplayState) (session : ℕ) (call : Call) (reply : Reply) (mark : Mark) (file : Option ℕ) : Type 0 where
   pub replied : reply ≡ Corrupt
   pub marked : mark ≡ Unchanged
   pub touches : touches_file call ≡ true
   pub due : (is_commit_due s session call || tells_object (meant_by s session call)) ≡ true
   pub number : ℕ
   pub named : file ≡ Some number
-  pub not_honest : Contains dishonest number
+  pub not_honest : Contains tampered number
 
 -- A commit was due, and the card's counter is at its last value.
-pub record IsSpent (s : Standing) (session : ℕ) (call : Call) (reply : Reply) (mark : Mark) : Type 0 where
+pub record IsSpent (s : ReplayState) (session : ℕ) (call : Call) (reply : Reply) (mark : Mark) : Type 0 where
   pub replied : reply ≡ CounterSpent 4294967295
   pub marked : mark ≡ Unchanged
   pub due : is_commit_due s session call ≡ true
   pub spent : s.counter ≡ 4294967295
 
 -- the ways in which a call may be answered where the replay stands
-pub data IsLegalAnswer (dishonest : List ℕ) (s : Standing) (session : ℕ) (call : Call) (reply : Reply) (mark : Mark) (file : Option ℕ) : Type 0 where
-  Answered : IsAnswered s session call reply mark → IsLegalAnswer dishonest s session call reply mark file
-  Unavailable : IsUnavailable s session call reply mark file → IsLegalAnswer dishonest s session call reply mark file
-  Doubted : IsDoubted s session call reply mark → IsLegalAnswer dishonest s session call reply mark file
-  FoundCorrupt : IsFoundCorrupt dishonest s session call reply mark file → IsLegalAnswer dishonest s session call reply mark file
-  Spent : IsSpent s session call reply mark → IsLegalAnswer dishonest s session call reply mark file
+pub data IsLegalAnswer (tampered : List ℕ) (s : ReplayState) (session : ℕ) (call : Call) (reply : Reply) (mark : Mark) (file : Option ℕ) : Type 0 where
+  Answered : IsAnswered s session call reply mark → IsLegalAnswer tampered s session call reply mark file
+  Unavailable : IsUnavailable s session call reply mark file → IsLegalAnswer tampered s session call reply mark file
+  Doubted : IsDoubted s session call reply mark → IsLegalAnswer tampered s session call reply mark file
+  FoundCorrupt : IsFoundCorrupt tampered s session call reply mark file → IsLegalAnswer tampered s session call reply mark file
+  Spent : IsSpent s session call reply mark → IsLegalAnswer tampered s session call reply mark file
 
 abbrev pub is_unchanged : Mark → Bool
 is_unchanged Unchanged = true
@@ -131,20 +131,20 @@ stands_for_doubt (Some doubt) (NotAvailable cause) Unchanged = is_of_card cause
 stands_for_doubt _ _ _ = false
 
 -- the event was given by the object's file, or changed its object
-abbrev pub needs_file : Standing → ℕ → Call → Reply → Mark → Bool
+abbrev pub needs_file : ReplayState → ℕ → Call → Reply → Mark → Bool
 needs_file s session call reply Unchanged = not (stands_for_doubt s.doubt reply Unchanged) && reads_file call (meant_by s session call)
 needs_file s session call reply (Made commit) = true
 needs_file s session call reply (Doubtful commit) = true
 
 -- the file of the object that the call makes is no other object's, and every other call has the file of the object that it names
-abbrev pub IsFileOf : Standing → ℕ → Call → ℕ → Type 0
+abbrev pub IsFileOf : ReplayState → ℕ → Call → ℕ → Type 0
 IsFileOf s session call file = elim (makes_object call (meant_by s session call)) [
   | true ↦ IsFree s.files file
   | false ↦ file_named s.files s.state session call ≡ Some file
 ]
 
 -- Which file the tag of a call's event names.
-pub record IsTagged (s : Standing) (session : ℕ) (call : Call) (reply : Reply) (mark : Mark) (file : Option ℕ) : Type 0 where
+pub record IsTagged (s : ReplayState) (session : ℕ) (call : Call) (reply : Reply) (mark : Mark) (file : Option ℕ) : Type 0 where
   -- its object's
   pub own : (number : ℕ) → file ≡ Some number → IsFileOf s session call number
   -- what needs the file has a tag, where the object has a file
@@ -153,25 +153,25 @@ pub record IsTagged (s : Standing) (session : ℕ) (call : Call) (reply : Reply)
   pub fault : (number : ℕ) → fault_in_reply reply ≡ Some number → file ≡ Some number
 
 -- A call of a declared application, with its tag, may be answered so.
-pub record IsLegalCall (dishonest : List ℕ) (s : Standing) (session : ℕ) (call : Call) (reply : Reply) (mark : Mark) (file : Option ℕ) : Type 0 where
+pub record IsLegalCall (tampered : List ℕ) (s : ReplayState) (session : ℕ) (call : Call) (reply : Reply) (mark : Mark) (file : Option ℕ) : Type 0 where
   pub declared : session < length s.state.sessions
   pub tagged : IsTagged s session call reply mark file
-  pub answer : IsLegalAnswer dishonest s session call reply mark file
+  pub answer : IsLegalAnswer tampered s session call reply mark file
 
 -- A commit lands only while it is in doubt, and its event has no tag.
-pub record IsLegalLanding (s : Standing) (commit : ℕ) (file : Option ℕ) : Type 0 where
+pub record IsLegalLanding (s : ReplayState) (commit : ℕ) (file : Option ℕ) : Type 0 where
   pub doubt : Doubt
   pub is_open : s.doubt ≡ Some doubt
   pub number : commit ≡ doubt.commit
   pub untagged : file ≡ None
 
 -- the ways in which an event may stand where the replay does
-abbrev pub IsLegalEvent : List ℕ → Standing → Event → Option ℕ → Type 0
-IsLegalEvent dishonest s (CallEvent session number call reply mark) file = IsLegalCall dishonest s session call reply mark file
-IsLegalEvent dishonest s (Landed commit) file = IsLegalLanding s commit file
+abbrev pub IsLegalEvent : List ℕ → ReplayState → Event → Option ℕ → Type 0
+IsLegalEvent tampered s (CallEvent session number call reply mark) file = IsLegalCall tampered s session call reply mark file
+IsLegalEvent tampered s (Landed commit) file = IsLegalLanding s commit file
 
 -- each event is legal where the replay of those before it stands
-abbrev pub IsLegalFrom : {Root : Type 0} → List ℕ → Standing → List (Record Root) → Type 0
-IsLegalFrom dishonest s [] = Unit {0}
-IsLegalFrom dishonest s (r ∷ records) =
-    IsLegalEvent dishonest s r.event (file_of r) × IsLegalFrom dishonest (standing_after s r.event (file_of r)) records
+abbrev pub IsLegalFrom : {Root : Type 0} → List ℕ → ReplayState → List (Record Root) → Type 0
+IsLegalFrom tampered s [] = Unit {0}
+IsLegalFrom tampered s (r ∷ records) =
+    IsLegalEvent tampered s r.event (file_of r) × IsLegalFrom tampered (replay_after s r.event (file_of r)) records

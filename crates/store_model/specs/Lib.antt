@@ -14,7 +14,7 @@ pub mod History
 pub mod Record
 pub mod Files
 pub mod Doubt
-pub mod Standing
+pub mod ReplayState
 pub mod Legal
 pub mod Damage
 pub mod LegalHistory

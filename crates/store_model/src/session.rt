@@ -4,10 +4,7 @@ use crate::name::ObjectName;
 use enumerators::{Cursor, EnumFault, Enumerators, place_of};
 use std::alloc::Global;
 use std::marker::Model;
-use tee_types::{AppId, Flags, NoMemory, ObjectId};
-
-/// The greatest number of live handles of a session.
-pub const MAX_HANDLES: usize = 1_024;
+use tee_types::{AppId, Flags, MAX_HANDLES, NoMemory, ObjectId};
 
 /// An open handle: the object that it stands for, its rights, and its position in the object's data.
 #[derive(Clone, Copy, Debug)]

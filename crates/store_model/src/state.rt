@@ -13,9 +13,6 @@ use std::collections::BTreeMap;
 use std::marker::Model;
 use tee_types::{AppId, Call, NoMemory, ObjectId, Reply};
 
-/// The greatest number of objects of the store.
-pub const MAX_OBJECTS: usize = 256;
-
 /// The store on one thread: its objects, and a session for each of its applications.
 /// A contract sees it as the state of the machine.
 #[derive(Drop)]

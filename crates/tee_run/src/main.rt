@@ -2,9 +2,8 @@
 //! prints the history of calls and replies.
 #![tactic(auto)]
 
-use bench_run::{RunEnd, Status, run, status_number, status_text};
+use script_runner::{RunEnd, Status, blank_bench, run, simulator_keys, status_number, status_text};
 use seed_words::SeedEntropy;
-use sim_bench::{blank_bench, simulator_keys};
 use std::env::Env;
 use std::process::ExitCode;
 use std::sync::Wait;

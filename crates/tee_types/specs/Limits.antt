@@ -1,5 +1,6 @@
--- How large a part of an object may be, and how many files hold objects. The identifier's limit is the standard's
--- (TEE Internal Core API, Trusted Storage: TEE_OBJECT_ID_MAX_LEN); the others are this store's.
+-- How large a part of an object may be, how many there are of each thing, and how far numbers go. The limits of identifiers and of
+-- positions are the standard's (TEE Internal Core API, Trusted Storage: TEE_OBJECT_ID_MAX_LEN, TEE_DATA_MAX_POSITION); the others are this
+-- store's.
 use Rattle.std.specs.Prelude.{ℕ}
 
 abbrev pub most_identifier_bytes : ℕ
@@ -15,3 +16,28 @@ most_data_bytes = 1044480
 -- files of objects are numbered from 1 on
 abbrev pub last_file : ℕ
 last_file = 272
+
+-- file 0 is the directory's
+abbrev pub file_count : ℕ
+file_count = 273
+
+abbrev pub most_objects : ℕ
+most_objects = 256
+
+abbrev pub most_sessions : ℕ
+most_sessions = 16
+
+abbrev pub most_handles : ℕ
+most_handles = 1024
+
+abbrev pub most_enumerators : ℕ
+most_enumerators = 64
+
+abbrev pub greatest_position : ℕ
+greatest_position = 4294967295
+
+abbrev pub most_script_bytes : ℕ
+most_script_bytes = 16777216
+
+abbrev pub most_applications : ℕ
+most_applications = 16

@@ -1,11 +1,14 @@
 //! The constants are the numbers of the definitions. No code.
 
 ghost use Rattle.std.specs.Prelude.{◌≡◌};
-ghost use Rattle.tee_types.specs.Limits.{most_identifier_bytes, most_attribute_bytes, most_data_bytes, last_file};
+ghost use Rattle.tee_types.specs.Limits.{most_identifier_bytes, most_attribute_bytes, most_data_bytes, last_file, file_count, most_objects, most_sessions, most_handles, most_enumerators, greatest_position, most_script_bytes, most_applications};
 ghost use Rattle.tee_types.specs.Rights.{read_bit, write_bit, write_meta_bit, share_read_bit, share_write_bit, overwrite_bit};
 
 use crate::flags::{OVERWRITE, READ, SHARE_READ, SHARE_WRITE, WRITE, WRITE_META};
-use crate::limits::{MAX_ATTRIBUTES, MAX_DATA, MAX_FILE, MAX_IDENTIFIER};
+use crate::limits::{
+    FILES, MAX_APPLICATIONS, MAX_ATTRIBUTES, MAX_DATA, MAX_ENUMERATORS, MAX_FILE, MAX_HANDLES,
+    MAX_IDENTIFIER, MAX_OBJECTS, MAX_POSITION, MAX_SCRIPT, MAX_SESSIONS,
+};
 
 /// The flags' bits are the standard's.
 pub fn flags_have_their_bits()
@@ -23,4 +26,12 @@ pub fn limits_have_their_values()
     ensures attributes { MAX_ATTRIBUTES ≡ most_attribute_bytes }
     ensures bytes { MAX_DATA ≡ most_data_bytes }
     ensures file { MAX_FILE ≡ last_file }
+    ensures files { FILES ≡ file_count }
+    ensures objects { MAX_OBJECTS ≡ most_objects }
+    ensures sessions { MAX_SESSIONS ≡ most_sessions }
+    ensures handles { MAX_HANDLES ≡ most_handles }
+    ensures enumerators { MAX_ENUMERATORS ≡ most_enumerators }
+    ensures position { MAX_POSITION ≡ greatest_position }
+    ensures script { MAX_SCRIPT ≡ most_script_bytes }
+    ensures applications { MAX_APPLICATIONS ≡ most_applications }
 {}

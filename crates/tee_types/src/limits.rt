@@ -1,4 +1,4 @@
-//! How large a part of an object may be, and how many files hold objects.
+//! How large a part of an object may be, how many there are of each thing, and how far numbers go.
 
 /// The greatest number of bytes of an identifier (TEE_OBJECT_ID_MAX_LEN).
 pub const MAX_IDENTIFIER: usize = 64;
@@ -11,3 +11,27 @@ pub const MAX_DATA: usize = 1_044_480;
 
 /// The number of the last file of an object; the first is 1.
 pub const MAX_FILE: u16 = 272;
+
+/// The number of files of a store: that of the directory, which is file 0, and those of objects.
+pub const FILES: usize = 273;
+
+/// The greatest number of objects of a store.
+pub const MAX_OBJECTS: usize = 256;
+
+/// The greatest number of sessions of a store that is mounted.
+pub const MAX_SESSIONS: usize = 16;
+
+/// The greatest number of handles that a session may have open.
+pub const MAX_HANDLES: usize = 1_024;
+
+/// The greatest number of enumerators that a session may have.
+pub const MAX_ENUMERATORS: usize = 64;
+
+/// The greatest position of a handle (TEE_DATA_MAX_POSITION).
+pub const MAX_POSITION: u64 = 0xffff_ffff;
+
+/// The greatest number of bytes of a script.
+pub const MAX_SCRIPT: usize = 16_777_216;
+
+/// The greatest number of applications that a script may declare.
+pub const MAX_APPLICATIONS: u32 = 16;

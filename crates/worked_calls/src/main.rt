@@ -1,23 +1,29 @@
 //! Calls functions of the lower crates with values that were worked out elsewhere, and prints a line a call: the crate, what was called, and
 //! what it gave. What it prints is compared with `stdout`, which was written by hand.
 //!
-//! No contract says that it means what was meant, that anything meets what a call requires, or that memory is left. So each function is
-//! called here where it succeeds: first those on bytes, trees and ciphers, then what keeps a state (the card and its host, sources, sinks
-//! and entropy, byte strings, calls and replies, and the tables of sessions and the directory).
+//! No contract says that it means what was meant, that anything meets what a call requires, or that memory is left, and no proof shows that
+//! threads come to their end. So each function is called here where it succeeds: first those on bytes, trees and ciphers, then what keeps a
+//! state (the card and its host, sources, sinks and entropy, byte strings, calls and replies, and the tables of sessions and the directory),
+//! then histories, written by seats, from eight threads too. The laws of the core machine hold whatever stands for a version in a history's
+//! tags; here one kind does.
 #![tactic(auto)]
-
-use report::Report;
 
 mod cards;
 mod ciphers;
+mod doubts;
 mod fields;
 mod pages;
+mod places;
 mod ports;
 mod records;
 mod report;
 mod tables;
+mod threads;
 mod trees;
 mod words;
+
+use crash_core::{every_picture_mounts, honest_pictures_mount, openings_are_starts};
+use report::Report;
 
 // The calls whose results follow from their arguments alone.
 fn print_values(rt: &HostRuntime, report: &mut Report) -> anyhow::Result<()> {
@@ -43,8 +49,19 @@ fn print_states(rt: &HostRuntime, report: &mut Report) -> anyhow::Result<()> {
     Ok(())
 }
 
+// The laws of the core machine, at one kind of version.
+fn cite_core_laws() {
+    every_picture_mounts::<u8>();
+    honest_pictures_mount::<u8>();
+    openings_are_starts::<u8>();
+}
+
 fn main(rt: HostRuntime) -> anyhow::Result<()> {
     let mut report = Report::new(rt.alloc());
     print_values(&rt, &mut report)?;
-    print_states(&rt, &mut report)
+    print_states(&rt, &mut report)?;
+    cite_core_laws();
+    places::print(&rt, rt.alloc())?;
+    doubts::print(&rt, rt.alloc())?;
+    threads::print(&rt, rt.alloc())
 }

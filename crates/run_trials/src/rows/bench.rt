@@ -3,10 +3,10 @@
 ghost use Rattle.std.specs.Prelude.{◌≡◌, vec_len, IfOk};
 
 use crate::rows::settings::Settings;
-use object_calls::FILES;
 use rpmb_card::CardRig;
-use sim_bench::{SimBench, blank_bench, worn};
+use script_runner::{SimBench, blank_bench, worn};
 use std::alloc::Global;
+use tee_types::FILES;
 
 // The bench that the row before left, or devices that were never used.
 fn first_bench(

@@ -1,6 +1,6 @@
 // How a run ends, in the words of a row.
 
-use bench_run::{Excess, Status};
+use script_runner::{Excess, Status};
 use std::alloc::{AllocError, Global};
 
 /// A status in the words of a row.

@@ -1,8 +1,7 @@
 // The lines of replies and controls that no row has.
 
 use anyhow::Context;
-use run_text::{print_control, print_event, print_phase};
-use script_text::{Control, Mode, Script, parse};
+use script_text::{Control, Mode, Script, parse, print_control, print_event, print_phase};
 use std::alloc::Global;
 use store_model::{Event, Mark};
 use tee_types::{Call, Cause, Code, Device, FrameFault, NoMemory, Reason, Reply};

@@ -3,9 +3,8 @@
 use crate::rows::bench::bench_for;
 use crate::rows::ends::status_text;
 use crate::rows::row::Row;
-use bench_run::{RunEnd, Status, run};
+use script_runner::{RunEnd, SimBench, Status, run, simulator_keys};
 use seed_words::SeedEntropy;
-use sim_bench::{SimBench, simulator_keys};
 use std::alloc::{AllocError, Global};
 use std::sync::Wait;
 use std::thread::Threads;

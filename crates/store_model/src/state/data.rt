@@ -8,10 +8,9 @@ use crate::name::ObjectName;
 use crate::session::Handle;
 use crate::state::State;
 use std::alloc::Global;
-use tee_types::{Bytes, Code, MAX_DATA, NoMemory, READ, Reason, Reply, WRITE, Whence};
-
-/// The greatest position of a handle.
-const MAX_POSITION: u64 = 0xffff_ffff;
+use tee_types::{
+    Bytes, Code, MAX_DATA, MAX_POSITION, NoMemory, READ, Reason, Reply, WRITE, Whence,
+};
 
 impl State {
     ghost use Rattle.std.specs.Prelude.{◌≡◌, ◌<◌, ◌≤◌, ◌+◌, ℕ, List, [], length, IfOk, OnOk, OnErr, Some};

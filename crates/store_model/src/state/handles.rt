@@ -2,10 +2,11 @@
 
 use crate::name::ObjectName;
 use crate::object::StoredObject;
-use crate::state::{MAX_OBJECTS, State};
+use crate::state::State;
 use std::alloc::Global;
 use tee_types::{
-    Bytes, Code, Flags, MAX_ATTRIBUTES, MAX_DATA, NoMemory, OVERWRITE, ObjectId, Reason, Reply,
+    Bytes, Code, Flags, MAX_ATTRIBUTES, MAX_DATA, MAX_OBJECTS, NoMemory, OVERWRITE, ObjectId,
+    Reason, Reply,
 };
 
 impl State {

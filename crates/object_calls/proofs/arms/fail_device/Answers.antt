@@ -1,8 +1,8 @@
 use Rattle.std.proofs.Common.{◌≡◌, ◌-◌, ◌∷◌, ap, get_or, subst, sym, arith}
 use Rattle.std.specs.Prelude.{slice_set}
 use Rattle.disk_model.specs.Controls.{failure_armed}
-use Rattle.object_calls.specs.Arming.{FailsOnBench, IsOnBench, StayDevices}
-use Rattle.object_calls.specs.Files.{files_of}
+use Rattle.object_calls.specs.OpeningArms.{FailsOnBench, IsOnBench, StayDevices}
+use Rattle.object_calls.specs.OpeningFiles.{files_of}
 use Rattle.object_calls.proofs.Rearming.{on_err, on_ok, one_armed, one_stays}
 use Rattle.object_calls.proofs.arms.fail_device.Goals as goal
 

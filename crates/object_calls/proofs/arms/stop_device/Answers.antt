@@ -1,7 +1,7 @@
 use Rattle.std.proofs.Common.{◌-◌, ◌∷◌, ap, get_or, subst, sym, arith}
 use Rattle.disk_model.specs.Controls.{stop_armed}
-use Rattle.object_calls.specs.Arming.{IsOnBench, StopsOnBench}
-use Rattle.object_calls.specs.Files.{files_of}
+use Rattle.object_calls.specs.OpeningArms.{IsOnBench, StopsOnBench}
+use Rattle.object_calls.specs.OpeningFiles.{files_of}
 use Rattle.object_calls.proofs.Rearming.{one_armed}
 use Rattle.std.specs.Prelude.{slice_set}
 use Rattle.object_calls.proofs.arms.stop_device.Goals as goal

@@ -2,8 +2,8 @@ use Rattle.std.proofs.Common.{◌≡◌, ◌-◌, ◌∷◌, ap, get_or, subst, 
 use Rattle.std.specs.Prelude.{slice_set}
 use Rattle.disk_model.specs.Arms.{Taint}
 use Rattle.disk_model.specs.Controls.{taint_armed}
-use Rattle.object_calls.specs.Arming.{TaintsOnBench, IsFileOnBench, StayDevices}
-use Rattle.object_calls.specs.Files.{files_of}
+use Rattle.object_calls.specs.OpeningArms.{TaintsOnBench, IsFileOnBench, StayDevices}
+use Rattle.object_calls.specs.OpeningFiles.{files_of}
 use Rattle.object_calls.proofs.Rearming.{on_err, on_ok, one_armed, one_stays}
 use Rattle.object_calls.proofs.arms.taint_device.Goals as goal
 

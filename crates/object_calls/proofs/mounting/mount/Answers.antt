@@ -4,7 +4,7 @@ use Rattle.store_commit.specs.Causes.{counts}
 use Rattle.store_commit.specs.Mounts.{HasRootRead}
 use Rattle.store_commit.specs.Reads.{IsRootRead}
 use Rattle.object_calls.specs.Begins.{IsWholeOpening, MountsAsRead}
-use Rattle.object_calls.specs.Files.{files_of, object_files}
+use Rattle.object_calls.specs.OpeningFiles.{files_of, object_files}
 use Rattle.object_calls.specs.Opening.{IsOpening, OpeningValue, bench_files, entries_in}
 use Rattle.object_calls.specs.Syncing.{StopsSyncing, SyncsNamed}
 use Rattle.object_calls.proofs.EntriesOf.{file_from_one}

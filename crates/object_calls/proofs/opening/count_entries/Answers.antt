@@ -1,4 +1,4 @@
-use Rattle.object_calls.proofs.Counting.{count_none}
+use Rattle.object_calls.proofs.EntryCounting.{count_none}
 use Rattle.object_calls.proofs.opening.count_entries.Goals as goal
 
 pub loop-index-init : goal.loop-index-init

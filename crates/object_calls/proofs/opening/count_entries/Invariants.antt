@@ -1,4 +1,4 @@
-use Rattle.object_calls.proofs.Counting.{IsCount}
+use Rattle.object_calls.proofs.EntryCounting.{IsCount}
 use Rattle.object_calls.proofs.opening.count_entries.Given as goal
 
 abbrev pub invariant-loop-index : goal.invariant-loop-index

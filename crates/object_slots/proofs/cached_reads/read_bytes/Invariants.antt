@@ -3,8 +3,8 @@ use Rattle.disk_model.specs.Calls.{Rests}
 use Rattle.htree_file.specs.Answers.{FilePassed}
 use Rattle.page_bytes.specs.Ranges.{first_block}
 use Rattle.block_file.specs.Parts.{AreRead}
-use Rattle.object_slots.specs.Pages.{AreKept}
-use Rattle.object_slots.specs.Reads.{AsksAtMost}
+use Rattle.object_slots.specs.CachedPages.{AreKept}
+use Rattle.object_slots.specs.SlotReads.{AsksAtMost}
 use Rattle.object_slots.proofs.cached_reads.read_bytes.Given as goal
 
 abbrev pub invariant-loop-k : goal.invariant-loop-k

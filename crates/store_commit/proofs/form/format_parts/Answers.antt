@@ -10,7 +10,7 @@ use Rattle.rpmb_host.specs.Honest.{HasCard, card_write}
 use Rattle.crash_core.specs.CardBlock.{root_block}
 use Rattle.crash_core.specs.DeviceKeys.{directory_key}
 use Rattle.dir_file.specs.EntryForms.{no_entries}
-use Rattle.dir_file.specs.Held.{IsHeld}
+use Rattle.dir_file.specs.Held.{IsDurable}
 use Rattle.store_commit.specs.Causes.{counts}
 use Rattle.store_commit.specs.Counts.{NoneRose, RefusalCounts, RefusalNotDrawn, RefusalNotOfCard}
 use Rattle.store_commit.specs.Formats.{FormatHeard, FormatRefused, Formats, IsFormatRefused, IsFormatWritten, LeavesFormat}
@@ -36,9 +36,9 @@ returns-in-Ok-write_block-clause-made g c =
     let told : (card : CardState) → HasCard (port c.args.card) key card → card.counter ≡ c.in-Ok.counter =
     λ card has. subst (λ h. (x : CardState) → HasCard (port h.port) h.key x → x.counter ≡ c.in-Ok.counter) c.new-host.ensures c.in-Ok.ensures.told card
     (has_still (port c.args.card) (port c.args.card) key c.rpmb_key.result card refl c.rpmb_key.ensures has) in
-    let held : IsTrue (state c.into_file-file.result).honest → IsHeld (state c.into_file-file.result) (directory_key keys) c.in-Ok-make.root c.in-Ok-make.made.dir.tree no_entries =
-    subst (λ f. IsTrue (state f).honest → IsHeld (state f) (directory_key keys) c.in-Ok-make.root c.in-Ok-make.made.dir.tree no_entries) (sym c.into_file-file.ensures)
-    (subst (λ (t : List ℕ). IsTrue (state c.in-Ok-make.made.file).honest → IsHeld (state c.in-Ok-make.made.file) t c.in-Ok-make.root c.in-Ok-make.made.dir.tree no_entries) tsk_is m.held) in
+    let held : IsTrue (state c.into_file-file.result).honest → IsDurable (state c.into_file-file.result) (directory_key keys) c.in-Ok-make.root c.in-Ok-make.made.dir.tree no_entries =
+    subst (λ f. IsTrue (state f).honest → IsDurable (state f) (directory_key keys) c.in-Ok-make.root c.in-Ok-make.made.dir.tree no_entries) (sym c.into_file-file.ensures)
+    (subst (λ (t : List ℕ). IsTrue (state c.in-Ok-make.made.file).honest → IsDurable (state c.in-Ok-make.made.file) t c.in-Ok-make.root c.in-Ok-make.made.dir.tree no_entries) tsk_is m.held) in
     let unspent : c.in-Ok.counter ≢ last_counter = c.if-counter.false in
     subst (λ r. Formats (state c.into_file-file.result) (port c.args.card) (port r) keys) (sym c.into_port.ensures)
     (formats (state c.into_file-file.result) (port c.args.card) (port c.read_counter.new.host.port) (port c.write_block.new.self.port) keys c.read_counter.new.host.key c.write_block.new.self.key
@@ -60,9 +60,9 @@ returns-in-Err-write_block-clause-left g c =
     let told : (card : CardState) → HasCard (port c.args.card) key card → card.counter ≡ c.in-Ok.counter =
     λ card has. subst (λ h. (x : CardState) → HasCard (port h.port) h.key x → x.counter ≡ c.in-Ok.counter) c.new-host.ensures c.in-Ok.ensures.told card
     (has_still (port c.args.card) (port c.args.card) key c.rpmb_key.result card refl c.rpmb_key.ensures has) in
-    let held : IsTrue (state c.into_file-file.result).honest → IsHeld (state c.into_file-file.result) (directory_key keys) c.in-Ok-make.root c.in-Ok-make.made.dir.tree no_entries =
-    subst (λ f. IsTrue (state f).honest → IsHeld (state f) (directory_key keys) c.in-Ok-make.root c.in-Ok-make.made.dir.tree no_entries) (sym c.into_file-file.ensures)
-    (subst (λ (t : List ℕ). IsTrue (state c.in-Ok-make.made.file).honest → IsHeld (state c.in-Ok-make.made.file) t c.in-Ok-make.root c.in-Ok-make.made.dir.tree no_entries) tsk_is m.held) in
+    let held : IsTrue (state c.into_file-file.result).honest → IsDurable (state c.into_file-file.result) (directory_key keys) c.in-Ok-make.root c.in-Ok-make.made.dir.tree no_entries =
+    subst (λ f. IsTrue (state f).honest → IsDurable (state f) (directory_key keys) c.in-Ok-make.root c.in-Ok-make.made.dir.tree no_entries) (sym c.into_file-file.ensures)
+    (subst (λ (t : List ℕ). IsTrue (state c.in-Ok-make.made.file).honest → IsDurable (state c.in-Ok-make.made.file) t c.in-Ok-make.root c.in-Ok-make.made.dir.tree no_entries) tsk_is m.held) in
     let unspent : c.in-Ok.counter ≢ last_counter = c.if-counter.false in
     subst (λ r. LeavesFormat (state c.into_file-file.result) (port c.args.card) (port r) keys) (sym c.into_port-card-in-Err-write_block.ensures)
     (leaves_format (state c.into_file-file.result) (port c.args.card) (port c.read_counter.new.host.port) (port c.write_block.new.self.port) keys c.read_counter.new.host.key c.write_block.new.self.key
@@ -154,9 +154,9 @@ returns-in-Ok-write_block-clause-written g c =
     let p2 = port c.write_block.new.self.port in
     let made = write_made c.read_counter.new.host.key c.root_block.result c.in-Ok.counter c.in-Ok-make.root p1 p2 c.root_block.ensures c.in-Ok-write_block.field-0 (w.exchanged unspent) (w.answer unspent) in
     let tsk_is : c.dir_tsk-tsk.result ≡ directory_key keys = c.dir_tsk-tsk.ensures ∙ ap dir_tsk c.ssk.ensures in
-    let held : IsTrue (state c.into_file-file.result).honest → IsHeld (state c.into_file-file.result) (directory_key keys) c.in-Ok-make.root c.in-Ok-make.made.dir.tree no_entries =
-    subst (λ f. IsTrue (state f).honest → IsHeld (state f) (directory_key keys) c.in-Ok-make.root c.in-Ok-make.made.dir.tree no_entries) (sym c.into_file-file.ensures)
-    (subst (λ (t : List ℕ). IsTrue (state c.in-Ok-make.made.file).honest → IsHeld (state c.in-Ok-make.made.file) t c.in-Ok-make.root c.in-Ok-make.made.dir.tree no_entries) tsk_is m.held) in
+    let held : IsTrue (state c.into_file-file.result).honest → IsDurable (state c.into_file-file.result) (directory_key keys) c.in-Ok-make.root c.in-Ok-make.made.dir.tree no_entries =
+    subst (λ f. IsTrue (state f).honest → IsDurable (state f) (directory_key keys) c.in-Ok-make.root c.in-Ok-make.made.dir.tree no_entries) (sym c.into_file-file.ensures)
+    (subst (λ (t : List ℕ). IsTrue (state c.in-Ok-make.made.file).honest → IsDurable (state c.in-Ok-make.made.file) t c.in-Ok-make.root c.in-Ok-make.made.dir.tree no_entries) tsk_is m.held) in
     subst (λ r. IsFormatWritten (state c.into_file-file.result) p0 (port r) keys) (sym c.into_port.ensures)
     (record {
       root = c.in-Ok-make.root;

@@ -1,7 +1,7 @@
 use Rattle.std.proofs.Common.{◌≡◌, ◌≤◌, ◌∙◌, ◌∷◌, ◌++◌, List, length, take, drop, Some, Err, Ok, refl, sym, ap, subst}
 use Rattle.std.proofs.lemmas.Result.{err_from_is_err_and}
 use Rattle.hmac_keys.specs.KeyTable.{tsk}
-use Rattle.object_calls.specs.Files.{files_of, object_files}
+use Rattle.object_calls.specs.OpeningFiles.{files_of, object_files}
 use Rattle.object_calls.specs.Next.{MapStays, NextAnswer, ReadsObject}
 use Rattle.object_calls.specs.Opening.{IsOpening, bench_files, entries_in}
 use Rattle.object_calls.proofs.EntriesOf.{form_at}

@@ -1,9 +1,9 @@
 use Rattle.std.proofs.Common.{◌≡◌, ◌∙◌, ◌∷◌, length, sym, subst}
 use Rattle.crash_core.specs.Opening.{opening_map, reads_of}
-use Rattle.object_calls.specs.Files.{files_of}
+use Rattle.object_calls.specs.OpeningFiles.{files_of}
 use Rattle.object_calls.specs.ObjectMaps.{OpensObjectMap}
 use Rattle.object_calls.specs.Opening.{OpeningValue, bench_files, entries_in}
-use Rattle.object_calls.proofs.Counting.{length-map_of}
+use Rattle.object_calls.proofs.EntryCounting.{length-map_of}
 use Rattle.object_calls.proofs.EntriesOf.{distinct_names, form_at}
 use Rattle.object_calls.proofs.ObjectMaps.{map_sound, opening_few}
 use Rattle.object_calls.proofs.opening.Opening.objects.Goals as goal

@@ -1,6 +1,6 @@
 use Rattle.std.proofs.Common.{◌≡◌, ◌∙◌, ◌∷◌, ℕ, List, length, sym, subst}
 use Rattle.disk_model.specs.State.{pending}
-use Rattle.object_calls.specs.Files.{files_of}
+use Rattle.object_calls.specs.OpeningFiles.{files_of}
 use Rattle.object_calls.specs.Opening.{IsOpening}
 use Rattle.object_calls.proofs.Files.{refilled}
 use Rattle.object_calls.proofs.Rearming.{stays_open, taints_pending}

@@ -1,6 +1,6 @@
 use Rattle.std.proofs.Common.{arith, subst}
-use Rattle.object_calls.specs.Files.{files_of}
-use Rattle.object_calls.specs.Finished.{GivesBack, HaveCounted, LeavesStore}
+use Rattle.object_calls.specs.OpeningFiles.{files_of}
+use Rattle.object_calls.specs.FinishedPhase.{GivesBack, HaveCounted, LeavesStore}
 use Rattle.object_calls.specs.Services.{ServiceValue}
 use Rattle.object_calls.proofs.LeftStores.{gives_back}
 use Rattle.object_calls.proofs.service.Service.finish.Goals as goal

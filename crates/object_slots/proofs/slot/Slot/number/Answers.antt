@@ -1,6 +1,6 @@
 use Rattle.std.proofs.Common.{ap, subst}
 use Rattle.disk_model.specs.State.{FileState, Sound}
-use Rattle.object_slots.specs.Value.{SlotValue}
+use Rattle.object_slots.specs.SlotValues.{SlotValue}
 use Rattle.object_slots.proofs.ContentLaws.{sound_of}
 use Rattle.object_slots.proofs.slot.Slot.number.Goals as goal
 

@@ -1,6 +1,6 @@
 use Rattle.std.proofs.Common.{◌≡◌}
-use Rattle.device_counts.specs.Devices.{Grows}
-use Rattle.shared_parts.specs.Rounds.{IsWaiting}
+use Rattle.shared_calls.specs.Devices.{Grows}
+use Rattle.shared_calls.specs.Attempts.{IsWaiting}
 use Rattle.shared_store.proofs.store.SharedStore.call.Given as goal
 
 abbrev pub invariant-loop : goal.invariant-loop

@@ -7,7 +7,7 @@ use Rattle.rpmb_host.specs.declared.fault.HostFault.{HostFault}
 use Rattle.crash_core.specs.CardBlock.{root_in}
 use Rattle.crash_core.specs.DeviceKeys.{directory_key}
 use Rattle.crash_core.specs.Directory.{directory_of}
-use Rattle.dir_file.specs.Held.{IsHeld}
+use Rattle.dir_file.specs.Held.{IsDurable}
 use Rattle.dir_file.specs.Loading.{IsOutsideDir, IsReadDirectory}
 use Rattle.dir_file.specs.Refusals.{DirDiffers}
 use Rattle.store_commit.specs.declared.fault.MountFault.TheVariants.{NoMemory}
@@ -38,8 +38,8 @@ new-requires g c =
     let tells : (card : CardState) → HasCard (port c.args.card) key card → Tells card c.in-Ok.read.counter c.in-Ok.read.block =
     λ card has. subst (λ h. (x : CardState) → HasCard (port h.port) h.key x → Tells x c.in-Ok.read.counter c.in-Ok.read.block) c.new-host.ensures c.in-Ok.ensures.told card
     (has_still (port c.args.card) (port c.args.card) key c.rpmb_key.result card refl c.rpmb_key.ensures has) in
-    let held : IsTrue (state d.file).honest → IsHeld (state d.file) (directory_key keys) c.in-Ok-root_in.root d.dir.tree d.dir.entries =
-    subst (λ (t : List ℕ). IsTrue (state d.file).honest → IsHeld (state d.file) t c.in-Ok-root_in.root d.dir.tree d.dir.entries) tsk_is o.held in
+    let held : IsTrue (state d.file).honest → IsDurable (state d.file) (directory_key keys) c.in-Ok-root_in.root d.dir.tree d.dir.entries =
+    subst (λ (t : List ℕ). IsTrue (state d.file).honest → IsDurable (state d.file) t c.in-Ok-root_in.root d.dir.tree d.dir.entries) tsk_is o.held in
     record {
       settled = gate_settled (state c.args.dir) (port c.args.card) (port c.read_card.new.host.port) keys c.read_card.new.host.key c.in-Ok.read.counter c.in-Ok.read.block c.in-Ok-root_in.root
           (state d.file) d.dir stays key_is tells c.in-Ok-root_in.ensures.answer c.in-Ok-root_in.ensures.form o.root o.idle (o.tsk ∙ tsk_is) o.entries held;
@@ -59,8 +59,8 @@ returns-in-Ok-open_directory-clause-opens g c =
     let tells : (card : CardState) → HasCard (port c.args.card) key card → Tells card c.in-Ok.read.counter c.in-Ok.read.block =
     λ card has. subst (λ h. (x : CardState) → HasCard (port h.port) h.key x → Tells x c.in-Ok.read.counter c.in-Ok.read.block) c.new-host.ensures c.in-Ok.ensures.told card
     (has_still (port c.args.card) (port c.args.card) key c.rpmb_key.result card refl c.rpmb_key.ensures has) in
-    let held : IsTrue (state d.file).honest → IsHeld (state d.file) (directory_key keys) c.in-Ok-root_in.root d.dir.tree d.dir.entries =
-    subst (λ (t : List ℕ). IsTrue (state d.file).honest → IsHeld (state d.file) t c.in-Ok-root_in.root d.dir.tree d.dir.entries) tsk_is o.held in
+    let held : IsTrue (state d.file).honest → IsDurable (state d.file) (directory_key keys) c.in-Ok-root_in.root d.dir.tree d.dir.entries =
+    subst (λ (t : List ℕ). IsTrue (state d.file).honest → IsDurable (state d.file) t c.in-Ok-root_in.root d.dir.tree d.dir.entries) tsk_is o.held in
     let directory : Told (state c.args.dir) (state d.file) → directory_of (directory_key keys) (state d.file).reads c.in-Ok-root_in.root ≡ Ok d.dir.entries =
     subst (λ (t : List ℕ). Told (state c.args.dir) (state d.file) → directory_of t (state d.file).reads c.in-Ok-root_in.root ≡ Ok d.dir.entries) tsk_is o.directory in
     let read : IsCardRead key (port c.args.card) (port c.read_card.new.host.port) c.in-Ok.read.counter c.in-Ok.read.block =

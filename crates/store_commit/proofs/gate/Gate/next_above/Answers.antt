@@ -1,5 +1,5 @@
 use Rattle.std.proofs.Common.{subst}
-use Rattle.store_commit.specs.NameIndex.{IsNextAbove}
+use Rattle.dir_index.specs.EntryNames.{IsNextAbove}
 use Rattle.store_commit.proofs.Looking.{above_entry}
 use Rattle.store_commit.proofs.gate.Gate.next_above.Goals as goal
 

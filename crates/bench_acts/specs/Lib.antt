@@ -1,6 +1,0 @@
-pub mod Benches
-pub mod Crashes
-pub mod ListedBenches
-pub mod Listings
-pub mod Mounts
-pub mod Opens

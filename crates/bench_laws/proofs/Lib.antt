@@ -1,9 +1,0 @@
-pub mod Replays
-pub mod Crashed
-pub mod Opened
-pub mod PhasesLeft
-pub mod Mounted
-pub mod Listed
-pub mod Untold
-pub mod QuietPhases
-pub mod NotRefused

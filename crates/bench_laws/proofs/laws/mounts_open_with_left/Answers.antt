@@ -1,5 +1,0 @@
-use Rattle.bench_laws.proofs.Mounted.{mounts_open_with_left}
-use Rattle.bench_laws.proofs.laws.mounts_open_with_left.Goals as goal
-
-pub returns : goal.returns
-returns g c = mounts_open_with_left g.F.StoreFile.state g.R.RpmbPort.state

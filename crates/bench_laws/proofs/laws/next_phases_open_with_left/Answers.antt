@@ -1,5 +1,0 @@
-use Rattle.bench_laws.proofs.Mounted.{next_phases_open_with_left}
-use Rattle.bench_laws.proofs.laws.next_phases_open_with_left.Goals as goal
-
-pub returns : goal.returns
-returns g c = next_phases_open_with_left g.F.StoreFile.state g.R.RpmbPort.state (g.E.Entropy.is_reliable c.args.entropy.now)

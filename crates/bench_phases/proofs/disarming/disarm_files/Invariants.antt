@@ -1,5 +1,0 @@
-use Rattle.bench_phases.proofs.Disarmed.{AreDisarmedBelow}
-use Rattle.bench_phases.proofs.disarming.disarm_files.Given as goal
-
-abbrev pub invariant-loop-file : goal.invariant-loop-file
-invariant-loop-file g l = AreDisarmedBelow g.F.StoreFile.state l.initial.files l.files l.file-index

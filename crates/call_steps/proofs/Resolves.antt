@@ -1,0 +1,32 @@
+-- How the settling of a commit in doubt went.
+use Rattle.std.proofs.Common.{◌≡◌, ℕ, true, false, true≢false, Bool, not, is_some, Option, Some, None, IfSome, refl, sym, ap, ◌∙◌, subst, option_map}
+use Rattle.history_seats.specs.Views.{GateView}
+use Rattle.core_laws.specs.Stores.{Store}
+use Rattle.commit_gate.specs.CallerSessions.{CallerSession, IsCallerOf, session_value}
+use Rattle.commit_gate.specs.SessionViews.{BeginsAll, SeesAll}
+use Rattle.commit_gate.proofs.ShownViews.{shown_extend}
+use Rattle.commit_gate.specs.declared.Doubted.{Doubted}
+use Rattle.call_steps.specs.Seen.{GoesOn}
+
+-- what the doubt's number tells of the doubt
+pub none-there : (o : Option Doubted) (number : Option ℕ) (none : Bool) → number ≡ option_map (λ (d : Doubted). d.number) o → is_some number ≡ not none → none ≡ true → o ≡ None
+none-there None number none is some holds = refl
+none-there (Some d) number none is some holds = absurd (true≢false (ap is_some (sym is) ∙ some ∙ ap not holds))
+
+pub some-there : (o : Option Doubted) (number : Option ℕ) (none : Bool) → number ≡ option_map (λ (d : Doubted). d.number) o → is_some number ≡ not none → none ≡ false
+    → (d : Doubted) × (o ≡ Some d)
+some-there None number none is some not_none = absurd (true≢false (sym (ap is_some (sym is) ∙ some ∙ ap not not_none)))
+some-there (Some d) number none is some not_none = (d, refl)
+
+pub if-some : (o : Option Doubted) (P Q : Doubted → Type 0) → IfSome o P → ((d : Doubted) → o ≡ Some d → P d → Q d) → IfSome o Q
+if-some None P Q h gives = tt
+if-some (Some d) P Q h gives = gives d refl h
+
+pub at-some : (o : Option Doubted) (P : Doubted → Type 0) (d : Doubted) → o ≡ Some d → IfSome o P → P d
+at-some o P d is h = subst (λ (x : Option Doubted). IfSome x P) is h
+
+-- the session that was shown the history
+pub shown-goes : {E : Type 0} (store : Store) (knows : GateView) (old new : CallerSession E) → IsCallerOf store old → BeginsAll knows old.pass → SeesAll knows new.pass
+    → new.number ≡ old.number → GoesOn store old new
+shown-goes store knows old new caller begins sees number after event place extends =
+    shown_extend store knows (session_value old) (session_value new) after event place caller.session begins sees number extends

@@ -1,0 +1,113 @@
+-- What is done before a call is answered goes on in its answer.
+use Rattle.std.proofs.Common.{◌≡◌, ◌+◌, ◌⊎◌, ℕ, Option, Some, None, Result, Ok, Err, IsErr, refl, sym, ap, ◌∙◌, subst, inl, inr}
+use Rattle.disk_model.specs.State.{FileState}
+use Rattle.rpmb_card.specs.Port.{PortState}
+use Rattle.tee_types.specs.declared.call.Call.{Call}
+use Rattle.tee_types.specs.declared.reply.Cause.{Cause}
+use Rattle.store_model.specs.declared.event.Event.TheVariants.{Call as CallEvent}
+use Rattle.store_model.specs.declared.event.Mark.TheVariants.{Unchanged}
+use Rattle.history_seats.specs.Changes.{with_record}
+use Rattle.core_laws.specs.Sessions.{Extends}
+use Rattle.core_laws.specs.Stores.{Store}
+use Rattle.commit_gate.specs.JournalCalls.{alone_record}
+use Rattle.commit_gate.specs.CallerSessions.{CallerSession, IsCallerOf, session_value}
+use Rattle.commit_gate.specs.SessionViews.{BeginsAll, SeesAll, shown}
+use Rattle.open_table.specs.HandleChanges.{NotesReply}
+use Rattle.commit_gate.specs.GuardedGates.{GuardedGateValue}
+use Rattle.commit_gate.specs.declared.placed_reply.PlacedReply.{PlacedReply}
+use Rattle.call_steps.specs.Resolved.{IsSettled, StaysInDoubt, WasResolved}
+use Rattle.call_steps.specs.Seen.{GoesOn}
+use Rattle.call_steps.proofs.Resolves.{shown-goes}
+use Rattle.call_steps.specs.GateServed.{IsLeft, IsServed, IsUnserved, Ruled, ServesAlone, ServesByRules}
+
+module _ {E F R : Type 0} (store : Store) (before between : CallerSession E) (goes_on : GoesOn store before between) (number : between.number ≡ before.number) (made : between.made ≡ before.made) where
+  pub served-from : (call : Call) (answer : PlacedReply) (old new : GuardedGateValue F R) (after : CallerSession E) → IsServed store call answer old new between after
+      → IsServed store call answer old new before after
+  served-from call answer old new after x = record {
+    caller = x.caller;
+    extends =
+        goes_on (session_value after) (CallEvent before.number before.made call answer.reply Unchanged) answer.place
+        (subst (λ (p : ℕ × ℕ). Extends store (session_value between) (session_value after) (CallEvent p.0 p.1 call answer.reply Unchanged) answer.place) (λ i. (number i, made i)) x.extends);
+    number = x.number ∙ number;
+    made = x.made ∙ ap (λ (n : ℕ). n + 1) made;
+    place = x.place;
+    knows =
+        subst (λ (p : ℕ × ℕ). new.journal.knows ≡ with_record (alone_record p.0 p.1 call answer.reply) old.journal.knows) (λ i. (number i, made i)) x.knows;
+    spare = x.spare;
+    gate = x.gate;
+    notes = subst (λ (n : ℕ). NotesReply old.gate.open_handles new.gate.open_handles 0 n call answer.reply) number x.notes;
+    closing = x.closing;
+  }
+
+module _ {F R : Type 0} (of_file : F → FileState) (of_port : R → PortState) (reliable : Type 0) (drew draws : ℕ) where
+  settled-touched : (old new : GuardedGateValue F R) → IsSettled of_file of_port old new
+      → (new ≡ old) ⊎ WasResolved of_file of_port old new ⊎ ((cause : Cause) × StaysInDoubt of_file of_port reliable drew draws old new cause)
+  settled-touched old new (inl (idle, same)) = inl same
+  settled-touched old new (inr resolved) = inr (inl resolved)
+
+  -- the rules' answer behind what was settled
+  pub serves-behind : {E X : Type 0} (store : Store) (call : Call) (old between new : GuardedGateValue F R) (before shown after : CallerSession E) (result : Result (Option PlacedReply) X)
+      → IsLeft of_file of_port store old between before shown → ServesByRules store call between new shown after result
+      → ServesAlone of_file of_port reliable drew draws store call old new before after result
+  serves-behind store call old between new before shown after (Ok (Some answer)) left served = record {
+    between = between;
+    precedes = Ruled left.settled served.1;
+    served = served-from store before shown left.goes_on left.number left.made call answer between new after served.0;
+  }
+  serves-behind store call old between new before shown after (Ok None) left same =
+      subst (λ (g : GuardedGateValue F R). IsLeft of_file of_port store old g before after) (sym same.0)
+      (subst (λ (s : CallerSession _). IsLeft of_file of_port store old between before s) (sym same.1) left)
+  serves-behind store call old between new before shown after (Err none) left same =
+      subst (λ (g : GuardedGateValue F R). IsUnserved of_file of_port reliable drew draws store old g before after) (sym same.0)
+      (subst (λ (s : CallerSession _). IsUnserved of_file of_port reliable drew draws store old between before s) (sym same.1) (record {
+        gate = settled-touched old between left.settled;
+        caller = left.calm.caller;
+        number = left.number;
+        made = left.made;
+        goes_on = left.goes_on;
+      }))
+
+  -- an error leaves the call unserved
+  pub unserved-as : {E X : Type 0} (store : Store) (call : Call) (old new : GuardedGateValue F R) (before after : CallerSession E) (result : Result (Option PlacedReply) X) → IsErr result
+      → IsUnserved of_file of_port reliable drew draws store old new before after → ServesAlone of_file of_port reliable drew draws store call old new before after result
+  unserved-as store call old new before after (Ok answer) is unserved = absurd (cc (is))
+  unserved-as store call old new before after (Err none) is unserved = unserved
+
+  -- and behind a session that was shown the history
+  pub serves-shown : {E X : Type 0} (store : Store) (call : Call) (old new : GuardedGateValue F R) (before shown after : CallerSession E) (result : Result (Option PlacedReply) X)
+      → GoesOn store before shown → shown.number ≡ before.number → shown.made ≡ before.made
+      → ServesAlone of_file of_port reliable drew draws store call old new shown after result → ServesAlone of_file of_port reliable drew draws store call old new before after result
+  serves-shown store call old new before shown after (Ok (Some answer)) goes number made x = record {
+    between = x.between;
+    precedes = x.precedes;
+    served = served-from store before shown goes number made call answer x.between new after x.served;
+  }
+  serves-shown store call old new before shown after (Ok None) goes number made x = record {
+    settled = x.settled;
+    idle = x.idle;
+    calm = x.calm;
+    number = x.number ∙ number;
+    made = x.made ∙ made;
+    goes_on = λ later event place e. goes later event place (x.goes_on later event place e);
+  }
+  serves-shown store call old new before shown after (Err none) goes number made x = record {
+    gate = x.gate;
+    caller = x.caller;
+    number = x.number ∙ number;
+    made = x.made ∙ made;
+    goes_on = λ later event place e. goes later event place (x.goes_on later event place e);
+  }
+
+-- the same of the session that `catch_up` gives
+pub serves-after-catch_up : {E F R X : Type 0} (of_file : F → FileState) (of_port : R → PortState) (reliable : E → Type 0) (faults : E → ℕ) (draws : ℕ) (store : Store) (call : Call)
+    (old middle new : GuardedGateValue F R) (before seen after : CallerSession E) (result : Result (Option PlacedReply) X) → IsCallerOf store before → BeginsAll old.journal.knows before.pass
+    → SeesAll middle.journal.knows seen.pass → middle ≡ old → seen ≡ shown old.journal.knows before
+    → ServesAlone of_file of_port (reliable seen.entropy) (faults seen.entropy) draws store call middle new seen after result
+    → ServesAlone of_file of_port (reliable before.entropy) (faults before.entropy) draws store call old new before after result
+serves-after-catch_up {E} {F} {R} of_file of_port reliable faults draws store call old middle new before seen after result caller begins sees same is x =
+    let here : CallerSession E = shown old.journal.knows before in
+    let sees_all : SeesAll old.journal.knows here.pass =
+    subst (λ (p : GuardedGateValue F R × CallerSession E). SeesAll p.0.journal.knows p.1.pass) (λ i. (same i, is i)) sees in
+    serves-shown of_file of_port (reliable before.entropy) (faults before.entropy) draws store call old new before here after result
+    (shown-goes store old.journal.knows before here caller begins sees_all refl) refl refl
+    (subst (λ (p : GuardedGateValue F R × CallerSession E). ServesAlone of_file of_port (reliable p.1.entropy) (faults p.1.entropy) draws store call p.0 new p.1 after result) (λ i. (same i, is i)) x)

@@ -1,0 +1,42 @@
+-- What is shown and settled first goes on in the answer.
+use Rattle.std.proofs.Common.{Option, Ok, ap, ◌∙◌, subst}
+use Rattle.commit_gate.specs.declared.placed_reply.PlacedReply.{PlacedReply}
+use Rattle.call_steps.specs.GateServed.{ServesAlone}
+use Rattle.call_steps.proofs.Serving.{serves-after-catch_up, serves-behind, unserved-as}
+use Rattle.call_steps.proofs.gate_answers.answer_alone.Goals as goal
+
+pub returns-in_err-answer-clause-serves : goal.returns-in_err-answer-clause-serves
+returns-in_err-answer-clause-serves g c =
+    let first = c.args.session.now in
+    let last = c.answer_early.new.session in
+    let early = serves-after-catch_up g.F.StoreFile.state g.R.RpmbPort.state g.E.Entropy.is_reliable g.E.Entropy.faults (g.E.Entropy.faults c.answer_early.new.session.entropy) g.L.StoreName.store
+    c.args.call.now c.args.gate.now c.catch_up.new.self c.answer_early.new.gate c.args.session.now c.catch_up.new.session c.answer_early.new.session c.answer_early.result c.requires.caller
+    c.catch_up.ensures.begins c.catch_up.ensures.sees c.catch_up.ensures.same c.catch_up.ensures.session c.answer_early.ensures.serves in
+    unserved-as g.F.StoreFile.state g.R.RpmbPort.state (g.E.Entropy.is_reliable first.entropy) (g.E.Entropy.faults first.entropy) (g.E.Entropy.faults last.entropy) g.L.StoreName.store
+    c.args.call.now c.args.gate.now c.answer_early.new.gate first last c.from_residual.result c.from_residual.ensures.0
+    (subst (λ r. ServesAlone g.F.StoreFile.state g.R.RpmbPort.state (g.E.Entropy.is_reliable first.entropy) (g.E.Entropy.faults first.entropy) (g.E.Entropy.faults last.entropy)
+    g.L.StoreName.store c.args.call.now c.args.gate.now c.answer_early.new.gate first last r) c.in_err-answer.was early)
+
+pub returns-in-Some-clause-serves : goal.returns-in-Some-clause-serves
+returns-in-Some-clause-serves g c =
+    let first = c.args.session.now in
+    let last = c.answer_early.new.session in
+    let early = serves-after-catch_up g.F.StoreFile.state g.R.RpmbPort.state g.E.Entropy.is_reliable g.E.Entropy.faults (g.E.Entropy.faults c.answer_early.new.session.entropy) g.L.StoreName.store
+    c.args.call.now c.args.gate.now c.catch_up.new.self c.answer_early.new.gate c.args.session.now c.catch_up.new.session c.answer_early.new.session c.answer_early.result c.requires.caller
+    c.catch_up.ensures.begins c.catch_up.ensures.sees c.catch_up.ensures.same c.catch_up.ensures.session c.answer_early.ensures.serves in
+    subst (λ r. ServesAlone g.F.StoreFile.state g.R.RpmbPort.state (g.E.Entropy.is_reliable first.entropy) (g.E.Entropy.faults first.entropy) (g.E.Entropy.faults last.entropy)
+    g.L.StoreName.store c.args.call.now c.args.gate.now c.answer_early.new.gate first last r) (c.in_ok-answer.was ∙ ap (λ (o : Option PlacedReply). Ok o) c.in-Some.is) early
+
+pub returns-clause-serves : goal.returns-clause-serves
+returns-clause-serves g c =
+    let first = c.args.session.now in
+    let last = c.answer_early.new.session in
+    let early = serves-after-catch_up g.F.StoreFile.state g.R.RpmbPort.state g.E.Entropy.is_reliable g.E.Entropy.faults (g.E.Entropy.faults c.answer_early.new.session.entropy) g.L.StoreName.store
+    c.args.call.now c.args.gate.now c.catch_up.new.self c.answer_early.new.gate c.args.session.now c.catch_up.new.session c.answer_early.new.session c.answer_early.result c.requires.caller
+    c.catch_up.ensures.begins c.catch_up.ensures.sees c.catch_up.ensures.same c.catch_up.ensures.session c.answer_early.ensures.serves in
+    let left =
+    subst (λ r. ServesAlone g.F.StoreFile.state g.R.RpmbPort.state (g.E.Entropy.is_reliable first.entropy) (g.E.Entropy.faults first.entropy) (g.E.Entropy.faults last.entropy)
+    g.L.StoreName.store c.args.call.now c.args.gate.now c.answer_early.new.gate first last r) (c.in_ok-answer.was ∙ ap (λ (o : Option PlacedReply). Ok o) c.in_default.is) early in
+    serves-behind g.F.StoreFile.state g.R.RpmbPort.state (g.E.Entropy.is_reliable first.entropy) (g.E.Entropy.faults first.entropy)
+    (g.E.Entropy.faults c.answer_by_rules.new.session.entropy) g.L.StoreName.store c.args.call.now c.args.gate.now c.answer_early.new.gate c.answer_by_rules.new.gate first last
+    c.answer_by_rules.new.session c.answer_by_rules.result left c.answer_by_rules.ensures.serves

@@ -1,0 +1,75 @@
+//! Loading the object of an entry into its slot.
+
+ghost use Rattle.std.specs.Prelude.{◌≡◌, IfOk};
+ghost use Rattle.disk_model.specs.Calls.{Rests};
+ghost use Rattle.dir_records.specs.Form.{HasForm};
+ghost use Rattle.crash_core.specs.DeviceKeys.{object_key};
+ghost use Rattle.history_seats.specs.Records.{Version};
+ghost use Rattle.object_slots.specs.Fills.{GivesEntry};
+ghost use Rattle.object_slots.specs.GuardedSlots.{SlotInvariant};
+ghost use Rattle.object_slots.specs.GuardedReads.{GivesVersion};
+ghost use Rattle.call_steps.specs.ObjectLoading.{FillsOrStays, LoadsVersion};
+ghost use Rattle.call_steps.specs.ReadyEntries.{IsReady};
+
+use crate::fault_replies::fault_reply;
+use core_laws::StoreName;
+use dir_records::DirEntry;
+use object_slots::{Slot, SlotFault, fill};
+use std::alloc::Global;
+use tee_ports::StoreFile;
+use tee_types::{NoMemory, Reply};
+
+// Loads the entry's object, unless one is loaded.
+fn fill_free<F: StoreFile + Drop, L: StoreName>(
+    alloc: Global,
+    slot: &mut Slot<F>,
+    entry: &DirEntry,
+    tsk: &[u8; 32],
+) -> Result<(), SlotFault>
+    requires guarded { SlotInvariant L.store slot.old }
+    requires form { HasForm entry.now }
+    requires key { tsk.now ≡ object_key L.store.keys entry.now.app }
+    requires given { GivesEntry slot.old entry.now }
+    ensures same { slot.new ≡ record slot.old { file = slot.new.file; holds = slot.new.holds } }
+    ensures guarded { SlotInvariant L.store slot.new }
+    ensures filled { FillsOrStays slot.old.holds slot.old slot.new tsk.now entry.now result }
+    ensures version { (v : Version) → GivesVersion slot.old v → LoadsVersion L.store.keys slot.new v result }
+{
+    if slot.is_free() {
+        fill::<F, L>(alloc, slot, entry, tsk)
+    } else {
+        Ok(())
+    }
+}
+
+/// Loads the object of an entry, at which the slot stands, where nothing is loaded. Gives the reply to any call on it where it could not be
+/// loaded, and none where it is loaded. `tsk` is the key of the entry's application. The gate has no part in this.
+///
+/// # Errors
+///
+/// Memory ran out.
+pub fn load_or_reply<F: StoreFile + Drop, L: StoreName>(
+    alloc: Global,
+    slot: &mut Slot<F>,
+    entry: &DirEntry,
+    tsk: &[u8; 32],
+) -> Result<Option<Reply>, NoMemory>
+    requires guarded { SlotInvariant L.store slot.old }
+    requires form { HasForm entry.now }
+    requires given { GivesEntry slot.old entry.now }
+    requires key { tsk.now ≡ object_key L.store.keys entry.now.app }
+    ensures same { slot.new ≡ record slot.old { file = slot.new.file; holds = slot.new.holds } }
+    ensures guarded { SlotInvariant L.store slot.new }
+    ensures rests { Rests slot.old.file slot.new.file }
+    ensures ready { (v : Version) → GivesVersion slot.old v → IfOk result (IsReady L.store slot.old.file slot.new v) }
+{
+    match fill_free::<F, L>(alloc, slot, entry, tsk) {
+        Ok(()) => Ok(None),
+        Err(fault) => {
+            let Some(reply) = fault_reply(slot.number(), fault) else {
+                return Err(NoMemory {});
+            };
+            Ok(Some(reply))
+        }
+    }
+}

@@ -1,0 +1,124 @@
+-- At the end of a phase all parts of a store together are at rest, so that every picture mounts to what the history leaves.
+use Rattle.std.proofs.Common.{◌≡◌, ℕ, zero, suc, ◌<◌, ◌≤◌, false, eqb, List, ◌∷◌, IsTrue, inl, inr, Option, Some, refl, sym, ap, ◌∙◌, subst, arith, ne_eqb}
+use Rattle.std.specs.Prelude.{Contains, nat_lt}
+use Rattle.std.proofs.lemmas.Bool.{cases_Bool, cases_eq, cases_lt, cond-true, cond-false, le-ltb, lt-ltb}
+use Rattle.disk_model.specs.State.{FileState, Sound}
+use Rattle.tee_types.specs.Limits.{last_file}
+use Rattle.rpmb_card.specs.Card.{CardState}
+use Rattle.history_seats.specs.Records.{Version}
+use Rattle.history_seats.specs.Rule.{SlotFits}
+use Rattle.history_seats.specs.Views.{GateView}
+use Rattle.crash_core.specs.Pictures.{IsPictureOf, Picture}
+use Rattle.crash_core.specs.CoreState.{IsTrusted}
+use Rattle.core_laws.specs.SlotParts.{Knows, SlotHolds, SlotPart}
+use Rattle.core_laws.specs.Finished.{IsMapAfter, MountsAfter}
+use Rattle.core_laws.specs.Joined.{IsObjectFile, Parts, PartsHold}
+use Rattle.core_laws.proofs.Contained.{contains_first, contains_later}
+use Rattle.core_laws.proofs.FinishedParts.{finish_mounts, honest_finish_mounts}
+use Rattle.core_laws.specs.TamperScenarios.{TamperScenario}
+use Rattle.core_laws.specs.Stores.{Store, replay_at}
+use Rattle.core_laws.proofs.Mending.{none_some}
+use Rattle.store_commit.specs.declared.gate.Doubted.{Doubted}
+use Rattle.store_commit.specs.Sides.{Sides}
+use Rattle.commit_gate.specs.FinishedPhases.{phase_under}
+use Rattle.commit_gate.specs.Resting.{IsResting, resting_part}
+use Rattle.commit_gate.specs.ClosedStores.{ClosedStoresMount, TamperedFilesAreSupposed, IsClosedStore, HonestStoresMount, tampered_below, no_file, no_slot, slots_of, store_files}
+use Rattle.commit_gate.proofs.RestingGates.{resting_gates_hold}
+
+-- the slot of an object file, and of another number
+slot_is : (slots : ℕ → SlotPart) (file : ℕ) → file ≤ last_file → slots_of slots file ≡ slots file
+slot_is slots file le = cond-false (nat_lt last_file file) (no_slot file) (slots file) (le-ltb last_file file le)
+
+slot_none : (slots : ℕ → SlotPart) (file : ℕ) → last_file < file → slots_of slots file ≡ no_slot file
+slot_none slots file lt = cond-true (nat_lt last_file file) (no_slot file) (slots file) (lt-ltb last_file file lt)
+
+-- what holds of each object file's slot, and of no slot, holds of all
+each_slot : (slots : ℕ → SlotPart) (P : ℕ → SlotPart → Type 0) → ((file : ℕ) → IsObjectFile file → P file (slots file)) → ((file : ℕ) → P file (no_slot file)) → (file : ℕ) → 1 ≤ file → P file (slots_of slots file)
+each_slot slots P own none file least = elim (cases_lt last_file file) [
+  | inl past ↦ subst (P file) (sym (slot_none slots file past)) (none file)
+  | inr within ↦ let le : file ≤ last_file = omega (arith, within) in subst (P file) (sym (slot_is slots file le)) (own file (least, le))
+]
+
+no_file_sound : Sound no_file
+no_file_sound = record {
+  bytes = record { agrees = λ honest place byte off. (λ has. has, λ has. has); within = omega arith; bases = λ moment. omega arith };
+  told = λ honest. honest;
+  calm = λ tells none. refl;
+  steady = λ tells none. refl;
+}
+
+nothing_known : (file : ℕ) (v : Version) → Knows (no_slot file).view v → ⊥
+nothing_known file v (inl given) = none_some v given.1
+nothing_known file v (inr left) = none_some (Some v) left.1
+
+no_slot_holds : (store : Store) (file : ℕ) → SlotHolds store.keys (no_slot file)
+no_slot_holds store file = record { sound = no_file_sound; stands = λ honest v known. absurd (nothing_known file v known) }
+
+module _ (store : Store) (scenario : TamperScenario) (g : Sides) (doubt : Option Doubted) (holds : List (Option ℕ)) (card : CardState) (view : GateView) (slots : ℕ → SlotPart)
+    (e : IsClosedStore store scenario g doubt holds card view slots) where
+  -- each file is honest that is not supposed otherwise
+  files_honest : (file : ℕ) → IsTrusted (phase_under store scenario) file → IsTrue (store_files g slots file).honest
+  files_honest file trusted = elim (cases_lt last_file file) [
+    | inl past ↦
+        let other : store_files g slots file ≡ (slots_of slots file).file = cond-false (eqb file 0) g.file (slots_of slots file).file (ne_eqb file 0 (λ none. omega (arith, none, past))) in
+        subst (λ (s : FileState). IsTrue s.honest) (sym (other ∙ ap (λ (s : SlotPart). s.file) (slot_none slots file past))) refl
+    | inr within ↦ e.tampered file (omega (arith, within)) trusted
+  ]
+
+  rests : IsResting (phase_under store scenario) (resting_part store scenario g doubt holds card view)
+  rests = resting_gates_hold store scenario g doubt holds card view e.gate e.tied (files_honest 0)
+
+  abbrev parts : Parts
+  parts = record { gate = resting_part store scenario g doubt holds card view; slots = slots_of slots }
+
+  parts_hold : PartsHold (phase_under store scenario) parts
+  parts_hold = record {
+    gate = rests.fact;
+    slots = each_slot slots (λ file slot. SlotHolds store.keys slot) e.slots_hold.holds (no_slot_holds store);
+    fit = record {
+      numbered = each_slot slots (λ file slot. slot.view.file ≡ file) e.slots_hold.numbered (λ file. refl);
+      fits = λ file own. subst (λ (slot : SlotPart). SlotFits view slot.view) (sym (slot_is slots file own.1)) (e.slots_hold.fits file own);
+      putting = λ h puts. absurd (none_some h puts);
+    };
+    honest = files_honest;
+  }
+
+  pub closed_mounts : (picture : Picture) → IsPictureOf (store_files g slots) card picture → IsTrusted (phase_under store scenario) 0
+      → MountsAfter (phase_under store scenario) picture (replay_at store scenario view.all)
+  closed_mounts picture is trusted = finish_mounts (phase_under store scenario) parts picture parts_hold rests.at_rest is trusted
+
+  pub honest_mounts : (picture : Picture) → IsPictureOf (store_files g slots) card picture → ((file : ℕ) → IsTrusted (phase_under store scenario) file)
+      → IsMapAfter (phase_under store scenario) picture (replay_at store scenario view.all)
+  honest_mounts picture is trusted = honest_finish_mounts (phase_under store scenario) parts picture parts_hold rests.at_rest is trusted
+
+pub closed_stores_mount : ClosedStoresMount
+closed_stores_mount store scenario g doubt holds card view slots picture e is trusted = closed_mounts store scenario g doubt holds card view slots e picture is trusted
+
+pub honest_stores_mount : HonestStoresMount
+honest_stores_mount store scenario g doubt holds card view slots picture e is trusted = honest_mounts store scenario g doubt holds card view slots e picture is trusted
+
+-- THE FILES THAT ARE NOT HONEST
+-- each of the first files that is not honest is among those
+below_contains : (files : ℕ → FileState) (count file : ℕ) → file < count → (files file).honest ≡ false → Contains (tampered_below files count) file
+unfolding tampered_below
+below_contains files zero file lt tainted = absurd (omega (arith, lt))
+below_contains files (suc last) file lt tainted = elim (cases_eq last file) [
+  | inl same ↦
+      let own : (files last).honest ≡ false = ap (λ (n : ℕ). (files n).honest) same ∙ tainted in
+      subst (λ (l : List ℕ). Contains l file) (sym (cond-false (files last).honest (tampered_below files last) (last ∷ tampered_below files last) own))
+      (contains_first last file (tampered_below files last) same)
+  | inr other ↦
+      let more : Contains (tampered_below files last) file = below_contains files last file (omega (arith, other, lt)) tainted in
+      elim (cases_Bool (files last).honest) [
+        | inl honest ↦ subst (λ (l : List ℕ). Contains l file) (sym (cond-true (files last).honest (tampered_below files last) (last ∷ tampered_below files last) honest)) more
+        | inr tainted_too ↦
+            subst (λ (l : List ℕ). Contains l file) (sym (cond-false (files last).honest (tampered_below files last) (last ∷ tampered_below files last) tainted_too))
+            (contains_later last file (tampered_below files last) more)
+      ]
+]
+
+pub tampered_files_are_supposed : TamperedFilesAreSupposed
+tampered_files_are_supposed scenario files is file within trusted = elim (cases_Bool (files file).honest) [
+  | inl honest ↦ honest
+  | inr tainted ↦ absurd (trusted (subst (λ (l : List ℕ). Contains l file) (sym is) (below_contains files (suc last_file) file (omega (arith, within)) tainted)))
+]

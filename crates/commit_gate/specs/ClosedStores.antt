@@ -1,0 +1,98 @@
+-- A store that is closed at the end of a phase: its gate, and a slot for each file of an object.
+use Rattle.std.specs.Prelude.{◌≡◌, ◌==◌, ◌≤◌, ℕ, zero, suc, nat_lt, if◌then◌else◌, true, false, List, [], ◌∷◌, Option, None, Contains, IsTrue}
+use Rattle.disk_model.specs.Arms.{no_arms}
+use Rattle.disk_model.specs.State.{FileState}
+use Rattle.tee_types.specs.Limits.{last_file}
+use Rattle.rpmb_card.specs.Card.{CardState}
+use Rattle.history_seats.specs.Rule.{SlotFits}
+use Rattle.history_seats.specs.Views.{GateView, no_devices, no_mount}
+use Rattle.crash_core.specs.Pictures.{IsPictureOf, Picture}
+use Rattle.crash_core.specs.CoreState.{IsTrusted}
+use Rattle.core_laws.specs.SlotParts.{SlotHolds, SlotPart}
+use Rattle.core_laws.specs.Finished.{IsMapAfter, MountsAfter}
+use Rattle.core_laws.specs.Joined.{IsObjectFile}
+use Rattle.core_laws.specs.TamperScenarios.{TamperScenario}
+use Rattle.core_laws.specs.Stores.{Store, replay_at}
+use Rattle.store_commit.specs.declared.gate.Doubted.{Doubted}
+use Rattle.store_commit.specs.Sides.{Sides}
+use Rattle.commit_gate.specs.FinishedPhases.{phase_under}
+use Rattle.commit_gate.specs.Readings.{IsTiedUnder}
+use Rattle.commit_gate.specs.Resting.{IsGateOf}
+
+-- the file and the slot of a number that is no object file's: nothing is in it, and nothing is known of it
+abbrev pub no_file : FileState
+no_file = record {
+  settled = [];
+  reads = [];
+  trail = [];
+  pending_from = 0;
+  honest = true;
+  steady = true;
+  tells = true;
+  calm = true;
+  faults = 0;
+  starved = 0;
+  written = 0;
+  tells_arms = false;
+  arms = no_arms;
+}
+
+abbrev pub no_slot : (file : ℕ) → SlotPart
+no_slot file = record {
+  file = no_file;
+  view = record { mounted = no_mount; served = no_devices; seen = []; decided = 0; file = file; generation = 0 };
+  stage = None;
+}
+
+-- the slots of the object files, and no other
+abbrev pub slots_of : (slots : ℕ → SlotPart) → ℕ → SlotPart
+slots_of slots file = if nat_lt last_file file then no_slot file else slots file
+
+-- the files of the store: the directory's, then those of objects
+abbrev pub store_files : Sides → (slots : ℕ → SlotPart) → ℕ → FileState
+store_files g slots file = if file == 0 then g.file else (slots_of slots file).file
+
+-- What holds of the slots: each is of its file, its view fits the gate's, and it has its fact.
+pub record AreSlotsOf (store : Store) (view : GateView) (slots : ℕ → SlotPart) : Type 0 where
+  pub numbered : (file : ℕ) → IsObjectFile file → (slots file).view.file ≡ file
+  pub fits : (file : ℕ) → IsObjectFile file → SlotFits view (slots file).view
+  pub holds : (file : ℕ) → IsObjectFile file → SlotHolds store.keys (slots file)
+
+-- those of the first so many files that are not honest
+unfoldable pub tampered_below : (ℕ → FileState) → (count : ℕ) → List ℕ
+tampered_below files zero = []
+tampered_below files (suc file) = if (files file).honest then tampered_below files file else file ∷ tampered_below files file
+
+-- the files that are not honest
+abbrev pub tampered_in : (ℕ → FileState) → List ℕ
+tampered_in files = tampered_below files (suc last_file)
+
+-- The tamper scenario has all files as not honest that are not.
+abbrev pub SupposesTampered : TamperScenario → (ℕ → FileState) → Type 0
+SupposesTampered scenario files = (file : ℕ) → file ≤ last_file → (Contains scenario.tampered file → ⊥) → IsTrue (files file).honest
+
+-- A closed store, as a tamper scenario has it.
+pub record IsClosedStore (store : Store) (scenario : TamperScenario) (g : Sides) (doubt : Option Doubted) (holds : List (Option ℕ)) (card : CardState) (view : GateView) (slots : ℕ → SlotPart) : Type 0 where
+  pub gate : IsGateOf store g doubt holds card
+  pub tied : IsTiedUnder store scenario view g.dir.entries g.counter doubt
+  pub slots_hold : AreSlotsOf store view slots
+  pub tampered : SupposesTampered scenario (store_files g slots)
+
+-- Every picture of its files and its card mounts to the map that the history leaves under the tamper scenario, or to that with the commit in
+-- doubt; nothing is said of the objects in files that are not honest, nor where the directory's file is not.
+abbrev pub ClosedStoresMount : Type 0
+ClosedStoresMount =
+    (store : Store) (scenario : TamperScenario) (g : Sides) (doubt : Option Doubted) (holds : List (Option ℕ)) (card : CardState) (view : GateView) (slots : ℕ → SlotPart) (picture : Picture)
+    → IsClosedStore store scenario g doubt holds card view slots → IsPictureOf (store_files g slots) card picture → IsTrusted (phase_under store scenario) 0
+    → MountsAfter (phase_under store scenario) picture (replay_at store scenario view.all)
+
+-- Where every file is honest, it mounts to that map itself.
+abbrev pub HonestStoresMount : Type 0
+HonestStoresMount =
+    (store : Store) (scenario : TamperScenario) (g : Sides) (doubt : Option Doubted) (holds : List (Option ℕ)) (card : CardState) (view : GateView) (slots : ℕ → SlotPart) (picture : Picture)
+    → IsClosedStore store scenario g doubt holds card view slots → IsPictureOf (store_files g slots) card picture → ((file : ℕ) → IsTrusted (phase_under store scenario) file)
+    → IsMapAfter (phase_under store scenario) picture (replay_at store scenario view.all)
+
+-- A tamper scenario by which exactly the files are not honest that are not has them all.
+abbrev pub TamperedFilesAreSupposed : Type 0
+TamperedFilesAreSupposed = (scenario : TamperScenario) (files : ℕ → FileState) → scenario.tampered ≡ tampered_in files → SupposesTampered scenario files

@@ -1,0 +1,54 @@
+-- From a fair history to one whose events are answered, and to a legal one.
+use Rattle.std.proofs.Common.{◌≡◌, ◌⊎◌, ℕ, List, [], ◌∷◌, ◌++◌, Option, Some, None, Contains, refl, sym, ◌∙◌, subst, inl, inr, append_assoc, append-nil}
+use Rattle.store_model.specs.Record.{file_of}
+use Rattle.store_model.specs.Legal.{IsLegalFrom}
+use Rattle.store_model.specs.ReplayState.{ReplayState}
+use Rattle.history_seats.specs.Records.{HistoryRecord}
+use Rattle.core_laws.specs.TamperScenarios.{TamperScenario}
+use Rattle.core_laws.specs.Stores.{Store, replay_at, start_under}
+use Rattle.core_laws.specs.Answered.{AreAnswered, AreFair, AreOwnLegal, HasNoClash, IsAnsweredAt, IsEnded}
+use Rattle.core_laws.specs.Shown.{IsEndAt}
+use Rattle.core_laws.proofs.Mending.{none_some, some_same}
+use Rattle.core_laws.proofs.Answers.{answered-snoc, nothing-answered, replay_state-snoc}
+
+module _ (store : Store) (scenario : TamperScenario) where
+  -- Where each file is among those that are not honest, or its events are legal by themselves, each event is answered, or the promises end.
+  pub narrowed : (all : List HistoryRecord) → AreFair store scenario all → ((file : ℕ) → Contains scenario.tampered file ⊎ AreOwnLegal store scenario file all)
+      → (front : List HistoryRecord) (r : HistoryRecord) (back : List HistoryRecord) → front ++ r ∷ back ≡ all → AreAnswered store scenario front
+      → IsAnsweredAt store scenario front r ⊎ IsEndAt store scenario front r
+  narrowed all fair each front r back e answered = by_file (file_of r) refl
+    where
+      by_file : (o : Option ℕ) → file_of r ≡ o → IsAnsweredAt store scenario front r ⊎ IsEndAt store scenario front r
+      by_file None is = fair front r back e answered (λ file names. absurd (none_some file (sym is ∙ names)))
+      by_file (Some file) is = elim (each file) [
+        | inl owed ↦ fair front r back e answered (λ other names. subst (Contains scenario.tampered) (some_same file other (sym is ∙ names)) owed)
+        | inr own ↦ inl (inl (own front r back e is answered))
+      ]
+
+  answered-from : (all front rest : List HistoryRecord) → front ++ rest ≡ all
+      → ((fs : List HistoryRecord) (r : HistoryRecord) (back : List HistoryRecord) → fs ++ r ∷ back ≡ all → AreAnswered store scenario fs → IsAnsweredAt store scenario fs r ⊎ IsEndAt store scenario fs r)
+      → AreAnswered store scenario front → AreAnswered store scenario all ⊎ IsEnded store scenario all
+  answered-from all front [] e each answered = inl (subst (AreAnswered store scenario) (sym (append-nil front) ∙ e) answered)
+  answered-from all front (r ∷ rest) e each answered = elim (each front r rest e answered) [
+    | inl one ↦ answered-from all (front ++ r ∷ []) rest (append_assoc front (r ∷ []) rest ∙ e) each (answered-snoc store scenario front r answered one)
+    | inr ends ↦ inr (record { front = front; event = r; back = rest; is = e; answered = answered; ends = ends })
+  ]
+
+  -- Each event is answered, or the promises end at a first one.
+  pub all_answered : (all : List HistoryRecord) → AreFair store scenario all → ((file : ℕ) → Contains scenario.tampered file ⊎ AreOwnLegal store scenario file all)
+      → AreAnswered store scenario all ⊎ IsEnded store scenario all
+  all_answered all fair each = answered-from all [] all refl (narrowed all fair each) (nothing-answered store scenario)
+
+  legal-from : (front rest : List HistoryRecord) → AreAnswered store scenario (front ++ rest) → HasNoClash store scenario (front ++ rest)
+      → IsLegalFrom scenario.tampered (replay_at store scenario front) rest
+  legal-from front [] answered none = tt
+  legal-from front (r ∷ rest) answered none = (
+    elim (answered front r rest refl) [ inl legal ↦ legal.legal | inr clash ↦ absurd (none front r rest refl clash) ],
+    subst (λ (s : ReplayState). IsLegalFrom scenario.tampered s rest) (replay_state-snoc store scenario front r)
+        (legal-from (front ++ r ∷ []) rest (subst (AreAnswered store scenario) (sym (append_assoc front (r ∷ []) rest)) answered)
+        (λ fs x back e. none fs x back (e ∙ append_assoc front (r ∷ []) rest))),
+  )
+
+  -- where no event shows a clash, the history is legal
+  pub legal_without : (all : List HistoryRecord) → AreAnswered store scenario all → HasNoClash store scenario all → IsLegalFrom scenario.tampered (start_under store scenario) all
+  legal_without all answered none = legal-from [] all answered none

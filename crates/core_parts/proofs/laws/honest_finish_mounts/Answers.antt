@@ -1,5 +1,0 @@
-use Rattle.core_parts.proofs.FinishedParts.{honest_finish_mounts}
-use Rattle.core_parts.proofs.laws.honest_finish_mounts.Goals as goal
-
-pub returns : goal.returns
-returns c = honest_finish_mounts

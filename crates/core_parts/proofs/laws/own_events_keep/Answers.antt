@@ -1,5 +1,0 @@
-use Rattle.core_parts.proofs.OwnEvents.{own_events_keep}
-use Rattle.core_parts.proofs.laws.own_events_keep.Goals as goal
-
-pub returns : goal.returns
-returns c = own_events_keep

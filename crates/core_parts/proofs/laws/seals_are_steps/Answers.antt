@@ -1,5 +1,0 @@
-use Rattle.core_parts.proofs.GateStepLaws.{seal_is_step}
-use Rattle.core_parts.proofs.laws.seals_are_steps.Goals as goal
-
-pub returns : goal.returns
-returns c = seal_is_step

@@ -1,5 +1,0 @@
-use Rattle.core_parts.proofs.SlotRuns.{run_holds}
-use Rattle.core_parts.proofs.laws.slot_steps_keep.Goals as goal
-
-pub returns : goal.returns
-returns c = λ keys user old new h s. run_holds user keys old s.steps new h s.run

@@ -1,4 +1,0 @@
-pub mod Seen
-pub mod Resolved
-pub mod Served
-pub mod Rulings

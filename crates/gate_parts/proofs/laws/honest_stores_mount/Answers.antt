@@ -1,5 +1,0 @@
-use Rattle.gate_parts.proofs.ClosedStores.{honest_stores_mount}
-use Rattle.gate_parts.proofs.laws.honest_stores_mount.Goals as goal
-
-pub returns : goal.returns
-returns c = honest_stores_mount

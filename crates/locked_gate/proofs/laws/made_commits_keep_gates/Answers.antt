@@ -1,7 +1,0 @@
-use Rattle.locked_gate.proofs.CommitGates.{made_locked}
-use Rattle.locked_gate.proofs.laws.made_commits_keep_gates.Goals as goal
-
-pub returns : goal.returns
-returns g c = λ store old new view closing session number call reply change slot versions n before known ready left journal.
-    made_locked store old new view closing before.locked before.idle before.within session number known call reply change slot versions ready
-    n left.entries left.counted left.settled left.notes left.tsk left.key journal

@@ -1,7 +1,0 @@
-use Rattle.locked_slots.proofs.MadeSlots.{new_leaves}
-use Rattle.locked_slots.proofs.staging.stage_new.Goals as goal
-
-pub returns-clause-leaves : goal.returns-clause-leaves
-returns-clause-leaves g c =
-    new_leaves g.L.StoreName.store c.args.slot.now c.stage_new.new.self c.args.tsk.now c.args.attributes.now c.args.bytes.now c.requires.attributes c.requires.locked c.requires.vacant c.requires.calm c.requires.unknown
-    c.stage_new.ensures.same c.stage_new.result c.stage_new.ensures.makes

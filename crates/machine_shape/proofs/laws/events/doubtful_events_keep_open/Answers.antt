@@ -1,7 +1,0 @@
--- The law is the lemma.
-use Rattle.machine_shape.proofs.EventOpens.{doubtful-event}
-use Rattle.machine_shape.proofs.laws.events.doubtful_events_keep_open.Goals as goal
-
-pub returns : goal.returns
-returns c store guess before r entries old new session number file commit call reply answered is are_open notes =
-    doubtful-event store guess before r answered entries old new are_open session number file call reply notes commit is

@@ -1,6 +1,0 @@
--- The law is the lemma.
-use Rattle.machine_shape.proofs.HandleLaws.{answered_handles_are_well_opened}
-use Rattle.machine_shape.proofs.laws.handles.answered_handles_are_well_opened.Goals as goal
-
-pub returns : goal.returns
-returns c = answered_handles_are_well_opened

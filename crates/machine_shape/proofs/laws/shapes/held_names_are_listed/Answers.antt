@@ -1,5 +1,0 @@
-use Rattle.machine_shape.proofs.ShownNames.{held_listed}
-use Rattle.machine_shape.proofs.laws.shapes.held_names_are_listed.Goals as goal
-
-pub returns : goal.returns
-returns c = held_listed

@@ -1,4 +1,0 @@
-pub mod MountedEntries
-pub mod Generations
-pub mod MountedStores
-pub mod MountLaws

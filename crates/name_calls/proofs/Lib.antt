@@ -1,2 +1,0 @@
-pub mod BroughtNames
-pub mod NameMoves

@@ -1,5 +1,0 @@
-use Rattle.object_calls.proofs.Blocks.{ReadsBlocks}
-use Rattle.object_calls.proofs.data.read_blocks.Given as goal
-
-abbrev pub invariant-loop-k : goal.invariant-loop-k
-invariant-loop-k g l = ReadsBlocks g.F.StoreFile.state l.fn.object l.object l.k l.bytes l.bad

@@ -1,6 +1,0 @@
-use Rattle.std.proofs.Common.{◌≡◌, ◌+◌, None, vec_len}
-use Rattle.std.specs.Prelude.{All}
-use Rattle.object_calls.proofs.places.free_places.Given as goal
-
-abbrev pub invariant-loop-i : goal.invariant-loop-i
-invariant-loop-i g l = record { many : vec_len l.places + 1 ≡ l.i; none : All (λ place. place ≡ None) l.places.items }

@@ -1,5 +1,0 @@
-use Rattle.call_history.specs.Journals.{told_of}
-use Rattle.object_calls.proofs.splitting.split_slot.Given as goal
-
-abbrev pub ghost-split_slot : goal.ghost-split_slot
-ghost-split_slot g a = told_of g.L.StoreName.store

@@ -1,0 +1,105 @@
+-- What a phase leaves, once the store is no longer served.
+use Rattle.std.specs.Prelude.{◌≡◌, ◌⊎◌, ◌<◌, ◌+◌, ℕ, List, [], ◌∷◌, drop, length, Option, Some, None, Ok, slice_index_or, IsTrue}
+use Rattle.disk_model.specs.State.{FileState}
+use Rattle.hmac_keys.specs.declared.Keys.{Keys}
+use Rattle.hmac_keys.specs.KeyTable.{rpmb_key}
+use Rattle.rpmb_card.specs.Card.{CardState}
+use Rattle.rpmb_card.specs.Port.{PortState}
+use Rattle.rpmb_host.specs.Honest.{HasCard}
+use Rattle.store_model.specs.declared.event.Event.{Event}
+use Rattle.store_model.specs.History.{AreNumbered, count_of}
+use Rattle.store_model.specs.Commits.{with_doubt}
+use Rattle.store_model.specs.Legal.{IsLegalFrom}
+use Rattle.store_model.specs.LegalHistory.{IsLegal, doubt_of}
+use Rattle.store_model.specs.Object.{ObjectMap}
+use Rattle.store_model.specs.Record.{events_of}
+use Rattle.store_model.specs.Sound.{IsObjectMap}
+use Rattle.store_model.specs.ReplayState.{ReplayState, opening, replay}
+use Rattle.history_seats.specs.Views.{GateView}
+use Rattle.crash_core.specs.Mounting.{mounted}
+use Rattle.crash_core.specs.Pictures.{IsPictureOf, Picture}
+use Rattle.crash_core.specs.CoreState.{IsTrusted}
+use Rattle.core_laws.specs.Finished.{MountsAfter}
+use Rattle.core_laws.specs.TamperScenarios.{TamperScenario}
+use Rattle.core_laws.specs.Stores.{Store, phase_of, replay_at}
+use Rattle.core_laws.specs.Answered.{AreAnswered, IsEnded}
+use Rattle.serial_calls.specs.CallerSessions.{CallerSession}
+use Rattle.serial_calls.specs.SessionViews.{BeginsAll}
+use Rattle.serial_calls.specs.ClosedStores.{tampered_in}
+use Rattle.serial_calls.specs.FinishedPhases.{phase_under}
+use Rattle.serial_calls.specs.SlotValues.{SlotValue}
+use Rattle.serial_calls.specs.Slots.{AreOfObjectFiles}
+use Rattle.object_calls.specs.OpeningFiles.{files_of}
+use Rattle.object_calls.specs.Services.{ServiceValue}
+
+-- Under a tamper scenario with just those files as not honest that are not, the history is answered, or the promises end at a first event.
+abbrev pub IsAnsweredOrEnds : Store → GateView → (ℕ → FileState) → Type 0
+IsAnsweredOrEnds store view files =
+    (scenario : TamperScenario) → scenario.tampered ≡ tampered_in files → AreAnswered store scenario view.all ⊎ IsEnded store scenario view.all
+
+-- Where it is answered, every picture of the files and the card mounts to the map that it leaves, or to that with the commit in doubt;
+-- where the directory's file is honest, and but for objects in files that are not.
+abbrev pub PicturesMountAfter : Store → GateView → (ℕ → FileState) → PortState → Type 0
+PicturesMountAfter store view files port =
+    (scenario : TamperScenario) (card : CardState) (picture : Picture) → scenario.tampered ≡ tampered_in files → AreAnswered store scenario view.all
+    → HasCard port (rpmb_key store.keys.huk) card → IsPictureOf files card picture → IsTrusted (phase_under store scenario) 0
+    → MountsAfter (phase_under store scenario) picture (replay_at store scenario view.all)
+
+-- The doubt is the one that the history leaves open, or it was dropped.
+abbrev pub IsDoubtLeft : Store → GateView → Option ℕ → Type 0
+IsDoubtLeft store view doubt =
+    (scenario : TamperScenario) → AreAnswered store scenario view.all → (doubt ≡ doubt_of (replay_at store scenario view.all)) ⊎ (doubt ≡ None)
+
+-- Each session's view begins the history, past which it has no event, and the session counted its events.
+pub record HasCounted {E : Type 0} (view : GateView) (s : CallerSession E) : Type 0 where
+  pub begins : BeginsAll view s.pass
+  pub made : s.made ≡ count_of s.number (events_of view.all)
+
+abbrev pub HaveCounted : {E : Type 0} → GateView → List (CallerSession E) → Type 0
+HaveCounted {E} view sessions = (i : ℕ) (d : CallerSession E) → i < length sessions → HasCounted view (slice_index_or sessions i d)
+
+-- every file is honest
+abbrev pub AreAllHonest : (ℕ → FileState) → Type 0
+AreAllHonest files = (file : ℕ) → IsTrue (files file).honest
+
+-- where the history stands at its end, from the objects that the phase opened with
+abbrev pub end_replay : Store → GateView → ReplayState
+end_replay store view = replay (opening (phase_of store)) view.all
+
+-- the picture mounts to the map of that standing, or to that with the commit in doubt
+abbrev pub IsMapLeft : Keys → Picture → ReplayState → Type 0
+IsMapLeft keys picture s =
+    (mounted keys picture ≡ Ok (s.state).objects) ⊎ ((objects : ObjectMap) × (with_doubt s ≡ Some objects) × (mounted keys picture ≡ Ok objects))
+
+-- Where every file is honest: each event is legal from the objects that the phase opened with, and every picture of the files and the card
+-- mounts to the map that the history leaves, or to that with the commit in doubt.
+pub record LeavesHonest (store : Store) (view : GateView) (files : ℕ → FileState) (port : PortState) (doubt : Option ℕ) : Type 0 where
+  pub events_legal : IsLegalFrom [] (opening (phase_of store)) view.all
+  pub doubt_left : (doubt ≡ doubt_of (end_replay store view)) ⊎ (doubt ≡ None)
+  pub mounts : (card : CardState) (picture : Picture) → HasCard port (rpmb_key store.keys.huk) card → IsPictureOf files card picture
+      → IsMapLeft store.keys picture (end_replay store view)
+
+-- What is said of a store once its phase has ended: of the events in order, the files, the card and the doubt.
+pub record LeavesStore (store : Store) (view : GateView) (files : ℕ → FileState) (port : PortState) (doubt : Option ℕ) : Type 0 where
+  pub numbered : AreNumbered (events_of view.all)
+  -- the tags name files of objects
+  pub tagged : AreOfObjectFiles view.all
+  pub answered : IsAnsweredOrEnds store view files
+  pub mounts : PicturesMountAfter store view files port
+  pub doubted : IsDoubtLeft store view doubt
+  pub honest : AreAllHonest files → LeavesHonest store view files port doubt
+  -- so the history is a legal one of the phase
+  pub legal : AreAllHonest files → IsObjectMap store.objects → IsLegal (phase_of store) [] view.all doubt
+
+-- The devices that are given back are those that were served, in their places: the directory's file first.
+pub record GivesBack {F R : Type 0} (state : F → FileState) (s : ServiceValue F R) (files : List F) (card : R) : Type 0 where
+  pub dir : files ≡ s.gate.gate.dir.file ∷ drop 1 files
+  pub each : (i : ℕ) (d : SlotValue) → i < 272 → files_of state files (i + 1) ≡ (slice_index_or s.slots i d).file
+  pub port : card ≡ s.gate.gate.host.port
+
+-- So of a phase that no call was made in.
+pub record ClosesUnserved (store : Store) (files : ℕ → FileState) (port : PortState) (doubt : Option ℕ) (events : List Event) : Type 0 where
+  pub view : GateView
+  pub empty : view.all ≡ []
+  pub events_are : events ≡ []
+  pub leaves : LeavesStore store view files port doubt

@@ -1,0 +1,53 @@
+//! How a served store answers a call.
+
+ghost use Rattle.std.specs.Prelude.{◌≡◌};
+ghost use Rattle.serial_calls.specs.CallerSessions.{IsCallerOf};
+ghost use Rattle.object_calls.specs.Calling.{AnswersCall};
+
+use crate::service::Service;
+use core_laws::StoreName;
+use rpmb_card::RpmbPort;
+use serial_calls::{Session, serve};
+use tee_ports::{Entropy, StoreFile};
+use tee_types::{Call, NoMemory, Reply};
+
+/// What a call is answered, and the place of its event in the phase's history. Where memory ran out it has none.
+#[derive(Debug, Drop)]
+pub struct Answer {
+    /// The place.
+    pub place: Option<u64>,
+    /// The reply.
+    pub reply: Reply,
+}
+
+impl<F: StoreFile + Drop, R: RpmbPort + Drop, L: StoreName> Service<F, R, L> {
+    /// Answers a session's call by the Trusted Storage chapter, and appends it to the phase's history with its reply. A commit that is in
+    /// doubt is resolved before, unless the call is a misuse.
+    ///
+    /// The reply `NoMemory` has no place and no event. Then nothing changed but that a commit in doubt may have landed.
+    pub fn call<E: Entropy>(&mut self, session: &mut Session<E>, call: &Call) -> Answer
+        requires { IsCallerOf L.store session.old }
+        ensures answers { AnswersCall F.state R.state E.faults L.store self.old self.new session.old session.new call.now result.place result.reply }
+        ensures reliable { E.is_reliable session.old.entropy → E.is_reliable session.new.entropy }
+        // A generator that never fails counts no fault.
+        ensures still { E.is_reliable session.old.entropy → E.faults session.new.entropy ≡ E.faults session.old.entropy }
+    {
+        match serve(
+            self.alloc,
+            &mut self.gate,
+            &mut self.slots,
+            &self.storage_key,
+            session,
+            call,
+        ) {
+            Ok(answer) => Answer {
+                place: Some(answer.place),
+                reply: answer.reply,
+            },
+            Err(NoMemory {}) => Answer {
+                place: None,
+                reply: Reply::NoMemory,
+            },
+        }
+    }
+}

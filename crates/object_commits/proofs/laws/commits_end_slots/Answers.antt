@@ -1,6 +1,0 @@
--- The lemma is the law.
-use Rattle.object_commits.proofs.SlotEnds.{commits_end}
-use Rattle.object_commits.proofs.laws.commits_end_slots.Goals as goal
-
-pub returns : goal.returns
-returns g c = commits_end g.row.F.Denot g.row.R.Denot g.row.E.Denot

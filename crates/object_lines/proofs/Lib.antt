@@ -1,2 +1,0 @@
-pub mod BadTexts
-pub mod ShownObjects

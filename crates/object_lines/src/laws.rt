@@ -1,8 +1,0 @@
-//! Laws of lines. Each function does nothing: its contract is the law.
-
-ghost use Rattle.object_lines.specs.Laws.{ShownLinesAreOfObjects};
-
-/// The line of what shows an object is the line of that object.
-pub fn shown_lines_are_of_objects()
-    ensures { ShownLinesAreOfObjects }
-{}

@@ -1,5 +1,0 @@
-use Rattle.object_slots.proofs.FrontLaws.{loaded_have_fronts}
-use Rattle.object_slots.proofs.laws.loaded_have_fronts.Goals as goal
-
-pub returns : goal.returns
-returns c = loaded_have_fronts

@@ -1,5 +1,0 @@
-use Rattle.object_slots.proofs.GiveLaws.{reads_tell}
-use Rattle.object_slots.proofs.laws.reads_tell.Goals as goal
-
-pub returns : goal.returns
-returns c = reads_tell

@@ -1,5 +1,0 @@
-use Rattle.object_slots.proofs.VersionLaws.{stages_are_versions}
-use Rattle.object_slots.proofs.laws.stages_are_versions.Goals as goal
-
-pub returns : goal.returns
-returns c = stages_are_versions

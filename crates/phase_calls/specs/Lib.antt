@@ -1,4 +1,0 @@
-pub mod Steps
-pub mod Making
-pub mod Reliable
-pub mod Laws

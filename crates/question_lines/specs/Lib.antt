@@ -1,6 +1,0 @@
-pub mod Words
-pub mod Subjects
-pub mod Asks
-pub mod Refusals
-pub mod Forms
-pub mod LineForms

@@ -1,0 +1,93 @@
+-- Arms, one after another, and what they leave of a store that is mounted.
+use Rattle.std.proofs.Common.{◌≡◌, ◌∙◌, ℕ, List, [], ◌∷◌, ◌++◌, Option, refl, sym, ap, subst}
+use Rattle.disk_model.specs.Controls.{failure_armed, stop_armed}
+use Rattle.disk_model.specs.State.{FileState}
+use Rattle.rpmb_card.specs.Port.{PortState}
+use Rattle.hmac_keys.specs.declared.Keys.{Keys}
+use Rattle.tee_types.specs.declared.reply.Device.{Device}
+use Rattle.tee_types.specs.declared.reply.Device.TheVariants.{Dir, File, Card, Entropy}
+use Rattle.dir_records.specs.declared.entry.DirEntry.{DirEntry}
+use Rattle.crash_core.specs.CoreState.{put}
+use Rattle.crash_core.specs.Mounting.{all_held_in, map_of}
+use Rattle.crash_core.specs.Opening.{opening_map}
+use Rattle.crash_core.proofs.Lists.{put_each}
+use Rattle.script_text.specs.declared.script.Arm.{Arm}
+use Rattle.script_text.specs.declared.script.Arm.TheVariants.{Fail, Lose, Stop}
+use Rattle.script_text.specs.Laws.{IsArmable}
+use Rattle.object_calls.specs.OpeningArms.{IsOnBench}
+use Rattle.object_calls.specs.Opening.{OpeningValue}
+use Rattle.run_acts.specs.Benches.{BenchState, opening_state}
+use Rattle.run_acts.specs.PhaseArms.{ArmsAll, ArmsOneOf, OnlyDevices}
+
+-- what can be armed is of the bench
+pub armable-on_bench : (device : Device) → IsArmable device → IsOnBench device
+armable-on_bench Dir is = tt
+armable-on_bench (File number) is = is
+armable-on_bench Card is = tt
+armable-on_bench Entropy is = is
+
+-- nothing was armed
+pub arms-none : (old : BenchState) → ArmsAll [] old old
+arms-none old = (λ file. refl, refl)
+
+-- one arm more
+pub arms_push : (arms : List Arm) (arm : Arm) (old new after : BenchState) → ArmsAll arms old new → ArmsOneOf arm new after → ArmsAll (arms ++ arm ∷ []) old after
+arms_push [] arm old new after (files, card) one =
+    let same : new ≡ old = λ i. record { files = λ file. files file i; card = card i } in
+    (after, subst (λ (b : BenchState). ArmsOneOf arm b after) same one, (λ file. refl, refl))
+arms_push (first ∷ arms) arm old new after (between, its, others) one = (between, its, arms_push arms arm between new after others one)
+
+-- Files that read as before.
+abbrev pub ReadTheSame : (old new : BenchState) → Type 0
+ReadTheSame old new = (file : ℕ) → (new.files file).reads ≡ (old.files file).reads
+
+put_reads : (old new : ℕ → FileState) (n : ℕ) (s : FileState) → ((k : ℕ) → new k ≡ put old n s k) → s.reads ≡ (old n).reads → (k : ℕ) → (new k).reads ≡ (old k).reads
+put_reads old new n s armed same k = ap (λ (x : FileState). x.reads) (armed k) ∙ put_each (λ j x. x.reads ≡ (old j).reads) old n s k same refl
+
+stops_read : (device : Device) (calls : ℕ) (old new : BenchState) → ArmsOneOf (Stop device calls) old new → ReadTheSame old new
+stops_read Dir calls old new s = put_reads old.files new.files 0 (stop_armed (old.files 0) calls) s.files refl
+stops_read (File n) calls old new s = put_reads old.files new.files n (stop_armed (old.files n) calls) s.files refl
+stops_read Card calls old new s = λ k. ap (λ (x : FileState). x.reads) (s.0 k)
+stops_read Entropy calls old new s = λ k. ap (λ (x : FileState). x.reads) (s.files k)
+
+fails_read : (device : Device) (call : ℕ) (old new : BenchState) → ArmsOneOf (Fail device call) old new → ReadTheSame old new
+fails_read Dir call old new s = put_reads old.files new.files 0 (failure_armed (old.files 0) call) s.files refl
+fails_read (File n) call old new s = put_reads old.files new.files n (failure_armed (old.files n) call) s.files refl
+fails_read Card call old new s = λ k. ap (λ (x : FileState). x.reads) (s.0 k)
+fails_read Entropy call old new s = λ k. ap (λ (x : FileState). x.reads) (s.files k)
+
+one_reads : (arm : Arm) (old new : BenchState) → ArmsOneOf arm old new → ReadTheSame old new
+one_reads (Stop device calls) old new s = stops_read device calls old new s
+one_reads (Fail device call) old new s = fails_read device call old new s
+one_reads (Lose call) old new s = λ k. ap (λ (x : FileState). x.reads) (s.0 k)
+
+pub arms_read : (arms : List Arm) (old new : BenchState) → ArmsAll arms old new → ReadTheSame old new
+arms_read [] old new s = λ k. ap (λ (x : FileState). x.reads) (s.0 k)
+arms_read (arm ∷ arms) old new (between, its, others) = λ k. arms_read arms between new others k ∙ one_reads arm old between its k
+
+-- so the objects are the same
+pub armed-map : (keys : Keys) (old new : ℕ → FileState) (entries : List (Option DirEntry)) → ((file : ℕ) → (new file).reads ≡ (old file).reads)
+    → opening_map keys new entries ≡ opening_map keys old entries
+armed-map keys old new entries reads = λ i. map_of (all_held_in keys (λ file. reads file i) entries)
+
+-- ONLY DEVICES
+module _ {F R : Type 0} where
+  pub devices-none : (o : OpeningValue F R) → OnlyDevices o o
+  devices-none o = refl
+
+  pub devices_then : (a b c : OpeningValue F R) → OnlyDevices a b → OnlyDevices b c → OnlyDevices a c
+  devices_then a b c first then =
+      subst (λ (x : OpeningValue F R). c ≡ record x {
+        gate = record x.gate { dir = record x.gate.dir { file = c.gate.dir.file }; host = record x.gate.host { port = c.gate.host.port } };
+        files = c.files;
+      }) first then
+
+  -- only the port changed
+  pub devices_of_port : (a b : OpeningValue F R) → b ≡ record a { gate = record a.gate { host = record a.gate.host { port = b.gate.host.port } } } → OnlyDevices a b
+  devices_of_port a b is =
+      let armed : OpeningValue F R = record a { gate = record a.gate { host = record a.gate.host { port = b.gate.host.port } } } in
+      subst (OnlyDevices a) (sym is) (let same : OnlyDevices a armed = refl in same)
+
+  pub files_of_port : (of_file : F → FileState) (of_port : R → PortState) (a b : OpeningValue F R) → b ≡ record a { gate = record a.gate { host = record a.gate.host { port = b.gate.host.port } } }
+      → (file : ℕ) → (opening_state of_file of_port b).files file ≡ (opening_state of_file of_port a).files file
+  files_of_port of_file of_port a b is file = ap (λ (o : OpeningValue F R). (opening_state of_file of_port o).files file) is

@@ -1,0 +1,130 @@
+-- A store that was served is closed: what its devices are, before its calls and behind them.
+use Rattle.std.proofs.Common.{◌≡◌, ◌∙◌, ◌+◌, ◌-◌, ◌<◌, ℕ, zero, suc, List, [], ◌++◌, length, Option, sym, ap, subst, arith}
+use Rattle.disk_model.specs.Calls.{GoesOn}
+use Rattle.disk_model.specs.State.{FileState}
+use Rattle.hmac_keys.specs.KeyTable.{rpmb_key}
+use Rattle.rpmb_card.specs.Port.{PortState}
+use Rattle.tee_types.specs.declared.reply.Device.{Device}
+use Rattle.tee_types.specs.declared.reply.Device.TheVariants.{Dir, File, Card, Entropy}
+use Rattle.store_model.specs.declared.event.Event.{Event}
+use Rattle.store_model.specs.Record.{events_of}
+use Rattle.core_laws.specs.Stores.{Store}
+use Rattle.shared_store.specs.CallerSessions.{CallerSession}
+use Rattle.store_commit.specs.Gates.{GateValue}
+use Rattle.shared_store.specs.SlotValues.{SlotValue}
+use Rattle.script_text.specs.declared.script.Mode.{Mode}
+use Rattle.script_text.specs.declared.script.Step.{Step}
+use Rattle.shared_store.specs.EventCounts.{events_at}
+use Rattle.shared_store.specs.Cards.{TellsCard}
+use Rattle.shared_store.specs.DeviceCounts.{Rise, counts_of, draws_of}
+use Rattle.shared_store.specs.Devices.{PortGoesOn, file_in, no_slot}
+use Rattle.object_calls.specs.OpeningArms.{IsOnBench}
+use Rattle.object_calls.specs.OpeningFiles.{files_of}
+use Rattle.object_calls.specs.FinishedPhase.{GivesBack, LeavesStore}
+use Rattle.object_calls.specs.Opening.{OpeningValue}
+use Rattle.object_calls.specs.Services.{ServiceValue}
+use Rattle.object_calls.specs.ServedPhases.{ServesOpening}
+use Rattle.object_calls.proofs.Files.{files_behind}
+use Rattle.run_acts.specs.MadeCalls.{MakesCalls, faults_at}
+use Rattle.run_acts.specs.Reliable.{AreFresh, AreReliable, StayReliable}
+use Rattle.run_acts.specs.ServedSteps.{ServesSteps}
+use Rattle.run_acts.specs.Benches.{BenchState, opening_state}
+use Rattle.run_acts.specs.Closing.{BenchGoesOn, ClosesStore, faults_on}
+use Rattle.run_acts.specs.PhaseServing.{HasDevices}
+use Rattle.run_acts.proofs.Draws.{drawn_from_0, undrawn_from_0}
+
+-- as the store begins to be served, its devices are those of the mounted store
+pub begins_devices : {F R : Type 0} (of_file : F → FileState) (of_port : R → PortState) (store : Store) (o : OpeningValue F R) (s : ServiceValue F R) → ServesOpening of_file store o s
+    → HasDevices of_file of_port s (opening_state of_file of_port o)
+begins_devices of_file of_port store o s serves = record {
+  dir = sym (ap (λ (g : GateValue _ _). of_file g.dir.file) serves.gate);
+  each = λ i d within. files_behind of_file o.gate.dir.file o.files (i + 1) (omega arith) ∙ behind i ∙ sym (ap (λ (x : SlotValue). x.file) (serves.slots i d within));
+  card = sym (ap (λ (g : GateValue _ _). of_port g.host.port) serves.gate);
+}
+  where
+    behind : (i : ℕ) → files_of of_file o.files (i + 1 - 1) ≡ files_of of_file o.files i
+    behind i = let same : i + 1 - 1 ≡ i = omega arith in ap (files_of of_file o.files) same
+
+-- as it is closed, the bench has them
+pub ends_devices : {F R : Type 0} (of_file : F → FileState) (of_port : R → PortState) (s : ServiceValue F R) (files : List F) (card : R) → GivesBack of_file s files card
+    → HasDevices of_file of_port s (record { files = files_of of_file files; card = of_port card })
+ends_devices of_file of_port s files card gives = record {
+  dir = ap (λ (l : List _). files_of of_file l 0) gives.dir;
+  each = gives.each;
+  card = ap of_port gives.port;
+}
+
+module _ {F R E : Type 0} (of_file : F → FileState) (of_port : R → PortState) (draws : E → ℕ) (is_reliable : E → Type 0) where
+  -- the file of that number
+  file_of_number : (s : ServiceValue F R) (bench : BenchState) → HasDevices of_file of_port s bench → (k : ℕ) → suc k < 273 → bench.files (suc k) ≡ file_in s.slots (suc k)
+  file_of_number s bench has k below =
+      let number : suc k - 1 + 1 ≡ suc k = omega arith in
+      ap bench.files (sym number) ∙ has.each (suc k - 1) no_slot (omega (arith, below))
+
+  faults_same : (s : ServiceValue F R) (bench : BenchState) → HasDevices of_file of_port s bench → (device : Device) → IsOnBench device → faults_at of_file of_port draws s device ≡ faults_on bench device
+  faults_same s bench has Dir on = sym (ap (λ (f : FileState). f.faults) has.dir)
+  faults_same s bench has (File zero) on = absurd (omega (arith, on.0))
+  faults_same s bench has (File (suc k)) on = sym (ap (λ (f : FileState). f.faults) (file_of_number s bench has k (omega (arith, on.1))))
+  faults_same s bench has Card on = sym (ap (λ (p : PortState). p.faults) has.card)
+  faults_same s bench has Entropy on = absurd on
+
+  module _ (store : Store) (old new : ServiceValue F R) (before closed : BenchState) (was now : List (CallerSession E)) (calls : List Step) (has_before : HasDevices of_file of_port old before)
+      (has_closed : HasDevices of_file of_port new closed) (makes : MakesCalls of_file of_port draws store old new was now calls) where
+    abbrev key : List ℕ
+    key = rpmb_key store.keys.huk
+
+    file_goes_on : (file : ℕ) → file < 273 → GoesOn (before.files file) (closed.files file)
+    file_goes_on zero below = subst (λ (p : FileState × FileState). GoesOn p.0 p.1) (λ i. (sym has_before.dir i, sym has_closed.dir i)) makes.devices.dir
+    file_goes_on (suc k) below =
+        subst (λ (p : FileState × FileState). GoesOn p.0 p.1) (λ i. (sym (file_of_number old before has_before k below) i, sym (file_of_number new closed has_closed k below) i))
+        (makes.devices.file (suc k))
+
+    pub goes_on : BenchGoesOn key before closed
+    goes_on = record {
+      files = file_goes_on;
+      card = subst (λ (p : PortState × PortState). PortGoesOn key p.0 p.1) (λ i. (sym has_before.card i, sym has_closed.card i)) makes.devices.card;
+    }
+
+    pub counted_on : (device : Device) → IsOnBench device → Rise (faults_on before device) (faults_on closed device) (counts_of device makes.added)
+    counted_on device on =
+        subst (λ (p : ℕ × ℕ). Rise p.0 p.1 (counts_of device makes.added)) (λ i. (faults_same old before has_before device on i, faults_same new closed has_closed device on i))
+        (makes.counted device on)
+
+    pub closes_store : (mode : Mode) (doubt : Option ℕ) (events : List Event) → length was ≡ length store.mounted.applications → AreFresh draws was → StayReliable is_reliable draws was now → events_at old.gate ≡ []
+        → (events_at old.gate ≡ [] → (any : Mode) → ServesSteps any calls (events_at new.gate)) → events ≡ events_of new.gate.journal.knows.all → LeavesStore store new.gate.journal.knows closed.files closed.card doubt
+        → ClosesStore (AreReliable is_reliable was) store before mode calls closed events
+    closes_store mode doubt events many fresh stay empty serves is leaves =
+        let added : makes.added ≡ events = sym (is ∙ makes.events ∙ ap (λ (l : List Event). l ++ makes.added) empty) in
+        record {
+          view = new.gate.journal.knows;
+          events_are = is;
+          serves = subst (ServesSteps mode calls) (sym is) (serves empty mode);
+          doubt = doubt;
+          leaves = leaves;
+          counted = λ device on. subst (λ (l : List Event). Rise (faults_on before device) (faults_on closed device) (counts_of device l)) added (counted_on device on);
+          devices = goes_on;
+          card = subst (TellsCard key before.card) added (subst (λ (p : PortState). TellsCard key p makes.added) (sym has_before.card) makes.card);
+          drawn = λ session within.
+              subst (λ (l : List Event). (last : ℕ) × Rise 0 last (draws_of session l)) added
+              (let below : session < length was = omega (arith, within, many) in drawn_from_0 draws was now session (draws_of session makes.added) below fresh (λ d. makes.drawn session d below));
+          undrawn = λ reliable session within.
+              subst (λ (l : List Event). draws_of session l ≡ []) added
+              (let below : session < length was = omega (arith, within, many) in
+              undrawn_from_0 is_reliable draws was now session (draws_of session makes.added) below fresh reliable (λ d. stay session d below) (λ d. makes.drawn session d below));
+        }
+
+-- Where a generator that never fails has streams that never do, so much is said of it.
+pub closes_where : (Streams Generator : Type 0) (store : Store) (before : BenchState) (mode : Mode) (calls : List Step) (closed : BenchState) (events : List Event) → (Generator → Streams)
+    → ClosesStore Streams store before mode calls closed events → ClosesStore Generator store before mode calls closed events
+closes_where Streams Generator store before mode calls closed events never c = record {
+  view = c.view;
+  events_are = c.events_are;
+  serves = c.serves;
+  doubt = c.doubt;
+  leaves = c.leaves;
+  counted = c.counted;
+  devices = c.devices;
+  card = c.card;
+  drawn = c.drawn;
+  undrawn = λ generator. c.undrawn (never generator);
+}

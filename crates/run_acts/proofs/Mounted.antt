@@ -1,0 +1,86 @@
+-- A mount of a bench that holds what is left.
+use Rattle.std.proofs.Common.{◌≡◌, ◌∙◌, ℕ, zero, suc, [], Bool, Some, Result, Ok, Err, IsTrue, inl, inr, refl, sym, ap, subst, arith}
+use Rattle.disk_model.specs.State.{FileState, LeftNow}
+use Rattle.disk_model.specs.Calls.{GoesOn, Known}
+use Rattle.disk_model.proofs.ImageLaws.{reads_left}
+use Rattle.hmac_keys.specs.declared.Keys.{Keys}
+use Rattle.hmac_keys.specs.KeyTable.{rpmb_key}
+use Rattle.rpmb_card.specs.Card.{CardState}
+use Rattle.rpmb_card.specs.Port.{PortState}
+use Rattle.rpmb_host.specs.Honest.{HasCard}
+use Rattle.store_model.specs.Object.{ObjectMap}
+use Rattle.store_model.specs.ReplayState.{ReplayState}
+use Rattle.crash_core.specs.Mounting.{mounted}
+use Rattle.crash_core.specs.Opening.{reads_of}
+use Rattle.crash_core.specs.Pictures.{IsPictureOf, Picture}
+use Rattle.crash_core.specs.Refusal.{Refusal}
+use Rattle.object_calls.specs.FinishedPhase.{IsMapLeft}
+use Rattle.object_calls.specs.Opening.{OpeningValue, bench_files}
+use Rattle.run_acts.specs.Benches.{BenchState}
+use Rattle.run_acts.specs.MountedDevices.{IsMounted, objects_in}
+use Rattle.run_acts.specs.Between.{AreReadable, AreSound}
+use Rattle.run_acts.specs.DeviceLaws.{MountsOpenWithLeft, NextOpeningsAreLeft, NextPhasesOpenWithLeft}
+use Rattle.run_acts.specs.Left.{AreLeft, HoldsLeft, replay_left}
+use Rattle.run_acts.proofs.CrashedLaws.{card_of, crashes_keep}
+use Rattle.run_acts.proofs.PhasesLeft.{phases_leave}
+
+-- the map of an answer
+map_in : Result ObjectMap Refusal → ObjectMap
+map_in (Ok objects) = objects
+map_in (Err refusal) = []
+
+same_map : (a b : ObjectMap) (r : Result ObjectMap Refusal) → r ≡ Ok a → r ≡ Ok b → a ≡ b
+unfolding map_in
+same_map a b r first second = ap map_in (sym first ∙ second)
+
+-- what a picture mounts to is left
+pub map_left : (keys : Keys) (picture : Picture) (s : ReplayState) (objects : ObjectMap) → mounted keys picture ≡ Ok objects → IsMapLeft keys picture s → AreLeft s objects
+map_left keys picture s objects is (inl left) = inl (same_map objects (s.state).objects (mounted keys picture) is left)
+map_left keys picture s objects is (inr doubted) = inr (doubted.1 ∙ ap Some (same_map doubted.0 objects (mounted keys picture) doubted.2 is))
+
+module _ {F R : Type 0} (of_file : F → FileState) (of_port : R → PortState) (keys : Keys) (old : BenchState) (o : OpeningValue F R) (m : IsMounted of_file of_port keys old o) where
+  abbrev opened : ℕ → FileState
+  opened = bench_files of_file o
+
+  -- a mount only reads and syncs
+  pub mount_goes_on : (file : ℕ) → GoesOn (old.files file) (opened file)
+  mount_goes_on zero = (((m.gate).devices).keeps).goes_on
+  mount_goes_on (suc k) = (((m.files).each (suc k) (omega arith)).keeps).goes_on
+
+  pub mount_reads : (file : ℕ) → Known (old.files file) (opened file) → (opened file).reads ≡ (old.files file).reads
+  mount_reads zero known = ((m.gate).devices).reads known
+  mount_reads (suc k) known = ((m.files).each (suc k) (omega arith)).reads known
+
+  -- it tells its bytes as before
+  pub mount_tells : (file : ℕ) → IsTrue (old.files file).tells → IsTrue (opened file).tells
+  mount_tells file tells = subst (λ (t : Bool). IsTrue t) (sym (mount_goes_on file).tells) tells
+
+  module _ (s : ReplayState) (card : CardState) (holds : HoldsLeft keys old s) (sound : AreSound old.files) (readable : AreReadable old.files opened) (has : HasCard old.card (rpmb_key keys.huk) card) where
+    abbrev as_read : Picture
+    as_read = record { images = reads_of opened; card = card }
+
+    read_picture : IsPictureOf old.files card as_read
+    read_picture = record {
+      left = λ file. subst (LeftNow (old.files file)) (sym (mount_reads file (readable file))) (reads_left (old.files file) (sound file));
+      same = record { key = refl; counter = refl; blocks = refl };
+    }
+
+    pub opens_with_left : AreLeft s (objects_in of_file of_port keys o)
+    opens_with_left = map_left keys as_read s (objects_in of_file of_port keys o)
+        (m.mounted (mount_tells 0 ((sound 0).told (holds.honest 0)), readable 0) card has) (holds.mounts card as_read has read_picture)
+
+pub mounts_open_with_left : {F R : Type 0} (of_file : F → FileState) (of_port : R → PortState) → MountsOpenWithLeft of_file of_port
+mounts_open_with_left of_file of_port keys s old o card holds sound m readable has = opens_with_left of_file of_port keys old o m s card holds sound readable has
+
+pub next_openings_are_left : {F R : Type 0} (of_file : F → FileState) (of_port : R → PortState) (Reliable : Type 0) → NextOpeningsAreLeft of_file of_port Reliable
+next_openings_are_left of_file of_port Reliable keys applications arms mode calls old new opening events between o card r honest may sound m readable has =
+    let left = replay_left opening applications events in
+    let holds : HoldsLeft keys between left = crashes_keep keys left new between (phases_leave of_file of_port Reliable keys applications arms mode calls old new opening events r honest) may in
+    let there : HasCard between.card (rpmb_key keys.huk) card =
+    card_of between.card new.card (rpmb_key keys.huk) card (ap (λ (p : PortState). p.card) (sym may.card)) has in
+    mounts_open_with_left of_file of_port keys left between o card holds sound m readable there
+
+pub next_phases_open_with_left : {F R : Type 0} (of_file : F → FileState) (of_port : R → PortState) (Reliable : Type 0) → NextPhasesOpenWithLeft of_file of_port Reliable
+next_phases_open_with_left of_file of_port Reliable keys applications later arms more mode next calls others old new between last opening objects events after card r honest may sound second readable has =
+    subst (AreLeft (replay_left opening applications events)) (sym second.objects)
+    (next_openings_are_left of_file of_port Reliable keys applications arms mode calls old new opening events between second.opened card r honest may sound second.mounts readable has)

@@ -1,0 +1,79 @@
+-- What a mount says of its bench, in the words of benches.
+use Rattle.std.proofs.Common.{◌≤◌, ℕ, zero, suc, List, sym, subst, arith}
+use Rattle.disk_model.specs.State.{FileState}
+use Rattle.hmac_keys.specs.declared.Keys.{Keys}
+use Rattle.rpmb_card.specs.Port.{PortState}
+use Rattle.tee_types.specs.declared.reply.Cause.TheVariants.{Fault, Frame as FrameCause, CardResult as ResultCause}
+use Rattle.tee_types.specs.declared.reply.Device.TheVariants.{Dir, File, Card, Entropy}
+use Rattle.store_commit.specs.declared.fault.MountFault.{MountFault}
+use Rattle.store_commit.specs.declared.fault.MountFault.TheVariants.{NoStore, CardBlock, Directory, Frame, CardResult, Failed, Spent, NoMemory}
+use Rattle.store_commit.specs.Mounts.{LeavesDevices}
+use Rattle.object_calls.specs.OpeningFiles.{files_of}
+use Rattle.object_calls.specs.MountRefusals.{BenchRefused, GateRefuses}
+use Rattle.object_calls.specs.Syncing.{IsOnlySynced}
+use Rattle.object_calls.proofs.Syncs.{only_none}
+use Rattle.run_acts.specs.Benches.{BenchState, KeepsDevices}
+use Rattle.run_acts.specs.MountedDevices.{IsGateRefused, StopsMounting}
+use Rattle.run_acts.proofs.ObjectFiles.{same_objects}
+
+-- the directory's file is file 0, and each other is an object's
+pub each_file : (P : ℕ → Type 0) → P 0 → ((file : ℕ) → 1 ≤ file → P file) → (file : ℕ) → P file
+each_file P first others zero = first
+each_file P first others (suc k) = others (suc k) (omega arith)
+
+module _ {F : Type 0} (state : F → FileState) (keys : Keys) (old new : List F) (p0 p1 : PortState) (drew draws : ℕ) where
+  abbrev was : BenchState
+  was = record { files = files_of state old; card = p0 }
+
+  abbrev now : BenchState
+  now = record { files = files_of state new; card = p1 }
+
+  gate_refused : (fault : MountFault) → GateRefuses state old new p0 p1 keys drew draws fault → IsGateRefused keys was now drew draws fault
+  gate_refused fault g = record { refused = g.refused; differs = g.differs; same = same_objects state old new g.same }
+
+  pub stops_mounting : (fault : MountFault) → BenchRefused state old new p0 p1 keys drew draws fault → StopsMounting keys was now drew draws fault
+  stops_mounting NoStore g = gate_refused NoStore g
+  stops_mounting (CardBlock byte) g = gate_refused (CardBlock byte) g
+  stops_mounting (Directory fault) g = gate_refused (Directory fault) g
+  stops_mounting (Frame fault) g = gate_refused (Frame fault) g
+  stops_mounting (CardResult value) g = gate_refused (CardResult value) g
+  stops_mounting (Failed (Fault Dir count)) g = gate_refused (Failed (Fault Dir count)) g
+  stops_mounting (Failed (Fault (File n) count)) stops = stops
+  stops_mounting (Failed (Fault Card count)) g = gate_refused (Failed (Fault Card count)) g
+  stops_mounting (Failed (Fault Entropy count)) g = gate_refused (Failed (Fault Entropy count)) g
+  stops_mounting (Failed (FrameCause fault)) g = gate_refused (Failed (FrameCause fault)) g
+  stops_mounting (Failed (ResultCause value)) g = gate_refused (Failed (ResultCause value)) g
+  stops_mounting Spent g = gate_refused Spent g
+  stops_mounting NoMemory g = gate_refused NoMemory g
+
+-- the files of objects that a mount left were only synced
+objects_kept : (keys : Keys) (old new : BenchState) (drew draws : ℕ) (fault : MountFault) → StopsMounting keys old new drew draws fault → (file : ℕ) → 1 ≤ file → IsOnlySynced (old.files file) (new.files file)
+objects_kept keys old new drew draws (Failed (Fault (File n) count)) stops file from = stops.each file from
+objects_kept keys old new drew draws NoStore g file from = subst (IsOnlySynced (old.files file)) (sym (g.same file from)) (only_none (old.files file))
+objects_kept keys old new drew draws (CardBlock byte) g file from = subst (IsOnlySynced (old.files file)) (sym (g.same file from)) (only_none (old.files file))
+objects_kept keys old new drew draws (Directory fault) g file from = subst (IsOnlySynced (old.files file)) (sym (g.same file from)) (only_none (old.files file))
+objects_kept keys old new drew draws (Frame fault) g file from = subst (IsOnlySynced (old.files file)) (sym (g.same file from)) (only_none (old.files file))
+objects_kept keys old new drew draws (CardResult value) g file from = subst (IsOnlySynced (old.files file)) (sym (g.same file from)) (only_none (old.files file))
+objects_kept keys old new drew draws (Failed (Fault Dir count)) g file from = subst (IsOnlySynced (old.files file)) (sym (g.same file from)) (only_none (old.files file))
+objects_kept keys old new drew draws (Failed (Fault Card count)) g file from = subst (IsOnlySynced (old.files file)) (sym (g.same file from)) (only_none (old.files file))
+objects_kept keys old new drew draws (Failed (Fault Entropy count)) g file from = subst (IsOnlySynced (old.files file)) (sym (g.same file from)) (only_none (old.files file))
+objects_kept keys old new drew draws (Failed (FrameCause fault)) g file from = subst (IsOnlySynced (old.files file)) (sym (g.same file from)) (only_none (old.files file))
+objects_kept keys old new drew draws (Failed (ResultCause value)) g file from = subst (IsOnlySynced (old.files file)) (sym (g.same file from)) (only_none (old.files file))
+objects_kept keys old new drew draws Spent g file from = subst (IsOnlySynced (old.files file)) (sym (g.same file from)) (only_none (old.files file))
+objects_kept keys old new drew draws NoMemory g file from = subst (IsOnlySynced (old.files file)) (sym (g.same file from)) (only_none (old.files file))
+
+dir_kept : (a b : FileState) (p0 p1 : PortState) → LeavesDevices a b p0 p1 → IsOnlySynced a b
+dir_kept a b p0 p1 leaves = record { keeps = leaves.keeps; reads = leaves.reads }
+
+pub refused_keeps : (keys : Keys) (old new : BenchState) (drew draws : ℕ) (fault : MountFault) → StopsMounting keys old new drew draws fault
+    → LeavesDevices (old.files 0) (new.files 0) old.card new.card → KeepsDevices old new
+refused_keeps keys old new drew draws fault stops leaves = record {
+  files = each_file (λ file. IsOnlySynced (old.files file) (new.files file)) (dir_kept (old.files 0) (new.files 0) old.card new.card leaves) (objects_kept keys old new drew draws fault stops);
+  card = leaves.card;
+}
+
+pub mounted_keeps : (old new : BenchState) → LeavesDevices (old.files 0) (new.files 0) old.card new.card → ((file : ℕ) → 1 ≤ file → IsOnlySynced (old.files file) (new.files file)) → KeepsDevices old new
+mounted_keeps old new leaves each = record {
+  files = each_file (λ file. IsOnlySynced (old.files file) (new.files file)) (dir_kept (old.files 0) (new.files 0) old.card new.card leaves) each;
+  card = leaves.card;
+}

@@ -1,0 +1,114 @@
+-- A phase on devices that do not fail.
+use Rattle.std.proofs.Common.{◌≡◌, ◌∙◌, ◌<◌, ◌-◌, ◌^◌, ℕ, List, [], length, refl, sym, ap, subst, inl, inr, arith}
+use Rattle.std.specs.Prelude.{IsTrue}
+use Rattle.std.proofs.lemmas.List.{length-map}
+use Rattle.disk_model.specs.Faults.{Rose}
+use Rattle.disk_model.specs.State.{FileState}
+use Rattle.hmac_keys.specs.declared.Keys.{Keys}
+use Rattle.hmac_keys.specs.KeyTable.{rpmb_key}
+use Rattle.rpmb_card.specs.Port.{PortState}
+use Rattle.rpmb_host.specs.Honest.{HadCard}
+use Rattle.tee_types.specs.declared.reply.Device.{Device}
+use Rattle.tee_types.specs.declared.reply.Device.TheVariants.{Card, Dir, Entropy, File}
+use Rattle.store_model.specs.declared.event.Event.{Event}
+use Rattle.store_model.specs.Machine.{new_session}
+use Rattle.store_model.specs.Object.{ObjectMap}
+use Rattle.store_model.specs.ReplayState.{opening}
+use Rattle.core_laws.specs.Stores.{Store, phase_of}
+use Rattle.script_text.specs.declared.script.Mode.{Mode}
+use Rattle.script_text.specs.declared.script.Step.{Step}
+use Rattle.shared_store.specs.DeviceCounts.{Rise, counts_of}
+use Rattle.shared_store.proofs.Rises.{Rise-still}
+use Rattle.object_calls.specs.OpeningArms.{IsOnBench}
+use Rattle.object_calls.specs.FinishedPhase.{AreAllHonest}
+use Rattle.run_acts.specs.Benches.{BenchState, opening_state}
+use Rattle.run_acts.specs.Closing.{faults_on}
+use Rattle.run_acts.specs.Phases.{RunsPhase}
+use Rattle.run_acts.specs.Quiet.{AreOfMachine, IsQuiet, IsQuietFile, QuietPhasesAreOfMachine}
+use Rattle.run_acts.proofs.Mounted.{mount_goes_on}
+use Rattle.run_acts.proofs.Untold.{Untold, of_machine_all}
+
+not_risen : (n m : ℕ) → m ≡ n → n < 2 ^ 64 - 1 → Rose n m → ⊥
+not_risen n m same below rose = omega (arith, same, below, rose)
+
+module _ {F R : Type 0} (of_file : F → FileState) (of_port : R → PortState) (Reliable : Type 0) (keys : Keys) (applications : List (List ℕ)) (mode : Mode) (calls : List Step) (old new : BenchState)
+    (objects : ObjectMap) (events : List Event) (r : RunsPhase of_file of_port Reliable keys applications [] mode calls old new objects events)
+    (was_quiet : IsQuiet keys old) (reliable : Reliable) (honest : AreAllHonest new.files) where
+  open r use {closed}
+
+  abbrev armed : BenchState
+  armed = opening_state of_file of_port (r.serves).armed
+
+  abbrev s : Store
+  s = (r.serves).store
+
+  abbrev opened : BenchState
+  opened = opening_state of_file of_port r.opened
+
+  opened_file : (file : ℕ) → file < 273 → IsQuietFile (opened.files file)
+  opened_file file within =
+      let was = was_quiet.files file within in record {
+        calm = (mount_goes_on of_file of_port keys old r.opened r.mounts file).calm was.calm;
+        faults = subst (λ (n : ℕ). n < 2 ^ 64 - 1) (sym ((r.passed).files file).faults) was.faults;
+        starved = subst (λ (n : ℕ). n < 2 ^ 64 - 1) (sym ((r.passed).files file).starved) was.starved;
+      }
+
+  opened_calm : IsTrue (opened.card).calm
+  opened_calm =
+      let read = (((r.mounts).gate).heard).read in
+      (((read.second).asks).exchanged).stays_calm ((((read.first).asks).exchanged).stays_calm was_quiet.calm)
+
+  opened_card : HadCard opened.card (rpmb_key keys.huk)
+  opened_card = let had = was_quiet.card in (had.0, record { told = (r.keeps).card ∙ (had.1).told; keyed = (had.1).keyed })
+
+  -- a mount leaves a quiet bench quiet, and nothing is armed
+  quiet : IsQuiet keys armed
+  quiet =
+      let same = ((r.serves).arms_are).1 in record {
+        files = λ file within. subst IsQuietFile (sym (((r.serves).arms_are).0 file)) (opened_file file within);
+        calm = subst (λ (p : PortState). IsTrue p.calm) (sym same) opened_calm;
+        faults = subst (λ (p : PortState). p.faults < 2 ^ 64 - 1) (sym same) (subst (λ (n : ℕ). n < 2 ^ 64 - 1) (sym (r.passed).card) was_quiet.faults);
+        card = subst (λ (p : PortState). HadCard p (rpmb_key keys.huk)) (sym same) opened_card;
+      }
+
+  -- in no call of a file did memory run out
+  starved_same : (file : ℕ) → (closed.files file).starved ≡ (armed.files file).starved
+  starved_same file =
+      sym (ap (λ (f : FileState). f.starved) ((r.disarms).files file)) ∙ r.with_memory file ∙ sym ((r.passed).files file).starved
+      ∙ sym (ap (λ (f : FileState). f.starved) ((r.serves).arms_are.0 file))
+
+  -- so none counted a fault
+  file_same : (file : ℕ) → file < 273 → (closed.files file).faults ≡ (armed.files file).faults
+  file_same file within = elim (((((r.serves).closes).devices).files file within).quiet (quiet.files file within).calm) [
+    | inl same ↦ same
+    | inr rose ↦ absurd (not_risen (armed.files file).starved (closed.files file).starved (starved_same file) (quiet.files file within).starved rose)
+  ]
+
+  still : (device : Device) → IsOnBench device → (faults_on closed device ≡ faults_on armed device) × (faults_on armed device < 2 ^ 64 - 1)
+  still Dir on = (file_same 0 (omega arith), (quiet.files 0 (omega arith)).faults)
+  still (File n) on = (file_same n (omega (arith, on.1)), (quiet.files n (omega (arith, on.1))).faults)
+  still Card on = (((((r.serves).closes).devices).card.calm quiet.calm).faults, quiet.faults)
+  still Entropy on = absurd on
+
+  untold : Untold (length (s.mounted).applications) events
+  untold = record {
+    counts = λ device on.
+        let same = still device on in
+        Rise-still (faults_on armed device) (counts_of device events) same.1
+        (subst (λ (n : ℕ). Rise (faults_on armed device) n (counts_of device events)) same.0 (((r.serves).closes).counted device on));
+    frames = (((r.serves).closes).card).frames (subst (λ (k : Keys). HadCard armed.card (rpmb_key k.huk)) (sym (r.serves).keys_are) quiet.card);
+    draws = ((r.serves).closes).undrawn reliable;
+  }
+
+  closed_honest : AreAllHonest closed.files
+  closed_honest file = subst (λ (f : FileState). IsTrue f.honest) ((r.disarms).files file) (honest file)
+
+  pub quiet_of_machine : AreOfMachine (opening (phase_of s)) (((r.serves).closes).view).all
+  quiet_of_machine =
+      of_machine_all (length (s.mounted).applications) (opening (phase_of s)) (((r.serves).closes).view).all refl (length-map (s.mounted).applications new_session)
+      (((((r.serves).closes).leaves).honest closed_honest).events_legal) (subst (Untold (length (s.mounted).applications)) ((r.serves).closes).events_are untold)
+      (((r.serves).closes).leaves).tagged
+
+pub quiet_phases_are_of_machine : {F R : Type 0} (of_file : F → FileState) (of_port : R → PortState) (Reliable : Type 0) → QuietPhasesAreOfMachine of_file of_port Reliable
+quiet_phases_are_of_machine of_file of_port Reliable keys applications mode calls old new objects events r quiet reliable honest =
+    quiet_of_machine of_file of_port Reliable keys applications mode calls old new objects events r quiet reliable honest

@@ -1,0 +1,85 @@
+-- A mounted store that is ready is the store that was mounted, under the same keys and with the same objects.
+use Rattle.std.proofs.Common.{◌≡◌, ◌∙◌, ℕ, List, Option, refl, ap}
+use Rattle.disk_model.specs.State.{FileState}
+use Rattle.hmac_keys.specs.declared.Keys.{Keys}
+use Rattle.rpmb_card.specs.Port.{PortState}
+use Rattle.dir_records.specs.declared.entry.DirEntry.{DirEntry}
+use Rattle.store_model.specs.declared.event.Event.{Event}
+use Rattle.store_model.specs.Object.{ObjectMap}
+use Rattle.crash_core.specs.Opening.{opening_map}
+use Rattle.script_text.specs.declared.script.Arm.{Arm}
+use Rattle.script_text.specs.declared.script.Mode.{Mode}
+use Rattle.script_text.specs.declared.script.Step.{Step}
+use Rattle.object_calls.specs.OpenedStores.{store_in}
+use Rattle.object_calls.specs.Opening.{IsKeyed, OpeningValue, bench_files, entries_in}
+use Rattle.run_acts.specs.Benches.{BenchState, opening_state}
+use Rattle.run_acts.specs.MountedDevices.{objects_in}
+use Rattle.run_acts.specs.PhaseArms.{IsReady}
+use Rattle.run_acts.specs.Closing.{ClosesStore}
+use Rattle.run_acts.specs.Phases.{RunsPhase, ServesOpened}
+use Rattle.run_acts.proofs.Arms.{armed-map, arms_read}
+use Rattle.run_acts.proofs.Closings.{closes_where}
+
+module _ {F R : Type 0} (of_file : F → FileState) (of_port : R → PortState) (applications : List (List ℕ)) (arms : List Arm) (opened armed : OpeningValue F R)
+    (ready : IsReady of_file of_port applications arms opened armed) where
+  pub ready-applications : armed.applications ≡ applications
+  ready-applications = ap (λ (o : OpeningValue F R). o.applications) ready.others
+
+  pub ready-keyed : (keys : Keys) → IsKeyed keys opened → IsKeyed keys armed
+  ready-keyed keys keyed = record {
+    storage = ap (λ (o : OpeningValue F R). o.storage_key) ready.others ∙ keyed.storage;
+    card = ap (λ (o : OpeningValue F R). o.gate.host.key) ready.others ∙ keyed.card;
+  }
+
+  ready-entries : entries_in armed ≡ entries_in opened
+  ready-entries = ap (λ (o : OpeningValue F R). entries_in o) ready.others
+
+  ready-map : (keys : Keys) → objects_in of_file of_port keys armed ≡ objects_in of_file of_port keys opened
+  ready-map keys =
+      ap (λ (entries : List (Option DirEntry)). opening_map keys (bench_files of_file armed) entries) ready-entries
+      ∙ armed-map keys (bench_files of_file opened) (bench_files of_file armed) (entries_in opened)
+      (arms_read arms (opening_state of_file of_port opened) (opening_state of_file of_port armed) ready.arms_are)
+
+  pub serves_opened : (Reliable : Type 0) (keys : Keys) (mode : Mode) (calls : List Step) (closed : BenchState) (events : List Event) → IsKeyed keys opened
+      → ClosesStore Reliable (store_in keys of_file of_port armed) (opening_state of_file of_port armed) mode calls closed events
+      → ServesOpened of_file of_port Reliable keys applications arms mode calls opened closed events
+  serves_opened Reliable keys mode calls closed events keyed closes = record {
+    armed = armed;
+    applications_are = ready-applications;
+    arms_are = ready.arms_are;
+    store = store_in keys of_file of_port armed;
+    is_store = record { keyed = ready-keyed keys keyed; is = refl };
+    keys_are = refl;
+    opens = ready-map keys;
+    closes = closes;
+  }
+
+-- where a generator that never fails leaves one that never does, so much is said of it
+pub serves_where : {F R : Type 0} (of_file : F → FileState) (of_port : R → PortState) (Streams Generator : Type 0) (keys : Keys) (applications : List (List ℕ)) (arms : List Arm) (mode : Mode) (calls : List Step)
+    (opened : OpeningValue F R) (closed : BenchState) (events : List Event) → (Generator → Streams) → ServesOpened of_file of_port Streams keys applications arms mode calls opened closed events
+    → ServesOpened of_file of_port Generator keys applications arms mode calls opened closed events
+serves_where of_file of_port Streams Generator keys applications arms mode calls opened closed events never s = record {
+  armed = s.armed;
+  applications_are = s.applications_are;
+  arms_are = s.arms_are;
+  store = s.store;
+  is_store = s.is_store;
+  keys_are = s.keys_are;
+  opens = s.opens;
+  closes = closes_where Streams Generator s.store (opening_state of_file of_port s.armed) mode calls closed events never s.closes;
+}
+
+pub runs_where : {F R : Type 0} (of_file : F → FileState) (of_port : R → PortState) (Later First : Type 0) (keys : Keys) (applications : List (List ℕ)) (arms : List Arm) (mode : Mode) (calls : List Step)
+    (old new : BenchState) (opening : ObjectMap) (events : List Event) → (First → Later) → RunsPhase of_file of_port Later keys applications arms mode calls old new opening events
+    → RunsPhase of_file of_port First keys applications arms mode calls old new opening events
+runs_where of_file of_port Later First keys applications arms mode calls old new opening events lasts r = record {
+  opened = r.opened;
+  mounts = r.mounts;
+  keeps = r.keeps;
+  passed = r.passed;
+  objects = r.objects;
+  closed = r.closed;
+  serves = serves_where of_file of_port Later First keys applications arms mode calls r.opened r.closed events lasts r.serves;
+  disarms = r.disarms;
+  with_memory = r.with_memory;
+}

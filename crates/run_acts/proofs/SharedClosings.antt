@@ -1,0 +1,50 @@
+-- A store that threads served beside each other, and that was closed.
+use Rattle.std.proofs.Common.{◌≡◌, ◌<◌, ℕ, zero, suc, List, arith}
+use Rattle.disk_model.specs.Calls.{GoesOn}
+use Rattle.disk_model.specs.State.{FileState}
+use Rattle.rpmb_card.specs.Port.{PortState}
+use Rattle.tee_types.specs.declared.reply.Device.{Device}
+use Rattle.tee_types.specs.declared.reply.Device.TheVariants.{Card, Dir, Entropy, File}
+use Rattle.store_model.specs.declared.event.Event.{Event}
+use Rattle.core_laws.specs.Stores.{Store}
+use Rattle.script_text.specs.declared.script.Mode.TheVariants.{Serial, Threads}
+use Rattle.script_text.specs.declared.script.Step.{Step}
+use Rattle.shared_store.specs.DeviceCounts.{Rise, counts_of}
+use Rattle.object_calls.specs.OpeningArms.{IsOnBench}
+use Rattle.object_calls.specs.Opening.{OpeningValue}
+use Rattle.run_acts.specs.Benches.{BenchState, opening_state}
+use Rattle.run_acts.specs.Closing.{ClosesStore, faults_on}
+use Rattle.run_acts.specs.SharedClosing.{ClosesShared}
+use Rattle.run_acts.specs.Sharing.{opening_devices}
+
+threads_not_serial : Threads ≡ Serial → ⊥
+threads_not_serial is = cc
+
+module _ {F R : Type 0} (of_file : F → FileState) (of_port : R → PortState) (Reliable : Type 0) (store : Store) (o : OpeningValue F R) (calls : List Step) (closed : BenchState) (events : List Event)
+    (c : ClosesShared Reliable store (opening_devices of_file of_port o) calls closed.files closed.card events) where
+  abbrev before : BenchState
+  before = opening_state of_file of_port o
+
+  counted : (device : Device) → IsOnBench device → Rise (faults_on before device) (faults_on closed device) (counts_of device events)
+  counted Dir on = c.dir_counted
+  counted (File n) on = c.each_counted n on
+  counted Card on = c.port_counted
+  counted Entropy on = absurd on
+
+  goes_on : (file : ℕ) → file < 273 → GoesOn (before.files file) (closed.files file)
+  goes_on zero within = c.dir
+  goes_on (suc i) within = c.each (suc i) (omega arith, omega (arith, within))
+
+  pub shared_closes : ClosesStore Reliable store before Threads calls closed events
+  shared_closes = record {
+    view = c.view;
+    events_are = c.events_are;
+    serves = record { of_each_application = c.serves; in_script_order = λ is. absurd (threads_not_serial is) };
+    doubt = c.doubt;
+    leaves = c.leaves;
+    counted = counted;
+    devices = record { files = goes_on; card = c.port };
+    card = c.told;
+    drawn = c.drawn;
+    undrawn = c.undrawn;
+  }

@@ -1,0 +1,21 @@
+use Rattle.run_acts.proofs.ObjectFiles.{same_objects}
+use Rattle.run_acts.proofs.first_opening.form_bench.Goals as goal
+
+pub returns-in-Ok-clause-answer : goal.returns-in-Ok-clause-answer
+returns-in-Ok-clause-answer g c = record {
+  formed = c.in-Ok.ensures.made;
+  empty = c.in-Ok.ensures.mounts;
+  written = c.in-Ok.ensures.written;
+  others = same_objects g.F.StoreFile.state c.args.bench.files.items c.in-Ok.bench.files.items c.in-Ok.ensures.others;
+  dir_passed = c.in-Ok.ensures.passed.file;
+  card_passed = c.in-Ok.ensures.passed.card;
+}
+
+pub returns-in-Err-clause-answer : goal.returns-in-Err-clause-answer
+returns-in-Err-clause-answer g c = record {
+  refused = c.in-Err.ensures.refused;
+  heard = c.in-Err.ensures.heard;
+  counted = c.in-Err.ensures.counts;
+  left = c.in-Err.ensures.left;
+  others = same_objects g.F.StoreFile.state c.args.bench.files.items c.in-Err.halted.bench.files.items c.in-Err.ensures.others_err;
+}

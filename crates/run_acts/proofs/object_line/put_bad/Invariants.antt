@@ -1,0 +1,12 @@
+use Rattle.std.proofs.Common.{◌≡◌, ◌++◌, length, take}
+use Rattle.tree_paths.specs.Paths.{holds}
+use Rattle.run_acts.specs.Lines.{bad_text}
+use Rattle.run_acts.specs.LineObjects.{is_some_of, passing}
+use Rattle.run_acts.proofs.object_line.put_bad.Given as goal
+
+abbrev pub invariant-loop-k : goal.invariant-loop-k
+invariant-loop-k l = record {
+  same : l.out.items ≡ l.initial.out.items ++ bad_text (passing (holds l.bad) l.k);
+  found : l.some ≡ is_some_of (passing (holds l.bad) l.k);
+  kept : take (length l.initial.out.items) l.out.items ≡ l.initial.out.items;
+}

@@ -1,0 +1,44 @@
+use Rattle.std.proofs.Common.{ℕ, List, length, sym, subst}
+use Rattle.object_calls.specs.OpenedStores.{store_in}
+use Rattle.object_calls.specs.Opening.{OpeningValue}
+use Rattle.object_calls.specs.OpeningSessions.{AreUnseated}
+use Rattle.run_acts.specs.Reliable.{AreReliable}
+use Rattle.run_acts.specs.ServedSteps.{AreCalls}
+use Rattle.run_acts.specs.Benches.{bench_state, opening_state}
+use Rattle.run_acts.specs.Closing.{ClosesStore}
+use Rattle.run_acts.specs.Phases.{ServesOpened}
+use Rattle.run_acts.proofs.Closings.{closes_where}
+use Rattle.run_acts.proofs.Ready.{ready-applications, ready-keyed, serves_opened}
+use Rattle.std.proofs.lemmas.Result.{IfOk-weaker}
+use Rattle.run_acts.proofs.phase.serve_opened.Goals as goal
+
+pub serve_once-requires-clause-keyed : goal.serve_once-requires-clause-keyed
+serve_once-requires-clause-keyed g c = λ κs lives.
+    ready-keyed g.F.StoreFile.state g.R.RpmbPort.state c.args.applications.now c.args.arms.now c.args.opening c.make_ready.new.opening c.in-Ok.ensures.ready c.args.keys.now c.requires.keyed
+
+pub serve_once-requires-clause-sessions : goal.serve_once-requires-clause-sessions
+serve_once-requires-clause-sessions g c = λ κs lives.
+    let same = ready-applications g.F.StoreFile.state g.R.RpmbPort.state c.args.applications.now c.args.arms.now c.args.opening c.make_ready.new.opening c.in-Ok.ensures.ready in
+    subst (λ (a : List (List ℕ)). AreUnseated {E = g.row.E.Denot} a c.in-Ok.sessions.items) (sym same) c.in-Ok.ensures.sessions
+
+pub serve_once-requires-clause-calls : goal.serve_once-requires-clause-calls
+serve_once-requires-clause-calls g c = λ κs lives.
+    let same = ready-applications g.F.StoreFile.state g.R.RpmbPort.state c.args.applications.now c.args.arms.now c.args.opening c.make_ready.new.opening c.in-Ok.ensures.ready in
+    subst (λ (a : List (List ℕ)). AreCalls (length a) c.args.calls.now) (sym same) c.requires.calls
+
+pub returns-in-Ok-clause-serves : goal.returns-in-Ok-clause-serves
+returns-in-Ok-clause-serves g c =
+    let of_file = g.F.StoreFile.state in
+    let of_port = g.R.RpmbPort.state in
+    let keys = c.args.keys.now in
+    let armed : OpeningValue g.row.F.Denot g.row.R.Denot = c.make_ready.new.opening in
+    let reliable = g.E.Entropy.is_reliable c.args.entropy.now in
+    let sessions = AreReliable g.E.Entropy.is_reliable c.in-Ok.sessions.items in
+    IfOk-weaker c.serve_once.result
+    (λ x. ClosesStore sessions (store_in keys of_file of_port armed) (opening_state of_file of_port armed) c.args.mode c.args.calls.now (bench_state of_file of_port x.bench) x.history.events)
+    (λ x. ServesOpened of_file of_port reliable keys c.args.applications.now c.args.arms.now c.args.mode c.args.calls.now c.args.opening (bench_state of_file of_port x.bench) x.history.events)
+    (λ x closes. serves_opened of_file of_port c.args.applications.now c.args.arms.now c.args.opening armed c.in-Ok.ensures.ready reliable keys c.args.mode c.args.calls.now (bench_state of_file of_port x.bench)
+    x.history.events c.requires.keyed
+    (closes_where sessions reliable (store_in keys of_file of_port armed) (opening_state of_file of_port armed) c.args.mode c.args.calls.now (bench_state of_file of_port x.bench) x.history.events
+    c.in-Ok.ensures.reliable closes))
+    c.serve_once.ensures.closed

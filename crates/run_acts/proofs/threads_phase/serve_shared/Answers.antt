@@ -1,0 +1,89 @@
+use Rattle.std.proofs.Common.{◌≡◌, ◌∙◌, ◌++◌, ℕ, List, ap, drop, length, sym, subst, take}
+use Rattle.core_laws.specs.Stores.{Store}
+use Rattle.shared_store.specs.CallerSessions.{CallerSession}
+use Rattle.shared_store.specs.Devices.{Devices}
+use Rattle.object_calls.specs.OpeningFiles.{files_of}
+use Rattle.object_calls.specs.OpeningSessions.{AreSeated, DrawAlike, HaveNoEvents}
+use Rattle.object_calls.proofs.Files.{refilled}
+use Rattle.shared_store.specs.Kept.{KeepsGate}
+use Rattle.run_acts.specs.Sharing.{AreKept}
+use Rattle.run_acts.proofs.Sharings.{first_gate_kept, first_slots_kept}
+use Rattle.run_acts.specs.Reliable.{AreFresh, AreReliable}
+use Rattle.run_acts.specs.ServedSteps.{AreCalls}
+use Rattle.run_acts.proofs.DrawnAlike.{fresh_alike, reliable_alike}
+use Rattle.run_acts.specs.SharedClosing.{ClosesShared}
+use Rattle.std.proofs.lemmas.Result.{IfOk-weaker}
+use Rattle.run_acts.proofs.ThreadClosings.{closes_where}
+use Rattle.run_acts.proofs.threads_phase.serve_shared.Goals as goal
+
+pub share_and_close-requires-clause-gate : goal.share_and_close-requires-clause-gate
+share_and_close-requires-clause-gate g c κs within =
+    let of_file = g.F.StoreFile.state in
+    let of_port = g.R.RpmbPort.state in
+    subst (λ (before : Devices). KeepsGate of_file of_port g.L.StoreName.store before c.in-Ok-serve.service.gate) (sym c.requires.devices)
+    (first_gate_kept of_file of_port g.L.StoreName.store c.args.opening c.in-Ok-serve.service c.in-Ok-serve.ensures.served)
+
+pub share_and_close-requires-clause-slots : goal.share_and_close-requires-clause-slots
+share_and_close-requires-clause-slots g c κs within =
+    subst (λ (before : Devices). AreKept before 272 c.in-Ok-serve.service.slots) (sym c.requires.devices)
+    (first_slots_kept g.F.StoreFile.state g.R.RpmbPort.state g.L.StoreName.store c.args.opening c.in-Ok-serve.service c.in-Ok-serve.ensures.served)
+
+pub share_and_close-requires-clause-sessions : goal.share_and_close-requires-clause-sessions
+share_and_close-requires-clause-sessions g c κs within =
+    let sessions = c.args.sessions in
+    let new : List (CallerSession g.row.E.Denot) = c.serve.new.sessions in
+    let long : length sessions.items ≡ sessions.len = sym sessions.ok.0 in
+    let many : length new ≡ sessions.len = c.serve.auto.sessions ∙ c.deref_mut.ensures.len in
+    subst (λ (l : List (CallerSession g.row.E.Denot)). AreSeated g.L.StoreName.store l) (sym (refilled sessions.len sessions.items new long many)) c.in-Ok-serve.ensures.seated
+
+pub share_and_close-requires-clause-unmade : goal.share_and_close-requires-clause-unmade
+share_and_close-requires-clause-unmade g c κs within =
+    let sessions = c.args.sessions in
+    let new : List (CallerSession g.row.E.Denot) = c.serve.new.sessions in
+    let long : length sessions.items ≡ sessions.len = sym sessions.ok.0 in
+    let many : length new ≡ sessions.len = c.serve.auto.sessions ∙ c.deref_mut.ensures.len in
+    subst (λ (l : List (CallerSession g.row.E.Denot)). HaveNoEvents l) (sym (refilled sessions.len sessions.items new long many)) c.in-Ok-serve.ensures.unmade
+
+pub share_and_close-requires-clause-calls : goal.share_and_close-requires-clause-calls
+share_and_close-requires-clause-calls g c κs within =
+    let sessions = c.args.sessions in
+    let new : List (CallerSession g.row.E.Denot) = c.serve.new.sessions in
+    let long : length sessions.items ≡ sessions.len = sym sessions.ok.0 in
+    let many : length new ≡ sessions.len = c.serve.auto.sessions ∙ c.deref_mut.ensures.len in
+    let applications : length new ≡ length c.args.opening.applications =
+    c.in-Ok-serve.ensures.seated.many ∙ ap (λ (s : Store). length s.mounted.applications) c.requires.store.is in
+    subst (λ (n : ℕ). AreCalls n c.args.calls.now)
+    (sym (ap (λ (l : List (CallerSession g.row.E.Denot)). length l) (refilled sessions.len sessions.items new long many) ∙ applications)) c.requires.calls
+
+pub share_and_close-requires-clause-fresh : goal.share_and_close-requires-clause-fresh
+share_and_close-requires-clause-fresh g c κs within =
+    let sessions = c.args.sessions in
+    let new : List (CallerSession g.row.E.Denot) = c.serve.new.sessions in
+    let long : length sessions.items ≡ sessions.len = sym sessions.ok.0 in
+    let many : length new ≡ sessions.len = c.serve.auto.sessions ∙ c.deref_mut.ensures.len in
+    let same : c.deref_mut.result.now ≡ sessions.items = c.deref_mut.ensures.value in
+    subst (λ (l : List (CallerSession g.row.E.Denot)). AreFresh g.E.Entropy.faults l) (sym (refilled sessions.len sessions.items new long many))
+    (fresh_alike g.E.Entropy.faults sessions.items new (many ∙ sym long) (subst (λ (l : List (CallerSession g.row.E.Denot)). DrawAlike l new) same c.in-Ok-serve.ensures.draw) c.requires.fresh)
+
+pub returns-in-Ok-serve-clause-closed : goal.returns-in-Ok-serve-clause-closed
+returns-in-Ok-serve-clause-closed g c =
+    let of_file = g.F.StoreFile.state in
+    let of_port = g.R.RpmbPort.state in
+    let store = g.L.StoreName.store in
+    let before = g.L.DevicesName.devices in
+    let is_reliable = g.E.Entropy.is_reliable in
+    let calls = c.args.calls.now in
+    let sessions = c.args.sessions in
+    let new : List (CallerSession g.row.E.Denot) = c.serve.new.sessions in
+    let long : length sessions.items ≡ sessions.len = sym sessions.ok.0 in
+    let many : length new ≡ sessions.len = c.serve.auto.sessions ∙ c.deref_mut.ensures.len in
+    let same : c.deref_mut.result.now ≡ sessions.items = c.deref_mut.ensures.value in
+    let after : List (CallerSession g.row.E.Denot) = take sessions.len (new ++ drop (length new) sessions.items) in
+    IfOk-weaker c.share_and_close.result
+    (λ x. ClosesShared (AreReliable is_reliable after) store before calls (files_of of_file x.bench.files.items) (of_port x.bench.card) x.history.events)
+    (λ x. ClosesShared (AreReliable is_reliable sessions.items) store before calls (files_of of_file x.bench.files.items) (of_port x.bench.card) x.history.events)
+    (λ x closes. closes_where (AreReliable is_reliable after) (AreReliable is_reliable sessions.items) store before calls (files_of of_file x.bench.files.items) (of_port x.bench.card) x.history.events
+    (λ reliable. subst (λ (l : List (CallerSession g.row.E.Denot)). AreReliable is_reliable l) (sym (refilled sessions.len sessions.items new long many))
+    (reliable_alike is_reliable sessions.items new (many ∙ sym long) (subst (λ (l : List (CallerSession g.row.E.Denot)). DrawAlike l new) same c.in-Ok-serve.ensures.draw) reliable))
+    closes)
+    c.share_and_close.ensures.closed

@@ -1,0 +1,54 @@
+-- A bench that was mounted, and one that was not.
+use Rattle.std.specs.Prelude.{ℕ}
+use Rattle.disk_model.specs.State.{FileState}
+use Rattle.hmac_keys.specs.declared.Keys.{Keys}
+use Rattle.rpmb_card.specs.Port.{PortState}
+use Rattle.crash_core.specs.Opening.{opening_map}
+use Rattle.store_model.specs.Object.{ObjectMap}
+use Rattle.tee_types.specs.declared.reply.Cause.TheVariants.{Fault}
+use Rattle.tee_types.specs.declared.reply.Device.TheVariants.{File}
+use Rattle.store_commit.specs.declared.fault.MountFault.{MountFault}
+use Rattle.store_commit.specs.declared.fault.MountFault.TheVariants.{Failed}
+use Rattle.store_commit.specs.Causes.{counts}
+use Rattle.store_commit.specs.Gates.{gate_sides}
+use Rattle.store_commit.specs.Mounts.{LeavesDevices, MountDiffers, MountRefused, OpensGate}
+use Rattle.object_calls.specs.Begins.{IsWholeOpening, MountsAsRead}
+use Rattle.object_calls.specs.Opening.{IsKeyed, OpeningValue, bench_files, entries_in}
+use Rattle.object_calls.specs.MountRefusals.{BenchCounts, BenchHeard}
+use Rattle.object_calls.specs.Syncing.{StopsSyncing, SyncsNamed}
+use Rattle.run_acts.specs.Benches.{BenchState, KeepsObjectFiles}
+
+module _ {F R : Type 0} (of_file : F → FileState) (of_port : R → PortState) where
+  -- The bench was mounted under these keys, as it then stands: the card's block named the directory, which the file has, and each file
+  -- that an entry names was synced.
+  pub record IsMounted (keys : Keys) (old : BenchState) (o : OpeningValue F R) : Type 0 where
+    pub gate : OpensGate (old.files 0) old.card keys (gate_sides of_file of_port o.gate)
+    pub files : SyncsNamed (entries_in o) 256 old.files (bench_files of_file o)
+    pub keyed : IsKeyed keys o
+    -- where the directory's file can be followed, its objects are those that the bench mounts to as its files read
+    pub mounted : MountsAsRead of_file (old.files 0) old.card keys o
+    -- every picture that a crash may leave mounts to them
+    pub opens : IsWholeOpening of_file of_port o
+
+  -- the objects of a store that is mounted
+  abbrev pub objects_in : Keys → OpeningValue F R → ObjectMap
+  objects_in keys o = opening_map keys (bench_files of_file o) (entries_in o)
+
+-- the gate refused, and no file of an object was called
+pub record IsGateRefused (keys : Keys) (old new : BenchState) (drew draws : ℕ) (fault : MountFault) : Type 0 where
+  pub refused : MountRefused (old.files 0) (new.files 0) old.card new.card keys drew draws fault
+  pub differs : MountDiffers (new.files 0) old.card keys fault
+  pub same : KeepsObjectFiles old new
+
+-- Either that, or the sync of an object's file failed.
+abbrev pub StopsMounting : Keys → (old new : BenchState) → (drew draws : ℕ) → MountFault → Type 0
+StopsMounting keys old new drew draws (Failed (Fault (File n) count)) = StopsSyncing old.files new.files (Fault (File n) count)
+StopsMounting keys old new drew draws fault = IsGateRefused keys old new drew draws fault
+
+-- The bench was not mounted, and what is then left of it: `drew` and `draws` count the draws that failed, before and after.
+pub record IsMountRefused (keys : Keys) (old new : BenchState) (drew draws : ℕ) (fault : MountFault) : Type 0 where
+  pub refused : StopsMounting keys old new drew draws fault
+  -- what was heard of the card, whatever it is
+  pub heard : BenchHeard (new.files 0) old.card new.card keys fault
+  pub counted : BenchCounts (counts (old.files 0) old.card drew) (counts (new.files 0) new.card draws) fault
+  pub leaves : LeavesDevices (old.files 0) (new.files 0) old.card new.card

@@ -1,0 +1,204 @@
+//! A phase.
+
+ghost use Rattle.std.specs.Prelude.{◌≡◌, ◌+◌, ◌*◌, ◌<◌, ◌≤◌, ◌^◌, [], length, map, vec_len, All, IfErr, IfOk, MatchResult, OnOk};
+ghost use Rattle.script_text.specs.Laws.{IsArm};
+ghost use Rattle.store_model.specs.Object.{ObjectMap};
+ghost use Rattle.object_calls.specs.Opening.{IsKeyed};
+ghost use Rattle.object_calls.specs.OpeningSessions.{AreUnseated};
+ghost use Rattle.run_acts.specs.Reliable.{AreFresh, AreReliable};
+ghost use Rattle.run_acts.specs.ServedSteps.{AreCalls};
+ghost use Rattle.run_acts.specs.Benches.{HasPassed, KeepsDevices, bench_state, opening_state};
+ghost use Rattle.run_acts.specs.MountedDevices.{IsMounted};
+ghost use Rattle.run_acts.specs.PhaseArms.{IsReady};
+ghost use Rattle.run_acts.specs.Phases.{RunsPhase, ServesOpened};
+ghost use Rattle.run_acts.specs.PhaseRefusals.{EndsStarved, IsGivenUp};
+
+use crate::arming::arm_devices;
+use crate::disarming::disarm_bench;
+use crate::serial_phase::serve_once;
+use crate::sessions::open_sessions;
+use crate::{had_memory, mount_bench, starved_counts};
+use hmac_keys::Keys;
+use object_calls::{Bench, Closed, Halted, Opening};
+use rpmb_card::CardRig;
+use script_text::{Arm, Mode, Step};
+use shared_store::Session;
+use std::alloc::Global;
+use std::sync::Wait;
+use std::thread::Threads;
+use store_commit::MountFault;
+use store_model::History;
+use tee_ports::{Entropy, FileRig};
+use tee_types::{AppId, NoMemory};
+
+/// What a phase gives back.
+#[derive(Drop)]
+pub struct PhaseEnd<F, R> {
+    /// The bench, disarmed.
+    pub bench: Bench<F, R>,
+    /// How many objects there were as it was mounted.
+    pub objects: u16,
+    /// The events of all sessions, in their one order.
+    pub history: History,
+}
+
+// A phase was given up for want of memory: its bench is disarmed.
+fn starved_bench<F: FileRig + Drop, R: CardRig + Drop>(bench: Bench<F, R>) -> Halted<F, R>
+    ensures ends { EndsStarved (bench_state F.state R.state result.bench) result.fault }
+    ensures whole { vec_len result.bench.files ≡ vec_len bench.files }
+{
+    Halted {
+        bench: disarm_bench(bench),
+        fault: MountFault::NoMemory,
+    }
+}
+
+// Mounts the bench. Where memory ran out in a call of a file since the counts were taken, it is given up for that.
+fn mount_with_memory<F: FileRig + Drop, R: CardRig + Drop, E: Entropy>(
+    alloc: Global,
+    bench: Bench<F, R>,
+    keys: &Keys,
+    entropy: &mut E,
+    before: &[u64],
+) -> Result<Opening<F, R>, Halted<F, R>>
+    requires whole { vec_len bench.files ≡ 273 }
+    requires counted { before.now ≡ map (λ f. (F.state f).starved) bench.files.items }
+    ensures mounts { IfOk result (IsMounted F.state R.state keys.now (bench_state F.state R.state bench)) }
+    ensures keeps { IfOk result (λ o. KeepsDevices (bench_state F.state R.state bench) (opening_state F.state R.state o)) }
+    ensures passed { IfOk result (λ o. HasPassed (bench_state F.state R.state bench) (opening_state F.state R.state o)) }
+    ensures undrawn { IfOk result (λ o. E.faults entropy.new ≡ E.faults entropy.old) }
+    ensures unopened { IfOk result (λ o. o.applications ≡ []) }
+    ensures refused { IfErr result (λ h. IsGivenUp keys.now (bench_state F.state R.state bench) (bench_state F.state R.state h.bench) (E.faults entropy.old) (E.faults entropy.new)
+        h.fault) }
+    ensures whole_err { IfErr result (λ h. vec_len h.bench.files ≡ 273) }
+    ensures reliable { E.is_reliable entropy.old → E.is_reliable entropy.new }
+{
+    match mount_bench(alloc, bench, keys, entropy) {
+        Ok(opening) => Ok(opening),
+        Err(halted) if had_memory(halted.bench.files.as_slice(), before) => Err(halted),
+        Err(halted) => Err(starved_bench(halted.bench)),
+    }
+}
+
+// Opens a session for each application, and arms the devices.
+fn make_ready<F: FileRig + Drop, R: CardRig + Drop, E: Entropy>(
+    alloc: Global,
+    opening: &mut Opening<F, R>,
+    entropy: &E,
+    number: u64,
+    applications: &[AppId],
+    arms: &[Arm],
+) -> Result<Vec<Session<E>>, NoMemory>
+    requires none { opening.old.applications ≡ [] }
+    requires few { length applications.now ≤ 16 }
+    requires number { 16 * number + 16 < 2 ^ 32 }
+    requires arms { All IsArm arms.now }
+    ensures sessions { IfOk result (λ s. AreUnseated applications.now s.items) }
+    ensures fresh { IfOk result (λ s. AreFresh E.faults s.items) }
+    ensures reliable { E.is_reliable entropy.now → IfOk result (λ s. AreReliable E.is_reliable s.items) }
+    ensures ready { OnOk result (IsReady F.state R.state applications.now arms.now opening.old opening.new) }
+{
+    let sessions = open_sessions(alloc, opening, entropy, number, applications)?;
+    arm_devices(opening, arms)?;
+    Ok(sessions)
+}
+
+// Serves the calls of a phase on a store that is mounted, and closes it.
+fn serve_opened<
+    W: Threads + Wait + Sync,
+    F: FileRig + Drop + Send,
+    R: CardRig + Drop + Send,
+    E: Entropy + Drop + Send,
+>(
+    rt: &W,
+    alloc: Global,
+    opening: Opening<F, R>,
+    keys: &Keys,
+    entropy: &E,
+    number: u64,
+    mode: Mode,
+    applications: &[AppId],
+    arms: &[Arm],
+    calls: &[Step],
+) -> Result<Closed<F, R>, Bench<F, R>>
+    requires keyed { IsKeyed keys.now opening }
+    requires none { opening.applications ≡ [] }
+    requires few { length applications.now ≤ 16 }
+    requires number { 16 * number + 16 < 2 ^ 32 }
+    requires arms { All IsArm arms.now }
+    requires calls { AreCalls (length applications.now) calls.now }
+    ensures serves { IfOk result (λ c. ServesOpened F.state R.state (E.is_reliable entropy.now) keys.now applications.now arms.now mode calls.now opening (bench_state F.state R.state c.bench) c.history.events) }
+    ensures whole { MatchResult result (λ c. vec_len c.bench.files ≡ 273) (λ b. vec_len b.files ≡ 273) }
+{
+    let mut opening = opening;
+    match make_ready(alloc, &mut opening, entropy, number, applications, arms) {
+        Ok(sessions) => serve_once(rt, alloc, opening, sessions, keys, mode, calls),
+        Err(NoMemory {}) => Err(opening.close()),
+    }
+}
+
+/// Runs a phase: mounts the bench, opens a session for each application, arms its devices, serves the calls as the mode says, closes the
+/// store, and disarms the bench. The sessions draw from streams of `entropy`, sixteen for each phase, by the phase's number.
+///
+/// # Errors
+///
+/// As `mount` says, where the bench is not mounted: nothing was armed. `NoMemory`, also where memory ran out in a call of a file, in the
+/// mount too: the bench is disarmed, and the calls of the phase have no history.
+pub fn run_phase<
+    W: Threads + Wait + Sync,
+    F: FileRig + Drop + Send,
+    R: CardRig + Drop + Send,
+    E: Entropy + Drop + Send,
+>(
+    rt: &W,
+    alloc: Global,
+    bench: Bench<F, R>,
+    keys: &Keys,
+    entropy: &mut E,
+    number: u64,
+    mode: Mode,
+    applications: &[AppId],
+    arms: &[Arm],
+    calls: &[Step],
+) -> Result<PhaseEnd<F, R>, Halted<F, R>>
+    requires whole { vec_len bench.files ≡ 273 }
+    requires few { length applications.now ≤ 16 }
+    requires number { 16 * number + 16 < 2 ^ 32 }
+    requires calls { AreCalls (length applications.now) calls.now }
+    requires arms { All IsArm arms.now }
+    ensures runs { IfOk result (λ p. (opening : ObjectMap) × (length opening ≡ p.objects)
+        × RunsPhase F.state R.state (E.is_reliable entropy.old) keys.now applications.now arms.now mode calls.now (bench_state F.state R.state bench) (bench_state F.state R.state p.bench) opening p.history.events) }
+    ensures refused { IfErr result (λ h. IsGivenUp keys.now (bench_state F.state R.state bench) (bench_state F.state R.state h.bench) (E.faults entropy.old) (E.faults entropy.new)
+        h.fault) }
+    ensures undrawn { IfOk result (λ p. E.faults entropy.new ≡ E.faults entropy.old) }
+    ensures whole { IfOk result (λ p. vec_len p.bench.files ≡ 273) }
+    ensures whole_err { IfErr result (λ h. vec_len h.bench.files ≡ 273) }
+    ensures reliable { E.is_reliable entropy.old → E.is_reliable entropy.new }
+{
+    let Ok(before) = starved_counts(alloc, &bench.files) else {
+        return Err(starved_bench(bench));
+    };
+    let starved = before.as_slice();
+    let opening = mount_with_memory(alloc, bench, keys, entropy, starved)?;
+    let objects = opening.objects();
+    match serve_opened(
+        rt,
+        alloc,
+        opening,
+        keys,
+        entropy,
+        number,
+        mode,
+        applications,
+        arms,
+        calls,
+    ) {
+        Ok(closed) if had_memory(closed.bench.files.as_slice(), starved) => Ok(PhaseEnd {
+            bench: disarm_bench(closed.bench),
+            objects,
+            history: closed.history,
+        }),
+        Ok(closed) => Err(starved_bench(closed.bench)),
+        Err(bench) => Err(starved_bench(bench)),
+    }
+}

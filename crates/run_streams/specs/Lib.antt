@@ -1,3 +1,0 @@
-pub mod Exit
-pub mod Reading
-pub mod Sending

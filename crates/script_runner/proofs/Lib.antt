@@ -1,0 +1,12 @@
+pub mod Steps
+pub mod Sounds
+pub mod Goings
+pub mod Endings
+pub mod Once
+pub mod Turns
+pub mod Flushed
+pub mod Scripts
+pub mod Loops
+pub mod Wholes
+pub mod Soaks
+pub mod Sent

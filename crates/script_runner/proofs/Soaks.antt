@@ -1,0 +1,182 @@
+-- A soak, from its parts to the whole.
+use Rattle.std.proofs.Common.{◌≡◌, ◌⊎◌, ℕ, inl, inr, List, [], ◌∷◌, ◌++◌, length, map, drop, take, refl, sym, ap, ◌∙◌, subst, arith, append-nil, Option, None, zero, suc}
+use Rattle.std.specs.List.{prefix_len}
+use Rattle.std.proofs.lemmas.List.{take_all}
+use Rattle.disk_model.specs.State.{FileState}
+use Rattle.hmac_keys.specs.declared.Keys.{Keys}
+use Rattle.rpmb_card.specs.Port.{PortState}
+use Rattle.run_acts.specs.declared.MountFault.{MountFault}
+use Rattle.run_acts.specs.declared.MountFault.TheVariants.{NoMemory as NoMemoryFault}
+use Rattle.store_model.specs.declared.event.Event.{Event}
+use Rattle.store_model.specs.Object.{ObjectMap}
+use Rattle.script_text.specs.declared.script.Control.TheVariants.{List as ListControl}
+use Rattle.script_text.specs.declared.script.Mode.TheVariants.{Threads}
+use Rattle.script_text.specs.declared.script.Step.{Step}
+use Rattle.script_text.specs.declared.script.Step.TheVariants.{Call as CallStep, Control as ControlStep}
+use Rattle.script_text.specs.Script.{ScriptValue, is_call}
+use Rattle.tee_types.specs.declared.call.Call.{Call}
+use Rattle.run_acts.specs.Lines.{refusal_line, why_text}
+use Rattle.run_acts.specs.Benches.{BenchState}
+use Rattle.run_acts.specs.ListedBenches.{IsListRefused}
+use Rattle.run_acts.specs.Opens.{OpensBench}
+use Rattle.run_acts.specs.Phases.{RunsPhase}
+use Rattle.run_acts.specs.PhaseRefusals.{IsGivenUp}
+use Rattle.run_acts.proofs.Ready.{runs_where}
+use Rattle.script_runner.specs.declared.status.Status.{Status}
+use Rattle.script_runner.specs.declared.status.Status.TheVariants.{BadLine, DeviceFault, Done, MountRefused, NoMemory, ReadFault, TooLong, Usage, WriteFault}
+use Rattle.seed_words.specs.Joined.{joined}
+use Rattle.seed_words.specs.Scripts.{app_calls, app_steps, soak_calls, soak_script}
+use Rattle.script_runner.specs.Trace.{applications_of}
+use Rattle.script_runner.specs.RunRefusals.{IsDeviceFault, IsRefusal}
+use Rattle.script_runner.specs.Text.{Do, Listed, PhaseRecord, Ran, Refused, RunRecord, Serve}
+use Rattle.script_runner.specs.Ending.{EndsActs, EndsRun, RecordsRefusal}
+use Rattle.script_runner.specs.Soaks.{GoesThrough, IsBroken, RunsSoak, PrintsObjects, soak_acts, soak_applications, soak_output}
+use Rattle.script_runner.specs.Prints.{PrintsLines, PrintsRefusal}
+use Rattle.script_runner.proofs.Scripts.{RunsActs-refused}
+
+-- the calls of an application are calls
+prefix_len-app : (app : ℕ) (calls : List Call) → prefix_len is_call (map (CallStep app) calls) ≡ length (map (CallStep app) calls)
+prefix_len-app app [] = refl
+prefix_len-app app (call ∷ calls) = omega (arith, prefix_len-app app calls)
+
+prefix_len-append : (a b : List Step) → prefix_len is_call a ≡ length a → prefix_len is_call b ≡ length b → prefix_len is_call (a ++ b) ≡ length (a ++ b)
+prefix_len-append [] b first second = second
+prefix_len-append (CallStep app call ∷ a) b first second = omega (arith, prefix_len-append a b (omega (arith, first)) second)
+prefix_len-append (ControlStep control ∷ a) b first second = absurd (omega (arith, first))
+
+prefix_len-joined : (number apps : ℕ) → prefix_len is_call (joined (app_steps number) apps) ≡ length (joined (app_steps number) apps)
+unfolding joined
+prefix_len-joined number zero = refl
+prefix_len-joined number (suc apps) = prefix_len-append (joined (app_steps number) apps) (app_steps number apps) (prefix_len-joined number apps) (prefix_len-app apps (app_calls number apps))
+
+-- all steps of a soak behind its mode are calls
+take-soak_calls : (number : ℕ) → take (prefix_len is_call (soak_calls number)) (soak_calls number) ≡ soak_calls number
+take-soak_calls number = ap (λ n. take n (soak_calls number)) (prefix_len-joined number 8) ∙ take_all (length (soak_calls number)) (soak_calls number) (omega arith)
+
+-- a soak has eight applications
+pub length-soak_applications : (number : ℕ) → length (soak_applications number) ≡ 8
+unfolding joined
+length-soak_applications number = refl
+
+-- of want of memory nothing is printed
+refusal_line-memory : (fault : MountFault) → fault ≡ NoMemoryFault → [] ≡ refusal_line fault
+unfolding refusal_line why_text
+refusal_line-memory NoMemoryFault is = refl
+refusal_line-memory fault is = ap refusal_line (sym is)
+
+module _ {F R : Type 0} (of_file : F → FileState) (of_port : R → PortState) (image : FileState → ℕ → ℕ → List ℕ) (Reliable : Type 0) (keys : Keys) (number : ℕ) where
+  -- a phase of the calls behind the first step of its script
+  pub RunsPhase-soak : (Later : Type 0) (script : ScriptValue) (applications : List (List ℕ)) (calls : List Step) (old new : BenchState) (opening : ObjectMap) (events : List Event)
+      → script ≡ soak_script number → applications ≡ applications_of script → calls ≡ take (prefix_len is_call (drop 1 script.steps)) (drop 1 script.steps) → (Reliable → Later)
+      → RunsPhase of_file of_port Later keys applications [] Threads calls old new opening events
+      → RunsPhase of_file of_port Reliable keys (soak_applications number) [] Threads (soak_calls number) old new opening events
+  RunsPhase-soak Later script applications calls old new opening events is apps_are calls_are lasts runs =
+      let apps : applications ≡ soak_applications number = apps_are ∙ ap applications_of is in
+      let steps : calls ≡ soak_calls number = calls_are ∙ ap (λ (s : ScriptValue). take (prefix_len is_call (drop 1 s.steps)) (drop 1 s.steps)) is ∙ take-soak_calls number in
+      let Runs : List (List ℕ) → List Step → Type 0 = λ a c. RunsPhase of_file of_port Reliable keys a [] Threads c old new opening events in
+      subst (Runs (soak_applications number)) steps (subst (λ (a : List (List ℕ)). Runs a calls) apps
+      (runs_where of_file of_port Later Reliable keys applications [] Threads calls old new opening events lasts runs))
+
+  -- both acts were done
+  pub GoesThrough-acts : (old between new : BenchState) (opening : ObjectMap) (events : List Event) (lines : List ℕ)
+      → RunsPhase of_file of_port Reliable keys (soak_applications number) [] Threads (soak_calls number) old between opening events → PrintsObjects of_file of_port keys number events between new lines
+      → GoesThrough of_file of_port image Reliable keys number old new lines
+  GoesThrough-acts old between new opening events lines runs printed = record {
+    records = Ran (record { opening = opening; events = events }) ∷ Listed printed.objects ∷ [];
+    goes = (between, runs, (new, printed.lists, refl));
+    lines_are = printed.lines_are;
+  }
+
+  module _ (drew draws : ℕ) where
+    -- the phase was given up
+    pub IsBroken-phase : (old new : BenchState) (fault : MountFault) → IsGivenUp keys old new drew draws fault → IsBroken of_file of_port image Reliable keys number drew draws old new fault
+    IsBroken-phase old new fault given_up = record {
+      records = Refused fault ∷ [];
+      refused = λ other. ([], refl, record { left = soak_acts number; between = old; goes = record { done = []; front = refl; goes = refl }; refused = given_up });
+      line_is = refl;
+    }
+
+    -- the list was refused
+    IsBroken-list : (old between new : BenchState) (opening : ObjectMap) (events : List Event) (fault : MountFault)
+        → RunsPhase of_file of_port Reliable keys (soak_applications number) [] Threads (soak_calls number) old between opening events → IsListRefused of_file of_port keys between new drew draws fault
+        → IsBroken of_file of_port image Reliable keys number drew draws old new fault
+    IsBroken-list old between new opening events fault runs refused = let phase : PhaseRecord = record { opening = opening; events = events } in record {
+      records = Ran phase ∷ Refused fault ∷ [];
+      refused = λ other. (
+        Ran phase ∷ [],
+        refl,
+        record { left = Do ListControl ∷ []; between = between; goes = record { done = Serve Threads (soak_calls number) ∷ []; front = refl; goes = (between, runs, refl) }; refused = refused },
+      );
+      line_is = refl;
+    }
+
+    -- memory ran out
+    pub IsBroken-memory : (old new : BenchState) (fault : MountFault) → fault ≡ NoMemoryFault → IsBroken of_file of_port image Reliable keys number drew draws old new fault
+    IsBroken-memory old new fault is = record { records = []; refused = λ other. absurd (other is); line_is = refusal_line-memory fault is }
+
+    -- what was printed of the list says that it was refused, or that memory ran out; no draw failed in the phase
+    pub IsBroken-printed : (old between new : BenchState) (opening : ObjectMap) (events : List Event) (fault : MountFault)
+        → RunsPhase of_file of_port Reliable keys (soak_applications number) [] Threads (soak_calls number) old between opening events → (mid : ℕ) → mid ≡ drew
+        → (fault ≡ NoMemoryFault) ⊎ IsListRefused of_file of_port keys between new mid draws fault → IsBroken of_file of_port image Reliable keys number drew draws old new fault
+    IsBroken-printed old between new opening events fault runs mid same (inl none) = IsBroken-memory old new fault none
+    IsBroken-printed old between new opening events fault runs mid same (inr refused) =
+        IsBroken-list old between new opening events fault runs (subst (λ n. IsListRefused of_file of_port keys between new n draws fault) same refused)
+
+    module _ (failed : Type 0) (held_old held_new : Option (List ℕ)) (handed between given : BenchState) (opens : OpensBench keys handed between) where
+      opened : (records : List RunRecord) (status : Status) → EndsActs of_file of_port image Reliable drew draws keys (soak_applications number) [] (soak_acts number) records between given status
+          → EndsRun of_file of_port image Reliable drew draws keys (soak_applications number) (soak_acts number) None records handed given status
+      opened records status ends = inl (record { shown = refl; between = between; opens = opens; ends = ends })
+
+      -- the lines were put, or not
+      pub RunsSoak-through : (lines : List ℕ) → GoesThrough of_file of_port image Reliable keys number between given lines → (status : Status) → PrintsLines failed held_old held_new lines status
+          → RunsSoak of_file of_port image Reliable keys number drew draws failed held_old held_new handed given status
+      RunsSoak-through lines through Done t = record {
+        put = lines;
+        start = None;
+        records = through.records;
+        appended = t;
+        begins = ([], sym through.lines_are ∙ sym (append-nil lines));
+        ends = opened through.records Done (record { done = soak_acts number; front = refl; goes = through.goes });
+        cause = through.lines_are;
+      }
+      RunsSoak-through lines through WriteFault t = record {
+        put = t.1.0;
+        start = None;
+        records = through.records;
+        appended = t.1.1;
+        begins = (t.1.2.0, sym through.lines_are ∙ sym (append-nil lines) ∙ t.1.2.1);
+        ends = opened through.records WriteFault (inl ([], record { done = soak_acts number; front = refl; goes = through.goes }));
+        cause = t.0;
+      }
+      RunsSoak-through lines through Usage t = absurd t
+      RunsSoak-through lines through (BadLine n) t = absurd t
+      RunsSoak-through lines through ReadFault t = absurd t
+      RunsSoak-through lines through (TooLong excess) t = absurd t
+      RunsSoak-through lines through NoMemory t = absurd t
+      RunsSoak-through lines through (MountRefused fault) t = absurd t
+      RunsSoak-through lines through (DeviceFault fault) t = absurd t
+
+      module _ (fault : MountFault) (broken : IsBroken of_file of_port image Reliable keys number drew draws between given fault) where
+        printed : (other : MountFault) → other ≡ fault → RecordsRefusal of_file of_port image Reliable drew draws keys (soak_applications number) [] (soak_acts number) broken.records between given fault
+            → RecordsRefusal of_file of_port image Reliable drew draws keys (soak_applications number) [] (soak_acts number) broken.records between given other
+        printed other same = subst (λ (f : MountFault). RecordsRefusal of_file of_port image Reliable drew draws keys (soak_applications number) [] (soak_acts number) broken.records between given f) (sym same)
+
+        ends : (status : Status) → PrintsRefusal failed held_old held_new [] fault status
+            → EndsActs of_file of_port image Reliable drew draws keys (soak_applications number) [] (soak_acts number) broken.records between given status
+        ends Done t = absurd t
+        ends Usage t = absurd t
+        ends (BadLine n) t = absurd t
+        ends ReadFault t = absurd t
+        ends (TooLong excess) t = absurd t
+        ends WriteFault t = inr (fault, broken.refused (λ is. subst IsRefusal is t.0))
+        ends NoMemory t = tt
+        ends (MountRefused other) t = printed other t.0 (broken.refused (λ is. subst IsRefusal is t.1))
+        ends (DeviceFault other) t = printed other t.0 (broken.refused (λ is. subst IsDeviceFault is t.1))
+
+        -- the line of the refusal was put, or not; no text was kept
+        pub RunsSoak-broken : (kept : List ℕ) → kept ≡ [] → (status : Status) → PrintsRefusal failed held_old held_new kept fault status
+            → RunsSoak of_file of_port image Reliable keys number drew draws failed held_old held_new handed given status
+        RunsSoak-broken kept none status prints =
+            let t = subst (λ k. PrintsRefusal failed held_old held_new k fault status) none prints in
+            RunsActs-refused of_file of_port image Reliable drew draws keys failed held_old held_new handed (soak_applications number) (soak_acts number) (soak_output number) None broken.records given fault
+            broken.line_is status (opened broken.records status (ends status t)) t

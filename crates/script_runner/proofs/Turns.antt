@@ -1,0 +1,123 @@
+-- One act of a run, and what its text leaves.
+use Rattle.std.proofs.Common.{◌≡◌, ◌≤◌, ◌+◌, ℕ, List, [], ◌∷◌, ◌++◌, refl, sym, ap, ◌∙◌, subst, arith, All, Option, drop, take, length, vec_len, Result, IfErr, IfOk}
+use Rattle.std.specs.List.{prefix_len}
+use Rattle.std.proofs.lemmas.List.{length-append, length-take-le, take-append-drop, drop-drop}
+use Rattle.std.proofs.lemmas.List.Elements.{All-drop, All-nil, All-push}
+use Rattle.std.proofs.lemmas.Result.{IfErr-weaker, IfOk-weaker}
+use Rattle.disk_model.specs.State.{FileState}
+use Rattle.hmac_keys.specs.declared.Keys.{Keys}
+use Rattle.rpmb_card.specs.Port.{PortState}
+use Rattle.script_text.specs.declared.script.Arm.{Arm}
+use Rattle.script_text.specs.declared.script.Control.TheVariants.{Arm as ArmControl, Crash, List as ListControl, Mode as ModeControl, Phase}
+use Rattle.script_text.specs.declared.script.Mode.{Mode}
+use Rattle.script_text.specs.declared.script.Step.{Step}
+use Rattle.script_text.specs.declared.script.Step.TheVariants.{Control as ControlStep}
+use Rattle.script_text.specs.Laws.{IsArm, IsFormed}
+use Rattle.script_text.specs.Script.{ScriptValue, is_call}
+use Rattle.store_model.specs.Object.{ObjectMap}
+use Rattle.run_acts.specs.Benches.{bench_state}
+use Rattle.run_acts.specs.Crashes.{Crashes}
+use Rattle.run_acts.specs.ListedBenches.{IsListRefused, ListsBench}
+use Rattle.run_acts.specs.Phases.{RunsPhase}
+use Rattle.script_runner.specs.declared.run_state.Run.{Run}
+use Rattle.script_runner.specs.declared.run_state.RunEnd.{RunEnd}
+use Rattle.script_runner.specs.Text.{Act, Do, Listed, PhaseRecord, Ran, RunRecord, Serve, acts_of, acts_text}
+use Rattle.script_runner.specs.Trace.{applications_of}
+use Rattle.run_acts.specs.declared.MountFault.{MountFault}
+use Rattle.run_acts.specs.PhaseRefusals.{IsGivenUp}
+use Rattle.script_runner.specs.Course.{RefusesFirst}
+use Rattle.script_runner.specs.RunReady.{IsCallFirst, IsNext, IsReady, IsSound}
+use Rattle.script_runner.specs.Running.{EndsAt, GoesOn}
+use Rattle.script_runner.specs.Prints.{IsCutOff, IsSent, PrintsRefusal}
+use Rattle.script_runner.proofs.Steps.{acts_of-calls, prefix_len-some}
+use Rattle.script_runner.proofs.Once.{EndsAt-act, EndsAt-refused, GoesOn-act, HasDone, HasDone-control}
+
+-- what the next step carries is formed
+pub formed-next : (steps rest : List Step) (at : ℕ) (step : Step) → All IsFormed steps → drop at steps ≡ step ∷ rest → IsFormed step
+formed-next steps rest at step all e = subst (All IsFormed) e (All-drop IsFormed at steps all) 0 step (omega arith)
+
+module _ {F R : Type 0} (of_file : F → FileState) (of_port : R → PortState) (image : FileState → ℕ → ℕ → List ℕ) (Reliable : Type 0) (keys : Keys) (script : ScriptValue) where
+  -- a run at the next place
+  abbrev pub next_place : Run F R → Run F R
+  next_place run = record run { at = run.at + 1 }
+
+  pub HasDone-mode : (mode : Mode) (run : Run F R) → IsReady script run → IsNext script run (ControlStep (ModeControl mode))
+      → HasDone of_file of_port image Reliable keys script (Do (ModeControl mode)) [] run (next_place (record run { mode = mode }))
+  HasDone-mode mode run ready next =
+      HasDone-control of_file of_port image Reliable keys script (ModeControl mode) [] run (next_place (record run { mode = mode })) ready next refl refl ready.arms ready.whole refl refl refl refl
+
+  pub HasDone-phase : (run : Run F R) → IsReady script run → IsNext script run (ControlStep Phase) → HasDone of_file of_port image Reliable keys script (Do Phase) [] run (next_place run)
+  HasDone-phase run ready next = HasDone-control of_file of_port image Reliable keys script Phase [] run (next_place run) ready next refl refl ready.arms ready.whole refl refl refl refl
+
+  pub HasDone-arm : (arm : Arm) (run waits : Run F R) → IsSound script → IsReady script run → IsNext script run (ControlStep (ArmControl arm)) → waits ≡ record run { arms = waits.arms } → waits.arms.items ≡ run.arms.items ++ arm ∷ [] → HasDone of_file of_port image Reliable keys script (Do (ArmControl arm)) [] run (next_place waits)
+  HasDone-arm arm run waits sound ready next same arms =
+      let of_arm : IsArm arm = formed-next script.steps (drop (run.at + 1) script.steps) run.at (ControlStep (ArmControl arm)) sound.formed next in
+      let bench = ap (λ (r : Run F R). r.bench) same in
+      HasDone-control of_file of_port image Reliable keys script (ArmControl arm) [] run (next_place waits) ready next
+      (ap (bench_state of_file of_port) bench) arms (subst (All IsArm) (sym arms) (All-push IsArm run.arms.items arm ready.arms of_arm))
+      (ap (λ b. vec_len b.files) bench ∙ ready.whole) (ap (λ (r : Run F R). r.number) same) (ap (λ (r : Run F R). r.mode) same) (ap (λ (r : Run F R). r.kept.items) same) (ap (λ (r : Run F R). r.at + 1) same)
+
+  pub HasDone-crash : (seed : ℕ) (run crashed : Run F R) → IsReady script run → IsNext script run (ControlStep (Crash seed)) → crashed ≡ record run { bench = crashed.bench } → vec_len crashed.bench.files ≡ 273
+      → Crashes image seed (bench_state of_file of_port run.bench) (bench_state of_file of_port crashed.bench) → HasDone of_file of_port image Reliable keys script (Do (Crash seed)) [] run (next_place crashed)
+  HasDone-crash seed run crashed ready next same whole crashes =
+      let arms : crashed.arms.items ≡ run.arms.items = ap (λ (r : Run F R). r.arms.items) same in
+      HasDone-control of_file of_port image Reliable keys script (Crash seed) [] run (next_place crashed) ready next
+      (bench_state of_file of_port crashed.bench, crashes, refl) arms (subst (All IsArm) (sym arms) ready.arms)
+      whole (ap (λ (r : Run F R). r.number) same) (ap (λ (r : Run F R). r.mode) same) (ap (λ (r : Run F R). r.kept.items) same) (ap (λ (r : Run F R). r.at + 1) same)
+
+  pub HasDone-list : (run listed : Run F R) (objects : ObjectMap) (lines : List ℕ) → IsReady script run → IsNext script run (ControlStep ListControl) → listed ≡ record run { bench = listed.bench; at = run.at + 1 } → vec_len listed.bench.files ≡ 273
+      → ListsBench of_file of_port keys (bench_state of_file of_port run.bench) (bench_state of_file of_port listed.bench) objects lines → HasDone of_file of_port image Reliable keys script (Do ListControl) (Listed objects ∷ []) run listed
+  HasDone-list run listed objects lines ready next same whole lists =
+      let arms : listed.arms.items ≡ run.arms.items = ap (λ (r : Run F R). r.arms.items) same in
+      HasDone-control of_file of_port image Reliable keys script ListControl (Listed objects ∷ []) run listed ready next
+      (bench_state of_file of_port listed.bench, subst (λ t. ListsBench of_file of_port keys (bench_state of_file of_port run.bench) (bench_state of_file of_port listed.bench) objects t) lists.lines_are lists, refl) arms (subst (All IsArm) (sym arms) ready.arms)
+      whole (ap (λ (r : Run F R). r.number) same) (ap (λ (r : Run F R). r.mode) same) (ap (λ (r : Run F R). r.kept.items) same) (ap (λ (r : Run F R). r.at) same)
+
+  -- the steps behind a phase
+  abbrev calls_length : Run F R → ℕ
+  calls_length run = prefix_len is_call (drop run.at script.steps)
+
+  pub HasDone-calls : (run ran : Run F R) (phase : PhaseRecord) → IsReady script run → IsCallFirst (drop run.at script.steps)
+      → RunsPhase of_file of_port Reliable keys (applications_of script) run.arms.items run.mode (take (calls_length run) (drop run.at script.steps)) (bench_state of_file of_port run.bench) (bench_state of_file of_port ran.bench) phase.opening phase.events
+      → ran.arms.items ≡ [] → vec_len ran.bench.files ≡ 273 → ran.number ≡ run.number + 1 → ran.mode ≡ run.mode → ran.kept.items ≡ run.kept.items → ran.at ≡ run.at + calls_length run → calls_length run ≤ length (drop run.at script.steps)
+      → HasDone of_file of_port image Reliable keys script (Serve run.mode (take (calls_length run) (drop run.at script.steps))) (Ran phase ∷ []) run ran
+  HasDone-calls run ran phase ready first runs arms whole number mode kept at within =
+      let count = calls_length run in
+      let rest = drop run.at script.steps in
+      let some = prefix_len-some rest first in
+      let behind : drop ran.at script.steps ≡ drop count rest = ap (λ n. drop n script.steps) at ∙ sym (drop-drop count run.at script.steps) in
+      let lengths : length (take run.at script.steps) + length rest ≡ length script.steps = sym (length-append (take run.at script.steps) rest) ∙ ap length (take-append-drop run.at script.steps) in
+      let front : length (take run.at script.steps) ≡ run.at = length-take-le run.at script.steps ready.within in record {
+        acts = acts_of-calls run.mode rest first ∙ ap (λ (m : Mode). Serve run.mode (take count rest) ∷ acts_of m (drop count rest)) (sym mode)
+            ∙ ap (λ s. Serve run.mode (take count rest) ∷ acts_of ran.mode s) (sym behind);
+        goes = (bench_state of_file of_port ran.bench, runs, refl);
+        arms_are = arms;
+        number_is = number;
+        kept_is = kept;
+        ready = record { within = omega (arith, at, within, lengths, front); phases = omega (arith, at, some, number, ready.phases); arms = subst (All IsArm) (sym arms) (All-nil IsArm); whole = whole };
+        further = omega (arith, at, some);
+      }
+
+  module _ (run behind : Run F R) (r : Result (Run F R) (RunEnd F R)) (held_old held_new : Option (List ℕ)) (act : Act) (records : List RunRecord) (text : List ℕ) (done : HasDone of_file of_port image Reliable keys script act records run behind)
+      (same : acts_text script run.number (act ∷ []) records ≡ text) where
+    pub goes-on : IfOk r (IsSent held_old held_new text behind) → IfOk r (GoesOn of_file of_port image Reliable keys script held_old held_new run)
+    goes-on = IfOk-weaker r (IsSent held_old held_new text behind) (GoesOn of_file of_port image Reliable keys script held_old held_new run)
+        (λ next sent. GoesOn-act of_file of_port image Reliable keys script held_old held_new act records run behind next done (subst (λ t. IsSent held_old held_new t behind next) (sym same) sent))
+
+    pub cut-off : (drew draws : ℕ) (failed : Type 0) → IfErr r (IsCutOff failed held_old held_new text behind) → IfErr r (EndsAt of_file of_port image Reliable drew draws keys script failed held_old held_new run)
+    cut-off drew draws failed = IfErr-weaker r (IsCutOff failed held_old held_new text behind) (EndsAt of_file of_port image Reliable drew draws keys script failed held_old held_new run)
+        (λ end cut. EndsAt-act of_file of_port image Reliable drew draws keys script failed held_old held_new act records run behind end done (subst (λ t. IsCutOff failed held_old held_new t behind end) (sym same) cut))
+
+  pub EndsAt-list : (drew draws : ℕ) (failed : Type 0) (held_old held_new : Option (List ℕ)) (run : Run F R) (end : RunEnd F R) (fault : MountFault) → IsNext script run (ControlStep ListControl)
+      → IsListRefused of_file of_port keys (bench_state of_file of_port run.bench) (bench_state of_file of_port end.bench) drew draws fault → PrintsRefusal failed held_old held_new run.kept.items fault end.status → vec_len end.bench.files ≡ 273
+      → EndsAt of_file of_port image Reliable drew draws keys script failed held_old held_new run end
+  EndsAt-list drew draws failed held_old held_new run end fault next refused prints whole =
+      EndsAt-refused of_file of_port image Reliable drew draws keys script failed held_old held_new run end fault
+      (subst (λ (acts : List Act). RefusesFirst of_file of_port image Reliable drew draws keys acts (bench_state of_file of_port run.bench) (bench_state of_file of_port end.bench) fault) (sym (ap (acts_of run.mode) next)) refused) prints whole
+
+  pub EndsAt-calls : (drew draws : ℕ) (failed : Type 0) (held_old held_new : Option (List ℕ)) (run : Run F R) (end : RunEnd F R) (fault : MountFault) → IsCallFirst (drop run.at script.steps)
+      → IsGivenUp keys (bench_state of_file of_port run.bench) (bench_state of_file of_port end.bench) drew draws fault → PrintsRefusal failed held_old held_new run.kept.items fault end.status → vec_len end.bench.files ≡ 273
+      → EndsAt of_file of_port image Reliable drew draws keys script failed held_old held_new run end
+  EndsAt-calls drew draws failed held_old held_new run end fault first refused prints whole =
+      EndsAt-refused of_file of_port image Reliable drew draws keys script failed held_old held_new run end fault
+      (subst (λ (acts : List Act). RefusesFirst of_file of_port image Reliable drew draws keys acts (bench_state of_file of_port run.bench) (bench_state of_file of_port end.bench) fault) (sym (acts_of-calls run.mode (drop run.at script.steps) first)) refused) prints whole

@@ -1,0 +1,89 @@
+use Rattle.std.proofs.Common.{sym, ap, subst, ◌∙◌, vec_len}
+use Rattle.script_text.specs.declared.script.Control.{Control}
+use Rattle.script_text.specs.declared.script.Control.TheVariants.{Arm as ArmControl, Crash, Mode as ModeControl, Phase}
+use Rattle.script_text.specs.declared.script.Step.TheVariants.{Control as ControlStep}
+use Rattle.script_text.specs.Text.{control_line}
+use Rattle.script_runner.specs.RunReady.{IsNext}
+use Rattle.script_runner.proofs.Once.{EndsAt-no_memory, control_text}
+use Rattle.script_runner.proofs.Turns.{HasDone-arm, HasDone-crash, HasDone-mode, HasDone-phase, cut-off, goes-on}
+use Rattle.script_runner.proofs.controls.do_control.Goals as goal
+
+pub returns-in-Ok-clause-ok : goal.returns-in-Ok-clause-ok
+returns-in-Ok-clause-ok g c = λ first lasts.
+    let run = c.args.run in
+    let script = c.args.script.now in
+    let step = subst (λ (x : Control). IsNext script run (ControlStep x)) c.in-Arm.is c.requires.next in
+    let done = HasDone-arm g.F.StoreFile.state g.R.RpmbPort.state g.F.FileRig.crash_image (g.E.Entropy.is_reliable first) c.args.keys.now script c.in-Arm.arm run c.in-Ok.run' c.requires.sound c.requires.ready step c.in-Ok.ensures.waits c.in-Ok.ensures.arms in
+    let text = ap (λ (x : Control). control_line x) (sym c.in-Arm.is) in
+    goes-on g.F.StoreFile.state g.R.RpmbPort.state g.F.FileRig.crash_image (g.E.Entropy.is_reliable first) c.args.keys.now script run _ c.print_control_act-in-Ok.result _ _ _ _ _ done (control_text script run.number (ArmControl c.in-Arm.arm) (λ e. cc) ∙ text) c.print_control_act-in-Ok.ensures.ok
+
+pub returns-in-Ok-clause-err : goal.returns-in-Ok-clause-err
+returns-in-Ok-clause-err g c = λ first lasts.
+    let run = c.args.run in
+    let script = c.args.script.now in
+    let step = subst (λ (x : Control). IsNext script run (ControlStep x)) c.in-Arm.is c.requires.next in
+    let done = HasDone-arm g.F.StoreFile.state g.R.RpmbPort.state g.F.FileRig.crash_image (g.E.Entropy.is_reliable first) c.args.keys.now script c.in-Arm.arm run c.in-Ok.run' c.requires.sound c.requires.ready step c.in-Ok.ensures.waits c.in-Ok.ensures.arms in
+    let text = ap (λ (x : Control). control_line x) (sym c.in-Arm.is) in
+    cut-off g.F.StoreFile.state g.R.RpmbPort.state g.F.FileRig.crash_image (g.E.Entropy.is_reliable first) c.args.keys.now script run _ c.print_control_act-in-Ok.result _ _ _ _ _ done (control_text script run.number (ArmControl c.in-Arm.arm) (λ e. cc) ∙ text) _ _ _ c.print_control_act-in-Ok.ensures.err
+
+pub returns-in-Err-clause-err : goal.returns-in-Err-clause-err
+returns-in-Err-clause-err g c = λ first lasts.
+    EndsAt-no_memory g.F.StoreFile.state g.R.RpmbPort.state g.F.FileRig.crash_image (g.E.Entropy.is_reliable first) _ _ c.args.keys.now c.args.script.now _ _ c.args.run c.in-Err.end (ap (λ e. e.status) c.in-Err.ensures.err) (ap (λ e. vec_len e.bench.files) c.in-Err.ensures.err ∙ c.requires.ready.whole)
+
+pub returns-in-Ok-crash_bench-clause-ok : goal.returns-in-Ok-crash_bench-clause-ok
+returns-in-Ok-crash_bench-clause-ok g c = λ first lasts.
+    let run = c.args.run in
+    let script = c.args.script.now in
+    let step = subst (λ (x : Control). IsNext script run (ControlStep x)) c.in-Crash.is c.requires.next in
+    let done = HasDone-crash g.F.StoreFile.state g.R.RpmbPort.state g.F.FileRig.crash_image (g.E.Entropy.is_reliable first) c.args.keys.now script c.in-Crash.seed run c.in-Ok-crash_bench.run' c.requires.ready step c.in-Ok-crash_bench.ensures.others c.in-Ok-crash_bench.ensures.whole c.in-Ok-crash_bench.ensures.crashes in
+    let text = ap (λ (x : Control). control_line x) (sym c.in-Crash.is) in
+    goes-on g.F.StoreFile.state g.R.RpmbPort.state g.F.FileRig.crash_image (g.E.Entropy.is_reliable first) c.args.keys.now script run _ c.print_control_act-in-Ok-crash_bench.result _ _ _ _ _ done (control_text script run.number (Crash c.in-Crash.seed) (λ e. cc) ∙ text) c.print_control_act-in-Ok-crash_bench.ensures.ok
+
+pub returns-in-Ok-crash_bench-clause-err : goal.returns-in-Ok-crash_bench-clause-err
+returns-in-Ok-crash_bench-clause-err g c = λ first lasts.
+    let run = c.args.run in
+    let script = c.args.script.now in
+    let step = subst (λ (x : Control). IsNext script run (ControlStep x)) c.in-Crash.is c.requires.next in
+    let done = HasDone-crash g.F.StoreFile.state g.R.RpmbPort.state g.F.FileRig.crash_image (g.E.Entropy.is_reliable first) c.args.keys.now script c.in-Crash.seed run c.in-Ok-crash_bench.run' c.requires.ready step c.in-Ok-crash_bench.ensures.others c.in-Ok-crash_bench.ensures.whole c.in-Ok-crash_bench.ensures.crashes in
+    let text = ap (λ (x : Control). control_line x) (sym c.in-Crash.is) in
+    cut-off g.F.StoreFile.state g.R.RpmbPort.state g.F.FileRig.crash_image (g.E.Entropy.is_reliable first) c.args.keys.now script run _ c.print_control_act-in-Ok-crash_bench.result _ _ _ _ _ done (control_text script run.number (Crash c.in-Crash.seed) (λ e. cc) ∙ text) _ _ _ c.print_control_act-in-Ok-crash_bench.ensures.err
+
+pub returns-in-Err-crash_bench-clause-err : goal.returns-in-Err-crash_bench-clause-err
+returns-in-Err-crash_bench-clause-err g c = λ first lasts.
+    EndsAt-no_memory g.F.StoreFile.state g.R.RpmbPort.state g.F.FileRig.crash_image (g.E.Entropy.is_reliable first) _ _ c.args.keys.now c.args.script.now _ _ c.args.run c.in-Err-crash_bench.end c.in-Err-crash_bench.ensures.err c.in-Err-crash_bench.ensures.whole_err
+
+pub returns-in-Mode-clause-ok : goal.returns-in-Mode-clause-ok
+returns-in-Mode-clause-ok g c = λ first lasts.
+    let run = c.args.run in
+    let script = c.args.script.now in
+    let step = subst (λ (x : Control). IsNext script run (ControlStep x)) c.in-Mode.is c.requires.next in
+    let done = HasDone-mode g.F.StoreFile.state g.R.RpmbPort.state g.F.FileRig.crash_image (g.E.Entropy.is_reliable first) c.args.keys.now script c.in-Mode.mode run c.requires.ready step in
+    let text = ap (λ (x : Control). control_line x) (sym c.in-Mode.is) in
+    goes-on g.F.StoreFile.state g.R.RpmbPort.state g.F.FileRig.crash_image (g.E.Entropy.is_reliable first) c.args.keys.now script run _ c.print_control_act.result _ _ _ _ _ done (control_text script run.number (ModeControl c.in-Mode.mode) (λ e. cc) ∙ text) c.print_control_act.ensures.ok
+
+pub returns-in-Mode-clause-err : goal.returns-in-Mode-clause-err
+returns-in-Mode-clause-err g c = λ first lasts.
+    let run = c.args.run in
+    let script = c.args.script.now in
+    let step = subst (λ (x : Control). IsNext script run (ControlStep x)) c.in-Mode.is c.requires.next in
+    let done = HasDone-mode g.F.StoreFile.state g.R.RpmbPort.state g.F.FileRig.crash_image (g.E.Entropy.is_reliable first) c.args.keys.now script c.in-Mode.mode run c.requires.ready step in
+    let text = ap (λ (x : Control). control_line x) (sym c.in-Mode.is) in
+    cut-off g.F.StoreFile.state g.R.RpmbPort.state g.F.FileRig.crash_image (g.E.Entropy.is_reliable first) c.args.keys.now script run _ c.print_control_act.result _ _ _ _ _ done (control_text script run.number (ModeControl c.in-Mode.mode) (λ e. cc) ∙ text) _ _ _ c.print_control_act.ensures.err
+
+pub returns-in-Phase-clause-ok : goal.returns-in-Phase-clause-ok
+returns-in-Phase-clause-ok g c = λ first lasts.
+    let run = c.args.run in
+    let script = c.args.script.now in
+    let step = subst (λ (x : Control). IsNext script run (ControlStep x)) c.in-Phase.is c.requires.next in
+    let done = HasDone-phase g.F.StoreFile.state g.R.RpmbPort.state g.F.FileRig.crash_image (g.E.Entropy.is_reliable first) c.args.keys.now script run c.requires.ready step in
+    let text = ap (λ (x : Control). control_line x) (sym c.in-Phase.is) in
+    goes-on g.F.StoreFile.state g.R.RpmbPort.state g.F.FileRig.crash_image (g.E.Entropy.is_reliable first) c.args.keys.now script run _ c.print_control_act-in-Phase.result _ _ _ _ _ done (control_text script run.number Phase (λ e. cc) ∙ text) c.print_control_act-in-Phase.ensures.ok
+
+pub returns-in-Phase-clause-err : goal.returns-in-Phase-clause-err
+returns-in-Phase-clause-err g c = λ first lasts.
+    let run = c.args.run in
+    let script = c.args.script.now in
+    let step = subst (λ (x : Control). IsNext script run (ControlStep x)) c.in-Phase.is c.requires.next in
+    let done = HasDone-phase g.F.StoreFile.state g.R.RpmbPort.state g.F.FileRig.crash_image (g.E.Entropy.is_reliable first) c.args.keys.now script run c.requires.ready step in
+    let text = ap (λ (x : Control). control_line x) (sym c.in-Phase.is) in
+    cut-off g.F.StoreFile.state g.R.RpmbPort.state g.F.FileRig.crash_image (g.E.Entropy.is_reliable first) c.args.keys.now script run _ c.print_control_act-in-Phase.result _ _ _ _ _ done (control_text script run.number Phase (λ e. cc) ∙ text) _ _ _ c.print_control_act-in-Phase.ensures.err

@@ -1,0 +1,65 @@
+use Rattle.std.proofs.Common.{◌≡◌, ◌⊎◌, length, refl, sym, ap, ◌∙◌, subst, arith}
+use Rattle.std.proofs.lemmas.List.{length-map}
+use Rattle.std.proofs.lemmas.Result.{IfErr-weaker, IfOk-weaker}
+use Rattle.run_acts.specs.ServedSteps.{AreCalls}
+use Rattle.script_text.specs.Script.{Declaration, ScriptValue}
+use Rattle.run_acts.specs.declared.MountFault.TheVariants.{NoMemory}
+use Rattle.run_acts.specs.Benches.{bench_state}
+use Rattle.run_acts.specs.ListedBenches.{IsListRefused}
+use Rattle.script_runner.specs.Soaks.{GoesThrough, IsBroken, PrintsObjects}
+use Rattle.script_runner.specs.Trace.{applications_of}
+use Rattle.script_runner.proofs.Soaks.{GoesThrough-acts, IsBroken-memory, IsBroken-phase, IsBroken-printed, RunsPhase-soak, length-soak_applications}
+use Rattle.script_runner.proofs.soak_run.soak_opened.Goals as goal
+
+pub returns-in_default-clause-err : goal.returns-in_default-clause-err
+returns-in_default-clause-err g c = λ first lasts. IsBroken-memory g.F.StoreFile.state g.R.RpmbPort.state g.F.FileRig.crash_image (g.E.Entropy.is_reliable first) c.args.keys.now c.args.number _ _ _ _ NoMemory refl
+
+pub run_phase-requires-clause-few : goal.run_phase-requires-clause-few
+run_phase-requires-clause-few g c κs within =
+    omega (arith, ap length c.applications.ensures, ap (λ (s : ScriptValue). length (applications_of s)) c.in-Ok.ensures, length-soak_applications c.args.number)
+
+pub run_phase-requires-clause-calls : goal.run_phase-requires-clause-calls
+run_phase-requires-clause-calls g c κs within =
+    let same = ap length c.applications.ensures ∙ length-map c.in-Ok.script.applications (λ (d : Declaration). d.app) in
+    subst (λ n. AreCalls n c.calls_from-calls.result.now) (sym same) c.calls_from-calls.ensures.are_calls
+
+pub returns-in-Ok-run_phase-clause-ok : goal.returns-in-Ok-run_phase-clause-ok
+returns-in-Ok-run_phase-clause-ok g c = λ first lasts.
+    let state = g.F.StoreFile.state in
+    let port = g.R.RpmbPort.state in
+    let image = g.F.FileRig.crash_image in
+    let rel = g.E.Entropy.is_reliable first in
+    let keys = c.args.keys.now in
+    let number = c.args.number in
+    let opened = c.in-Ok-run_phase.field-0 in
+    let runs = c.in-Ok-run_phase.ensures.runs in
+    let old = bench_state state port c.args.bench in
+    let between = bench_state state port opened.bench in
+    let ran = RunsPhase-soak state port image rel keys number _ c.in-Ok.script _ _ old between runs.0 opened.history.events c.in-Ok.ensures c.applications.ensures c.calls_from-calls.ensures.calls lasts runs.2 in
+    IfOk-weaker c.print_soak.result (λ s. PrintsObjects state port keys number opened.history.events between (bench_state state port s.bench) s.lines.items)
+    (λ s. GoesThrough state port image rel keys number old (bench_state state port s.bench) s.lines.items)
+    (λ s printed. GoesThrough-acts state port image rel keys number old between (bench_state state port s.bench) runs.0 opened.history.events s.lines.items ran printed) c.print_soak.ensures.ok
+
+pub returns-in-Ok-run_phase-clause-err : goal.returns-in-Ok-run_phase-clause-err
+returns-in-Ok-run_phase-clause-err g c = λ first lasts.
+    let state = g.F.StoreFile.state in
+    let port = g.R.RpmbPort.state in
+    let image = g.F.FileRig.crash_image in
+    let rel = g.E.Entropy.is_reliable first in
+    let keys = c.args.keys.now in
+    let number = c.args.number in
+    let opened = c.in-Ok-run_phase.field-0 in
+    let runs = c.in-Ok-run_phase.ensures.runs in
+    let old = bench_state state port c.args.bench in
+    let between = bench_state state port opened.bench in
+    let ran = RunsPhase-soak state port image rel keys number _ c.in-Ok.script _ _ old between runs.0 opened.history.events c.in-Ok.ensures c.applications.ensures c.calls_from-calls.ensures.calls lasts runs.2 in
+    let mid = g.E.Entropy.faults c.run_phase.new.entropy in
+    let drew = g.E.Entropy.faults c.args.entropy.now in
+    let draws = g.E.Entropy.faults c.print_soak.new.entropy in
+    IfErr-weaker c.print_soak.result (λ h. (h.fault ≡ NoMemory) ⊎ IsListRefused state port keys between (bench_state state port h.bench) mid draws h.fault)
+    (λ h. IsBroken state port image rel keys number drew draws old (bench_state state port h.bench) h.fault)
+    (λ h why. IsBroken-printed state port image rel keys number drew draws old between (bench_state state port h.bench) runs.0 opened.history.events h.fault ran mid c.in-Ok-run_phase.ensures.undrawn why)
+    c.print_soak.ensures.err
+
+pub returns-clause-err : goal.returns-clause-err
+returns-clause-err g c = λ first lasts. IsBroken-phase g.F.StoreFile.state g.R.RpmbPort.state g.F.FileRig.crash_image (g.E.Entropy.is_reliable first) c.args.keys.now c.args.number _ _ _ _ _ c.in-Err.ensures.refused

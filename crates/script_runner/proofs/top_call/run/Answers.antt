@@ -1,0 +1,24 @@
+use Rattle.std.proofs.Common.{◌≡◌, ◌⊎◌, ℕ, Option, Some, sym, ap, ◌∙◌, subst}
+use Rattle.tee_ports.specs.Faults.{Rose}
+use Rattle.run_acts.specs.Benches.{bench_state}
+use Rattle.script_runner.specs.declared.forms.Form.{Form}
+use Rattle.script_runner.specs.declared.forms.Form.TheVariants.{Soak}
+use Rattle.script_runner.specs.Soaks.{RunsSoak}
+use Rattle.script_runner.proofs.Wholes.{IsRun-cause, completed}
+use Rattle.script_runner.proofs.top_call.run.Goals as goal
+
+pub returns-in-Some-Run-clause-complete : goal.returns-in-Some-Run-clause-complete
+returns-in-Some-Run-clause-complete g c = λ bytes script form printed short is source sink room.
+    let x = c.run_source.ensures.run in
+    completed _ _ _ _ _ c.run_source.result.status x.0 bytes script (IsRun-cause _ _ _ _ _ _ _ x.1 x.2) (λ ended rest left. (g.met.S.Source.printed_end c.run_source.new.source rest left).0 ended) printed short is source sink room
+
+pub returns-in-Some-Soak-clause-soak : goal.returns-in-Some-Soak-clause-soak
+returns-in-Some-Soak-clause-soak g c = λ number form.
+    let state = g.F.StoreFile.state in
+    let port = g.R.RpmbPort.state in
+    let e : ◌≡◌ {A = Option Form} (Some (Soak c.in-Some-Soak.number)) (Some (Soak number)) = ap Some (sym c.in-Some-Soak.field-0-is) ∙ sym c.in-Some-Soak.is ∙ c.form_of.ensures ∙ form in
+    let same : c.in-Some-Soak.number ≡ number = cc in
+    subst (λ (n : ℕ). RunsSoak state port g.F.FileRig.crash_image (g.E.Entropy.is_reliable c.args.entropy.now) c.args.keys.now n
+    (g.E.Entropy.faults c.args.entropy.now) (g.E.Entropy.faults c.run_soak.new.entropy)
+    (Rose (g.K.Sink.faults c.args.sink.now) (g.K.Sink.faults c.run_soak.new.sink) ⊎ g.K.Sink.is_full c.run_soak.new.sink) (g.K.Sink.held c.args.sink.now) (g.K.Sink.held c.run_soak.new.sink)
+    (bench_state state port c.args.bench) (bench_state state port c.run_soak.result.bench) c.run_soak.result.status) same c.run_soak.ensures.soak

@@ -1,0 +1,17 @@
+pub mod Text
+pub mod RunRefusals
+pub mod Trace
+pub mod Course
+pub mod Ending
+pub mod RunCauses
+pub mod Forms
+pub mod Points
+pub mod RunReady
+pub mod Prints
+pub mod Running
+pub mod Soaks
+pub mod Exit
+pub mod ScriptReading
+pub mod Sending
+pub mod Blank
+pub mod Port

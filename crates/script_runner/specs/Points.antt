@@ -1,0 +1,49 @@
+-- The points of a run, between two acts.
+use Rattle.std.specs.Prelude.{ℕ, ◌+◌, List, [], ◌∷◌, ◌++◌, drop, Option}
+use Rattle.disk_model.specs.State.{FileState}
+use Rattle.rpmb_card.specs.Port.{PortState}
+use Rattle.script_text.specs.declared.script.Arm.{Arm}
+use Rattle.script_text.specs.declared.script.Control.TheVariants.{Arm as ArmControl}
+use Rattle.script_text.specs.declared.script.Mode.{Mode}
+use Rattle.script_text.specs.declared.script.Step.{Step}
+use Rattle.script_text.specs.Script.{ScriptValue}
+use Rattle.run_acts.specs.Benches.{BenchState, bench_state}
+use Rattle.script_runner.specs.declared.run_state.Run.{Run}
+use Rattle.script_runner.specs.Text.{Act, Do, Serve}
+
+-- a point in a run, between two acts
+pub record Point : Type 0 where
+  -- what the sink holds, and the text that was not put yet
+  pub held : Option (List ℕ)
+  pub kept : List ℕ
+  pub bench : BenchState
+  -- the steps that are still to be done
+  pub steps : List Step
+  -- the arms that wait, and the number and the mode of the next phase
+  pub arms : List Arm
+  pub number : ℕ
+  pub mode : Mode
+
+abbrev pub point_of : {F R : Type 0} → (F → FileState) → (R → PortState) → ScriptValue → (held : Option (List ℕ)) → Run F R → Point
+point_of of_file of_port script held run = record {
+  held = held;
+  kept = run.kept.items;
+  bench = bench_state of_file of_port run.bench;
+  steps = drop run.at script.steps;
+  arms = run.arms.items;
+  number = run.number;
+  mode = run.mode;
+}
+
+-- the arms that wait behind these acts
+abbrev pub arms_behind : List Arm → List Act → List Arm
+arms_behind arms [] = arms
+arms_behind arms (Serve mode calls ∷ acts) = arms_behind [] acts
+arms_behind arms (Do (ArmControl arm) ∷ acts) = arms_behind (arms ++ arm ∷ []) acts
+arms_behind arms (Do control ∷ acts) = arms_behind arms acts
+
+-- how many of these acts are phases
+abbrev pub phases_in : List Act → ℕ
+phases_in [] = 0
+phases_in (Serve mode calls ∷ acts) = 1 + phases_in acts
+phases_in (Do control ∷ acts) = phases_in acts

@@ -1,0 +1,50 @@
+-- How much of its text a run put, and why it ended.
+use Rattle.std.specs.Prelude.{ℕ, ◌≡◌, ◌⊎◌, List, [], ◌++◌, Option}
+use Rattle.run_acts.specs.declared.MountFault.{MountFault}
+use Rattle.tee_ports.specs.Streams.{Appends}
+use Rattle.run_acts.specs.Lines.{refusal_line}
+use Rattle.script_runner.specs.declared.status.Status.{Status}
+use Rattle.script_runner.specs.declared.status.Status.TheVariants.{DeviceFault, Done, MountRefused, NoMemory, WriteFault}
+use Rattle.script_runner.specs.Sending.{IsWriteError, Sends, Stops}
+use Rattle.script_runner.specs.declared.run_state.Run.{Run}
+use Rattle.script_runner.specs.declared.run_state.RunEnd.{RunEnd}
+use Rattle.script_runner.specs.RunRefusals.{IsDeviceFault, IsRefusal}
+
+-- Why a run ended among its acts, and how much of its text was put.
+abbrev pub HasActCause : (failed : Type 0) → (put text : List ℕ) → Status → Type 0
+HasActCause failed put text Done = put ≡ text
+HasActCause failed put text WriteFault = failed
+HasActCause failed put text (MountRefused fault) = IsRefusal fault × (put ≡ text)
+HasActCause failed put text (DeviceFault fault) = IsDeviceFault fault × ((put ≡ text) ⊎ failed)
+HasActCause failed put text NoMemory = Unit {0}
+HasActCause failed put text _ = ⊥
+
+-- What the text of a refusal leaves: it was put, or is a front of what was.
+abbrev pub PrintsRefusal : (failed : Type 0) → (held_old held_new : Option (List ℕ)) → (kept : List ℕ) → MountFault → Status → Type 0
+PrintsRefusal failed held_old held_new kept fault WriteFault = IsRefusal fault × failed × Stops held_old held_new kept (refusal_line fault)
+PrintsRefusal failed held_old held_new kept fault (MountRefused printed) = (printed ≡ fault) × IsRefusal fault × Appends held_old held_new (kept ++ refusal_line fault)
+PrintsRefusal failed held_old held_new kept fault (DeviceFault printed) =
+    (printed ≡ fault) × IsDeviceFault fault × (Appends held_old held_new kept ⊎ (failed × Stops held_old held_new kept []))
+PrintsRefusal failed held_old held_new kept fault NoMemory = Stops held_old held_new kept (refusal_line fault)
+PrintsRefusal failed held_old held_new kept fault _ = ⊥
+
+-- The last text of a run was put, or the sink would not take it.
+abbrev pub PrintsLines : (failed : Type 0) → (held_old held_new : Option (List ℕ)) → (lines : List ℕ) → Status → Type 0
+PrintsLines failed held_old held_new lines Done = Appends held_old held_new lines
+PrintsLines failed held_old held_new lines WriteFault = failed × Stops held_old held_new lines []
+PrintsLines failed held_old held_new lines _ = ⊥
+
+-- The text of an act went behind what was kept, and nothing else changed.
+pub record IsSent {F R : Type 0} (held_old held_new : Option (List ℕ)) (text : List ℕ) (run next : Run F R) : Type 0 where
+  pub sends : Sends held_old held_new run.kept.items next.kept.items text
+  pub bench : next.bench ≡ run.bench
+  pub arms : next.arms ≡ run.arms
+  pub number : next.number ≡ run.number
+  pub mode : next.mode ≡ run.mode
+  pub at : next.at ≡ run.at
+
+-- It could not be put, and the run ended.
+pub record IsCutOff {F R : Type 0} (failed : Type 0) (held_old held_new : Option (List ℕ)) (text : List ℕ) (run : Run F R) (end : RunEnd F R) : Type 0 where
+  pub stops : Stops held_old held_new run.kept.items text
+  pub bench : end.bench ≡ run.bench
+  pub error : IsWriteError failed end.status

@@ -1,0 +1,35 @@
+//! The forms of the command line.
+
+ghost use Rattle.std.specs.Prelude.{◌≡◌, map, option_map};
+ghost use Rattle.std.specs.String.{string_bytes};
+ghost use Rattle.seed_words.specs.Numbers.{soak_number_of};
+ghost use Rattle.script_runner.specs.Forms.{form_of};
+
+use seed_words::soak_number;
+
+/// A form of the command line.
+#[derive(Clone, Copy, Debug, PartialEq, Eq)]
+pub(crate) enum Form {
+    /// `run`: a script is read.
+    Run,
+    /// `soak N`: the script follows from the number.
+    Soak(u32),
+}
+
+/// The soak of the number that the word is.
+fn soak_of(word: &String) -> Option<Form>
+    ensures { result ≡ option_map Form.Soak (soak_number_of (string_bytes word.now)) }
+{
+    soak_number(word.as_str()).map(Form::Soak)
+}
+
+/// The form that the words have, if they have one.
+pub(crate) fn form_of(words: &[String]) -> Option<Form>
+    ensures { result ≡ form_of (map string_bytes words.now) }
+{
+    match words {
+        [word] if word.as_bytes() == b"run".as_slice() => Some(Form::Run),
+        [word, number] if word.as_bytes() == b"soak".as_slice() => soak_of(number),
+        _ => None,
+    }
+}

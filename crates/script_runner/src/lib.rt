@@ -1,0 +1,32 @@
+//! The whole run of trusted storage: a script is read from a source, its acts are done on the files and the card, and the history of calls
+//! and replies goes to a sink. Or the script follows from a number, and five lines say what came of it.
+//!
+//! The program `tee_run` is `run` over the standard streams and the simulated devices (`blank_bench`): files in memory, and a card that has
+//! its key.
+#![tactic(auto)]
+
+mod act_text;
+mod acts;
+mod card_port;
+mod controls;
+mod forms;
+mod mount_refusal;
+mod phase_act;
+mod phase_text;
+mod run_state;
+mod script_source;
+mod sim_devices;
+mod soak_run;
+mod status;
+mod text_sink;
+mod top_call;
+
+pub use card_port::CardPort;
+pub use phase_text::{send_control, send_lines, send_phase};
+pub use run_acts::{Bench, Shown, ShownObject, card_block, print_object};
+pub use run_state::RunEnd;
+pub use script_source::read_text;
+pub use sim_devices::{SimBench, blank_bench, simulator_keys, worn};
+pub use status::{Excess, Status, status_number, status_text};
+pub use text_sink::flush;
+pub use top_call::run;

@@ -1,0 +1,45 @@
+-- The object was loaded and its change staged, or it could not be loaded.
+use Rattle.std.proofs.Common.{None, Some, ap, subst}
+use Rattle.serial_calls.proofs.Unloaded.{stages_behind, unloaded_cause, unloaded_changes}
+use Rattle.serial_calls.proofs.write_call.write_object.Goals as goal
+use Rattle.serial_calls.specs.ChangeStaging.{writing}
+use Rattle.call_steps.specs.ReadyEntries.{IsReady}
+use Rattle.call_steps.specs.SlotValues.{SlotValue}
+
+pub returns-in-Some-clause-stages : goal.returns-in-Some-clause-stages
+returns-in-Some-clause-stages g c = λ v gives.
+    let store = g.L.StoreName.store in
+    let was = c.args.slot.now.file in
+    let slot = c.load_or_reply.new.slot in
+    unloaded_changes store was slot v (writing c.args.start c.args.bytes.now) c.in-Some.reply c.load_or_reply.ensures.guarded
+    (subst (IsReady store was slot v) c.in-Some.is (c.in_ok-reply.ensures.ready v gives))
+
+pub returns-in-Some-clause-cause : goal.returns-in-Some-clause-cause
+returns-in-Some-clause-cause g c =
+    let store = g.L.StoreName.store in
+    let was = c.args.slot.now.file in
+    let slot = c.load_or_reply.new.slot in
+    let given = c.requires.given in
+    let ready : IsReady store was slot given.version (Some c.in-Some.reply) =
+    subst (IsReady store was slot given.version) c.in-Some.is (c.in_ok-reply.ensures.ready given.version given.gives) in
+    unloaded_cause was slot.file c.args.slot.now.number slot.number (ap (λ (s : SlotValue). s.number) c.load_or_reply.ensures.same) (g.E.Entropy.is_reliable c.args.entropy.now) (g.E.Entropy.faults c.args.entropy.now)
+    c.in-Some.reply ready.cause
+
+pub write_loaded-requires-clause-live : goal.write_loaded-requires-clause-live
+write_loaded-requires-clause-live g c =
+    let store = g.L.StoreName.store in
+    let was = c.args.slot.now.file in
+    let slot = c.load_or_reply.new.slot in
+    let given = c.requires.given in
+    let ready : IsReady store was slot given.version None = subst (IsReady store was slot given.version) c.in_default.is (c.in_ok-reply.ensures.ready given.version given.gives) in
+    ready.0.live
+
+pub returns-clause-cause : goal.returns-clause-cause
+returns-clause-cause g c =
+    let store = g.L.StoreName.store in
+    let was = c.args.slot.now.file in
+    let slot = c.load_or_reply.new.slot in
+    let given = c.requires.given in
+    let ready : IsReady store was slot given.version None = subst (IsReady store was slot given.version) c.in_default.is (c.in_ok-reply.ensures.ready given.version given.gives) in
+    stages_behind was slot.file c.write_loaded.new.slot.file ready.1 c.load_or_reply.ensures.rests.goes_on c.args.slot.now.number slot.number (ap (λ (s : SlotValue). s.number) c.load_or_reply.ensures.same)
+    (g.E.Entropy.is_reliable c.args.entropy.now) (g.E.Entropy.faults c.args.entropy.now) (g.E.Entropy.faults c.write_loaded.new.entropy) c.write_loaded.result c.write_loaded.ensures.cause

@@ -1,0 +1,59 @@
+-- What a served call is answered, and what it leaves of the history: at most the landing of the commit that was in doubt, and then the call.
+use Rattle.std.specs.Prelude.{Err, Ok, Option, Result, [], length, ℕ, ◌+◌, ◌++◌, ◌∷◌, ◌≡◌}
+use Rattle.call_steps.specs.CallerSessions.{CallerSession, IsCallerOf, session_value}
+use Rattle.disk_model.specs.State.{FileState}
+use Rattle.call_steps.specs.Seen.{GoesOn}
+use Rattle.hmac_keys.specs.KeyTable.{rpmb_key}
+use Rattle.call_steps.specs.declared.PlacedReply.{PlacedReply}
+use Rattle.call_steps.specs.GuardedGates.{GuardedGateValue}
+use Rattle.rpmb_card.specs.Port.{PortState}
+use Rattle.call_steps.specs.Devices.{AccusesRightly, CostsDoubt, DevicesGoOn}
+use Rattle.call_steps.specs.Slots.{AreOfObjectFiles, AreSlots}
+use Rattle.call_steps.specs.Rising.{Serving, devices_in}
+use Rattle.call_steps.specs.EventCounts.{events_at, landing_events}
+use Rattle.store_model.specs.declared.event.Event.TheVariants.{Call as CallEvent}
+use Rattle.store_model.specs.declared.event.Mark.{Mark}
+use Rattle.serial_calls.specs.HeldFiles.{KeepsHolds}
+use Rattle.core_laws.specs.Sessions.{Extends}
+use Rattle.core_laws.specs.Stores.{Store}
+use Rattle.tee_types.specs.declared.call.Call.{Call}
+
+-- The history goes on, where a commit in doubt landed with its landing, and then with the session's next event, at that place.
+pub record GoesOnWith {F R E : Type 0} (store : Store) (old new : GuardedGateValue F R) (was now : CallerSession E) (call : Call) (answer : PlacedReply) : Type 0 where
+  pub landed : Option ℕ
+  pub mark : Mark
+  pub extends : Extends store (session_value was) (session_value now) (CallEvent was.number was.made call answer.reply mark) answer.place
+  pub whole : IsCallerOf store now
+  pub made : now.made ≡ was.made + 1
+  pub place : answer.place ≡ length (events_at old ++ landing_events landed)
+  pub events : events_at new ≡ (events_at old ++ landing_events landed) ++ CallEvent was.number was.made call answer.reply mark ∷ []
+
+-- The session has no event more; a commit in doubt may have landed.
+pub record GoesOnWithout {F R E : Type 0} (store : Store) (old new : GuardedGateValue F R) (was now : CallerSession E) : Type 0 where
+  pub landed : Option ℕ
+  pub whole : IsCallerOf store now
+  pub number : now.number ≡ was.number
+  pub made : now.made ≡ was.made
+  pub goes_on : GoesOn store was now
+  pub events : events_at new ≡ events_at old ++ landing_events landed
+
+module _ {F R E : Type 0} (of_file : F → FileState) (of_port : R → PortState) (draws : E → ℕ) where
+  -- A device that the reply accuses counted a fault in the call, and the reply carries its count. A frame, or a result of the card, is told
+  -- only where no card is that has the key, and a doubt over such a card cost two counts.
+  pub record IsAnswered (store : Store) (old new : Serving F R E) (call : Call) (answer : PlacedReply) : Type 0 where
+    pub goes_on : GoesOnWith store old.gate new.gate old.session new.session call answer
+    pub accuses : AccusesRightly (rpmb_key store.keys.huk) (devices_in of_file of_port draws old) (devices_in of_file of_port draws new) answer.reply
+    pub costs : CostsDoubt (rpmb_key store.keys.huk) (devices_in of_file of_port draws old) (devices_in of_file of_port draws new) goes_on.mark
+
+  abbrev pub IsAnsweredOrNot : {X : Type 0} → Store → (old new : Serving F R E) → Call → Result PlacedReply X → Type 0
+  IsAnsweredOrNot store old new call (Ok answer) = IsAnswered store old new call answer
+  IsAnsweredOrNot store old new call (Err none) = GoesOnWithout store old.gate new.gate old.session new.session
+
+  -- What a call leaves.
+  pub record ServesCall {X : Type 0} (store : Store) (old new : Serving F R E) (call : Call) (result : Result PlacedReply X) : Type 0 where
+    pub answers : IsAnsweredOrNot store old new call result
+    pub slots : AreSlots new.slots
+    pub tagged : AreOfObjectFiles old.gate.journal.knows.all → AreOfObjectFiles new.gate.journal.knows.all
+    -- no session holds a file but for a commit in doubt, where none did before
+    pub held : KeepsHolds old.gate.gate new.gate.gate
+    pub devices : DevicesGoOn (rpmb_key store.keys.huk) (devices_in of_file of_port draws old) (devices_in of_file of_port draws new)

@@ -1,0 +1,91 @@
+//! Calls that change the data of an open object.
+
+ghost use Rattle.std.specs.Prelude.{◌≡◌};
+ghost use Rattle.hmac_keys.specs.KeyTable.{ssk};
+ghost use Rattle.serial_calls.specs.ServeReady.{IsReady};
+ghost use Rattle.serial_calls.specs.ServeReplay.{ServesObject};
+
+use crate::file_slots::place_of;
+use crate::ruled_calls::answer;
+use call_rules::Decision;
+use call_steps::{GuardedGate, GuardedSlot, PlacedReply, Session};
+use core_laws::StoreName;
+use hmac_keys::tsk;
+use rpmb_card::RpmbPort;
+use std::alloc::Global;
+use tee_ports::{Entropy, StoreFile};
+use tee_types::{Bytes, Call, NoMemory};
+
+/// TEE_WriteObjectData: these bytes, from the handle's position on. `call` is that call.
+pub(crate) fn write<F: StoreFile + Drop, R: RpmbPort + Drop, L: StoreName, E: Entropy>(
+    alloc: Global,
+    gate: &mut GuardedGate<F, R, L>,
+    slots: &mut Vec<GuardedSlot<F, L>>,
+    storage_key: &[u8; 32],
+    session: &mut Session<E>,
+    call: &Call,
+    handle: u32,
+    bytes: &Bytes,
+) -> Result<PlacedReply, NoMemory>
+    requires ready { IsReady R.state L.store gate.old slots.old.items session.old }
+    requires keyed { storage_key.now ≡ ssk L.store.keys.huk L.store.keys.chip }
+    requires call { call.now ≡ Call.Write handle bytes.now }
+    ensures serves { ServesObject F.state R.state E.faults L.store
+        (record { gate = gate.old; slots = slots.old.items; session = session.old })
+        (record { gate = gate.new; slots = slots.new.items; session = session.new }) (Call.Write handle bytes.now) result }
+    ensures reliable { E.is_reliable session.old.entropy → E.is_reliable session.new.entropy }
+    ensures still { E.is_reliable session.old.entropy → E.faults session.new.entropy ≡ E.faults session.old.entropy }
+{
+    let found = match call_rules::write(&*gate, session.state(), handle, bytes) {
+        Decision::Answered(reply) => return answer(alloc, gate, slots, session, call, reply),
+        Decision::Needs(found) => found,
+    };
+    let place = place_of(&*gate, slots, &found.held);
+    let key = tsk(storage_key, &found.held.entry.app.bytes());
+    let slot = &mut slots[place];
+    crate::write(
+        alloc,
+        gate,
+        slot,
+        session,
+        &found,
+        &key,
+        handle,
+        bytes.as_slice(),
+    )
+}
+
+/// TEE_TruncateObjectData: that size.
+pub(crate) fn truncate<F: StoreFile + Drop, R: RpmbPort + Drop, L: StoreName, E: Entropy>(
+    alloc: Global,
+    gate: &mut GuardedGate<F, R, L>,
+    slots: &mut Vec<GuardedSlot<F, L>>,
+    storage_key: &[u8; 32],
+    session: &mut Session<E>,
+    handle: u32,
+    size: u32,
+) -> Result<PlacedReply, NoMemory>
+    requires ready { IsReady R.state L.store gate.old slots.old.items session.old }
+    requires keyed { storage_key.now ≡ ssk L.store.keys.huk L.store.keys.chip }
+    ensures serves { ServesObject F.state R.state E.faults L.store
+        (record { gate = gate.old; slots = slots.old.items; session = session.old })
+        (record { gate = gate.new; slots = slots.new.items; session = session.new }) (Call.Truncate handle size) result }
+    ensures reliable { E.is_reliable session.old.entropy → E.is_reliable session.new.entropy }
+    ensures still { E.is_reliable session.old.entropy → E.faults session.new.entropy ≡ E.faults session.old.entropy }
+{
+    let found = match call_rules::truncate(&*gate, session.state(), handle) {
+        Decision::Answered(reply) => return answer(
+            alloc,
+            gate,
+            slots,
+            session,
+            &Call::Truncate { handle, size },
+            reply,
+        ),
+        Decision::Needs(found) => found,
+    };
+    let place = place_of(&*gate, slots, &found.held);
+    let key = tsk(storage_key, &found.held.entry.app.bytes());
+    let slot = &mut slots[place];
+    crate::truncate(alloc, gate, slot, session, &found, &key, handle, size)
+}

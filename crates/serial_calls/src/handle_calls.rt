@@ -1,0 +1,87 @@
+//! Calls that give a handle.
+
+ghost use Rattle.std.specs.Prelude.{◌≡◌, ◌≤◌, length};
+ghost use Rattle.hmac_keys.specs.KeyTable.{ssk};
+ghost use Rattle.serial_calls.specs.ServeReady.{IsReady};
+ghost use Rattle.serial_calls.specs.ServeReplay.{ServesObject};
+
+use crate::file_slots::place_of;
+use crate::ruled_calls::answer;
+use call_rules::Decision;
+use call_steps::{GuardedGate, GuardedSlot, PlacedReply, Session};
+use core_laws::StoreName;
+use hmac_keys::tsk;
+use rpmb_card::RpmbPort;
+use std::alloc::Global;
+use tee_ports::{Entropy, StoreFile};
+use tee_types::{Bytes, Call, Flags, NoMemory, ObjectId};
+
+/// TEE_OpenPersistentObject: the object of that identifier, with those flags.
+pub(crate) fn open<F: StoreFile + Drop, R: RpmbPort + Drop, L: StoreName, E: Entropy>(
+    alloc: Global,
+    gate: &mut GuardedGate<F, R, L>,
+    slots: &mut Vec<GuardedSlot<F, L>>,
+    storage_key: &[u8; 32],
+    session: &mut Session<E>,
+    id: ObjectId,
+    flags: Flags,
+) -> Result<PlacedReply, NoMemory>
+    requires ready { IsReady R.state L.store gate.old slots.old.items session.old }
+    requires keyed { storage_key.now ≡ ssk L.store.keys.huk L.store.keys.chip }
+    ensures serves { ServesObject F.state R.state E.faults L.store
+        (record { gate = gate.old; slots = slots.old.items; session = session.old })
+        (record { gate = gate.new; slots = slots.new.items; session = session.new }) (Call.Open id flags) result }
+    ensures reliable { E.is_reliable session.old.entropy → E.is_reliable session.new.entropy }
+    ensures still { E.is_reliable session.old.entropy → E.faults session.new.entropy ≡ E.faults session.old.entropy }
+{
+    let held = match call_rules::open(&*gate, session.state(), id, flags) {
+        Decision::Answered(reply) => return answer(
+            alloc,
+            gate,
+            slots,
+            session,
+            &Call::Open { id, flags },
+            reply,
+        ),
+        Decision::Needs(held) => held,
+    };
+    let place = place_of(&*gate, slots, &held);
+    let key = tsk(storage_key, &held.entry.app.bytes());
+    let slot = &mut slots[place];
+    call_steps::open(alloc, gate, slot, session, &held, &key, id, flags)
+}
+
+/// TEE_CreatePersistentObject: an object of that identifier, with those flags, attributes and data. `call` is that call.
+pub(crate) fn create<F: StoreFile + Drop, R: RpmbPort + Drop, L: StoreName, E: Entropy>(
+    alloc: Global,
+    gate: &mut GuardedGate<F, R, L>,
+    slots: &mut Vec<GuardedSlot<F, L>>,
+    storage_key: &[u8; 32],
+    session: &mut Session<E>,
+    call: &Call,
+    id: ObjectId,
+    flags: Flags,
+    attributes: &Bytes,
+    bytes: &Bytes,
+) -> Result<PlacedReply, NoMemory>
+    requires ready { IsReady R.state L.store gate.old slots.old.items session.old }
+    requires few { length L.store.mounted.applications ≤ 16 }
+    requires keyed { storage_key.now ≡ ssk L.store.keys.huk L.store.keys.chip }
+    requires call { call.now ≡ Call.Create id flags attributes.now bytes.now }
+    ensures serves { ServesObject F.state R.state E.faults L.store
+        (record { gate = gate.old; slots = slots.old.items; session = session.old })
+        (record { gate = gate.new; slots = slots.new.items; session = session.new }) (Call.Create id flags attributes.now bytes.now) result }
+    ensures reliable { E.is_reliable session.old.entropy → E.is_reliable session.new.entropy }
+    ensures still { E.is_reliable session.old.entropy → E.faults session.new.entropy ≡ E.faults session.old.entropy }
+{
+    let place = match call_rules::create(&*gate, session.state(), id, flags, attributes, bytes) {
+        Decision::Answered(reply) => return answer(alloc, gate, slots, session, call, reply),
+        Decision::Needs(place) => place,
+    };
+    let file = crate::reserve(gate, session);
+    let key = tsk(storage_key, &session.app().bytes());
+    let slot = &mut slots[usize::from(file) - 1];
+    crate::create(
+        alloc, gate, slot, session, &place, &key, id, flags, attributes, bytes,
+    )
+}

@@ -1,0 +1,182 @@
+//! TEE_TruncateObjectData: another size of an open object's data.
+
+ghost use Rattle.std.specs.Prelude.{◌==◌, ◌≡◌, ◌≤◌, IfOk, None, OnErr, false};
+ghost use Rattle.call_rules.specs.Objects.{IsRightful};
+ghost use Rattle.serial_calls.specs.ChangeCauses.{HasStageCause};
+ghost use Rattle.serial_calls.specs.Changed.{AnswersStaged, IsChangedOrNot};
+ghost use Rattle.serial_calls.specs.ChangeStaging.{StagesChange, StagesEntry, resizing};
+ghost use Rattle.crash_core.specs.DeviceKeys.{object_key};
+ghost use Rattle.dir_records.specs.Form.{HasForm};
+ghost use Rattle.disk_model.specs.Calls.{GoesOn};
+ghost use Rattle.history_seats.specs.Records.{Version};
+ghost use Rattle.call_steps.specs.Commits.{IsCalm};
+ghost use Rattle.call_steps.specs.Fills.{GivesEntry};
+ghost use Rattle.call_steps.specs.Fits.{SeesWhole};
+ghost use Rattle.call_steps.specs.GuardedSlots.{SlotInvariant};
+ghost use Rattle.call_steps.specs.GuardedReads.{GivesVersion};
+ghost use Rattle.call_steps.specs.SlotValues.{IsLive, without_stage};
+ghost use Rattle.tee_types.specs.Rights.{write_bit};
+
+use crate::early_answers::answer_meant;
+use crate::failure_replies::tell_failure;
+use crate::stage_commit::commit_stage;
+use crate::stage_result::{Staged, staged_by};
+use call_rules::{OpenObject, truncate_refusal};
+use call_steps::{
+    GuardedGate, GuardedSlot, PlacedReply, Session, SessionMove, Slot, catch_up_entry,
+    load_or_reply, stage_truncate,
+};
+use core_laws::StoreName;
+use dir_records::DirEntry;
+use rpmb_card::RpmbPort;
+use std::alloc::Global;
+use tee_ports::{Entropy, StoreFile};
+use tee_types::{Call, NoMemory, Reply};
+
+// Stages another size of the object that is loaded.
+fn truncate_loaded<F: StoreFile + Drop, L: StoreName, E: Entropy>(
+    alloc: Global,
+    slot: &mut Slot<F>,
+    entropy: &mut E,
+    size: u32,
+) -> Result<Staged, NoMemory>
+    requires guarded { SlotInvariant L.store slot.old }
+    requires live { IsLive slot.old.holds }
+    requires calm { slot.old.doubt ≡ None }
+    requires fits { size ≤ 1044480 }
+    ensures same { slot.new ≡ record slot.old { file = slot.new.file; holds = slot.new.holds } }
+    ensures base { SlotInvariant L.store (record slot.new { holds = without_stage slot.new.holds }) }
+    ensures guarded { OnErr result (SlotInvariant L.store slot.new) }
+    ensures undrawn { OnErr result (entropy.new ≡ entropy.old) }
+    ensures stages { (v : Version) → GivesVersion slot.old v → IfOk result (StagesChange L.store slot.new v (resizing size)) }
+    ensures cause { IfOk result (HasStageCause slot.old.file slot.new.file slot.old.number (E.is_reliable entropy.old) (E.faults entropy.old) (E.faults entropy.new)) }
+    ensures goes_on { GoesOn slot.old.file slot.new.file }
+    ensures reliable { E.is_reliable entropy.old → E.is_reliable entropy.new }
+{
+    let given = stage_truncate::<F, E, L>(alloc, slot, size, entropy);
+    let Some(staged) = staged_by(slot.number(), given) else {
+        return Err(NoMemory {});
+    };
+    Ok(staged)
+}
+
+/// Loads the object of an entry, at which the slot stands, where nothing is loaded, and stages so many bytes of data in its file. `tsk` is
+/// the key of the entry's application. The gate has no part in this.
+///
+/// # Errors
+///
+/// Memory ran out. Nothing was staged or drawn.
+pub fn truncate_object<F: StoreFile + Drop, L: StoreName, E: Entropy>(
+    alloc: Global,
+    slot: &mut Slot<F>,
+    entropy: &mut E,
+    entry: &DirEntry,
+    tsk: &[u8; 32],
+    size: u32,
+) -> Result<Staged, NoMemory>
+    requires guarded { SlotInvariant L.store slot.old }
+    requires form { HasForm entry.now }
+    requires given { GivesEntry slot.old entry.now }
+    requires key { tsk.now ≡ object_key L.store.keys entry.now.app }
+    requires fits { size ≤ 1044480 }
+    ensures same { slot.new ≡ record slot.old { file = slot.new.file; holds = slot.new.holds } }
+    // Without its stage the slot may stand behind its lock; and it has none where memory ran out.
+    ensures base { SlotInvariant L.store (record slot.new { holds = without_stage slot.new.holds }) }
+    ensures guarded { OnErr result (SlotInvariant L.store slot.new) }
+    ensures undrawn { OnErr result (entropy.new ≡ entropy.old) }
+    ensures stages { (v : Version) → GivesVersion slot.old v → IfOk result (StagesChange L.store slot.new v (resizing size)) }
+    // The reply accuses the file or the entropy where it failed, and no other.
+    ensures cause { IfOk result (HasStageCause slot.old.file slot.new.file slot.old.number (E.is_reliable entropy.old) (E.faults entropy.old) (E.faults entropy.new)) }
+    ensures goes_on { GoesOn slot.old.file slot.new.file }
+    ensures reliable { E.is_reliable entropy.old → E.is_reliable entropy.new }
+{
+    if let Some(reply) = load_or_reply::<F, L>(alloc, slot, entry, tsk)? {
+        return Ok(Staged::Unstaged(reply));
+    }
+    truncate_loaded::<F, L, E>(alloc, slot, entropy, size)
+}
+
+/// Brings another size of an open object's data that was staged in the object's file, or tells why it was not staged. `found` is what the
+/// rules found of the handle, whose session was shown the history, and the slot stands at its entry.
+pub fn answer_truncate<F: StoreFile + Drop, R: RpmbPort + Drop, L: StoreName, E: Entropy>(
+    gate: &mut GuardedGate<F, R, L>,
+    slot: &mut Slot<F>,
+    session: &mut Session<E>,
+    found: &OpenObject,
+    handle: u32,
+    size: u32,
+    staged: Staged,
+) -> PlacedReply
+    requires names { 1 ≤ gate.old.gate.room }
+    requires handles { 1 ≤ gate.old.gate.open_handles.spare }
+    requires events { 1 ≤ gate.old.journal.spare }
+    requires idle { gate.old.gate.doubt ≡ None }
+    requires calm { IsCalm L.store gate.old.journal.knows session.old }
+    requires found { IsRightful gate.old.gate.dir.dir.entries session.old.state handle write_bit found.now }
+    requires other { (size == found.now.held.entry.size) ≡ false }
+    requires fits { size ≤ 1044480 }
+    requires stages { StagesEntry L.store gate.old.journal.knows slot.old found.now.held.entry (resizing size) staged }
+    ensures answered { AnswersStaged F.state R.state (E.is_reliable session.old.entropy) (E.faults session.old.entropy) (E.faults session.new.entropy)
+        L.store gate.old gate.new slot.old.number session.old session.new (Call.Truncate handle size) found.now.held size staged result }
+    ensures reliable { E.is_reliable session.old.entropy → E.is_reliable session.new.entropy }
+    ensures number { slot.new.number ≡ slot.old.number }
+    ensures file { slot.new.file ≡ slot.old.file }
+    ensures guarded { SlotInvariant L.store slot.new }
+    ensures whole { SeesWhole gate.new.journal.knows slot.new }
+{
+    // Tells what always holds of the gate.
+    let _doubt = gate.doubt();
+    let call = Call::Truncate { handle, size };
+    match staged {
+        Staged::Root(root) => {
+            let step = SessionMove::Stays;
+            commit_stage(gate, slot, session, found.held, root, size, call, step)
+        }
+        Staged::Unstaged(reply) => tell_failure(gate, slot, session, call, reply),
+    }
+}
+
+/// Sets how many bytes of data the object has. A size that it has already is set at once. `found` is what the rules found of the handle,
+/// whose session was shown the history. `tsk` is the key of the entry's application.
+///
+/// # Errors
+///
+/// Memory ran out. Nothing was answered.
+pub fn truncate<F: StoreFile + Drop, R: RpmbPort + Drop, L: StoreName, E: Entropy>(
+    alloc: Global,
+    gate: &mut GuardedGate<F, R, L>,
+    slot: &mut GuardedSlot<F, L>,
+    session: &mut Session<E>,
+    found: &OpenObject,
+    tsk: &[u8; 32],
+    handle: u32,
+    size: u32,
+) -> Result<PlacedReply, NoMemory>
+    requires names { 1 ≤ gate.old.gate.room }
+    requires handles { 1 ≤ gate.old.gate.open_handles.spare }
+    requires events { 1 ≤ gate.old.journal.spare }
+    requires idle { gate.old.gate.doubt ≡ None }
+    requires calm { IsCalm L.store gate.old.journal.knows session.old }
+    requires found { IsRightful gate.old.gate.dir.dir.entries session.old.state handle write_bit found.now }
+    requires file { slot.old.number ≡ found.now.held.entry.file }
+    requires key { tsk.now ≡ object_key L.store.keys found.now.held.entry.app }
+    ensures changed { IsChangedOrNot F.state R.state (E.is_reliable session.old.entropy) (E.faults session.old.entropy) (E.faults session.new.entropy)
+        L.store gate.old gate.new slot.old slot.new session.old session.new (Call.Truncate handle size) found.now.held size result }
+    ensures number { slot.new.number ≡ slot.old.number }
+    ensures goes_on { GoesOn slot.old.file slot.new.file }
+    ensures reliable { E.is_reliable session.old.entropy → E.is_reliable session.new.entropy }
+{
+    let entry = found.held.entry;
+    if let Some(reply) = truncate_refusal(size) {
+        let call = Call::Truncate { handle, size };
+        return Ok(answer_meant(gate, &mut slot.slot, session, &entry, call, reply));
+    }
+    if size == entry.size {
+        let call = Call::Truncate { handle, size };
+        return Ok(answer_meant(gate, &mut slot.slot, session, &entry, call, Reply::Done));
+    }
+    catch_up_entry(gate, &mut slot.slot, session, &entry);
+    let entropy = session.entropy_mut();
+    let staged = truncate_object::<F, L, E>(alloc, &mut slot.slot, entropy, &entry, tsk, size)?;
+    Ok(answer_truncate(gate, &mut slot.slot, session, found, handle, size, staged))
+}

@@ -1,0 +1,10 @@
+-- The file counted what the reply carries for it, where no object was made.
+use Rattle.shared_calls.proofs.SharedObjects.{keeps-made}
+use Rattle.shared_calls.proofs.create_call.make_slot.Goals as goal
+
+pub returns-clause-kept : goal.returns-clause-kept
+returns-clause-kept g c =
+    let was = c.args.session.now in
+    let made = c.make_unless_spent in
+    keeps-made g.L.DevicesName.devices c.args.slot.now made.new.slot made.ensures.same made.ensures.goes_on c.requires.kept c.args.counter (g.E.Entropy.is_reliable was.entropy) (g.E.Entropy.faults was.entropy)
+    (g.E.Entropy.faults made.new.session.entropy) made.result made.ensures.cause

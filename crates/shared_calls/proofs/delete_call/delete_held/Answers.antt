@@ -1,0 +1,67 @@
+-- The call is answered by how its commit ended, and gate and slot keep what always holds of them.
+use Rattle.std.proofs.Common.{Ok, refl, subst, sym, ◌∙◌}
+use Rattle.call_rules.specs.declared.decision.OpenObject.{OpenObject}
+use Rattle.serial_calls.specs.GuardedGates.{GuardedGateValue}
+use Rattle.tee_types.specs.declared.call.Call.TheVariants.{Delete}
+use Rattle.tee_types.specs.declared.reply.Reply.TheVariants.{Done}
+use Rattle.serial_calls.specs.NameChanges.{delete_change}
+use Rattle.shared_calls.specs.declared.validation.Validation.{Validation}
+use Rattle.shared_calls.specs.Validations.{EndsLook, IfFound}
+use Rattle.shared_calls.specs.SharedReady.{IsReady}
+use Rattle.shared_calls.proofs.SharedCommits.{committed-answers, committed-grows, committed-still}
+use Rattle.shared_calls.proofs.KeptCalls.{keeps-committed, known-card}
+use Rattle.shared_calls.proofs.SharedViews.{keeps-shown-committable}
+use Rattle.shared_calls.proofs.Waiting.{answers-then}
+use Rattle.shared_calls.proofs.delete_call.delete_held.Goals as goal
+
+pub returns-clause-ends : goal.returns-clause-ends
+returns-clause-ends g c =
+    let store = g.L.StoreName.store in
+    let call = Delete c.args.handle in
+    let was = c.args.session.now in
+    let between = c.validate.new.session in
+    let done = c.delete in
+    answers-then store was between done.new.session
+    (subst (λ (x : Validation OpenObject). EndsLook {X = Unit {0}} store was between call (Ok x)) c.in-Found.is c.in_ok-answer.ensures.ends) call done.result
+    (committed-answers g.F.StoreFile.state g.R.RpmbPort.state g.E.Entropy.faults store c.gate.inside.gate done.new.gate c.args.slot.now.number between done.new.session call Done
+    (delete_change c.in-Found.found) (g.E.Entropy.is_reliable between.entropy) done.result done.ensures.committed)
+
+pub returns-clause-counted : goal.returns-clause-counted
+returns-clause-counted g c =
+    let between = c.validate.new.session in
+    let done = c.delete in
+    committed-grows g.F.StoreFile.state g.R.RpmbPort.state g.E.Entropy.faults g.L.StoreName.store c.gate.inside.gate done.new.gate c.args.slot.now.number between done.new.session
+    (Delete c.args.handle) Done (delete_change c.in-Found.found) (g.E.Entropy.is_reliable between.entropy) done.result done.ensures.committed (g.E.Entropy.faults c.args.session.now.entropy)
+    c.in_ok-answer.ensures.counted
+
+pub returns-clause-still : goal.returns-clause-still
+returns-clause-still g c =
+    let between = c.validate.new.session in
+    let done = c.delete in
+    let validated = c.in_ok-answer.ensures in
+    λ reliable.
+    committed-still g.F.StoreFile.state g.R.RpmbPort.state g.E.Entropy.faults g.L.StoreName.store c.gate.inside.gate done.new.gate c.args.slot.now.number between done.new.session
+    (Delete c.args.handle) Done (delete_change c.in-Found.found) (g.E.Entropy.is_reliable between.entropy) done.result done.ensures.committed (validated.reliable reliable)
+    ∙ validated.still reliable
+
+pub invariant_of-gate : goal.invariant_of-gate
+invariant_of-gate g c =
+    let store = g.L.StoreName.store in
+    let old = c.gate.inside.gate in
+    let between = c.validate.new.session in
+    let done = c.delete in
+    let ready : IsReady store c.validate.new.gate between =
+    subst (λ (x : Validation OpenObject). IfFound {X = Unit {0}} (Ok x) (λ found. IsReady store c.validate.new.gate between)) c.in-Found.is c.in_ok-answer.ensures.ready in
+    let known =
+    known-card g.F.StoreFile.state g.R.RpmbPort.state old.gate _ c.doubt-doubt.ensures.guarded.card_key
+    (subst (λ (x : GuardedGateValue _ _). IsReady store x between) (sym c.gate.view_is) ready).idle c.doubt-doubt.ensures.stands in
+    keeps-committed g.F.StoreFile.state g.R.RpmbPort.state store g.L.DevicesName.devices g.E.Entropy.faults old done.new.gate c.args.slot.now.number c.requires.kept.object between done.new.session
+    (Delete c.args.handle) Done (delete_change c.in-Found.found) (g.E.Entropy.is_reliable between.entropy) done.result (λ d0 d1. tt) known done.ensures.committed c.gate.invariant
+
+pub returns-clause-kept : goal.returns-clause-kept
+returns-clause-kept g c =
+    let between = c.validate.new.session in
+    let done = c.delete in
+    keeps-shown-committable g.L.DevicesName.devices c.args.slot.now done.new.slot done.ensures.number done.ensures.file g.F.StoreFile.state g.R.RpmbPort.state g.L.StoreName.store
+    c.number.ensures.guarded c.gate.inside.gate done.new.gate done.ensures.agreed done.ensures.whole c.args.slot.now.number between done.new.session (Delete c.args.handle) Done (delete_change c.in-Found.found)
+    (g.E.Entropy.is_reliable between.entropy) (g.E.Entropy.faults between.entropy) (g.E.Entropy.faults done.new.session.entropy) done.result done.ensures.committed refl c.requires.kept

@@ -1,0 +1,55 @@
+-- What was staged is of the entry still, and is answered.
+use Rattle.std.proofs.Common.{◌+◌, length, max, subst, sym}
+use Rattle.serial_calls.specs.ChangeStaging.{DataCall, StagesEntry, writing}
+use Rattle.hmac_keys.specs.KeyTable.{rpmb_key}
+use Rattle.serial_calls.specs.GuardedGates.{GuardedGateValue}
+use Rattle.tee_types.specs.declared.call.Call.TheVariants.{Write}
+use Rattle.shared_calls.specs.SharedReady.{IsReady}
+use Rattle.shared_calls.proofs.SharedChanges.{LeavesChanged, changed-leaves}
+use Rattle.shared_calls.proofs.KeptCalls.{known-card}
+use Rattle.shared_calls.proofs.write_call.answer_staged.Given.{Over}
+use Rattle.shared_calls.proofs.write_call.answer_staged.Goals.{After-answer_write}
+use Rattle.shared_calls.proofs.write_call.answer_staged.Goals as goal
+
+pub answer_write-requires-clause-stages : goal.answer_write-requires-clause-stages
+answer_write-requires-clause-stages g c =
+    let found = c.args.found.now in
+    let asked : DataCall = writing found.handle.position c.args.bytes in
+    let has = c.requires.staged in
+    subst (λ (x : GuardedGateValue g.row.F.Denot g.row.R.Denot). StagesEntry g.L.StoreName.store x.journal.knows c.catch_up_staged.new.slot found.held.entry asked c.args.staged) (sym c.catch_up_staged.ensures.gate)
+    (c.catch_up_staged.ensures.stages has.version has.gives asked c.args.staged has.stages)
+
+behind : (g : Over) (c : After-answer_write g)
+    → LeavesChanged g.F.StoreFile.state g.R.RpmbPort.state g.E.Entropy.is_reliable g.E.Entropy.faults g.L.StoreName.store g.L.DevicesName.devices c.answer_write.new.gate c.answer_write.new.slot c.args.session.now c.answer_write.new.session
+    (Write c.args.handle c.args.bytes) c.args.staged c.answer_write.result
+behind g c =
+    let found = c.args.found.now in
+    let store = g.L.StoreName.store in
+    let old = c.gate.inside.gate in
+    let met = c.catch_up_staged in
+    let done = c.answer_write in
+    let ready : IsReady store old c.args.session.now =
+    subst (λ (x : GuardedGateValue g.row.F.Denot g.row.R.Denot). IsReady store x c.args.session.now) (sym c.gate.view_is) c.requires.ready in
+    let known = known-card g.F.StoreFile.state g.R.RpmbPort.state old.gate (rpmb_key store.keys.huk) c.doubt-doubt.ensures.guarded.card_key ready.idle c.doubt-doubt.ensures.stands in
+    changed-leaves g.F.StoreFile.state g.R.RpmbPort.state g.E.Entropy.is_reliable g.E.Entropy.faults store g.L.DevicesName.devices old met.new.gate done.new.gate c.args.slot.now met.new.slot done.new.slot
+    c.args.session.now met.new.session done.new.session (Write c.args.handle c.args.bytes) found.held (max found.held.entry.size (found.handle.position + length c.args.bytes)) (writing found.handle.position c.args.bytes) c.args.staged done.result
+    met.ensures.gate (met.ensures.calm ready.calm) met.ensures.same done.ensures.number done.ensures.file met.ensures.agreed met.ensures.at.1.sees done.ensures.whole known c.requires.staged c.gate.invariant
+    c.requires.kept done.ensures.answered
+
+pub returns-clause-answered : goal.returns-clause-answered
+returns-clause-answered g c = (behind g c).answered
+
+pub returns-clause-counted : goal.returns-clause-counted
+returns-clause-counted g c = (behind g c).counted
+
+pub returns-clause-still : goal.returns-clause-still
+returns-clause-still g c = (behind g c).still
+
+pub returns-clause-drawn : goal.returns-clause-drawn
+returns-clause-drawn g c = (behind g c).drawn
+
+pub returns-clause-kept : goal.returns-clause-kept
+returns-clause-kept g c = (behind g c).slot_kept
+
+pub invariant_of-gate : goal.invariant_of-gate
+invariant_of-gate g c = (behind g c).gate_kept

@@ -1,0 +1,53 @@
+//! How each validate of a call at the gate begins.
+
+ghost use Rattle.std.specs.Prelude.{◌≡◌, ◌≤◌, true, IfOk, IsNone, IfSome};
+ghost use Rattle.serial_calls.specs.CallerSessions.{IsCallerOf};
+ghost use Rattle.serial_calls.specs.Rulings.{is_on_object};
+ghost use Rattle.shared_calls.specs.SharedReady.{IsReady};
+ghost use Rattle.shared_calls.specs.Attempts.{EndsAttempt};
+ghost use Rattle.shared_calls.specs.SharedCounts.{CarriesDraws};
+
+use crate::{DevicesName, SharedGate};
+use rpmb_card::RpmbPort;
+use serial_calls::{PlacedReply, Session, StoreName, answer_alone};
+use std::alloc::Global;
+use tee_ports::{Entropy, StoreFile};
+use tee_types::{Call, NoMemory};
+
+/// Makes room, and serves a call as far as the gate does alone: the answer, or none where the call is on an object. Then the gate is ready
+/// for it.
+///
+/// # Errors
+///
+/// Memory ran out. The session has no event more.
+pub(crate) fn begin<
+    F: StoreFile + Drop,
+    R: RpmbPort + Drop,
+    L: StoreName + DevicesName,
+    E: Entropy,
+>(
+    alloc: Global,
+    gate: &mut SharedGate<F, R, L>,
+    session: &mut Session<E>,
+    call: &Call,
+) -> Result<Option<PlacedReply>, NoMemory>
+    requires caller { IsCallerOf L.store session.old }
+    ensures ends { EndsAttempt L.store session.old session.new call.now result }
+    ensures ready { IfOk result (λ answer. IsNone answer → IsReady L.store gate.new session.new) }
+    ensures on { IfOk result (λ answer. IsNone answer → is_on_object call.now ≡ true) }
+    ensures counted { E.faults session.old.entropy ≤ E.faults session.new.entropy }
+    ensures reliable { E.is_reliable session.old.entropy → E.is_reliable session.new.entropy }
+    ensures still { E.is_reliable session.old.entropy → E.faults session.new.entropy ≡ E.faults session.old.entropy }
+    // Where the call is left to an object's file, the session's entropy counted no fault.
+    ensures undrawn { IfOk result (λ answer. IsNone answer → E.faults session.new.entropy ≡ E.faults session.old.entropy) }
+    ensures drawn { IfOk result (λ found. IfSome found (λ answer. CarriesDraws (E.faults session.old.entropy) (E.faults session.new.entropy) answer.reply)) }
+{
+    // Tells how the gate and the card stand to each other.
+    let _doubt = gate.gate.doubt();
+    gate.gate.reserve()?;
+    if let Some(answer) = answer_alone(alloc, &mut gate.gate, session, call)? {
+        return Ok(Some(answer));
+    }
+    gate.gate.reserve()?;
+    Ok(None)
+}

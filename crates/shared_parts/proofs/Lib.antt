@@ -1,3 +1,0 @@
-pub mod Waiting
-pub mod CarriedRounds
-pub mod KeptSlots

@@ -1,4 +1,0 @@
-pub mod Names
-pub mod Kept
-pub mod Rounds
-pub mod Counts

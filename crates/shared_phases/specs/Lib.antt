@@ -1,5 +1,0 @@
-pub mod Seen
-pub mod OwnDraws
-pub mod OwnCalls
-pub mod Sharing
-pub mod Closing

@@ -1,0 +1,11 @@
+pub use Rattle.shared_calls.specs.CallerSessions
+pub use Rattle.shared_calls.specs.Cards
+pub use Rattle.shared_calls.specs.DeviceCounts
+pub use Rattle.shared_calls.specs.Devices
+pub use Rattle.shared_calls.specs.EventCounts
+pub use Rattle.shared_calls.specs.Kept
+pub use Rattle.shared_calls.specs.GuardedGates
+pub use Rattle.shared_calls.specs.Rising
+pub use Rattle.shared_calls.specs.Attempts
+pub use Rattle.shared_calls.specs.SharedCounts
+pub use Rattle.shared_calls.specs.SlotValues

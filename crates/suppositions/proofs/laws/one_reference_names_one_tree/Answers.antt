@@ -1,5 +1,0 @@
-use Rattle.suppositions.proofs.SameTrees.{alike_trees}
-use Rattle.suppositions.proofs.laws.one_reference_names_one_tree.Goals as goal
-
-pub returns : goal.returns
-returns c = λ root one other verified also. alike_trees root one other verified also
