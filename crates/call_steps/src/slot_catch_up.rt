@@ -52,7 +52,7 @@ fn learn_outcome<F: StoreFile + Drop, R: RpmbPort + Drop, L: StoreName>(
     settle(slot, place, gate.settled_behind(place));
 }
 
-/// Shows a session and a slot the whole history. Both learn_outcome what became of their own commits in doubt. A version that the slot gave it gives
+/// Shows a session and a slot the whole history. Both learn what became of their own commits in doubt. A version that the slot gave it gives
 /// still.
 pub fn catch_up_slot<F: StoreFile + Drop, R: RpmbPort + Drop, L: StoreName, E: Entropy>(
     gate: &mut GuardedGate<F, R, L>,

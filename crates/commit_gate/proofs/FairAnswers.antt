@@ -1,4 +1,4 @@
--- Answers that an object's file has a part in are legal, or catch_up a clash, or the promises end there.
+-- Answers that an object's file has a part in are legal, or show a clash, or the promises end there.
 use Rattle.std.proofs.Common.{◌≡◌, ◌||◌, ◌<◌, ◌^◌, ℕ, true, false, Bool, true≢false, List, Some, Contains, refl, sym, ap, ◌∙◌, subst, inl, arith}
 use Rattle.tee_types.specs.declared.call.Call.{Call}
 use Rattle.tee_types.specs.declared.reply.Cause.TheVariants.{Fault}

@@ -110,7 +110,7 @@ IsExact-cause w t NoMemory h = record {
   too_long = λ long. inr refl;
 }
 
--- a source that prints its bytes and has ended gave them all
+-- a source that tells its bytes and has ended gave them all
 all_taken : (left_old left_new : Option (List ℕ)) (taken bytes : List ℕ) → TakesFirst left_old left_new taken → ((rest : List ℕ) → left_new ≡ Some rest → rest ≡ []) → left_old ≡ Some bytes → taken ≡ bytes
 all_taken left_old None taken bytes takes ends printed = let e : ◌≡◌ {A = Option (List ℕ)} (Some bytes) None = sym printed ∙ takes in absurd cc
 all_taken left_old (Some rest) taken bytes takes ends printed =
@@ -118,7 +118,7 @@ all_taken left_old (Some rest) taken bytes takes ends printed =
     let same : bytes ≡ taken ++ rest = cc in
     sym (same ∙ ap (λ t. taken ++ t) (ends rest refl) ∙ append-nil taken)
 
--- a source that prints its bytes gave no more than it has
+-- a source that tells its bytes gave no more than it has
 taken-le : (left_old left_new : Option (List ℕ)) (taken bytes : List ℕ) → TakesFirst left_old left_new taken → left_old ≡ Some bytes → length taken ≤ length bytes
 taken-le left_old None taken bytes takes printed = let e : ◌≡◌ {A = Option (List ℕ)} (Some bytes) None = sym printed ∙ takes in absurd cc
 taken-le left_old (Some rest) taken bytes takes printed =

@@ -1,4 +1,4 @@
--- What the program prints of a status: its exit status, and a text on standard error.
+-- What the program says of a status: its exit status, and a text on standard error.
 use Rattle.std.specs.Prelude.{ℕ, List, codes}
 use Rattle.script_runner.specs.declared.status.Status.{Status}
 use Rattle.script_runner.specs.declared.status.Excess.TheVariants.{Bytes, Apps}

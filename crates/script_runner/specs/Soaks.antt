@@ -37,14 +37,14 @@ soak_output number None (Refused fault ∷ []) = refusal_line fault
 soak_output number (Some fault) records = refusal_line fault
 soak_output number start records = []
 
--- The objects were listed, and the lines print of them and of the history.
+-- The objects were listed, and the lines tell of them and of the history.
 pub record PrintsObjects {F R : Type 0} (of_file : F → FileState) (of_port : R → PortState) (keys : Keys) (number : ℕ) (events : List Event) (old new : BenchState) (lines : List ℕ) : Type 0 where
   pub objects : ObjectMap
   pub lists : ListsBench of_file of_port keys old new objects (objects_text objects)
   pub lines_are : lines ≡ soak_lines number events (length objects) (objects_text objects)
 
 module _ {F R : Type 0} (of_file : F → FileState) (of_port : R → PortState) (image : FileState → ℕ → ℕ → List ℕ) (Reliable : Type 0) (keys : Keys) (number : ℕ) where
-  -- Both acts were done on a bench that was opened, and the lines print what came of it.
+  -- Both acts were done on a bench that was opened, and the lines tell what came of it.
   pub record GoesThrough (old new : BenchState) (lines : List ℕ) : Type 0 where
     pub records : List RunRecord
     pub goes : Goes of_file of_port image Reliable keys (soak_applications number) [] (soak_acts number) records old new

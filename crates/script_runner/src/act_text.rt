@@ -91,7 +91,7 @@ pub(crate) fn print_phase_act<K: Sink, F: Drop, R: Drop>(
     }
 }
 
-/// Puts the last lines of a run, and prints how it ends.
+/// Puts the last lines of a run, and says how it ends.
 pub(crate) fn print_soak_lines<K: Sink>(lines: Vec<u8>, sink: &mut K) -> Status
     ensures prints { PrintsLines (Rose (K.faults sink.old) (K.faults sink.new) ⊎ K.is_full sink.new) (K.held sink.old) (K.held sink.new) lines.items result }
     ensures counted { K.faults sink.old ≤ K.faults sink.new }

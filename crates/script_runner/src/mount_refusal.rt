@@ -22,7 +22,7 @@ fn put_refusal<K: Sink>(fault: &MountFault, sink: &mut K, kept: &mut Vec<u8>) ->
     flush(sink, kept, 0)
 }
 
-/// Puts the text so far, with the reason of a refusal below it, and prints how the run ends.
+/// Puts the text so far, with the reason of a refusal below it, and says how the run ends.
 pub(crate) fn print_mount_refusal<K: Sink>(fault: MountFault, sink: &mut K, kept: Vec<u8>) -> Status
     ensures prints { PrintsRefusal (Rose (K.faults sink.old) (K.faults sink.new) ⊎ K.is_full sink.new) (K.held sink.old) (K.held sink.new) kept.items fault result }
     ensures counted { K.faults sink.old ≤ K.faults sink.new }

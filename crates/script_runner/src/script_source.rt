@@ -20,7 +20,7 @@ fn zeroed(alloc: Global, count: usize) -> Result<Vec<u8>, AllocError>
     vec![in alloc; 0u8; count]
 }
 
-/// Takes the next piece of the source behind the text, and prints how many bytes it has; 0 is the end.
+/// Takes the next piece of the source behind the text, and says how many bytes it has; 0 is the end.
 fn read_piece<S: Source>(
     source: &mut S,
     piece: &mut [u8],

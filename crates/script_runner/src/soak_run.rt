@@ -26,7 +26,7 @@ use tee_ports::{Entropy, FileRig, Sink};
 pub(crate) struct Soaked<F, R> {
     /// The bench.
     pub bench: Bench<F, R>,
-    /// The lines that print what came of it.
+    /// The lines that tell what came of it.
     pub lines: Vec<u8>,
 }
 

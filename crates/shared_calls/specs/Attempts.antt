@@ -25,7 +25,7 @@ pub record IsWaiting {E : Type 0} (store : Store) (was now : CallerSession E) : 
   pub made : now.made ≡ was.made
   pub goes_on : GoesOn store was now
 
--- a attempt of a call ends with its answer, or has to be begun again; or memory ran out
+-- an attempt of a call ends with its answer, or has to be begun again; or memory ran out
 abbrev pub EndsAttempt : {E X : Type 0} → Store → (was now : CallerSession E) → Call → Result (Option PlacedReply) X → Type 0
 EndsAttempt store was now call (Ok (Some answer)) = IsAnswered store was now call answer
 EndsAttempt store was now call (Ok None) = IsWaiting store was now

@@ -1,4 +1,4 @@
--- What a validate of a call at the gate leaves of its session.
+-- What a validation of a call at the gate leaves of its session.
 use Rattle.std.specs.Prelude.{Err, Ok, Result}
 use Rattle.serial_calls.specs.CallerSessions.{CallerSession}
 use Rattle.serial_calls.specs.declared.PlacedReply.{PlacedReply}

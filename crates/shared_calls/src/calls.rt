@@ -87,7 +87,7 @@ pub fn file_of<F: StoreFile + Drop, R: RpmbPort + Drop, L: StoreName + DevicesNa
     }
 }
 
-/// A attempt of a call, with the lock of the slot of the file that it needs: each validate at the gate takes the gate's lock, and the first has it
+/// An attempt of a call, with the lock of the slot of the file that it needs: each validation at the gate takes the gate's lock, and the first has it
 /// already, `first`, which is given back before the slot's file is at work. None where the call has to begin again, as one that is on no
 /// object has.
 ///

@@ -1,4 +1,4 @@
-//! TEE_CreatePersistentObject, with the gate's lock taken for each validate alone.
+//! TEE_CreatePersistentObject, with the gate's lock taken for each validation alone.
 
 ghost use Rattle.std.specs.Prelude.{◌≡◌, ◌≤◌, ℕ, length, true, IfOk, IfSome, IsNone, IsSome, OnErr, MatchResult, []};
 ghost use Rattle.tee_types.specs.declared.call.Call.TheVariants.{Create};
@@ -162,7 +162,7 @@ fn clear_slot<F: StoreFile + Drop, R: RpmbPort + Drop, L: StoreName + DevicesNam
     Some(gate.gate.counter())
 }
 
-// The first validate: the slot is cleared, so that the object may be made in it. Gives the card's counter.
+// The first validation: the slot is cleared, so that the object may be made in it. Gives the card's counter.
 fn validate_first<F: StoreFile + Drop, R: RpmbPort + Drop, L: StoreName + DevicesName, E: Entropy>(
     alloc: Global,
     gate: &mut SharedGate<F, R, L>,
@@ -293,7 +293,7 @@ fn finish_slot<F: StoreFile + Drop, R: RpmbPort + Drop, L: StoreName + DevicesNa
     Some(answer)
 }
 
-// The last validate: where the rules let the create pass still, it ends with what making the object gave; else the object goes.
+// The last validation: where the rules let the create pass still, it ends with what making the object gave; else the object goes.
 fn validate_last<F: StoreFile + Drop, R: RpmbPort + Drop, L: StoreName + DevicesName, E: Entropy>(
     alloc: Global,
     gate: &mut SharedGate<F, R, L>,
@@ -339,7 +339,7 @@ fn validate_last<F: StoreFile + Drop, R: RpmbPort + Drop, L: StoreName + Devices
     ))
 }
 
-// A attempt with the slot itself, which has a stage between the validations.
+// An attempt with the slot itself, which has a stage between the validations.
 fn attempt_with_slot<
     W: Wait,
     F: StoreFile + Drop,
@@ -408,7 +408,7 @@ fn attempt_with_slot<
     )
 }
 
-/// A attempt of a Create, with the lock of the slot of the file that `validate_for_file` gave: two validations at the gate, and between them the object
+/// An attempt of a Create, with the lock of the slot of the file that `validate_for_file` gave: two validations at the gate, and between them the object
 /// is made. None where the call has to begin again. What was made and is not brought to the gate is let go.
 /// `call` is that Create.
 ///

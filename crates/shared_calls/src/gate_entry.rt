@@ -1,4 +1,4 @@
-//! How each validate of a call at the gate begins.
+//! How each validation of a call at the gate begins.
 
 ghost use Rattle.std.specs.Prelude.{◌≡◌, ◌≤◌, true, IfOk, IsNone, IfSome};
 ghost use Rattle.serial_calls.specs.CallerSessions.{IsCallerOf};

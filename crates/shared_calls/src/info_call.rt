@@ -1,4 +1,4 @@
-//! TEE_GetObjectInfo1, with the gate's lock taken for each validate alone.
+//! TEE_GetObjectInfo1, with the gate's lock taken for each validation alone.
 
 ghost use Rattle.std.specs.Prelude.{◌≡◌, ◌≤◌, IfOk, IfSome, MatchResult, []};
 ghost use Rattle.hmac_keys.specs.KeyTable.{ssk};
@@ -62,7 +62,7 @@ fn validate<F: StoreFile + Drop, R: RpmbPort + Drop, L: StoreName + DevicesName,
     }
 }
 
-/// The number of the file of an Info's object, as a validate at the gate finds it; or the call's answer.
+/// The number of the file of an Info's object, as a validation at the gate finds it; or the call's answer.
 ///
 /// # Errors
 ///
@@ -92,7 +92,7 @@ pub(crate) fn file_of<
     }
 }
 
-// The first validate: the object's slot is shown the history, so that the object may be loaded.
+// The first validation: the object's slot is shown the history, so that the object may be loaded.
 fn validate_first<F: StoreFile + Drop, R: RpmbPort + Drop, L: StoreName + DevicesName, E: Entropy>(
     alloc: Global,
     gate: &mut SharedGate<F, R, L>,
@@ -120,7 +120,7 @@ fn validate_first<F: StoreFile + Drop, R: RpmbPort + Drop, L: StoreName + Device
     Ok(Validation::Found(found))
 }
 
-// The last validate: what is known of the object is appended, where it is told by the same position and the same flags still, of the same file.
+// The last validation: what is known of the object is appended, where it is told by the same position and the same flags still, of the same file.
 fn validate_last<F: StoreFile + Drop, R: RpmbPort + Drop, L: StoreName + DevicesName, E: Entropy>(
     alloc: Global,
     gate: &mut SharedGate<F, R, L>,
@@ -181,7 +181,7 @@ fn describe_slot<F: StoreFile + Drop, L: StoreName + DevicesName>(
     describe_object::<F, L>(alloc, &mut slot.slot, &found.held.entry, &key, found.handle)
 }
 
-/// A attempt of an Info, with the lock of the slot of its object's file: two validations at the gate, and between them the object is loaded where it
+/// An attempt of an Info, with the lock of the slot of its object's file: two validations at the gate, and between them the object is loaded where it
 /// was not. None where the call has to begin again.
 ///
 /// # Errors

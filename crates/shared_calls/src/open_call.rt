@@ -1,4 +1,4 @@
-//! TEE_OpenPersistentObject, with the gate's lock taken for each validate alone.
+//! TEE_OpenPersistentObject, with the gate's lock taken for each validation alone.
 
 ghost use Rattle.std.specs.Prelude.{◌≡◌, ◌≤◌, IfOk, IfSome, MatchResult, []};
 ghost use Rattle.hmac_keys.specs.KeyTable.{ssk};
@@ -60,7 +60,7 @@ fn validate<F: StoreFile + Drop, R: RpmbPort + Drop, L: StoreName + DevicesName,
     }
 }
 
-/// The number of the file of an Open's object, as a validate at the gate finds it; or the call's answer.
+/// The number of the file of an Open's object, as a validation at the gate finds it; or the call's answer.
 ///
 /// # Errors
 ///
@@ -91,7 +91,7 @@ pub(crate) fn file_of<
     }
 }
 
-// The first validate: the object's slot is shown the history, so that the object may be loaded.
+// The first validation: the object's slot is shown the history, so that the object may be loaded.
 fn validate_first<F: StoreFile + Drop, R: RpmbPort + Drop, L: StoreName + DevicesName, E: Entropy>(
     alloc: Global,
     gate: &mut SharedGate<F, R, L>,
@@ -120,7 +120,7 @@ fn validate_first<F: StoreFile + Drop, R: RpmbPort + Drop, L: StoreName + Device
     Ok(Validation::Found(held))
 }
 
-// The last validate: the session gets its handle, or is told why the object could not be loaded, where the object lies in the same file still.
+// The last validation: the session gets its handle, or is told why the object could not be loaded, where the object lies in the same file still.
 fn validate_last<F: StoreFile + Drop, R: RpmbPort + Drop, L: StoreName + DevicesName, E: Entropy>(
     alloc: Global,
     gate: &mut SharedGate<F, R, L>,
@@ -176,7 +176,7 @@ fn load_slot<F: StoreFile + Drop, L: StoreName + DevicesName>(
     load_or_reply::<F, L>(alloc, &mut slot.slot, &held.entry, &key)
 }
 
-/// A attempt of an Open, with the lock of the slot of its object's file: two validations at the gate, and between them the object is loaded where it
+/// An attempt of an Open, with the lock of the slot of its object's file: two validations at the gate, and between them the object is loaded where it
 /// was not. None where the call has to begin again.
 ///
 /// # Errors

@@ -1,4 +1,4 @@
-//! TEE_ReadObjectData, with the gate's lock taken for each validate alone.
+//! TEE_ReadObjectData, with the gate's lock taken for each validation alone.
 
 ghost use Rattle.std.specs.Prelude.{◌≡◌, ◌≤◌, IfOk, IfSome, MatchResult, []};
 ghost use Rattle.tee_types.specs.Rights.{read_bit};
@@ -63,7 +63,7 @@ fn validate<F: StoreFile + Drop, R: RpmbPort + Drop, L: StoreName + DevicesName,
     }
 }
 
-/// The number of the file of a Read's object, as a validate at the gate finds it; or the call's answer.
+/// The number of the file of a Read's object, as a validation at the gate finds it; or the call's answer.
 ///
 /// # Errors
 ///
@@ -94,7 +94,7 @@ pub(crate) fn file_of<
     }
 }
 
-// The first validate: the object's slot is shown the history, so that the object may be loaded.
+// The first validation: the object's slot is shown the history, so that the object may be loaded.
 fn validate_first<F: StoreFile + Drop, R: RpmbPort + Drop, L: StoreName + DevicesName, E: Entropy>(
     alloc: Global,
     gate: &mut SharedGate<F, R, L>,
@@ -123,7 +123,7 @@ fn validate_first<F: StoreFile + Drop, R: RpmbPort + Drop, L: StoreName + Device
     Ok(Validation::Found(found))
 }
 
-// The last validate: what was read is appended, where the handle still stands at the same place of the same file.
+// The last validation: what was read is appended, where the handle still stands at the same place of the same file.
 fn validate_last<F: StoreFile + Drop, R: RpmbPort + Drop, L: StoreName + DevicesName, E: Entropy>(
     alloc: Global,
     gate: &mut SharedGate<F, R, L>,
@@ -194,7 +194,7 @@ fn read_slot<F: StoreFile + Drop, L: StoreName + DevicesName>(
     )
 }
 
-/// A attempt of a Read, with the lock of the slot of its object's file: two validations at the gate, and between them the object is read. None
+/// An attempt of a Read, with the lock of the slot of its object's file: two validations at the gate, and between them the object is read. None
 /// where the call has to begin again.
 ///
 /// # Errors

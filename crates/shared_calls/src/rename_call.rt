@@ -1,4 +1,4 @@
-//! TEE_RenamePersistentObject, at one validate at the gate.
+//! TEE_RenamePersistentObject, at one validation at the gate.
 
 ghost use Rattle.std.specs.Prelude.{◌≡◌, ◌≤◌, IfSome, IfOk, []};
 ghost use Rattle.serial_calls.specs.CallerSessions.{IsCallerOf};
@@ -52,7 +52,7 @@ fn validate<F: StoreFile + Drop, R: RpmbPort + Drop, L: StoreName + DevicesName,
     }
 }
 
-/// The number of the file of a Rename's object, as a validate at the gate finds it; or the call's answer.
+/// The number of the file of a Rename's object, as a validation at the gate finds it; or the call's answer.
 ///
 /// # Errors
 ///
@@ -83,7 +83,7 @@ pub(crate) fn file_of<
     }
 }
 
-/// The one validate of a Rename, with the lock of a slot: the object is renamed, where the slot is its file's. None where the call has to begin
+/// The one validation of a Rename, with the lock of a slot: the object is renamed, where the slot is its file's. None where the call has to begin
 /// again.
 ///
 /// # Errors

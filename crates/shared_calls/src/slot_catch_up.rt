@@ -1,4 +1,4 @@
-//! How the slot of the object's file is shown the history, at a validate of a call at the gate.
+//! How the slot of the object's file is shown the history, at a validation of a call at the gate.
 
 ghost use Rattle.std.specs.Prelude.{◌≡◌, ℕ, true, List, Some};
 ghost use Rattle.crash_core.specs.EntryLists.{entry_at};

@@ -1,4 +1,4 @@
-//! TEE_TruncateObjectData, with the gate's lock taken for each validate alone.
+//! TEE_TruncateObjectData, with the gate's lock taken for each validation alone.
 
 ghost use Rattle.std.specs.Prelude.{◌==◌, ◌≡◌, ◌≤◌, IfOk, OnErr, false, IfSome, MatchResult, ℕ, []};
 ghost use Rattle.tee_types.specs.Rights.{write_bit};
@@ -67,7 +67,7 @@ fn validate<F: StoreFile + Drop, R: RpmbPort + Drop, L: StoreName + DevicesName,
     }
 }
 
-/// The number of the file of a Truncate's object, as a validate at the gate finds it; or the call's answer.
+/// The number of the file of a Truncate's object, as a validation at the gate finds it; or the call's answer.
 ///
 /// # Errors
 ///
@@ -98,7 +98,7 @@ pub(crate) fn file_of<
     }
 }
 
-// The first validate: a size that is refused, and one that the object has, are answered. For any other the object's slot is shown the history, so
+// The first validation: a size that is refused, and one that the object has, are answered. For any other the object's slot is shown the history, so
 // that the object may be loaded.
 fn validate_first<F: StoreFile + Drop, R: RpmbPort + Drop, L: StoreName + DevicesName, E: Entropy>(
     alloc: Global,
@@ -234,7 +234,7 @@ fn answer_staged<F: StoreFile + Drop, R: RpmbPort + Drop, L: StoreName + Devices
     answer_truncate(&mut gate.gate, slot, session, found, handle, size, staged)
 }
 
-// The last validate: what was staged is brought, or it is told why nothing was, where the object is found there again. Else the stage is given up.
+// The last validation: what was staged is brought, or it is told why nothing was, where the object is found there again. Else the stage is given up.
 fn validate_last<F: StoreFile + Drop, R: RpmbPort + Drop, L: StoreName + DevicesName, E: Entropy>(
     alloc: Global,
     gate: &mut SharedGate<F, R, L>,
@@ -275,7 +275,7 @@ fn validate_last<F: StoreFile + Drop, R: RpmbPort + Drop, L: StoreName + Devices
     Ok(Some(answer_staged(gate, slot, session, &found, handle, size, staged)))
 }
 
-// The rest of a attempt, once the slot may load its object: the slot has a stage between the steps.
+// The rest of an attempt, once the slot may load its object: the slot has a stage between the steps.
 fn truncate_slot<
     W: Wait,
     F: StoreFile + Drop,
@@ -319,7 +319,7 @@ fn truncate_slot<
     )
 }
 
-/// A attempt of a Truncate, with the lock of the slot of its object's file: two validations at the gate, and between them the size is staged in the
+/// An attempt of a Truncate, with the lock of the slot of its object's file: two validations at the gate, and between them the size is staged in the
 /// file. None where the call has to begin again. What was staged and is not brought to the gate is given up.
 ///
 /// # Errors

@@ -1,8 +1,8 @@
-//! What a validate of a call at the gate gave.
+//! What a validation of a call at the gate gave.
 
 use serial_calls::PlacedReply;
 
-/// What a validate of a call at the gate gave.
+/// What a validation of a call at the gate gave.
 #[derive(Debug, Drop)]
 pub enum Validation<T> {
     /// The call is answered.

@@ -1,4 +1,4 @@
-//! TEE_WriteObjectData, with the gate's lock taken for each validate alone.
+//! TEE_WriteObjectData, with the gate's lock taken for each validation alone.
 
 ghost use Rattle.std.specs.Prelude.{◌==◌, ◌≡◌, ◌+◌, ◌≤◌, IfOk, OnErr, false, length, IfSome, MatchResult, ℕ, []};
 ghost use Rattle.tee_types.specs.Rights.{write_bit};
@@ -67,7 +67,7 @@ fn validate<F: StoreFile + Drop, R: RpmbPort + Drop, L: StoreName + DevicesName,
     }
 }
 
-/// The number of the file of a Write's object, as a validate at the gate finds it; or the call's answer. `call` is that Write.
+/// The number of the file of a Write's object, as a validation at the gate finds it; or the call's answer. `call` is that Write.
 ///
 /// # Errors
 ///
@@ -100,7 +100,7 @@ pub(crate) fn file_of<
     }
 }
 
-// The first validate: a write that is refused whatever the object's bytes are is answered. For any other the object's slot is shown the history,
+// The first validation: a write that is refused whatever the object's bytes are is answered. For any other the object's slot is shown the history,
 // so that the object may be loaded. `call` is that Write.
 fn validate_first<F: StoreFile + Drop, R: RpmbPort + Drop, L: StoreName + DevicesName, E: Entropy>(
     alloc: Global,
@@ -244,7 +244,7 @@ fn answer_staged<F: StoreFile + Drop, R: RpmbPort + Drop, L: StoreName + Devices
     answer_write(&mut gate.gate, slot, session, found, handle, bytes, staged)
 }
 
-// The last validate: what was staged for the place `at` is brought, or it is told why nothing was, where the object is found there again. Else the
+// The last validation: what was staged for the place `at` is brought, or it is told why nothing was, where the object is found there again. Else the
 // stage is given up. `call` is that Write.
 fn validate_last<F: StoreFile + Drop, R: RpmbPort + Drop, L: StoreName + DevicesName, E: Entropy>(
     alloc: Global,
@@ -289,7 +289,7 @@ fn validate_last<F: StoreFile + Drop, R: RpmbPort + Drop, L: StoreName + Devices
     Ok(Some(answer_staged(gate, slot, session, &found, handle, bytes, staged)))
 }
 
-// The rest of a attempt, once the slot may load its object: the slot has a stage between the steps. `call` is that Write.
+// The rest of an attempt, once the slot may load its object: the slot has a stage between the steps. `call` is that Write.
 fn write_slot<
     W: Wait,
     F: StoreFile + Drop,
@@ -338,7 +338,7 @@ fn write_slot<
     )
 }
 
-/// A attempt of a Write, with the lock of the slot of its object's file: two validations at the gate, and between them the write is staged in the
+/// An attempt of a Write, with the lock of the slot of its object's file: two validations at the gate, and between them the write is staged in the
 /// file. None where the call has to begin again. What was staged and is not brought to the gate is given up. `call` is
 /// that Write.
 ///

@@ -82,7 +82,7 @@ impl<F: StoreFile + Drop, R: RpmbPort + Drop, L: StoreName + DevicesName> Shared
         (spin_then_lock(rt, &self.gate), slot)
     }
 
-    // Validations at the gate, and makes a attempt with the lock of the slot that the call needs, if it needs one. Where that lock is free, the first validate
+    // Validates the call at the gate, and makes an attempt with the lock of the slot that the call needs, if it needs one. Where that lock is free, the first validation
     // of the attempt is made before the gate's is given back. None where the call has to begin again.
     fn try_once<W: Wait, E: Entropy>(
         &self,

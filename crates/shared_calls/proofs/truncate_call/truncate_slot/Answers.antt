@@ -1,4 +1,4 @@
--- The last validate follows the stage.
+-- The last validation follows the stage.
 use Rattle.tee_types.specs.declared.call.Call.TheVariants.{Truncate}
 use Rattle.serial_calls.proofs.CountGrowth.{grows_grows}
 use Rattle.shared_calls.proofs.Waiting.{ends-then}

@@ -1,4 +1,4 @@
--- What the machine answers anyhow is appended; else the session is as the validate left it.
+-- What the machine answers anyhow is appended; else the session is as the validation left it.
 use Rattle.std.proofs.Common.{◌≡◌, ◌∙◌, [], ℕ, Ok, Some, false, length, ◌==◌, subst, sym}
 use Rattle.call_rules.specs.Objects.{IsRightful}
 use Rattle.call_rules.specs.declared.decision.OpenObject.{OpenObject}

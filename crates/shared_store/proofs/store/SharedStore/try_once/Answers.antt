@@ -1,4 +1,4 @@
--- The attempt follows the validate at the gate.
+-- The attempt follows the validation at the gate.
 use Rattle.std.proofs.Common.{◌∙◌, ℕ, subst, Ok}
 use Rattle.shared_calls.specs.declared.validation.Validation.{Validation}
 use Rattle.shared_calls.specs.Validations.{EndsLook}
