@@ -70,12 +70,12 @@ module _ (T1' : RattleType) (T2' : RattleType) (T3' : RattleType) (T4' : RattleT
         let name = callee_symbol.name (lts.passed-0 T1' T2' T3' T4' L1' L2' L3' L4' F-StoreFile F-StoreFile-dict R-RpmbPort R-RpmbPort-dict L-StoreName L-StoreName-dict E-Entropy E-Entropy-dict F-Destruct-dict R-Destruct-dict E-Destruct-dict) in
         callee.by_parts-at (lts.arg-0-0 T1' T2' T3' T4' L1' L2' L3' L4' F-StoreFile F-StoreFile-dict R-RpmbPort R-RpmbPort-dict L-StoreName L-StoreName-dict E-Entropy E-Entropy-dict F-Destruct-dict R-Destruct-dict E-Destruct-dict y.0.0) (lts.arg-0-1 T1' T2' T3' T4' L1' L2' L3' L4' F-StoreFile F-StoreFile-dict R-RpmbPort R-RpmbPort-dict L-StoreName L-StoreName-dict E-Entropy E-Entropy-dict F-Destruct-dict R-Destruct-dict E-Destruct-dict y.0.0) (lts.arg-0-2 T1' T2' T3' T4' L1' L2' L3' L4' F-StoreFile F-StoreFile-dict R-RpmbPort R-RpmbPort-dict L-StoreName L-StoreName-dict E-Entropy E-Entropy-dict F-Destruct-dict R-Destruct-dict E-Destruct-dict y.0.0) (lts.arg-0-3 T1' T2' T3' T4' L1' L2' L3' L4' F-StoreFile F-StoreFile-dict R-RpmbPort R-RpmbPort-dict L-StoreName L-StoreName-dict E-Entropy E-Entropy-dict F-Destruct-dict R-Destruct-dict E-Destruct-dict y.0.0) (lts.laws-0-0 T1' T2' T3' T4' L1' L2' L3' L4' F-StoreFile F-StoreFile-dict R-RpmbPort R-RpmbPort-dict L-StoreName L-StoreName-dict E-Entropy E-Entropy-dict F-Destruct-dict R-Destruct-dict E-Destruct-dict y.0.0) (lts.laws-0-1 T1' T2' T3' T4' L1' L2' L3' L4' F-StoreFile F-StoreFile-dict R-RpmbPort R-RpmbPort-dict L-StoreName L-StoreName-dict E-Entropy E-Entropy-dict F-Destruct-dict R-Destruct-dict E-Destruct-dict y.0.0) (lts.laws-0-2 T1' T2' T3' T4' L1' L2' L3' L4' F-StoreFile F-StoreFile-dict R-RpmbPort R-RpmbPort-dict L-StoreName L-StoreName-dict E-Entropy E-Entropy-dict F-Destruct-dict R-Destruct-dict E-Destruct-dict y.0.0) (lts.laws-0-3 T1' T2' T3' T4' L1' L2' L3' L4' F-StoreFile F-StoreFile-dict R-RpmbPort R-RpmbPort-dict L-StoreName L-StoreName-dict E-Entropy E-Entropy-dict F-Destruct-dict R-Destruct-dict E-Destruct-dict y.0.0) F-StoreFile F-StoreFile-dict R-RpmbPort R-RpmbPort-dict L-StoreName L-StoreName-dict E-Entropy E-Entropy-dict F-Destruct-dict R-Destruct-dict E-Destruct-dict n w'.M w'.𝓤 w'.𝓛 (Over w'.𝓛 w'.𝓜 w'.𝓡 w'.𝓡.env) name
         (callee.known-at (lts.arg-0-0 T1' T2' T3' T4' L1' L2' L3' L4' F-StoreFile F-StoreFile-dict R-RpmbPort R-RpmbPort-dict L-StoreName L-StoreName-dict E-Entropy E-Entropy-dict F-Destruct-dict R-Destruct-dict E-Destruct-dict y.0.0) (lts.arg-0-1 T1' T2' T3' T4' L1' L2' L3' L4' F-StoreFile F-StoreFile-dict R-RpmbPort R-RpmbPort-dict L-StoreName L-StoreName-dict E-Entropy E-Entropy-dict F-Destruct-dict R-Destruct-dict E-Destruct-dict y.0.0) (lts.arg-0-2 T1' T2' T3' T4' L1' L2' L3' L4' F-StoreFile F-StoreFile-dict R-RpmbPort R-RpmbPort-dict L-StoreName L-StoreName-dict E-Entropy E-Entropy-dict F-Destruct-dict R-Destruct-dict E-Destruct-dict y.0.0) (lts.arg-0-3 T1' T2' T3' T4' L1' L2' L3' L4' F-StoreFile F-StoreFile-dict R-RpmbPort R-RpmbPort-dict L-StoreName L-StoreName-dict E-Entropy E-Entropy-dict F-Destruct-dict R-Destruct-dict E-Destruct-dict y.0.0) (lts.laws-0-0 T1' T2' T3' T4' L1' L2' L3' L4' F-StoreFile F-StoreFile-dict R-RpmbPort R-RpmbPort-dict L-StoreName L-StoreName-dict E-Entropy E-Entropy-dict F-Destruct-dict R-Destruct-dict E-Destruct-dict y.0.0) (lts.laws-0-1 T1' T2' T3' T4' L1' L2' L3' L4' F-StoreFile F-StoreFile-dict R-RpmbPort R-RpmbPort-dict L-StoreName L-StoreName-dict E-Entropy E-Entropy-dict F-Destruct-dict R-Destruct-dict E-Destruct-dict y.0.0) (lts.laws-0-2 T1' T2' T3' T4' L1' L2' L3' L4' F-StoreFile F-StoreFile-dict R-RpmbPort R-RpmbPort-dict L-StoreName L-StoreName-dict E-Entropy E-Entropy-dict F-Destruct-dict R-Destruct-dict E-Destruct-dict y.0.0) (lts.laws-0-3 T1' T2' T3' T4' L1' L2' L3' L4' F-StoreFile F-StoreFile-dict R-RpmbPort R-RpmbPort-dict L-StoreName L-StoreName-dict E-Entropy E-Entropy-dict F-Destruct-dict R-Destruct-dict E-Destruct-dict y.0.0) F-StoreFile F-StoreFile-dict R-RpmbPort R-RpmbPort-dict L-StoreName L-StoreName-dict E-Entropy E-Entropy-dict F-Destruct-dict R-Destruct-dict E-Destruct-dict n w' w'.𝓡.env name (w'.𝓡.env name) path.refl
-        (callee_thm.met w'.𝓤 w'.𝓛 w'.𝓜 w'.𝓡 (code.calls-object_commits::bringing::commit_versions w'.𝓡.env wired) (lts.arg-0-0 T1' T2' T3' T4' L1' L2' L3' L4' F-StoreFile F-StoreFile-dict R-RpmbPort R-RpmbPort-dict L-StoreName L-StoreName-dict E-Entropy E-Entropy-dict F-Destruct-dict R-Destruct-dict E-Destruct-dict y.0.0) (lts.arg-0-1 T1' T2' T3' T4' L1' L2' L3' L4' F-StoreFile F-StoreFile-dict R-RpmbPort R-RpmbPort-dict L-StoreName L-StoreName-dict E-Entropy E-Entropy-dict F-Destruct-dict R-Destruct-dict E-Destruct-dict y.0.0) (lts.arg-0-2 T1' T2' T3' T4' L1' L2' L3' L4' F-StoreFile F-StoreFile-dict R-RpmbPort R-RpmbPort-dict L-StoreName L-StoreName-dict E-Entropy E-Entropy-dict F-Destruct-dict R-Destruct-dict E-Destruct-dict y.0.0) (lts.arg-0-3 T1' T2' T3' T4' L1' L2' L3' L4' F-StoreFile F-StoreFile-dict R-RpmbPort R-RpmbPort-dict L-StoreName L-StoreName-dict E-Entropy E-Entropy-dict F-Destruct-dict R-Destruct-dict E-Destruct-dict y.0.0) (lts.laws-0-0 T1' T2' T3' T4' L1' L2' L3' L4' F-StoreFile F-StoreFile-dict R-RpmbPort R-RpmbPort-dict L-StoreName L-StoreName-dict E-Entropy E-Entropy-dict F-Destruct-dict R-Destruct-dict E-Destruct-dict y.0.0) (lts.laws-0-1 T1' T2' T3' T4' L1' L2' L3' L4' F-StoreFile F-StoreFile-dict R-RpmbPort R-RpmbPort-dict L-StoreName L-StoreName-dict E-Entropy E-Entropy-dict F-Destruct-dict R-Destruct-dict E-Destruct-dict y.0.0) (lts.laws-0-2 T1' T2' T3' T4' L1' L2' L3' L4' F-StoreFile F-StoreFile-dict R-RpmbPort R-RpmbPort-dict L-StoreName L-StoreName-dict E-Entropy E-Entropy-dict F-Destruct-dict R-Destruct-dict E-Destruct-dict y.0.0) (lts.laws-0-3 T1' T2' T3' T4' L1' L2' L3' L4' F-StoreFile F-StoreFile-dict R-RpmbPort R-RpmbPort-dict L-StoreName L-StoreName-dict E-Entropy E-Entropy-dict F-Destruct-dict R-Destruct-dict E-Destruct-dict y.0.0) F-StoreFile F-StoreFile-dict R-RpmbPort R-RpmbPort-dict L-StoreName L-StoreName-dict E-Entropy E-Entropy-dict F-Destruct-dict R-Destruct-dict E-Destruct-dict record { sound = b1'.sound; len = b1'.len; read_at = b1'.read_at; write_at = b1'.write_at; set_len = b1'.set_len; sync = b1'.sync } record { sound = b2'.sound; exchange = b2'.exchange } record {} record { draw = b4'.draw; stream = b4'.stream } b5' b6' b7')) y
+        (callee_thm.met w'.𝓤 w'.𝓛 w'.𝓜 w'.𝓡 (code.calls-call_steps::object_commit::commit_versions w'.𝓡.env wired) (lts.arg-0-0 T1' T2' T3' T4' L1' L2' L3' L4' F-StoreFile F-StoreFile-dict R-RpmbPort R-RpmbPort-dict L-StoreName L-StoreName-dict E-Entropy E-Entropy-dict F-Destruct-dict R-Destruct-dict E-Destruct-dict y.0.0) (lts.arg-0-1 T1' T2' T3' T4' L1' L2' L3' L4' F-StoreFile F-StoreFile-dict R-RpmbPort R-RpmbPort-dict L-StoreName L-StoreName-dict E-Entropy E-Entropy-dict F-Destruct-dict R-Destruct-dict E-Destruct-dict y.0.0) (lts.arg-0-2 T1' T2' T3' T4' L1' L2' L3' L4' F-StoreFile F-StoreFile-dict R-RpmbPort R-RpmbPort-dict L-StoreName L-StoreName-dict E-Entropy E-Entropy-dict F-Destruct-dict R-Destruct-dict E-Destruct-dict y.0.0) (lts.arg-0-3 T1' T2' T3' T4' L1' L2' L3' L4' F-StoreFile F-StoreFile-dict R-RpmbPort R-RpmbPort-dict L-StoreName L-StoreName-dict E-Entropy E-Entropy-dict F-Destruct-dict R-Destruct-dict E-Destruct-dict y.0.0) (lts.laws-0-0 T1' T2' T3' T4' L1' L2' L3' L4' F-StoreFile F-StoreFile-dict R-RpmbPort R-RpmbPort-dict L-StoreName L-StoreName-dict E-Entropy E-Entropy-dict F-Destruct-dict R-Destruct-dict E-Destruct-dict y.0.0) (lts.laws-0-1 T1' T2' T3' T4' L1' L2' L3' L4' F-StoreFile F-StoreFile-dict R-RpmbPort R-RpmbPort-dict L-StoreName L-StoreName-dict E-Entropy E-Entropy-dict F-Destruct-dict R-Destruct-dict E-Destruct-dict y.0.0) (lts.laws-0-2 T1' T2' T3' T4' L1' L2' L3' L4' F-StoreFile F-StoreFile-dict R-RpmbPort R-RpmbPort-dict L-StoreName L-StoreName-dict E-Entropy E-Entropy-dict F-Destruct-dict R-Destruct-dict E-Destruct-dict y.0.0) (lts.laws-0-3 T1' T2' T3' T4' L1' L2' L3' L4' F-StoreFile F-StoreFile-dict R-RpmbPort R-RpmbPort-dict L-StoreName L-StoreName-dict E-Entropy E-Entropy-dict F-Destruct-dict R-Destruct-dict E-Destruct-dict y.0.0) F-StoreFile F-StoreFile-dict R-RpmbPort R-RpmbPort-dict L-StoreName L-StoreName-dict E-Entropy E-Entropy-dict F-Destruct-dict R-Destruct-dict E-Destruct-dict record { sound = b1'.sound; len = b1'.len; read_at = b1'.read_at; write_at = b1'.write_at; set_len = b1'.set_len; sync = b1'.sync } record { sound = b2'.sound; exchange = b2'.exchange } record {} record { draw = b4'.draw; stream = b4'.stream } b5' b6' b7')) y
         (wanted 7 (lts.ps-0 T1' T2' T3' T4' L1' L2' L3' L4' F-StoreFile F-StoreFile-dict R-RpmbPort R-RpmbPort-dict L-StoreName L-StoreName-dict E-Entropy E-Entropy-dict F-Destruct-dict R-Destruct-dict E-Destruct-dict) (lts.r-0 T1' T2' T3' T4' L1' L2' L3' L4' F-StoreFile F-StoreFile-dict R-RpmbPort R-RpmbPort-dict L-StoreName L-StoreName-dict E-Entropy E-Entropy-dict F-Destruct-dict R-Destruct-dict E-Destruct-dict) (claims n).0 (claims n).1 y.0.0 y.0.3 y.0.4) path.refl
 
-pub bring_spec : {M : Type 1} → statement M
+pub commit_change_spec : {M : Type 1} → statement M
 unfolding tables_of
-bring_spec {M = M} 𝓤 𝓛 𝓜 𝓡 w T1' T2' T3' T4' L1' L2' L3' L4' F-StoreFile F-StoreFile-dict R-RpmbPort R-RpmbPort-dict L-StoreName L-StoreName-dict E-Entropy E-Entropy-dict F-Destruct-dict R-Destruct-dict E-Destruct-dict b1' b2' b3' b4' b5' b6' b7' =
+commit_change_spec {M = M} 𝓤 𝓛 𝓜 𝓡 w T1' T2' T3' T4' L1' L2' L3' L4' F-StoreFile F-StoreFile-dict R-RpmbPort R-RpmbPort-dict L-StoreName L-StoreName-dict E-Entropy E-Entropy-dict F-Destruct-dict R-Destruct-dict E-Destruct-dict b1' b2' b3' b4' b5' b6' b7' =
     let W : World = record { M = M; 𝓤 = 𝓤; 𝓛 = 𝓛; 𝓜 = 𝓜; 𝓡 = 𝓡 } in
     let at = (bounded (a_type ∷ a_type ∷ a_type ∷ a_type ∷ []) (T1', (T2', (T3', (T4', tt)))) (dcons F-StoreFile-dict (dcons R-RpmbPort-dict (dcons L-StoreName-dict (dcons E-Entropy-dict (dcons F-Destruct-dict (dcons R-Destruct-dict (dcons E-Destruct-dict dnil)))))))) in
     let T = Over 𝓛 𝓜 𝓡 𝓡.env in
