@@ -37,6 +37,11 @@ arms_push [] arm old new after (files, card) one =
     (after, subst (λ (b : BenchState). ArmsOneOf arm b after) same one, (λ file. refl, refl))
 arms_push (first ∷ arms) arm old new after (between, its, others) one = (between, its, arms_push arms arm between new after others one)
 
+-- nothing was armed behind them
+pub arms_stay : (arms : List Arm) (old new after : BenchState) → ArmsAll arms old new → ArmsAll [] new after → ArmsAll arms old after
+arms_stay [] old new after (files, card) stay = (λ file. stay.0 file ∙ files file, stay.1 ∙ card)
+arms_stay (first ∷ arms) old new after (between, its, others) stay = (between, its, arms_stay arms between new after others stay)
+
 -- Files that read as before.
 abbrev pub ReadTheSame : (old new : BenchState) → Type 0
 ReadTheSame old new = (file : ℕ) → (new.files file).reads ≡ (old.files file).reads

@@ -1,5 +1,5 @@
 -- A store that was served is closed: what its devices are, before its calls and behind them.
-use Rattle.std.proofs.Common.{◌≡◌, ◌∙◌, ◌+◌, ◌-◌, ◌<◌, ℕ, zero, suc, List, [], ◌++◌, length, Option, sym, ap, subst, arith}
+use Rattle.std.proofs.Common.{◌≡◌, ◌∙◌, ◌+◌, ◌-◌, ◌<◌, ℕ, zero, suc, List, [], ◌∷◌, ◌++◌, length, Option, sym, ap, subst, arith}
 use Rattle.disk_model.specs.Calls.{GoesOn}
 use Rattle.disk_model.specs.State.{FileState}
 use Rattle.hmac_keys.specs.KeyTable.{rpmb_key}
@@ -18,6 +18,7 @@ use Rattle.shared_store.specs.EventCounts.{events_at}
 use Rattle.shared_store.specs.Cards.{TellsCard}
 use Rattle.shared_store.specs.DeviceCounts.{Rise, counts_of, draws_of}
 use Rattle.shared_store.specs.Devices.{PortGoesOn, file_in, no_slot}
+use Rattle.object_calls.specs.declared.bench.Bench.{Bench}
 use Rattle.object_calls.specs.OpeningArms.{IsOnBench}
 use Rattle.object_calls.specs.OpeningFiles.{files_of}
 use Rattle.object_calls.specs.FinishedPhase.{GivesBack, LeavesStore}
@@ -28,7 +29,7 @@ use Rattle.object_calls.proofs.Files.{files_behind}
 use Rattle.run_acts.specs.MadeCalls.{MakesCalls, faults_at}
 use Rattle.run_acts.specs.Reliable.{AreFresh, AreReliable, StayReliable}
 use Rattle.run_acts.specs.ServedSteps.{ServesSteps}
-use Rattle.run_acts.specs.Benches.{BenchState, opening_state}
+use Rattle.run_acts.specs.Benches.{BenchState, bench_state, opening_state}
 use Rattle.run_acts.specs.Closing.{BenchGoesOn, ClosesStore, faults_on}
 use Rattle.run_acts.specs.PhaseServing.{HasDevices}
 use Rattle.run_acts.proofs.Draws.{drawn_from_0, undrawn_from_0}
@@ -128,3 +129,9 @@ closes_where Streams Generator store before mode calls closed events never c = r
   drawn = c.drawn;
   undrawn = λ generator. c.undrawn (never generator);
 }
+
+-- a store that was closed as it was, has the devices of its opening
+pub closed_state : {F R : Type 0} (of_file : F → FileState) (of_port : R → PortState) (o left : OpeningValue F R) (bench : Bench F R) → left ≡ o
+    → bench.files.items ≡ left.gate.dir.file ∷ left.files → bench.card ≡ left.gate.host.port → bench_state of_file of_port bench ≡ opening_state of_file of_port o
+closed_state of_file of_port o left bench same files card =
+    (λ i. record { files = files_of of_file (files i); card = of_port (card i) }) ∙ ap (opening_state of_file of_port) same

@@ -1,5 +1,5 @@
 -- Files that crash one after another.
-use Rattle.std.proofs.Common.{◌≡◌, ◌≢◌, ◌∙◌, ◌+◌, ◌<◌, ℕ, zero, suc, List, [], ◌∷◌, length, refl, subst, inl, inr, arith}
+use Rattle.std.proofs.Common.{◌≡◌, ◌≢◌, ◌∙◌, ◌+◌, ◌<◌, ◌≤◌, ℕ, zero, suc, List, [], ◌∷◌, length, refl, subst, inl, inr, arith}
 use Rattle.std.proofs.lemmas.Bool.{cases_lt}
 use Rattle.disk_model.specs.State.{FileState, LeftNow}
 use Rattle.object_calls.specs.OpeningFiles.{files_of}
@@ -38,4 +38,19 @@ module _ (image : FileState → ℕ → ℕ → List ℕ) (seed : ℕ) where
     left_at file lt = elim (cases_lt file i) [
       | inl low ↦ below.left file low
       | inr high ↦ let is : i ≡ file = omega (arith, lt, high) in subst (λ (k : ℕ). LeftNow (old k) (image (old k) seed k)) is left
+    ]
+
+  -- the file behind those that took their images is as it was
+  pub stopped_crashed : (i : ℕ) (old new next : ℕ → FileState) → CrashesBelow image seed i old new → next i ≡ new i → ((k : ℕ) → k ≢ i → next k ≡ new k) → CrashesBelow image seed i old next
+  stopped_crashed i old new next below here others = record {
+    each = λ file lt. others file (λ e. omega (arith, lt, e)) ∙ below.each file lt;
+    left = below.left;
+    others = behind;
+  } where
+    behind : (file : ℕ) → i ≤ file → next file ≡ old file
+    behind file le = elim (cases_lt i file) [
+      | inl low ↦ others file (λ e. omega (arith, low, e)) ∙ below.others file le
+      | inr high ↦
+          let is : i ≡ file = omega (arith, le, high) in
+          subst (λ (k : ℕ). next k ≡ old k) is (here ∙ below.others i (omega arith))
     ]

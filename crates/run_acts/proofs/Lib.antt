@@ -4,6 +4,7 @@ pub mod Unseated
 pub mod Draws
 pub mod Closings
 pub mod Ready
+pub mod Starved
 pub mod MemoryPhases
 pub mod SharedClosings
 pub mod Crashed
@@ -33,6 +34,7 @@ pub mod Replays
 pub mod CrashedLaws
 pub mod Opened
 pub mod PhasesLeft
+pub mod PhaseChains
 pub mod Mounted
 pub mod ListedLeft
 pub mod Untold

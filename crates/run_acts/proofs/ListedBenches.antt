@@ -29,6 +29,7 @@ use Rattle.object_calls.specs.Syncing.{IsOnlySynced}
 use Rattle.object_calls.proofs.Syncs.{only_none}
 use Rattle.object_calls.proofs.EntriesOf.{distinct_names, form_at}
 use Rattle.run_acts.specs.Benches.{BenchState, HasPassed, KeepsDevices, opening_state}
+use Rattle.run_acts.specs.Between.{AreSound}
 use Rattle.run_acts.specs.ListedBenches.{ListsBench, ShowCounts, StopsListing, unshown}
 use Rattle.run_acts.specs.ListedObjects.{IsCutOff, IsListed, IsListedTo, IsNotListed, objects_of}
 use Rattle.run_acts.specs.MountedDevices.{IsMounted, objects_in}
@@ -64,14 +65,15 @@ module _ {F R : Type 0} (state : F → FileState) (port : R → PortState) (keys
   honest_told : ((file : ℕ) → Sound (new.files file)) → ((file : ℕ) → IsTrue (new.files file).honest) → (file : ℕ) → Told (bench_files state o file) (new.files file)
   honest_told sound_new honest file = ((sound_new file).told (honest file), inl (honest file))
 
-  pub listed_bench : (lines : List ℕ) → ((file : ℕ) → Sound (new.files file)) → IsListed (entries_in o) o.storage_key (bench_files state o) new.files lines
+  pub listed_bench : (lines : List ℕ) → AreSound old.files → ((file : ℕ) → Sound (new.files file)) → IsListed (entries_in o) o.storage_key (bench_files state o) new.files lines
       → (objects : ObjectMap) × (length objects ≡ length (objects_in state port keys o)) × ListsBench state port keys old new objects lines
-  listed_bench lines sound_new shows = (
+  listed_bench lines sound_old sound_new shows = (
     objects,
     length-named objects (objects_in state port keys o) names,
     record {
       opened = o;
       mounts = mounts;
+      sound = sound_old;
       shows = shows;
       objects_are = refl;
       lines_are = listed.lines_are;

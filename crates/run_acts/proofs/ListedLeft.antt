@@ -20,7 +20,7 @@ use Rattle.run_acts.specs.Benches.{BenchState}
 use Rattle.run_acts.specs.ListedBenches.{ListsBench}
 use Rattle.run_acts.specs.MountedDevices.{objects_in}
 use Rattle.run_acts.proofs.ShownFiles.{shown_rests}
-use Rattle.run_acts.specs.Between.{AreReadable, AreSound}
+use Rattle.run_acts.specs.Between.{AreReadable}
 use Rattle.run_acts.specs.DeviceLaws.{ListsKeep, ListsShowLeft}
 use Rattle.run_acts.specs.Left.{AreLeft, HoldsLeft}
 use Rattle.run_acts.proofs.Mounted.{mount_goes_on, mount_tells, opens_with_left}
@@ -53,14 +53,14 @@ module _ {F R : Type 0} (of_file : F → FileState) (of_port : R → PortState) 
   read_known file (inl honest) = inl honest
   read_known file (inr steady) = inr (subst (λ (t : Bool). IsTrue t) (sym (mount_goes_on of_file of_port keys old l.opened l.mounts file).steady) steady)
 
-  module _ (s : ReplayState) (card : CardState) (holds : HoldsLeft keys old s) (sound : AreSound old.files) (has : HasCard old.card (rpmb_key keys.huk) card) where
+  module _ (s : ReplayState) (card : CardState) (holds : HoldsLeft keys old s) (has : HasCard old.card (rpmb_key keys.huk) card) where
     opened_left : AreReadable old.files new.files → AreLeft s (objects_in of_file of_port keys l.opened)
-    opened_left readable = opens_with_left of_file of_port keys old l.opened l.mounts s card holds sound (λ file. mount_known file (readable file)) has
+    opened_left readable = opens_with_left of_file of_port keys old l.opened l.mounts s card holds l.sound (λ file. mount_known file (readable file)) has
 
     all_tells : (file : ℕ) → IsTrue (new.files file).tells
     all_tells file =
         subst (λ (t : Bool). IsTrue t) (sym ((read_rests file).goes_on).tells)
-        (mount_tells of_file of_port keys old l.opened l.mounts file ((sound file).told (holds.honest file)))
+        (mount_tells of_file of_port keys old l.opened l.mounts file ((l.sound file).told (holds.honest file)))
 
     pub shows_left : AreReadable old.files new.files → AreLeft s objects
     shows_left readable = subst (AreLeft s) (sym (l.told (λ file. (all_tells file, read_known file (readable file))))) (opened_left readable)
@@ -83,7 +83,7 @@ module _ {F R : Type 0} (of_file : F → FileState) (of_port : R → PortState) 
     }
 
 pub lists_show_left : {F R : Type 0} (of_file : F → FileState) (of_port : R → PortState) → ListsShowLeft of_file of_port
-lists_show_left of_file of_port keys s old new objects lines card holds sound l readable has = shows_left of_file of_port keys old new objects lines l s card holds sound has readable
+lists_show_left of_file of_port keys s old new objects lines card holds l readable has = shows_left of_file of_port keys old new objects lines l s card holds has readable
 
 pub lists_keep : {F R : Type 0} (of_file : F → FileState) (of_port : R → PortState) → ListsKeep of_file of_port
-lists_keep of_file of_port keys s old new objects lines card holds sound l honest has = keeps_left of_file of_port keys old new objects lines l s card holds sound has honest
+lists_keep of_file of_port keys s old new objects lines card holds l honest has = keeps_left of_file of_port keys old new objects lines l s card holds has honest

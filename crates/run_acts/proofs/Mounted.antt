@@ -81,6 +81,6 @@ next_openings_are_left of_file of_port Reliable keys applications arms mode call
     mounts_open_with_left of_file of_port keys left between o card holds sound m readable there
 
 pub next_phases_open_with_left : {F R : Type 0} (of_file : F → FileState) (of_port : R → PortState) (Reliable : Type 0) → NextPhasesOpenWithLeft of_file of_port Reliable
-next_phases_open_with_left of_file of_port Reliable keys applications later arms more mode next calls others old new between last opening objects events after card r honest may sound second readable has =
+next_phases_open_with_left of_file of_port Reliable keys applications later arms more mode next calls others old new between last opening objects events after card r honest may second readable has =
     subst (AreLeft (replay_left opening applications events)) (sym second.objects)
-    (next_openings_are_left of_file of_port Reliable keys applications arms mode calls old new opening events between second.opened card r honest may sound second.mounts readable has)
+    (next_openings_are_left of_file of_port Reliable keys applications arms mode calls old new opening events between second.opened card r honest may second.sound second.mounts readable has)

@@ -1,5 +1,5 @@
 -- What a phase leaves of its bench.
-use Rattle.std.proofs.Common.{◌≡◌, ◌∙◌, ℕ, List, IsTrue, None, sym, ap, subst}
+use Rattle.std.proofs.Common.{◌≡◌, ◌∙◌, ℕ, List, IsTrue, None, Some, sym, ap, subst}
 use Rattle.disk_model.specs.State.{FileState, LeftNow}
 use Rattle.hmac_keys.specs.declared.Keys.{Keys}
 use Rattle.hmac_keys.specs.KeyTable.{rpmb_key}
@@ -15,12 +15,14 @@ use Rattle.store_model.specs.Object.{ObjectMap}
 use Rattle.store_model.specs.ReplayState.{opening as opening_of}
 use Rattle.crash_core.specs.Pictures.{IsPictureOf, Picture}
 use Rattle.core_laws.specs.Stores.{Store, phase_of}
+use Rattle.object_calls.specs.Opening.{OpeningValue}
 use Rattle.object_calls.specs.FinishedPhase.{AreAllHonest, IsMapLeft, end_replay}
 use Rattle.run_acts.specs.Benches.{BenchState}
 use Rattle.run_acts.specs.Phases.{RunsPhase}
-use Rattle.run_acts.specs.DeviceLaws.{PhasesLeave}
+use Rattle.run_acts.specs.DeviceLaws.{CountersAreOfCards, PhasesLeave}
 use Rattle.run_acts.specs.Left.{HoldsLeft, replay_left}
 use Rattle.run_acts.proofs.CrashedLaws.{card_of}
+use Rattle.run_acts.proofs.Ready.{ready-applications}
 use Rattle.run_acts.proofs.Replays.{AreAlike, left_alike, replay_alike}
 
 module _ {F R : Type 0} (of_file : F → FileState) (of_port : R → PortState) (Reliable : Type 0) (keys : Keys) (applications : List (List ℕ)) (arms : List Arm) (mode : Mode) (calls : List Step) (old new : BenchState)
@@ -35,7 +37,8 @@ module _ {F R : Type 0} (of_file : F → FileState) (of_port : R → PortState) 
   objects_are = (r.serves).opens ∙ sym r.objects
 
   applications_are : (s.mounted).applications ≡ applications
-  applications_are = ap (λ (x : Store). (x.mounted).applications) ((r.serves).is_store).is ∙ (r.serves).applications_are
+  applications_are = ap (λ (x : Store). (x.mounted).applications) ((r.serves).is_store).is
+      ∙ ready-applications of_file of_port applications arms r.opened (r.serves).armed (r.serves).ready
 
   alike : AreAlike (end_replay s ((r.serves).closes).view) (replay_left opening applications events)
   alike =
@@ -45,6 +48,15 @@ module _ {F R : Type 0} (of_file : F → FileState) (of_port : R → PortState) 
       } in
       subst (λ (es : List Event). AreAlike (end_replay s ((r.serves).closes).view) (replay_left opening applications es)) (sym ((r.serves).closes).events_are)
       (replay_alike (opening_of (phase_of s)) (opening_of (record { objects = opening; files = λ name. None; applications = applications; counter = 0 })) (((r.serves).closes).view).all start)
+
+  -- the counter from which its history is legal is that of the card
+  pub counter_is : (card : CardState) → HasCard old.card (rpmb_key keys.huk) card → s.counter ≡ card.counter
+  counter_is card has =
+      let gate = (r.mounts).gate in
+      let here : HasCard (of_port ((r.opened).gate).host.port) ((r.opened).gate).host.key card = record { told = (gate.devices).card ∙ has.told; keyed = has.keyed ∙ ap Some (sym gate.key_is) } in
+      ap (λ (x : Store). x.counter) ((r.serves).is_store).is
+      ∙ ap (λ (o : OpeningValue F R). (o.gate).counter) ((r.serves).ready).others
+      ∙ sym ((gate.settled).named card here).counted
 
   module _ (honest : AreAllHonest new.files) where
     closed_honest : AreAllHonest closed.files
@@ -72,3 +84,7 @@ module _ {F R : Type 0} (of_file : F → FileState) (of_port : R → PortState) 
 
 pub phases_leave : {F R : Type 0} (of_file : F → FileState) (of_port : R → PortState) (Reliable : Type 0) → PhasesLeave of_file of_port Reliable
 phases_leave of_file of_port Reliable keys applications arms mode calls old new opening events r honest = holds of_file of_port Reliable keys applications arms mode calls old new opening events r honest
+
+pub counters_are_of_cards : {F R : Type 0} (of_file : F → FileState) (of_port : R → PortState) (Reliable : Type 0) → CountersAreOfCards of_file of_port Reliable
+counters_are_of_cards of_file of_port Reliable keys applications arms mode calls old new opening events card r has =
+    counter_is of_file of_port Reliable keys applications arms mode calls old new opening events r card has

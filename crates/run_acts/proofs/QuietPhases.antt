@@ -64,8 +64,8 @@ module _ {F R : Type 0} (of_file : F → FileState) (of_port : R → PortState) 
   -- a mount leaves a quiet bench quiet, and nothing is armed
   quiet : IsQuiet keys armed
   quiet =
-      let same = ((r.serves).arms_are).1 in record {
-        files = λ file within. subst IsQuietFile (sym (((r.serves).arms_are).0 file)) (opened_file file within);
+      let same = (((r.serves).ready).arms_are).1 in record {
+        files = λ file within. subst IsQuietFile (sym ((((r.serves).ready).arms_are).0 file)) (opened_file file within);
         calm = subst (λ (p : PortState). IsTrue p.calm) (sym same) opened_calm;
         faults = subst (λ (p : PortState). p.faults < 2 ^ 64 - 1) (sym same) (subst (λ (n : ℕ). n < 2 ^ 64 - 1) (sym (r.passed).card) was_quiet.faults);
         card = subst (λ (p : PortState). HadCard p (rpmb_key keys.huk)) (sym same) opened_card;
@@ -75,7 +75,7 @@ module _ {F R : Type 0} (of_file : F → FileState) (of_port : R → PortState) 
   starved_same : (file : ℕ) → (closed.files file).starved ≡ (armed.files file).starved
   starved_same file =
       sym (ap (λ (f : FileState). f.starved) ((r.disarms).files file)) ∙ r.with_memory file ∙ sym ((r.passed).files file).starved
-      ∙ sym (ap (λ (f : FileState). f.starved) ((r.serves).arms_are.0 file))
+      ∙ sym (ap (λ (f : FileState). f.starved) ((((r.serves).ready).arms_are).0 file))
 
   -- so none counted a fault
   file_same : (file : ℕ) → file < 273 → (closed.files file).faults ≡ (armed.files file).faults

@@ -34,7 +34,7 @@ module _ {F R : Type 0} (of_file : F → FileState) (of_port : R → PortState) 
   ready-entries : entries_in armed ≡ entries_in opened
   ready-entries = ap (λ (o : OpeningValue F R). entries_in o) ready.others
 
-  ready-map : (keys : Keys) → objects_in of_file of_port keys armed ≡ objects_in of_file of_port keys opened
+  pub ready-map : (keys : Keys) → objects_in of_file of_port keys armed ≡ objects_in of_file of_port keys opened
   ready-map keys =
       ap (λ (entries : List (Option DirEntry)). opening_map keys (bench_files of_file armed) entries) ready-entries
       ∙ armed-map keys (bench_files of_file opened) (bench_files of_file armed) (entries_in opened)
@@ -45,8 +45,7 @@ module _ {F R : Type 0} (of_file : F → FileState) (of_port : R → PortState) 
       → ServesOpened of_file of_port Reliable keys applications arms mode calls opened closed events
   serves_opened Reliable keys mode calls closed events keyed closes = record {
     armed = armed;
-    applications_are = ready-applications;
-    arms_are = ready.arms_are;
+    ready = ready;
     store = store_in keys of_file of_port armed;
     is_store = record { keyed = ready-keyed keys keyed; is = refl };
     keys_are = refl;
@@ -60,8 +59,7 @@ pub serves_where : {F R : Type 0} (of_file : F → FileState) (of_port : R → P
     → ServesOpened of_file of_port Generator keys applications arms mode calls opened closed events
 serves_where of_file of_port Streams Generator keys applications arms mode calls opened closed events never s = record {
   armed = s.armed;
-  applications_are = s.applications_are;
-  arms_are = s.arms_are;
+  ready = s.ready;
   store = s.store;
   is_store = s.is_store;
   keys_are = s.keys_are;
@@ -75,6 +73,8 @@ pub runs_where : {F R : Type 0} (of_file : F → FileState) (of_port : R → Por
 runs_where of_file of_port Later First keys applications arms mode calls old new opening events lasts r = record {
   opened = r.opened;
   mounts = r.mounts;
+  sound = r.sound;
+  none = r.none;
   keeps = r.keeps;
   passed = r.passed;
   objects = r.objects;

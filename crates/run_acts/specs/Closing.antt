@@ -48,3 +48,9 @@ pub record ClosesStore (Reliable : Type 0) (store : Store) (before : BenchState)
   -- each count that a reply carries for a session's entropy rose above the one before it, and none is carried for one that never fails
   pub drawn : (session : ℕ) → session < length store.mounted.applications → (last : ℕ) × Rise 0 last (draws_of session events)
   pub undrawn : Reliable → (session : ℕ) → session < length store.mounted.applications → draws_of session events ≡ []
+
+-- Memory ran out: the store was closed before it was served, or behind some calls. Then the history of these is legal, and every picture
+-- of the devices mounts to what it leaves.
+pub data ClosesEarly (store : Store) (before closed : BenchState) : Type 0 where
+  unserved : closed ≡ before → ClosesEarly store before closed
+  served : (view : GateView) (doubt : Option ℕ) → LeavesStore store view closed.files closed.card doubt → ClosesEarly store before closed

@@ -19,3 +19,10 @@ module _ (image : FileState → ℕ → ℕ → List ℕ) (seed : ℕ) where
   pub record Crashes (old new : BenchState) : Type 0 where
     pub files : CrashesBelow 273 old.files new.files
     pub card : new.card ≡ old.card
+
+  -- Memory ran out in the crash: the files below some number took their images, the others are as they were.
+  pub record CrashesInPart (old new : BenchState) : Type 0 where
+    pub count : ℕ
+    pub within : count ≤ 273
+    pub files : CrashesBelow count old.files new.files
+    pub card : new.card ≡ old.card

@@ -1,5 +1,5 @@
 -- What a phase leaves is what the next mount opens with, after a crash or none.
-use Rattle.std.specs.Prelude.{◌⊎◌, ℕ, List, [], IsTrue}
+use Rattle.std.specs.Prelude.{◌≡◌, ◌⊎◌, ℕ, List, [], IsTrue}
 use Rattle.disk_model.specs.State.{FileState}
 use Rattle.hmac_keys.specs.declared.Keys.{Keys}
 use Rattle.hmac_keys.specs.KeyTable.{rpmb_key}
@@ -62,6 +62,13 @@ module _ {F R : Type 0} (of_file : F → FileState) (of_port : R → PortState) 
       → RunsPhase of_file of_port Reliable keys applications arms mode calls old new opening events → AreAllHonest new.files
       → HoldsLeft keys new (replay_left opening applications events)
 
+  -- The counter from which a phase's history is legal is that of the card, where one with the key is told as the phase begins.
+  abbrev pub CountersAreOfCards : (Reliable : Type 0) → Type 0
+  CountersAreOfCards Reliable =
+      (keys : Keys) (applications : List (List ℕ)) (arms : List Arm) (mode : Mode) (calls : List Step) (old new : BenchState) (opening : ObjectMap) (events : List Event) (card : CardState)
+      → (r : RunsPhase of_file of_port Reliable keys applications arms mode calls old new opening events) → HasCard old.card (rpmb_key keys.huk) card
+      → ((r.serves).store).counter ≡ card.counter
+
   -- A bench is mounted with objects that it holds.
   abbrev pub MountsOpenWithLeft : Type 0
   MountsOpenWithLeft =
@@ -86,20 +93,20 @@ module _ {F R : Type 0} (of_file : F → FileState) (of_port : R → PortState) 
       (keys : Keys) (applications later : List (List ℕ)) (arms more : List Arm) (mode next : Mode) (calls others : List Step) (old new between last : BenchState)
       (opening objects : ObjectMap) (events after : List Event) (card : CardState)
       → RunsPhase of_file of_port Reliable keys applications arms mode calls old new opening events → AreAllHonest new.files → MayCrash new between
-      → AreSound between.files → (second : RunsPhase of_file of_port Reliable keys later more next others between last objects after)
+      → (second : RunsPhase of_file of_port Reliable keys later more next others between last objects after)
       → AreReadable between.files (bench_files of_file second.opened) → HasCard new.card (rpmb_key keys.huk) card
       → AreLeft (replay_left opening applications events) objects
 
   -- A list shows them.
   abbrev pub ListsShowLeft : Type 0
   ListsShowLeft =
-      (keys : Keys) (s : ReplayState) (old new : BenchState) (objects : ObjectMap) (lines : List ℕ) (card : CardState) → HoldsLeft keys old s → AreSound old.files
+      (keys : Keys) (s : ReplayState) (old new : BenchState) (objects : ObjectMap) (lines : List ℕ) (card : CardState) → HoldsLeft keys old s
       → ListsBench of_file of_port keys old new objects lines → AreReadable old.files new.files → HasCard old.card (rpmb_key keys.huk) card
       → AreLeft s objects
 
   -- And it leaves what the bench holds.
   abbrev pub ListsKeep : Type 0
   ListsKeep =
-      (keys : Keys) (s : ReplayState) (old new : BenchState) (objects : ObjectMap) (lines : List ℕ) (card : CardState) → HoldsLeft keys old s → AreSound old.files
+      (keys : Keys) (s : ReplayState) (old new : BenchState) (objects : ObjectMap) (lines : List ℕ) (card : CardState) → HoldsLeft keys old s
       → ListsBench of_file of_port keys old new objects lines → AreAllHonest new.files → HasCard old.card (rpmb_key keys.huk) card
       → HoldsLeft keys new s

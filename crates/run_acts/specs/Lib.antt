@@ -27,3 +27,5 @@ pub mod MountingLaws
 pub mod Lines
 pub mod LineObjects
 pub mod LineLaws
+-- what a phase leaves
+pub use Rattle.object_calls.specs.FinishedPhase

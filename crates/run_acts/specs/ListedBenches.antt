@@ -14,6 +14,7 @@ use Rattle.store_commit.specs.declared.fault.MountFault.TheVariants.{Failed, NoM
 use Rattle.object_calls.specs.Opening.{OpeningValue, bench_files, entries_in}
 use Rattle.run_acts.specs.Lines.{objects_text}
 use Rattle.run_acts.specs.Benches.{BenchState, HasPassed, HadMemory, IsStarved, KeepsDevices, opening_state}
+use Rattle.run_acts.specs.Between.{AreSound}
 use Rattle.run_acts.specs.ListedObjects.{IsCutOff, IsListed, objects_of}
 use Rattle.run_acts.specs.MountedDevices.{IsMounted, IsMountRefused, objects_in}
 
@@ -28,6 +29,8 @@ module _ {F R : Type 0} (of_file : F → FileState) (of_port : R → PortState) 
   pub record ListsBench (keys : Keys) (old new : BenchState) (objects : ObjectMap) (lines : List ℕ) : Type 0 where
     pub opened : OpeningValue F R
     pub mounts : IsMounted of_file of_port keys old opened
+    -- what holds of every file
+    pub sound : AreSound old.files
     -- each is the one that was shown
     pub shows : IsListed (entries_in opened) opened.storage_key (bench_files of_file opened) new.files lines
     pub objects_are : objects ≡ objects_of ((shows.listed).steps)

@@ -1,5 +1,5 @@
 -- A phase on a bench: it is mounted, served and closed.
-use Rattle.std.specs.Prelude.{◌≡◌, ℕ, List}
+use Rattle.std.specs.Prelude.{◌≡◌, ◌≤◌, ℕ, List}
 use Rattle.disk_model.specs.State.{FileState}
 use Rattle.hmac_keys.specs.declared.Keys.{Keys}
 use Rattle.rpmb_card.specs.Port.{PortState}
@@ -10,10 +10,12 @@ use Rattle.script_text.specs.declared.script.Arm.{Arm}
 use Rattle.script_text.specs.declared.script.Mode.{Mode}
 use Rattle.script_text.specs.declared.script.Step.{Step}
 use Rattle.object_calls.specs.OpenedStores.{IsStoreOf}
-use Rattle.object_calls.specs.Opening.{OpeningValue}
+use Rattle.object_calls.specs.Opening.{OpeningValue, bench_files}
+use Rattle.object_calls.specs.OpeningFiles.{no_file}
 use Rattle.run_acts.specs.Benches.{BenchState, HasPassed, HadMemory, KeepsDevices, opening_state}
+use Rattle.run_acts.specs.Between.{AreSound}
 use Rattle.run_acts.specs.MountedDevices.{IsMounted, objects_in}
-use Rattle.run_acts.specs.PhaseArms.{ArmsAll}
+use Rattle.run_acts.specs.PhaseArms.{IsReady}
 use Rattle.run_acts.specs.Closing.{ClosesStore}
 use Rattle.run_acts.specs.Disarming.{Disarms}
 
@@ -21,10 +23,9 @@ use Rattle.run_acts.specs.Disarming.{Disarms}
 module _ {F R : Type 0} (of_file : F → FileState) (of_port : R → PortState) (Reliable : Type 0) where
   -- What was done with a store that was mounted: its sessions were opened, its devices were armed, the calls were made, and it was closed.
   pub record ServesOpened (keys : Keys) (applications : List (List ℕ)) (arms : List Arm) (mode : Mode) (calls : List Step) (opened : OpeningValue F R) (closed : BenchState) (events : List Event) : Type 0 where
-    -- the store, once its sessions were opened and its devices were armed
+    -- the store, once its sessions were opened and its devices were armed; nothing else of it changed, its counter neither
     pub armed : OpeningValue F R
-    pub applications_are : armed.applications ≡ applications
-    pub arms_are : ArmsAll arms (opening_state of_file of_port opened) (opening_state of_file of_port armed)
+    pub ready : IsReady of_file of_port applications arms opened armed
     pub store : Store
     pub is_store : IsStoreOf of_file of_port store armed
     pub keys_are : store.keys ≡ keys
@@ -35,6 +36,9 @@ module _ {F R : Type 0} (of_file : F → FileState) (of_port : R → PortState) 
   pub record RunsPhase (keys : Keys) (applications : List (List ℕ)) (arms : List Arm) (mode : Mode) (calls : List Step) (old new : BenchState) (opening : ObjectMap) (events : List Event) : Type 0 where
     pub opened : OpeningValue F R
     pub mounts : IsMounted of_file of_port keys old opened
+    -- what holds of every file, and there is none past the last
+    pub sound : AreSound old.files
+    pub none : (file : ℕ) → 273 ≤ file → bench_files of_file opened file ≡ no_file
     -- the mount changed no bytes, and no call of it failed
     pub keeps : KeepsDevices old (opening_state of_file of_port opened)
     pub passed : HasPassed old (opening_state of_file of_port opened)

@@ -1,7 +1,8 @@
 // The arms of a phase.
 
-ghost use Rattle.std.specs.Prelude.{All, OnOk};
+ghost use Rattle.std.specs.Prelude.{[], All, List, OnErr, OnOk};
 ghost use Rattle.script_text.specs.Laws.{IsArm};
+ghost use Rattle.script_text.specs.declared.script.Arm.{Arm};
 ghost use Rattle.run_acts.specs.Benches.{opening_state};
 ghost use Rattle.run_acts.specs.PhaseArms.{ArmsAll, ArmsOneOf, OnlyDevices};
 
@@ -18,6 +19,7 @@ fn arm_device<F: FileRig + Drop, R: CardRig + Drop>(
 ) -> Result<(), NoMemory>
     requires { IsArm arm }
     ensures arms { OnOk result (ArmsOneOf arm (opening_state F.state R.state opening.old) (opening_state F.state R.state opening.new)) }
+    ensures unarmed { OnErr result (ArmsAll [] (opening_state F.state R.state opening.old) (opening_state F.state R.state opening.new)) }
     ensures others { OnlyDevices opening.old opening.new }
 {
     match arm {
@@ -41,6 +43,7 @@ pub(crate) fn arm_devices<F: FileRig + Drop, R: CardRig + Drop>(
 ) -> Result<(), NoMemory>
     requires { All IsArm arms.now }
     ensures arms { OnOk result (ArmsAll arms.now (opening_state F.state R.state opening.old) (opening_state F.state R.state opening.new)) }
+    ensures some { OnErr result ((front : List Arm) × ArmsAll front (opening_state F.state R.state opening.old) (opening_state F.state R.state opening.new)) }
     ensures others { OnlyDevices opening.old opening.new }
 {
     for arm in arms {

@@ -5,7 +5,7 @@ ghost use Rattle.run_acts.specs.Benches.{bench_state};
 ghost use Rattle.run_acts.specs.Between.{AreSound};
 ghost use Rattle.run_acts.specs.MountingLaws.{MountingBenchesAreNotRefused};
 ghost use Rattle.run_acts.specs.Quiet.{QuietPhasesAreOfMachine};
-ghost use Rattle.run_acts.specs.DeviceLaws.{BlockReadsKeep, CrashesKeep, CrashesKeepSteady, CrashesMayBe, DisarmedFilesAreSteady, FormedBenchesHoldNone, ListsKeep, ListsShowLeft, MountsOpenWithLeft, NextOpeningsAreLeft, NextPhasesOpenWithLeft, NothingMayBe, PhasesLeave};
+ghost use Rattle.run_acts.specs.DeviceLaws.{BlockReadsKeep, CountersAreOfCards, CrashesKeep, CrashesKeepSteady, CrashesMayBe, DisarmedFilesAreSteady, FormedBenchesHoldNone, ListsKeep, ListsShowLeft, MountsOpenWithLeft, NextOpeningsAreLeft, NextPhasesOpenWithLeft, NothingMayBe, PhasesLeave};
 
 use object_calls::Bench;
 use rpmb_card::RpmbPort;
@@ -61,6 +61,11 @@ pub fn crashes_keep_steady()
 /// in doubt.
 pub fn phases_leave<F: StoreFile, R: RpmbPort, E: Entropy>(entropy: &E)
     ensures { PhasesLeave F.state R.state (E.is_reliable entropy.now) }
+{}
+
+/// The counter from which a phase's history is legal is the card's.
+pub fn counters_are_of_cards<F: StoreFile, R: RpmbPort, E: Entropy>(entropy: &E)
+    ensures { CountersAreOfCards F.state R.state (E.is_reliable entropy.now) }
 {}
 
 /// Such a bench is mounted with just these objects.

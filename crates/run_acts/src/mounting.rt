@@ -2,6 +2,7 @@
 
 ghost use Rattle.std.specs.Prelude.{◌≡◌, [], vec_len, IfErr, IfOk, MatchResult};
 ghost use Rattle.run_acts.specs.Benches.{HasPassed, KeepsDevices, bench_state, opening_state};
+ghost use Rattle.run_acts.specs.Between.{AreSound};
 ghost use Rattle.run_acts.specs.MountedDevices.{IsMounted, IsMountRefused};
 
 use hmac_keys::Keys;
@@ -22,6 +23,7 @@ pub fn mount_bench<F: FileRig + Drop, R: RpmbPort + Drop, E: Entropy>(
     entropy: &mut E,
 ) -> Result<Opening<F, R>, Halted<F, R>>
     requires { vec_len bench.files ≡ 273 }
+    ensures sound { AreSound (bench_state F.state R.state bench).files }
     ensures mounts { IfOk result (IsMounted F.state R.state keys.now (bench_state F.state R.state bench)) }
     ensures keeps { IfOk result (λ o. KeepsDevices (bench_state F.state R.state bench) (opening_state F.state R.state o)) }
     ensures passed { IfOk result (λ o. HasPassed (bench_state F.state R.state bench) (opening_state F.state R.state o)) }

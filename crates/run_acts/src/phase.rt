@@ -1,6 +1,6 @@
 //! A phase.
 
-ghost use Rattle.std.specs.Prelude.{◌≡◌, ◌+◌, ◌*◌, ◌<◌, ◌≤◌, ◌^◌, [], length, map, vec_len, All, IfErr, IfOk, MatchResult, OnOk};
+ghost use Rattle.std.specs.Prelude.{◌≡◌, ◌+◌, ◌*◌, ◌<◌, ◌≤◌, ◌^◌, ℕ, List, [], length, map, vec_len, All, IfErr, IfOk, MatchResult, OnErr, OnOk};
 ghost use Rattle.script_text.specs.Laws.{IsArm};
 ghost use Rattle.store_model.specs.Object.{ObjectMap};
 ghost use Rattle.object_calls.specs.Opening.{IsKeyed};
@@ -8,10 +8,13 @@ ghost use Rattle.object_calls.specs.OpeningSessions.{AreUnseated};
 ghost use Rattle.run_acts.specs.Reliable.{AreFresh, AreReliable};
 ghost use Rattle.run_acts.specs.ServedSteps.{AreCalls};
 ghost use Rattle.run_acts.specs.Benches.{HasPassed, KeepsDevices, bench_state, opening_state};
+ghost use Rattle.run_acts.specs.Between.{AreSound};
 ghost use Rattle.run_acts.specs.MountedDevices.{IsMounted};
-ghost use Rattle.run_acts.specs.PhaseArms.{IsReady};
+ghost use Rattle.run_acts.specs.PhaseArms.{ArmsAll, IsReady};
+ghost use Rattle.run_acts.specs.Disarming.{Disarms};
+ghost use Rattle.script_text.specs.declared.script.Arm.{Arm};
 ghost use Rattle.run_acts.specs.Phases.{RunsPhase, ServesOpened};
-ghost use Rattle.run_acts.specs.PhaseRefusals.{EndsStarved, IsGivenUp};
+ghost use Rattle.run_acts.specs.PhaseRefusals.{ClosesOpened, IsGivenUp};
 
 use crate::arming::arm_devices;
 use crate::disarming::disarm_bench;
@@ -44,7 +47,8 @@ pub struct PhaseEnd<F, R> {
 
 // A phase was given up for want of memory: its bench is disarmed.
 fn starved_bench<F: FileRig + Drop, R: CardRig + Drop>(bench: Bench<F, R>) -> Halted<F, R>
-    ensures ends { EndsStarved (bench_state F.state R.state result.bench) result.fault }
+    ensures fault { result.fault ≡ MountFault.NoMemory }
+    ensures disarms { Disarms (bench_state F.state R.state bench) (bench_state F.state R.state result.bench) }
     ensures whole { vec_len result.bench.files ≡ vec_len bench.files }
 {
     Halted {
@@ -63,13 +67,14 @@ fn mount_with_memory<F: FileRig + Drop, R: CardRig + Drop, E: Entropy>(
 ) -> Result<Opening<F, R>, Halted<F, R>>
     requires whole { vec_len bench.files ≡ 273 }
     requires counted { before.now ≡ map (λ f. (F.state f).starved) bench.files.items }
+    ensures sound { AreSound (bench_state F.state R.state bench).files }
     ensures mounts { IfOk result (IsMounted F.state R.state keys.now (bench_state F.state R.state bench)) }
     ensures keeps { IfOk result (λ o. KeepsDevices (bench_state F.state R.state bench) (opening_state F.state R.state o)) }
     ensures passed { IfOk result (λ o. HasPassed (bench_state F.state R.state bench) (opening_state F.state R.state o)) }
     ensures undrawn { IfOk result (λ o. E.faults entropy.new ≡ E.faults entropy.old) }
     ensures unopened { IfOk result (λ o. o.applications ≡ []) }
-    ensures refused { IfErr result (λ h. IsGivenUp keys.now (bench_state F.state R.state bench) (bench_state F.state R.state h.bench) (E.faults entropy.old) (E.faults entropy.new)
-        h.fault) }
+    ensures refused { (applications : List (List ℕ)) (arms : List Arm) → IfErr result (λ h. IsGivenUp F.state R.state keys.now applications arms
+        (bench_state F.state R.state bench) (bench_state F.state R.state h.bench) (E.faults entropy.old) (E.faults entropy.new) h.fault) }
     ensures whole_err { IfErr result (λ h. vec_len h.bench.files ≡ 273) }
     ensures reliable { E.is_reliable entropy.old → E.is_reliable entropy.new }
 {
@@ -97,6 +102,7 @@ fn make_ready<F: FileRig + Drop, R: CardRig + Drop, E: Entropy>(
     ensures fresh { IfOk result (λ s. AreFresh E.faults s.items) }
     ensures reliable { E.is_reliable entropy.now → IfOk result (λ s. AreReliable E.is_reliable s.items) }
     ensures ready { OnOk result (IsReady F.state R.state applications.now arms.now opening.old opening.new) }
+    ensures unready { OnErr result ((front : List Arm) × ArmsAll front (opening_state F.state R.state opening.old) (opening_state F.state R.state opening.new)) }
 {
     let sessions = open_sessions(alloc, opening, entropy, number, applications)?;
     arm_devices(opening, arms)?;
@@ -128,6 +134,7 @@ fn serve_opened<
     requires arms { All IsArm arms.now }
     requires calls { AreCalls (length applications.now) calls.now }
     ensures serves { IfOk result (λ c. ServesOpened F.state R.state (E.is_reliable entropy.now) keys.now applications.now arms.now mode calls.now opening (bench_state F.state R.state c.bench) c.history.events) }
+    ensures early { IfErr result (λ b. ClosesOpened F.state R.state keys.now applications.now arms.now opening (bench_state F.state R.state b)) }
     ensures whole { MatchResult result (λ c. vec_len c.bench.files ≡ 273) (λ b. vec_len b.files ≡ 273) }
 {
     let mut opening = opening;
@@ -168,8 +175,8 @@ pub fn run_phase<
     requires arms { All IsArm arms.now }
     ensures runs { IfOk result (λ p. (opening : ObjectMap) × (length opening ≡ p.objects)
         × RunsPhase F.state R.state (E.is_reliable entropy.old) keys.now applications.now arms.now mode calls.now (bench_state F.state R.state bench) (bench_state F.state R.state p.bench) opening p.history.events) }
-    ensures refused { IfErr result (λ h. IsGivenUp keys.now (bench_state F.state R.state bench) (bench_state F.state R.state h.bench) (E.faults entropy.old) (E.faults entropy.new)
-        h.fault) }
+    ensures refused { IfErr result (λ h. IsGivenUp F.state R.state keys.now applications.now arms.now (bench_state F.state R.state bench) (bench_state F.state R.state h.bench)
+        (E.faults entropy.old) (E.faults entropy.new) h.fault) }
     ensures undrawn { IfOk result (λ p. E.faults entropy.new ≡ E.faults entropy.old) }
     ensures whole { IfOk result (λ p. vec_len p.bench.files ≡ 273) }
     ensures whole_err { IfErr result (λ h. vec_len h.bench.files ≡ 273) }

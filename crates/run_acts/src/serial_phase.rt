@@ -1,6 +1,6 @@
 // The calls of a phase, served under a name of its store.
 
-ghost use Rattle.std.specs.Prelude.{◌≡◌, [], length, vec_len, IfOk, MatchResult};
+ghost use Rattle.std.specs.Prelude.{◌≡◌, [], length, vec_len, IfErr, IfOk, MatchResult};
 ghost use Rattle.object_calls.specs.OpenedStores.{IsStoreOf, store_in};
 ghost use Rattle.object_calls.specs.Opening.{IsKeyed};
 ghost use Rattle.object_calls.specs.OpeningSessions.{AreSeated, AreUnseated};
@@ -9,7 +9,7 @@ ghost use Rattle.run_acts.specs.Reliable.{AreFresh, AreReliable};
 ghost use Rattle.run_acts.specs.ServedSteps.{AreCalls};
 ghost use Rattle.script_text.specs.declared.script.Mode.{Mode};
 ghost use Rattle.run_acts.specs.Benches.{BenchState, bench_state, opening_state};
-ghost use Rattle.run_acts.specs.Closing.{ClosesStore};
+ghost use Rattle.run_acts.specs.Closing.{ClosesEarly, ClosesStore};
 ghost use Rattle.run_acts.specs.PhaseServing.{HasDevices};
 
 use crate::{make_calls, serve_shared_once};
@@ -38,6 +38,7 @@ fn make_and_close<F: StoreFile + Drop, R: RpmbPort + Drop, E: Entropy + Drop, L:
     requires fresh { AreFresh E.faults sessions.items }
     ensures closed { (mode : Mode) (before : BenchState) → HasDevices F.state R.state service before
         → IfOk result (λ c. ClosesStore (AreReliable E.is_reliable sessions.items) L.store before mode calls.now (bench_state F.state R.state c.bench) c.history.events) }
+    ensures early { (before : BenchState) → IfErr result (λ b. ClosesEarly L.store before (bench_state F.state R.state b)) }
     ensures whole { MatchResult result (λ c. vec_len c.bench.files ≡ 273) (λ b. vec_len b.files ≡ 273) }
 {
     let mut service = service;
@@ -64,6 +65,7 @@ fn serve_calls<F: StoreFile + Drop, R: RpmbPort + Drop, E: Entropy + Drop, L: St
     requires fresh { AreFresh E.faults sessions.items }
     ensures closed { (mode : Mode) → IfOk result (λ c. ClosesStore (AreReliable E.is_reliable sessions.items) L.store (opening_state F.state R.state opening) mode calls.now
         (bench_state F.state R.state c.bench) c.history.events) }
+    ensures early { IfErr result (λ b. ClosesEarly L.store (opening_state F.state R.state opening) (bench_state F.state R.state b)) }
     ensures whole { MatchResult result (λ c. vec_len c.bench.files ≡ 273) (λ b. vec_len b.files ≡ 273) }
 {
     let mut sessions = sessions;
@@ -98,6 +100,7 @@ pub(crate) fn serve_once<
     requires fresh { AreFresh E.faults sessions.items }
     ensures closed { IfOk result (λ c. ClosesStore (AreReliable E.is_reliable sessions.items) (store_in keys.now F.state R.state opening) (opening_state F.state R.state opening) mode calls.now
         (bench_state F.state R.state c.bench) c.history.events) }
+    ensures early { IfErr result (λ b. ClosesEarly (store_in keys.now F.state R.state opening) (opening_state F.state R.state opening) (bench_state F.state R.state b)) }
     ensures whole { MatchResult result (λ c. vec_len c.bench.files ≡ 273) (λ b. vec_len b.files ≡ 273) }
 {
     match mode {

@@ -48,6 +48,7 @@ pub(crate) fn open_sessions<F: StoreFile + Drop, R: RpmbPort + Drop, E: Entropy>
     ensures fresh { IfOk result (λ s. AreFresh E.faults s.items) }
     ensures reliable { E.is_reliable entropy.now → IfOk result (λ s. AreReliable E.is_reliable s.items) }
     ensures opened { OnOk result (opening.new ≡ record opening.old { applications = applications.now }) }
+    ensures same { opening.new ≡ record opening.old { applications = opening.new.applications } }
 {
     let mut sessions = Vec::new(alloc);
     for (index, app) in applications.iter().enumerate() {

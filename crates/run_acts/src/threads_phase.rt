@@ -1,6 +1,6 @@
 //! The calls of a phase, served by threads under a name of its store and of its devices.
 
-ghost use Rattle.std.specs.Prelude.{◌≡◌, ◌≤◌, length, vec_len, IfOk, MatchResult};
+ghost use Rattle.std.specs.Prelude.{◌≡◌, ◌≤◌, length, vec_len, IfErr, IfOk, MatchResult};
 ghost use Rattle.std.specs.Vec.{vec_capacity};
 ghost use Rattle.object_calls.specs.OpeningFiles.{files_of};
 ghost use Rattle.object_calls.specs.OpenedStores.{IsStoreOf, store_in};
@@ -10,6 +10,8 @@ ghost use Rattle.run_acts.specs.Reliable.{AreFresh, AreReliable};
 ghost use Rattle.run_acts.specs.ServedSteps.{AreCalls};
 ghost use Rattle.shared_store.specs.Kept.{KeepsGate};
 ghost use Rattle.run_acts.specs.SharedClosing.{ClosesShared};
+ghost use Rattle.run_acts.specs.Benches.{BenchState, bench_state, opening_state};
+ghost use Rattle.run_acts.specs.Closing.{ClosesEarly};
 ghost use Rattle.run_acts.specs.OwnCalls.{HaveWorked};
 ghost use Rattle.run_acts.specs.Sharing.{AreKept, opening_devices};
 
@@ -75,6 +77,7 @@ fn share_and_close<
     requires calls { AreCalls (length sessions.items) calls.now }
     requires fresh { AreFresh E.faults sessions.items }
     ensures closed { IfOk result (λ c. ClosesShared (AreReliable E.is_reliable sessions.items) L.store L.devices calls.now (files_of F.state c.bench.files.items) (R.state c.bench.card) c.history.events) }
+    ensures early { (before : BenchState) → IfErr result (λ b. ClosesEarly L.store before (bench_state F.state R.state b)) }
     ensures whole { MatchResult result (λ c. vec_len c.bench.files ≡ 273) (λ b. vec_len b.files ≡ 273) }
 {
     let ServiceParts {
@@ -124,6 +127,7 @@ pub fn serve_shared<
     requires calls { AreCalls (length opening.applications) calls.now }
     requires fresh { AreFresh E.faults sessions.items }
     ensures closed { IfOk result (λ c. ClosesShared (AreReliable E.is_reliable sessions.items) L.store L.devices calls.now (files_of F.state c.bench.files.items) (R.state c.bench.card) c.history.events) }
+    ensures early { IfErr result (λ b. ClosesEarly L.store (opening_state F.state R.state opening) (bench_state F.state R.state b)) }
     ensures whole { MatchResult result (λ c. vec_len c.bench.files ≡ 273) (λ b. vec_len b.files ≡ 273) }
 {
     let Ok(shared) = Vec::with_capacity(alloc, FILES - 1) else {
@@ -160,6 +164,7 @@ pub fn serve_shared_once<
     requires fresh { AreFresh E.faults sessions.items }
     ensures closed { IfOk result (λ c. ClosesShared (AreReliable E.is_reliable sessions.items) (store_in keys.now F.state R.state opening) (opening_devices F.state R.state opening) calls.now
         (files_of F.state c.bench.files.items) (R.state c.bench.card) c.history.events) }
+    ensures early { IfErr result (λ b. ClosesEarly (store_in keys.now F.state R.state opening) (opening_state F.state R.state opening) (bench_state F.state R.state b)) }
     ensures whole { MatchResult result (λ c. vec_len c.bench.files ≡ 273) (λ b. vec_len b.files ≡ 273) }
 {
     serve_shared::<W, F, R, E, Brand>(rt, alloc, opening, sessions, keys, calls)

@@ -6,20 +6,21 @@ use Rattle.rpmb_card.specs.Port.{PortState}
 use Rattle.run_acts.specs.declared.MountFault.{MountFault}
 use Rattle.run_acts.specs.declared.MountFault.TheVariants.{Failed, Spent}
 use Rattle.script_text.specs.declared.script.Arm.{Arm}
-use Rattle.script_text.specs.declared.script.Control.TheVariants.{List as ListControl}
+use Rattle.script_text.specs.declared.script.Control.TheVariants.{Crash, List as ListControl}
 use Rattle.script_text.specs.Script.{ScriptValue}
 use Rattle.tee_ports.specs.Streams.{Appends}
 use Rattle.tee_ports.proofs.Streams.{Appends-append, Appends-none}
 use Rattle.run_acts.specs.Lines.{refusal_line, why_text}
 use Rattle.run_acts.specs.Benches.{BenchState}
+use Rattle.run_acts.specs.Crashes.{CrashesInPart}
 use Rattle.script_runner.specs.declared.status.Status.{Status}
 use Rattle.script_runner.specs.declared.status.Status.TheVariants.{BadLine, DeviceFault, Done, MountRefused, NoMemory, ReadFault, TooLong, Usage, WriteFault}
 use Rattle.script_runner.specs.Sending.{Begins, IsWriteError, Sends, Stops}
 use Rattle.script_runner.proofs.Sent.{Sends-append, Stops-longer}
 use Rattle.script_runner.specs.Text.{Act, Do, Refused, RunRecord, Serve, acts_of, acts_text}
 use Rattle.script_runner.specs.Trace.{applications_of}
-use Rattle.script_runner.specs.Course.{Goes, GoesUntil, GoesUntilRefused, RefusesFirst}
-use Rattle.script_runner.specs.Ending.{EndsActs, RecordsRefusal}
+use Rattle.script_runner.specs.Course.{Goes, GoesUntil, GoesUntilCrashed, GoesUntilRefused, RefusesFirst}
+use Rattle.script_runner.specs.Ending.{EndsActs, EndsForMemory, RecordsRefusal}
 use Rattle.script_runner.specs.RunRefusals.{IsDeviceFault, IsRefusal}
 use Rattle.script_runner.specs.Points.{Point, arms_behind, phases_in}
 use Rattle.script_runner.specs.Running.{Advances, EndsFrom}
@@ -97,11 +98,21 @@ module _ {F R : Type 0} (of_file : F → FileState) (of_port : R → PortState) 
   }
 
   until_refused-behind : (apps : List (List ℕ)) (arms : List Arm) (done acts : List Act) (records more : List RunRecord) (old mid new : BenchState) (fault : MountFault) → GoesThere apps arms done records old mid → GoesUntilRefused of_file of_port image Reliable drew draws keys apps (arms_behind arms done) acts more mid new fault → GoesUntilRefused of_file of_port image Reliable drew draws keys apps arms (done ++ acts) (records ++ more) old new fault
+  unfolding until-behind
   until_refused-behind apps arms done acts records more old mid new fault h g = record {
     left = g.left;
     between = g.between;
     goes = until-behind apps arms done acts records more g.left old mid g.between h g.goes;
-    refused = g.refused;
+    refused = subst (λ (w : List Arm). RefusesFirst of_file of_port image Reliable drew draws keys apps w g.left g.between new fault) (sym (arms_behind-append arms done g.goes.done)) g.refused;
+  }
+
+  until_crashed-behind : (apps : List (List ℕ)) (arms : List Arm) (done acts : List Act) (records more : List RunRecord) (old mid new : BenchState) → GoesThere apps arms done records old mid → GoesUntilCrashed of_file of_port image Reliable keys apps (arms_behind arms done) acts more mid new → GoesUntilCrashed of_file of_port image Reliable keys apps arms (done ++ acts) (records ++ more) old new
+  until_crashed-behind apps arms done acts records more old mid new h g = record {
+    seed = g.seed;
+    left = g.left;
+    between = g.between;
+    goes = until-behind apps arms done acts records more (Do (Crash g.seed) ∷ g.left) old mid g.between h g.goes;
+    crashes = g.crashes;
   }
 
   refusal-behind : (apps : List (List ℕ)) (arms : List Arm) (done acts : List Act) (records more : List RunRecord) (old mid new : BenchState) (fault : MountFault) → GoesThere apps arms done records old mid → RecordsRefusal of_file of_port image Reliable drew draws keys apps (arms_behind arms done) acts more mid new fault → RecordsRefusal of_file of_port image Reliable drew draws keys apps arms (done ++ acts) (records ++ more) old new fault
@@ -119,12 +130,17 @@ module _ {F R : Type 0} (of_file : F → FileState) (of_port : R → PortState) 
   EndsActs-behind apps arms done acts records more old mid new ReadFault h g = g
   EndsActs-behind apps arms done acts records more old mid new WriteFault h g = one g
     where
-      one : ((left : List Act) × GoesUntil of_file of_port image Reliable keys apps (arms_behind arms done) acts more left mid new) ⊎ ((fault : MountFault) × RecordsRefusal of_file of_port image Reliable drew draws keys apps (arms_behind arms done) acts more mid new fault)
-          → ((left : List Act) × GoesUntil of_file of_port image Reliable keys apps arms (done ++ acts) (records ++ more) left old new) ⊎ ((fault : MountFault) × RecordsRefusal of_file of_port image Reliable drew draws keys apps arms (done ++ acts) (records ++ more) old new fault)
+      one : ((left : List Act) × GoesUntil of_file of_port image Reliable keys apps (arms_behind arms done) acts more left mid new) ⊎ ((fault : MountFault) × IsRefusal fault × RecordsRefusal of_file of_port image Reliable drew draws keys apps (arms_behind arms done) acts more mid new fault)
+          → ((left : List Act) × GoesUntil of_file of_port image Reliable keys apps arms (done ++ acts) (records ++ more) left old new) ⊎ ((fault : MountFault) × IsRefusal fault × RecordsRefusal of_file of_port image Reliable drew draws keys apps arms (done ++ acts) (records ++ more) old new fault)
       one (inl x) = inl (x.0, until-behind apps arms done acts records more x.0 old mid new h x.1)
-      one (inr x) = inr (x.0, refusal-behind apps arms done acts records more old mid new x.0 h x.1)
+      one (inr x) = inr (x.0, x.1, refusal-behind apps arms done acts records more old mid new x.0 h x.2)
   EndsActs-behind apps arms done acts records more old mid new (TooLong excess) h g = g
-  EndsActs-behind apps arms done acts records more old mid new NoMemory h g = tt
+  EndsActs-behind apps arms done acts records more old mid new NoMemory h g = one g
+    where
+      one : EndsForMemory of_file of_port image Reliable drew draws keys apps (arms_behind arms done) acts more mid new → EndsForMemory of_file of_port image Reliable drew draws keys apps arms (done ++ acts) (records ++ more) old new
+      one (inl x) = inl (x.0, until-behind apps arms done acts records more x.0 old mid new h x.1)
+      one (inr (inl x)) = inr (inl (x.0, x.1, refusal-behind apps arms done acts records more old mid new x.0 h x.2))
+      one (inr (inr x)) = inr (inr (until_crashed-behind apps arms done acts records more old mid new h x))
   EndsActs-behind apps arms done acts records more old mid new (MountRefused fault) h g = refusal-behind apps arms done acts records more old mid new fault h g
   EndsActs-behind apps arms done acts records more old mid new (DeviceFault fault) h g = refusal-behind apps arms done acts records more old mid new fault h g
 
@@ -155,14 +171,25 @@ module _ {F R : Type 0} (of_file : F → FileState) (of_port : R → PortState) 
             (HasActCause-behind failed a.sent.0 e.put (mid.kept ++ rest) (old.kept ++ (front ++ rest)) status all e.cause);
       }
 
-  -- nothing was put, and there is no memory
-  pub EndsFrom-no_memory : (script : ScriptValue) (failed : Type 0) (old : Point) (given : BenchState) → EndsFrom of_file of_port image Reliable drew draws keys script failed old old.held given NoMemory
-  EndsFrom-no_memory script failed old given = record {
+  -- nothing more was done nor put, and there is no memory
+  pub EndsFrom-no_memory : (script : ScriptValue) (failed : Type 0) (old : Point) → EndsFrom of_file of_port image Reliable drew draws keys script failed old old.held old.bench NoMemory
+  EndsFrom-no_memory script failed old = record {
     put = [];
     records = [];
     appended = Appends-none old.held;
     begins = (_, refl);
-    ends = tt;
+    ends = inl (acts_of old.mode old.steps, record { done = []; front = refl; goes = refl });
+    cause = tt;
+  }
+
+  -- there is no memory for all of a crash
+  pub EndsFrom-crashed : (script : ScriptValue) (failed : Type 0) (old : Point) (given : BenchState) (seed : ℕ) (left : List Act) → acts_of old.mode old.steps ≡ Do (Crash seed) ∷ left → CrashesInPart image seed old.bench given → EndsFrom of_file of_port image Reliable drew draws keys script failed old old.held given NoMemory
+  EndsFrom-crashed script failed old given seed left next crashes = record {
+    put = [];
+    records = [];
+    appended = Appends-none old.held;
+    begins = (_, refl);
+    ends = inr (inr (record { seed = seed; left = left; between = old.bench; goes = record { done = []; front = next; goes = refl }; crashes = crashes }));
     cause = tt;
   }
 
@@ -180,43 +207,43 @@ module _ {F R : Type 0} (of_file : F → FileState) (of_port : R → PortState) 
       }
 
   -- the text of these acts, of which the first was refused
-  refusal_text : (script : ScriptValue) (number : ℕ) (acts : List Act) (old new : BenchState) (fault : MountFault) → RefusesFirst of_file of_port image Reliable drew draws keys acts old new fault → acts_text script number acts (Refused fault ∷ []) ≡ refusal_line fault
-  refusal_text script number [] old new fault h = absurd h
-  refusal_text script number (Serve mode calls ∷ acts) old new fault h = refl
-  refusal_text script number (Do ListControl ∷ acts) old new fault h = refl
-  refusal_text script number (Do control ∷ acts) old new fault h = absurd h
+  refusal_text : (script : ScriptValue) (number : ℕ) (apps : List (List ℕ)) (arms : List Arm) (acts : List Act) (old new : BenchState) (fault : MountFault) → RefusesFirst of_file of_port image Reliable drew draws keys apps arms acts old new fault → acts_text script number acts (Refused fault ∷ []) ≡ refusal_line fault
+  refusal_text script number apps arms [] old new fault h = absurd h
+  refusal_text script number apps arms (Serve mode calls ∷ acts) old new fault h = refl
+  refusal_text script number apps arms (Do ListControl ∷ acts) old new fault h = refl
+  refusal_text script number apps arms (Do control ∷ acts) old new fault h = absurd h
 
-  until_refused-now : (apps : List (List ℕ)) (arms : List Arm) (acts : List Act) (old new : BenchState) (fault : MountFault) → RefusesFirst of_file of_port image Reliable drew draws keys acts old new fault → GoesUntilRefused of_file of_port image Reliable drew draws keys apps arms acts [] old new fault
+  until_refused-now : (apps : List (List ℕ)) (arms : List Arm) (acts : List Act) (old new : BenchState) (fault : MountFault) → RefusesFirst of_file of_port image Reliable drew draws keys apps arms acts old new fault → GoesUntilRefused of_file of_port image Reliable drew draws keys apps arms acts [] old new fault
   until_refused-now apps arms acts old new fault h = record { left = acts; between = old; goes = record { done = []; front = refl; goes = refl }; refused = h }
 
   -- the next act was refused
-  pub EndsFrom-refused : (script : ScriptValue) (failed : Type 0) (old : Point) (held : Option (List ℕ)) (given : BenchState) (fault : MountFault) (status : Status) → RefusesFirst of_file of_port image Reliable drew draws keys (acts_of old.mode old.steps) old.bench given fault → PrintsRefusal failed old.held held old.kept fault status → EndsFrom of_file of_port image Reliable drew draws keys script failed old held given status
+  pub EndsFrom-refused : (script : ScriptValue) (failed : Type 0) (old : Point) (held : Option (List ℕ)) (given : BenchState) (fault : MountFault) (status : Status) → RefusesFirst of_file of_port image Reliable drew draws keys (applications_of script) old.arms (acts_of old.mode old.steps) old.bench given fault → PrintsRefusal failed old.held held old.kept fault status → EndsFrom of_file of_port image Reliable drew draws keys script failed old held given status
   EndsFrom-refused script failed old held given fault Done h t = absurd t
   EndsFrom-refused script failed old held given fault Usage h t = absurd t
   EndsFrom-refused script failed old held given fault (BadLine line) h t = absurd t
   EndsFrom-refused script failed old held given fault ReadFault h t = absurd t
   EndsFrom-refused script failed old held given fault WriteFault h t =
-      let text = refusal_text script old.number (acts_of old.mode old.steps) old.bench given fault h in record {
+      let text = refusal_text script old.number (applications_of script) old.arms (acts_of old.mode old.steps) old.bench given fault h in record {
         put = t.2.0;
         records = Refused fault ∷ [];
         appended = t.2.1;
         begins = subst (λ x. Begins t.2.0 (old.kept ++ x)) (sym text) t.2.2;
-        ends = inr (fault, ([], refl, until_refused-now (applications_of script) old.arms (acts_of old.mode old.steps) old.bench given fault h));
+        ends = inr (fault, t.0, ([], refl, until_refused-now (applications_of script) old.arms (acts_of old.mode old.steps) old.bench given fault h));
         cause = t.1;
       }
   EndsFrom-refused script failed old held given fault (TooLong excess) h t = absurd t
   EndsFrom-refused script failed old held given fault NoMemory h t =
-      let text = refusal_text script old.number (acts_of old.mode old.steps) old.bench given fault h in record {
-        put = t.0;
+      let text = refusal_text script old.number (applications_of script) old.arms (acts_of old.mode old.steps) old.bench given fault h in record {
+        put = t.1.0;
         records = Refused fault ∷ [];
-        appended = t.1;
-        begins = subst (λ x. Begins t.0 (old.kept ++ x)) (sym text) t.2;
-        ends = tt;
+        appended = t.1.1;
+        begins = subst (λ x. Begins t.1.0 (old.kept ++ x)) (sym text) t.1.2;
+        ends = inr (inl (fault, t.0, ([], refl, until_refused-now (applications_of script) old.arms (acts_of old.mode old.steps) old.bench given fault h)));
         cause = tt;
       }
   EndsFrom-refused script failed old held given fault (MountRefused printed) h t =
       let text : old.kept ++ acts_text script old.number (acts_of old.mode old.steps) (Refused fault ∷ []) ≡ old.kept ++ refusal_line fault =
-      ap (λ x. old.kept ++ x) (refusal_text script old.number (acts_of old.mode old.steps) old.bench given fault h) in
+      ap (λ x. old.kept ++ x) (refusal_text script old.number (applications_of script) old.arms (acts_of old.mode old.steps) old.bench given fault h) in
       let ends : RecordsRefusal of_file of_port image Reliable drew draws keys (applications_of script) old.arms (acts_of old.mode old.steps) (Refused fault ∷ []) old.bench given fault =
       ([], refl, until_refused-now (applications_of script) old.arms (acts_of old.mode old.steps) old.bench given fault h) in record {
         put = old.kept ++ refusal_line fault;
@@ -232,7 +259,7 @@ module _ {F R : Type 0} (of_file : F → FileState) (of_port : R → PortState) 
       acts = acts_of old.mode old.steps
 
       text : old.kept ++ acts_text script old.number acts (Refused fault ∷ []) ≡ old.kept
-      text = ap (λ x. old.kept ++ x) (refusal_text script old.number acts old.bench given fault h ∙ refusal_line-none fault t.1) ∙ append-nil old.kept
+      text = ap (λ x. old.kept ++ x) (refusal_text script old.number (applications_of script) old.arms acts old.bench given fault h ∙ refusal_line-none fault t.1) ∙ append-nil old.kept
 
       ends : RecordsRefusal of_file of_port image Reliable drew draws keys (applications_of script) old.arms acts (Refused fault ∷ []) old.bench given printed
       ends = subst (λ (f : MountFault). RecordsRefusal of_file of_port image Reliable drew draws keys (applications_of script) old.arms acts (Refused fault ∷ []) old.bench given f) (sym t.0)
@@ -277,7 +304,14 @@ module _ {F R : Type 0} (of_file : F → FileState) (of_port : R → PortState) 
         ends = inl (left, record { done = done; front = front; goes = goes });
         cause = x;
       }
-      one NoMemory x = record { put = longer.0; records = records; appended = longer.1; begins = longer.2; ends = tt; cause = tt }
+      one NoMemory x = record {
+        put = longer.0;
+        records = records;
+        appended = longer.1;
+        begins = longer.2;
+        ends = inl (left, record { done = done; front = front; goes = goes });
+        cause = tt;
+      }
       one Done x = absurd x
       one Usage x = absurd x
       one (BadLine line) x = absurd x

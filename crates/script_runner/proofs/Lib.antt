@@ -10,3 +10,4 @@ pub mod Loops
 pub mod Wholes
 pub mod Soaks
 pub mod Sent
+pub mod RecordLaws

@@ -27,7 +27,8 @@ use Rattle.script_runner.specs.Points.{arms_behind, phases_in, point_of}
 use Rattle.script_runner.specs.RunReady.{IsNext, IsReady}
 use Rattle.script_runner.specs.Running.{EndsAt, GoesOn}
 use Rattle.script_runner.specs.Prints.{IsCutOff, IsSent, PrintsRefusal}
-use Rattle.script_runner.proofs.Endings.{EndsFrom-no_memory, EndsFrom-refused, EndsFrom-text}
+use Rattle.run_acts.specs.Crashes.{CrashesInPart}
+use Rattle.script_runner.proofs.Endings.{EndsFrom-crashed, EndsFrom-no_memory, EndsFrom-refused, EndsFrom-text}
 
 -- the text of a control that has no record
 pub control_text : (script : ScriptValue) (number : ℕ) (control : Control) → control ≢ ListControl → acts_text script number (Do control ∷ []) [] ≡ control_line control
@@ -105,14 +106,28 @@ module _ {F R : Type 0} (of_file : F → FileState) (of_port : R → PortState) 
     whole = rw s.bench d.ready.whole;
   }
 
-  pub EndsAt-refused : (failed : Type 0) (held_old held_new : Option (List ℕ)) (run : Run F R) (end : RunEnd F R) (fault : MountFault) → RefusesFirst of_file of_port image Reliable drew draws keys (acts_of run.mode (drop run.at script.steps)) (bench_state of_file of_port run.bench) (bench_state of_file of_port end.bench) fault → PrintsRefusal failed held_old held_new run.kept.items fault end.status → vec_len end.bench.files ≡ 273 → EndsAt of_file of_port image Reliable drew draws keys script failed held_old held_new run end
+  pub EndsAt-refused : (failed : Type 0) (held_old held_new : Option (List ℕ)) (run : Run F R) (end : RunEnd F R) (fault : MountFault) → RefusesFirst of_file of_port image Reliable drew draws keys (applications_of script) run.arms.items (acts_of run.mode (drop run.at script.steps)) (bench_state of_file of_port run.bench) (bench_state of_file of_port end.bench) fault → PrintsRefusal failed held_old held_new run.kept.items fault end.status → vec_len end.bench.files ≡ 273 → EndsAt of_file of_port image Reliable drew draws keys script failed held_old held_new run end
   EndsAt-refused failed held_old held_new run end fault h t whole = record {
     ends = EndsFrom-refused of_file of_port image Reliable drew draws keys script failed (point_of of_file of_port script held_old run) held_new (bench_state of_file of_port end.bench) fault end.status h t;
     whole = whole;
   }
 
-  pub EndsAt-no_memory : (failed : Type 0) (held : Option (List ℕ)) (run : Run F R) (end : RunEnd F R) → end.status ≡ NoMemory → vec_len end.bench.files ≡ 273 → EndsAt of_file of_port image Reliable drew draws keys script failed held held run end
-  EndsAt-no_memory failed held run end is whole = record {
-    ends = rw is (EndsFrom-no_memory of_file of_port image Reliable drew draws keys script failed (point_of of_file of_port script held run) (bench_state of_file of_port end.bench));
+  -- there is no memory, and nothing was done
+  pub EndsAt-no_memory : (failed : Type 0) (held : Option (List ℕ)) (run : Run F R) (end : RunEnd F R) → end ≡ record { status = NoMemory; bench = run.bench } → vec_len run.bench.files ≡ 273 → EndsAt of_file of_port image Reliable drew draws keys script failed held held run end
+  EndsAt-no_memory failed held run end is whole =
+      let here : RunEnd F R = record { status = NoMemory; bench = run.bench } in
+      let ends : EndsAt of_file of_port image Reliable drew draws keys script failed held held run here = record {
+        ends = EndsFrom-no_memory of_file of_port image Reliable drew draws keys script failed (point_of of_file of_port script held run);
+        whole = whole;
+      } in
+      subst (λ (e : RunEnd F R). EndsAt of_file of_port image Reliable drew draws keys script failed held held run e) (sym is) ends
+
+  -- there is no memory for all of a crash
+  pub EndsAt-crashed : (failed : Type 0) (held : Option (List ℕ)) (run : Run F R) (end : RunEnd F R) (seed : ℕ) → IsNext script run (ControlStep (Crash seed)) → end.status ≡ NoMemory
+      → CrashesInPart image seed (bench_state of_file of_port run.bench) (bench_state of_file of_port end.bench) → vec_len end.bench.files ≡ 273 → EndsAt of_file of_port image Reliable drew draws keys script failed held held run end
+  EndsAt-crashed failed held run end seed next is crashes whole = record {
+    ends = rw is
+        (EndsFrom-crashed of_file of_port image Reliable drew draws keys script failed (point_of of_file of_port script held run) (bench_state of_file of_port end.bench) seed
+        (acts_of run.mode (drop (run.at + 1) script.steps)) (ap (acts_of run.mode) next) crashes);
     whole = whole;
   }

@@ -51,11 +51,11 @@ module _ {F R : Type 0} (of_file : F → FileState) (of_port : R → PortState) 
       cause = t.1;
     }
     RunsActs-refused NoMemory ends t = record {
-      put = t.0;
+      put = t.1.0;
       start = start;
       records = records;
-      appended = t.1;
-      begins = subst (Begins t.0) (sym line) t.2;
+      appended = t.1.1;
+      begins = subst (Begins t.1.0) (sym line) t.1.2;
       ends = ends;
       cause = tt;
     }
@@ -93,8 +93,8 @@ module _ {F R : Type 0} (of_file : F → FileState) (of_port : R → PortState) 
     shut (BadLine n) t = absurd t
     shut ReadFault t = absurd t
     shut (TooLong excess) t = absurd t
-    shut WriteFault t = (fault, not_opened fault refl)
-    shut NoMemory t = tt
+    shut WriteFault t = (fault, t.0, not_opened fault refl)
+    shut NoMemory t = (fault, t.0, not_opened fault refl)
     shut (MountRefused printed) t = not_opened printed t.0
     shut (DeviceFault printed) t = not_opened printed t.0
 

@@ -17,7 +17,7 @@ use Rattle.script_text.specs.Script.{ScriptValue, is_call}
 use Rattle.tee_types.specs.declared.call.Call.{Call}
 use Rattle.run_acts.specs.Lines.{refusal_line, why_text}
 use Rattle.run_acts.specs.Benches.{BenchState}
-use Rattle.run_acts.specs.ListedBenches.{IsListRefused}
+use Rattle.run_acts.specs.ListedBenches.{IsListRefused, ListsBench}
 use Rattle.run_acts.specs.Opens.{OpensBench}
 use Rattle.run_acts.specs.Phases.{RunsPhase}
 use Rattle.run_acts.specs.PhaseRefusals.{IsGivenUp}
@@ -29,8 +29,8 @@ use Rattle.seed_words.specs.Scripts.{app_calls, app_steps, soak_calls, soak_scri
 use Rattle.script_runner.specs.Trace.{applications_of}
 use Rattle.script_runner.specs.RunRefusals.{IsDeviceFault, IsRefusal}
 use Rattle.script_runner.specs.Text.{Do, Listed, PhaseRecord, Ran, Refused, RunRecord, Serve}
-use Rattle.script_runner.specs.Ending.{EndsActs, EndsRun, RecordsRefusal}
-use Rattle.script_runner.specs.Soaks.{GoesThrough, IsBroken, RunsSoak, PrintsObjects, soak_acts, soak_applications, soak_output}
+use Rattle.script_runner.specs.Ending.{EndsActs, EndsForMemory, EndsRun, RecordsRefusal}
+use Rattle.script_runner.specs.Soaks.{GoesThrough, IsBroken, RunsSoak, PrintsObjects, broken, soak_acts, soak_applications, soak_output, starved}
 use Rattle.script_runner.specs.Prints.{PrintsLines, PrintsRefusal}
 use Rattle.script_runner.proofs.Scripts.{RunsActs-refused}
 
@@ -64,6 +64,11 @@ unfolding refusal_line why_text
 refusal_line-memory NoMemoryFault is = refl
 refusal_line-memory fault is = ap refusal_line (sym is)
 
+-- a front of nothing is nothing
+front_of_none : (put rest : List ℕ) → [] ≡ put ++ rest → put ≡ []
+front_of_none [] rest e = refl
+front_of_none (b ∷ put) rest e = absurd cc
+
 module _ {F R : Type 0} (of_file : F → FileState) (of_port : R → PortState) (image : FileState → ℕ → ℕ → List ℕ) (Reliable : Type 0) (keys : Keys) (number : ℕ) where
   -- a phase of the calls behind the first step of its script
   pub RunsPhase-soak : (Later : Type 0) (script : ScriptValue) (applications : List (List ℕ)) (calls : List Step) (old new : BenchState) (opening : ObjectMap) (events : List Event)
@@ -89,36 +94,35 @@ module _ {F R : Type 0} (of_file : F → FileState) (of_port : R → PortState) 
 
   module _ (drew draws : ℕ) where
     -- the phase was given up
-    pub IsBroken-phase : (old new : BenchState) (fault : MountFault) → IsGivenUp keys old new drew draws fault → IsBroken of_file of_port image Reliable keys number drew draws old new fault
-    IsBroken-phase old new fault given_up = record {
-      records = Refused fault ∷ [];
-      refused = λ other. ([], refl, record { left = soak_acts number; between = old; goes = record { done = []; front = refl; goes = refl }; refused = given_up });
-      line_is = refl;
-    }
+    pub IsBroken-phase : (old new : BenchState) (fault : MountFault) → IsGivenUp of_file of_port keys (soak_applications number) [] old new drew draws fault → IsBroken of_file of_port image Reliable keys number drew draws old new fault
+    IsBroken-phase old new fault given_up =
+        broken (Refused fault ∷ []) ([], refl, record { left = soak_acts number; between = old; goes = record { done = []; front = refl; goes = refl }; refused = given_up }) refl
 
     -- the list was refused
     IsBroken-list : (old between new : BenchState) (opening : ObjectMap) (events : List Event) (fault : MountFault)
         → RunsPhase of_file of_port Reliable keys (soak_applications number) [] Threads (soak_calls number) old between opening events → IsListRefused of_file of_port keys between new drew draws fault
         → IsBroken of_file of_port image Reliable keys number drew draws old new fault
-    IsBroken-list old between new opening events fault runs refused = let phase : PhaseRecord = record { opening = opening; events = events } in record {
-      records = Ran phase ∷ Refused fault ∷ [];
-      refused = λ other. (
-        Ran phase ∷ [],
-        refl,
-        record { left = Do ListControl ∷ []; between = between; goes = record { done = Serve Threads (soak_calls number) ∷ []; front = refl; goes = (between, runs, refl) }; refused = refused },
-      );
-      line_is = refl;
-    }
+    IsBroken-list old between new opening events fault runs refused = let phase : PhaseRecord = record { opening = opening; events = events } in
+        broken (Ran phase ∷ Refused fault ∷ []) (
+          Ran phase ∷ [],
+          refl,
+          record { left = Do ListControl ∷ []; between = between; goes = record { done = Serve Threads (soak_calls number) ∷ []; front = refl; goes = (between, runs, refl) }; refused = refused },
+        ) refl
 
-    -- memory ran out
-    pub IsBroken-memory : (old new : BenchState) (fault : MountFault) → fault ≡ NoMemoryFault → IsBroken of_file of_port image Reliable keys number drew draws old new fault
-    IsBroken-memory old new fault is = record { records = []; refused = λ other. absurd (other is); line_is = refusal_line-memory fault is }
+    -- there was no memory for the script, and nothing was done
+    pub IsBroken-undone : (old : BenchState) → IsBroken of_file of_port image Reliable keys number drew draws old old NoMemoryFault
+    IsBroken-undone old = starved [] refl (inl (soak_acts number, record { done = []; front = refl; goes = refl }))
 
-    -- what was printed of the list says that it was refused, or that memory ran out; no draw failed in the phase
+    -- what was printed of the list says that it was refused, or that there was no memory for the lines of all that was done; no draw failed in
+    -- the phase
     pub IsBroken-printed : (old between new : BenchState) (opening : ObjectMap) (events : List Event) (fault : MountFault)
         → RunsPhase of_file of_port Reliable keys (soak_applications number) [] Threads (soak_calls number) old between opening events → (mid : ℕ) → mid ≡ drew
-        → (fault ≡ NoMemoryFault) ⊎ IsListRefused of_file of_port keys between new mid draws fault → IsBroken of_file of_port image Reliable keys number drew draws old new fault
-    IsBroken-printed old between new opening events fault runs mid same (inl none) = IsBroken-memory old new fault none
+        → ((fault ≡ NoMemoryFault) × ((objects : ObjectMap) × (lines : List ℕ) × ListsBench of_file of_port keys between new objects lines)) ⊎ IsListRefused of_file of_port keys between new mid draws fault
+        → IsBroken of_file of_port image Reliable keys number drew draws old new fault
+    IsBroken-printed old between new opening events fault runs mid same (inl none) =
+        let objects = none.1.0 in
+        let lists = subst (λ (t : List ℕ). ListsBench of_file of_port keys between new objects t) (none.1.2).lines_are none.1.2 in
+        starved (Ran (record { opening = opening; events = events }) ∷ Listed objects ∷ []) none.0 (inl ([], record { done = soak_acts number; front = refl; goes = (between, runs, (new, lists, refl)) }))
     IsBroken-printed old between new opening events fault runs mid same (inr refused) =
         IsBroken-list old between new opening events fault runs (subst (λ n. IsListRefused of_file of_port keys between new n draws fault) same refused)
 
@@ -156,27 +160,53 @@ module _ {F R : Type 0} (of_file : F → FileState) (of_port : R → PortState) 
       RunsSoak-through lines through (MountRefused fault) t = absurd t
       RunsSoak-through lines through (DeviceFault fault) t = absurd t
 
-      module _ (fault : MountFault) (broken : IsBroken of_file of_port image Reliable keys number drew draws between given fault) where
-        printed : (other : MountFault) → other ≡ fault → RecordsRefusal of_file of_port image Reliable drew draws keys (soak_applications number) [] (soak_acts number) broken.records between given fault
-            → RecordsRefusal of_file of_port image Reliable drew draws keys (soak_applications number) [] (soak_acts number) broken.records between given other
-        printed other same = subst (λ (f : MountFault). RecordsRefusal of_file of_port image Reliable drew draws keys (soak_applications number) [] (soak_acts number) broken.records between given f) (sym same)
+      module _ (fault : MountFault) where
+        printed : (records : List RunRecord) (other : MountFault) → other ≡ fault → RecordsRefusal of_file of_port image Reliable drew draws keys (soak_applications number) [] (soak_acts number) records between given fault
+            → RecordsRefusal of_file of_port image Reliable drew draws keys (soak_applications number) [] (soak_acts number) records between given other
+        printed records other same = subst (λ (f : MountFault). RecordsRefusal of_file of_port image Reliable drew draws keys (soak_applications number) [] (soak_acts number) records between given f) (sym same)
 
-        ends : (status : Status) → PrintsRefusal failed held_old held_new [] fault status
-            → EndsActs of_file of_port image Reliable drew draws keys (soak_applications number) [] (soak_acts number) broken.records between given status
-        ends Done t = absurd t
-        ends Usage t = absurd t
-        ends (BadLine n) t = absurd t
-        ends ReadFault t = absurd t
-        ends (TooLong excess) t = absurd t
-        ends WriteFault t = inr (fault, broken.refused (λ is. subst IsRefusal is t.0))
-        ends NoMemory t = tt
-        ends (MountRefused other) t = printed other t.0 (broken.refused (λ is. subst IsRefusal is t.1))
-        ends (DeviceFault other) t = printed other t.0 (broken.refused (λ is. subst IsDeviceFault is t.1))
+        ends : (records : List RunRecord) → RecordsRefusal of_file of_port image Reliable drew draws keys (soak_applications number) [] (soak_acts number) records between given fault
+            → (status : Status) → PrintsRefusal failed held_old held_new [] fault status
+            → EndsActs of_file of_port image Reliable drew draws keys (soak_applications number) [] (soak_acts number) records between given status
+        ends records refused Done t = absurd t
+        ends records refused Usage t = absurd t
+        ends records refused (BadLine n) t = absurd t
+        ends records refused ReadFault t = absurd t
+        ends records refused (TooLong excess) t = absurd t
+        ends records refused WriteFault t = inr (fault, t.0, refused)
+        ends records refused NoMemory t = inr (inl (fault, t.0, refused))
+        ends records refused (MountRefused other) t = printed records other t.0 refused
+        ends records refused (DeviceFault other) t = printed records other t.0 refused
+
+        -- memory ran out, and nothing was put
+        unprinted : (records : List RunRecord) → fault ≡ NoMemoryFault → EndsForMemory of_file of_port image Reliable drew draws keys (soak_applications number) [] (soak_acts number) records between given
+            → (status : Status) → PrintsRefusal failed held_old held_new [] fault status → RunsSoak of_file of_port image Reliable keys number drew draws failed held_old held_new handed given status
+        unprinted records is memory Done t = absurd t
+        unprinted records is memory Usage t = absurd t
+        unprinted records is memory (BadLine n) t = absurd t
+        unprinted records is memory ReadFault t = absurd t
+        unprinted records is memory (TooLong excess) t = absurd t
+        unprinted records is memory WriteFault t = absurd (let no : IsRefusal NoMemoryFault = subst IsRefusal is t.0 in no)
+        unprinted records is memory NoMemory t =
+            let none : t.1.0 ≡ [] = front_of_none t.1.0 t.1.2.0 (refusal_line-memory fault is ∙ t.1.2.1) in
+            let output = soak_output number None records in record {
+              put = t.1.0;
+              start = None;
+              records = records;
+              appended = t.1.1;
+              begins = (output, subst (λ (p : List ℕ). output ≡ p ++ output) (sym none) refl);
+              ends = opened records NoMemory memory;
+              cause = tt;
+            }
+        unprinted records is memory (MountRefused other) t = absurd (let no : IsRefusal NoMemoryFault = subst IsRefusal is t.1 in no)
+        unprinted records is memory (DeviceFault other) t = absurd (let no : IsDeviceFault NoMemoryFault = subst IsDeviceFault is t.1 in no)
 
         -- the line of the refusal was put, or not; no text was kept
-        pub RunsSoak-broken : (kept : List ℕ) → kept ≡ [] → (status : Status) → PrintsRefusal failed held_old held_new kept fault status
+        pub RunsSoak-broken : IsBroken of_file of_port image Reliable keys number drew draws between given fault → (kept : List ℕ) → kept ≡ [] → (status : Status) → PrintsRefusal failed held_old held_new kept fault status
             → RunsSoak of_file of_port image Reliable keys number drew draws failed held_old held_new handed given status
-        RunsSoak-broken kept none status prints =
+        RunsSoak-broken (broken records refused line) kept none status prints =
             let t = subst (λ k. PrintsRefusal failed held_old held_new k fault status) none prints in
-            RunsActs-refused of_file of_port image Reliable drew draws keys failed held_old held_new handed (soak_applications number) (soak_acts number) (soak_output number) None broken.records given fault
-            broken.line_is status (opened broken.records status (ends status t)) t
+            RunsActs-refused of_file of_port image Reliable drew draws keys failed held_old held_new handed (soak_applications number) (soak_acts number) (soak_output number) None records given fault
+            line status (opened records status (ends records refused status t)) t
+        RunsSoak-broken (starved records is memory) kept none status prints =
+            unprinted records is memory status (subst (λ k. PrintsRefusal failed held_old held_new k fault status) none prints)

@@ -169,27 +169,27 @@ IsScriptError-fault NoMemoryFault meant h = tt
 
 module _ {F R : Type 0} (of_file : F → FileState) (of_port : R → PortState) (image : FileState → ℕ → ℕ → List ℕ) (Reliable : Type 0) (drew draws : ℕ) (keys : Keys) where
   -- where no script was run, the bench is as it was
-  pub EndsBench-read : (failed : Type 0) (count : ℕ) (t : Trace) (bench : BenchState) (status : Status) → IsReadError failed count status → EndsBench of_file of_port image Reliable drew draws keys t bench bench status
-  EndsBench-read failed count t bench Done h = absurd h
-  EndsBench-read failed count t bench Usage h = absurd h
-  EndsBench-read failed count t bench (BadLine line) h = absurd h
-  EndsBench-read failed count t bench ReadFault h = refl
-  EndsBench-read failed count t bench WriteFault h = absurd h
-  EndsBench-read failed count t bench (TooLong excess) h = refl
-  EndsBench-read failed count t bench (MountRefused fault) h = absurd h
-  EndsBench-read failed count t bench (DeviceFault fault) h = absurd h
-  EndsBench-read failed count t bench NoMemory h = tt
+  pub EndsBench-read : (failed : Type 0) (count : ℕ) (t : Trace) → IsSilent t → (bench : BenchState) (status : Status) → IsReadError failed count status → EndsBench of_file of_port image Reliable drew draws keys t bench bench status
+  EndsBench-read failed count t silent bench Done h = absurd h
+  EndsBench-read failed count t silent bench Usage h = absurd h
+  EndsBench-read failed count t silent bench (BadLine line) h = absurd h
+  EndsBench-read failed count t silent bench ReadFault h = refl
+  EndsBench-read failed count t silent bench WriteFault h = absurd h
+  EndsBench-read failed count t silent bench (TooLong excess) h = refl
+  EndsBench-read failed count t silent bench (MountRefused fault) h = absurd h
+  EndsBench-read failed count t silent bench (DeviceFault fault) h = absurd h
+  EndsBench-read failed count t silent bench NoMemory h = inl (refl, silent)
 
-  pub EndsBench-script : (meant : Result ScriptValue ScriptFault) (t : Trace) (bench : BenchState) (status : Status) → IsScriptError meant status → EndsBench of_file of_port image Reliable drew draws keys t bench bench status
-  EndsBench-script meant t bench Done h = absurd h
-  EndsBench-script meant t bench Usage h = absurd h
-  EndsBench-script meant t bench (BadLine line) h = refl
-  EndsBench-script meant t bench ReadFault h = absurd h
-  EndsBench-script meant t bench WriteFault h = absurd h
-  EndsBench-script meant t bench (TooLong excess) h = refl
-  EndsBench-script meant t bench (MountRefused fault) h = absurd h
-  EndsBench-script meant t bench (DeviceFault fault) h = absurd h
-  EndsBench-script meant t bench NoMemory h = tt
+  pub EndsBench-script : (meant : Result ScriptValue ScriptFault) (t : Trace) → IsSilent t → (bench : BenchState) (status : Status) → IsScriptError meant status → EndsBench of_file of_port image Reliable drew draws keys t bench bench status
+  EndsBench-script meant t silent bench Done h = absurd h
+  EndsBench-script meant t silent bench Usage h = absurd h
+  EndsBench-script meant t silent bench (BadLine line) h = refl
+  EndsBench-script meant t silent bench ReadFault h = absurd h
+  EndsBench-script meant t silent bench WriteFault h = absurd h
+  EndsBench-script meant t silent bench (TooLong excess) h = refl
+  EndsBench-script meant t silent bench (MountRefused fault) h = absurd h
+  EndsBench-script meant t silent bench (DeviceFault fault) h = absurd h
+  EndsBench-script meant t silent bench NoMemory h = inl (refl, silent)
 
   -- what the run of a script did to the bench
   pub EndsBench-run : (failed : Type 0) (t : Trace) (script : ScriptValue) (handed given : BenchState) (status : Status) → script_of t.taken ≡ Ok script → EndsScript of_file of_port image Reliable drew draws keys script t.start t.records handed given status → HasActCause failed t.put (run_output script t.start t.records) status → EndsBench of_file of_port image Reliable drew draws keys t handed given status
@@ -201,4 +201,4 @@ module _ {F R : Type 0} (of_file : F → FileState) (of_port : R → PortState) 
   EndsBench-run failed t script handed given (TooLong excess) is ends h = absurd h
   EndsBench-run failed t script handed given (MountRefused fault) is ends h = (script, is, ends)
   EndsBench-run failed t script handed given (DeviceFault fault) is ends h = (script, is, ends)
-  EndsBench-run failed t script handed given NoMemory is ends h = tt
+  EndsBench-run failed t script handed given NoMemory is ends h = inr (script, is, ends)

@@ -8,10 +8,11 @@ use Rattle.script_text.specs.declared.script.Arm.{Arm}
 use Rattle.script_text.specs.declared.script.Control.TheVariants.{Arm as ArmControl, Crash, List as ListControl, Mode as ModeControl, Phase}
 use Rattle.run_acts.specs.Lines.{objects_text}
 use Rattle.run_acts.specs.Benches.{BenchState}
-use Rattle.run_acts.specs.Crashes.{Crashes}
+use Rattle.run_acts.specs.Crashes.{Crashes, CrashesInPart}
 use Rattle.run_acts.specs.ListedBenches.{IsListRefused, ListsBench}
 use Rattle.run_acts.specs.Phases.{RunsPhase}
 use Rattle.run_acts.specs.PhaseRefusals.{IsGivenUp}
+use Rattle.script_runner.specs.Points.{arms_behind}
 use Rattle.script_runner.specs.Text.{Act, Do, Listed, Ran, RunRecord, Serve}
 
 -- `image` is what a crash leaves of a file, by the seed and the file's number; `Reliable` says that the generator of the run never fails
@@ -39,16 +40,24 @@ module _ {F R : Type 0} (of_file : F → FileState) (of_port : R → PortState) 
     pub front : acts ≡ done ++ left
     pub goes : Goes keys applications arms done records old new
 
-  -- The first of these acts, a phase or a list, is refused for that reason. The generator of nonces had counted so many
+  -- The first of these acts, a phase with these arms or a list, is refused for that reason. The generator of nonces had counted so many
   -- faults before it, and so many then.
-  abbrev pub RefusesFirst : (drew draws : ℕ) → Keys → List Act → (old new : BenchState) → MountFault → Type 0
-  RefusesFirst drew draws keys (Serve mode calls ∷ acts) old new fault = IsGivenUp keys old new drew draws fault
-  RefusesFirst drew draws keys (Do ListControl ∷ acts) old new fault = IsListRefused of_file of_port keys old new drew draws fault
-  RefusesFirst drew draws keys acts old new fault = ⊥
+  abbrev pub RefusesFirst : (drew draws : ℕ) → Keys → (applications : List (List ℕ)) → (arms : List Arm) → List Act → (old new : BenchState) → MountFault → Type 0
+  RefusesFirst drew draws keys applications arms (Serve mode calls ∷ acts) old new fault = IsGivenUp of_file of_port keys applications arms old new drew draws fault
+  RefusesFirst drew draws keys applications arms (Do ListControl ∷ acts) old new fault = IsListRefused of_file of_port keys old new drew draws fault
+  RefusesFirst drew draws keys applications arms acts old new fault = ⊥
 
   -- It goes through the first of these acts, and the next one is refused.
   pub record GoesUntilRefused (drew draws : ℕ) (keys : Keys) (applications : List (List ℕ)) (arms : List Arm) (acts : List Act) (records : List RunRecord) (old new : BenchState) (fault : MountFault) : Type 0 where
     pub left : List Act
     pub between : BenchState
     pub goes : GoesUntil keys applications arms acts records left old between
-    pub refused : RefusesFirst drew draws keys left between new fault
+    pub refused : RefusesFirst drew draws keys applications (arms_behind arms goes.done) left between new fault
+
+  -- It goes through the first of these acts, and in the next one, a crash, memory runs out.
+  pub record GoesUntilCrashed (keys : Keys) (applications : List (List ℕ)) (arms : List Arm) (acts : List Act) (records : List RunRecord) (old new : BenchState) : Type 0 where
+    pub seed : ℕ
+    pub left : List Act
+    pub between : BenchState
+    pub goes : GoesUntil keys applications arms acts records (Do (Crash seed) ∷ left) old between
+    pub crashes : CrashesInPart image seed between new

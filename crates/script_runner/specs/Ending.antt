@@ -12,8 +12,9 @@ use Rattle.run_acts.specs.Opens.{IsOpenRefused, OpensBench}
 use Rattle.script_runner.specs.declared.status.Status.{Status}
 use Rattle.script_runner.specs.declared.status.Status.TheVariants.{DeviceFault, Done, MountRefused, NoMemory, WriteFault}
 use Rattle.script_runner.specs.Text.{Act, Refused, RunRecord, acts_of}
-use Rattle.script_runner.specs.Trace.{OfScript, Trace, applications_of}
-use Rattle.script_runner.specs.Course.{GoesUntil, GoesUntilRefused}
+use Rattle.script_runner.specs.RunRefusals.{IsRefusal, MayWantMemory}
+use Rattle.script_runner.specs.Trace.{IsSilent, OfScript, Trace, applications_of}
+use Rattle.script_runner.specs.Course.{GoesUntil, GoesUntilRefused, GoesUntilCrashed}
 
 -- `drew` and `draws`: how many faults the generator of nonces counted before the run and behind it
 module _ {F R : Type 0} (of_file : F → FileState) (of_port : R → PortState) (image : FileState → ℕ → ℕ → List ℕ) (Reliable : Type 0) where
@@ -23,15 +24,22 @@ module _ {F R : Type 0} (of_file : F → FileState) (of_port : R → PortState) 
       (front : List RunRecord) × (records ≡ front ++ Refused fault ∷ [])
       × GoesUntilRefused of_file of_port image Reliable drew draws keys applications arms acts front old new fault
 
-  -- How far a bench that was opened went through the acts. Where memory ran out nothing is said.
+  -- Memory ran out: behind acts that were done, in an act, or for the line of a refusal.
+  abbrev pub EndsForMemory : (drew draws : ℕ) → Keys → (applications : List (List ℕ)) → List Arm → List Act → List RunRecord → (old new : BenchState) → Type 0
+  EndsForMemory drew draws keys applications arms acts records old new =
+      ((left : List Act) × GoesUntil of_file of_port image Reliable keys applications arms acts records left old new)
+      ⊎ ((fault : MountFault) × MayWantMemory fault × RecordsRefusal drew draws keys applications arms acts records old new fault)
+      ⊎ GoesUntilCrashed of_file of_port image Reliable keys applications arms acts records old new
+
+  -- How far a bench that was opened went through the acts.
   abbrev pub EndsActs : (drew draws : ℕ) → Keys → (applications : List (List ℕ)) → List Arm → List Act → List RunRecord → (old new : BenchState) → Status → Type 0
   EndsActs drew draws keys applications arms acts records old new Done = GoesUntil of_file of_port image Reliable keys applications arms acts records [] old new
   EndsActs drew draws keys applications arms acts records old new WriteFault =
       ((left : List Act) × GoesUntil of_file of_port image Reliable keys applications arms acts records left old new)
-      ⊎ ((fault : MountFault) × RecordsRefusal drew draws keys applications arms acts records old new fault)
+      ⊎ ((fault : MountFault) × IsRefusal fault × RecordsRefusal drew draws keys applications arms acts records old new fault)
   EndsActs drew draws keys applications arms acts records old new (MountRefused fault) = RecordsRefusal drew draws keys applications arms acts records old new fault
   EndsActs drew draws keys applications arms acts records old new (DeviceFault fault) = RecordsRefusal drew draws keys applications arms acts records old new fault
-  EndsActs drew draws keys applications arms acts records old new NoMemory = Unit {0}
+  EndsActs drew draws keys applications arms acts records old new NoMemory = EndsForMemory drew draws keys applications arms acts records old new
   EndsActs drew draws keys applications arms acts records old new _ = ⊥
 
   -- The bench was opened, and went through these acts.
@@ -49,10 +57,10 @@ module _ {F R : Type 0} (of_file : F → FileState) (of_port : R → PortState) 
 
   -- The bench was not opened.
   abbrev pub Shut : (drew draws : ℕ) → Keys → (start : Option MountFault) → List RunRecord → (handed given : BenchState) → Status → Type 0
-  Shut drew draws keys start records handed given WriteFault = (fault : MountFault) × NotOpened drew draws keys start records handed given fault
+  Shut drew draws keys start records handed given WriteFault = (fault : MountFault) × IsRefusal fault × NotOpened drew draws keys start records handed given fault
   Shut drew draws keys start records handed given (MountRefused fault) = NotOpened drew draws keys start records handed given fault
   Shut drew draws keys start records handed given (DeviceFault fault) = NotOpened drew draws keys start records handed given fault
-  Shut drew draws keys start records handed given NoMemory = Unit {0}
+  Shut drew draws keys start records handed given NoMemory = (fault : MountFault) × MayWantMemory fault × NotOpened drew draws keys start records handed given fault
   Shut drew draws keys start records handed given _ = ⊥
 
   -- one or the other
@@ -71,5 +79,6 @@ module _ {F R : Type 0} (of_file : F → FileState) (of_port : R → PortState) 
   EndsBench drew draws keys t handed given WriteFault = OfScript t.taken (λ script. EndsScript drew draws keys script t.start t.records handed given WriteFault)
   EndsBench drew draws keys t handed given (MountRefused fault) = OfScript t.taken (λ script. EndsScript drew draws keys script t.start t.records handed given (MountRefused fault))
   EndsBench drew draws keys t handed given (DeviceFault fault) = OfScript t.taken (λ script. EndsScript drew draws keys script t.start t.records handed given (DeviceFault fault))
-  EndsBench drew draws keys t handed given NoMemory = Unit {0}
+  EndsBench drew draws keys t handed given NoMemory =
+      ((given ≡ handed) × IsSilent t) ⊎ OfScript t.taken (λ script. EndsScript drew draws keys script t.start t.records handed given NoMemory)
   EndsBench drew draws keys t handed given _ = given ≡ handed

@@ -2,6 +2,7 @@ pub mod Text
 pub mod RunRefusals
 pub mod Trace
 pub mod Course
+pub mod RecordLaws
 pub mod Ending
 pub mod RunCauses
 pub mod Forms

@@ -8,7 +8,7 @@ use Rattle.script_runner.specs.declared.status.Status.TheVariants.{DeviceFault, 
 use Rattle.script_runner.specs.Sending.{IsWriteError, Sends, Stops}
 use Rattle.script_runner.specs.declared.run_state.Run.{Run}
 use Rattle.script_runner.specs.declared.run_state.RunEnd.{RunEnd}
-use Rattle.script_runner.specs.RunRefusals.{IsDeviceFault, IsRefusal}
+use Rattle.script_runner.specs.RunRefusals.{IsDeviceFault, IsRefusal, MayWantMemory}
 
 -- Why a run ended among its acts, and how much of its text was put.
 abbrev pub HasActCause : (failed : Type 0) → (put text : List ℕ) → Status → Type 0
@@ -25,7 +25,7 @@ PrintsRefusal failed held_old held_new kept fault WriteFault = IsRefusal fault �
 PrintsRefusal failed held_old held_new kept fault (MountRefused printed) = (printed ≡ fault) × IsRefusal fault × Appends held_old held_new (kept ++ refusal_line fault)
 PrintsRefusal failed held_old held_new kept fault (DeviceFault printed) =
     (printed ≡ fault) × IsDeviceFault fault × (Appends held_old held_new kept ⊎ (failed × Stops held_old held_new kept []))
-PrintsRefusal failed held_old held_new kept fault NoMemory = Stops held_old held_new kept (refusal_line fault)
+PrintsRefusal failed held_old held_new kept fault NoMemory = MayWantMemory fault × Stops held_old held_new kept (refusal_line fault)
 PrintsRefusal failed held_old held_new kept fault _ = ⊥
 
 -- The last text of a run was put, or the sink would not take it.

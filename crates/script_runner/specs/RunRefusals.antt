@@ -1,6 +1,7 @@
 -- Why a bench is not mounted: what was read is no store, or a device failed.
+use Rattle.std.specs.Prelude.{◌≡◌, ◌⊎◌}
 use Rattle.run_acts.specs.declared.MountFault.{MountFault}
-use Rattle.run_acts.specs.declared.MountFault.TheVariants.{CardBlock, CardResult, Directory, Failed, Frame, NoStore, Spent}
+use Rattle.run_acts.specs.declared.MountFault.TheVariants.{CardBlock, CardResult, Directory, Failed, Frame, NoMemory, NoStore, Spent}
 
 -- what was read is no store
 abbrev pub IsRefusal : MountFault → Type 0
@@ -16,3 +17,7 @@ abbrev pub IsDeviceFault : MountFault → Type 0
 IsDeviceFault (Failed cause) = Unit {0}
 IsDeviceFault Spent = Unit {0}
 IsDeviceFault _ = ⊥
+
+-- behind it a run may end for want of memory: that was why, or its line found none
+abbrev pub MayWantMemory : MountFault → Type 0
+MayWantMemory fault = IsRefusal fault ⊎ (fault ≡ NoMemory)

@@ -1,5 +1,5 @@
 -- A soak: a bench is opened, the calls that follow from a number are one phase on threads, and the objects that it leaves are listed.
-use Rattle.std.specs.Prelude.{ℕ, ◌≡◌, ◌≢◌, List, [], ◌∷◌, length, Option, Some, None}
+use Rattle.std.specs.Prelude.{ℕ, ◌≡◌, List, [], ◌∷◌, length, Option, Some, None}
 use Rattle.disk_model.specs.State.{FileState}
 use Rattle.hmac_keys.specs.declared.Keys.{Keys}
 use Rattle.rpmb_card.specs.Port.{PortState}
@@ -18,7 +18,7 @@ use Rattle.script_runner.specs.declared.status.Status.{Status}
 use Rattle.script_runner.specs.Text.{Act, Do, Listed, Ran, Refused, RunRecord, Serve}
 use Rattle.script_runner.specs.Trace.{applications_of}
 use Rattle.script_runner.specs.Course.{Goes}
-use Rattle.script_runner.specs.Ending.{RecordsRefusal}
+use Rattle.script_runner.specs.Ending.{EndsForMemory, RecordsRefusal}
 use Rattle.script_runner.specs.Running.{RunsActs}
 
 -- the UUIDs of its applications
@@ -50,11 +50,12 @@ module _ {F R : Type 0} (of_file : F → FileState) (of_port : R → PortState) 
     pub goes : Goes of_file of_port image Reliable keys (soak_applications number) [] (soak_acts number) records old new
     pub lines_are : lines ≡ soak_output number None records
 
-  -- An act was refused. Where memory ran out nothing is said of the bench.
-  pub record IsBroken (drew draws : ℕ) (old new : BenchState) (fault : MountFault) : Type 0 where
-    pub records : List RunRecord
-    pub refused : fault ≢ NoMemory → RecordsRefusal of_file of_port image Reliable drew draws keys (soak_applications number) [] (soak_acts number) records old new fault
-    pub line_is : soak_output number None records ≡ refusal_line fault
+  -- An act was refused, and the last record says why; or memory ran out, in an act or behind some.
+  pub data IsBroken (drew draws : ℕ) (old new : BenchState) (fault : MountFault) : Type 0 where
+    broken : (records : List RunRecord) → RecordsRefusal of_file of_port image Reliable drew draws keys (soak_applications number) [] (soak_acts number) records old new fault
+        → soak_output number None records ≡ refusal_line fault → IsBroken drew draws old new fault
+    starved : (records : List RunRecord) → fault ≡ NoMemory → EndsForMemory of_file of_port image Reliable drew draws keys (soak_applications number) [] (soak_acts number) records old new
+        → IsBroken drew draws old new fault
 
   -- The run of the soak.
   abbrev pub RunsSoak : (drew draws : ℕ) → (failed : Type 0) → (held_old held_new : Option (List ℕ)) → (handed given : BenchState) → Status → Type 0

@@ -1,6 +1,7 @@
 // A card on the heap.
 
-ghost use Rattle.std.specs.Prelude.{◌≡◌, IfOk, IsTrue, Some};
+ghost use Rattle.std.specs.Prelude.{◌≡◌, [], IfOk, IsTrue, Some};
+ghost use Rattle.rpmb_card.specs.Arms.{no_arms};
 ghost use Rattle.script_runner.specs.Port.{card_port_state};
 
 use rpmb_card::{CardRig, NoMemory, RpmbPort, SimCard, SimPort};
@@ -22,7 +23,9 @@ impl CardPort {
     pub fn new(alloc: Global, card: SimCard) -> Result<CardPort, AllocError>
         ensures card { IfOk result (λ port. (card_port_state port).card ≡ Some card) }
         ensures calm { IfOk result (λ port. IsTrue (card_port_state port).calm) }
+        ensures arms { IfOk result (λ port. (card_port_state port).arms ≡ no_arms) }
         ensures faults { IfOk result (λ port. (card_port_state port).faults ≡ 0) }
+        ensures heard { IfOk result (λ port. (card_port_state port).heard ≡ []) }
     {
         let port = Box::new(alloc, SimPort::new(alloc, card))?;
         Ok(CardPort { port })

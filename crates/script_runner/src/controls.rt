@@ -6,7 +6,7 @@ ghost use Rattle.script_text.specs.declared.script.Control.TheVariants.{List as 
 ghost use Rattle.script_text.specs.declared.script.Step.TheVariants.{Control as ControlStep};
 ghost use Rattle.tee_ports.specs.Faults.{Rose};
 ghost use Rattle.run_acts.specs.Benches.{bench_state};
-ghost use Rattle.run_acts.specs.Crashes.{Crashes};
+ghost use Rattle.run_acts.specs.Crashes.{Crashes, CrashesInPart};
 ghost use Rattle.script_runner.specs.RunReady.{IsNext, IsReady, IsSound};
 ghost use Rattle.script_runner.specs.Running.{EndsAt, GoesOn};
 
@@ -47,6 +47,7 @@ fn crash_bench<F: FileRig + Drop, R: CardRig + Drop>(
     ensures whole { IfOk result (λ next. vec_len next.bench.files ≡ 273) }
     ensures others { IfOk result (λ next. next ≡ record run { bench = next.bench }) }
     ensures err { IfErr result (λ end. end.status ≡ Status.NoMemory) }
+    ensures in_part { IfErr result (λ end. CrashesInPart F.crash_image seed (bench_state F.state R.state run.bench) (bench_state F.state R.state end.bench)) }
     ensures whole_err { IfErr result (λ end. vec_len end.bench.files ≡ 273) }
 {
     let mut run = run;

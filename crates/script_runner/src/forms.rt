@@ -1,6 +1,6 @@
 //! The forms of the command line.
 
-ghost use Rattle.std.specs.Prelude.{◌≡◌, map, option_map};
+ghost use Rattle.std.specs.Prelude.{◌≡◌, Some, [], ◌∷◌, codes, map, option_map};
 ghost use Rattle.std.specs.String.{string_bytes};
 ghost use Rattle.seed_words.specs.Numbers.{soak_number_of};
 ghost use Rattle.script_runner.specs.Forms.{form_of};
@@ -9,7 +9,7 @@ use seed_words::soak_number;
 
 /// A form of the command line.
 #[derive(Clone, Copy, Debug, PartialEq, Eq)]
-pub(crate) enum Form {
+pub enum Form {
     /// `run`: a script is read.
     Run,
     /// `soak N`: the script follows from the number.
@@ -23,8 +23,8 @@ fn soak_of(word: &String) -> Option<Form>
     soak_number(word.as_str()).map(Form::Soak)
 }
 
-/// The form that the words have, if they have one.
-pub(crate) fn form_of(words: &[String]) -> Option<Form>
+/// The form that the words behind the program's name have, if they have one.
+pub fn form_of(words: &[String]) -> Option<Form>
     ensures { result ≡ form_of (map string_bytes words.now) }
 {
     match words {
@@ -33,3 +33,9 @@ pub(crate) fn form_of(words: &[String]) -> Option<Form>
         _ => None,
     }
 }
+
+/// `run` is a form of the command line, and so is `soak 1`.
+pub fn words_have_forms()
+    ensures run { form_of (codes "run" ∷ []) ≡ Some Form.Run }
+    ensures soak { form_of (codes "soak" ∷ codes "1" ∷ []) ≡ Some (Form.Soak 1) }
+{}

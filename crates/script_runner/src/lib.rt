@@ -13,6 +13,7 @@ mod forms;
 mod mount_refusal;
 mod phase_act;
 mod phase_text;
+mod record_laws;
 mod run_state;
 mod script_source;
 mod sim_devices;
@@ -22,7 +23,9 @@ mod text_sink;
 mod top_call;
 
 pub use card_port::CardPort;
+pub use forms::{Form, form_of, words_have_forms};
 pub use phase_text::{send_control, send_lines, send_phase};
+pub use record_laws::records_find_left;
 pub use run_acts::{Bench, Shown, ShownObject, card_block, print_object};
 pub use run_state::RunEnd;
 pub use script_source::read_text;

@@ -1,9 +1,11 @@
 //! The simulated devices that the program and its trials run on: files in memory, and a card that has its key.
 
-ghost use Rattle.std.specs.Prelude.{◌≡◌, vec_len, All, IfOk, IsTrue};
+ghost use Rattle.std.specs.Prelude.{◌≡◌, vec_len, All, IfOk, IsTrue, Some};
 ghost use Rattle.hmac_keys.specs.KeyTable.{rpmb_key};
 ghost use Rattle.mem_files.specs.Machine.{fresh};
 ghost use Rattle.mem_files.specs.Memory.{file_state};
+ghost use Rattle.rpmb_card.specs.Arms.{no_arms};
+ghost use Rattle.rpmb_card.specs.Card.{CardState};
 ghost use Rattle.rpmb_host.specs.Honest.{HasCard};
 ghost use Rattle.script_runner.specs.Blank.{keyed_card, simulator_keys};
 ghost use Rattle.script_runner.specs.Port.{card_port_state};
@@ -67,6 +69,7 @@ pub fn blank_bench(alloc: Global) -> Result<SimBench, AllocError>
     ensures files { IfOk result (λ bench. All (λ file. file_state file ≡ fresh) bench.files.items) }
     ensures card { IfOk result (λ bench. HasCard (card_port_state bench.card) (rpmb_key simulator_keys.huk) keyed_card) }
     ensures calm { IfOk result (λ bench. IsTrue (card_port_state bench.card).calm) }
+    ensures arms { IfOk result (λ bench. (card_port_state bench.card).arms ≡ no_arms) }
     ensures faults { IfOk result (λ bench. (card_port_state bench.card).faults ≡ 0) }
 {
     let files = empty_files(alloc, FILES)?;
@@ -74,13 +77,19 @@ pub fn blank_bench(alloc: Global) -> Result<SimBench, AllocError>
     Ok(Bench { files, card })
 }
 
-/// A bench whose card's write counter has reached its end.
+/// A bench whose card's write counter has reached its end. Nothing else of the card changed, nor of the files; no fault of the card is armed,
+/// and none was counted.
 ///
 /// # Errors
 ///
 /// Memory ran out.
 pub fn worn(alloc: Global, bench: SimBench) -> Result<SimBench, AllocError>
-    ensures { IfOk result (λ worn. worn.files ≡ bench.files) }
+    ensures files { IfOk result (λ worn. worn.files ≡ bench.files) }
+    ensures card { (card : CardState) → (card_port_state bench.card).card ≡ Some card
+        → IfOk result (λ worn. (card_port_state worn.card).card ≡ Some (record card { counter = 4294967295 })) }
+    ensures calm { IfOk result (λ worn. IsTrue (card_port_state worn.card).calm) }
+    ensures arms { IfOk result (λ worn. (card_port_state worn.card).arms ≡ no_arms) }
+    ensures faults { IfOk result (λ worn. (card_port_state worn.card).faults ≡ 0) }
 {
     let Bench { files, card } = bench;
     let mut card = card.into_card();

@@ -1,9 +1,10 @@
 //! Running a soak: the calls that follow from a number are one phase on threads, and what came of it is printed in five lines.
 
-ghost use Rattle.std.specs.Prelude.{◌≡◌, ◌⊎◌, ◌≤◌, vec_len, IfErr, IfOk};
+ghost use Rattle.std.specs.Prelude.{◌≡◌, ◌⊎◌, ◌≤◌, ℕ, List, vec_len, IfErr, IfOk};
 ghost use Rattle.tee_ports.specs.Faults.{Rose};
 ghost use Rattle.run_acts.specs.Benches.{bench_state};
-ghost use Rattle.run_acts.specs.ListedBenches.{IsListRefused};
+ghost use Rattle.store_model.specs.Object.{ObjectMap};
+ghost use Rattle.run_acts.specs.ListedBenches.{IsListRefused, ListsBench};
 ghost use Rattle.script_runner.specs.Soaks.{GoesThrough, IsBroken, RunsSoak, PrintsObjects};
 
 use crate::act_text::print_soak_lines;
@@ -41,7 +42,8 @@ fn print_soak<F: FileRig + Drop, R: CardRig + Drop, E: Entropy + Drop>(
 ) -> Result<Soaked<F, R>, Halted<F, R>>
     requires { vec_len bench.files ≡ 273 }
     ensures ok { IfOk result (λ s. PrintsObjects F.state R.state keys.now number history.now.events (bench_state F.state R.state bench) (bench_state F.state R.state s.bench) s.lines.items) }
-    ensures err { IfErr result (λ h. (h.fault ≡ MountFault.NoMemory)
+    ensures err { IfErr result (λ h. ((h.fault ≡ MountFault.NoMemory) × ((objects : ObjectMap) × (lines : List ℕ)
+        × ListsBench F.state R.state keys.now (bench_state F.state R.state bench) (bench_state F.state R.state h.bench) objects lines))
         ⊎ IsListRefused F.state R.state keys.now (bench_state F.state R.state bench) (bench_state F.state R.state h.bench) (E.faults entropy.old) (E.faults entropy.new) h.fault) }
     ensures whole { IfOk result (λ s. vec_len s.bench.files ≡ 273) }
     ensures whole_err { IfErr result (λ h. vec_len h.bench.files ≡ 273) }

@@ -1,11 +1,12 @@
 use Rattle.std.proofs.Common.{List, get_or, take, sym, subst}
 use Rattle.std.proofs.lemmas.List.{take_more}
+use Rattle.std.proofs.lemmas.Result.{err_from_is_err_and}
 use Rattle.tee_types.specs.declared.reply.Device.TheVariants.{Dir}
 use Rattle.script_text.specs.declared.script.Arm.{Arm}
 use Rattle.script_text.specs.declared.script.Arm.TheVariants.{Stop}
 use Rattle.run_acts.specs.Benches.{opening_state}
 use Rattle.run_acts.specs.PhaseArms.{ArmsAll}
-use Rattle.run_acts.proofs.Arms.{arms_push, devices_then}
+use Rattle.run_acts.proofs.Arms.{arms_push, arms_stay, devices_then}
 use Rattle.run_acts.proofs.arming.arm_devices.Goals as goal
 
 pub loop-arm-preserved : goal.loop-arm-preserved
@@ -20,3 +21,11 @@ loop-arm-preserved g c =
           (arms_push (take l.arm-index arms) (get_or arms l.arm-index (Stop Dir 0)) (state old) (state l.opening) (state new) l.invariant.arms c.in_ok-arm_device.ensures.arms);
       others = devices_then old l.opening new l.invariant.others c.in_ok-arm_device.ensures.others;
     }
+
+pub returns-in_err-arm_device-clause-some : goal.returns-in_err-arm_device-clause-some
+returns-in_err-arm_device-clause-some g c =
+    let l = c.loop-arm in
+    let state = opening_state g.F.StoreFile.state g.R.RpmbPort.state in
+    let front = take l.arm-index c.args.arms.now in
+    let p = err_from_is_err_and c.from_residual.result c.from_residual.ensures.1 in
+    rw (p.1) (front, arms_stay front (state c.args.opening.now) (state l.opening) (state c.arm_device.new.opening) l.invariant.arms c.in_err-arm_device.ensures.unarmed)

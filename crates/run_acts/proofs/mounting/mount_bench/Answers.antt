@@ -1,4 +1,5 @@
 use Rattle.htree_file.specs.Answers.{FilePassed}
+use Rattle.object_calls.proofs.Files.{files_sound}
 use Rattle.run_acts.specs.Benches.{bench_state, opening_state}
 use Rattle.run_acts.proofs.MountedBenches.{each_file, mounted_keeps, refused_keeps, stops_mounting}
 use Rattle.run_acts.proofs.mounting.mount_bench.Goals as goal
@@ -41,3 +42,9 @@ returns-in-Err-clause-keeps_err g c =
     (stops_mounting g.F.StoreFile.state c.args.keys.now c.args.bench.files.items c.in-Err.halted.bench.files.items (g.R.RpmbPort.state c.args.bench.card) (g.R.RpmbPort.state c.in-Err.halted.bench.card)
     (g.E.Entropy.faults c.args.entropy.now) (g.E.Entropy.faults c.mount.new.entropy) c.in-Err.halted.fault c.in-Err.ensures.refused)
     c.in-Err.ensures.leaves
+
+pub returns-in-Ok-clause-sound : goal.returns-in-Ok-clause-sound
+returns-in-Ok-clause-sound g c = files_sound g.F.StoreFile.state g.met.F.StoreFile.sound c.args.bench.files.items
+
+pub returns-in-Err-clause-sound : goal.returns-in-Err-clause-sound
+returns-in-Err-clause-sound g c = files_sound g.F.StoreFile.state g.met.F.StoreFile.sound c.args.bench.files.items

@@ -17,7 +17,7 @@ returns-in-Ok-list_opening-clause-answer g c =
     let listed = listed_bench state port c.args.keys.now (bench_state state port c.args.bench) (bench_state state port c.close-bench.result) o c.in-Ok.ensures.mounts c.in-Ok.ensures.keeps c.in-Ok.ensures.passed
     (files_sound state g.met.F.StoreFile.sound (o.gate.dir.file ∷ o.files))
     (closed_card port o c.list_opening.new.opening c.close-bench.result.card c.close-bench.ensures.card c.list_opening.ensures.same)
-    c.in-Ok-list_opening.lines.items
+    c.in-Ok-list_opening.lines.items (files_sound state g.met.F.StoreFile.sound c.args.bench.files.items)
     (files_sound state g.met.F.StoreFile.sound c.close-bench.result.files.items)
     (subst (λ (l : List g.row.F.Denot). IsListed (entries_in o) o.storage_key (bench_files state o) (files_of state l) c.in-Ok-list_opening.lines.items) (sym c.close-bench.ensures.files)
     c.in-Ok-list_opening.ensures.answer) in

@@ -1,10 +1,14 @@
-use Rattle.std.proofs.Common.{◌≡◌, ◌∙◌, ℕ, List, map, refl, sym, ap}
+use Rattle.std.proofs.Common.{◌≡◌, ◌∙◌, ℕ, List, ◌∷◌, map, inr, refl, sym, ap, arith}
+use Rattle.std.proofs.lemmas.Result.{err_from_is_err_and}
 use Rattle.object_calls.specs.OpeningFiles.{files_of}
 use Rattle.object_calls.specs.Opening.{OpeningValue}
 use Rattle.run_acts.specs.Benches.{bench_state}
 use Rattle.run_acts.specs.MountedDevices.{objects_in}
 use Rattle.run_acts.proofs.MemoryPhases.{fed_disarmed}
 use Rattle.run_acts.proofs.Ready.{serves_where}
+use Rattle.run_acts.specs.PhaseRefusals.{uncalled}
+use Rattle.run_acts.proofs.PhaseChains.{files_none}
+use Rattle.run_acts.proofs.Starved.{served_opened, starved_opened}
 use Rattle.run_acts.proofs.phase.run_phase.Goals as goal
 
 pub returns-in-Ok-serve_opened-clause-runs : goal.returns-in-Ok-serve_opened-clause-runs
@@ -25,6 +29,8 @@ returns-in-Ok-serve_opened-clause-runs g c =
       record {
         opened = opened;
         mounts = mounted.mounts;
+        sound = c.mount_with_memory.ensures.sound;
+        none = λ file past. files_none of_file (opened.gate.dir.file ∷ opened.files) file (omega (arith, past, c.objects-objects.ensures.opening.whole));
         keeps = mounted.keeps;
         passed = mounted.passed;
         objects = refl;
@@ -36,3 +42,45 @@ returns-in-Ok-serve_opened-clause-runs g c =
             c.disarm_bench.ensures.disarms;
       },
     )
+
+pub returns-in_default-clause-refused : goal.returns-in_default-clause-refused
+returns-in_default-clause-refused g c =
+    let of_file = g.F.StoreFile.state in
+    let of_port = g.R.RpmbPort.state in
+    inr (record {
+      fault_is = c.starved_bench.ensures.fault;
+      left = bench_state of_file of_port c.args.bench;
+      leaves = uncalled refl;
+      disarms = c.starved_bench.ensures.disarms;
+    })
+
+pub returns-in_err-opening-clause-refused : goal.returns-in_err-opening-clause-refused
+returns-in_err-opening-clause-refused g c =
+    let p = err_from_is_err_and c.from_residual.result c.from_residual.ensures.1 in
+    rw (p.1, p.2) (c.in_err-opening.ensures.refused c.args.applications.now c.args.arms.now)
+
+pub returns-in-Ok-2-clause-refused : goal.returns-in-Ok-2-clause-refused
+returns-in-Ok-2-clause-refused g c =
+    let of_file = g.F.StoreFile.state in
+    let of_port = g.R.RpmbPort.state in
+    let keys = c.args.keys.now in
+    let opened : OpeningValue g.row.F.Denot g.row.R.Denot = c.in_ok-opening.opening in
+    let mounted = c.in_ok-opening.ensures in
+    let closed = c.in-Ok-serve_opened.closed in
+    let left = bench_state of_file of_port closed.bench in
+    let halted = c.starved_bench-in-Ok-2.result in
+    inr (starved_opened of_file of_port keys c.args.applications.now c.args.arms.now (bench_state of_file of_port c.args.bench) (bench_state of_file of_port halted.bench) opened left halted.fault
+    c.starved_bench-in-Ok-2.ensures.fault mounted.mounts mounted.keeps
+    (served_opened of_file of_port keys c.args.applications.now c.args.arms.now (g.E.Entropy.is_reliable c.mount_with_memory.new.entropy) c.args.mode c.args.calls.now opened left
+    closed.history.events c.in-Ok-serve_opened.ensures.serves)
+    c.starved_bench-in-Ok-2.ensures.disarms)
+
+pub returns-clause-refused : goal.returns-clause-refused
+returns-clause-refused g c =
+    let of_file = g.F.StoreFile.state in
+    let of_port = g.R.RpmbPort.state in
+    let opened : OpeningValue g.row.F.Denot g.row.R.Denot = c.in_ok-opening.opening in
+    let mounted = c.in_ok-opening.ensures in
+    let halted = c.starved_bench-in-Err.result in
+    inr (starved_opened of_file of_port c.args.keys.now c.args.applications.now c.args.arms.now (bench_state of_file of_port c.args.bench) (bench_state of_file of_port halted.bench) opened
+    (bench_state of_file of_port c.in-Err.bench) halted.fault c.starved_bench-in-Err.ensures.fault mounted.mounts mounted.keeps c.in-Err.ensures.early c.starved_bench-in-Err.ensures.disarms)

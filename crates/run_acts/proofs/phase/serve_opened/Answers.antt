@@ -1,15 +1,18 @@
-use Rattle.std.proofs.Common.{ℕ, List, length, sym, subst}
+use Rattle.std.proofs.Common.{ℕ, List, length, refl, sym, subst}
 use Rattle.object_calls.specs.OpenedStores.{store_in}
 use Rattle.object_calls.specs.Opening.{OpeningValue}
 use Rattle.object_calls.specs.OpeningSessions.{AreUnseated}
 use Rattle.run_acts.specs.Reliable.{AreReliable}
 use Rattle.run_acts.specs.ServedSteps.{AreCalls}
-use Rattle.run_acts.specs.Benches.{bench_state, opening_state}
-use Rattle.run_acts.specs.Closing.{ClosesStore}
+use Rattle.run_acts.specs.Benches.{BenchState, bench_state, opening_state}
+use Rattle.run_acts.specs.Closing.{ClosesEarly, ClosesStore}
+use Rattle.run_acts.specs.PhaseArms.{ArmsAll}
+use Rattle.run_acts.specs.PhaseRefusals.{ClosesOpened, unready}
 use Rattle.run_acts.specs.Phases.{ServesOpened}
-use Rattle.run_acts.proofs.Closings.{closes_where}
+use Rattle.run_acts.proofs.Closings.{closed_state, closes_where}
 use Rattle.run_acts.proofs.Ready.{ready-applications, ready-keyed, serves_opened}
-use Rattle.std.proofs.lemmas.Result.{IfOk-weaker}
+use Rattle.run_acts.proofs.Starved.{early_opened}
+use Rattle.std.proofs.lemmas.Result.{IfErr-weaker, IfOk-weaker}
 use Rattle.run_acts.proofs.phase.serve_opened.Goals as goal
 
 pub serve_once-requires-clause-keyed : goal.serve_once-requires-clause-keyed
@@ -42,3 +45,25 @@ returns-in-Ok-clause-serves g c =
     (closes_where sessions reliable (store_in keys of_file of_port armed) (opening_state of_file of_port armed) c.args.mode c.args.calls.now (bench_state of_file of_port x.bench) x.history.events
     c.in-Ok.ensures.reliable closes))
     c.serve_once.ensures.closed
+
+pub returns-in-Ok-clause-early : goal.returns-in-Ok-clause-early
+returns-in-Ok-clause-early g c =
+    let of_file = g.F.StoreFile.state in
+    let of_port = g.R.RpmbPort.state in
+    let keys = c.args.keys.now in
+    let armed : OpeningValue g.row.F.Denot g.row.R.Denot = c.make_ready.new.opening in
+    IfErr-weaker c.serve_once.result
+    (λ b. ClosesEarly (store_in keys of_file of_port armed) (opening_state of_file of_port armed) (bench_state of_file of_port b))
+    (λ b. ClosesOpened of_file of_port keys c.args.applications.now c.args.arms.now c.args.opening (bench_state of_file of_port b))
+    (λ b closes. early_opened of_file of_port keys c.args.applications.now c.args.arms.now c.args.opening armed (bench_state of_file of_port b) c.in-Ok.ensures.ready c.requires.keyed closes)
+    c.serve_once.ensures.early
+
+pub returns-in-Err-clause-early : goal.returns-in-Err-clause-early
+returns-in-Err-clause-early g c =
+    let of_file = g.F.StoreFile.state in
+    let of_port = g.R.RpmbPort.state in
+    let state = opening_state of_file of_port in
+    let left : OpeningValue g.row.F.Denot g.row.R.Denot = c.make_ready.new.opening in
+    let some = c.in-Err.ensures.unready in
+    unready some.0 (subst (λ (b : BenchState). ArmsAll some.0 (state c.args.opening) b)
+    (sym (closed_state of_file of_port left left c.close.result refl c.close.ensures.files c.close.ensures.card)) some.1)

@@ -5,7 +5,7 @@ use Rattle.object_calls.proofs.Files.{refilled}
 use Rattle.run_acts.specs.Reliable.{AreFresh, AreReliable}
 use Rattle.run_acts.specs.ServedSteps.{AreCalls}
 use Rattle.run_acts.specs.Benches.{bench_state}
-use Rattle.run_acts.specs.Closing.{ClosesStore}
+use Rattle.run_acts.specs.Closing.{ClosesStore, served}
 use Rattle.run_acts.proofs.Closings.{closes_store, ends_devices}
 use Rattle.run_acts.proofs.serial_phase.make_and_close.Goals as goal
 
@@ -38,3 +38,6 @@ returns-in-Ok-clause-closed g c = λ mode before has.
     closed.result.history.events (ap (λ (l : List (CallerSession g.row.E.Denot)). length l) same ∙ c.requires.sessions.many)
     (subst (λ (l : List (CallerSession g.row.E.Denot)). AreFresh g.E.Entropy.faults l) (sym same) c.requires.fresh) made.ensures.reliable c.requires.begins c.in-Ok.ensures.serves
     closed.ensures.events closed.ensures.leaves)
+
+pub returns-in-Err-clause-early : goal.returns-in-Err-clause-early
+returns-in-Err-clause-early g c = λ before. served _ _ c.finish-closed.ensures.leaves

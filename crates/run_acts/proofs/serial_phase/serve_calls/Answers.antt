@@ -9,9 +9,9 @@ use Rattle.run_acts.specs.Reliable.{AreFresh, AreReliable}
 use Rattle.run_acts.specs.ServedSteps.{AreCalls}
 use Rattle.object_calls.specs.Services.{ServiceValue}
 use Rattle.run_acts.specs.Benches.{bench_state, opening_state}
-use Rattle.run_acts.specs.Closing.{ClosesStore}
+use Rattle.run_acts.specs.Closing.{ClosesStore, unserved}
 use Rattle.std.proofs.lemmas.Result.{IfOk-weaker}
-use Rattle.run_acts.proofs.Closings.{begins_devices, closes_where}
+use Rattle.run_acts.proofs.Closings.{begins_devices, closed_state, closes_where}
 use Rattle.run_acts.proofs.DrawnAlike.{fresh_alike, reliable_alike}
 use Rattle.run_acts.proofs.serial_phase.serve_calls.Goals as goal
 
@@ -69,3 +69,10 @@ returns-in-Ok-clause-closed g c = λ mode.
     (reliable_alike is_reliable sessions.items new (many ∙ sym long) (subst (λ (l : List (CallerSession g.row.E.Denot)). DrawAlike l new) same c.in-Ok.ensures.draw) reliable))
     closes)
     (c.make_and_close.ensures.closed mode before (begins_devices of_file of_port store c.args.opening service c.in-Ok.ensures.served))
+
+pub returns-in-Ok-clause-early : goal.returns-in-Ok-clause-early
+returns-in-Ok-clause-early g c = c.make_and_close.ensures.early (opening_state g.F.StoreFile.state g.R.RpmbPort.state c.args.opening)
+
+pub returns-in-Err-clause-early : goal.returns-in-Err-clause-early
+returns-in-Err-clause-early g c =
+    unserved (closed_state g.F.StoreFile.state g.R.RpmbPort.state c.args.opening c.in-Err.opening c.close.result c.in-Err.ensures.refused c.close.ensures.files c.close.ensures.card)

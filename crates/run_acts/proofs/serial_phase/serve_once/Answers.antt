@@ -32,3 +32,9 @@ returns-in-Threads-clause-closed g c =
     (λ x. ClosesShared reliable store (opening_devices of_file of_port c.args.opening) calls (files_of of_file x.bench.files.items) (of_port x.bench.card) x.history.events)
     (λ x. ClosesStore reliable store (opening_state of_file of_port c.args.opening) Threads calls (bench_state of_file of_port x.bench) x.history.events)
     (λ x closes. shared_closes of_file of_port reliable store c.args.opening calls (bench_state of_file of_port x.bench) x.history.events closes) c.serve_shared_once.ensures.closed)
+
+pub returns-in-Serial-clause-early : goal.returns-in-Serial-clause-early
+returns-in-Serial-clause-early g c = c.serve_calls.ensures.early
+
+pub returns-in-Threads-clause-early : goal.returns-in-Threads-clause-early
+returns-in-Threads-clause-early g c = c.serve_shared_once.ensures.early

@@ -1,4 +1,4 @@
-use Rattle.std.proofs.Common.{◌≡◌, ◌∙◌, ◌++◌, ℕ, List, ap, drop, length, sym, subst, take}
+use Rattle.std.proofs.Common.{◌≡◌, ◌∙◌, ◌++◌, ℕ, List, ap, drop, length, refl, sym, subst, take}
 use Rattle.core_laws.specs.Stores.{Store}
 use Rattle.shared_store.specs.CallerSessions.{CallerSession}
 use Rattle.shared_store.specs.Devices.{Devices}
@@ -13,6 +13,9 @@ use Rattle.run_acts.specs.ServedSteps.{AreCalls}
 use Rattle.run_acts.proofs.DrawnAlike.{fresh_alike, reliable_alike}
 use Rattle.run_acts.specs.SharedClosing.{ClosesShared}
 use Rattle.std.proofs.lemmas.Result.{IfOk-weaker}
+use Rattle.run_acts.specs.Benches.{opening_state}
+use Rattle.run_acts.specs.Closing.{unserved}
+use Rattle.run_acts.proofs.Closings.{closed_state}
 use Rattle.run_acts.proofs.ThreadClosings.{closes_where}
 use Rattle.run_acts.proofs.threads_phase.serve_shared.Goals as goal
 
@@ -87,3 +90,14 @@ returns-in-Ok-serve-clause-closed g c =
     (reliable_alike is_reliable sessions.items new (many ∙ sym long) (subst (λ (l : List (CallerSession g.row.E.Denot)). DrawAlike l new) same c.in-Ok-serve.ensures.draw) reliable))
     closes)
     c.share_and_close.ensures.closed
+
+pub returns-in_default-clause-early : goal.returns-in_default-clause-early
+returns-in_default-clause-early g c =
+    unserved (closed_state g.F.StoreFile.state g.R.RpmbPort.state c.args.opening c.args.opening c.close.result refl c.close.ensures.files c.close.ensures.card)
+
+pub returns-in-Ok-serve-clause-early : goal.returns-in-Ok-serve-clause-early
+returns-in-Ok-serve-clause-early g c = c.share_and_close.ensures.early (opening_state g.F.StoreFile.state g.R.RpmbPort.state c.args.opening)
+
+pub returns-in-Err-clause-early : goal.returns-in-Err-clause-early
+returns-in-Err-clause-early g c =
+    unserved (closed_state g.F.StoreFile.state g.R.RpmbPort.state c.args.opening c.in-Err.opening c.close-in-Err.result c.in-Err.ensures.refused c.close-in-Err.ensures.files c.close-in-Err.ensures.card)

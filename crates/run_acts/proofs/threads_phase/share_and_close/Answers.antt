@@ -5,6 +5,7 @@ use Rattle.shared_store.specs.SlotValues.{SlotValue}
 use Rattle.object_calls.specs.FinishedPhase.{HaveCounted}
 use Rattle.object_calls.specs.OpeningSessions.{AreCallers, AreSeated, HaveNoEvents}
 use Rattle.object_calls.proofs.Files.{refilled}
+use Rattle.run_acts.specs.Closing.{served}
 use Rattle.run_acts.specs.OwnCalls.{is_done}
 use Rattle.run_acts.specs.Sharing.{AreKept}
 use Rattle.run_acts.specs.Reliable.{AreFresh, AreReliable}
@@ -66,3 +67,6 @@ returns-then-done-clause-closed g c =
     all_undrawn g.E.Entropy.is_reliable g.E.Entropy.faults store was new calls seated unmade c.make_beside.auto.sessions c.make_beside.ensures done gate.journal.knows counted fresh
     (subst (λ (l : List (CallerSession g.row.E.Denot)). AreReliable g.E.Entropy.is_reliable l) (sym begun) reliable))
     closed.ensures.card closed.ensures.leaves
+
+pub returns-else-done-clause-early : goal.returns-else-done-clause-early
+returns-else-done-clause-early g c = λ before. served c.into_gate.result.journal.knows c.close_slots-closed.result.doubt c.close_slots-closed.ensures.leaves

@@ -1,10 +1,10 @@
-use Rattle.std.proofs.Common.{sym, ap, subst, ◌∙◌, vec_len}
+use Rattle.std.proofs.Common.{sym, ap, subst, ◌∙◌}
 use Rattle.script_text.specs.declared.script.Control.{Control}
 use Rattle.script_text.specs.declared.script.Control.TheVariants.{Arm as ArmControl, Crash, Mode as ModeControl, Phase}
 use Rattle.script_text.specs.declared.script.Step.TheVariants.{Control as ControlStep}
 use Rattle.script_text.specs.Text.{control_line}
 use Rattle.script_runner.specs.RunReady.{IsNext}
-use Rattle.script_runner.proofs.Once.{EndsAt-no_memory, control_text}
+use Rattle.script_runner.proofs.Once.{EndsAt-crashed, EndsAt-no_memory, control_text}
 use Rattle.script_runner.proofs.Turns.{HasDone-arm, HasDone-crash, HasDone-mode, HasDone-phase, cut-off, goes-on}
 use Rattle.script_runner.proofs.controls.do_control.Goals as goal
 
@@ -28,7 +28,7 @@ returns-in-Ok-clause-err g c = λ first lasts.
 
 pub returns-in-Err-clause-err : goal.returns-in-Err-clause-err
 returns-in-Err-clause-err g c = λ first lasts.
-    EndsAt-no_memory g.F.StoreFile.state g.R.RpmbPort.state g.F.FileRig.crash_image (g.E.Entropy.is_reliable first) _ _ c.args.keys.now c.args.script.now _ _ c.args.run c.in-Err.end (ap (λ e. e.status) c.in-Err.ensures.err) (ap (λ e. vec_len e.bench.files) c.in-Err.ensures.err ∙ c.requires.ready.whole)
+    EndsAt-no_memory g.F.StoreFile.state g.R.RpmbPort.state g.F.FileRig.crash_image (g.E.Entropy.is_reliable first) _ _ c.args.keys.now c.args.script.now _ _ c.args.run c.in-Err.end c.in-Err.ensures.err c.requires.ready.whole
 
 pub returns-in-Ok-crash_bench-clause-ok : goal.returns-in-Ok-crash_bench-clause-ok
 returns-in-Ok-crash_bench-clause-ok g c = λ first lasts.
@@ -50,7 +50,10 @@ returns-in-Ok-crash_bench-clause-err g c = λ first lasts.
 
 pub returns-in-Err-crash_bench-clause-err : goal.returns-in-Err-crash_bench-clause-err
 returns-in-Err-crash_bench-clause-err g c = λ first lasts.
-    EndsAt-no_memory g.F.StoreFile.state g.R.RpmbPort.state g.F.FileRig.crash_image (g.E.Entropy.is_reliable first) _ _ c.args.keys.now c.args.script.now _ _ c.args.run c.in-Err-crash_bench.end c.in-Err-crash_bench.ensures.err c.in-Err-crash_bench.ensures.whole_err
+    let run = c.args.run in
+    let script = c.args.script.now in
+    let step = subst (λ (x : Control). IsNext script run (ControlStep x)) c.in-Crash.is c.requires.next in
+    EndsAt-crashed g.F.StoreFile.state g.R.RpmbPort.state g.F.FileRig.crash_image (g.E.Entropy.is_reliable first) _ _ c.args.keys.now script _ _ run c.in-Err-crash_bench.end c.in-Crash.seed step c.in-Err-crash_bench.ensures.err c.in-Err-crash_bench.ensures.in_part c.in-Err-crash_bench.ensures.whole_err
 
 pub returns-in-Mode-clause-ok : goal.returns-in-Mode-clause-ok
 returns-in-Mode-clause-ok g c = λ first lasts.

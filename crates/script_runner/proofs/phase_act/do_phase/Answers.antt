@@ -4,6 +4,7 @@ use Rattle.script_text.specs.Script.{is_call}
 use Rattle.script_text.specs.declared.script.Arm.{Arm}
 use Rattle.script_text.specs.declared.script.Step.{Step}
 use Rattle.run_acts.specs.Benches.{bench_state}
+use Rattle.run_acts.specs.PhaseRefusals.{IsGivenUp}
 use Rattle.run_acts.specs.Phases.{RunsPhase}
 use Rattle.run_acts.proofs.Ready.{runs_where}
 use Rattle.script_runner.specs.declared.run_state.Run.{Run}
@@ -55,4 +56,13 @@ returns-in-Ok-clause-err g c = λ first lasts.
 
 pub returns-clause-err : goal.returns-clause-err
 returns-clause-err g c = λ first lasts.
-    EndsAt-calls g.F.StoreFile.state g.R.RpmbPort.state g.F.FileRig.crash_image (g.E.Entropy.is_reliable first) c.args.keys.now c.args.script.now _ _ _ _ _ c.args.run _ c.in-Err.field-0.fault c.requires.call c.in-Err.ensures.refused c.print_mount_refusal-status.ensures.prints c.in-Err.ensures.whole_err
+    let of_file = g.F.StoreFile.state in
+    let of_port = g.R.RpmbPort.state in
+    let run = c.args.run in
+    let script = c.args.script.now in
+    let halted = c.in-Err.field-0 in
+    let GivenUp : List (List ℕ) → List Arm → Type 0 = λ apps arms.
+    IsGivenUp of_file of_port c.args.keys.now apps arms (bench_state of_file of_port run.bench) (bench_state of_file of_port halted.bench) (g.E.Entropy.faults c.args.entropy.now) (g.E.Entropy.faults c.run_phase.new.entropy) halted.fault in
+    let given_up = subst (λ (a : List Arm). GivenUp (applications_of script) a) c.as_slice.ensures.value
+    (subst (λ (a : List (List ℕ)). GivenUp a c.as_slice.result.now) c.applications.ensures c.in-Err.ensures.refused) in
+    EndsAt-calls of_file of_port g.F.FileRig.crash_image (g.E.Entropy.is_reliable first) c.args.keys.now script _ _ _ _ _ run _ halted.fault c.requires.call given_up c.print_mount_refusal-status.ensures.prints c.in-Err.ensures.whole_err

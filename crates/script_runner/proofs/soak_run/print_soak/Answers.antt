@@ -1,4 +1,4 @@
-use Rattle.std.proofs.Common.{ℕ, List, length, sym, ap, ◌∙◌, subst}
+use Rattle.std.proofs.Common.{ℕ, List, length, inl, refl, sym, ap, ◌∙◌, subst}
 use Rattle.seed_words.specs.Outcome.{soak_lines}
 use Rattle.run_acts.specs.Benches.{bench_state}
 use Rattle.run_acts.specs.ListedBenches.{ListsBench}
@@ -14,3 +14,8 @@ returns-in-Ok-soak_lines-clause-ok g c =
       lists = subst (λ (t : List ℕ). ListsBench state port c.args.keys.now (bench_state state port c.args.bench) (bench_state state port c.in-Ok.field-0.bench) lists.0 t) (lists.2).lines_are lists.2;
       lines_are = c.in-Ok-soak_lines.ensures ∙ ap (λ n. prints n c.as_slice.result.now) (c.from.ensures ∙ sym lists.1) ∙ ap (prints (length lists.0)) (c.as_slice.ensures.value ∙ (lists.2).lines_are);
     }
+
+pub returns-in-Ok-clause-err : goal.returns-in-Ok-clause-err
+returns-in-Ok-clause-err g c =
+    let lists = c.in-Ok.ensures.lists in
+    inl (refl, (lists.0, c.in-Ok.field-0.lines.items, lists.2))

@@ -26,7 +26,7 @@ returns-in-Err-soak_opened-clause-soak g c =
     let keys = c.args.keys.now in
     let number = c.args.number in
     let halted = c.in-Err-soak_opened.field-0 in
-    let broken = c.in-Err-soak_opened.ensures.err c.args.entropy.now c.open_bench.ensures.reliable in
+    let is_broken = c.in-Err-soak_opened.ensures.err c.args.entropy.now c.open_bench.ensures.reliable in
     RunsSoak-broken state port image rel keys number _ _ _ _ _ _ _ _ c.in-Ok.ensures.opens halted.fault
-    (subst (λ n. IsBroken state port image rel keys number n (g.E.Entropy.faults c.soak_opened.new.entropy) (bench_state state port c.in-Ok.bench) (bench_state state port halted.bench) halted.fault) c.in-Ok.ensures.undrawn broken)
+    (subst (λ n. IsBroken state port image rel keys number n (g.E.Entropy.faults c.soak_opened.new.entropy) (bench_state state port c.in-Ok.bench) (bench_state state port halted.bench) halted.fault) c.in-Ok.ensures.undrawn is_broken)
     c.new-in-Err-soak_opened.result.items c.new-in-Err-soak_opened.ensures.items c.print_mount_refusal-status-in-Err-soak_opened.result c.print_mount_refusal-status-in-Err-soak_opened.ensures.prints

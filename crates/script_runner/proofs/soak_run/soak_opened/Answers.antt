@@ -1,18 +1,20 @@
-use Rattle.std.proofs.Common.{◌≡◌, ◌⊎◌, length, refl, sym, ap, ◌∙◌, subst, arith}
+use Rattle.std.proofs.Common.{◌≡◌, ◌⊎◌, ℕ, List, [], length, sym, ap, ◌∙◌, subst, arith}
 use Rattle.std.proofs.lemmas.List.{length-map}
 use Rattle.std.proofs.lemmas.Result.{IfErr-weaker, IfOk-weaker}
 use Rattle.run_acts.specs.ServedSteps.{AreCalls}
 use Rattle.script_text.specs.Script.{Declaration, ScriptValue}
 use Rattle.run_acts.specs.declared.MountFault.TheVariants.{NoMemory}
 use Rattle.run_acts.specs.Benches.{bench_state}
-use Rattle.run_acts.specs.ListedBenches.{IsListRefused}
-use Rattle.script_runner.specs.Soaks.{GoesThrough, IsBroken, PrintsObjects}
+use Rattle.run_acts.specs.ListedBenches.{IsListRefused, ListsBench}
+use Rattle.run_acts.specs.PhaseRefusals.{IsGivenUp}
+use Rattle.store_model.specs.Object.{ObjectMap}
+use Rattle.script_runner.specs.Soaks.{GoesThrough, IsBroken, PrintsObjects, soak_applications}
 use Rattle.script_runner.specs.Trace.{applications_of}
-use Rattle.script_runner.proofs.Soaks.{GoesThrough-acts, IsBroken-memory, IsBroken-phase, IsBroken-printed, RunsPhase-soak, length-soak_applications}
+use Rattle.script_runner.proofs.Soaks.{GoesThrough-acts, IsBroken-undone, IsBroken-phase, IsBroken-printed, RunsPhase-soak, length-soak_applications}
 use Rattle.script_runner.proofs.soak_run.soak_opened.Goals as goal
 
 pub returns-in_default-clause-err : goal.returns-in_default-clause-err
-returns-in_default-clause-err g c = λ first lasts. IsBroken-memory g.F.StoreFile.state g.R.RpmbPort.state g.F.FileRig.crash_image (g.E.Entropy.is_reliable first) c.args.keys.now c.args.number _ _ _ _ NoMemory refl
+returns-in_default-clause-err g c = λ first lasts. IsBroken-undone g.F.StoreFile.state g.R.RpmbPort.state g.F.FileRig.crash_image (g.E.Entropy.is_reliable first) c.args.keys.now c.args.number _ _ (bench_state g.F.StoreFile.state g.R.RpmbPort.state c.args.bench)
 
 pub run_phase-requires-clause-few : goal.run_phase-requires-clause-few
 run_phase-requires-clause-few g c κs within =
@@ -56,10 +58,20 @@ returns-in-Ok-run_phase-clause-err g c = λ first lasts.
     let mid = g.E.Entropy.faults c.run_phase.new.entropy in
     let drew = g.E.Entropy.faults c.args.entropy.now in
     let draws = g.E.Entropy.faults c.print_soak.new.entropy in
-    IfErr-weaker c.print_soak.result (λ h. (h.fault ≡ NoMemory) ⊎ IsListRefused state port keys between (bench_state state port h.bench) mid draws h.fault)
+    IfErr-weaker c.print_soak.result (λ h. ((h.fault ≡ NoMemory) × ((objects : ObjectMap) × (lines : List ℕ) × ListsBench state port keys between (bench_state state port h.bench) objects lines)) ⊎ IsListRefused state port keys between (bench_state state port h.bench) mid draws h.fault)
     (λ h. IsBroken state port image rel keys number drew draws old (bench_state state port h.bench) h.fault)
     (λ h why. IsBroken-printed state port image rel keys number drew draws old between (bench_state state port h.bench) runs.0 opened.history.events h.fault ran mid c.in-Ok-run_phase.ensures.undrawn why)
     c.print_soak.ensures.err
 
 pub returns-clause-err : goal.returns-clause-err
-returns-clause-err g c = λ first lasts. IsBroken-phase g.F.StoreFile.state g.R.RpmbPort.state g.F.FileRig.crash_image (g.E.Entropy.is_reliable first) c.args.keys.now c.args.number _ _ _ _ _ c.in-Err.ensures.refused
+returns-clause-err g c = λ first lasts.
+    let state = g.F.StoreFile.state in
+    let port = g.R.RpmbPort.state in
+    let keys = c.args.keys.now in
+    let number = c.args.number in
+    let halted = c.in-Err.halted in
+    let old = bench_state state port c.args.bench in
+    let new = bench_state state port halted.bench in
+    let same : c.applications.result.now ≡ soak_applications number = c.applications.ensures ∙ ap applications_of c.in-Ok.ensures in
+    IsBroken-phase state port g.F.FileRig.crash_image (g.E.Entropy.is_reliable first) keys number _ _ old new halted.fault
+    (subst (λ (a : List (List ℕ)). IsGivenUp state port keys a [] old new (g.E.Entropy.faults c.args.entropy.now) (g.E.Entropy.faults c.run_phase.new.entropy) halted.fault) same c.in-Err.ensures.refused)

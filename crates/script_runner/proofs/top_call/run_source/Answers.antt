@@ -2,7 +2,7 @@ use Rattle.std.proofs.Common.{◌≡◌, Ok, ap, inr, subst, sym, ◌∙◌}
 use Rattle.script_text.specs.Grammar.{script_of}
 use Rattle.script_runner.specs.ScriptReading.{IsScriptError}
 use Rattle.script_runner.specs.Trace.{Trace}
-use Rattle.script_runner.proofs.Wholes.{EndsBench-read, EndsBench-run, EndsBench-script, HasCause-act, HasCause-read, HasCause-script, IsTraceOf-silent, silent}
+use Rattle.script_runner.proofs.Wholes.{EndsBench-read, EndsBench-run, EndsBench-script, HasCause-act, HasCause-read, HasCause-script, IsTraceOf-silent, silent, silent_is}
 use Rattle.script_runner.proofs.top_call.run_source.Goals as goal
 
 pub returns-in-Err-clause-run : goal.returns-in-Err-clause-run
@@ -11,7 +11,7 @@ returns-in-Err-clause-run g c =
       silent r.0,
       IsTraceOf-silent _ _ _ r.0 r.1 r.2,
       HasCause-read _ r.0 c.in-Err.status r.3,
-      EndsBench-read g.F.StoreFile.state g.R.RpmbPort.state g.F.FileRig.crash_image _ _ _ c.args.keys.now _ _ (silent r.0) _ c.in-Err.status r.3,
+      EndsBench-read g.F.StoreFile.state g.R.RpmbPort.state g.F.FileRig.crash_image _ _ _ c.args.keys.now _ _ (silent r.0) (silent_is r.0) _ c.in-Err.status r.3,
     )
 
 pub returns-in-Err-read_script-clause-run : goal.returns-in-Err-read_script-clause-run
@@ -22,7 +22,7 @@ returns-in-Err-read_script-clause-run g c =
       silent r.0,
       IsTraceOf-silent _ _ _ r.0 r.1 r.2,
       HasCause-script _ r.0 c.in-Err-read_script.status error (r.3.1, r.3.2),
-      EndsBench-script g.F.StoreFile.state g.R.RpmbPort.state g.F.FileRig.crash_image _ _ _ c.args.keys.now (script_of r.0) (silent r.0) _ c.in-Err-read_script.status error,
+      EndsBench-script g.F.StoreFile.state g.R.RpmbPort.state g.F.FileRig.crash_image _ _ _ c.args.keys.now (script_of r.0) (silent r.0) (silent_is r.0) _ c.in-Err-read_script.status error,
     )
 
 pub returns-clause-run : goal.returns-clause-run

@@ -1,0 +1,69 @@
+-- Each act finds what the acts before it leave.
+use Rattle.std.proofs.Common.{ℕ, List, [], ◌∷◌, ◌++◌, inl, sym, ap, subst}
+use Rattle.disk_model.specs.State.{FileState}
+use Rattle.hmac_keys.specs.declared.Keys.{Keys}
+use Rattle.hmac_keys.specs.KeyTable.{rpmb_key}
+use Rattle.rpmb_card.specs.Card.{CardState}
+use Rattle.rpmb_card.specs.Port.{PortState}
+use Rattle.rpmb_host.specs.Honest.{HasCard}
+use Rattle.script_text.specs.declared.script.Arm.{Arm}
+use Rattle.script_text.specs.declared.script.Control.TheVariants.{Arm as ArmControl, Crash, List as ListControl, Mode as ModeControl, Phase}
+use Rattle.store_model.specs.ReplayState.{ReplayState}
+use Rattle.run_acts.specs.Benches.{BenchState}
+use Rattle.run_acts.specs.Left.{HoldsLeft, replay_left}
+use Rattle.run_acts.specs.Lines.{objects_text}
+use Rattle.run_acts.proofs.CrashedLaws.{card_of, crashes_keep, crashes_may_be}
+use Rattle.run_acts.proofs.ListedLeft.{lists_keep, lists_show_left}
+use Rattle.run_acts.proofs.PhaseChains.{leaves_held, opens_left, phase_card}
+use Rattle.script_runner.specs.Course.{Goes}
+use Rattle.script_runner.specs.RecordLaws.{FindLeft, RecordsFindLeft, StaysHonest, left_behind}
+use Rattle.script_runner.specs.Text.{Act, Do, Listed, Ran, Refused, RunRecord, Serve}
+
+module _ {F R : Type 0} (of_file : F → FileState) (of_port : R → PortState) (image : FileState → ℕ → ℕ → List ℕ) (Reliable : Type 0) (keys : Keys) (apps : List (List ℕ)) where
+  abbrev Goes' : (arms : List Arm) → List Act → List RunRecord → (old new : BenchState) → Type 0
+  Goes' arms acts records old new = Goes of_file of_port image Reliable keys apps arms acts records old new
+
+  abbrev Honest' : (arms : List Arm) (acts : List Act) (records : List RunRecord) (old new : BenchState) → Goes' arms acts records old new → Type 0
+  Honest' arms acts records old new goes = StaysHonest of_file of_port image Reliable keys apps arms acts records old new goes
+
+  abbrev Finds : ReplayState → List RunRecord → (new : BenchState) → Type 0
+  Finds s records new = FindLeft apps s records × HoldsLeft keys new (left_behind apps s records)
+
+  abbrev key : List ℕ
+  key = rpmb_key keys.huk
+
+  find_left : (arms : List Arm) (acts : List Act) (records : List RunRecord) (old new : BenchState) (s : ReplayState) (card : CardState) (goes : Goes' arms acts records old new)
+      → Honest' arms acts records old new goes → HoldsLeft keys old s → HasCard old.card key card → Finds s records new
+  find_left arms [] [] old new s card goes honest holds has = (tt, subst (λ (b : BenchState). HoldsLeft keys b s) (sym goes) holds)
+  find_left arms [] (r ∷ records) old new s card goes honest holds has = absurd goes
+  find_left arms (Serve mode calls ∷ acts) [] old new s card goes honest holds has = absurd goes
+  find_left arms (Serve mode calls ∷ acts) (Ran phase ∷ records) old new s card goes honest holds has =
+      let between = goes.0 in
+      let told = phase_card of_file of_port Reliable keys apps arms mode calls old between phase.opening phase.events goes.1 card has in
+      let rest =
+      find_left [] acts records between new (replay_left phase.opening apps phase.events) told.0 goes.2 honest.1
+      (leaves_held of_file of_port Reliable keys apps arms mode calls old between phase.opening phase.events goes.1 honest.0) told.1 in
+      ((opens_left of_file of_port Reliable keys apps arms mode calls old between phase.opening phase.events goes.1 honest.0 s card holds has, rest.0), rest.1)
+  find_left arms (Serve mode calls ∷ acts) (Listed objects ∷ records) old new s card goes honest holds has = absurd goes
+  find_left arms (Serve mode calls ∷ acts) (Refused fault ∷ records) old new s card goes honest holds has = absurd goes
+  find_left arms (Do (ModeControl mode) ∷ acts) records old new s card goes honest holds has = find_left arms acts records old new s card goes honest holds has
+  find_left arms (Do Phase ∷ acts) records old new s card goes honest holds has = find_left arms acts records old new s card goes honest holds has
+  find_left arms (Do (ArmControl arm) ∷ acts) records old new s card goes honest holds has = find_left (arms ++ arm ∷ []) acts records old new s card goes honest holds has
+  find_left arms (Do (Crash seed) ∷ acts) records old new s card goes honest holds has =
+      let between = goes.0 in
+      find_left arms acts records between new s card goes.2 honest (crashes_keep keys s old between holds (crashes_may_be image seed old between goes.1))
+      (card_of between.card old.card key card (ap (λ (p : PortState). p.card) (sym (goes.1).card)) has)
+  find_left arms (Do ListControl ∷ acts) [] old new s card goes honest holds has = absurd goes
+  find_left arms (Do ListControl ∷ acts) (Ran phase ∷ records) old new s card goes honest holds has = absurd goes
+  find_left arms (Do ListControl ∷ acts) (Listed objects ∷ records) old new s card goes honest holds has =
+      let between = goes.0 in
+      let lines = objects_text objects in
+      let rest =
+      find_left arms acts records between new s card goes.2 honest.1 (lists_keep of_file of_port keys s old between objects lines card holds goes.1 honest.0 has)
+      (card_of between.card old.card key card (sym ((goes.1).keeps).card) has) in
+      ((lists_show_left of_file of_port keys s old between objects lines card holds goes.1 (λ file. inl (honest.0 file)) has, rest.0), rest.1)
+  find_left arms (Do ListControl ∷ acts) (Refused fault ∷ records) old new s card goes honest holds has = absurd goes
+
+pub records_find_left : {F R : Type 0} (of_file : F → FileState) (of_port : R → PortState) (image : FileState → ℕ → ℕ → List ℕ) (Reliable : Type 0) → RecordsFindLeft of_file of_port image Reliable
+records_find_left of_file of_port image Reliable keys applications arms acts records old new s card goes honest holds has =
+    find_left of_file of_port image Reliable keys applications arms acts records old new s card goes honest holds has
