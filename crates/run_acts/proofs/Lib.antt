@@ -40,5 +40,6 @@ pub mod ListedLeft
 pub mod Untold
 pub mod QuietPhases
 pub mod NotRefused
+pub mod HeldRefusals
 pub mod BadTexts
 pub mod ShownObjects

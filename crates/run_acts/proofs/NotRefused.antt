@@ -1,15 +1,27 @@
 -- A bench that mounts is not refused.
-use Rattle.std.proofs.Common.{◌≡◌, ℕ, List, Err, Ok, Result, ap}
+use Rattle.std.proofs.Common.{◌≡◌, ◌∙◌, ℕ, List, Bool, Err, Ok, Option, Result, IsTrue, inl, inr, refl, sym, ap, subst}
+use Rattle.disk_model.proofs.ImageLaws.{reads_left}
 use Rattle.hmac_keys.specs.declared.Keys.{Keys}
+use Rattle.hmac_keys.specs.KeyTable.{rpmb_key}
+use Rattle.htree_file.specs.Standing.{Told}
 use Rattle.node_image.specs.declared.node.RootRef.{RootRef}
 use Rattle.rpmb_card.specs.Card.{CardState}
+use Rattle.rpmb_host.specs.Honest.{HasCard}
+use Rattle.dir_records.specs.declared.entry.DirEntry.{DirEntry}
+use Rattle.store_model.specs.Object.{ObjectMap}
+use Rattle.store_model.specs.ReplayState.{ReplayState}
 use Rattle.crash_core.specs.CardBlock.{root_in}
-use Rattle.crash_core.specs.Mounting.{directory_by, mounted_directory}
-use Rattle.crash_core.specs.Pictures.{block_zero}
+use Rattle.crash_core.specs.Mounting.{directory_by, mounted_directory, mounted_entries}
+use Rattle.crash_core.specs.Pictures.{IsPictureOf, Picture, block_zero}
 use Rattle.crash_core.specs.Refusal.{Refusal, CardBlock as BadBlock, NoStore as BlankBlock}
 use Rattle.store_commit.specs.Blocks.{picture_of}
+use Rattle.store_commit.specs.declared.fault.MountFault.{MountFault}
 use Rattle.store_commit.specs.declared.fault.MountFault.TheVariants.{CardBlock, CardResult, Directory, Failed, Frame, NoMemory, NoStore, Spent}
-use Rattle.run_acts.specs.MountingLaws.{MountingBenchesAreNotRefused}
+use Rattle.object_calls.specs.FinishedPhase.{IsMapLeft}
+use Rattle.run_acts.specs.Benches.{BenchState}
+use Rattle.run_acts.specs.Left.{HoldsLeft}
+use Rattle.run_acts.specs.MountedDevices.{IsMountRefused}
+use Rattle.run_acts.specs.MountingLaws.{HeldBenchesAreNotRefused, IsOfDevice, MountingBenchesAreNotRefused}
 
 ok_err : {A B : Type 0} (a : A) (b : B) (r : Result A B) → r ≡ Ok a → r ≡ Err b → ⊥
 ok_err a b (Ok x) is other = cc
@@ -30,3 +42,39 @@ mounting_benches_are_not_refused keys old new drew draws (CardResult result) car
 mounting_benches_are_not_refused keys old new drew draws (Failed cause) card entries m has told is = tt
 mounting_benches_are_not_refused keys old new drew draws Spent card entries m has told is = absurd ((m.refused).refused)
 mounting_benches_are_not_refused keys old new drew draws NoMemory card entries m has told is = tt
+
+-- A picture that mounts has a directory.
+entries_read : (keys : Keys) (images : ℕ → List ℕ) (objects : ObjectMap) (r : Result (List (Option DirEntry)) Refusal) → mounted_entries keys images r ≡ Ok objects
+    → (entries : List (Option DirEntry)) × (r ≡ Ok entries)
+entries_read keys images objects (Ok entries) is = (entries, refl)
+entries_read keys images objects (Err refusal) is = cc
+
+directory_read : (keys : Keys) (picture : Picture) (s : ReplayState) → IsMapLeft keys picture s → (entries : List (Option DirEntry)) × (mounted_directory keys picture ≡ Ok entries)
+directory_read keys picture s (inl is) = entries_read keys picture.images (s.state).objects (mounted_directory keys picture) is
+directory_read keys picture s (inr doubted) = entries_read keys picture.images doubted.0 (mounted_directory keys picture) doubted.2
+
+module _ (keys : Keys) (s : ReplayState) (old new : BenchState) (drew draws : ℕ) (fault : MountFault) (card : CardState)
+    (holds : HoldsLeft keys old s) (m : IsMountRefused keys old new drew draws fault) (has : HasCard old.card (rpmb_key keys.huk) card) (honest : IsTrue (new.files 0).honest) where
+  abbrev as_read : Picture
+  as_read = record { images = λ file. (old.files file).reads; card = card }
+
+  read_picture : IsPictureOf old.files card as_read
+  read_picture = record {
+    left = λ file. reads_left (old.files file) (m.sound file);
+    same = record { key = refl; counter = refl; blocks = refl };
+  }
+
+  told : Told (old.files 0) (new.files 0)
+  told = (
+    subst (λ (t : Bool). IsTrue t) (sym (((m.leaves).keeps).goes_on).tells) ((m.sound 0).told (holds.honest 0)),
+    inl honest,
+  )
+
+  pub held_refusal : IsOfDevice fault
+  held_refusal =
+      let read = directory_read keys as_read s (holds.mounts card as_read has read_picture) in
+      mounting_benches_are_not_refused keys old new drew draws fault card read.0 m has told
+      (ap (λ (image : List ℕ). mounted_directory keys (picture_of image card)) ((m.leaves).reads (inl honest)) ∙ read.1)
+
+pub held_benches_are_not_refused : HeldBenchesAreNotRefused
+held_benches_are_not_refused keys s old new drew draws fault card holds m has honest = held_refusal keys s old new drew draws fault card holds m has honest

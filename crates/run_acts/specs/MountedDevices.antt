@@ -17,6 +17,7 @@ use Rattle.object_calls.specs.Opening.{IsKeyed, OpeningValue, bench_files, entri
 use Rattle.object_calls.specs.MountRefusals.{BenchCounts, BenchHeard}
 use Rattle.object_calls.specs.Syncing.{StopsSyncing, SyncsNamed}
 use Rattle.run_acts.specs.Benches.{BenchState, KeepsObjectFiles}
+use Rattle.run_acts.specs.Between.{AreSound}
 
 module _ {F R : Type 0} (of_file : F → FileState) (of_port : R → PortState) where
   -- The bench was mounted under these keys, as it then stands: the card's block named the directory, which the file has, and each file
@@ -48,6 +49,8 @@ StopsMounting keys old new drew draws fault = IsGateRefused keys old new drew dr
 -- The bench was not mounted, and what is then left of it: `drew` and `draws` count the draws that failed, before and after.
 pub record IsMountRefused (keys : Keys) (old new : BenchState) (drew draws : ℕ) (fault : MountFault) : Type 0 where
   pub refused : StopsMounting keys old new drew draws fault
+  -- what holds of every file
+  pub sound : AreSound old.files
   -- what was heard of the card, whatever it is
   pub heard : BenchHeard (new.files 0) old.card new.card keys fault
   pub counted : BenchCounts (counts (old.files 0) old.card drew) (counts (new.files 0) new.card draws) fault

@@ -3,7 +3,7 @@
 ghost use Rattle.object_calls.specs.declared.bench.Bench.{Bench};
 ghost use Rattle.run_acts.specs.Benches.{bench_state};
 ghost use Rattle.run_acts.specs.Between.{AreSound};
-ghost use Rattle.run_acts.specs.MountingLaws.{MountingBenchesAreNotRefused};
+ghost use Rattle.run_acts.specs.MountingLaws.{HeldBenchesAreNotRefused, MountingBenchesAreNotRefused};
 ghost use Rattle.run_acts.specs.Quiet.{QuietPhasesAreOfMachine};
 ghost use Rattle.run_acts.specs.DeviceLaws.{BlockReadsKeep, CountersAreOfCards, CrashesKeep, CrashesKeepSteady, CrashesMayBe, DisarmedFilesAreSteady, FormedBenchesHoldNone, ListsKeep, ListsShowLeft, MountsOpenWithLeft, NextOpeningsAreLeft, NextPhasesOpenWithLeft, NothingMayBe, PhasesLeave};
 
@@ -102,4 +102,9 @@ pub fn quiet_phases_are_of_machine<F: StoreFile, R: RpmbPort, E: Entropy>(entrop
 #[tactic(auto, using(crate::proofs::NotRefused::mounting_benches_are_not_refused))]
 pub fn mounting_benches_are_not_refused()
     ensures { MountingBenchesAreNotRefused }
+{}
+
+/// Nor is one that holds objects.
+pub fn held_benches_are_not_refused()
+    ensures { HeldBenchesAreNotRefused }
 {}

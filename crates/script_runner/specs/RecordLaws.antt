@@ -1,19 +1,22 @@
 -- What the records of a run tell of the objects.
-use Rattle.std.specs.Prelude.{ℕ, List, [], ◌∷◌, ◌++◌}
+use Rattle.std.specs.Prelude.{ℕ, List, [], ◌∷◌, ◌++◌, IsTrue}
 use Rattle.disk_model.specs.State.{FileState}
 use Rattle.hmac_keys.specs.declared.Keys.{Keys}
 use Rattle.hmac_keys.specs.KeyTable.{rpmb_key}
 use Rattle.rpmb_card.specs.Card.{CardState}
 use Rattle.rpmb_card.specs.Port.{PortState}
-use Rattle.rpmb_host.specs.Honest.{HasCard}
+use Rattle.rpmb_host.specs.Honest.{HadCard, HasCard}
 use Rattle.script_text.specs.declared.script.Arm.{Arm}
 use Rattle.script_text.specs.declared.script.Control.TheVariants.{Arm as ArmControl, Crash, List as ListControl, Mode as ModeControl, Phase}
 use Rattle.store_model.specs.ReplayState.{ReplayState}
 use Rattle.run_acts.specs.FinishedPhase.{AreAllHonest}
 use Rattle.run_acts.specs.Benches.{BenchState}
+use Rattle.run_acts.specs.declared.MountFault.{MountFault}
+use Rattle.run_acts.specs.MountingLaws.{IsOfDevice}
 use Rattle.run_acts.specs.Left.{AreLeft, HoldsLeft, replay_left}
 use Rattle.script_runner.specs.Text.{Act, Do, Listed, Ran, Refused, RunRecord, Serve}
-use Rattle.script_runner.specs.Course.{Goes}
+use Rattle.script_runner.specs.Course.{Goes, RefusesFirst}
+use Rattle.script_runner.specs.Points.{arms_behind}
 
 -- what is left behind these records, where that was left before them: what the last phase left
 abbrev pub left_behind : (applications : List (List ℕ)) → ReplayState → List RunRecord → ReplayState
@@ -51,11 +54,21 @@ module _ {F R : Type 0} (of_file : F → FileState) (of_port : R → PortState) 
   StaysHonest keys applications arms (Do ListControl ∷ acts) (Refused fault ∷ records) old new goes = ⊥
 
   -- Whatever acts were done, each phase and each list found what the records before it leave, whether the power failed between them or not;
-  -- and every picture of the bench mounts to what all of them leave. The bench held that of the beginning, its files were honest behind
-  -- each phase and each list, and the port tells a card with the key.
+  -- every picture of the bench mounts to what all of them leave; and the port tells a card with the key still. The bench held that of the
+  -- beginning, its files were honest behind each phase and each list, and the port told a card with the key.
   abbrev pub RecordsFindLeft : Type 0
   RecordsFindLeft =
       (keys : Keys) (applications : List (List ℕ)) (arms : List Arm) (acts : List Act) (records : List RunRecord) (old new : BenchState) (s : ReplayState) (card : CardState)
       → (goes : Goes of_file of_port image Reliable keys applications arms acts records old new) → StaysHonest keys applications arms acts records old new goes
       → HoldsLeft keys old s → HasCard old.card (rpmb_key keys.huk) card
-      → FindLeft applications s records × HoldsLeft keys new (left_behind applications s records)
+      → FindLeft applications s records × HoldsLeft keys new (left_behind applications s records) × HadCard new.card (rpmb_key keys.huk)
+
+  -- So behind such acts no store is refused: where a phase or a list is not done, a device failed or memory ran out, if the directory's file is
+  -- honest still.
+  abbrev pub RefusalsAreOfDevices : Type 0
+  RefusalsAreOfDevices =
+      (drew draws : ℕ) (keys : Keys) (applications : List (List ℕ)) (arms : List Arm) (acts left : List Act) (records : List RunRecord) (old between new : BenchState) (s : ReplayState) (card : CardState)
+      (fault : MountFault)
+      → (goes : Goes of_file of_port image Reliable keys applications arms acts records old between) → StaysHonest keys applications arms acts records old between goes
+      → HoldsLeft keys old s → HasCard old.card (rpmb_key keys.huk) card
+      → RefusesFirst of_file of_port image Reliable drew draws keys applications (arms_behind arms acts) left between new fault → IsTrue (new.files 0).honest → IsOfDevice fault

@@ -25,7 +25,7 @@ mod top_call;
 pub use card_port::CardPort;
 pub use forms::{Form, form_of, words_have_forms};
 pub use phase_text::{send_control, send_lines, send_phase};
-pub use record_laws::records_find_left;
+pub use record_laws::{records_find_left, refusals_are_of_devices};
 pub use run_acts::{Bench, Shown, ShownObject, card_block, print_object};
 pub use run_state::RunEnd;
 pub use script_source::read_text;
