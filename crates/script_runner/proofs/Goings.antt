@@ -9,7 +9,7 @@ use Rattle.script_text.specs.Script.{ScriptValue}
 use Rattle.script_text.specs.Text.{control_line}
 use Rattle.run_acts.specs.Lines.{objects_text}
 use Rattle.run_acts.specs.Benches.{BenchState}
-use Rattle.script_runner.specs.Text.{Act, Do, Listed, Ran, Refused, RunRecord, Serve, acts_text, phase_text}
+use Rattle.script_runner.specs.Text.{Act, Controlled, Do, Listed, Ran, Refused, RunRecord, Serve, acts_text, phase_text}
 use Rattle.script_runner.specs.Course.{Goes}
 use Rattle.script_runner.specs.Points.{arms_behind, phases_in}
 
@@ -37,14 +37,32 @@ module _ {F R : Type 0} (of_file : F → FileState) (of_port : R → PortState) 
   Goes-append arms (Serve mode calls ∷ done) acts [] more old between new h g = absurd h
   Goes-append arms (Serve mode calls ∷ done) acts (Ran phase ∷ records) more old between new h g = (h.0, h.1, Goes-append [] done acts records more h.0 between new h.2 g)
   Goes-append arms (Serve mode calls ∷ done) acts (Listed objects ∷ records) more old between new h g = absurd h
+  Goes-append arms (Serve mode calls ∷ done) acts (Controlled ∷ records) more old between new h g = absurd h
   Goes-append arms (Serve mode calls ∷ done) acts (Refused fault ∷ records) more old between new h g = absurd h
-  Goes-append arms (Do (ModeControl mode) ∷ done) acts records more old between new h g = Goes-append arms done acts records more old between new h g
-  Goes-append arms (Do Phase ∷ done) acts records more old between new h g = Goes-append arms done acts records more old between new h g
-  Goes-append arms (Do (ArmControl arm) ∷ done) acts records more old between new h g = Goes-append (arms ++ arm ∷ []) done acts records more old between new h g
-  Goes-append arms (Do (Crash seed) ∷ done) acts records more old between new h g = (h.0, h.1, Goes-append arms done acts records more h.0 between new h.2 g)
+  Goes-append arms (Do (ModeControl mode) ∷ done) acts (Controlled ∷ records) more old between new h g = Goes-append arms done acts records more old between new h g
+  Goes-append arms (Do Phase ∷ done) acts (Controlled ∷ records) more old between new h g = Goes-append arms done acts records more old between new h g
+  Goes-append arms (Do (ArmControl arm) ∷ done) acts (Controlled ∷ records) more old between new h g = Goes-append (arms ++ arm ∷ []) done acts records more old between new h g
+  Goes-append arms (Do (Crash seed) ∷ done) acts (Controlled ∷ records) more old between new h g = (h.0, h.1, Goes-append arms done acts records more h.0 between new h.2 g)
+  Goes-append arms (Do (ModeControl mode) ∷ done) acts [] more old between new h g = absurd h
+  Goes-append arms (Do (ModeControl mode) ∷ done) acts (Ran phase ∷ records) more old between new h g = absurd h
+  Goes-append arms (Do (ModeControl mode) ∷ done) acts (Listed objects ∷ records) more old between new h g = absurd h
+  Goes-append arms (Do (ModeControl mode) ∷ done) acts (Refused fault ∷ records) more old between new h g = absurd h
+  Goes-append arms (Do Phase ∷ done) acts [] more old between new h g = absurd h
+  Goes-append arms (Do Phase ∷ done) acts (Ran phase ∷ records) more old between new h g = absurd h
+  Goes-append arms (Do Phase ∷ done) acts (Listed objects ∷ records) more old between new h g = absurd h
+  Goes-append arms (Do Phase ∷ done) acts (Refused fault ∷ records) more old between new h g = absurd h
+  Goes-append arms (Do (ArmControl arm) ∷ done) acts [] more old between new h g = absurd h
+  Goes-append arms (Do (ArmControl arm) ∷ done) acts (Ran phase ∷ records) more old between new h g = absurd h
+  Goes-append arms (Do (ArmControl arm) ∷ done) acts (Listed objects ∷ records) more old between new h g = absurd h
+  Goes-append arms (Do (ArmControl arm) ∷ done) acts (Refused fault ∷ records) more old between new h g = absurd h
+  Goes-append arms (Do (Crash seed) ∷ done) acts [] more old between new h g = absurd h
+  Goes-append arms (Do (Crash seed) ∷ done) acts (Ran phase ∷ records) more old between new h g = absurd h
+  Goes-append arms (Do (Crash seed) ∷ done) acts (Listed objects ∷ records) more old between new h g = absurd h
+  Goes-append arms (Do (Crash seed) ∷ done) acts (Refused fault ∷ records) more old between new h g = absurd h
   Goes-append arms (Do ListControl ∷ done) acts [] more old between new h g = absurd h
   Goes-append arms (Do ListControl ∷ done) acts (Ran phase ∷ records) more old between new h g = absurd h
   Goes-append arms (Do ListControl ∷ done) acts (Listed objects ∷ records) more old between new h g = (h.0, h.1, Goes-append arms done acts records more h.0 between new h.2 g)
+  Goes-append arms (Do ListControl ∷ done) acts (Controlled ∷ records) more old between new h g = absurd h
   Goes-append arms (Do ListControl ∷ done) acts (Refused fault ∷ records) more old between new h g = absurd h
 
   behind : (line front all more : List ℕ) → all ≡ front ++ more → line ++ all ≡ (line ++ front) ++ more
@@ -61,17 +79,35 @@ module _ {F R : Type 0} (of_file : F → FileState) (of_port : R → PortState) 
       behind (phase_text script number mode phase) rest _ _ (acts_text-append script (number + 1) [] done acts records more h.0 between h.2)
       ∙ ap (λ n. (phase_text script number mode phase ++ rest) ++ acts_text script n acts more) next
   acts_text-append script number arms (Serve mode calls ∷ done) acts (Listed objects ∷ records) more old between h = absurd h
+  acts_text-append script number arms (Serve mode calls ∷ done) acts (Controlled ∷ records) more old between h = absurd h
   acts_text-append script number arms (Serve mode calls ∷ done) acts (Refused fault ∷ records) more old between h = absurd h
-  acts_text-append script number arms (Do (ModeControl mode) ∷ done) acts records more old between h =
+  acts_text-append script number arms (Do (ModeControl mode) ∷ done) acts (Controlled ∷ records) more old between h =
       behind (control_line (ModeControl mode)) (acts_text script number done records) _ _ (acts_text-append script number arms done acts records more old between h)
-  acts_text-append script number arms (Do Phase ∷ done) acts records more old between h =
+  acts_text-append script number arms (Do Phase ∷ done) acts (Controlled ∷ records) more old between h =
       behind (control_line Phase) (acts_text script number done records) _ _ (acts_text-append script number arms done acts records more old between h)
-  acts_text-append script number arms (Do (ArmControl arm) ∷ done) acts records more old between h =
+  acts_text-append script number arms (Do (ArmControl arm) ∷ done) acts (Controlled ∷ records) more old between h =
       behind (control_line (ArmControl arm)) (acts_text script number done records) _ _ (acts_text-append script number (arms ++ arm ∷ []) done acts records more old between h)
-  acts_text-append script number arms (Do (Crash seed) ∷ done) acts records more old between h =
+  acts_text-append script number arms (Do (Crash seed) ∷ done) acts (Controlled ∷ records) more old between h =
       behind (control_line (Crash seed)) (acts_text script number done records) _ _ (acts_text-append script number arms done acts records more h.0 between h.2)
+  acts_text-append script number arms (Do (ModeControl mode) ∷ done) acts [] more old between h = absurd h
+  acts_text-append script number arms (Do (ModeControl mode) ∷ done) acts (Ran phase ∷ records) more old between h = absurd h
+  acts_text-append script number arms (Do (ModeControl mode) ∷ done) acts (Listed objects ∷ records) more old between h = absurd h
+  acts_text-append script number arms (Do (ModeControl mode) ∷ done) acts (Refused fault ∷ records) more old between h = absurd h
+  acts_text-append script number arms (Do Phase ∷ done) acts [] more old between h = absurd h
+  acts_text-append script number arms (Do Phase ∷ done) acts (Ran phase ∷ records) more old between h = absurd h
+  acts_text-append script number arms (Do Phase ∷ done) acts (Listed objects ∷ records) more old between h = absurd h
+  acts_text-append script number arms (Do Phase ∷ done) acts (Refused fault ∷ records) more old between h = absurd h
+  acts_text-append script number arms (Do (ArmControl arm) ∷ done) acts [] more old between h = absurd h
+  acts_text-append script number arms (Do (ArmControl arm) ∷ done) acts (Ran phase ∷ records) more old between h = absurd h
+  acts_text-append script number arms (Do (ArmControl arm) ∷ done) acts (Listed objects ∷ records) more old between h = absurd h
+  acts_text-append script number arms (Do (ArmControl arm) ∷ done) acts (Refused fault ∷ records) more old between h = absurd h
+  acts_text-append script number arms (Do (Crash seed) ∷ done) acts [] more old between h = absurd h
+  acts_text-append script number arms (Do (Crash seed) ∷ done) acts (Ran phase ∷ records) more old between h = absurd h
+  acts_text-append script number arms (Do (Crash seed) ∷ done) acts (Listed objects ∷ records) more old between h = absurd h
+  acts_text-append script number arms (Do (Crash seed) ∷ done) acts (Refused fault ∷ records) more old between h = absurd h
   acts_text-append script number arms (Do ListControl ∷ done) acts [] more old between h = absurd h
   acts_text-append script number arms (Do ListControl ∷ done) acts (Ran phase ∷ records) more old between h = absurd h
   acts_text-append script number arms (Do ListControl ∷ done) acts (Listed objects ∷ records) more old between h =
       behind (control_line ListControl ++ objects_text objects) (acts_text script number done records) _ _ (acts_text-append script number arms done acts records more h.0 between h.2)
+  acts_text-append script number arms (Do ListControl ∷ done) acts (Controlled ∷ records) more old between h = absurd h
   acts_text-append script number arms (Do ListControl ∷ done) acts (Refused fault ∷ records) more old between h = absurd h

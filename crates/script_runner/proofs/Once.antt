@@ -20,7 +20,7 @@ use Rattle.script_runner.specs.Sending.{Sends, Stops}
 use Rattle.script_runner.specs.declared.status.Status.TheVariants.{NoMemory}
 use Rattle.script_runner.specs.declared.run_state.Run.{Run}
 use Rattle.script_runner.specs.declared.run_state.RunEnd.{RunEnd}
-use Rattle.script_runner.specs.Text.{Act, Do, Listed, PhaseRecord, Ran, RunRecord, Serve, acts_of, acts_text, mode_behind, phase_text}
+use Rattle.script_runner.specs.Text.{Act, Controlled, Do, Listed, PhaseRecord, Ran, RunRecord, Serve, acts_of, acts_text, mode_behind, phase_text}
 use Rattle.script_runner.specs.Trace.{applications_of}
 use Rattle.script_runner.specs.Course.{Goes, RefusesFirst}
 use Rattle.script_runner.specs.Points.{arms_behind, phases_in, point_of}
@@ -30,8 +30,8 @@ use Rattle.script_runner.specs.Prints.{IsCutOff, IsSent, PrintsRefusal}
 use Rattle.run_acts.specs.Crashes.{CrashesInPart}
 use Rattle.script_runner.proofs.Endings.{EndsFrom-crashed, EndsFrom-no_memory, EndsFrom-refused, EndsFrom-text}
 
--- the text of a control that has no record
-pub control_text : (script : ScriptValue) (number : ℕ) (control : Control) → control ≢ ListControl → acts_text script number (Do control ∷ []) [] ≡ control_line control
+-- the text of a control that is no list
+pub control_text : (script : ScriptValue) (number : ℕ) (control : Control) → control ≢ ListControl → acts_text script number (Do control ∷ []) (Controlled ∷ []) ≡ control_line control
 control_text script number (ModeControl mode) h = append-nil _
 control_text script number Phase h = append-nil _
 control_text script number (ArmControl arm) h = append-nil _

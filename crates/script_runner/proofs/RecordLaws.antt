@@ -21,7 +21,7 @@ use Rattle.run_acts.proofs.PhaseChains.{leaves_held, opens_left, phase_card}
 use Rattle.script_runner.specs.Course.{Goes, RefusesFirst}
 use Rattle.script_runner.specs.Points.{arms_behind}
 use Rattle.script_runner.specs.RecordLaws.{FindLeft, RecordsFindLeft, RefusalsAreOfDevices, StaysHonest, left_behind}
-use Rattle.script_runner.specs.Text.{Act, Do, Listed, Ran, Refused, RunRecord, Serve}
+use Rattle.script_runner.specs.Text.{Act, Controlled, Do, Listed, Ran, Refused, RunRecord, Serve}
 
 module _ {F R : Type 0} (of_file : F → FileState) (of_port : R → PortState) (image : FileState → ℕ → ℕ → List ℕ) (Reliable : Type 0) (keys : Keys) (apps : List (List ℕ)) where
   abbrev Goes' : (arms : List Arm) → List Act → List RunRecord → (old new : BenchState) → Type 0
@@ -50,14 +50,31 @@ module _ {F R : Type 0} (of_file : F → FileState) (of_port : R → PortState) 
       (leaves_held of_file of_port Reliable keys apps arms mode calls old between phase.opening phase.events goes.1 honest.0) told.1 in
       ((opens_left of_file of_port Reliable keys apps arms mode calls old between phase.opening phase.events goes.1 honest.0 s card holds has, rest.0), rest.1, rest.2)
   find_left arms (Serve mode calls ∷ acts) (Listed objects ∷ records) old new s card goes honest holds has = absurd goes
+  find_left arms (Serve mode calls ∷ acts) (Controlled ∷ records) old new s card goes honest holds has = absurd goes
   find_left arms (Serve mode calls ∷ acts) (Refused fault ∷ records) old new s card goes honest holds has = absurd goes
-  find_left arms (Do (ModeControl mode) ∷ acts) records old new s card goes honest holds has = find_left arms acts records old new s card goes honest holds has
-  find_left arms (Do Phase ∷ acts) records old new s card goes honest holds has = find_left arms acts records old new s card goes honest holds has
-  find_left arms (Do (ArmControl arm) ∷ acts) records old new s card goes honest holds has = find_left (arms ++ arm ∷ []) acts records old new s card goes honest holds has
-  find_left arms (Do (Crash seed) ∷ acts) records old new s card goes honest holds has =
+  find_left arms (Do (ModeControl mode) ∷ acts) (Controlled ∷ records) old new s card goes honest holds has = find_left arms acts records old new s card goes honest holds has
+  find_left arms (Do Phase ∷ acts) (Controlled ∷ records) old new s card goes honest holds has = find_left arms acts records old new s card goes honest holds has
+  find_left arms (Do (ArmControl arm) ∷ acts) (Controlled ∷ records) old new s card goes honest holds has = find_left (arms ++ arm ∷ []) acts records old new s card goes honest holds has
+  find_left arms (Do (Crash seed) ∷ acts) (Controlled ∷ records) old new s card goes honest holds has =
       let between = goes.0 in
       find_left arms acts records between new s card goes.2 honest (crashes_keep keys s old between holds (crashes_may_be image seed old between goes.1))
       (card_of between.card old.card key card (ap (λ (p : PortState). p.card) (sym (goes.1).card)) has)
+  find_left arms (Do (ModeControl mode) ∷ acts) [] old new s card goes honest holds has = absurd goes
+  find_left arms (Do (ModeControl mode) ∷ acts) (Ran phase ∷ records) old new s card goes honest holds has = absurd goes
+  find_left arms (Do (ModeControl mode) ∷ acts) (Listed objects ∷ records) old new s card goes honest holds has = absurd goes
+  find_left arms (Do (ModeControl mode) ∷ acts) (Refused fault ∷ records) old new s card goes honest holds has = absurd goes
+  find_left arms (Do Phase ∷ acts) [] old new s card goes honest holds has = absurd goes
+  find_left arms (Do Phase ∷ acts) (Ran phase ∷ records) old new s card goes honest holds has = absurd goes
+  find_left arms (Do Phase ∷ acts) (Listed objects ∷ records) old new s card goes honest holds has = absurd goes
+  find_left arms (Do Phase ∷ acts) (Refused fault ∷ records) old new s card goes honest holds has = absurd goes
+  find_left arms (Do (ArmControl arm) ∷ acts) [] old new s card goes honest holds has = absurd goes
+  find_left arms (Do (ArmControl arm) ∷ acts) (Ran phase ∷ records) old new s card goes honest holds has = absurd goes
+  find_left arms (Do (ArmControl arm) ∷ acts) (Listed objects ∷ records) old new s card goes honest holds has = absurd goes
+  find_left arms (Do (ArmControl arm) ∷ acts) (Refused fault ∷ records) old new s card goes honest holds has = absurd goes
+  find_left arms (Do (Crash seed) ∷ acts) [] old new s card goes honest holds has = absurd goes
+  find_left arms (Do (Crash seed) ∷ acts) (Ran phase ∷ records) old new s card goes honest holds has = absurd goes
+  find_left arms (Do (Crash seed) ∷ acts) (Listed objects ∷ records) old new s card goes honest holds has = absurd goes
+  find_left arms (Do (Crash seed) ∷ acts) (Refused fault ∷ records) old new s card goes honest holds has = absurd goes
   find_left arms (Do ListControl ∷ acts) [] old new s card goes honest holds has = absurd goes
   find_left arms (Do ListControl ∷ acts) (Ran phase ∷ records) old new s card goes honest holds has = absurd goes
   find_left arms (Do ListControl ∷ acts) (Listed objects ∷ records) old new s card goes honest holds has =
@@ -67,6 +84,7 @@ module _ {F R : Type 0} (of_file : F → FileState) (of_port : R → PortState) 
       find_left arms acts records between new s card goes.2 honest.1 (lists_keep of_file of_port keys s old between objects lines card holds goes.1 honest.0 has)
       (card_of between.card old.card key card (sym ((goes.1).keeps).card) has) in
       ((lists_show_left of_file of_port keys s old between objects lines card holds goes.1 (λ file. inl (honest.0 file)) has, rest.0), rest.1, rest.2)
+  find_left arms (Do ListControl ∷ acts) (Controlled ∷ records) old new s card goes honest holds has = absurd goes
   find_left arms (Do ListControl ∷ acts) (Refused fault ∷ records) old new s card goes honest holds has = absurd goes
 
 -- a refusal of a bench that holds objects

@@ -21,7 +21,7 @@ use Rattle.run_acts.specs.ListedBenches.{IsListRefused, ListsBench}
 use Rattle.run_acts.specs.Phases.{RunsPhase}
 use Rattle.script_runner.specs.declared.run_state.Run.{Run}
 use Rattle.script_runner.specs.declared.run_state.RunEnd.{RunEnd}
-use Rattle.script_runner.specs.Text.{Act, Do, Listed, PhaseRecord, Ran, RunRecord, Serve, acts_of, acts_text}
+use Rattle.script_runner.specs.Text.{Act, Controlled, Do, Listed, PhaseRecord, Ran, RunRecord, Serve, acts_of, acts_text}
 use Rattle.script_runner.specs.Trace.{applications_of}
 use Rattle.run_acts.specs.declared.MountFault.{MountFault}
 use Rattle.run_acts.specs.PhaseRefusals.{IsGivenUp}
@@ -42,26 +42,26 @@ module _ {F R : Type 0} (of_file : F → FileState) (of_port : R → PortState) 
   next_place run = record run { at = run.at + 1 }
 
   pub HasDone-mode : (mode : Mode) (run : Run F R) → IsReady script run → IsNext script run (ControlStep (ModeControl mode))
-      → HasDone of_file of_port image Reliable keys script (Do (ModeControl mode)) [] run (next_place (record run { mode = mode }))
+      → HasDone of_file of_port image Reliable keys script (Do (ModeControl mode)) (Controlled ∷ []) run (next_place (record run { mode = mode }))
   HasDone-mode mode run ready next =
-      HasDone-control of_file of_port image Reliable keys script (ModeControl mode) [] run (next_place (record run { mode = mode })) ready next refl refl ready.arms ready.whole refl refl refl refl
+      HasDone-control of_file of_port image Reliable keys script (ModeControl mode) (Controlled ∷ []) run (next_place (record run { mode = mode })) ready next refl refl ready.arms ready.whole refl refl refl refl
 
-  pub HasDone-phase : (run : Run F R) → IsReady script run → IsNext script run (ControlStep Phase) → HasDone of_file of_port image Reliable keys script (Do Phase) [] run (next_place run)
-  HasDone-phase run ready next = HasDone-control of_file of_port image Reliable keys script Phase [] run (next_place run) ready next refl refl ready.arms ready.whole refl refl refl refl
+  pub HasDone-phase : (run : Run F R) → IsReady script run → IsNext script run (ControlStep Phase) → HasDone of_file of_port image Reliable keys script (Do Phase) (Controlled ∷ []) run (next_place run)
+  HasDone-phase run ready next = HasDone-control of_file of_port image Reliable keys script Phase (Controlled ∷ []) run (next_place run) ready next refl refl ready.arms ready.whole refl refl refl refl
 
-  pub HasDone-arm : (arm : Arm) (run waits : Run F R) → IsSound script → IsReady script run → IsNext script run (ControlStep (ArmControl arm)) → waits ≡ record run { arms = waits.arms } → waits.arms.items ≡ run.arms.items ++ arm ∷ [] → HasDone of_file of_port image Reliable keys script (Do (ArmControl arm)) [] run (next_place waits)
+  pub HasDone-arm : (arm : Arm) (run waits : Run F R) → IsSound script → IsReady script run → IsNext script run (ControlStep (ArmControl arm)) → waits ≡ record run { arms = waits.arms } → waits.arms.items ≡ run.arms.items ++ arm ∷ [] → HasDone of_file of_port image Reliable keys script (Do (ArmControl arm)) (Controlled ∷ []) run (next_place waits)
   HasDone-arm arm run waits sound ready next same arms =
       let of_arm : IsArm arm = formed-next script.steps (drop (run.at + 1) script.steps) run.at (ControlStep (ArmControl arm)) sound.formed next in
       let bench = ap (λ (r : Run F R). r.bench) same in
-      HasDone-control of_file of_port image Reliable keys script (ArmControl arm) [] run (next_place waits) ready next
+      HasDone-control of_file of_port image Reliable keys script (ArmControl arm) (Controlled ∷ []) run (next_place waits) ready next
       (ap (bench_state of_file of_port) bench) arms (subst (All IsArm) (sym arms) (All-push IsArm run.arms.items arm ready.arms of_arm))
       (ap (λ b. vec_len b.files) bench ∙ ready.whole) (ap (λ (r : Run F R). r.number) same) (ap (λ (r : Run F R). r.mode) same) (ap (λ (r : Run F R). r.kept.items) same) (ap (λ (r : Run F R). r.at + 1) same)
 
   pub HasDone-crash : (seed : ℕ) (run crashed : Run F R) → IsReady script run → IsNext script run (ControlStep (Crash seed)) → crashed ≡ record run { bench = crashed.bench } → vec_len crashed.bench.files ≡ 273
-      → Crashes image seed (bench_state of_file of_port run.bench) (bench_state of_file of_port crashed.bench) → HasDone of_file of_port image Reliable keys script (Do (Crash seed)) [] run (next_place crashed)
+      → Crashes image seed (bench_state of_file of_port run.bench) (bench_state of_file of_port crashed.bench) → HasDone of_file of_port image Reliable keys script (Do (Crash seed)) (Controlled ∷ []) run (next_place crashed)
   HasDone-crash seed run crashed ready next same whole crashes =
       let arms : crashed.arms.items ≡ run.arms.items = ap (λ (r : Run F R). r.arms.items) same in
-      HasDone-control of_file of_port image Reliable keys script (Crash seed) [] run (next_place crashed) ready next
+      HasDone-control of_file of_port image Reliable keys script (Crash seed) (Controlled ∷ []) run (next_place crashed) ready next
       (bench_state of_file of_port crashed.bench, crashes, refl) arms (subst (All IsArm) (sym arms) ready.arms)
       whole (ap (λ (r : Run F R). r.number) same) (ap (λ (r : Run F R). r.mode) same) (ap (λ (r : Run F R). r.kept.items) same) (ap (λ (r : Run F R). r.at + 1) same)
 

@@ -13,11 +13,11 @@ use Rattle.run_acts.specs.ListedBenches.{IsListRefused, ListsBench}
 use Rattle.run_acts.specs.Phases.{RunsPhase}
 use Rattle.run_acts.specs.PhaseRefusals.{IsGivenUp}
 use Rattle.script_runner.specs.Points.{arms_behind}
-use Rattle.script_runner.specs.Text.{Act, Do, Listed, Ran, RunRecord, Serve}
+use Rattle.script_runner.specs.Text.{Act, Controlled, Do, Listed, Ran, RunRecord, Serve}
 
 -- `image` is what a crash leaves of a file, by the seed and the file's number; `Reliable` says that the generator of the run never fails
 module _ {F R : Type 0} (of_file : F → FileState) (of_port : R → PortState) (image : FileState → ℕ → ℕ → List ℕ) (Reliable : Type 0) where
-  -- The bench goes from the old state to the new one in these acts, of which these are the records. Arms wait for the next phase that is
+  -- The bench goes from the old state to the new one in these acts, of which these are the records, one for each. Arms wait for the next phase that is
   -- run: it is run with them, and none is left.
   abbrev pub Goes : Keys → (applications : List (List ℕ)) → (arms : List Arm) → List Act → List RunRecord → (old new : BenchState) → Type 0
   Goes keys applications arms [] [] old new = new ≡ old
@@ -25,10 +25,10 @@ module _ {F R : Type 0} (of_file : F → FileState) (of_port : R → PortState) 
       (between : BenchState)
       × RunsPhase of_file of_port Reliable keys applications arms mode calls old between phase.opening phase.events
       × Goes keys applications [] acts records between new
-  Goes keys applications arms (Do (ModeControl mode) ∷ acts) records old new = Goes keys applications arms acts records old new
-  Goes keys applications arms (Do Phase ∷ acts) records old new = Goes keys applications arms acts records old new
-  Goes keys applications arms (Do (ArmControl arm) ∷ acts) records old new = Goes keys applications (arms ++ arm ∷ []) acts records old new
-  Goes keys applications arms (Do (Crash seed) ∷ acts) records old new =
+  Goes keys applications arms (Do (ModeControl mode) ∷ acts) (Controlled ∷ records) old new = Goes keys applications arms acts records old new
+  Goes keys applications arms (Do Phase ∷ acts) (Controlled ∷ records) old new = Goes keys applications arms acts records old new
+  Goes keys applications arms (Do (ArmControl arm) ∷ acts) (Controlled ∷ records) old new = Goes keys applications (arms ++ arm ∷ []) acts records old new
+  Goes keys applications arms (Do (Crash seed) ∷ acts) (Controlled ∷ records) old new =
       (between : BenchState) × Crashes image seed old between × Goes keys applications arms acts records between new
   Goes keys applications arms (Do ListControl ∷ acts) (Listed objects ∷ records) old new =
       (between : BenchState) × ListsBench of_file of_port keys old between objects (objects_text objects) × Goes keys applications arms acts records between new

@@ -14,7 +14,7 @@ use Rattle.run_acts.specs.Benches.{BenchState}
 use Rattle.run_acts.specs.declared.MountFault.{MountFault}
 use Rattle.run_acts.specs.MountingLaws.{IsOfDevice}
 use Rattle.run_acts.specs.Left.{AreLeft, HoldsLeft, replay_left}
-use Rattle.script_runner.specs.Text.{Act, Do, Listed, Ran, Refused, RunRecord, Serve}
+use Rattle.script_runner.specs.Text.{Act, Controlled, Do, Listed, Ran, Refused, RunRecord, Serve}
 use Rattle.script_runner.specs.Course.{Goes, RefusesFirst}
 use Rattle.script_runner.specs.Points.{arms_behind}
 
@@ -23,6 +23,7 @@ abbrev pub left_behind : (applications : List (List ℕ)) → ReplayState → Li
 left_behind applications s [] = s
 left_behind applications s (Ran phase ∷ records) = left_behind applications (replay_left phase.opening applications phase.events) records
 left_behind applications s (Listed objects ∷ records) = left_behind applications s records
+left_behind applications s (Controlled ∷ records) = left_behind applications s records
 left_behind applications s (Refused fault ∷ records) = left_behind applications s records
 
 -- each phase opened with objects that the records before it leave, and each list shows such
@@ -30,6 +31,7 @@ abbrev pub FindLeft : (applications : List (List ℕ)) → ReplayState → List 
 FindLeft applications s [] = Unit {0}
 FindLeft applications s (Ran phase ∷ records) = AreLeft s phase.opening × FindLeft applications (replay_left phase.opening applications phase.events) records
 FindLeft applications s (Listed objects ∷ records) = AreLeft s objects × FindLeft applications s records
+FindLeft applications s (Controlled ∷ records) = FindLeft applications s records
 FindLeft applications s (Refused fault ∷ records) = FindLeft applications s records
 
 module _ {F R : Type 0} (of_file : F → FileState) (of_port : R → PortState) (image : FileState → ℕ → ℕ → List ℕ) (Reliable : Type 0) where
@@ -37,21 +39,15 @@ module _ {F R : Type 0} (of_file : F → FileState) (of_port : R → PortState) 
   abbrev pub StaysHonest : (keys : Keys) (applications : List (List ℕ)) (arms : List Arm) (acts : List Act) (records : List RunRecord) (old new : BenchState)
       → Goes of_file of_port image Reliable keys applications arms acts records old new → Type 0
   StaysHonest keys applications arms [] [] old new goes = Unit {0}
-  StaysHonest keys applications arms [] (one ∷ records) old new goes = ⊥
-  StaysHonest keys applications arms (Serve mode calls ∷ acts) [] old new goes = ⊥
   StaysHonest keys applications arms (Serve mode calls ∷ acts) (Ran phase ∷ records) old new goes =
       AreAllHonest (goes.0).files × StaysHonest keys applications [] acts records goes.0 new goes.2
-  StaysHonest keys applications arms (Serve mode calls ∷ acts) (Listed objects ∷ records) old new goes = ⊥
-  StaysHonest keys applications arms (Serve mode calls ∷ acts) (Refused fault ∷ records) old new goes = ⊥
-  StaysHonest keys applications arms (Do (ModeControl mode) ∷ acts) records old new goes = StaysHonest keys applications arms acts records old new goes
-  StaysHonest keys applications arms (Do Phase ∷ acts) records old new goes = StaysHonest keys applications arms acts records old new goes
-  StaysHonest keys applications arms (Do (ArmControl arm) ∷ acts) records old new goes = StaysHonest keys applications (arms ++ arm ∷ []) acts records old new goes
-  StaysHonest keys applications arms (Do (Crash seed) ∷ acts) records old new goes = StaysHonest keys applications arms acts records goes.0 new goes.2
-  StaysHonest keys applications arms (Do ListControl ∷ acts) [] old new goes = ⊥
-  StaysHonest keys applications arms (Do ListControl ∷ acts) (Ran phase ∷ records) old new goes = ⊥
+  StaysHonest keys applications arms (Do (ModeControl mode) ∷ acts) (Controlled ∷ records) old new goes = StaysHonest keys applications arms acts records old new goes
+  StaysHonest keys applications arms (Do Phase ∷ acts) (Controlled ∷ records) old new goes = StaysHonest keys applications arms acts records old new goes
+  StaysHonest keys applications arms (Do (ArmControl arm) ∷ acts) (Controlled ∷ records) old new goes = StaysHonest keys applications (arms ++ arm ∷ []) acts records old new goes
+  StaysHonest keys applications arms (Do (Crash seed) ∷ acts) (Controlled ∷ records) old new goes = StaysHonest keys applications arms acts records goes.0 new goes.2
   StaysHonest keys applications arms (Do ListControl ∷ acts) (Listed objects ∷ records) old new goes =
       AreAllHonest (goes.0).files × StaysHonest keys applications arms acts records goes.0 new goes.2
-  StaysHonest keys applications arms (Do ListControl ∷ acts) (Refused fault ∷ records) old new goes = ⊥
+  StaysHonest keys applications arms acts records old new goes = ⊥
 
   -- Whatever acts were done, each phase and each list found what the records before it leave, whether the power failed between them or not;
   -- every picture of the bench mounts to what all of them leave; and the port tells a card with the key still. The bench held that of the

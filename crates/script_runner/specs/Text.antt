@@ -18,10 +18,12 @@ pub record PhaseRecord : Type 0 where
   pub opening : ObjectMap
   pub events : List Event
 
--- What was recorded: a phase that was run, a list that was done with the objects that it shows, or why a mount was refused.
+-- What was recorded of an act: a phase that was run, a list that was done with the objects that it shows, another control that was done, or
+-- why a mount was refused.
 pub data RunRecord : Type 0 where
   Ran : PhaseRecord → RunRecord
   Listed : ObjectMap → RunRecord
+  Controlled : RunRecord
   Refused : MountFault → RunRecord
 
 abbrev pub phase_text : ScriptValue → ℕ → Mode → PhaseRecord → List ℕ
@@ -52,13 +54,15 @@ acts_of mode steps = acts_from mode [] steps
 -- the text of these acts, the first phase of them with that number; what has no record was not done, nor what stands below it
 abbrev pub acts_text : ScriptValue → ℕ → List Act → List RunRecord → List ℕ
 acts_text script number [] records = []
+acts_text script number (act ∷ acts) [] = []
 acts_text script number (Serve mode calls ∷ acts) (Ran phase ∷ records) = phase_text script number mode phase ++ acts_text script (number + 1) acts records
 acts_text script number (Serve mode calls ∷ acts) (Refused fault ∷ records) = refusal_line fault
 acts_text script number (Serve mode calls ∷ acts) _ = []
 acts_text script number (Do ListControl ∷ acts) (Listed objects ∷ records) = control_line ListControl ++ objects_text objects ++ acts_text script number acts records
 acts_text script number (Do ListControl ∷ acts) (Refused fault ∷ records) = refusal_line fault
 acts_text script number (Do ListControl ∷ acts) _ = []
-acts_text script number (Do control ∷ acts) records = control_line control ++ acts_text script number acts records
+acts_text script number (Do control ∷ acts) (Controlled ∷ records) = control_line control ++ acts_text script number acts records
+acts_text script number (Do control ∷ acts) _ = []
 
 -- the text of a run of the script with these records: its first phases are serial
 abbrev pub script_output : ScriptValue → List RunRecord → List ℕ
