@@ -13,7 +13,7 @@ use Rattle.tee_types.specs.declared.reply.Device.TheVariants.{Dir, File, Card, E
 use Rattle.crash_core.specs.Mounting.{mounted_entries}
 use Rattle.crash_core.specs.Opening.{reads_of}
 use Rattle.crash_core.proofs.Doubles.{below}
-use Rattle.store_commit.specs.Causes.{Counted, counts}
+use Rattle.store_commit.specs.Causes.{Counted, NotDrawn, NotOfCard, counts}
 use Rattle.store_commit.specs.Counts.{NoneRose, RefusalCounts}
 use Rattle.store_commit.specs.Gates.{GateValue, gate_sides}
 use Rattle.store_commit.specs.Holds.{file_held}
@@ -64,6 +64,23 @@ module _ {F : Type 0} (state : F → FileState) (old new : List F) (p0 p1 : Port
   sync_refused (Fault device count) s = sync_device device count s
   sync_refused (OfFrame fault) s = absurd s.failed
   sync_refused (OfResult result) s = absurd s.failed
+
+-- a sync that failed accuses a file
+pub sync_not_card : (old new : ℕ → FileState) (cause : Cause) → StopsSyncing old new cause → NotOfCard cause
+sync_not_card old new (Fault Dir count) s = absurd s.failed
+sync_not_card old new (Fault (File n) count) s = tt
+sync_not_card old new (Fault Card count) s = absurd s.failed
+sync_not_card old new (Fault Entropy count) s = absurd s.failed
+sync_not_card old new (OfFrame fault) s = absurd s.failed
+sync_not_card old new (OfResult result) s = absurd s.failed
+
+pub sync_not_drawn : (old new : ℕ → FileState) (cause : Cause) → StopsSyncing old new cause → NotDrawn cause
+sync_not_drawn old new (Fault Dir count) s = absurd s.failed
+sync_not_drawn old new (Fault (File n) count) s = tt
+sync_not_drawn old new (Fault Card count) s = absurd s.failed
+sync_not_drawn old new (Fault Entropy count) s = absurd s.failed
+sync_not_drawn old new (OfFrame fault) s = absurd s.failed
+sync_not_drawn old new (OfResult result) s = absurd s.failed
 
 -- WHAT WAS HEARD AND COUNTED
 module _ (file : FileState) (p0 p1 : PortState) (keys : Keys) where

@@ -1,8 +1,9 @@
 //! Mounting a store.
 
-ghost use Rattle.std.specs.Prelude.{◌≡◌, [], vec_len, IfErr, IfOk};
+ghost use Rattle.std.specs.Prelude.{◌≡◌, [], vec_len, IfErr, IfOk, IsTrue};
 ghost use Rattle.htree_file.specs.Answers.{FilePassed};
 ghost use Rattle.store_commit.specs.Causes.{counts};
+ghost use Rattle.store_commit.specs.Counts.{RefusalNotDrawn, RefusalNotOfCard};
 ghost use Rattle.store_commit.specs.Gates.{gate_sides};
 ghost use Rattle.store_commit.specs.Mounts.{LeavesDevices, OpensGate};
 ghost use Rattle.object_calls.specs.Begins.{IsWholeOpening, MountsAsRead};
@@ -54,6 +55,10 @@ pub fn mount<F: StoreFile + Drop, R: RpmbPort + Drop, E: Entropy>(
     ensures card_passed { IfOk result (λ o. (R.state o.gate.host.port).faults ≡ (R.state bench.card).faults) }
     ensures counts { IfErr result (λ h. BenchCounts (counts (files_of F.state bench.files.items 0) (R.state bench.card) (E.faults entropy.old))
         (counts (files_of F.state h.bench.files.items 0) (R.state h.bench.card) (E.faults entropy.new)) h.fault) }
+    // A calm port stays so and is not accused, nor a generator that never fails.
+    ensures calm { IsTrue (R.state bench.card).calm → IfOk result (λ o. IsTrue (R.state o.gate.host.port).calm) }
+    ensures calm_err { IsTrue (R.state bench.card).calm → IfErr result (λ h. IsTrue (R.state h.bench.card).calm × RefusalNotOfCard h.fault) }
+    ensures drawn { E.is_reliable entropy.old → IfErr result (λ h. RefusalNotDrawn h.fault) }
     ensures reliable { E.is_reliable entropy.old → E.is_reliable entropy.new }
 {
     let Ok((table, seat)) = HistoryTable::make(alloc) else {

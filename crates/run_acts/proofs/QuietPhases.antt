@@ -1,12 +1,13 @@
 -- A phase on devices that do not fail.
-use Rattle.std.proofs.Common.{◌≡◌, ◌∙◌, ◌<◌, ◌-◌, ◌^◌, ℕ, List, [], length, refl, sym, ap, subst, inl, inr, arith}
+use Rattle.std.proofs.Common.{◌≡◌, ◌∙◌, ◌<◌, ◌-◌, ◌^◌, ◌||◌, ℕ, List, [], Bool, true, false, length, refl, sym, ap, subst, inl, inr, arith}
 use Rattle.std.specs.Prelude.{IsTrue}
 use Rattle.std.proofs.lemmas.List.{length-map}
 use Rattle.disk_model.specs.Faults.{Rose}
 use Rattle.disk_model.specs.State.{FileState}
 use Rattle.hmac_keys.specs.declared.Keys.{Keys}
 use Rattle.hmac_keys.specs.KeyTable.{rpmb_key}
-use Rattle.rpmb_card.specs.Port.{PortState}
+use Rattle.rpmb_card.specs.Arms.{Arms, is_unarmed}
+use Rattle.rpmb_card.specs.Port.{PortState, Sound as SoundPort}
 use Rattle.rpmb_host.specs.Honest.{HadCard}
 use Rattle.tee_types.specs.declared.reply.Device.{Device}
 use Rattle.tee_types.specs.declared.reply.Device.TheVariants.{Card, Dir, Entropy, File}
@@ -23,9 +24,12 @@ use Rattle.object_calls.specs.OpeningArms.{IsOnBench}
 use Rattle.object_calls.specs.FinishedPhase.{AreAllHonest}
 use Rattle.run_acts.specs.Benches.{BenchState, opening_state}
 use Rattle.run_acts.specs.Closing.{faults_on}
+use Rattle.run_acts.specs.Crashes.{Crashes}
+use Rattle.run_acts.specs.ListedBenches.{ListsBench}
 use Rattle.run_acts.specs.Phases.{RunsPhase}
-use Rattle.run_acts.specs.Quiet.{AreOfMachine, IsQuiet, IsQuietFile, QuietPhasesAreOfMachine}
+use Rattle.run_acts.specs.Quiet.{AreOfMachine, IsQuiet, IsQuietFile, QuietPhasesAreOfMachine, QuietPhasesStayQuiet, TellArms}
 use Rattle.run_acts.proofs.Mounted.{mount_goes_on}
+use Rattle.run_acts.proofs.PhaseChains.{phase_card}
 use Rattle.run_acts.proofs.Untold.{Untold, of_machine_all}
 
 not_risen : (n m : ℕ) → m ≡ n → n < 2 ^ 64 - 1 → Rose n m → ⊥
@@ -33,7 +37,7 @@ not_risen n m same below rose = omega (arith, same, below, rose)
 
 module _ {F R : Type 0} (of_file : F → FileState) (of_port : R → PortState) (Reliable : Type 0) (keys : Keys) (applications : List (List ℕ)) (mode : Mode) (calls : List Step) (old new : BenchState)
     (objects : ObjectMap) (events : List Event) (r : RunsPhase of_file of_port Reliable keys applications [] mode calls old new objects events)
-    (was_quiet : IsQuiet keys old) (reliable : Reliable) (honest : AreAllHonest new.files) where
+    (was_quiet : IsQuiet keys old) where
   open r use {closed}
 
   abbrev armed : BenchState
@@ -54,9 +58,7 @@ module _ {F R : Type 0} (of_file : F → FileState) (of_port : R → PortState) 
       }
 
   opened_calm : IsTrue (opened.card).calm
-  opened_calm =
-      let read = (((r.mounts).gate).heard).read in
-      (((read.second).asks).exchanged).stays_calm ((((read.first).asks).exchanged).stays_calm was_quiet.calm)
+  opened_calm = (r.mounts).calm was_quiet.calm
 
   opened_card : HadCard opened.card (rpmb_key keys.huk)
   opened_card = let had = was_quiet.card in (had.0, record { told = (r.keeps).card ∙ (had.1).told; keyed = (had.1).keyed })
@@ -90,25 +92,107 @@ module _ {F R : Type 0} (of_file : F → FileState) (of_port : R → PortState) 
   still Card on = (((((r.serves).closes).devices).card.calm quiet.calm).faults, quiet.faults)
   still Entropy on = absurd on
 
-  untold : Untold (length (s.mounted).applications) events
-  untold = record {
-    counts = λ device on.
-        let same = still device on in
-        Rise-still (faults_on armed device) (counts_of device events) same.1
-        (subst (λ (n : ℕ). Rise (faults_on armed device) n (counts_of device events)) same.0 (((r.serves).closes).counted device on));
-    frames = (((r.serves).closes).card).frames (subst (λ (k : Keys). HadCard armed.card (rpmb_key k.huk)) (sym (r.serves).keys_are) quiet.card);
-    draws = ((r.serves).closes).undrawn reliable;
+  module _ (reliable : Reliable) (honest : AreAllHonest new.files) where
+    untold : Untold (length (s.mounted).applications) events
+    untold = record {
+      counts = λ device on.
+          let same = still device on in
+          Rise-still (faults_on armed device) (counts_of device events) same.1
+          (subst (λ (n : ℕ). Rise (faults_on armed device) n (counts_of device events)) same.0 (((r.serves).closes).counted device on));
+      frames = (((r.serves).closes).card).frames (subst (λ (k : Keys). HadCard armed.card (rpmb_key k.huk)) (sym (r.serves).keys_are) quiet.card);
+      draws = ((r.serves).closes).undrawn reliable;
+    }
+
+    closed_honest : AreAllHonest closed.files
+    closed_honest file = subst (λ (f : FileState). IsTrue f.honest) ((r.disarms).files file) (honest file)
+
+    pub quiet_of_machine : AreOfMachine (opening (phase_of s)) (((r.serves).closes).view).all
+    quiet_of_machine =
+        of_machine_all (length (s.mounted).applications) (opening (phase_of s)) (((r.serves).closes).view).all refl (length-map (s.mounted).applications new_session)
+        (((((r.serves).closes).leaves).honest closed_honest).events_legal) (subst (Untold (length (s.mounted).applications)) ((r.serves).closes).events_are untold)
+        (((r.serves).closes).leaves).tagged
+
+-- A phase of a quiet bench leaves it quiet.
+or_true : (first second : Bool) → IsTrue second → IsTrue (first || second)
+or_true true second is = refl
+or_true false second is = is
+
+module _ {F R : Type 0} (of_file : F → FileState) (of_port : R → PortState) (Reliable : Type 0) (keys : Keys) (applications : List (List ℕ)) (mode : Mode) (calls : List Step) (old new : BenchState)
+    (objects : ObjectMap) (events : List Event) (sound : (port : R) → SoundPort (of_port port)) (tells : TellArms of_port)
+    (r : RunsPhase of_file of_port Reliable keys applications [] mode calls old new objects events) (was_quiet : IsQuiet keys old) where
+  open r use {closed, disarms}
+
+  abbrev before : BenchState
+  before = opening_state of_file of_port (r.serves).armed
+
+  before_quiet : IsQuiet keys before
+  before_quiet = quiet of_file of_port Reliable keys applications mode calls old new objects events r was_quiet
+
+  left_file : (file : ℕ) → file < 273 → IsQuietFile (new.files file)
+  left_file file within =
+      let began = before_quiet.files file within in
+      let same = file_same of_file of_port Reliable keys applications mode calls old new objects events r was_quiet file within in
+      let starved = starved_same of_file of_port Reliable keys applications mode calls old new objects events r was_quiet file in
+      subst IsQuietFile (sym (disarms.files file)) (record {
+        calm = or_true (closed.files file).tells_arms (closed.files file).calm (((((r.serves).closes).devices).files file within).calm began.calm);
+        faults = subst (λ (n : ℕ). n < 2 ^ 64 - 1) (sym same) began.faults;
+        starved = subst (λ (n : ℕ). n < 2 ^ 64 - 1) (sym starved) began.starved;
+      })
+
+  new_tells : IsTrue new.card.tells_arms
+  new_tells = subst (λ (p : PortState). IsTrue p.tells_arms) (sym r.port_is) (tells r.port)
+
+  closed_tells : IsTrue (closed.card).tells_arms
+  closed_tells = subst (λ (t : Bool). IsTrue t) (ap (λ (p : PortState). p.tells_arms) (disarms.card).others) new_tells
+
+  unarmed : IsTrue (is_unarmed new.card.arms)
+  unarmed = subst (λ (a : Arms). IsTrue (is_unarmed a)) (sym ((disarms.card).armed closed_tells)) refl
+
+  left_calm : IsTrue new.card.calm
+  left_calm =
+      subst (λ (p : PortState). IsTrue p.tells_arms → IsTrue (is_unarmed p.arms) → IsTrue p.calm) (sym r.port_is) ((sound r.port).calm) new_tells unarmed
+
+  left_faults : new.card.faults < 2 ^ 64 - 1
+  left_faults =
+      subst (λ (n : ℕ). n < 2 ^ 64 - 1) (sym (ap (λ (p : PortState). p.faults) (disarms.card).others ∙ ((((r.serves).closes).devices).card.calm before_quiet.calm).faults)) before_quiet.faults
+
+  pub left_quiet : IsQuiet keys new
+  left_quiet = record {
+    files = left_file;
+    calm = left_calm;
+    faults = left_faults;
+    card = phase_card of_file of_port Reliable keys applications [] mode calls old new objects events r (was_quiet.card).0 (was_quiet.card).1;
   }
-
-  closed_honest : AreAllHonest closed.files
-  closed_honest file = subst (λ (f : FileState). IsTrue f.honest) ((r.disarms).files file) (honest file)
-
-  pub quiet_of_machine : AreOfMachine (opening (phase_of s)) (((r.serves).closes).view).all
-  quiet_of_machine =
-      of_machine_all (length (s.mounted).applications) (opening (phase_of s)) (((r.serves).closes).view).all refl (length-map (s.mounted).applications new_session)
-      (((((r.serves).closes).leaves).honest closed_honest).events_legal) (subst (Untold (length (s.mounted).applications)) ((r.serves).closes).events_are untold)
-      (((r.serves).closes).leaves).tagged
 
 pub quiet_phases_are_of_machine : {F R : Type 0} (of_file : F → FileState) (of_port : R → PortState) (Reliable : Type 0) → QuietPhasesAreOfMachine of_file of_port Reliable
 quiet_phases_are_of_machine of_file of_port Reliable keys applications mode calls old new objects events r quiet reliable honest =
     quiet_of_machine of_file of_port Reliable keys applications mode calls old new objects events r quiet reliable honest
+
+pub quiet_phases_stay_quiet : {F R : Type 0} (of_file : F → FileState) (of_port : R → PortState) (Reliable : Type 0) → ((port : R) → SoundPort (of_port port)) → QuietPhasesStayQuiet of_file of_port Reliable
+quiet_phases_stay_quiet of_file of_port Reliable sound keys applications mode calls old new objects events tells r quiet =
+    left_quiet of_file of_port Reliable keys applications mode calls old new objects events sound tells r quiet
+
+-- SO DOES A LIST, AND A CRASH
+pub quiet_list : {F R : Type 0} (of_file : F → FileState) (of_port : R → PortState) (keys : Keys) (old new : BenchState) (objects : ObjectMap) (lines : List ℕ)
+    → ListsBench of_file of_port keys old new objects lines → IsQuiet keys old → IsQuiet keys new
+quiet_list of_file of_port keys old new objects lines l quiet = record {
+  files = λ file within.
+      let was = quiet.files file within in record {
+        calm = ((((l.keeps).files file).keeps).goes_on).calm was.calm;
+        faults = subst (λ (n : ℕ). n < 2 ^ 64 - 1) (sym ((l.passed).files file).faults) was.faults;
+        starved = subst (λ (n : ℕ). n < 2 ^ 64 - 1) (sym ((l.passed).files file).starved) was.starved;
+      };
+  calm = subst (λ (p : PortState). IsTrue p.calm) (sym l.card) ((l.mounts).calm quiet.calm);
+  faults = subst (λ (n : ℕ). n < 2 ^ 64 - 1) (sym (l.passed).card) quiet.faults;
+  card = let had = quiet.card in (had.0, record { told = (l.keeps).card ∙ (had.1).told; keyed = (had.1).keyed });
+}
+
+pub quiet_crash : (image : FileState → ℕ → ℕ → List ℕ) (seed : ℕ) (keys : Keys) (old new : BenchState) → Crashes image seed old new → IsQuiet keys old → IsQuiet keys new
+quiet_crash image seed keys old new crashes quiet = record {
+  files = λ file within.
+      let was = quiet.files file within in
+      subst IsQuietFile (sym ((crashes.files).each file within)) (record { calm = was.calm; faults = was.faults; starved = was.starved });
+  calm = subst (λ (p : PortState). IsTrue p.calm) (sym crashes.card) quiet.calm;
+  faults = subst (λ (p : PortState). p.faults < 2 ^ 64 - 1) (sym crashes.card) quiet.faults;
+  card = subst (λ (p : PortState). HadCard p (rpmb_key keys.huk)) (sym crashes.card) quiet.card;
+}

@@ -1,5 +1,5 @@
 -- A bench that was mounted, and one that was not.
-use Rattle.std.specs.Prelude.{ℕ}
+use Rattle.std.specs.Prelude.{ℕ, IsTrue}
 use Rattle.disk_model.specs.State.{FileState}
 use Rattle.hmac_keys.specs.declared.Keys.{Keys}
 use Rattle.rpmb_card.specs.Port.{PortState}
@@ -10,6 +10,7 @@ use Rattle.tee_types.specs.declared.reply.Device.TheVariants.{File}
 use Rattle.store_commit.specs.declared.fault.MountFault.{MountFault}
 use Rattle.store_commit.specs.declared.fault.MountFault.TheVariants.{Failed}
 use Rattle.store_commit.specs.Causes.{counts}
+use Rattle.store_commit.specs.Counts.{RefusalNotOfCard}
 use Rattle.store_commit.specs.Gates.{gate_sides}
 use Rattle.store_commit.specs.Mounts.{LeavesDevices, MountDiffers, MountRefused, OpensGate}
 use Rattle.object_calls.specs.Begins.{IsWholeOpening, MountsAsRead}
@@ -26,6 +27,8 @@ module _ {F R : Type 0} (of_file : F → FileState) (of_port : R → PortState) 
     pub gate : OpensGate (old.files 0) old.card keys (gate_sides of_file of_port o.gate)
     pub files : SyncsNamed (entries_in o) 256 old.files (bench_files of_file o)
     pub keyed : IsKeyed keys o
+    -- a calm port stays so
+    pub calm : IsTrue old.card.calm → IsTrue (of_port o.gate.host.port).calm
     -- where the directory's file can be followed, its objects are those that the bench mounts to as its files read
     pub mounted : MountsAsRead of_file (old.files 0) old.card keys o
     -- every picture that a crash may leave mounts to them
@@ -55,3 +58,5 @@ pub record IsMountRefused (keys : Keys) (old new : BenchState) (drew draws : ℕ
   pub heard : BenchHeard (new.files 0) old.card new.card keys fault
   pub counted : BenchCounts (counts (old.files 0) old.card drew) (counts (new.files 0) new.card draws) fault
   pub leaves : LeavesDevices (old.files 0) (new.files 0) old.card new.card
+  -- a calm port stays so, and is not accused
+  pub calm : IsTrue old.card.calm → IsTrue new.card.calm × RefusalNotOfCard fault

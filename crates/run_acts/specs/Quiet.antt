@@ -12,6 +12,7 @@ use Rattle.store_model.specs.Object.{ObjectMap}
 use Rattle.store_model.specs.Record.{Record, file_of}
 use Rattle.store_model.specs.ReplayState.{ReplayState, opening, replay_after}
 use Rattle.core_laws.specs.Stores.{phase_of}
+use Rattle.script_text.specs.declared.script.Arm.{Arm}
 use Rattle.script_text.specs.declared.script.Mode.{Mode}
 use Rattle.script_text.specs.declared.script.Step.{Step}
 use Rattle.object_calls.specs.FinishedPhase.{AreAllHonest}
@@ -31,6 +32,10 @@ pub record IsQuiet (keys : Keys) (bench : BenchState) : Type 0 where
   pub faults : bench.card.faults < 2 ^ 64 - 1
   pub card : HadCard bench.card (rpmb_key keys.huk)
 
+-- every port of the kind tells which faults are armed
+abbrev pub TellArms : {R : Type 0} → (R → PortState) → Type 0
+TellArms {R} of_port = (port : R) → IsTrue (of_port port).tells_arms
+
 -- The event is that of a call, which has the machine's reply where the replay stands; or a commit was due, and the card's counter is at its
 -- end.
 abbrev pub IsOfMachine : ReplayState → Event → Type 0
@@ -42,9 +47,21 @@ abbrev pub AreOfMachine : {Root : Type 0} → ReplayState → List (Record Root)
 AreOfMachine s [] = Unit {0}
 AreOfMachine s (r ∷ records) = IsOfMachine s r.event × AreOfMachine (replay_after s r.event (file_of r)) records
 
--- A phase of a quiet bench for which nothing is armed, whose generator never fails, and that leaves every file honest: each call is answered
--- as the machine does, but for commits where the counter is at its end.
-abbrev pub QuietPhasesAreOfMachine : {F R : Type 0} → (F → FileState) → (R → PortState) → (Reliable : Type 0) → Type 0
-QuietPhasesAreOfMachine {F} {R} of_file of_port Reliable =
-    (keys : Keys) (applications : List (List ℕ)) (mode : Mode) (calls : List Step) (old new : BenchState) (objects : ObjectMap) (events : List Event)
-    → (r : RunsPhase of_file of_port Reliable keys applications [] mode calls old new objects events) → IsQuiet keys old → Reliable → AreAllHonest new.files → AreOfMachine (opening (phase_of (r.serves).store)) (((r.serves).closes).view).all
+module _ {F R : Type 0} (of_file : F → FileState) (of_port : R → PortState) (Reliable : Type 0) where
+  -- the machine answers each call of the phase, but for commits where the counter is at its end
+  abbrev pub IsOfMachineAll : (keys : Keys) (applications : List (List ℕ)) (arms : List Arm) (mode : Mode) (calls : List Step) (old new : BenchState) (objects : ObjectMap) (events : List Event)
+      → RunsPhase of_file of_port Reliable keys applications arms mode calls old new objects events → Type 0
+  IsOfMachineAll keys applications arms mode calls old new objects events r = AreOfMachine (opening (phase_of (r.serves).store)) (((r.serves).closes).view).all
+
+  -- A phase of a quiet bench for which nothing is armed, whose generator never fails, and that leaves every file honest: it is the machine's.
+  abbrev pub QuietPhasesAreOfMachine : Type 0
+  QuietPhasesAreOfMachine =
+      (keys : Keys) (applications : List (List ℕ)) (mode : Mode) (calls : List Step) (old new : BenchState) (objects : ObjectMap) (events : List Event)
+      → (r : RunsPhase of_file of_port Reliable keys applications [] mode calls old new objects events) → IsQuiet keys old → Reliable → AreAllHonest new.files
+      → IsOfMachineAll keys applications [] mode calls old new objects events r
+
+  -- It leaves the bench quiet, where ports of its kind tell which faults are armed.
+  abbrev pub QuietPhasesStayQuiet : Type 0
+  QuietPhasesStayQuiet =
+      (keys : Keys) (applications : List (List ℕ)) (mode : Mode) (calls : List Step) (old new : BenchState) (objects : ObjectMap) (events : List Event)
+      → TellArms of_port → RunsPhase of_file of_port Reliable keys applications [] mode calls old new objects events → IsQuiet keys old → IsQuiet keys new

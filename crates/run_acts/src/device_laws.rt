@@ -4,7 +4,7 @@ ghost use Rattle.object_calls.specs.declared.bench.Bench.{Bench};
 ghost use Rattle.run_acts.specs.Benches.{bench_state};
 ghost use Rattle.run_acts.specs.Between.{AreSound};
 ghost use Rattle.run_acts.specs.MountingLaws.{HeldBenchesAreNotRefused, MountingBenchesAreNotRefused};
-ghost use Rattle.run_acts.specs.Quiet.{QuietPhasesAreOfMachine};
+ghost use Rattle.run_acts.specs.Quiet.{QuietPhasesAreOfMachine, QuietPhasesStayQuiet};
 ghost use Rattle.run_acts.specs.DeviceLaws.{BlockReadsKeep, CountersAreOfCards, CrashesKeep, CrashesKeepSteady, CrashesMayBe, DisarmedFilesAreSteady, FormedBenchesHoldNone, ListsKeep, ListsShowLeft, MountsOpenWithLeft, NextOpeningsAreLeft, NextPhasesOpenWithLeft, NothingMayBe, PhasesLeave};
 
 use object_calls::Bench;
@@ -96,6 +96,11 @@ pub fn lists_keep<F: StoreFile, R: RpmbPort>()
 /// A phase on devices that do not fail, for which nothing is armed: the machine answers each of its calls.
 pub fn quiet_phases_are_of_machine<F: StoreFile, R: RpmbPort, E: Entropy>(entropy: &E)
     ensures { QuietPhasesAreOfMachine F.state R.state (E.is_reliable entropy.now) }
+{}
+
+/// Such a phase leaves the bench quiet.
+pub fn quiet_phases_stay_quiet<F: StoreFile, R: RpmbPort, E: Entropy>(entropy: &E)
+    ensures { QuietPhasesStayQuiet F.state R.state (E.is_reliable entropy.now) }
 {}
 
 /// A bench that mounts is not refused.

@@ -11,3 +11,4 @@ pub mod Wholes
 pub mod Soaks
 pub mod Sent
 pub mod RecordLaws
+pub mod QuietRuns

@@ -112,37 +112,37 @@ IsExact-cause w t NoMemory h = record {
 
 -- a source that tells its bytes and has ended gave them all
 all_taken : (left_old left_new : Option (List ℕ)) (taken bytes : List ℕ) → TakesFirst left_old left_new taken → ((rest : List ℕ) → left_new ≡ Some rest → rest ≡ []) → left_old ≡ Some bytes → taken ≡ bytes
-all_taken left_old None taken bytes takes ends printed = let e : ◌≡◌ {A = Option (List ℕ)} (Some bytes) None = sym printed ∙ takes in absurd cc
-all_taken left_old (Some rest) taken bytes takes ends printed =
-    let whole : ◌≡◌ {A = Option (List ℕ)} (Some bytes) (Some (taken ++ rest)) = sym printed ∙ takes in
+all_taken left_old None taken bytes takes ends told = let e : ◌≡◌ {A = Option (List ℕ)} (Some bytes) None = sym told ∙ takes in absurd cc
+all_taken left_old (Some rest) taken bytes takes ends told =
+    let whole : ◌≡◌ {A = Option (List ℕ)} (Some bytes) (Some (taken ++ rest)) = sym told ∙ takes in
     let same : bytes ≡ taken ++ rest = cc in
     sym (same ∙ ap (λ t. taken ++ t) (ends rest refl) ∙ append-nil taken)
 
 -- a source that tells its bytes gave no more than it has
 taken-le : (left_old left_new : Option (List ℕ)) (taken bytes : List ℕ) → TakesFirst left_old left_new taken → left_old ≡ Some bytes → length taken ≤ length bytes
-taken-le left_old None taken bytes takes printed = let e : ◌≡◌ {A = Option (List ℕ)} (Some bytes) None = sym printed ∙ takes in absurd cc
-taken-le left_old (Some rest) taken bytes takes printed =
-    let whole : ◌≡◌ {A = Option (List ℕ)} (Some bytes) (Some (taken ++ rest)) = sym printed ∙ takes in
+taken-le left_old None taken bytes takes told = let e : ◌≡◌ {A = Option (List ℕ)} (Some bytes) None = sym told ∙ takes in absurd cc
+taken-le left_old (Some rest) taken bytes takes told =
+    let whole : ◌≡◌ {A = Option (List ℕ)} (Some bytes) (Some (taken ++ rest)) = sym told ∙ takes in
     let same : bytes ≡ taken ++ rest = cc in
     omega (arith, ap length same, length-append taken rest)
 
 -- what a run needs to end well
 pub completed : (left_old left_new held_old held_new : Option (List ℕ)) (w : World) (status : Status) (t : Trace) (bytes : List ℕ) (script : ScriptValue) → IsRun left_old left_new held_old held_new w status t → (w.source_ended → (rest : List ℕ) → left_new ≡ Some rest → rest ≡ []) → left_old ≡ Some bytes → length bytes ≤ 16777216 → script_of bytes ≡ Ok script → ¬ w.source_failed → ¬ w.sink_failed → ¬ w.sink_full → RunsItsScript status
-completed left_old left_new held_old held_new w Done t bytes script run ends printed short is source sink room = tt
-completed left_old left_new held_old held_new w Usage t bytes script run ends printed short is source sink room = absurd run.cause
-completed left_old left_new held_old held_new w (BadLine line) t bytes script run ends printed short is source sink room =
-    let same = all_taken left_old left_new t.taken bytes run.trace.taken (ends run.cause.0.0) printed in
+completed left_old left_new held_old held_new w Done t bytes script run ends told short is source sink room = tt
+completed left_old left_new held_old held_new w Usage t bytes script run ends told short is source sink room = absurd run.cause
+completed left_old left_new held_old held_new w (BadLine line) t bytes script run ends told short is source sink room =
+    let same = all_taken left_old left_new t.taken bytes run.trace.taken (ends run.cause.0.0) told in
     absurd (done_script t script (BadLineFault line) (ap script_of same ∙ is) run.cause.1)
-completed left_old left_new held_old held_new w ReadFault t bytes script run ends printed short is source sink room = absurd (source run.cause.0)
-completed left_old left_new held_old held_new w WriteFault t bytes script run ends printed short is source sink room = absurd (⊎_elim sink room run.cause.2)
-completed left_old left_new held_old held_new w (TooLong Bytes) t bytes script run ends printed short is source sink room =
-    absurd (omega (arith, run.cause.0, taken-le left_old left_new t.taken bytes run.trace.taken printed))
-completed left_old left_new held_old held_new w (TooLong (Apps n)) t bytes script run ends printed short is source sink room =
-    let same = all_taken left_old left_new t.taken bytes run.trace.taken (ends run.cause.0.0) printed in
+completed left_old left_new held_old held_new w ReadFault t bytes script run ends told short is source sink room = absurd (source run.cause.0)
+completed left_old left_new held_old held_new w WriteFault t bytes script run ends told short is source sink room = absurd (⊎_elim sink room run.cause.2)
+completed left_old left_new held_old held_new w (TooLong Bytes) t bytes script run ends told short is source sink room =
+    absurd (omega (arith, run.cause.0, taken-le left_old left_new t.taken bytes run.trace.taken told))
+completed left_old left_new held_old held_new w (TooLong (Apps n)) t bytes script run ends told short is source sink room =
+    let same = all_taken left_old left_new t.taken bytes run.trace.taken (ends run.cause.0.0) told in
     absurd (done_script t script (TooManyApps n) (ap script_of same ∙ is) run.cause.1)
-completed left_old left_new held_old held_new w (MountRefused fault) t bytes script run ends printed short is source sink room = tt
-completed left_old left_new held_old held_new w (DeviceFault fault) t bytes script run ends printed short is source sink room = tt
-completed left_old left_new held_old held_new w NoMemory t bytes script run ends printed short is source sink room = tt
+completed left_old left_new held_old held_new w (MountRefused fault) t bytes script run ends told short is source sink room = tt
+completed left_old left_new held_old held_new w (DeviceFault fault) t bytes script run ends told short is source sink room = tt
+completed left_old left_new held_old held_new w NoMemory t bytes script run ends told short is source sink room = tt
 
 pub IsTraceOf-silent : (left_old left_new held : Option (List ℕ)) (taken : List ℕ) → TakesFirst left_old left_new taken → length taken ≤ 16777217 → IsTraceOf left_old left_new held held (silent taken)
 IsTraceOf-silent left_old left_new held taken takes short = record { taken = takes; bounded = short; put = Appends-none held; text = inl (silent_is taken) }

@@ -3,6 +3,7 @@ pub mod RunRefusals
 pub mod Trace
 pub mod Course
 pub mod RecordLaws
+pub mod QuietLaws
 pub mod Ending
 pub mod RunCauses
 pub mod Forms

@@ -1,5 +1,6 @@
 //! Laws of runs. Each function does nothing: its contract is the law.
 
+ghost use Rattle.script_runner.specs.QuietLaws.{QuietRunsAreOfMachine};
 ghost use Rattle.script_runner.specs.RecordLaws.{RecordsFindLeft, RefusalsAreOfDevices};
 
 use rpmb_card::RpmbPort;
@@ -14,4 +15,9 @@ pub fn records_find_left<F: FileRig, R: RpmbPort, E: Entropy>(entropy: &E)
 /// Behind such acts no store is refused: what is not done has met a device that failed, or want of memory.
 pub fn refusals_are_of_devices<F: FileRig, R: RpmbPort, E: Entropy>(entropy: &E)
     ensures { RefusalsAreOfDevices F.state R.state F.crash_image (E.is_reliable entropy.now) }
+{}
+
+/// On devices that do not fail, each phase of acts that arm nothing is the machine's.
+pub fn quiet_runs_are_of_machine<F: FileRig, R: RpmbPort, E: Entropy>(entropy: &E)
+    ensures { QuietRunsAreOfMachine F.state R.state F.crash_image (E.is_reliable entropy.now) }
 {}

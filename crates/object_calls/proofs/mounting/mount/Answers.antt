@@ -1,4 +1,4 @@
-use Rattle.std.proofs.Common.{◌≡◌, ◌∙◌, [], ◌∷◌, List, length, inl, refl, sym, ap, subst}
+use Rattle.std.proofs.Common.{◌≡◌, ◌∙◌, [], ◌∷◌, List, length, IsTrue, inl, refl, sym, ap, subst}
 use Rattle.hmac_keys.specs.KeyTable.{rpmb_key}
 use Rattle.store_commit.specs.Causes.{counts}
 use Rattle.store_commit.specs.Mounts.{HasRootRead}
@@ -9,7 +9,7 @@ use Rattle.object_calls.specs.Opening.{IsOpening, OpeningValue, bench_files, ent
 use Rattle.object_calls.specs.Syncing.{StopsSyncing, SyncsNamed}
 use Rattle.object_calls.proofs.EntriesOf.{file_from_one}
 use Rattle.object_calls.proofs.Files.{refilled}
-use Rattle.object_calls.proofs.Mounts.{mounted_of, none_rose_at, opening_of, sync_counts, sync_heard, sync_refused, whole_of}
+use Rattle.object_calls.proofs.Mounts.{mounted_of, none_rose_at, opening_of, sync_counts, sync_heard, sync_not_card, sync_not_drawn, sync_refused, whole_of}
 use Rattle.object_calls.proofs.Syncs.{stops_bench, syncs_bench}
 use Rattle.object_calls.proofs.mounting.mount.Goals as goal
 
@@ -139,3 +139,21 @@ returns-in-Err-sync_named-clause-counts g c =
     sync_counts (counts (files_of state first 0) p0 drew) (counts (files_of state left 0) p1 draws) (object_files state c.deref_mut.result.now)
     (object_files state c.sync_named.new.files) c.in-Err-sync_named.cause c.in-Err-sync_named.ensures
     (none_rose_at (files_of state first 0) (files_of state left 0) (state took.0) (state gate.dir.file) p0 p1 (port gate.host.port) drew draws was now (ap port card_is) c.in-Ok-mount.ensures.passed)
+
+pub returns-in-Ok-sync_named-clause-calm : goal.returns-in-Ok-sync_named-clause-calm
+returns-in-Ok-sync_named-clause-calm g c = λ calm.
+    subst (λ (o : OpeningValue g.row.F.Denot g.row.R.Denot). IsTrue (g.R.RpmbPort.state o.gate.host.port).calm) (sym c.new.ensures) (c.in-Ok-mount.ensures.calm calm)
+
+pub returns-in-Err-sync_named-clause-calm_err : goal.returns-in-Err-sync_named-clause-calm_err
+returns-in-Err-sync_named-clause-calm_err g c = λ calm.
+    let state = g.F.StoreFile.state in
+    let port = g.R.RpmbPort.state in
+    let card_is : c.close-dir.result.1 ≡ c.in-Ok-mount.gate.host.port = ap (λ p. p.1) c.close-dir.ensures.gives in (
+      subst (λ (r : g.row.R.Denot). IsTrue (port r).calm) (sym card_is) (c.in-Ok-mount.ensures.calm calm),
+      sync_not_card (object_files state c.deref_mut.result.now) (object_files state c.sync_named.new.files) c.in-Err-sync_named.cause c.in-Err-sync_named.ensures,
+    )
+
+pub returns-in-Err-sync_named-clause-drawn : goal.returns-in-Err-sync_named-clause-drawn
+returns-in-Err-sync_named-clause-drawn g c = λ reliable.
+    let state = g.F.StoreFile.state in
+    sync_not_drawn (object_files state c.deref_mut.result.now) (object_files state c.sync_named.new.files) c.in-Err-sync_named.cause c.in-Err-sync_named.ensures

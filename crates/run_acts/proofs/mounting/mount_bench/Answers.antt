@@ -11,6 +11,7 @@ returns-in-Ok-clause-mounts g c = record {
   keyed = c.in-Ok.ensures.keyed;
   mounted = c.in-Ok.ensures.mounted;
   opens = c.in-Ok.ensures.opens;
+  calm = c.in-Ok.ensures.calm;
 }
 
 pub returns-in-Ok-clause-keeps : goal.returns-in-Ok-clause-keeps
@@ -34,6 +35,7 @@ returns-in-Err-clause-refused g c = record {
   heard = c.in-Err.ensures.heard;
   counted = c.in-Err.ensures.counts;
   leaves = c.in-Err.ensures.leaves;
+  calm = c.in-Err.ensures.calm_err;
 }
 
 pub returns-in-Err-clause-keeps_err : goal.returns-in-Err-clause-keeps_err

@@ -40,6 +40,8 @@ returns-in-Ok-serve_opened-clause-runs g c =
         disarms = c.disarm_bench.ensures.disarms;
         with_memory = fed_disarmed (bench_state of_file of_port c.args.bench) (bench_state of_file of_port closed.bench) (bench_state of_file of_port c.disarm_bench.result) with_memory
             c.disarm_bench.ensures.disarms;
+        port = c.disarm_bench.result.card;
+        port_is = refl;
       },
     )
 
