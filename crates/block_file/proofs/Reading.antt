@@ -21,7 +21,7 @@ use Rattle.page_bytes.proofs.Laying.{byte-put}
 use Rattle.page_bytes.proofs.Content.{get_or-bytes_from, length-bytes_from, not-meets-before, not-meets-behind}
 use Rattle.htree_file.specs.declared.fault.TreeFault.{TreeFault}
 use Rattle.htree_file.specs.declared.fault.TreeFault.TheVariants.{BadHead, BadTag, Damaged, Failed, NoEntropy, NoMemory, Short}
-use Rattle.block_file.specs.Reads.{AreBytes, BlocksAnswer, IsBad, IsPage, WasRead, after_calls, blocks_of}
+use Rattle.block_file.specs.Reads.{AreReadBytes, BlocksAnswer, IsBad, IsPage, WasRead, after_calls, blocks_of}
 use Rattle.block_file.specs.Parts.{AreRead, IsGiven, KeepsBehind, PageAnswer, PartAnswer}
 
 -- what is told and followed to the end is so up to a point between
@@ -177,7 +177,7 @@ meets_place : (at count i : ℕ) → i < count → meets at (at + count) ((at + 
 meets_place at count i lt = grind (arith, lt)
 
 -- a byte of a file that is followed
-pub byte_stands : (key : List ℕ) (tree : Loaded) (old new : FileState) (at : ℕ) (bytes : List ℕ) (count : ℕ) → Told old new → AreBytes key tree old new at bytes count
+pub byte_stands : (key : List ℕ) (tree : Loaded) (old new : FileState) (at : ℕ) (bytes : List ℕ) (count : ℕ) → Told old new → AreReadBytes key tree old new at bytes count
     → (i : ℕ) → i < count → get_or bytes i 0 ≡ byte_at (page_in old.reads key tree) (at + i)
 byte_stands key tree old new at bytes count told read i lt =
     let k : ℕ = (at + i) / 4096 in
@@ -193,7 +193,7 @@ before_end r k met = elim (cases_lt k (end_block r)) [
 
 -- once all blocks of a read's range were read, so were its bytes
 pub all_read : (key : List ℕ) (tree : Loaded) (a b : FileState) (r : ByteRange) (size at count k : ℕ) (into : List ℕ) → r ≡ read_range size at count → end_block r ≤ k
-    → AreRead key tree a b r k into → AreBytes key tree a b at into (r.last - r.first)
+    → AreRead key tree a b r k into → AreReadBytes key tree a b at into (r.last - r.first)
 all_read key tree a b r size at count k into is ends read = record {
   pages = read.pages;
   read = λ j met. let there = in_range j met in read.read j (omega (arith, before_end r j there, ends)) there;

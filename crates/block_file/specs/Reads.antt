@@ -6,7 +6,7 @@ use Rattle.node_image.specs.Tables.{at_node}
 use Rattle.htree_file.specs.declared.fault.TreeFault.{TreeFault}
 use Rattle.htree_file.specs.declared.fault.TreeFault.TheVariants.{BadTag, Failed, NoEntropy, NoMemory}
 use Rattle.htree_file.specs.Opening.{Loaded}
-use Rattle.htree_file.specs.Pages.{block_in, page_of, tag_of}
+use Rattle.htree_file.specs.Pages.{block_in, is_block, page_of, tag_of}
 use Rattle.htree_file.specs.Standing.{Told}
 use Rattle.page_bytes.specs.declared.range.ByteRange.{ByteRange}
 use Rattle.page_bytes.specs.Ranges.{end_block, first_block, meets}
@@ -22,10 +22,11 @@ pub record IsPage (key : List ℕ) (tree : Loaded) (old new : FileState) (k : �
 abbrev pub WasRead : (key : List ℕ) → Loaded → (old new : FileState) → (k : ℕ) → Type 0
 WasRead key tree old new k = (page : List ℕ) × IsPage key tree old new k page
 
--- Block k was found bad: what stands there, as the file reads now, has another tag than its node, and these are the two.
+-- Block k was found bad: the block that stands there, as the file reads now, has another tag than its node, and these are the two.
 pub record IsBad (key : List ℕ) (tree : Loaded) (new : FileState) (k : ℕ) (want found : List ℕ) : Type 0 where
   pub ciphertext : List ℕ
   pub stands : IsTrue new.tells → ciphertext ≡ block_in new.reads tree k
+  pub block : is_block ciphertext ≡ true
   pub fails : page_of key tree.head (at_node tree.nodes (k + 1)) k ciphertext ≡ None
   pub wants : want ≡ (at_node tree.nodes (k + 1)).tag
   pub finds : found ≡ tag_of key tree.head (at_node tree.nodes (k + 1)) k ciphertext
@@ -46,7 +47,7 @@ BlocksAnswer key tree old new asked (Err fault) = Unit {0}
 
 -- These bytes, from a place on, were read: each block that has one of them was read as one page, and they are the bytes of these
 -- pages.
-pub record AreBytes (key : List ℕ) (tree : Loaded) (old new : FileState) (at : ℕ) (bytes : List ℕ) (count : ℕ) : Type 0 where
+pub record AreReadBytes (key : List ℕ) (tree : Loaded) (old new : FileState) (at : ℕ) (bytes : List ℕ) (count : ℕ) : Type 0 where
   pub pages : ℕ → List ℕ
   pub read : (k : ℕ) → meets at (at + count) k ≡ true → IsPage key tree old new k (pages k)
   pub are : (i : ℕ) → i < count → get_or bytes i 0 ≡ get_or (pages ((at + i) / 4096)) ((at + i) % 4096) 0

@@ -12,7 +12,7 @@ ghost use Rattle.htree_file.specs.Standing.{IsFirm, Told};
 ghost use Rattle.page_bytes.specs.Pages.{bytes_from};
 ghost use Rattle.page_bytes.specs.Ranges.{meets, read_range};
 ghost use Rattle.block_file.specs.Parts.{PageAnswer, PartAnswer};
-ghost use Rattle.block_file.specs.Reads.{AreBytes, BlocksAnswer, IsReadFault, after_calls, blocks_of};
+ghost use Rattle.block_file.specs.Reads.{AreReadBytes, BlocksAnswer, IsReadFault, after_calls, blocks_of};
 
 use htree_file::{Page, Tree, TreeFault};
 use node_image::RootRef;
@@ -146,7 +146,7 @@ impl<F: StoreFile> BlockFile<F> {
     pub fn read(&mut self, at: u64, into: &mut [u8]) -> Result<usize, TreeFault>
         ensures count { IfOk result (λ n. n ≡ min (length into.old) (self.old.tree.head.length - at)) }
         // Of any file.
-        ensures bytes { IfOk result (λ n. AreBytes self.old.key self.old.tree (F.state self.old.file) (F.state self.new.file) at into.new n) }
+        ensures bytes { IfOk result (λ n. AreReadBytes self.old.key self.old.tree (F.state self.old.file) (F.state self.new.file) at into.new n) }
         ensures blocks { BlocksAnswer self.old.key self.old.tree (F.state self.old.file) (F.state self.new.file)
             (meets at (at + min (length into.old) (self.old.tree.head.length - at))) result }
         ensures widths { IfErr result HasFaultWidths }

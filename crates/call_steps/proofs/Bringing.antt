@@ -110,7 +110,7 @@ module _ {F R E : Type 0} (of_file : F → FileState) (of_port : R → PortState
   tag = tag_of seat versions
 
   abbrev Ends : Type 0
-  Ends = EndsUnder store scenario view.all was.number was.made call seat
+  Ends = EndsUnder store scenario view.all was.number was.made call own seat
 
   -- under the tamper scenario the machine commits the call, or the promises end there
   due_or_ends : IsDueUnder store scenario view.all was.number call own (change_of change) tag ⊎ Ends

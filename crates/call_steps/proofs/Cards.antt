@@ -5,7 +5,8 @@ use Rattle.node_image.specs.declared.node.RootRef.{RootRef}
 use Rattle.rpmb_card.specs.Card.{CardState}
 use Rattle.rpmb_card.specs.Port.{PortState}
 use Rattle.rpmb_host.specs.Honest.{HadCard, HasCard}
-use Rattle.commit_gate.specs.CardEnds.{IsSealedCard}
+use Rattle.crash_core.specs.CardBlock.{IsReference}
+use Rattle.commit_gate.specs.CardEnds.{CardGoesOn, IsSealedCard}
 use Rattle.commit_gate.specs.Causes.{NoCard}
 use Rattle.commit_gate.specs.Gates.{DoubtStands}
 use Rattle.commit_gate.specs.Sides.{Sides}
@@ -20,13 +21,14 @@ use Rattle.store_model.specs.declared.event.Mark.{Mark}
 use Rattle.store_model.specs.declared.event.Mark.TheVariants.{Doubtful as MarkedDoubtful}
 use Rattle.tee_types.specs.declared.call.Call.{Call}
 use Rattle.tee_types.specs.declared.reply.Cause.TheVariants.{CardResult, Fault, Frame}
-use Rattle.tee_types.specs.declared.reply.Device.TheVariants.{Card}
+use Rattle.tee_types.specs.declared.reply.Device.TheVariants.{Card, Dir, Entropy, File}
 use Rattle.tee_types.specs.declared.reply.Reply.{Reply}
 use Rattle.tee_types.specs.declared.reply.Reply.TheVariants.{NotAvailable}
 use Rattle.call_steps.specs.EventCounts.{landing_events}
 use Rattle.call_steps.specs.Cards.{CostsTwo, DoubtsCost, IsNoFrame, TellNoFrame, TellsCard, count_told}
 use Rattle.call_steps.specs.DeviceCounts.{Rise, counts_of, told_of}
 use Rattle.call_steps.specs.Devices.{AccusesRightly, CostsDoubt, Devices, Grows, PortGoesOn, TellsNoCard}
+use Rattle.call_steps.proofs.CountGrowth.{card_goes_on_none, same_card}
 
 -- OVER A COMMIT
 sealed_told : (port : PortState) (key : List ℕ) (card : CardState) (root : RootRef) → IsSealedCard port key card root → HadCard port key
@@ -41,6 +43,22 @@ steps_told old new change (Doubtful n cause) s card has = elim (s.2 card has) [
   | inr next ↦ sealed_told new.port new.key card s.0 next
 ]
 steps_told old new change Spent s card has = (card, subst (λ (g : Sides). HasCard g.port g.key card) (sym s) has)
+
+sealed_goes_on : (port : PortState) (key : List ℕ) (card is : CardState) (root : RootRef) → IsReference root → IsSealedCard port key card root → HasCard port key is → CardGoesOn card is
+sealed_goes_on port key card is root form s has =
+    subst (CardGoesOn card) (sym (same_card port key s.next is s.has has))
+    (inr (record { key = s.same.key; counter = omega (arith, s.same.counter); root = root; form = form; blocks = s.same.blocks }))
+
+-- and which a commit alone wrote
+pub steps_card : (old new : Sides) (change : EntryChange) (end : CommitEnd) → Steps old new change end → (was is : CardState) → HasCard old.port old.key was → HasCard new.port new.key is → CardGoesOn was is
+steps_card old new change (Made n) s was is had has = sealed_goes_on new.port new.key was is new.dir.root s.0.form (s.1 was had) has
+steps_card old new change (Dropped cause) s was is had has = card_goes_on_none was is (same_card new.port new.key was is (s.1 was had) has)
+steps_card old new change (Doubtful n cause) s was is had has = elim (s.2 was had) [
+  | inl same ↦ card_goes_on_none was is (same_card new.port new.key was is same has)
+  | inr next ↦ sealed_goes_on new.port new.key was is s.0 s.1.form next has
+]
+steps_card old new change Spent s was is had has =
+    card_goes_on_none was is (same_card new.port new.key was is (subst (λ (g : Sides). HasCard g.port g.key was) (sym s) had) has)
 
 -- a card that has the key has the gate's counter, while no commit is in doubt
 pub settled_counts : (g : Sides) → DoubtStands g None → (card : CardState) → HasCard g.port g.key card → card.counter ≡ g.counter
@@ -71,7 +89,7 @@ twice-after a b count (inr rose) paid = omega (arith, rose, paid)
 
 CostsTwo-after : (a b : ℕ) → Grows a b → (mark : Mark) (reply : Reply) → CostsTwo b mark reply → CostsTwo a mark reply
 CostsTwo-after a b grows (MarkedDoubtful commit) (NotAvailable (Fault Card count)) paid = twice-after a b count grows paid
-CostsTwo-after a b grows (MarkedDoubtful commit) reply paid = tt
+CostsTwo-after a b grows (MarkedDoubtful commit) reply paid = paid
 CostsTwo-after a b grows mark reply paid = tt
 
 count_told-grows : (a b : ℕ) → Grows a b → (reply : Reply) → Grows (count_told a reply) (count_told b reply)
@@ -108,18 +126,23 @@ TellsCard-append key old new first then goes_on rise h g = record {
 -- One call.
 module _ (key : List ℕ) (old new : Devices) where
   no_frame : (reply : Reply) → AccusesRightly key old new reply → HadCard old.card key → IsNoFrame reply
-  no_frame (NotAvailable (Frame fault)) accuses had = accuses had.0 had.1
-  no_frame (NotAvailable (CardResult result)) accuses had = accuses had.0 had.1
+  no_frame (NotAvailable (Frame fault)) accuses had = accuses.0 had.0 had.1
+  no_frame (NotAvailable (CardResult result)) accuses had = accuses.0 had.0 had.1
   no_frame (NotAvailable (Fault device count)) accuses had = tt
   no_frame reply accuses had = tt
 
-  costs_two : (mark : Mark) (reply : Reply) → AccusesRightly key old new reply → CostsDoubt key old new mark → HadCard old.card key → CostsTwo (old.card).faults mark reply
+  costs_two : (mark : Mark) (reply : Reply) → AccusesRightly key old new reply → CostsDoubt key old new mark reply → HadCard old.card key → CostsTwo (old.card).faults mark reply
   costs_two (MarkedDoubtful commit) (NotAvailable (Fault Card count)) accuses costs had =
-      subst (λ (n : ℕ). next_count (next_count (old.card).faults) ≤ n) (sym accuses.1) (costs had.0 had.1)
-  costs_two (MarkedDoubtful commit) reply accuses costs had = tt
+      subst (λ (n : ℕ). next_count (next_count (old.card).faults) ≤ n) (sym accuses.1) (costs.1 had.0 had.1)
+  costs_two (MarkedDoubtful commit) (NotAvailable (Fault Dir count)) accuses costs had = costs.0
+  costs_two (MarkedDoubtful commit) (NotAvailable (Fault (File number) count)) accuses costs had = costs.0
+  costs_two (MarkedDoubtful commit) (NotAvailable (Fault Entropy count)) accuses costs had = costs.0
+  costs_two (MarkedDoubtful commit) (NotAvailable (Frame fault)) accuses costs had = accuses.0 had.0 had.1
+  costs_two (MarkedDoubtful commit) (NotAvailable (CardResult result)) accuses costs had = accuses.0 had.0 had.1
+  costs_two (MarkedDoubtful commit) reply accuses costs had = costs
   costs_two mark reply accuses costs had = tt
 
-  pub TellsCard-call : (landed : Option ℕ) (session number : ℕ) (call : Call) (reply : Reply) (mark : Mark) → AccusesRightly key old new reply → CostsDoubt key old new mark
+  pub TellsCard-call : (landed : Option ℕ) (session number : ℕ) (call : Call) (reply : Reply) (mark : Mark) → AccusesRightly key old new reply → CostsDoubt key old new mark reply
       → TellsCard key old.card (landing_events landed ++ CallEvent session number call reply mark ∷ [])
   TellsCard-call None session number call reply mark accuses costs =
       record { frames = λ had. (no_frame reply accuses had, tt); doubts = λ had. (costs_two mark reply accuses costs had, tt) }

@@ -1,11 +1,16 @@
 -- Counts of faults that stand still or rise, and devices that go on.
-use Rattle.std.proofs.Common.{◌≡◌, ◌<◌, ◌≤◌, ℕ, List, refl, sym, ◌∙◌, subst, inl, inr, arith}
+use Rattle.std.proofs.Common.{◌≡◌, ◌<◌, ◌≤◌, ℕ, List, set, refl, sym, ◌∙◌, ap, subst, inl, inr, arith}
 use Rattle.std.proofs.lemmas.Bool.{cases_eq}
+use Rattle.std.proofs.lemmas.List.{set-set}
 use Rattle.disk_model.specs.Calls.{GoesOn}
 use Rattle.disk_model.specs.Faults.{Rose}
 use Rattle.disk_model.specs.State.{FileState}
 use Rattle.disk_model.proofs.Goings.{goes_on_none, goes_on_then}
+use Rattle.rpmb_card.specs.Card.{CardState}
 use Rattle.rpmb_card.specs.Port.{PortState}
+use Rattle.rpmb_host.specs.Honest.{HasCard}
+use Rattle.crash_core.specs.CardBlock.{root_block}
+use Rattle.commit_gate.specs.CardEnds.{CardGoesOn}
 use Rattle.commit_gate.specs.Causes.{Counted, EndNotDrawn, NotDrawn, TwiceRose}
 use Rattle.commit_gate.specs.Counts.{CauseCounts, DoubtCounts, EndCounts, RoseAlone}
 use Rattle.commit_gate.specs.declared.CommitEnd.{CommitEnd}
@@ -14,6 +19,7 @@ use Rattle.tee_types.specs.declared.reply.Cause.{Cause}
 use Rattle.tee_types.specs.declared.reply.Cause.TheVariants.{CardResult, Fault, Frame}
 use Rattle.tee_types.specs.declared.reply.Device.{Device}
 use Rattle.tee_types.specs.declared.reply.Device.TheVariants.{Card, Dir, Entropy, File}
+use Rattle.commit_gate.proofs.PortArms.{arms_then, same_arms}
 use Rattle.call_steps.specs.Devices.{CountsGrow, Devices, DevicesGoOn, Grows, PortGoesOn}
 
 rose_lt : (old new : ℕ) → old < new → Rose old new
@@ -44,12 +50,45 @@ twice_since a b new (inr rose) old mid was is twice = omega (arith, rose, was, i
 pub grows_twice : (old mid new : PortState) → Grows old.faults mid.faults → TwiceRose mid new → TwiceRose old new
 grows_twice old mid new grows twice = twice_since old.faults mid.faults new grows old mid refl refl twice
 
+-- CARDS
+pub same_card : (port : PortState) (key : List ℕ) (a b : CardState) → HasCard port key a → HasCard port key b → b ≡ a
+same_card port key a b first second = cc (first.told, second.told)
+
+pub card_goes_on_none : (a b : CardState) → b ≡ a → CardGoesOn a b
+card_goes_on_none a b same = inl (record { key = ap (λ (c : CardState). c.key) same; counter = ap (λ (c : CardState). c.counter) same; blocks = ap (λ (c : CardState). c.blocks) same })
+
+pub card_goes_on_then : (a b c : CardState) → CardGoesOn a b → CardGoesOn b c → CardGoesOn a c
+card_goes_on_then a b c (inl first) (inl then) = inl (record { key = then.key ∙ first.key; counter = then.counter ∙ first.counter; blocks = then.blocks ∙ first.blocks })
+card_goes_on_then a b c (inl first) (inr then) = inr (record {
+  key = then.key ∙ first.key;
+  counter = subst (λ (n : ℕ). n < c.counter) first.counter then.counter;
+  root = then.root;
+  form = then.form;
+  blocks = then.blocks ∙ ap (λ (l : List (List ℕ)). set l 0 (root_block then.root)) first.blocks;
+})
+card_goes_on_then a b c (inr first) (inl then) = inr (record {
+  key = then.key ∙ first.key;
+  counter = subst (λ (n : ℕ). a.counter < n) (sym then.counter) first.counter;
+  root = first.root;
+  form = first.form;
+  blocks = then.blocks ∙ first.blocks;
+})
+card_goes_on_then a b c (inr first) (inr then) = inr (record {
+  key = then.key ∙ first.key;
+  counter = omega (arith, first.counter, then.counter);
+  root = then.root;
+  form = then.form;
+  blocks = then.blocks ∙ ap (λ (l : List (List ℕ)). set l 0 (root_block then.root)) first.blocks ∙ set-set a.blocks 0 (root_block first.root) (root_block then.root);
+})
+
 -- a port, and a file, that nothing happened to
 pub port_goes_on_none : (key : List ℕ) (port : PortState) → PortGoesOn key port port
 port_goes_on_none key port = record {
   told = λ card has. (card, has);
+  card = λ was is had has. card_goes_on_none was is (same_card port key was is had has);
   calm = λ is. record { calm = is; faults = refl };
   counted = inl refl;
+  arms = same_arms port;
 }
 
 pub same_port_goes_on : (key : List ℕ) (old new : PortState) → new ≡ old → PortGoesOn key old new
@@ -62,11 +101,15 @@ same_file_goes_on old new same = subst (GoesOn old) (sym same) (goes_on_none old
 pub port_goes_on_then : (key : List ℕ) (a b c : PortState) → PortGoesOn key a b → PortGoesOn key b c → PortGoesOn key a c
 port_goes_on_then key a b c first then = record {
   told = λ card has. let between = first.told card has in then.told between.0 between.1;
+  card = λ was is had has.
+      let between = first.told was had in
+      card_goes_on_then was between.0 is (first.card was between.0 had between.1) (then.card between.0 is between.1 has);
   calm = λ is.
       let stays = first.calm is in
       let last = then.calm stays.calm in
       record { calm = last.calm; faults = last.faults ∙ stays.faults };
   counted = grows_grows a.faults b.faults c.faults first.counted then.counted;
+  arms = arms_then a b c first.arms then.arms;
 }
 
 pub devices_go_on_none : (key : List ℕ) (d : Devices) → DevicesGoOn key d d

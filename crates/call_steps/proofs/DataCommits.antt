@@ -86,7 +86,7 @@ module _ {F R E : Type 0} (store : Store) (gate : GateValue F R) (knows : GateVi
       (reply : Reply) (mark : Mark) (x : IsGivenAt store scenario knows.all (call_record caller.number caller.made call reply mark slot (change_versions v next))) where
     pub due_or_end : IsDueChange store scenario knows.all (call_record caller.number caller.made call reply mark slot (change_versions v next)) x next
         ⊎ IsWriteEndAt store scenario knows.all (call_record caller.number caller.made call reply mark slot (change_versions v next))
-        → IsDueUnder store scenario knows.all caller.number call Done change tag ⊎ EndsUnder store scenario knows.all caller.number caller.made call slot
+        → IsDueUnder store scenario knows.all caller.number call Done change tag ⊎ EndsUnder store scenario knows.all caller.number caller.made call Done slot
     due_or_end which = elim which [
       | inl due ↦ inl (by_commit (due_commits store scenario knows gate.dir.dir.entries gate.counter caller.number caller.made call reply mark change tag (Some next)
           (call_record caller.number caller.made call reply mark slot (change_versions v next)) x next refl refl partial answered

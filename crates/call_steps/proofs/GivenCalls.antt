@@ -12,6 +12,7 @@ use Rattle.commit_gate.specs.declared.guarded_gate.Closing.{Closing}
 use Rattle.call_steps.proofs.AtObject.{fact_here, name_here}
 use Rattle.call_steps.specs.AtObject.{IsAtObject}
 use Rattle.commit_gate.specs.Gates.{GateValue}
+use Rattle.tee_types.specs.declared.reply.Reply.TheVariants.{Done}
 use Rattle.store_model.specs.Files.{name_by, object_named}
 use Rattle.store_model.specs.Record.{Tag}
 use Rattle.store_model.specs.declared.event.Event.TheVariants.{Call as CallEvent}
@@ -32,10 +33,10 @@ same_call i j n m a b p q r k l o is = cc (is)
 same_tag : (a b : Tag Version) → Some a ≡ Some b → a ≡ b
 same_tag a b is = cc (is)
 
--- Where the promises end at a write or a truncation, they end however it is answered.
+-- Where the promises end at a write or a truncation, they end however its commit does.
 pub ends_any : (store : Store) (scenario : TamperScenario) (before : List HistoryRecord) (session number : ℕ) (call : Call) (slot : SlotView) (reply : Reply) (mark : Mark) (versions : TagVersions)
-    → IsWriteEndAt store scenario before (call_record session number call reply mark slot versions) → EndsUnder store scenario before session number call slot
-ends_any store scenario before session number call slot reply mark versions ends = λ told other named.
+    → IsWriteEndAt store scenario before (call_record session number call reply mark slot versions) → EndsUnder store scenario before session number call Done slot
+ends_any store scenario before session number call slot reply mark versions ends = λ told other named ended.
     let g = ends.given in
     let tag : tag_of slot versions ≡ g.tag = same_tag (tag_of slot versions) g.tag g.tagged in
     inr (record {
@@ -61,6 +62,7 @@ ends_any store scenario before session number call slot reply mark versions ends
         gave = g.gave;
       };
       changes = ends.changes;
+      ends = ended;
       strays = ends.strays;
     })
 

@@ -3,6 +3,7 @@ pub mod GateCauses
 pub mod Resolves
 pub mod HeldUps
 pub mod Ruled
+pub mod HeardAnswers
 pub mod Rulings
 pub mod Misuses
 pub mod Serving
@@ -59,6 +60,7 @@ pub use Rattle.commit_gate.proofs.ClosedStores
 pub use Rattle.object_slots.proofs.Contents
 pub use Rattle.commit_gate.proofs.Journals
 pub use Rattle.commit_gate.proofs.Knowing
+pub use Rattle.commit_gate.proofs.PortArms
 pub use Rattle.object_slots.proofs.OwnRecords
 pub use Rattle.commit_gate.proofs.ReadyCommits
 pub use Rattle.commit_gate.proofs.SameMaps

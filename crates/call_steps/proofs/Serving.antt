@@ -18,7 +18,7 @@ use Rattle.commit_gate.specs.declared.placed_reply.PlacedReply.{PlacedReply}
 use Rattle.call_steps.specs.Resolved.{IsSettled, StaysInDoubt, WasResolved}
 use Rattle.call_steps.specs.Seen.{GoesOn}
 use Rattle.call_steps.proofs.Resolves.{shown-goes}
-use Rattle.call_steps.specs.GateServed.{IsLeft, IsServed, IsUnserved, Ruled, ServesAlone, ServesByRules}
+use Rattle.call_steps.specs.GateServed.{IsLeft, IsMisused, IsServed, IsUnserved, Ruled, ServesAlone, ServesAtOnce, ServesByRules}
 
 module _ {E F R : Type 0} (store : Store) (before between : CallerSession E) (goes_on : GoesOn store before between) (number : between.number ≡ before.number) (made : between.made ≡ before.made) where
   pub served-from : (call : Call) (answer : PlacedReply) (old new : GuardedGateValue F R) (after : CallerSession E) → IsServed store call answer old new between after
@@ -111,3 +111,32 @@ serves-after-catch_up {E} {F} {R} of_file of_port reliable faults draws store ca
     serves-shown of_file of_port (reliable before.entropy) (faults before.entropy) draws store call old new before here after result
     (shown-goes store old.journal.knows before here caller begins sees_all refl) refl refl
     (subst (λ (p : GuardedGateValue F R × CallerSession E). ServesAlone of_file of_port (reliable p.1.entropy) (faults p.1.entropy) draws store call p.0 new p.1 after result) (λ i. (same i, is i)) x)
+
+-- A misuse is answered at once behind a session that was shown the history.
+module _ {E F R X : Type 0} (store : Store) (call : Call) where
+  at_once_shown : (old new : GuardedGateValue F R) (before here after : CallerSession E) (result : Result (Option PlacedReply) X) → GoesOn store before here → here.number ≡ before.number
+      → here.made ≡ before.made → here.entropy ≡ before.entropy → ServesAtOnce store call old new here after result → ServesAtOnce store call old new before after result
+  at_once_shown old new before here after (Ok (Some answer)) goes number made entropy x = record {
+    served = served-from store before here goes number made call answer old new after x.served;
+    misuse = x.misuse;
+    entropy = x.entropy ∙ entropy;
+  }
+  at_once_shown old new before here after (Ok None) goes number made entropy x = x
+  at_once_shown old new before here after (Err none) goes number made entropy x = (x.0, x.1 ∙ entropy)
+
+  pub at_once_caught_up : (old middle new : GuardedGateValue F R) (before seen after : CallerSession E) (result : Result (Option PlacedReply) X) → IsCallerOf store before
+      → BeginsAll old.journal.knows before.pass → SeesAll middle.journal.knows seen.pass → middle ≡ old → seen ≡ shown old.journal.knows before
+      → (IsMisused middle seen.state call → ServesAtOnce store call middle new seen after result) → IsMisused old (shown old.journal.knows before).state call
+      → ServesAtOnce store call old new before after result
+  at_once_caught_up old middle new before seen after result caller begins sees same is at_once misused =
+      let here : CallerSession E = shown old.journal.knows before in
+      let sees_all : SeesAll old.journal.knows here.pass =
+      subst (λ (p : GuardedGateValue F R × CallerSession E). SeesAll p.0.journal.knows p.1.pass) (λ i. (same i, is i)) sees in
+      at_once_shown old new before here after result (shown-goes store old.journal.knows before here caller begins sees_all refl) refl refl refl
+      (subst (λ (p : GuardedGateValue F R × CallerSession E). IsMisused p.0 p.1.state call → ServesAtOnce store call p.0 new p.1 after result) (λ i. (same i, is i)) at_once misused)
+
+-- An error of it stays one.
+pub at_once_err : {E F R X : Type 0} (store : Store) (call : Call) (old new : GuardedGateValue F R) (before after : CallerSession E) (result : Result (Option PlacedReply) X) → IsErr result
+    → (new ≡ old) × (after.entropy ≡ before.entropy) → ServesAtOnce store call old new before after result
+at_once_err store call old new before after (Ok answer) is x = absurd (cc (is))
+at_once_err store call old new before after (Err e) is x = x

@@ -89,10 +89,10 @@ module _ {F R E : Type 0} (store : Store) (gate : GateValue F R) (knows : GateVi
     given = given_call store gate knows closing caller handle found slot v at_object scenario answered cut Done (Made 0) versions 0 refl refl over.0
 
     due_cut : IsDueUnder store scenario knows.all caller.number cut Done (Put found.held.index (changed_entry e next)) (tag_of slot versions)
-        ⊎ EndsUnder store scenario knows.all caller.number caller.made cut slot
+        ⊎ EndsUnder store scenario knows.all caller.number caller.made cut Done slot
     due_cut =
         due_or_end store gate knows closing caller handle found slot v at_object next staged.follows.app staged.follows.attributes staged.real staged.bit few cut tt makes scenario answered on_cut Done (Made 0) given
-        (truncations_due store scenario knows.all (call_record caller.number caller.made cut Done (Made 0) slot versions) given (version_real store gate knows closing caller handle found slot v at_object)
+        (truncations_due store scenario knows.all (call_record caller.number caller.made cut Done (Made 0) slot versions) given (version_real store gate knows closing caller handle found slot v at_object) refl
         (mapped_here store gate knows closing caller handle found slot v at_object scenario answered) next handle refl
         (record { handle = found.handle; live = live }, may.right, other, fits) over.1)
 

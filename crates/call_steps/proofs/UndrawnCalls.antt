@@ -143,7 +143,7 @@ module _ (store : Store) (scenario : TamperScenario) (before : List HistoryRecor
 
     -- and fair, whatever the file is
     pub undrawn-fair : IsFairAt store scenario before r
-    undrawn-fair answered owed = elim (fine_or_end store scenario before r given x.real x.mapped partial) [
+    undrawn-fair answered owed = elim (fine_or_end store scenario before r given x.real x.mapped partial refl) [
       | inl fine ↦ inl (inl (fine-legal fine))
       | inr ends ↦ inr (inr ends)
     ]

@@ -96,10 +96,10 @@ module _ {F R E : Type 0} (store : Store) (gate : GateValue F R) (knows : GateVi
         (sym (ap position_of live)) staged.follows.over.0
 
     due_write : IsDueUnder store scenario knows.all caller.number write Done (Put found.held.index (changed_entry e next)) (tag_of slot versions)
-        ⊎ EndsUnder store scenario knows.all caller.number caller.made write slot
+        ⊎ EndsUnder store scenario knows.all caller.number caller.made write Done slot
     due_write =
         due_or_end store gate knows closing caller handle found slot v at_object next staged.follows.app staged.follows.attributes staged.real staged.bit few write tt makes scenario answered on_write Done (Made 0) given
-        (writes_due store scenario knows.all (call_record caller.number caller.made write Done (Made 0) slot versions) given (version_real store gate knows closing caller handle found slot v at_object)
+        (writes_due store scenario knows.all (call_record caller.number caller.made write Done (Made 0) slot versions) given (version_real store gate knows closing caller handle found slot v at_object) refl
         (mapped_here store gate knows closing caller handle found slot v at_object scenario answered) next handle bytes refl
         (record { handle = found.handle; live = live }, may.right, may.some, low, fits) staged.follows.size staged.follows.over.1)
 

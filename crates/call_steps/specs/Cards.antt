@@ -29,9 +29,10 @@ abbrev pub count_told : (from : ℕ) → Reply → ℕ
 count_told from (NotAvailable (Fault Card count)) = count
 count_told from reply = from
 
--- A commit in doubt that carries the port's count raised it by two at least.
+-- The reply to a commit in doubt accuses the card's port, whose count it raised by two at least.
 abbrev pub CostsTwo : (from : ℕ) → Mark → Reply → Type 0
 CostsTwo from (Doubtful commit) (NotAvailable (Fault Card count)) = next_count (next_count from) ≤ count
+CostsTwo from (Doubtful commit) reply = ⊥
 CostsTwo from mark reply = Unit {0}
 
 -- So does each in these events: below the last value of a count, the number just below the count that it carries is carried by none, and is

@@ -49,4 +49,4 @@ ObjectCommitsAreSteps F R E reliable faults =
     → (b : BringsCommit of_file of_port store old new slot was now call own change versions (reliable was.entropy) (faults was.entropy) (faults now.entropy) answer)
     → IsLegalEvent scenario.tampered (replay_at store scenario old.journal.knows.all) b.committed.last.event (file_of b.committed.last) → IsDirectoryHonest of_file of_port store scenario new
     → (IsTrusted (phase_under store scenario) slot.number → IsTrue slot.file.honest)
-    → StepsOn of_file of_port store scenario (Some (handed_slot slot)) old card new ⊎ EndsUnder store scenario old.journal.knows.all was.number was.made call b.committable.seat.knows
+    → StepsOn of_file of_port store scenario (Some (handed_slot slot)) old card new ⊎ EndsUnder store scenario old.journal.knows.all was.number was.made call own b.committable.seat.knows

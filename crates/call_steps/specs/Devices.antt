@@ -8,10 +8,13 @@ use Rattle.object_slots.specs.SlotValues.{SlotValue, free}
 use Rattle.rpmb_card.specs.Card.{CardState}
 use Rattle.rpmb_card.specs.Port.{PortState}
 use Rattle.rpmb_host.specs.Honest.{HadCard, HasCard}
-use Rattle.commit_gate.specs.Causes.{StaysCalm, TwiceRose}
+use Rattle.commit_gate.specs.CardEnds.{CardGoesOn}
+use Rattle.commit_gate.specs.Causes.{IsByCard, KeepsPortArms, StaysCalm, TwiceRose}
 use Rattle.commit_gate.specs.Gates.{GateValue}
+use Rattle.commit_gate.specs.Heard.{HeardCause}
 use Rattle.store_model.specs.declared.event.Mark.{Mark}
 use Rattle.store_model.specs.declared.event.Mark.TheVariants.{Doubtful}
+use Rattle.tee_types.specs.declared.reply.Cause.{Cause}
 use Rattle.tee_types.specs.declared.reply.Cause.TheVariants.{CardResult, Fault, Frame}
 use Rattle.tee_types.specs.declared.reply.Device.{Device}
 use Rattle.tee_types.specs.declared.reply.Device.TheVariants.{Card, Dir, Entropy, File}
@@ -47,18 +50,23 @@ faults_of d Entropy = d.draws
 abbrev pub TellsNoCard : PortState → (key : List ℕ) → Type 0
 TellsNoCard port key = (card : CardState) → HasCard port key card → ⊥
 
+-- what a cause says of a frame is what one is that the port heard, where the host knew some counter
+abbrev pub IsOfHeard : (key : List ℕ) → PortState → Cause → Type 0
+IsOfHeard key port cause = (counter : ℕ) × HeardCause key counter port cause
+
 -- A device that a reply accuses counted a fault, and the reply carries its count. A frame, or a result of the card, is the cause only where
--- the port tells no card that has the key.
+-- the port tells no card that has the key, and is what was heard.
 abbrev pub AccusesRightly : (key : List ℕ) → (old new : Devices) → Reply → Type 0
 AccusesRightly key old new (NotAvailable (Fault device count)) = Rose (faults_of old device) (faults_of new device) × (count ≡ faults_of new device)
-AccusesRightly key old new (NotAvailable (Frame fault)) = TellsNoCard old.card key
-AccusesRightly key old new (NotAvailable (CardResult result)) = TellsNoCard old.card key
+AccusesRightly key old new (NotAvailable (Frame fault)) = TellsNoCard old.card key × IsOfHeard key new.card (Frame fault)
+AccusesRightly key old new (NotAvailable (CardResult result)) = TellsNoCard old.card key × IsOfHeard key new.card (CardResult result)
 AccusesRightly key old new reply = Unit {0}
 
--- a commit in doubt over a card that has the key cost two counts of its port at least
-abbrev pub CostsDoubt : (key : List ℕ) → (old new : Devices) → Mark → Type 0
-CostsDoubt key old new (Doubtful commit) = (card : CardState) → HasCard old.card key card → TwiceRose old.card new.card
-CostsDoubt key old new mark = Unit {0}
+-- Only the card leaves a commit in doubt; and over one that has the key that cost two counts of its port at least.
+abbrev pub CostsDoubt : (key : List ℕ) → (old new : Devices) → Mark → Reply → Type 0
+CostsDoubt key old new (Doubtful commit) (NotAvailable cause) = IsByCard cause × ((card : CardState) → HasCard old.card key card → TwiceRose old.card new.card)
+CostsDoubt key old new (Doubtful commit) reply = ⊥
+CostsDoubt key old new mark reply = Unit {0}
 
 -- a count stands still, or it rose
 abbrev pub Grows : (old new : ℕ) → Type 0
@@ -68,11 +76,14 @@ Grows old new = (new ≡ old) ⊎ Rose old new
 abbrev pub CountsGrow : (old new : Devices) → Type 0
 CountsGrow old new = (device : Device) → Grows (faults_of old device) (faults_of new device)
 
--- The port tells a card that has the key where it did before; a calm one stays calm and counts no fault; its count stands still, or it rose.
+-- The port tells a card that has the key where it did before, and only commits wrote it; a calm one stays calm and counts no fault; its count
+-- stands still, or it rose. Its armed faults are the same but for the count of calls, where it tells them, and it tells them still.
 pub record PortGoesOn (key : List ℕ) (old new : PortState) : Type 0 where
   pub told : (card : CardState) → HasCard old key card → HadCard new key
+  pub card : (was is : CardState) → HasCard old key was → HasCard new key is → CardGoesOn was is
   pub calm : IsTrue old.calm → StaysCalm old new
   pub counted : Grows old.faults new.faults
+  pub arms : KeepsPortArms old new
 
 -- What a call leaves of the devices: the meanings of each go on.
 pub record DevicesGoOn (key : List ℕ) (old new : Devices) : Type 0 where

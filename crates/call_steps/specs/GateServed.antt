@@ -1,5 +1,5 @@
 -- What a call leaves that the gate answers alone.
-use Rattle.std.specs.Prelude.{◌≡◌, ◌≤◌, ◌+◌, ◌⊎◌, ℕ, true, length, Option, Some, None, Result, Ok, Err}
+use Rattle.std.specs.Prelude.{◌≡◌, ◌≤◌, ◌+◌, ◌⊎◌, ℕ, true, length, IsSome, Option, Some, None, Result, Ok, Err}
 use Rattle.disk_model.specs.State.{FileState}
 use Rattle.rpmb_card.specs.Port.{PortState}
 use Rattle.tee_types.specs.declared.call.Call.{Call}
@@ -8,13 +8,16 @@ use Rattle.tee_types.specs.declared.reply.Reply.{Reply}
 use Rattle.tee_types.specs.declared.reply.Reply.TheVariants.{NotAvailable}
 use Rattle.store_model.specs.declared.event.Event.TheVariants.{Call as CallEvent}
 use Rattle.store_model.specs.declared.event.Mark.TheVariants.{Unchanged}
+use Rattle.store_model.specs.Calls.{reply_of}
 use Rattle.store_model.specs.Files.{is_misuse}
+use Rattle.store_model.specs.Machine.{MachineState, Session}
 use Rattle.history_seats.specs.Changes.{with_record}
 use Rattle.core_laws.specs.Stores.{Store}
 use Rattle.core_laws.specs.Sessions.{Extends}
 use Rattle.commit_gate.specs.JournalCalls.{alone_record}
 use Rattle.commit_gate.specs.CallerSessions.{CallerSession, IsCallerOf, session_value}
 use Rattle.open_table.specs.HandleChanges.{NotesReply}
+use Rattle.call_rules.specs.Matches.{Matches}
 use Rattle.call_rules.specs.Plain.{IsPlain}
 use Rattle.commit_gate.specs.Commits.{IsCalm}
 use Rattle.commit_gate.specs.GuardedGates.{GuardedGateValue}
@@ -81,3 +84,24 @@ abbrev pub ServesByRules : {E F R X : Type 0} → Store → Call → (old new : 
 ServesByRules store call old new before after (Ok (Some answer)) = IsServed store call answer old new before after × IsPlain answer.reply
 ServesByRules store call old new before after (Ok None) = (new ≡ old) × (after ≡ before)
 ServesByRules store call old new before after (Err none) = (new ≡ old) × (after ≡ before)
+
+-- While a commit is in doubt, a machine that the gate and a session with that state stand for answers the call with a
+-- misuse.
+pub record IsMisused {F R : Type 0} (gate : GuardedGateValue F R) (state : Session) (call : Call) : Type 0 where
+  pub doubted : IsSome gate.gate.doubt
+  pub machine : MachineState
+  pub number : ℕ
+  pub matches : Matches gate.gate.dir.dir.entries gate.gate.open_handles state machine number
+  pub misuse : is_misuse (reply_of machine number call) ≡ true
+
+-- The gate answered it with a misuse, before which nothing was done. The session's generator was let be.
+pub record IsServedAtOnce {E F R : Type 0} (store : Store) (call : Call) (answer : PlacedReply) (old new : GuardedGateValue F R) (before after : CallerSession E) : Type 0 where
+  pub served : IsServed store call answer old new before after
+  pub misuse : is_misuse answer.reply ≡ true
+  pub entropy : after.entropy ≡ before.entropy
+
+-- so by the result; where memory ran out nothing was done at all
+abbrev pub ServesAtOnce : {E F R X : Type 0} → Store → Call → (old new : GuardedGateValue F R) → (before after : CallerSession E) → Result (Option PlacedReply) X → Type 0
+ServesAtOnce store call old new before after (Ok (Some answer)) = IsServedAtOnce store call answer old new before after
+ServesAtOnce store call old new before after (Ok None) = ⊥
+ServesAtOnce store call old new before after (Err none) = (new ≡ old) × (after.entropy ≡ before.entropy)

@@ -43,6 +43,7 @@ pub mod Rising
 pub use Rattle.commit_gate.specs.Answering
 pub use Rattle.commit_gate.specs.CallerSessions
 pub use Rattle.commit_gate.specs.CardCauses
+pub use Rattle.commit_gate.specs.CardEnds
 pub use Rattle.commit_gate.specs.Causes
 pub use Rattle.commit_gate.specs.Changes
 pub use Rattle.commit_gate.specs.ClosedStores
@@ -59,6 +60,7 @@ pub use Rattle.commit_gate.specs.Gates
 pub use Rattle.object_slots.specs.GuardedReads
 pub use Rattle.object_slots.specs.GuardedStages
 pub use Rattle.object_slots.specs.Held
+pub use Rattle.commit_gate.specs.Heard
 pub use Rattle.commit_gate.specs.Holds
 pub use Rattle.call_rules.specs.Index
 pub use Rattle.commit_gate.specs.JournalCalls

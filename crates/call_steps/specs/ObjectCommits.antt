@@ -14,7 +14,7 @@ use Rattle.call_steps.specs.SlotCommits.{IsSlotCommit}
 use Rattle.object_slots.specs.SlotValues.{SlotValue}
 use Rattle.rpmb_card.specs.Port.{PortState}
 use Rattle.rpmb_card.specs.Protocol.{last_counter}
-use Rattle.commit_gate.specs.Causes.{EndCause, EndIsDrawn, EndNotDrawn, EndNotOfCard, StaysCalm, counts}
+use Rattle.commit_gate.specs.Causes.{DoubtIsByCard, EndCause, EndIsDrawn, EndNotDrawn, EndNotOfCard, KeepsPortArms, StaysCalm, counts}
 use Rattle.commit_gate.specs.Counts.{EndCounts}
 use Rattle.commit_gate.specs.Ends.{Leaves, Throughout}
 use Rattle.commit_gate.specs.Gates.{GateValue, LeavesHolds, doubt_left, gate_sides}
@@ -60,6 +60,8 @@ pub record CommitsGate {F R : Type 0} (of_file : F â†’ FileState) (of_port : R â
   pub counts_are : EndCounts (counts (of_file old.gate.dir.file) (of_port old.gate.host.port) drew) (counts (of_file new.gate.dir.file) (of_port new.gate.host.port) draws) end
   pub cause : EndCause old.gate.host.key old.gate.counter (counts (of_file old.gate.dir.file) (of_port old.gate.host.port) drew)
       (counts (of_file new.gate.dir.file) (of_port new.gate.host.port) draws) end
+  pub doubtful : DoubtIsByCard end
+  pub arms : KeepsPortArms (of_port old.gate.host.port) (of_port new.gate.host.port)
 
 -- The call was committed with that end, and its event appended: the last of the history, with the file's tag. The session is the store's
 -- behind it.

@@ -5,12 +5,13 @@ ghost use Rattle.store_model.specs.Calls.{reply_of};
 ghost use Rattle.store_model.specs.Files.{is_misuse};
 ghost use Rattle.store_model.specs.Machine.{MachineState};
 ghost use Rattle.commit_gate.specs.CallerSessions.{IsCallerOf};
+ghost use Rattle.commit_gate.specs.SessionViews.{shown};
 ghost use Rattle.call_rules.specs.Matches.{Matches};
 ghost use Rattle.call_rules.specs.Told.{IsTold};
 ghost use Rattle.commit_gate.specs.Commits.{IsCalm};
 ghost use Rattle.call_steps.specs.Rulings.{is_on_object};
 ghost use Rattle.call_steps.specs.Seen.{HasSeen};
-ghost use Rattle.call_steps.specs.GateServed.{IsLeft, IsServed, IsServedAlone, ServesAlone, ServesByRules};
+ghost use Rattle.call_steps.specs.GateServed.{IsLeft, IsMisused, IsServed, IsServedAlone, ServesAlone, ServesAtOnce, ServesByRules};
 
 use crate::call_rulings::misuse;
 use crate::doubt_settling::settle;
@@ -113,6 +114,7 @@ fn answer_early<F: StoreFile + Drop, R: RpmbPort + Drop, L: StoreName, E: Entrop
     ensures reliable { E.is_reliable session.old.entropy → E.is_reliable session.new.entropy }
     ensures still { E.is_reliable session.old.entropy → E.faults session.new.entropy ≡ E.faults session.old.entropy }
     ensures undrawn { IfOk result (λ answer. IsNone answer → E.faults session.new.entropy ≡ E.faults session.old.entropy) }
+    ensures at_once { IsMisused gate.old session.old.state call.now → ServesAtOnce L.store call.now gate.old gate.new session.old session.new result }
 {
     if gate.doubt().is_none() {
         let Ok(()) = settle(gate, session) else {
@@ -149,6 +151,8 @@ pub fn answer_alone<F: StoreFile + Drop, R: RpmbPort + Drop, L: StoreName, E: En
     ensures reliable { E.is_reliable session.old.entropy → E.is_reliable session.new.entropy }
     ensures still { E.is_reliable session.old.entropy → E.faults session.new.entropy ≡ E.faults session.old.entropy }
     ensures undrawn { IfOk result (λ answer. IsNone answer → E.faults session.new.entropy ≡ E.faults session.old.entropy) }
+    // A misuse waits for no commit in doubt.
+    ensures at_once { IsMisused gate.old (shown gate.old.journal.knows session.old).state call.now → ServesAtOnce L.store call.now gate.old gate.new session.old session.new result }
 {
     gate.catch_up(None, session);
     if let Some(answer) = answer_early(alloc, gate, session, call)? {

@@ -1,5 +1,5 @@
 -- At the end of a phase all parts of a store together are at rest, so that every picture mounts to what the history leaves.
-use Rattle.std.proofs.Common.{◌≡◌, ℕ, zero, suc, ◌<◌, ◌≤◌, false, eqb, List, ◌∷◌, IsTrue, inl, inr, Option, Some, refl, sym, ap, ◌∙◌, subst, arith, ne_eqb}
+use Rattle.std.proofs.Common.{◌≡◌, ℕ, zero, suc, ◌<◌, ◌≤◌, false, eqb, List, ◌∷◌, IsTrue, inl, inr, Option, Some, None, refl, sym, ap, ◌∙◌, subst, arith, ne_eqb}
 use Rattle.std.specs.Prelude.{Contains, nat_lt}
 use Rattle.std.proofs.lemmas.Bool.{cases_Bool, cases_eq, cases_lt, cond-true, cond-false, le-ltb, lt-ltb}
 use Rattle.disk_model.specs.State.{FileState, Sound}
@@ -9,12 +9,18 @@ use Rattle.history_seats.specs.Records.{Version}
 use Rattle.history_seats.specs.Rule.{SlotFits}
 use Rattle.history_seats.specs.Views.{GateView}
 use Rattle.crash_core.specs.Pictures.{IsPictureOf, Picture}
-use Rattle.crash_core.specs.CoreState.{IsTrusted}
+use Rattle.store_model.specs.ReplayState.{ReplayState}
+use Rattle.crash_core.specs.CoreState.{IsTrusted, Phase}
+use Rattle.crash_core.specs.Holding.{CardNames, PendingStands}
+use Rattle.crash_core.specs.Theorem.{MountsTo}
+use Rattle.crash_core.proofs.MountedPictures.{directory_mounts, mounts_whole}
 use Rattle.core_laws.specs.SlotParts.{Knows, SlotHolds, SlotPart}
-use Rattle.core_laws.specs.Finished.{IsMapAfter, MountsAfter}
-use Rattle.core_laws.specs.Joined.{IsObjectFile, Parts, PartsHold}
+use Rattle.core_laws.specs.Finished.{IsAtRest}
+use Rattle.core_laws.specs.GateParts.{replay_of}
+use Rattle.core_laws.specs.Joined.{IsObjectFile, Parts, PartsHold, files_of}
 use Rattle.core_laws.proofs.Contained.{contains_first, contains_later}
-use Rattle.core_laws.proofs.FinishedParts.{finish_mounts, honest_finish_mounts}
+use Rattle.core_laws.proofs.FinishedParts.{finish_mounts}
+use Rattle.core_laws.proofs.JoinedParts.{committed_stands, pending_stands}
 use Rattle.core_laws.specs.TamperScenarios.{TamperScenario}
 use Rattle.core_laws.specs.Stores.{Store, replay_at}
 use Rattle.core_laws.proofs.Mending.{none_some}
@@ -22,7 +28,8 @@ use Rattle.store_commit.specs.declared.gate.Doubted.{Doubted}
 use Rattle.store_commit.specs.Sides.{Sides}
 use Rattle.commit_gate.specs.FinishedPhases.{phase_under}
 use Rattle.commit_gate.specs.Resting.{IsResting, resting_part}
-use Rattle.commit_gate.specs.ClosedStores.{ClosedStoresMount, TamperedFilesAreSupposed, IsClosedStore, HonestStoresMount, tampered_below, no_file, no_slot, slots_of, store_files}
+use Rattle.commit_gate.specs.CoreGates.{pending_of, sealed_in}
+use Rattle.commit_gate.specs.ClosedStores.{ClosedStoresMount, TamperedFilesAreSupposed, IsClosedStore, IsMapBy, HonestStoresMount, MountsBy, tampered_below, no_file, no_slot, slots_of, store_files}
 use Rattle.commit_gate.proofs.RestingGates.{resting_gates_hold}
 
 -- the slot of an object file, and of another number
@@ -42,6 +49,7 @@ each_slot slots P own none file least = elim (cases_lt last_file file) [
 no_file_sound : Sound no_file
 no_file_sound = record {
   bytes = record { agrees = λ honest place byte off. (λ has. has, λ has. has); within = omega arith; bases = λ moment. omega arith };
+  reads = λ place. omega arith;
   told = λ honest. honest;
   calm = λ tells none. refl;
   steady = λ tells none. refl;
@@ -53,6 +61,26 @@ nothing_known file v (inr left) = none_some (Some v) left.1
 
 no_slot_holds : (store : Store) (file : ℕ) → SlotHolds store.keys (no_slot file)
 no_slot_holds store file = record { sound = no_file_sound; stands = λ honest v known. absurd (nothing_known file v known) }
+
+-- where no commit is pending, to the map that the history leaves
+settled_mounts : (phase : Phase) (p : Parts) (picture : Picture) → PartsHold phase p → IsPictureOf (files_of p.gate p.slots) p.gate.card picture → IsTrusted phase 0 → p.gate.pending ≡ None
+    → MountsTo phase picture ((replay_of phase p.gate.view).state).objects
+settled_mounts phase p picture h is trusted none =
+    let s : ReplayState = replay_of phase p.gate.view in
+    let names : CardNames p.gate.card p.gate.root s.counter =
+    subst (PendingStands phase (files_of p.gate p.slots) p.gate.card p.gate.root p.gate.entries s) none (pending_stands phase p h p.gate.pending h.gate.pending) in
+    directory_mounts phase (files_of p.gate p.slots) p.gate.card picture is p.gate.root p.gate.entries (s.state).objects s.counter names (committed_stands phase p h trusted)
+
+mounts_by : {D : Type 0} (phase : Phase) (p : Parts) (picture : Picture) → PartsHold phase p → IsAtRest phase p.gate → IsPictureOf (files_of p.gate p.slots) p.gate.card picture → IsTrusted phase 0
+    → (doubt : Option D) → (doubt ≡ None → p.gate.pending ≡ None) → MountsBy doubt phase picture (replay_of phase p.gate.view)
+mounts_by phase p picture h rests is trusted None none = settled_mounts phase p picture h is trusted (none refl)
+mounts_by phase p picture h rests is trusted (Some d) none = finish_mounts phase p picture h rests is trusted
+
+-- where every file is honest, to that map itself
+whole_by : {D : Type 0} (phase : Phase) (picture : Picture) (s : ReplayState) → ((file : ℕ) → IsTrusted phase file) → (doubt : Option D) → MountsBy doubt phase picture s → IsMapBy doubt phase picture s
+whole_by phase picture s trusted None mounts = mounts_whole phase picture (s.state).objects trusted mounts
+whole_by phase picture s trusted (Some d) (inl mounts) = inl (mounts_whole phase picture (s.state).objects trusted mounts)
+whole_by phase picture s trusted (Some d) (inr other) = inr (other.0, other.1, mounts_whole phase picture other.0 trusted other.2)
 
 module _ (store : Store) (scenario : TamperScenario) (g : Sides) (doubt : Option Doubted) (holds : List (Option ℕ)) (card : CardState) (view : GateView) (slots : ℕ → SlotPart)
     (e : IsClosedStore store scenario g doubt holds card view slots) where
@@ -84,12 +112,14 @@ module _ (store : Store) (scenario : TamperScenario) (g : Sides) (doubt : Option
   }
 
   pub closed_mounts : (picture : Picture) → IsPictureOf (store_files g slots) card picture → IsTrusted (phase_under store scenario) 0
-      → MountsAfter (phase_under store scenario) picture (replay_at store scenario view.all)
-  closed_mounts picture is trusted = finish_mounts (phase_under store scenario) parts picture parts_hold rests.at_rest is trusted
+      → MountsBy doubt (phase_under store scenario) picture (replay_at store scenario view.all)
+  closed_mounts picture is trusted =
+      mounts_by (phase_under store scenario) parts picture parts_hold rests.at_rest is trusted doubt
+      (λ none. ap (λ (d : Option Doubted). pending_of d (replay_at store scenario view.all).doubt (sealed_in g card)) none)
 
   pub honest_mounts : (picture : Picture) → IsPictureOf (store_files g slots) card picture → ((file : ℕ) → IsTrusted (phase_under store scenario) file)
-      → IsMapAfter (phase_under store scenario) picture (replay_at store scenario view.all)
-  honest_mounts picture is trusted = honest_finish_mounts (phase_under store scenario) parts picture parts_hold rests.at_rest is trusted
+      → IsMapBy doubt (phase_under store scenario) picture (replay_at store scenario view.all)
+  honest_mounts picture is trusted = whole_by (phase_under store scenario) picture (replay_at store scenario view.all) trusted doubt (closed_mounts picture is (trusted 0))
 
 pub closed_stores_mount : ClosedStoresMount
 closed_stores_mount store scenario g doubt holds card view slots picture e is trusted = closed_mounts store scenario g doubt holds card view slots e picture is trusted

@@ -82,7 +82,7 @@ module _ (store : Store) (view : GateView) (entries : List (Option DirEntry)) (c
     pub made_fair : (scenario : TamperScenario) → IsFairAt store scenario view.all (call_record session number call reply (Made (counter + 1)) slot (made_versions versions))
     made_fair scenario answered owed = elim (ready.due scenario answered (owed slot.file refl)) [
       | inl due ↦ inl (inl ((commits_legal store scenario view entries counter None tied session number call change named known fits).made (made_under scenario answered due) refl reply due.replied))
-      | inr ends ↦ inr (ends reply (Made (counter + 1)) (made_versions versions))
+      | inr ends ↦ inr (ends reply (Made (counter + 1)) (made_versions versions) refl)
     ]
 
     pub doubtful_fair : (cause : Cause) → file_at_fault cause ≡ None → (scenario : TamperScenario)
@@ -90,7 +90,7 @@ module _ (store : Store) (view : GateView) (entries : List (Option DirEntry)) (c
     doubtful_fair cause none scenario answered owed = elim (ready.due scenario answered (owed slot.file refl)) [
       | inl due ↦ inl (inl ((commits_legal store scenario view entries counter None tied session number call change committable known fits).doubtful
           (commit_under store view entries counter session number call reply change slot versions kept tied known ready scenario answered due) ready.given cause none))
-      | inr ends ↦ inr (ends (NotAvailable cause) (Doubtful (counter + 1)) versions)
+      | inr ends ↦ inr (ends (NotAvailable cause) (Doubtful (counter + 1)) versions refl)
     ]
 
   -- where the machine commits the call, it changes its map as the entries change

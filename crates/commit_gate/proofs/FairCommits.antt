@@ -52,5 +52,5 @@ module _ (store : Store) (view : GateView) (entries : List (Option DirEntry)) (c
     | inl due ↦ inl (inl (unmade_legal store scenario view.all session number call told (Some (tag_of slot (unmade_versions versions))) known due.due
         (unmade_there (replay_at store scenario view.all).counter counter told (tied.counter scenario answered) unmade)
         (commit_tagged store scenario view entries counter None tied session (tag_of slot versions) told Unchanged none call change versions.doubted (commit_under scenario answered due))))
-    | inr ends ↦ inr (ends told Unchanged (unmade_versions versions))
+    | inr ends ↦ inr (ends told Unchanged (unmade_versions versions) (unmade_undone counter told unmade))
   ]

@@ -63,7 +63,7 @@ guarded-held store gate knows closing guarded commit open_ scenario answered =
     (own.0, own.1)
 
 -- The table's room has no part in what it tells.
-same-open : (entries : List (Option DirEntry)) (old new : TableState) (sessions : List Session) → new.records ≡ old.records → AreOpen entries old sessions → AreOpen entries new sessions
+pub same-open : (entries : List (Option DirEntry)) (old new : TableState) (sessions : List Session) → new.records ≡ old.records → AreOpen entries old sessions → AreOpen entries new sessions
 same-open entries old new sessions same are =
     subst (λ (records : List (ℕ × OpenRecord)). AreOpen entries (record { records = records; spare = new.spare }) sessions) (sym same)
     (record { each = are.each; back = are.back; single = are.single; bound = are.bound; keyed = are.keyed; numbered = are.numbered })

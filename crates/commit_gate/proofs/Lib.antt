@@ -39,5 +39,7 @@ pub mod ReserveSteps
 pub mod CommitFacts
 pub mod Ties
 pub mod FinishedPhases
+pub use Rattle.store_commit.proofs.Hearing
 pub use Rattle.store_commit.proofs.HoldLists
+pub use Rattle.store_commit.proofs.PortArms
 pub use Rattle.store_commit.proofs.Resolutions

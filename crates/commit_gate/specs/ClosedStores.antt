@@ -1,13 +1,16 @@
 -- A store that is closed at the end of a phase: its gate, and a slot for each file of an object.
-use Rattle.std.specs.Prelude.{◌≡◌, ◌==◌, ◌≤◌, ℕ, zero, suc, nat_lt, if◌then◌else◌, true, false, List, [], ◌∷◌, Option, None, Contains, IsTrue}
+use Rattle.std.specs.Prelude.{◌≡◌, ◌==◌, ◌≤◌, ℕ, zero, suc, nat_lt, if◌then◌else◌, true, false, List, [], ◌∷◌, Option, Some, None, Ok, Contains, IsTrue}
 use Rattle.disk_model.specs.Arms.{no_arms}
 use Rattle.disk_model.specs.State.{FileState}
 use Rattle.tee_types.specs.Limits.{last_file}
 use Rattle.rpmb_card.specs.Card.{CardState}
+use Rattle.store_model.specs.ReplayState.{ReplayState}
 use Rattle.history_seats.specs.Rule.{SlotFits}
 use Rattle.history_seats.specs.Views.{GateView, no_devices, no_mount}
 use Rattle.crash_core.specs.Pictures.{IsPictureOf, Picture}
-use Rattle.crash_core.specs.CoreState.{IsTrusted}
+use Rattle.crash_core.specs.CoreState.{IsTrusted, Phase}
+use Rattle.crash_core.specs.Mounting.{mounted}
+use Rattle.crash_core.specs.Theorem.{MountsTo}
 use Rattle.core_laws.specs.SlotParts.{SlotHolds, SlotPart}
 use Rattle.core_laws.specs.Finished.{IsMapAfter, MountsAfter}
 use Rattle.core_laws.specs.Joined.{IsObjectFile}
@@ -78,20 +81,31 @@ pub record IsClosedStore (store : Store) (scenario : TamperScenario) (g : Sides)
   pub slots_hold : AreSlotsOf store view slots
   pub tampered : SupposesTampered scenario (store_files g slots)
 
--- Every picture of its files and its card mounts to the map that the history leaves under the tamper scenario, or to that with the commit in
--- doubt; nothing is said of the objects in files that are not honest, nor where the directory's file is not.
+-- The picture mounts to the map that the history leaves; or, only while a commit is in doubt, to that with it.
+abbrev pub MountsBy : {D : Type 0} → Option D → Phase → Picture → ReplayState → Type 0
+MountsBy None phase picture s = MountsTo phase picture (s.state).objects
+MountsBy (Some d) phase picture s = MountsAfter phase picture s
+
+-- the same of the map itself
+abbrev pub IsMapBy : {D : Type 0} → Option D → Phase → Picture → ReplayState → Type 0
+IsMapBy None phase picture s = mounted phase.keys picture ≡ Ok (s.state).objects
+IsMapBy (Some d) phase picture s = IsMapAfter phase picture s
+
+-- Every picture of its files and its card mounts to the map that the history leaves under the tamper scenario, or to
+-- that with the commit in doubt, where one is; nothing is said of the objects in files that are not honest, nor where
+-- the directory's file is not.
 abbrev pub ClosedStoresMount : Type 0
 ClosedStoresMount =
     (store : Store) (scenario : TamperScenario) (g : Sides) (doubt : Option Doubted) (holds : List (Option ℕ)) (card : CardState) (view : GateView) (slots : ℕ → SlotPart) (picture : Picture)
     → IsClosedStore store scenario g doubt holds card view slots → IsPictureOf (store_files g slots) card picture → IsTrusted (phase_under store scenario) 0
-    → MountsAfter (phase_under store scenario) picture (replay_at store scenario view.all)
+    → MountsBy doubt (phase_under store scenario) picture (replay_at store scenario view.all)
 
 -- Where every file is honest, it mounts to that map itself.
 abbrev pub HonestStoresMount : Type 0
 HonestStoresMount =
     (store : Store) (scenario : TamperScenario) (g : Sides) (doubt : Option Doubted) (holds : List (Option ℕ)) (card : CardState) (view : GateView) (slots : ℕ → SlotPart) (picture : Picture)
     → IsClosedStore store scenario g doubt holds card view slots → IsPictureOf (store_files g slots) card picture → ((file : ℕ) → IsTrusted (phase_under store scenario) file)
-    → IsMapAfter (phase_under store scenario) picture (replay_at store scenario view.all)
+    → IsMapBy doubt (phase_under store scenario) picture (replay_at store scenario view.all)
 
 -- A tamper scenario by which exactly the files are not honest that are not has them all.
 abbrev pub TamperedFilesAreSupposed : Type 0

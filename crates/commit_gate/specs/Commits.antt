@@ -14,7 +14,7 @@ use Rattle.history_seats.specs.Views.{GateView, SlotView}
 use Rattle.crash_core.specs.EntryChanges.{EntryChange}
 use Rattle.core_laws.specs.TamperScenarios.{TamperScenario}
 use Rattle.core_laws.specs.Stores.{Store, replay_at}
-use Rattle.core_laws.specs.Shown.{IsEndAt}
+use Rattle.core_laws.specs.Shown.{EndsCommit, IsEndAt}
 use Rattle.core_laws.specs.Answered.{AreAnswered}
 use Rattle.commit_gate.specs.CallerSessions.{CallerSession, IsCallerOf}
 use Rattle.commit_gate.specs.SessionViews.{SeesAll}
@@ -45,10 +45,10 @@ pub record IsDueUnder (store : Store) (scenario : TamperScenario) (before : List
   pub replied : reply ≡ meant_by (replay_at store scenario before) session call
   pub object : LeavesObject store scenario before session call change tag tag.doubted
 
--- under a tamper scenario the promises end at the call, however it is answered
-abbrev pub EndsUnder : Store → TamperScenario → List HistoryRecord → (session number : ℕ) → Call → SlotView → Type 0
-EndsUnder store scenario before session number call slot =
-    (reply : Reply) (mark : Mark) (versions : TagVersions) → IsEndAt store scenario before (call_record session number call reply mark slot versions)
+-- under a tamper scenario the promises end at the call, however its commit ends, where this is the reply once it is made
+abbrev pub EndsUnder : Store → TamperScenario → List HistoryRecord → (session number : ℕ) → Call → (made : Reply) → SlotView → Type 0
+EndsUnder store scenario before session number call made slot =
+    (reply : Reply) (mark : Mark) (versions : TagVersions) → EndsCommit made reply mark → IsEndAt store scenario before (call_record session number call reply mark slot versions)
 
 -- What a caller brings to the commit of a session's call on a slot's object: the entries change as the call changes them and as its version
 -- says, and under each tamper scenario by which the object's file is not honest the machine commits the call, or the promises end there.
@@ -57,7 +57,7 @@ pub record IsReadyCommit (store : Store) (view : GateView) (entries : List (Opti
   pub given : versions.committed ≡ given_version store.mounted view.all slot.file slot.generation
   pub on : (scenario : TamperScenario) → AreAnswered store scenario view.all → IsCallOn (replay_at store scenario view.all).state session call entries change
   pub due : (scenario : TamperScenario) → AreAnswered store scenario view.all → Contains scenario.tampered slot.file
-      → IsDueUnder store scenario view.all session call reply change (tag_of slot versions) ⊎ EndsUnder store scenario view.all session number call slot
+      → IsDueUnder store scenario view.all session call reply change (tag_of slot versions) ⊎ EndsUnder store scenario view.all session number call reply slot
 
 -- The session saw the whole history, and no commit of its own is in doubt.
 pub record IsCalm {E : Type 0} (store : Store) (view : GateView) (s : CallerSession E) : Type 0 where

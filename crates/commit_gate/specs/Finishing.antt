@@ -6,7 +6,6 @@ use Rattle.history_seats.specs.Views.{GateView}
 use Rattle.crash_core.specs.Pictures.{IsPictureOf, Picture}
 use Rattle.crash_core.specs.CoreState.{IsTrusted}
 use Rattle.core_laws.specs.SlotParts.{SlotPart}
-use Rattle.core_laws.specs.Finished.{MountsAfter}
 use Rattle.core_laws.specs.Answered.{AreAnswered, AreOwnLegal, IsEnded, IsFairHistory}
 use Rattle.core_laws.specs.TamperScenarios.{TamperScenario}
 use Rattle.core_laws.specs.Mapped.{IsMappedBoth}
@@ -15,7 +14,7 @@ use Rattle.core_laws.specs.Ties.{IsTied}
 use Rattle.store_commit.specs.declared.gate.Doubted.{Doubted}
 use Rattle.store_commit.specs.Sides.{Sides}
 use Rattle.commit_gate.specs.FinishedPhases.{phase_under}
-use Rattle.commit_gate.specs.ClosedStores.{AreSlotsOf, SupposesTampered, store_files}
+use Rattle.commit_gate.specs.ClosedStores.{AreSlotsOf, MountsBy, SupposesTampered, store_files}
 use Rattle.commit_gate.specs.Resting.{IsGateOf}
 use Rattle.commit_gate.specs.CoreTies.{doubted_change}
 
@@ -31,15 +30,16 @@ pub record HasFinished (store : Store) (scenario : TamperScenario) (g : Sides) (
   -- the events of each other file are legal by themselves
   pub own_legal : (file : ℕ) → Contains scenario.tampered file ⊎ AreOwnLegal store scenario file view.all
 
--- every picture of its files and its card mounts to the map that the history leaves, or to that with the commit in doubt
-abbrev pub PicturesMount : Store → TamperScenario → Sides → CardState → GateView → (slots : ℕ → SlotPart) → Type 0
-PicturesMount store scenario g card view slots =
+-- every picture of its files and its card mounts to the map that the history leaves, or to that with the commit in
+-- doubt, where one is
+abbrev pub PicturesMount : Store → TamperScenario → Sides → Option Doubted → CardState → GateView → (slots : ℕ → SlotPart) → Type 0
+PicturesMount store scenario g doubt card view slots =
     (picture : Picture) → IsPictureOf (store_files g slots) card picture → IsTrusted (phase_under store scenario) 0
-    → MountsAfter (phase_under store scenario) picture (replay_at store scenario view.all)
+    → MountsBy doubt (phase_under store scenario) picture (replay_at store scenario view.all)
 
 -- So they do, or the promises end at a first event under the tamper scenario.
 abbrev pub FinishedPhasesMount : Type 0
 FinishedPhasesMount =
     (store : Store) (scenario : TamperScenario) (g : Sides) (doubt : Option Doubted) (holds : List (Option ℕ)) (card : CardState) (view : GateView) (slots : ℕ → SlotPart)
     → HasFinished store scenario g doubt holds card view slots
-    → (AreAnswered store scenario view.all × PicturesMount store scenario g card view slots) ⊎ IsEnded store scenario view.all
+    → (AreAnswered store scenario view.all × PicturesMount store scenario g doubt card view slots) ⊎ IsEnded store scenario view.all

@@ -6,7 +6,7 @@ ghost use Rattle.store_model.specs.Record.{fault_in_reply};
 ghost use Rattle.history_seats.specs.Changes.{slot_renewed, together, with_record};
 ghost use Rattle.history_seats.specs.Rule.{Agrees};
 ghost use Rattle.core_laws.specs.Sessions.{Extends};
-ghost use Rattle.store_commit.specs.Causes.{EndCause, EndIsDrawn, EndNotDrawn, EndNotOfCard, StaysCalm, counts};
+ghost use Rattle.store_commit.specs.Causes.{DoubtIsByCard, EndCause, EndIsDrawn, EndNotDrawn, EndNotOfCard, KeepsPortArms, StaysCalm, counts};
 ghost use Rattle.store_commit.specs.Changes.{change_of};
 ghost use Rattle.store_commit.specs.Counts.{EndCounts};
 ghost use Rattle.store_commit.specs.Ends.{Leaves, Throughout};
@@ -127,6 +127,8 @@ impl<F: StoreFile + Drop, R: RpmbPort + Drop, L: StoreName> GuardedGate<F, R, L>
         ensures cause { EndCause self.old.gate.host.key self.old.gate.counter
             (counts (F.state self.old.gate.dir.file) (R.state self.old.gate.host.port) (E.faults session.old.entropy))
             (counts (F.state self.new.gate.dir.file) (R.state self.new.gate.host.port) (E.faults session.new.entropy)) result.end }
+        ensures doubtful { DoubtIsByCard result.end }
+        ensures arms { KeepsPortArms (R.state self.old.gate.host.port) (R.state self.new.gate.host.port) }
     {
         // Tells that the counter is 32 bits, and what always holds of the gate.
         let _counter = self.gate.counter();

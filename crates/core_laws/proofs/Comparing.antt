@@ -102,8 +102,8 @@ module _ (size position count : ℕ) (sp : Decoding) (root : RootRef) (verified 
 
   pub within : (k : ℕ) → 4096 * k < 4096 + size → k < length sp.tree.nodes
   within k low =
-      let many : sp.tree.head.greatest ≡ greatest_of sp.tree.head.length = sized_greatest sp.tree.head verified.sized in
-      omega (arith, verified.all, many, long, low)
+      let many : sp.tree.head.greatest ≡ greatest_of sp.tree.head.length = sized_greatest sp.tree.head verified.hashed.sized in
+      omega (arith, verified.hashed.all, many, long, low)
 
   pub met-low : (k : ℕ) → met k ≡ true → (1 ≤ k) × (4096 * k < 4096 + size)
   met-low k is =

@@ -1,6 +1,7 @@
 -- What an image holds under a reference is a real version.
 use Rattle.std.proofs.Common.{◌≡◌, ◌+◌, ◌<◌, ℕ, List, [], length, Option, Result, Ok, Err, refl, ap, ◌∙◌, arith}
 use Rattle.aes_block.specs.WrappedKey.{unwrapped_of}
+use Rattle.disk_model.specs.Bytes.{AreBytes}
 use Rattle.node_image.specs.declared.node.RootRef.{RootRef}
 use Rattle.node_image.specs.declared.node.NodeImage.{NodeImage}
 use Rattle.node_image.specs.declared.head.Head.{Head}
@@ -11,7 +12,7 @@ use Rattle.node_image.proofs.Matching.{node_is, row_at, row_same}
 use Rattle.htree_file.specs.declared.fault.TreeFault.{TreeFault}
 use Rattle.htree_file.specs.Opening.{Loaded, load_of}
 use Rattle.htree_file.specs.Pages.{block_in, opened_in, page_in, page_of}
-use Rattle.htree_file.proofs.Loadings.{loaded_from}
+use Rattle.htree_file.proofs.Loadings.{loaded_from, verified_from}
 use Rattle.hmac_keys.specs.declared.Keys.{Keys}
 use Rattle.crash_core.specs.DeviceKeys.{object_key}
 use Rattle.crash_core.specs.MountedObject.{object_of, object_or_damaged}
@@ -28,7 +29,7 @@ module _ (keys : Keys) (image : List ℕ) (root : RootRef) (app : List ℕ) (siz
   block-is tree is k lt =
       let l = loaded_from image root tree is in
       row_at (λ j. part_in image (block j (block_bit (selected_node image root.version (j + 1)).flags))) (head_in image root.version).greatest k []
-      (omega (arith, lt, l.verified.all, ap (λ (h : Head). h.greatest) l.top))
+      (omega (arith, lt, l.hashed.all, ap (λ (h : Head). h.greatest) l.top))
       ∙ ap (λ (n : NodeImage). part_in image (block k (block_bit n.flags)))
       (node_is image root.version tree.nodes (length tree.nodes) l.matches (k + 1) (omega arith) (omega (arith, lt)))
 
@@ -41,8 +42,8 @@ module _ (keys : Keys) (image : List ℕ) (root : RootRef) (app : List ℕ) (siz
       (λ k lt. ap (page_of key tree.head (at_node tree.nodes (k + 1)) k) (block-is tree is k lt)) in
       ap (λ (l : List (Option (List ℕ))). object_of size attributes (record { bytes = tree.head.length; pages = l })) pages
 
-  pub image_real : IsReal keys v
-  image_real = record {
+  pub image_real : AreBytes image → IsReal keys v
+  image_real bytes = record {
     decodes = decodes-by (load_of image root) refl;
-    verified = λ tree is. (loaded_from image root tree is).verified;
+    verified = λ tree is. verified_from image root tree bytes is;
   }

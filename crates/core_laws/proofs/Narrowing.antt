@@ -6,32 +6,43 @@ use Rattle.store_model.specs.ReplayState.{ReplayState}
 use Rattle.history_seats.specs.Records.{HistoryRecord}
 use Rattle.core_laws.specs.TamperScenarios.{TamperScenario}
 use Rattle.core_laws.specs.Stores.{Store, replay_at, start_under}
-use Rattle.core_laws.specs.Answered.{AreAnswered, AreFair, AreOwnLegal, HasNoClash, IsAnsweredAt, IsEnded}
+use Rattle.core_laws.specs.Answered.{AreAnswered, AreFair, AreOwnLegal, HasNoClash, IsAnsweredAt, IsEnded, IsOwed}
 use Rattle.core_laws.specs.Shown.{IsEndAt}
 use Rattle.core_laws.proofs.Mending.{none_some, some_same}
 use Rattle.core_laws.proofs.Answers.{answered-snoc, nothing-answered, replay_state-snoc}
 
 module _ (store : Store) (scenario : TamperScenario) where
+  abbrev EndsOwed : List HistoryRecord → HistoryRecord → Type 0
+  EndsOwed front r = IsOwed scenario r × IsEndAt store scenario front r
+
   -- Where each file is among those that are not honest, or its events are legal by themselves, each event is answered, or the promises end.
   pub narrowed : (all : List HistoryRecord) → AreFair store scenario all → ((file : ℕ) → Contains scenario.tampered file ⊎ AreOwnLegal store scenario file all)
       → (front : List HistoryRecord) (r : HistoryRecord) (back : List HistoryRecord) → front ++ r ∷ back ≡ all → AreAnswered store scenario front
-      → IsAnsweredAt store scenario front r ⊎ IsEndAt store scenario front r
+      → IsAnsweredAt store scenario front r ⊎ EndsOwed front r
   narrowed all fair each front r back e answered = by_file (file_of r) refl
     where
-      by_file : (o : Option ℕ) → file_of r ≡ o → IsAnsweredAt store scenario front r ⊎ IsEndAt store scenario front r
-      by_file None is = fair front r back e answered (λ file names. absurd (none_some file (sym is ∙ names)))
+      owing : (front : List HistoryRecord) → IsOwed scenario r → IsAnsweredAt store scenario front r ⊎ IsEndAt store scenario front r → IsAnsweredAt store scenario front r ⊎ EndsOwed front r
+      owing before owed (inl one) = inl one
+      owing before owed (inr ends) = inr (owed, ends)
+
+      by_file : (o : Option ℕ) → file_of r ≡ o → IsAnsweredAt store scenario front r ⊎ EndsOwed front r
+      by_file None is =
+          let owed : IsOwed scenario r = λ file names. absurd (none_some file (sym is ∙ names)) in
+          owing front owed (fair front r back e answered owed)
       by_file (Some file) is = elim (each file) [
-        | inl owed ↦ fair front r back e answered (λ other names. subst (Contains scenario.tampered) (some_same file other (sym is ∙ names)) owed)
+        | inl there ↦
+            let owed : IsOwed scenario r = λ other names. subst (Contains scenario.tampered) (some_same file other (sym is ∙ names)) there in
+            owing front owed (fair front r back e answered owed)
         | inr own ↦ inl (inl (own front r back e is answered))
       ]
 
   answered-from : (all front rest : List HistoryRecord) → front ++ rest ≡ all
-      → ((fs : List HistoryRecord) (r : HistoryRecord) (back : List HistoryRecord) → fs ++ r ∷ back ≡ all → AreAnswered store scenario fs → IsAnsweredAt store scenario fs r ⊎ IsEndAt store scenario fs r)
+      → ((fs : List HistoryRecord) (r : HistoryRecord) (back : List HistoryRecord) → fs ++ r ∷ back ≡ all → AreAnswered store scenario fs → IsAnsweredAt store scenario fs r ⊎ EndsOwed fs r)
       → AreAnswered store scenario front → AreAnswered store scenario all ⊎ IsEnded store scenario all
   answered-from all front [] e each answered = inl (subst (AreAnswered store scenario) (sym (append-nil front) ∙ e) answered)
   answered-from all front (r ∷ rest) e each answered = elim (each front r rest e answered) [
     | inl one ↦ answered-from all (front ++ r ∷ []) rest (append_assoc front (r ∷ []) rest ∙ e) each (answered-snoc store scenario front r answered one)
-    | inr ends ↦ inr (record { front = front; event = r; back = rest; is = e; answered = answered; ends = ends })
+    | inr ends ↦ inr (record { front = front; event = r; back = rest; is = e; answered = answered; owed = ends.0; ends = ends.1 })
   ]
 
   -- Each event is answered, or the promises end at a first one.

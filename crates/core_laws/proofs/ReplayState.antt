@@ -1,5 +1,5 @@
 -- What stands for a version: by which tree, and which of its pages are good.
-use Rattle.std.proofs.Common.{◌≡◌, ◌+◌, ℕ, Bool, true, false, cond, List, ◌++◌, Option, Some, None, option_map, Result, Ok, Err, refl, sym, ap, ◌∙◌, subst}
+use Rattle.std.proofs.Common.{◌&&◌, ◌≡◌, ◌+◌, ℕ, Bool, true, false, cond, List, ◌++◌, Option, Some, None, option_map, Result, Ok, Err, refl, sym, ap, ◌∙◌, subst}
 use Rattle.std.specs.Int.{w32, to_be_bytes}
 use Rattle.std.specs.Prelude.{unwrap_or}
 use Rattle.std.specs.Str.{bytes_eq}
@@ -12,7 +12,7 @@ use Rattle.node_image.specs.Tables.{at_node}
 use Rattle.htree_file.specs.declared.fault.TreeFault.{TreeFault}
 use Rattle.htree_file.specs.Changes.{SealsAt}
 use Rattle.htree_file.specs.Opening.{IsVerified, Loaded}
-use Rattle.htree_file.specs.Pages.{page_of}
+use Rattle.htree_file.specs.Pages.{is_block, page_of}
 use Rattle.hmac_keys.specs.declared.Keys.{Keys}
 use Rattle.crash_core.specs.DeviceKeys.{object_key}
 use Rattle.history_seats.specs.Numbers.{is_in}
@@ -26,7 +26,7 @@ use Rattle.core_laws.proofs.Mending.{good_stays, none_some, some_same}
 pub page_same : (key other : List ℕ) (h g : Head) (n m : NodeImage) (k : ℕ) (c d : List ℕ) → key ≡ other → h.wrapped ≡ g.wrapped → n.iv ≡ m.iv → n.tag ≡ m.tag → c ≡ d
     → page_of key h n k c ≡ page_of other g m k d
 page_same key other h g n m k c d keys wrapped iv tag text =
-    λ i. cond (bytes_eq (tag i) (gcm_tag (cipher (keys i)) (iv i) (wrapped i ++ to_be_bytes w32 k) (text i))) (Some (gcm_text (cipher (keys i)) (iv i) (text i))) None
+    λ i. cond (is_block (text i) && bytes_eq (tag i) (gcm_tag (cipher (keys i)) (iv i) (wrapped i ++ to_be_bytes w32 k) (text i))) (Some (gcm_text (cipher (keys i)) (iv i) (text i))) None
 
 module _ (keys : Keys) (scenario : TamperScenario) (file generation : ℕ) (v : Version) where
   -- the spelling of a tree of this version, mended where its file is not honest

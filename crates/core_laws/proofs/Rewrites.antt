@@ -87,7 +87,7 @@ module _ (keys : Keys) (scenario : TamperScenario) (file generation : ℕ) (v ne
       verified = verified_under keys scenario file generation v old stands real
 
       count : length old.tree.nodes ≡ greatest_of (4096 + v.size)
-      count = verified.all ∙ sized_greatest old.tree.head verified.sized ∙ ap greatest_of long
+      count = verified.hashed.all ∙ sized_greatest old.tree.head verified.hashed.sized ∙ ap greatest_of long
 
       within : (k : ℕ) → 4096 * k < 4096 + v.size → k < length old.tree.nodes
       within k lt = omega (arith, count, lt)

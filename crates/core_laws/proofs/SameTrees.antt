@@ -5,6 +5,7 @@ use Rattle.std.specs.Int.{w16, from_be_bytes}
 use Rattle.std.proofs.lemmas.Nat.{from_be_bytes-to_be_bytes_2}
 use Rattle.std.specs.Str.{bytes_eq}
 use Rattle.sha2.proofs.Facts256.{length-sha256}
+use Rattle.disk_model.specs.Bytes.{AreBytes}
 use Rattle.node_image.specs.declared.node.RootRef.{RootRef}
 use Rattle.node_image.specs.declared.head.Head.{Head}
 use Rattle.node_image.specs.Layout.{greatest_of, is_sized}
@@ -14,23 +15,30 @@ use Rattle.htree_file.specs.Opening.{IsVerified, Loaded}
 use Rattle.htree_file.proofs.SameBytes.{not_same, same_is}
 use Rattle.htree_file.proofs.Sizes.{sized_few}
 use Rattle.core_laws.specs.Clashes.{HaveFlags, IsAlike, IsAlikeNode, NodeClash, input_at}
-use Rattle.core_laws.proofs.HashInputs.{SameFields, same_fields, same_heads, split}
+use Rattle.core_laws.proofs.HashInputs.{SameFields, input_bytes, same_fields, same_heads, split}
 
 sized_long : (h : Head) → is_sized h ≡ true → h.length ≤ 1048576
 sized_long h sized = leb-true h.length 1048576 (and_parts (leb h.length 1048576) (h.greatest == greatest_of h.length) sized).0
 
 module _ (root : RootRef) (a b : Loaded) (va : IsVerified root a) (vb : IsVerified root b) where
   some-a : 1 ≤ length a.nodes
-  some-a = omega (arith, va.all, (sized_few a.head va.sized).0)
+  some-a = omega (arith, va.hashed.all, (sized_few a.head va.hashed.sized).0)
 
   some-b : 1 ≤ length b.nodes
-  some-b = omega (arith, vb.all, (sized_few b.head vb.sized).0)
+  some-b = omega (arith, vb.hashed.all, (sized_few b.head vb.hashed.sized).0)
 
   hash-a : (n : ℕ) → 1 ≤ n → n ≤ length a.nodes → length (at_node a.nodes n).hash ≡ 32
-  hash-a n one le = ap length (va.hashes n one le) ∙ length-sha256 (input_at a n)
+  hash-a n one le = ap length (va.hashed.hashes n one le) ∙ length-sha256 (input_at a n)
 
   hash-b : (n : ℕ) → 1 ≤ n → n ≤ length b.nodes → length (at_node b.nodes n).hash ≡ 32
-  hash-b n one le = ap length (vb.hashes n one le) ∙ length-sha256 (input_at b n)
+  hash-b n one le = ap length (vb.hashed.hashes n one le) ∙ length-sha256 (input_at b n)
+
+  -- what is hashed is bytes
+  bytes-a : (n : ℕ) → 1 ≤ n → n ≤ length a.nodes → AreBytes (input_at a n)
+  bytes-a n one le = input_bytes a n va.wrapped.bytes va.fields one le va.hashed.all
+
+  bytes-b : (n : ℕ) → 1 ≤ n → n ≤ length b.nodes → AreBytes (input_at b n)
+  bytes-b n one le = input_bytes b n vb.wrapped.bytes vb.fields one le vb.hashed.all
 
   -- nodes with one stored hash have one input, or clash
   inputs : (n : ℕ) → 1 ≤ n → n ≤ length a.nodes → n ≤ length b.nodes → (at_node a.nodes n).hash ≡ (at_node b.nodes n).hash → (input_at a n ≡ input_at b n) ⊎ NodeClash a b
@@ -42,32 +50,34 @@ module _ (root : RootRef) (a b : Loaded) (va : IsVerified root a) (vb : IsVerifi
         node = n;
         first = one;
         within = (na, nb);
+        bytes = bytes-a n one na;
+        bytes_other = bytes-b n one nb;
         differ = not_same (input_at a n) (input_at b n) e;
-        same = sym (va.hashes n one na) ∙ same ∙ vb.hashes n one nb;
+        same = sym (va.hashed.hashes n one na) ∙ same ∙ vb.hashed.hashes n one nb;
       })
 
   heads : (a.head ≡ b.head) ⊎ NodeClash a b
-  heads = elim (inputs 1 (omega arith) some-a some-b (va.root_hash ∙ sym vb.root_hash)) [
+  heads = elim (inputs 1 (omega arith) some-a some-b (va.hashed.root_hash ∙ sym vb.hashed.root_hash)) [
     | inr clash ↦ inr clash
     | inl same ↦
         let f = same_fields (at_node a.nodes 1) (at_node b.nodes 1) (Some a.head) (Some b.head) (stored_hash a.nodes a.head.greatest 2) (stored_hash a.nodes a.head.greatest 3)
         (stored_hash b.nodes b.head.greatest 2) (stored_hash b.nodes b.head.greatest 3) (va.fields 1 (omega arith) some-a) (vb.fields 1 (omega arith) some-b) same in
-        let la = sized_long a.head va.sized in
-        let lb = sized_long b.head vb.sized in
-        let fa = sized_few a.head va.sized in
-        let fb = sized_few b.head vb.sized in
-        inl (same_heads a.head b.head _ _ va.wrapped vb.wrapped (omega (arith, la)) (omega (arith, lb)) (omega (arith, fa.1)) (omega (arith, fb.1)) f.rest)
+        let la = sized_long a.head va.hashed.sized in
+        let lb = sized_long b.head vb.hashed.sized in
+        let fa = sized_few a.head va.hashed.sized in
+        let fb = sized_few b.head vb.hashed.sized in
+        inl (same_heads a.head b.head _ _ va.wrapped.long vb.wrapped.long (omega (arith, la)) (omega (arith, lb)) (omega (arith, fa.1)) (omega (arith, fb.1)) f.rest)
   ]
 
   module _ (h : a.head ≡ b.head) where
     counts : length a.nodes ≡ length b.nodes
-    counts = va.all ∙ ap (λ (x : Head). x.greatest) h ∙ sym vb.all
+    counts = va.hashed.all ∙ ap (λ (x : Head). x.greatest) h ∙ sym vb.hashed.all
 
     stored-a : (m : ℕ) → m ≤ length a.nodes → stored_hash a.nodes a.head.greatest m ≡ Some (at_node a.nodes m).hash
-    stored-a m le = cond-true (leb m a.head.greatest) (Some (at_node a.nodes m).hash) None (le-leb m a.head.greatest (omega (arith, va.all, le)))
+    stored-a m le = cond-true (leb m a.head.greatest) (Some (at_node a.nodes m).hash) None (le-leb m a.head.greatest (omega (arith, va.hashed.all, le)))
 
     stored-b : (m : ℕ) → m ≤ length b.nodes → stored_hash b.nodes b.head.greatest m ≡ Some (at_node b.nodes m).hash
-    stored-b m le = cond-true (leb m b.head.greatest) (Some (at_node b.nodes m).hash) None (le-leb m b.head.greatest (omega (arith, vb.all, le)))
+    stored-b m le = cond-true (leb m b.head.greatest) (Some (at_node b.nodes m).hash) None (le-leb m b.head.greatest (omega (arith, vb.hashed.all, le)))
 
     abbrev SameOwn : ℕ → Type 0
     SameOwn p = SameFields (at_node a.nodes p) (at_node b.nodes p) (cond (p == 1) (Some a.head) None) (cond (p == 1) (Some b.head) None)
@@ -132,7 +142,7 @@ module _ (root : RootRef) (a b : Loaded) (va : IsVerified root a) (vb : IsVerifi
     ]
       where
         next : (k : ℕ) → AllSame k → (suc k ≤ length a.nodes → (at_node a.nodes (suc k)).hash ≡ (at_node b.nodes (suc k)).hash) ⊎ NodeClash a b
-        next zero all = inl (λ within. va.root_hash ∙ sym vb.root_hash)
+        next zero all = inl (λ within. va.hashed.root_hash ∙ sym vb.hashed.root_hash)
         next (suc k) all = elim (cases_lt (suc k) (length a.nodes)) [
           | inr past ↦ inl (λ within. absurd (omega (arith, past, within)))
           | inl within ↦

@@ -31,7 +31,8 @@ use Rattle.core_laws.specs.TamperScenarios.{TamperScenario, object_under}
 use Rattle.core_laws.specs.Given.{is_asked, position_by, position_of, decoding_given}
 use Rattle.core_laws.specs.Stores.{Store, replay_at}
 use Rattle.core_laws.specs.Mapped.{IsMapped}
-use Rattle.core_laws.specs.Shown.{IsGivenAt, IsPartial, IsWriteEndAt, Strays, asked_of, stands_for}
+use Rattle.tee_types.specs.declared.reply.Reply.TheVariants.{Done}
+use Rattle.core_laws.specs.Shown.{EndsCommit, IsGivenAt, IsPartial, IsWriteEndAt, Strays, asked_of, stands_for}
 use Rattle.core_laws.specs.WriteLaws.{IsMadeOver}
 use Rattle.core_laws.specs.ChangeLaws.{IsDueChange, TruncationsAreDueOrEnd, WritesAreDueOrEnd}
 use Rattle.core_laws.proofs.Mending.{some_same}
@@ -58,8 +59,8 @@ module _ (store : Store) (scenario : TamperScenario) (before : List HistoryRecor
       entry_object store scenario before x.name x.entry v mapped x.named ((λ i. given_version store.mounted before (x.file i) (x.generation i)) ∙ x.gives)
       ∙ (λ i. Some (object_under store.keys scenario (x.file i) (x.generation i) v))
 
-  pub end_by : Strays (stands_for x) (asked_of x) given → IsWriteEndAt store scenario before r
-  end_by strays = record { given = x; changes = partial; strays = strays }
+  pub end_by : EndsCommit Done x.reply x.mark → Strays (stands_for x) (asked_of x) given → IsWriteEndAt store scenario before r
+  end_by ends strays = record { given = x; changes = partial; ends = ends; strays = strays }
 
   -- What stands is sound and good at each block that was asked; or what was given strays.
   pub record IsFine : Type 0 where
@@ -72,11 +73,11 @@ module _ (store : Store) (scenario : TamperScenario) (before : List HistoryRecor
   first-asked : asked_of x 0 ≡ true
   first-asked = refl
 
-  pub fine_or_end : IsFine ⊎ IsWriteEndAt store scenario before r
-  fine_or_end = by_stands (stands_for x) refl
+  pub fine_or_end : EndsCommit Done x.reply x.mark → IsFine ⊎ IsWriteEndAt store scenario before r
+  fine_or_end ends = by_stands (stands_for x) refl
     where
       strays-at : (sp : Decoding) → stands_for x ≡ Some sp → Strays (Some sp) (asked_of x) given → IsWriteEndAt store scenario before r
-      strays-at sp stands strays = end_by (subst (λ (o : Option Decoding). Strays o (asked_of x) given) (sym stands) strays)
+      strays-at sp stands strays = end_by ends (subst (λ (o : Option Decoding). Strays o (asked_of x) given) (sym stands) strays)
 
       by_case : (sp : Decoding) (stands : stands_for x ≡ Some sp) → IsVerified v.root sp.tree → DecodedCase v.size v.attributes sp → IsFine ⊎ IsWriteEndAt store scenario before r
       by_case sp stands verified (OtherLength off damaged) = elim (alike_trees v.root sp.tree x.gave.tree verified x.gave.verified) [
@@ -90,10 +91,10 @@ module _ (store : Store) (scenario : TamperScenario) (before : List HistoryRecor
       ]
 
       by_stands : (o : Option Decoding) → stands_for x ≡ o → IsFine ⊎ IsWriteEndAt store scenario before r
-      by_stands None none = inr (end_by (subst (λ (o : Option Decoding). Strays o (asked_of x) given) (sym none) tt))
+      by_stands None none = inr (end_by ends (subst (λ (o : Option Decoding). Strays o (asked_of x) given) (sym none) tt))
       by_stands (Some sp) stands =
           let verified = verified_under store.keys scenario x.tag.file x.tag.generation v sp stands real in
-          let some : 0 < length sp.tree.nodes = omega (arith, verified.all, (sized_few sp.tree.head verified.sized).0) in
+          let some : 0 < length sp.tree.nodes = omega (arith, verified.hashed.all, (sized_few sp.tree.head verified.hashed.sized).0) in
           by_case sp stands verified (decoded_case v.size v.attributes sp some (row_at (page_decoded sp) (length sp.tree.nodes) 0 None some))
 
   module _ (fine : IsFine) where
@@ -167,12 +168,12 @@ module _ (store : Store) (scenario : TamperScenario) (before : List HistoryRecor
           ∙ ap (changed_object (replay_at store scenario before).state.objects x.name) (sym stands);
     }
 
-  pub write_or_end : IsDueChange store scenario before r x next ⊎ IsWriteEndAt store scenario before r
-  write_or_end = elim (fine_or_end store scenario before r x real mapped partial_write) [
+  pub write_or_end : EndsCommit Done x.reply x.mark → IsDueChange store scenario before r x next ⊎ IsWriteEndAt store scenario before r
+  write_or_end ended = elim (fine_or_end store scenario before r x real mapped partial_write ended) [
     | inr ends ↦ inr ends
     | inl fine ↦ elim (stood fine) [
       | inl stands ↦ inl (due_write fine stands)
-      | inr strays ↦ inr (end_by store scenario before r x real mapped partial_write (subst (λ (q : ℕ → Bool). Strays (stands_for x) q (decoding_given x.gave)) (λ i k. sym (asked-is k) i) strays))
+      | inr strays ↦ inr (end_by store scenario before r x real mapped partial_write ended (subst (λ (q : ℕ → Bool). Strays (stands_for x) q (decoding_given x.gave)) (λ i k. sym (asked-is k) i) strays))
     ]
   ]
     where
@@ -185,8 +186,8 @@ module _ (store : Store) (scenario : TamperScenario) (before : List HistoryRecor
           made (held store scenario before r x real mapped partial_write fine) (held_under store scenario before r x real mapped partial_write fine)
 
 pub writes_due : WritesAreDueOrEnd
-writes_due store scenario before r x real mapped next number bytes is changing size made =
-    write_or_end store scenario before r x real mapped next number bytes is changing.0.handle changing.0.live changing.1 changing.2 changing.3 changing.4 size made
+writes_due store scenario before r x real ended mapped next number bytes is changing size made =
+    write_or_end store scenario before r x real mapped next number bytes is changing.0.handle changing.0.live changing.1 changing.2 changing.3 changing.4 size made ended
 
 -- A truncation.
 module _ (store : Store) (scenario : TamperScenario) (before : List HistoryRecord) (r : HistoryRecord) (x : IsGivenAt store scenario before r) (real : IsReal store.keys x.version) (mapped : IsMapped store scenario before)
@@ -240,12 +241,12 @@ module _ (store : Store) (scenario : TamperScenario) (before : List HistoryRecor
           ∙ ap (changed_object (replay_at store scenario before).state.objects x.name) (sym stands);
     }
 
-  pub cut_or_end : IsDueChange store scenario before r x next ⊎ IsWriteEndAt store scenario before r
-  cut_or_end = elim (fine_or_end store scenario before r x real mapped partial_cut) [
+  pub cut_or_end : EndsCommit Done x.reply x.mark → IsDueChange store scenario before r x next ⊎ IsWriteEndAt store scenario before r
+  cut_or_end ended = elim (fine_or_end store scenario before r x real mapped partial_cut ended) [
     | inr ends ↦ inr ends
     | inl fine ↦ elim (cut-stood fine) [
       | inl stands ↦ inl (due_cut fine stands)
-      | inr strays ↦ inr (end_by store scenario before r x real mapped partial_cut (subst (λ (q : ℕ → Bool). Strays (stands_for x) q (decoding_given x.gave)) (λ i k. sym (cut-asked k) i) strays))
+      | inr strays ↦ inr (end_by store scenario before r x real mapped partial_cut ended (subst (λ (q : ℕ → Bool). Strays (stands_for x) q (decoding_given x.gave)) (λ i k. sym (cut-asked k) i) strays))
     ]
   ]
     where
@@ -258,5 +259,5 @@ module _ (store : Store) (scenario : TamperScenario) (before : List HistoryRecor
           made (held store scenario before r x real mapped partial_cut fine) (held_under store scenario before r x real mapped partial_cut fine)
 
 pub truncations_due : TruncationsAreDueOrEnd
-truncations_due store scenario before r x real mapped next number is changing made =
-    cut_or_end store scenario before r x real mapped next number is changing.0.handle changing.0.live changing.1 changing.2 changing.3 made
+truncations_due store scenario before r x real ended mapped next number is changing made =
+    cut_or_end store scenario before r x real mapped next number is changing.0.handle changing.0.live changing.1 changing.2 changing.3 made ended

@@ -153,7 +153,7 @@ module _ (store : Store) (scenario : TamperScenario) (before : List HistoryRecor
     trees = alike_trees v.root sp.tree g.gave.tree verified g.gave.verified
 
     some-node : 0 < length sp.tree.nodes
-    some-node = omega (arith, verified.all, (sized_few sp.tree.head verified.sized).0)
+    some-node = omega (arith, verified.hashed.all, (sized_few sp.tree.head verified.hashed.sized).0)
 
     is-there : (o : Object) → object_of v.size v.attributes (opened_decoded sp) ≡ o → object_at here.state.objects g.name ≡ Some o
     is-there o is = object-there ∙ ap (λ (y : Option Decoding). Some (object_decoded v.size v.attributes y)) stands ∙ ap Some is

@@ -99,8 +99,8 @@ module _ (keys : Keys) (scenario : TamperScenario) (file generation : ℕ) (v : 
       within : (own : Decoding) → decoding_of keys v ≡ Some own → own.tree.head.length ≡ 4096 + v.size → (k : ℕ) → 4096 * k < 4096 + v.size → k < length own.tree.nodes
       within own is long k low =
           let verified = tree-of own is in
-          let many : own.tree.head.greatest ≡ greatest_of own.tree.head.length = sized_greatest own.tree.head verified.sized in
-          omega (arith, verified.all, many, long, low)
+          let many : own.tree.head.greatest ≡ greatest_of own.tree.head.length = sized_greatest own.tree.head verified.hashed.sized in
+          omega (arith, verified.hashed.all, many, long, low)
 
       good_own : (own : Decoding) → decoding_of keys v ≡ Some own → IsSoundOf v.size v.attributes (opened_decoded own) c → (k : ℕ) → 4096 * k < 4096 + v.size
           → (o : Option (List ℕ)) → page_decoded own k ≡ o → ((page : List ℕ) → page_decoded own k ≡ Some page → ⊥) → ⊥

@@ -50,13 +50,14 @@ AreOwnLegal store scenario file records =
 abbrev pub IsFairHistory : Store → List HistoryRecord → Type 0
 IsFairHistory store records = (scenario : TamperScenario) → AreFair store scenario records
 
--- The first event at which the promises end.
+-- The first event at which the promises end. The file that its tag names is not honest.
 pub record IsEnded (store : Store) (scenario : TamperScenario) (records : List HistoryRecord) : Type 0 where
   pub front : List HistoryRecord
   pub event : HistoryRecord
   pub back : List HistoryRecord
   pub is : front ++ event ∷ back ≡ records
   pub answered : AreAnswered store scenario front
+  pub owed : IsOwed scenario event
   pub ends : IsEndAt store scenario front event
 
 -- no event shows a clash

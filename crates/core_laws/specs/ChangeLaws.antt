@@ -18,7 +18,7 @@ use Rattle.core_laws.specs.TamperScenarios.{TamperScenario, object_under}
 use Rattle.core_laws.specs.Given.{decoding_given}
 use Rattle.core_laws.specs.Stores.{Store, replay_at}
 use Rattle.core_laws.specs.Mapped.{IsMapped}
-use Rattle.core_laws.specs.Shown.{IsGivenAt, IsWriteEndAt}
+use Rattle.core_laws.specs.Shown.{EndsCommit, IsGivenAt, IsWriteEndAt}
 use Rattle.core_laws.specs.ReadLaws.{IsLive}
 use Rattle.core_laws.specs.WriteLaws.{IsMadeOver}
 
@@ -42,7 +42,7 @@ pub record IsDueChange (store : Store) (scenario : TamperScenario) (before : Lis
 abbrev pub WritesAreDueOrEnd : Type 0
 WritesAreDueOrEnd =
     (store : Store) (scenario : TamperScenario) (before : List HistoryRecord) (r : HistoryRecord) (x : IsGivenAt store scenario before r) → IsReal store.keys x.version
-    → IsMapped store scenario before → (next : Version) (number : ℕ) (bytes : List ℕ) → x.call ≡ Write number bytes
+    → EndsCommit Done x.reply x.mark → IsMapped store scenario before → (next : Version) (number : ℕ) (bytes : List ℕ) → x.call ≡ Write number bytes
     → IsChanging (replay_at store scenario before).state x.session x.version.size (Write number bytes) → next.size ≡ max x.version.size (x.position + length bytes)
     → IsMadeOver store.keys x.version next (decoding_given x.gave) (write_range (4096 + x.version.size) (4096 + x.position) (length bytes)) (4096 + x.position) bytes
     → IsDueChange store scenario before r x next ⊎ IsWriteEndAt store scenario before r
@@ -50,7 +50,7 @@ WritesAreDueOrEnd =
 abbrev pub TruncationsAreDueOrEnd : Type 0
 TruncationsAreDueOrEnd =
     (store : Store) (scenario : TamperScenario) (before : List HistoryRecord) (r : HistoryRecord) (x : IsGivenAt store scenario before r) → IsReal store.keys x.version
-    → IsMapped store scenario before → (next : Version) (number : ℕ) → x.call ≡ Truncate number next.size
+    → EndsCommit Done x.reply x.mark → IsMapped store scenario before → (next : Version) (number : ℕ) → x.call ≡ Truncate number next.size
     → IsChanging (replay_at store scenario before).state x.session x.version.size (Truncate number next.size)
     → IsMadeOver store.keys x.version next (decoding_given x.gave) (resize_range (4096 + x.version.size) (4096 + next.size)) (4096 + next.size) []
     → IsDueChange store scenario before r x next ⊎ IsWriteEndAt store scenario before r

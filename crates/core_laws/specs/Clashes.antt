@@ -3,6 +3,7 @@
 use Rattle.std.specs.Prelude.{◌≡◌, ◌≢◌, ◌⊎◌, ℕ, ◌+◌, ◌*◌, ◌==◌, ◌≤◌, ◌<◌, ◌^◌, List, length, cond, Bool, true, Some, None}
 use Rattle.std.specs.Int.{w16, to_be_bytes}
 use Rattle.sha2.specs.Sha256.{sha256}
+use Rattle.disk_model.specs.Bytes.{AreBytes}
 use Rattle.node_image.specs.declared.node.NodeImage.{NodeImage}
 use Rattle.node_image.specs.Hashes.{hash_input}
 use Rattle.node_image.specs.Tables.{at_node, stored_hash}
@@ -16,11 +17,13 @@ input_at tree n =
     hash_input (at_node tree.nodes n) (cond (n == 1) (Some tree.head) None)
     (stored_hash tree.nodes tree.head.greatest (2 * n)) (stored_hash tree.nodes tree.head.greatest (2 * n + 1))
 
--- At one node two different hash inputs have one SHA-256.
+-- At one node two different hash inputs, which are bytes, have one SHA-256.
 pub record NodeClash (one other : Loaded) : Type 0 where
   pub node : ℕ
   pub first : 1 ≤ node
   pub within : (node ≤ length one.nodes) × (node ≤ length other.nodes)
+  pub bytes : AreBytes (input_at one node)
+  pub bytes_other : AreBytes (input_at other node)
   pub differ : input_at one node ≢ input_at other node
   pub same : sha256 (input_at one node) ≡ sha256 (input_at other node)
 
@@ -41,7 +44,7 @@ pub record IsAlike (one other : Loaded) : Type 0 where
 abbrev pub HaveFlags : Loaded → Type 0
 HaveFlags tree = (n : ℕ) → 1 ≤ n → n ≤ length tree.nodes → (at_node tree.nodes n).flags < 2 ^ 16
 
--- Two different ciphertexts of block k both have the node's tag, under one key, vector and additional data.
+-- Two different blocks both have the tag of block k's node, under one key, vector and additional data.
 pub record BlockClash (key : List ℕ) (tree : Loaded) (k : ℕ) (one other : List ℕ) : Type 0 where
   pub differ : one ≢ other
   pub page : List ℕ
@@ -57,6 +60,6 @@ pub record BlocksClash (asked : ℕ → Bool) (one other : Decoding) : Type 0 wh
   pub is_asked : asked k ≡ true
   pub clash : BlockClash other.key other.tree k (one.block k) (other.block k)
 
--- A clash of two spelled trees, at a node or at one of these blocks.
+-- A clash of two trees with their blocks, at a node or at one of these blocks.
 abbrev pub Clash : (asked : ℕ → Bool) → (one other : Decoding) → Type 0
 Clash asked one other = NodeClash one.tree other.tree ⊎ BlocksClash asked one other

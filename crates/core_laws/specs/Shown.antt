@@ -3,15 +3,16 @@ use Rattle.std.specs.Prelude.{◌≡◌, ◌⊎◌, ℕ, List, Bool, true, Optio
 use Rattle.tee_types.specs.declared.call.Call.{Call}
 use Rattle.tee_types.specs.declared.call.Call.TheVariants.{Truncate, Write}
 use Rattle.tee_types.specs.declared.reply.Reply.{Reply}
-use Rattle.tee_types.specs.declared.reply.Reply.TheVariants.{Corrupt}
+use Rattle.tee_types.specs.declared.reply.Reply.TheVariants.{Corrupt, Done}
 use Rattle.htree_file.specs.Opening.{Loaded}
 use Rattle.store_model.specs.declared.name.ObjectName.{ObjectName}
 use Rattle.store_model.specs.declared.event.Event.TheVariants.{Call as CallEvent}
 use Rattle.store_model.specs.declared.event.Mark.{Mark}
-use Rattle.store_model.specs.declared.event.Mark.TheVariants.{Unchanged}
+use Rattle.store_model.specs.declared.event.Mark.TheVariants.{Doubtful, Made, Unchanged}
 use Rattle.store_model.specs.Files.{object_named}
 use Rattle.store_model.specs.Legal.{meant_by}
 use Rattle.store_model.specs.Record.{Tag}
+use Rattle.store_model.specs.ReplayState.{is_undone}
 use Rattle.history_seats.specs.Records.{HistoryRecord, Version}
 use Rattle.history_seats.specs.Mounts.{Entry}
 use Rattle.history_seats.specs.Directory.{given_version}
@@ -91,11 +92,18 @@ abbrev pub Strays : Option Decoding → (asked : ℕ → Bool) → (given : Deco
 Strays None asked given = ⊤
 Strays (Some sp) asked given = Lacks (Some sp) asked given.tree ⊎ Clash asked sp given
 
+-- how a commit may be answered, where this is the reply once it is made: so, or as undone where it was not, or is in doubt
+abbrev pub EndsCommit : (made : Reply) → Reply → Mark → Type 0
+EndsCommit made reply (Made commit) = reply ≡ made
+EndsCommit made reply Unchanged = is_undone reply ≡ true
+EndsCommit made reply (Doubtful commit) = is_undone reply ≡ true
+
 -- A change was staged over blocks of which the file gave others than those that stand for the version, or nothing good stands for one.
 -- The promises end there under the tamper scenario.
 pub record IsWriteEndAt (store : Store) (scenario : TamperScenario) (before : List HistoryRecord) (r : HistoryRecord) : Type 0 where
   pub given : IsGivenAt store scenario before r
   pub changes : IsPartial given.call
+  pub ends : EndsCommit Done given.reply given.mark
   pub strays : Strays (stands_for given) (asked_of given) (decoding_given given.gave)
 
 -- where the promises end under a tamper scenario

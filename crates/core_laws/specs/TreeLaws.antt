@@ -1,6 +1,7 @@
 -- One reference names one tree; and what a version is under a tamper scenario.
 use Rattle.std.specs.Prelude.{◌≡◌, ◌⊎◌, ℕ, false, List, Some, None}
 use Rattle.aes_block.specs.WrappedKey.{unwrapped_of}
+use Rattle.disk_model.specs.Bytes.{AreBytes}
 use Rattle.node_image.specs.declared.node.RootRef.{RootRef}
 use Rattle.htree_file.specs.Changes.{SealsAt}
 use Rattle.htree_file.specs.Opening.{IsVerified, Loaded}
@@ -22,10 +23,10 @@ OneReferenceNamesOneTree = (root : RootRef) (one other : Loaded) → IsVerified 
 abbrev pub AlikeTreesAreSame : Type 0
 AlikeTreesAreSame = (one other : Loaded) → HaveFlags one → HaveFlags other → IsAlike one other → one ≡ other
 
--- What an image holds is real.
+-- What an image of bytes holds is real.
 abbrev pub ImagesHoldRealVersions : Type 0
 ImagesHoldRealVersions =
-    (keys : Keys) (image : List ℕ) (root : RootRef) (app : List ℕ) (size attributes : ℕ) → IsReal keys (version_of_image keys image root app size attributes)
+    (keys : Keys) (image : List ℕ) (root : RootRef) (app : List ℕ) (size attributes : ℕ) → AreBytes image → IsReal keys (version_of_image keys image root app size attributes)
 
 -- A tamper scenario leaves a version's object with less damage, or the same.
 abbrev pub ScenariosMend : Type 0

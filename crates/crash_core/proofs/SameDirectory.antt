@@ -61,7 +61,7 @@ module _ (tsk image : List ℕ) (root : RootRef) (entries : List (Option DirEntr
 selected_block : (image : List ℕ) (root : RootRef) (tree : Loaded) → IsLoaded image root tree → (k : ℕ) → k < length tree.nodes
     → get_or (selected_tree image root.version).blocks k [] ≡ block_in image tree k
 selected_block image root tree l k lt =
-    row_at (λ m. part_in image (block m (block_bit (selected_node image root.version (m + 1)).flags))) (head_in image root.version).greatest k [] (omega (arith, ap (λ h. h.greatest) l.top, l.verified.all, lt))
+    row_at (λ m. part_in image (block m (block_bit (selected_node image root.version (m + 1)).flags))) (head_in image root.version).greatest k [] (omega (arith, ap (λ h. h.greatest) l.top, l.hashed.all, lt))
     ∙ ap (λ (x : NodeImage). part_in image (block k (block_bit x.flags))) (node_is image root.version tree.nodes (length tree.nodes) l.matches (k + 1) (omega arith) (omega (arith, lt)))
 
 pub same_block : (i r : List ℕ) (root : RootRef) (tree : Loaded) → load_of i root ≡ Ok tree → load_of r root ≡ Ok tree → selected_tree i root.version ≡ selected_tree r root.version
@@ -102,8 +102,8 @@ bad_below pages k (suc count) j is =
 pub blocks_within : (image : List ℕ) (root : RootRef) (tree : Loaded) → load_of image root ≡ Ok tree → blocks_of tree.head.length ≤ length tree.nodes
 blocks_within image root tree is =
     let l : IsLoaded image root tree = loaded_from image root tree is in
-    let greatest : tree.head.greatest ≡ max 1 ((tree.head.length + 4095) / 4096) = sized_greatest tree.head l.verified.sized in
-    omega (arith, greatest, l.verified.all)
+    let greatest : tree.head.greatest ≡ max 1 ((tree.head.length + 4095) / 4096) = sized_greatest tree.head l.hashed.sized in
+    omega (arith, greatest, l.hashed.all)
 
 module _ (a b : List ℕ) (root : RootRef) (tree : Loaded) (what : SelectedTree) (at : OpensTo root tree what a) (bt : OpensTo root tree what b) where
   same_or : (key : List ℕ) (pages : List (Option (List ℕ))) (bad : Option ℕ) → ((k : ℕ) → bad ≡ Some k → k < length tree.nodes) → or_bad a key tree pages bad ≡ or_bad b key tree pages bad

@@ -157,7 +157,7 @@ directory_opens tsk image root tree entries loads is =
     let found : or_bad image key tree pages (bad_block tree.head.length pages) ≡ Ok entries = sym (ap (directory_or tsk image) loads) ∙ is in
     let good = by_bad image key tree pages entries (bad_block tree.head.length pages) refl found in
     let ok = in_ok tree.head.length pages entries good.1 in
-    let many : length tree.nodes ≡ 8 = l.verified.all ∙ sized_greatest tree.head l.verified.sized ∙ ap greatest_of ok.0 in (
+    let many : length tree.nodes ≡ 8 = l.hashed.all ∙ sized_greatest tree.head l.hashed.sized ∙ ap greatest_of ok.0 in (
       opening tsk image tree,
       ap (opened_in image tsk) loads,
       record {

@@ -56,12 +56,12 @@ directory_wrong image key tree items bytes few is other are =
     ∙ cond-false (bytes == 32768) (distinct (entries_of (pages_of image key tree) 256)) (Err (WrongLength bytes)) (ne_eqb bytes 32768 other)
 
 pub nodes_eight : (root : RootRef) (tree : Loaded) → IsVerified root tree → tree.head.length ≡ 32768 → length tree.nodes ≡ 8
-nodes_eight root tree v is = v.all ∙ sized_greatest tree.head v.sized ∙ ap greatest_of is
+nodes_eight root tree v is = v.hashed.all ∙ sized_greatest tree.head v.hashed.sized ∙ ap greatest_of is
 
 pub few_blocks : (root : RootRef) (tree : Loaded) → IsVerified root tree → blocks_of tree.head.length ≤ length tree.nodes
 few_blocks root tree v =
-    let greatest : tree.head.greatest ≡ max 1 ((tree.head.length + 4095) / 4096) = sized_greatest tree.head v.sized in
-    omega (arith, greatest, v.all)
+    let greatest : tree.head.greatest ≡ max 1 ((tree.head.length + 4095) / 4096) = sized_greatest tree.head v.hashed.sized in
+    omega (arith, greatest, v.hashed.all)
 
 pub eight_blocks : (bytes : ℕ) → bytes ≡ 32768 → blocks_of bytes ≡ 8
 eight_blocks bytes is = omega (arith, is)
@@ -243,7 +243,7 @@ loaded_inside {F = F} t u tsk root entries same is_root idle keyed verified byte
       whole = are.whole;
       forms = are.forms;
       key = keyed;
-      tree = record { bytes = bytes; blocks = sized_greatest t.tree.head verified.sized ∙ ap greatest_of bytes; verified = subst (λ (r : RootRef). IsVerified r t.tree) (sym is_root) verified };
+      tree = record { bytes = bytes; blocks = sized_greatest t.tree.head verified.hashed.sized ∙ ap greatest_of bytes; verified = subst (λ (r : RootRef). IsVerified r t.tree) (sym is_root) verified };
       staged = subst (λ (o : Option Staged). NextFits t.tree.head.wrapped o None) (sym idle) refl;
     })
 

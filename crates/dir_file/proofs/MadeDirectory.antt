@@ -91,7 +91,7 @@ made_inside t tsk root entries is keyed is_root verified bytes idle = record {
   whole = ap length is ∙ free_count;
   forms = λ i lt. subst (λ (e : Option DirEntry). IfSome e HasForm) (sym (ap (λ (l : List (Option DirEntry)). get_or l i None) is ∙ none_at i (omega (arith, ap length is, free_count, lt)))) tt;
   key = keyed;
-  tree = record { bytes = bytes; blocks = sized_greatest t.tree.head verified.sized ∙ ap greatest_of bytes; verified = subst (λ (r : RootRef). IsVerified r t.tree) is_root verified };
+  tree = record { bytes = bytes; blocks = sized_greatest t.tree.head verified.hashed.sized ∙ ap greatest_of bytes; verified = subst (λ (r : RootRef). IsVerified r t.tree) is_root verified };
   staged = subst (λ (o : Option Staged). NextFits t.tree.head.wrapped o None) (sym idle) refl;
 }
 

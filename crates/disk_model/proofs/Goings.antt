@@ -7,10 +7,12 @@ use Rattle.disk_model.specs.Calls.{Known, GoesOn}
 pub goes_on_none : (s : FileState) → GoesOn s s
 goes_on_none s = record {
   honest = λ h. h;
+  stays_honest = λ tells none h. h;
   steady = refl;
   calm = λ h. h;
   tells = refl;
   tells_arms = refl;
+  arms = λ tells. record { stop_after = refl; failing = refl; taints = refl };
   faults = omega arith;
   starved = omega arith;
   quiet = λ h. inl refl;
@@ -20,16 +22,24 @@ goes_on_none s = record {
 pub goes_on_then : (a b c : FileState) → GoesOn a b → GoesOn b c → GoesOn a c
 goes_on_then a b c first second = record {
   honest = λ h. first.honest (second.honest h);
+  stays_honest = λ tells none h. second.stays_honest (still_tells tells) ((first.arms tells).taints ∙ none) (first.stays_honest tells none h);
   steady = second.steady ∙ first.steady;
   calm = λ h. second.calm (first.calm h);
   tells = second.tells ∙ first.tells;
   tells_arms = second.tells_arms ∙ first.tells_arms;
+  arms = λ tells.
+      let before = first.arms tells in
+      let behind = second.arms (still_tells tells) in
+      record { stop_after = behind.stop_after ∙ before.stop_after; failing = behind.failing ∙ before.failing; taints = behind.taints ∙ before.taints };
   faults = omega (arith, first.faults, second.faults);
   starved = omega (arith, first.starved, second.starved);
   quiet = quiet;
   written = omega (arith, first.written, second.written);
 }
   where
+    still_tells : IsTrue a.tells_arms → IsTrue b.tells_arms
+    still_tells tells = subst (λ (t : Bool). IsTrue t) (sym first.tells_arms) tells
+
     quiet : IsTrue a.calm → (c.faults ≡ a.faults) ⊎ Rose a.starved c.starved
     quiet calm = elim (first.quiet calm) [
       | inr rose ↦ inr (omega (arith, rose, second.starved))

@@ -33,6 +33,12 @@ arm_taint arms taint = record arms { calls = 0; taints = arms.taints ++ taint �
 abbrev pub count_call : Arms → Arms
 count_call arms = record arms { calls = next_count arms.calls }
 
+-- what is armed stayed, and calls may have been counted
+pub record KeepsArms (old new : Arms) : Type 0 where
+  pub stop_after : new.stop_after ≡ old.stop_after
+  pub failing : new.failing ≡ old.failing
+  pub taints : new.taints ≡ old.taints
+
 -- the next call is one that is to fail
 abbrev pub NamesNext : Arms → Type 0
 NamesNext arms =

@@ -1,5 +1,9 @@
--- The bytes of a file after a change.
-use Rattle.std.specs.Prelude.{ℕ, ◌+◌, ◌-◌, List, [], ◌∷◌, ◌++◌, length, take, drop, replicate, bit_xor}
+-- The bytes of a file, and what they are after a change.
+use Rattle.std.specs.Prelude.{ℕ, ◌+◌, ◌-◌, ◌<◌, List, [], ◌∷◌, ◌++◌, length, get_or, take, drop, replicate, bit_xor}
+
+-- each element is a byte
+abbrev pub AreBytes : List ℕ → Type 0
+AreBytes bytes = (place : ℕ) → get_or bytes place 0 < 256
 
 -- after these bytes were written at a place, with zero between the old end and that place
 abbrev pub after_write : List ℕ → ℕ → List ℕ → List ℕ

@@ -1,6 +1,7 @@
 -- What the calls of a file do to what is known of it.
 use Rattle.std.specs.Prelude.{◌≡◌, ◌⊎◌, ℕ, ◌<◌, ◌≤◌, [], ◌∷◌, ◌++◌, length, true, IsTrue}
 use Rattle.disk_model.specs.declared.span.Change.{Change}
+use Rattle.disk_model.specs.Arms.{KeepsArms}
 use Rattle.disk_model.specs.Faults.{Rose}
 use Rattle.disk_model.specs.Images.{in_span}
 use Rattle.disk_model.specs.State.{FileState}
@@ -9,14 +10,17 @@ use Rattle.disk_model.specs.State.{FileState}
 abbrev pub Known : FileState → FileState → Type 0
 Known old new = IsTrue new.honest ⊎ IsTrue old.steady
 
--- The meanings go on: honesty is only lost, steadiness is neither lost nor gained, calm lasts, counts only rise, and a calm
--- file counted a fault only where it counted one for want of memory.
+-- The meanings go on: honesty is only lost, and not by a file that tells its arms and has no mask among them. Steadiness is neither
+-- lost nor gained, calm lasts, counts only rise, a calm file counted a fault only where it counted one for want of memory, and one that
+-- tells its arms keeps them.
 pub record GoesOn (old new : FileState) : Type 0 where
   pub honest : IsTrue new.honest → IsTrue old.honest
+  pub stays_honest : IsTrue old.tells_arms → old.arms.taints ≡ [] → IsTrue old.honest → IsTrue new.honest
   pub steady : new.steady ≡ old.steady
   pub calm : IsTrue old.calm → IsTrue new.calm
   pub tells : new.tells ≡ old.tells
   pub tells_arms : new.tells_arms ≡ old.tells_arms
+  pub arms : IsTrue old.tells_arms → KeepsArms old.arms new.arms
   pub faults : old.faults ≤ new.faults
   pub starved : old.starved ≤ new.starved
   pub quiet : IsTrue old.calm → (new.faults ≡ old.faults) ⊎ Rose old.starved new.starved

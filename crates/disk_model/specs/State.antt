@@ -3,6 +3,7 @@ use Rattle.std.specs.Prelude.{◌≡◌, ◌↔◌, ℕ, zero, suc, ◌≤◌, L
 use Rattle.disk_model.specs.declared.span.Span.{Span}
 use Rattle.disk_model.specs.declared.span.Change.{Change}
 use Rattle.disk_model.specs.Images.{Has, in_spans, MayLeave}
+use Rattle.disk_model.specs.Bytes.{AreBytes}
 use Rattle.disk_model.specs.Arms.{Arms, NamesNone}
 
 pub record FileState : Type 0 where
@@ -73,6 +74,8 @@ pub record BytesAgree (settled reads : List ℕ) (trail : List Change) (pending_
 -- what holds of every file
 pub record Sound (s : FileState) : Type 0 where
   pub bytes : BytesAgree s.settled s.reads s.trail s.pending_from s.honest
+  -- it reads as bytes
+  pub reads : AreBytes s.reads
   -- an honest file tells its bytes
   pub told : IsTrue s.honest → IsTrue s.tells
   -- one that tells its arms is calm where no call is to fail, and steady where no mask is to strike

@@ -28,7 +28,7 @@ use Rattle.htree_file.proofs.Sizes.{sized_few}
 
 -- a tree has 1 to 256 nodes
 pub loaded_few : (image : List ℕ) (root : RootRef) (tree : Loaded) → IsLoaded image root tree → (1 ≤ length tree.nodes) × (length tree.nodes ≤ 256)
-loaded_few image root tree l = let few = sized_few tree.head l.verified.sized in (omega (arith, few.0, l.verified.all), omega (arith, few.1, l.verified.all))
+loaded_few image root tree l = let few = sized_few tree.head l.hashed.sized in (omega (arith, few.0, l.hashed.all), omega (arith, few.1, l.hashed.all))
 
 -- a selected part ends within an image in which the tree loads
 pub part_ends : (image : List ℕ) (root : RootRef) (tree : Loaded) → root.version < 2 → IsLoaded image root tree → (q : Part) → IsSelected tree.nodes root.version q → start q + size q ≤ length image
@@ -45,7 +45,7 @@ same_selected i r root tree a b same (node n v) at =
     let w = node_version nodes root.version n in
     let e : (n - 1) + 1 ≡ n = omega (arith, at.0) in
     let nodes_of : (image : List ℕ) → IsLoaded image root tree → get_or (selected_tree image root.version).nodes (n - 1) [] ≡ part_in image (node n w) = λ image l.
-    row_at (λ k. part_in image (node (k + 1) (version_in image root.version (k + 1)))) (head_in image root.version).greatest (n - 1) [] (omega (arith, ap (λ h. h.greatest) l.top, l.verified.all, at.0, at.1))
+    row_at (λ k. part_in image (node (k + 1) (version_in image root.version (k + 1)))) (head_in image root.version).greatest (n - 1) [] (omega (arith, ap (λ h. h.greatest) l.top, l.hashed.all, at.0, at.1))
     ∙ ap (λ (k : ℕ). part_in image (node k (version_in image root.version k))) e
     ∙ ap (λ (u : ℕ). part_in image (node n u)) (version_is image root.version nodes (length nodes) l.matches n at.0 at.1) in
     subst (λ (u : ℕ). part_in i (node n u) ≡ part_in r (node n u)) (sym at.2) (sym (nodes_of i a) ∙ ap (λ (s : SelectedTree). get_or s.nodes (n - 1) []) same ∙ nodes_of r b)
@@ -53,7 +53,7 @@ same_selected i r root tree a b same (block k v) at =
     let nodes = tree.nodes in
     let w = block_version nodes k in
     let blocks_of : (image : List ℕ) → IsLoaded image root tree → get_or (selected_tree image root.version).blocks k [] ≡ part_in image (block k w) = λ image l.
-    row_at (λ m. part_in image (block m (block_bit (selected_node image root.version (m + 1)).flags))) (head_in image root.version).greatest k [] (omega (arith, ap (λ h. h.greatest) l.top, l.verified.all, at.0))
+    row_at (λ m. part_in image (block m (block_bit (selected_node image root.version (m + 1)).flags))) (head_in image root.version).greatest k [] (omega (arith, ap (λ h. h.greatest) l.top, l.hashed.all, at.0))
     ∙ ap (λ (x : NodeImage). part_in image (block k (block_bit x.flags))) (node_is image root.version nodes (length nodes) l.matches (k + 1) (omega arith) (omega (arith, at.0))) in
     subst (λ (u : ℕ). part_in i (block k u) ≡ part_in r (block k u)) (sym at.1) (sym (blocks_of i a) ∙ ap (λ (s : SelectedTree). get_or s.blocks k []) same ∙ blocks_of r b)
 
@@ -68,7 +68,7 @@ module _ (i r : List ℕ) (root : RootRef) (tree : Loaded) (l : IsLoaded r root 
     form = ap has_form (part_same (head root.version) refl) ∙ l.form;
     top = ap head_of (part_same (head root.version) refl) ∙ l.top;
     matches = λ n least most. ap node_of (part_same (node n (node_version tree.nodes root.version n)) (let at : IsSelected tree.nodes root.version (node n (node_version tree.nodes root.version n)) = (least, most, refl) in at)) ∙ l.matches n least most;
-    verified = l.verified;
+    hashed = l.hashed;
     ends = λ k lt. omega (arith, (each (block k (block_version tree.nodes k)) (let at : IsSelected tree.nodes root.version (block k (block_version tree.nodes k)) = (lt, refl) in at) 4095 (omega arith)).below);
   }
 
@@ -90,7 +90,7 @@ module _ (i r : List ℕ) (root : RootRef) (tree : Loaded) (l : IsLoaded r root 
       ∙ ap (λ (x : NodeImage). part_in r (block k (block_bit x.flags))) (sym (node_is r v tree.nodes (length tree.nodes) l.matches n (omega arith) (omega arith)))
 
   count_of : (image : List ℕ) → IsLoaded image root tree → (head_in image root.version).greatest ≡ length tree.nodes
-  count_of image loads = ap (λ h. h.greatest) loads.top ∙ sym loads.verified.all
+  count_of image loads = ap (λ h. h.greatest) loads.top ∙ sym loads.hashed.all
 
   row_of : (image : List ℕ) → IsLoaded image root tree → (f : ℕ → List ℕ) → row f (head_in image root.version).greatest ≡ row f (length tree.nodes)
   row_of image loads f = ap (row f) (count_of image loads)

@@ -1,4 +1,5 @@
 pub mod SameBytes
+pub mod ByteLists
 pub mod Damage
 pub mod ReadParts
 pub mod Sizes

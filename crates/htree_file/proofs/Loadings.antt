@@ -3,6 +3,7 @@ use Rattle.std.proofs.Common.{◌≡◌, ℕ, zero, suc, ◌+◌, ◌-◌, ◌�
 use Rattle.std.proofs.lemmas.Bool.{leb-true}
 use Rattle.std.proofs.lemmas.List.{map-append}
 use Rattle.std.specs.Str.{bytes_eq}
+use Rattle.disk_model.specs.Bytes.{AreBytes}
 use Rattle.node_image.specs.declared.node.NodeImage.{NodeImage}
 use Rattle.node_image.specs.declared.node.RootRef.{RootRef}
 use Rattle.node_image.specs.declared.head.Head.{Head}
@@ -13,17 +14,17 @@ use Rattle.node_image.specs.Selection.{Matches, head_in, nodes_in, part_in, row,
 use Rattle.node_image.proofs.Matching.{length-row, node_is, row_is, table_matches}
 use Rattle.htree_file.specs.declared.fault.TreeFault.{TreeFault}
 use Rattle.htree_file.specs.declared.fault.TreeFault.TheVariants.{BadHead, Damaged, Short}
-use Rattle.htree_file.specs.Opening.{Loaded, checked, first_damaged, load_of, long_enough, need_of, or_damaged, table_of}
+use Rattle.htree_file.specs.Opening.{IsVerified, Loaded, checked, first_damaged, load_of, long_enough, need_of, or_damaged, table_of}
 use Rattle.htree_file.specs.Selected.{IsLoaded, loaded_in}
 use Rattle.htree_file.proofs.Damage.{each_ends, need_within, undamaged}
 use Rattle.htree_file.proofs.Verdicts.{checked_by, table_checked}
-use Rattle.htree_file.proofs.Verified.{cond_ok, long_is, table_verified, undamaged_ok}
+use Rattle.htree_file.proofs.Verified.{cond_ok, long_is, table_hashed, table_verified, undamaged_ok}
 
 -- the nodes of a tree that loads are those that the reference selects
 nodes_selected : (image : List ℕ) (root : RootRef) (tree : Loaded) → IsLoaded image root tree → row (λ k. selected_node image root.version (k + 1)) tree.head.greatest ≡ tree.nodes
 nodes_selected image root tree l =
-    row_is (λ k. selected_node image root.version (k + 1)) tree.nodes tree.head.greatest no_node l.verified.all
-    (λ k lt. node_is image root.version tree.nodes (length tree.nodes) l.matches (k + 1) (omega arith) (omega (arith, lt, l.verified.all)) ∙ ap (λ (j : ℕ). get_or tree.nodes j no_node) (let e : (k + 1) - 1 ≡ k = omega arith in e))
+    row_is (λ k. selected_node image root.version (k + 1)) tree.nodes tree.head.greatest no_node l.hashed.all
+    (λ k lt. node_is image root.version tree.nodes (length tree.nodes) l.matches (k + 1) (omega arith) (omega (arith, lt, l.hashed.all)) ∙ ap (λ (j : ℕ). get_or tree.nodes j no_node) (let e : (k + 1) - 1 ≡ k = omega arith in e))
 
 pub loaded_is : (image : List ℕ) (root : RootRef) (tree : Loaded) → IsLoaded image root tree → load_of image root ≡ Ok tree
 loaded_is image root tree l =
@@ -32,7 +33,7 @@ loaded_is image root tree l =
     let nodes_are : nodes ≡ row (λ k. selected_node image root.version (k + 1)) h.greatest = sym (nodes_selected image root tree l) in
     let table : table_of image root ≡ Ok tree =
     table_checked image root h (sym l.top) nodes l.form nodes_are
-    ∙ checked_by h nodes root None l.verified.root_hash (sym (undamaged h nodes 1 (length nodes) (λ n le lt. l.verified.hashes n le (omega arith)))) in
+    ∙ checked_by h nodes root None l.hashed.root_hash (sym (undamaged h nodes 1 (length nodes) (λ n le lt. l.hashed.hashes n le (omega arith)))) in
     long_is (length image) (table_of image root) tree table (need_within nodes (length nodes) (length image) l.ends)
 
 ends_ok : (end : ℕ) (r : Result Loaded TreeFault) (tree : Loaded) → long_enough end r ≡ Ok tree → (r ≡ Ok tree) × (need_of tree.nodes (length tree.nodes) ≤ end)
@@ -57,9 +58,13 @@ loaded_from image root tree is =
       form = formed.0;
       top = ap (λ (t : Loaded). t.head) sound.1;
       matches = subst (λ (t : Loaded). Matches image v t.nodes (length t.nodes)) sound.1 matches;
-      verified = table_verified image root tree ended.0;
+      hashed = (table_hashed image root tree ended.0).0;
       ends = each_ends tree.nodes (length tree.nodes) (length image) ended.1;
     }
+
+-- in an image of bytes the tree that loads is verified
+pub verified_from : (image : List ℕ) (root : RootRef) (tree : Loaded) → AreBytes image → load_of image root ≡ Ok tree → IsVerified root tree
+verified_from image root tree bytes is = table_verified image root tree bytes (ends_ok (length image) (table_of image root) tree is).0
 
 -- what the selected bytes hold
 map_row : {A B : Type 0} (h : A → B) (f : ℕ → A) (n : ℕ) → map h (row f n) ≡ row (λ k. h (f k)) n

@@ -32,7 +32,7 @@ is_made known file key top changes dirty table w all sized hits each =
       root_is = refl;
       verified = verified;
       loaded = λ is. loaded_is file _ (record { head = top; nodes = table })
-          (written_loads known file key top 0 changes dirty table w is sized verified (λ n least most idle. absurd (false≢true (sym idle ∙ hits n least most)))
+          (written_loads known file key top 0 changes dirty table w is sized verified.hashed (λ n least most idle. absurd (false≢true (sym idle ∙ hits n least most)))
           (λ k lt. ((sealed_at known file key top 0 changes dirty table w k (each k lt)).stands is).fits));
       opens = λ is j lt. written_page known file key top 0 changes dirty table w is (block_at changes j) (mine j lt);
       seals = λ j lt. let sealed = sealed_at known file key top 0 changes dirty table w (block_at changes j) (mine j lt) in (sealed.ciphertext, sealed.opens);

@@ -1,5 +1,5 @@
 -- One turn of the loops that draw vectors, seal pages and write nodes.
-use Rattle.std.proofs.Common.{◌≡◌, ◌≢◌, inl, inr, ℕ, ◌+◌, ◌-◌, ◌*◌, ◌<◌, ◌≤◌, List, length, get_or, set, Bool, true, cond, refl, sym, ◌∙◌, ap, subst, arith}
+use Rattle.std.proofs.Common.{◌≡◌, ◌≢◌, inl, inr, ℕ, ◌+◌, ◌-◌, ◌*◌, ◌<◌, ◌≤◌, List, length, get_or, set, Bool, true, cond, sym, ◌∙◌, ap, subst, arith}
 use Rattle.std.proofs.lemmas.Bool.{cases_lt, cases_eq}
 use Rattle.std.proofs.lemmas.List.{get_or-set_other, get_or-set_same}
 use Rattle.disk_model.specs.State.{FileState}
@@ -134,7 +134,7 @@ module _ (table : List NodeImage) (root : ℕ) (few : length table ≤ 256) (bit
         let e : k + 1 ≡ n = omega arith in
         let mine = one (subst (λ (m : ℕ). chosen m ≡ true) (sym e) hit) in
         subst (λ (m : ℕ). NodeStands (Known entry new) new.reads (named_node table root m) (at_node table m)) e
-        (record { stands = λ known. mine.stands (then_known entry now new first known); returns = mine.returns })
+        (record { stands = λ known. mine.stands (then_known entry now new first known); returns = mine.returns; bytes = mine.bytes })
     | inr low ↦
         let was = before n least low hit in
         record {
@@ -142,5 +142,6 @@ module _ (table : List NodeImage) (root : ℕ) (few : length table ≤ 256) (bit
               (λ p at. off_other (named_node table root n) (named_node table root (k + 1)) p (named_is_part n least (omega arith)) (named_is_part (k + 1) (omega arith) (omega arith)) (λ same. let e : n ≡ k + 1 = ap number same in omega (arith, e, low)) at)
               (was.stands (first_known entry now new keeps.goes_on known));
           returns = was.returns;
+          bytes = was.bytes;
         }
   ]

@@ -10,12 +10,12 @@ use Rattle.node_image.specs.declared.head.Head.{Head}
 use Rattle.node_image.specs.Layout.{is_sized, node_of}
 use Rattle.node_image.specs.Parts.{IsPart, Off, Part, size, start}
 use Rattle.node_image.specs.Parts.Part.{block, head, node}
-use Rattle.node_image.specs.Tables.{at_node, block_version, node_version}
+use Rattle.node_image.specs.Tables.{at_node, hash_in, block_version, node_version}
 use Rattle.node_image.specs.Selection.{node_in, part_in}
 use Rattle.node_image.proofs.PartPlaces.{off_other}
 use Rattle.htree_file.specs.declared.change.BlockChange.{BlockChange}
 use Rattle.htree_file.specs.Changes.{AreApart, AreChanges, IsChanged, SealsAt, block_at, page_after, page_for}
-use Rattle.htree_file.specs.Opening.{HasFields, IsVerified}
+use Rattle.htree_file.specs.Opening.{HasFields, IsHashed, IsVerified}
 use Rattle.htree_file.specs.Pages.{page_in, page_of}
 use Rattle.htree_file.specs.Selected.{IsLoaded, IsSelected, Lies}
 use Rattle.htree_file.specs.Staging.{IsWritten, MadeFrom, OffWritten, SealsAnew, named_node, wanted_page}
@@ -31,7 +31,7 @@ use Rattle.htree_file.proofs.SameTable.{node_version_bit}
 use Rattle.htree_file.proofs.SealSteps.{number, version}
 use Rattle.htree_file.proofs.Sizes.{sized_greatest}
 use Rattle.htree_file.proofs.StageOpens.{opens_after}
-use Rattle.htree_file.proofs.Written.{sealed_at, written_loads, written_page, written_verified}
+use Rattle.htree_file.proofs.Written.{sealed_at, written_hashed, written_loads, written_page, written_verified}
 
 size_some : (q : Part) → 1 ≤ size q
 size_some (head v) = omega arith
@@ -151,11 +151,16 @@ module _ (a d : FileState) (key : List ℕ) (root : RootRef) (was top : Head) (n
   same : (n : ℕ) → 1 ≤ n → n ≤ length next → dirty n ≡ false → (n ≤ length nodes) × (at_node next n ≡ at_node nodes n)
   same = next_same nodes filled drawn changes dirty moved closed_drawn turns anew next long from
 
+  hash_next : IsHashed root (record { head = was; nodes = nodes }) → (n : ℕ) → 1 ≤ n → n ≤ length next → dirty n ≡ false → (at_node next n).hash ≡ hash_in next top n
+  hash_next hashed n least most idle = hashes_next nodes next changes top dirty moved closed w.hashed same was (sym hashed.all) (sym all) hashed.hashes n least most
+
+  hashed_next : IsHashed root (record { head = was; nodes = nodes }) → IsHashed (record { hash = (at_node next 1).hash; version = 1 - root.version }) (record { head = top; nodes = next })
+  hashed_next hashed = written_hashed (Known a d) d.reads key top (1 - root.version) changes dirty next w all sized (hash_next hashed)
+
   verified_next : IsVerified root (record { head = was; nodes = nodes }) → IsVerified (record { hash = (at_node next 1).hash; version = 1 - root.version }) (record { head = top; nodes = next })
   verified_next verified =
       written_verified (Known a d) d.reads key top (1 - root.version) changes dirty next w all sized
-      (λ n least most idle. let old = same n least most idle in
-      (hashes_next nodes next changes top dirty moved closed w.hashed same was (sym verified.all) (sym all) verified.hashes n least most, subst HasFields (sym old.1) (verified.fields n least old.0)))
+      (λ n least most idle. let old = same n least most idle in (hash_next verified.hashed n least most idle, subst HasFields (sym old.1) (verified.fields n least old.0)))
 
   module _ (loads : IsLoaded a.reads root (record { head = was; nodes = nodes })) (known : Known a d) where
     -- a selected part stands as it stood
@@ -199,7 +204,7 @@ module _ (a d : FileState) (key : List ℕ) (root : RootRef) (was top : Head) (n
         ap (node_in d.reads n) u ∙ ap node_of (kept (node n w) at).is ∙ loads.matches n least old.0 ∙ sym old.1
 
     pub next_loads : IsLoaded d.reads (record { hash = (at_node next 1).hash; version = 1 - root.version }) (record { head = top; nodes = next })
-    next_loads = written_loads (Known a d) d.reads key top (1 - root.version) changes dirty next w known sized (verified_next loads.verified) old_node_stands ends
+    next_loads = written_loads (Known a d) d.reads key top (1 - root.version) changes dirty next w known sized (hashed_next loads.hashed) old_node_stands ends
 
   pub is_stage : IsStage (Known a d) a.reads d.reads key root (record { head = was; nodes = nodes }) (record { hash = (at_node next 1).hash; version = 1 - root.version }) (record { head = top; nodes = next }) changes
   is_stage = record {

@@ -12,8 +12,9 @@ use Rattle.node_image.specs.Selection.{head_in, nodes_in, part_in, selected_node
 use Rattle.node_image.proofs.Matching.{length-row}
 use Rattle.htree_file.specs.declared.fault.TreeFault.{TreeFault}
 use Rattle.htree_file.specs.declared.fault.TreeFault.TheVariants.{BadHead, BadTag, Damaged, Failed, NoEntropy, NoMemory, Short}
-use Rattle.htree_file.specs.Opening.{IsVerified, Loaded, checked, first_damaged, load_of, long_enough, need_of, or_damaged, table_of}
+use Rattle.htree_file.specs.Opening.{HasWidth, HaveFields, IsHashed, IsVerified, Loaded, checked, first_damaged, load_of, long_enough, need_of, or_damaged, table_of}
 use Rattle.htree_file.specs.Answers.{Differs, IsLoadFault}
+use Rattle.disk_model.specs.Bytes.{AreBytes}
 use Rattle.htree_file.proofs.Damage.{none_damaged}
 use Rattle.htree_file.proofs.SameBytes.{same_is}
 use Rattle.htree_file.proofs.Sizes.{form_sized, head_in_width, nodes_in_width}
@@ -28,22 +29,33 @@ undamaged_ok h nodes None tree is = (refl, cc (is))
 undamaged_ok h nodes (Some n) tree is = absurd (cc (is))
 
 -- head and nodes that passed the tests
-pub table_verified : (image : List ℕ) (root : RootRef) (tree : Loaded) → table_of image root ≡ Ok tree → IsVerified root tree
-table_verified image root tree is =
+pub table_hashed : (image : List ℕ) (root : RootRef) (tree : Loaded) → table_of image root ≡ Ok tree
+    → IsHashed root tree × (◌≡◌ {A = Loaded} (record { head = head_in image root.version; nodes = nodes_in image root.version }) tree)
+table_hashed image root tree is =
     let h : Head = head_in image root.version in
     let nodes : List NodeImage = nodes_in image root.version in
     let one = cond_ok (has_form (part_in image (head root.version))) (checked h nodes root) (BadHead h.length h.greatest) tree is in
     let two = cond_ok (bytes_eq (at_node nodes 1).hash root.hash) (or_damaged h nodes (first_damaged h nodes 1 (length nodes))) (Damaged 1 root.hash (at_node nodes 1).hash) tree one.1 in
     let three = undamaged_ok h nodes (first_damaged h nodes 1 (length nodes)) tree two.1 in
-    let mine : IsVerified root (record { head = h; nodes = nodes }) = record {
+    let mine : IsHashed root (record { head = h; nodes = nodes }) = record {
       sized = form_sized (part_in image (head root.version)) one.0;
       all = length-row (λ k. selected_node image root.version (k + 1)) h.greatest;
       root_hash = same_is (at_node nodes 1).hash root.hash two.0;
       hashes = λ n least most. none_damaged h nodes 1 (length nodes) three.0 n least (omega (arith, most));
-      wrapped = head_in_width image root.version;
-      fields = λ n least most. nodes_in_width image root.version n least (omega (arith, most, length-row (λ k. selected_node image root.version (k + 1)) h.greatest));
     } in
-    subst (λ (t : Loaded). IsVerified root t) three.1 mine
+    (subst (λ (t : Loaded). IsHashed root t) three.1 mine, three.1)
+
+pub table_verified : (image : List ℕ) (root : RootRef) (tree : Loaded) → AreBytes image → table_of image root ≡ Ok tree → IsVerified root tree
+table_verified image root tree bytes is =
+    let h : Head = head_in image root.version in
+    let nodes : List NodeImage = nodes_in image root.version in
+    let hashed = table_hashed image root tree is in
+    record {
+      hashed = hashed.0;
+      wrapped = subst (λ (t : Loaded). HasWidth 16 t.head.wrapped) hashed.1 (head_in_width image root.version bytes);
+      fields = subst (λ (t : Loaded). HaveFields t.nodes) hashed.1
+          (λ n least most. nodes_in_width image root.version bytes n least (omega (arith, most, length-row (λ k. selected_node image root.version (k + 1)) h.greatest)));
+    }
 
 -- where the end suffices, and where it does not
 pub long_is : (end : ℕ) (r : Result Loaded TreeFault) (tree : Loaded) → r ≡ Ok tree → need_of tree.nodes (length tree.nodes) ≤ end → long_enough end r ≡ Ok tree

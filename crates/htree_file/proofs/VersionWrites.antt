@@ -77,6 +77,7 @@ module _ (changes : List BlockChange) (set : ℕ → Bool) (old mid next : List 
                 stands_kept (Off (head root)) c d q _ (omega arith) top.keeps (then_known a c d (goes_on_then a b c blocks.keeps.goes_on nodes.keeps.goes_on) known)
                 (λ p at. off_other q (head root) p (named_is_part next root few bit n least most) head_part (λ e. cc (e)) at) (was.stands (then_known a b c blocks.keeps.goes_on known_c));
             returns = was.returns;
+            bytes = was.bytes;
           }
 
       pub is_written : AreSealed (Known a b) b.reads key h mid changes (length changes) → HashedAmong set next h 0 → NodesStand (Known b c) c.reads root next set (length next)

@@ -9,7 +9,7 @@ use Rattle.node_image.specs.Tables.{at_node, hash_in, no_node, node_version}
 use Rattle.node_image.specs.Selection.{node_in}
 use Rattle.htree_file.specs.declared.change.BlockChange.{BlockChange}
 use Rattle.htree_file.specs.Changes.{IsChanged, page_at}
-use Rattle.htree_file.specs.Opening.{HasFields, IsVerified, Loaded}
+use Rattle.htree_file.specs.Opening.{HasFields, IsHashed, IsVerified, Loaded}
 use Rattle.htree_file.specs.Pages.{page_in, page_of}
 use Rattle.htree_file.specs.Selected.{BlocksEnd, IsLoaded}
 use Rattle.htree_file.specs.Staging.{IsSealed, IsWritten}
@@ -33,36 +33,44 @@ module _ (known : Type 0) (file key : List ℕ) (top : Head) (root : ℕ) (chang
   pub written_page : known → (k : ℕ) (c : IsChanged changes k) → page_in file key (record { head = top; nodes = table }) k ≡ Some (page_at changes c.place)
   written_page is k c = let sealed = sealed_at k c in ap (page_of key top (at_node table (k + 1)) k) (sealed.stands is).is ∙ sealed.opens
 
-  -- it is verified where its other nodes have their own hashes and widths
-  pub written_verified : length table ≡ top.greatest → is_sized top ≡ true
-      → ((n : ℕ) → 1 ≤ n → n ≤ length table → set n ≡ false → ((at_node table n).hash ≡ hash_in table top n) × HasFields (at_node table n))
-      → IsVerified (record { hash = (at_node table 1).hash; version = root }) (record { head = top; nodes = table })
-  written_verified all sized rest = record {
+  -- its hashes hold where its other nodes have their own
+  pub written_hashed : length table ≡ top.greatest → is_sized top ≡ true
+      → ((n : ℕ) → 1 ≤ n → n ≤ length table → set n ≡ false → (at_node table n).hash ≡ hash_in table top n)
+      → IsHashed (record { hash = (at_node table 1).hash; version = root }) (record { head = top; nodes = table })
+  written_hashed all sized rest = record {
     sized = sized;
     all = all;
     root_hash = refl;
     hashes = λ n least most. elim (cases_Bool (set n)) [
       | inl hit ↦ w.hashed n (omega arith) most hit
-      | inr idle ↦ (rest n least most idle).0
+      | inr idle ↦ rest n least most idle
     ];
+  }
+
+  -- and it is verified where these have their widths
+  pub written_verified : length table ≡ top.greatest → is_sized top ≡ true
+      → ((n : ℕ) → 1 ≤ n → n ≤ length table → set n ≡ false → ((at_node table n).hash ≡ hash_in table top n) × HasFields (at_node table n))
+      → IsVerified (record { hash = (at_node table 1).hash; version = root }) (record { head = top; nodes = table })
+  written_verified all sized rest = record {
+    hashed = written_hashed all sized (λ n least most idle. (rest n least most idle).0);
     wrapped = returned_width top w.top_returns;
     fields = λ n least most. elim (cases_Bool (set n)) [
-      | inl hit ↦ returned_fields (at_node table n) (w.nodes n least most hit).returns
+      | inl hit ↦ returned_fields (at_node table n) (w.nodes n least most hit).returns (w.nodes n least most hit).bytes
       | inr idle ↦ (rest n least most idle).1
     ];
   }
 
   -- and it loads where these stand too
-  pub written_loads : known → is_sized top ≡ true → IsVerified (record { hash = (at_node table 1).hash; version = root }) (record { head = top; nodes = table })
+  pub written_loads : known → is_sized top ≡ true → IsHashed (record { hash = (at_node table 1).hash; version = root }) (record { head = top; nodes = table })
       → ((n : ℕ) → 1 ≤ n → n ≤ length table → set n ≡ false → node_in file n (node_version table root n) ≡ at_node table n) → BlocksEnd file table
       → IsLoaded file (record { hash = (at_node table 1).hash; version = root }) (record { head = top; nodes = table })
-  written_loads is sized verified nodes ends = record {
+  written_loads is sized hashed nodes ends = record {
     form = ap has_form (w.top_stands is).is ∙ w.top_returns.form ∙ sized;
     top = ap head_of (w.top_stands is).is ∙ w.top_returns.read;
     matches = λ n least most. elim (cases_Bool (set n)) [
       | inl hit ↦ let stands = w.nodes n least most hit in ap node_of (stands.stands is).is ∙ stands.returns
       | inr idle ↦ nodes n least most idle
     ];
-    verified = verified;
+    hashed = hashed;
     ends = ends;
   }

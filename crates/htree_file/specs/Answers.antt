@@ -1,5 +1,5 @@
 -- What the answers of a tree's calls say.
-use Rattle.std.specs.Prelude.{◌≡◌, ℕ, ◌<◌, List, length, Some, None, Result, Ok, Err, IsTrue}
+use Rattle.std.specs.Prelude.{◌≡◌, ℕ, ◌<◌, List, length, true, Some, None, Result, Ok, Err, IsTrue}
 use Rattle.disk_model.specs.Faults.{Rose}
 use Rattle.disk_model.specs.State.{FileState}
 use Rattle.node_image.specs.declared.node.NodeImage.{NodeImage}
@@ -8,7 +8,7 @@ use Rattle.node_image.specs.declared.head.Head.{Head}
 use Rattle.htree_file.specs.declared.fault.TreeFault.{TreeFault}
 use Rattle.htree_file.specs.declared.fault.TreeFault.TheVariants.{BadHead, BadTag, Damaged, Failed, NoEntropy, NoMemory, Short}
 use Rattle.htree_file.specs.Opening.{IsVerified, Loaded, need_of, table_of}
-use Rattle.htree_file.specs.Pages.{page_of, tag_of}
+use Rattle.htree_file.specs.Pages.{is_block, page_of, tag_of}
 
 -- A call of the file failed: the file counted a fault, which the answer carries, and a calm file counted it for want of
 -- memory.
@@ -63,11 +63,12 @@ Differs reads root (Short end need) = (end ≡ length reads) × (end < need) × 
 Differs reads root fault = IsOutside fault
 
 -- What reading block k answers, where these are the ciphertexts that may have been read: the page of one that has the
--- node's tag, or both tags of one that has not, and that ciphertext.
+-- node's tag, or both tags of one that has not, and that block.
 abbrev pub BlockAnswer : (key : List ℕ) → Head → NodeImage → (k : ℕ) → (MayBe : List ℕ → Type 0) → {A : Type 0} → Result A TreeFault → (page : List ℕ) → Type 0
 BlockAnswer key head node k MayBe (Ok done) page = (ciphertext : List ℕ) × MayBe ciphertext × (page_of key head node k ciphertext ≡ Some page)
 BlockAnswer key head node k MayBe (Err (BadTag bad want found)) page =
     MayBe page × (page_of key head node k page ≡ None) × (bad ≡ k) × (want ≡ node.tag) × (found ≡ tag_of key head node k page)
+    × (is_block page ≡ true)
 BlockAnswer key head node k MayBe (Err (Failed count)) page = Unit {0}
 BlockAnswer key head node k MayBe (Err fault) page = ⊥
 

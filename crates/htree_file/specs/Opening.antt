@@ -1,5 +1,6 @@
 -- What a reference names in an image: a head and a table of nodes, or the first fault.
 use Rattle.std.specs.Prelude.{◌≡◌, ℕ, zero, suc, ◌+◌, ◌≤◌, List, length, true, nat_le, cond, max, Option, Some, None, Result, Ok, Err}
+use Rattle.disk_model.specs.Bytes.{AreBytes}
 use Rattle.node_image.specs.declared.node.NodeImage.{NodeImage}
 use Rattle.node_image.specs.declared.node.RootRef.{RootRef}
 use Rattle.node_image.specs.declared.head.Head.{Head}
@@ -57,19 +58,29 @@ long_enough end (Err fault) = Err fault
 abbrev pub load_of : List ℕ → RootRef → Result Loaded TreeFault
 load_of image root = long_enough (length image) (table_of image root)
 
--- what is hashed of a node has its width, so that the hash's input tells one field from the next
+-- so many bytes
+pub record HasWidth (width : ℕ) (field : List ℕ) : Type 0 where
+  pub long : length field ≡ width
+  pub bytes : AreBytes field
+
+-- each field of a node has its width, so that the hash's input tells one from the next
 pub record HasFields (n : NodeImage) : Type 0 where
-  pub iv : length n.iv ≡ 16
-  pub tag : length n.tag ≡ 16
+  pub hash : HasWidth 32 n.hash
+  pub iv : HasWidth 16 n.iv
+  pub tag : HasWidth 16 n.tag
 
 abbrev pub HaveFields : List NodeImage → Type 0
 HaveFields nodes = (n : ℕ) → 1 ≤ n → n ≤ length nodes → HasFields (at_node nodes n)
 
 -- a tree whose hashes hold under a reference
-pub record IsVerified (root : RootRef) (tree : Loaded) : Type 0 where
+pub record IsHashed (root : RootRef) (tree : Loaded) : Type 0 where
   pub sized : is_sized tree.head ≡ true
   pub all : length tree.nodes ≡ tree.head.greatest
   pub root_hash : (at_node tree.nodes 1).hash ≡ root.hash
   pub hashes : (n : ℕ) → 1 ≤ n → n ≤ length tree.nodes → (at_node tree.nodes n).hash ≡ hash_in tree.nodes tree.head n
-  pub wrapped : length tree.head.wrapped ≡ 16
+
+-- and whose fields are bytes of their widths
+pub record IsVerified (root : RootRef) (tree : Loaded) : Type 0 where
+  pub hashed : IsHashed root tree
+  pub wrapped : HasWidth 16 tree.head.wrapped
   pub fields : HaveFields tree.nodes

@@ -1,5 +1,5 @@
 -- The pages of a tree: blocks of ciphertext under the file's key, deciphered where the tag is the node's.
-use Rattle.std.specs.Prelude.{ℕ, ◌+◌, List, ◌++◌, length, cond, Option, Some, None, Result, Ok, Err}
+use Rattle.std.specs.Prelude.{ℕ, ◌+◌, List, [], ◌∷◌, ◌++◌, length, ◌==◌, nat_lt, cond, Bool, true, ◌&&◌, Option, Some, None, Result, Ok, Err}
 use Rattle.std.specs.Int.{w32, to_be_bytes}
 use Rattle.aes_block.specs.Cipher.{cipher}
 use Rattle.aes_block.specs.WrappedKey.{unwrapped_of}
@@ -22,10 +22,18 @@ block_aad head k = head.wrapped ++ to_be_bytes w32 k
 abbrev pub tag_of : (key : List ℕ) → Head → NodeImage → (k : ℕ) → (ciphertext : List ℕ) → List ℕ
 tag_of key head node k ciphertext = gcm_tag (cipher key) node.iv (block_aad head k) ciphertext
 
--- the page that a ciphertext deciphers to where it has the node's tag; else the block is bad
+abbrev pub are_bytes : List ℕ → Bool
+are_bytes [] = true
+are_bytes (byte ∷ bytes) = nat_lt byte 256 && are_bytes bytes
+
+-- a block is 4,096 bytes
+abbrev pub is_block : List ℕ → Bool
+is_block ciphertext = (length ciphertext == 4096) && are_bytes ciphertext
+
+-- the page that a block deciphers to where it has the node's tag; else the block is bad
 abbrev pub page_of : (key : List ℕ) → Head → NodeImage → (k : ℕ) → (ciphertext : List ℕ) → Option (List ℕ)
 page_of key head node k ciphertext =
-    cond (bytes_eq node.tag (tag_of key head node k ciphertext)) (Some (gcm_text (cipher key) node.iv ciphertext)) None
+    cond (is_block ciphertext && bytes_eq node.tag (tag_of key head node k ciphertext)) (Some (gcm_text (cipher key) node.iv ciphertext)) None
 
 -- the ciphertext of block k of a tree in an image
 abbrev pub block_in : List ℕ → Loaded → (k : ℕ) → List ℕ

@@ -8,7 +8,7 @@ use Rattle.node_image.specs.Parts.{Part, In, start}
 use Rattle.node_image.specs.Parts.Part.{head, node, block}
 use Rattle.node_image.specs.Tables.{block_version, node_version}
 use Rattle.node_image.specs.Selection.{Matches, SelectedTree, head_in, part_in, selected_tree}
-use Rattle.htree_file.specs.Opening.{IsVerified, Loaded}
+use Rattle.htree_file.specs.Opening.{IsHashed, Loaded}
 use Rattle.htree_file.specs.Standing.{IsFirm, OpensTo}
 
 -- the head and the nodes in the bytes that a reference selects
@@ -36,7 +36,7 @@ pub record IsLoaded (image : List ℕ) (root : RootRef) (tree : Loaded) : Type 0
   pub form : has_form (part_in image (head root.version)) ≡ true
   pub top : head_in image root.version ≡ tree.head
   pub matches : Matches image root.version tree.nodes (length tree.nodes)
-  pub verified : IsVerified root tree
+  pub hashed : IsHashed root tree
   pub ends : BlocksEnd image tree.nodes
 
 -- In every image at every moment since, the reference names the tree, and selects the bytes that it selected; and the tree

@@ -1,5 +1,6 @@
 -- A version of a tree while it is written: what stands in the file, where what it reads as can be followed.
 use Rattle.std.specs.Prelude.{◌≡◌, ℕ, ◌+◌, ◌-◌, ◌<◌, ◌≤◌, List, length, get_or, Bool, true, false, Option, Some}
+use Rattle.disk_model.specs.Bytes.{AreBytes}
 use Rattle.disk_model.specs.State.{FileState}
 use Rattle.disk_model.specs.Keeps.{Keeps}
 use Rattle.node_image.specs.declared.node.NodeImage.{NodeImage}
@@ -55,6 +56,7 @@ AreSealed known file key h table changes count =
 pub record NodeStands (known : Type 0) (file : List ℕ) (q : Part) (image : NodeImage) : Type 0 where
   pub stands : known → Stands file q (node_bytes image)
   pub returns : node_of (node_bytes image) ≡ image
+  pub bytes : AreBytes (node_bytes image)
 
 -- those of the first nodes that are in the set stand where the table has them
 abbrev pub NodesStand : (known : Type 0) → (file : List ℕ) → (root : ℕ) → (table : List NodeImage) → (set : ℕ → Bool) → (count : ℕ) → Type 0
@@ -70,6 +72,7 @@ pub record IsBlank (table : List NodeImage) : Type 0 where
 pub record HeadReturns (h : Head) : Type 0 where
   pub read : head_of (head_bytes h) ≡ h
   pub form : has_form (head_bytes h) ≡ is_sized h
+  pub bytes : AreBytes (head_bytes h)
 
 -- a node whose hash alone may have changed
 pub record SameSeal (old new : NodeImage) : Type 0 where

@@ -1,15 +1,11 @@
 -- Trees and their parts in the bytes of a file, and in all images that it may leave.
-use Rattle.std.specs.Prelude.{◌≡◌, ℕ, ◌+◌, ◌≤◌, List, length, Option, Ok, IsTrue}
+use Rattle.std.specs.Prelude.{◌≡◌, ℕ, ◌+◌, ◌≤◌, List, length, Ok, IsTrue}
 use Rattle.disk_model.specs.State.{FileState, LeftNow}
 use Rattle.disk_model.specs.Calls.{Known}
-use Rattle.node_image.specs.declared.node.NodeImage.{NodeImage}
 use Rattle.node_image.specs.declared.node.RootRef.{RootRef}
-use Rattle.node_image.specs.declared.head.Head.{Head}
 use Rattle.node_image.specs.Parts.{Part, start, size}
-use Rattle.node_image.specs.Parts.Part.{block}
 use Rattle.node_image.specs.Selection.{SelectedTree, part_in, selected_tree}
 use Rattle.htree_file.specs.Opening.{Loaded, load_of}
-use Rattle.htree_file.specs.Pages.{page_of}
 
 -- these bytes stand in the part, and the file reaches to its end
 pub record Stands (file : List ℕ) (q : Part) (bytes : List ℕ) : Type 0 where

@@ -1,5 +1,6 @@
 // Calls of the file.
 ghost use Rattle.std.specs.Prelude.{◌≡◌, ◌+◌, ◌-◌, ◌<◌, ◌≤◌, ◌^◌, ◌++◌, length, take, replicate, IfErr, OnOk, IsTrue};
+ghost use Rattle.disk_model.specs.Bytes.{AreBytes};
 ghost use Rattle.disk_model.specs.Arms.{count_call};
 ghost use Rattle.disk_model.specs.Calls.{Known, Rests};
 ghost use Rattle.disk_model.specs.Keeps.{Outside};
@@ -45,6 +46,7 @@ pub(crate) fn put<F: StoreFile>(file: &mut F, at: u64, bytes: &[u8]) -> Result<(
         at + length bytes.now ≤ length (F.state file.new).reads) }
     ensures stands { OnOk result (Known (F.state file.old) (F.state file.new) →
         bytes_at (F.state file.new).reads at (length bytes.now) ≡ bytes.now) }
+    ensures bytes { AreBytes bytes.now }
     ensures cause { HasCause (F.state file.old) (F.state file.new) result }
     ensures failed { IfErr result IsFailed }
 {

@@ -1,5 +1,6 @@
 // Head and nodes from the first bytes of a file.
 ghost use Rattle.std.specs.Prelude.{◌≡◌, ℕ, ◌+◌, ◌-◌, ◌*◌, ◌<◌, ◌≤◌, length, take, IfOk, IfErr, OnOk, MatchResult, IsTrue, IsFalse, Result};
+ghost use Rattle.disk_model.specs.Bytes.{AreBytes};
 ghost use Rattle.node_image.specs.Layout.{has_form, is_sized};
 ghost use Rattle.node_image.specs.Parts.Part.{head};
 ghost use Rattle.node_image.specs.Selection.{bytes_at, head_in, part_in, row, selected_node};
@@ -92,6 +93,7 @@ pub(crate) fn read_table(
     requires image { (length image.now ≡ 37888) × (root.version < 2) }
     requires room { length nodes.old ≡ 256 }
     ensures ok { IfOk result (λ h. table_of image.now root ≡ Result.Ok (record { head = h; nodes = take h.greatest nodes.new })) }
+    ensures bytes { AreBytes image.now }
     ensures sized { IfOk result (λ h. IsTrue (is_sized h)) }
     ensures few { IfOk result (λ h. (1 ≤ h.greatest) × (h.greatest ≤ 256)) }
     ensures err { IfErr result (λ fault. table_of image.now root ≡ Result.Err fault) }

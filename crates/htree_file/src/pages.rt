@@ -1,8 +1,8 @@
 // Pages and their blocks.
-ghost use Rattle.std.specs.Prelude.{◌≡◌, List, ℕ, length, MatchResult, Some, None};
+ghost use Rattle.std.specs.Prelude.{◌≡◌, List, ℕ, length, true, MatchResult, Some, None};
 ghost use Rattle.aes_block.specs.Cipher.{cipher};
 ghost use Rattle.gcm_mode.specs.Gcm.{gcm_tag, gcm_text};
-ghost use Rattle.htree_file.specs.Pages.{block_aad, page_of, tag_of};
+ghost use Rattle.htree_file.specs.Pages.{block_aad, is_block, page_of, tag_of};
 ghost use Rattle.htree_file.specs.declared.fault.TreeFault.TheVariants.{BadTag};
 
 use crate::fault::{Page, TreeFault};
@@ -28,10 +28,11 @@ pub(crate) fn open_page(
     block: u32,
     page: &mut Page,
 ) -> Result<(), TreeFault>
-    ensures { MatchResult result
+    ensures answer { MatchResult result
         (λ _. page_of key.now head.now node.now block page.old ≡ Some page.new)
         (λ fault. (page_of key.now head.now node.now block page.old ≡ None) × (page.new ≡ page.old)
         × (fault ≡ BadTag block node.now.tag (tag_of key.now head.now node.now block page.old))) }
+    ensures block { is_block page.old ≡ true }
 {
     let aad = block_aad(head, block);
     match open_text(key, &node.iv, &aad, page, &node.tag) {

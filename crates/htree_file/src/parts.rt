@@ -1,10 +1,11 @@
 // Each part is written by one call of the file.
-ghost use Rattle.std.specs.Prelude.{◌≡◌, ◌<◌, ◌≤◌, IfErr, OnOk};
+ghost use Rattle.std.specs.Prelude.{◌≡◌, ◌<◌, ◌≤◌, IfErr, OnOk, true};
 ghost use Rattle.disk_model.specs.Calls.{Known};
 ghost use Rattle.node_image.specs.Layout.{head_bytes};
 ghost use Rattle.node_image.specs.Parts.{Off};
 ghost use Rattle.node_image.specs.Parts.Part.{block, head, node};
 ghost use Rattle.htree_file.specs.Answers.{HasCause, IsFailed};
+ghost use Rattle.htree_file.specs.Pages.{is_block};
 ghost use Rattle.htree_file.specs.Staging.{HeadReturns, NodeStands, WritesAtMost};
 ghost use Rattle.htree_file.specs.Standing.{Stands};
 
@@ -58,6 +59,7 @@ pub(crate) fn write_block<F: StoreFile>(
     ensures writes { WritesAtMost (Off (block k version)) 4096 (F.state file.old) (F.state file.new) }
     ensures stands { OnOk result (Known (F.state file.old) (F.state file.new) →
         Stands (F.state file.new).reads (block k version) ciphertext.now) }
+    ensures block { is_block ciphertext.now ≡ true }
     ensures cause { HasCause (F.state file.old) (F.state file.new) result }
     ensures failed { IfErr result IsFailed }
 {

@@ -1,4 +1,5 @@
 pub mod Mixtures
+pub mod ByteLists
 pub mod Overlays
 pub mod Masks
 pub mod Settling

@@ -5,7 +5,7 @@ use Rattle.disk_model.specs.declared.span.Change.{Change}
 use Rattle.disk_model.specs.Faults.{next_count}
 use Rattle.disk_model.specs.Images.{Has}
 use Rattle.disk_model.specs.Bytes.{after_mask, after_write, after_resize}
-use Rattle.disk_model.specs.Arms.{Arms, Taint, NamesNext, StopsNext, next_taints}
+use Rattle.disk_model.specs.Arms.{Arms, Taint, count_call, NamesNext, StopsNext, next_taints}
 use Rattle.disk_model.specs.State.{FileState}
 use Rattle.disk_model.specs.Calls.{Known, GoesOn, Changes, Rests, Syncs}
 use Rattle.disk_model.specs.Keeps.{Outside}
@@ -73,22 +73,27 @@ module _ (a : FileState) (armed : IsArmed a) where
   from_struck : IsStruckFrom (stored a) (struck a)
   from_struck = struck_from (stored a) (next_taints a.arms)
 
-  steady_struck : IsTrue a.steady → struck a ≡ stored a
-  steady_struck steady = ap (λ (taints : List Taint). fold strike (stored a) (filter (λ (taint : Taint). taint.call == next_count a.arms.calls) taints)) (armed.steady steady)
+  none_struck : a.arms.taints ≡ [] → struck a ≡ stored a
+  none_struck none = ap (λ (taints : List Taint). fold strike (stored a) (filter (λ (taint : Taint). taint.call == next_count a.arms.calls) taints)) none
+
+  unstruck : a.arms.taints ≡ [] → IsTrue a.honest → IsTrue (struck a).honest
+  unstruck none h = subst (λ (s : Stored). IsTrue s.honest) (sym (none_struck none)) h
 
   pub begun_reads : IsTrue (struck a).honest ⊎ IsTrue a.steady → (struck a).reads ≡ a.reads
   begun_reads (inl honest) = from_struck.reads honest
-  begun_reads (inr steady) = ap (λ (s : Stored). s.reads) (steady_struck steady)
+  begun_reads (inr steady) = ap (λ (s : Stored). s.reads) (none_struck (armed.steady steady))
 
   -- nothing was counted as a fault
   goes_on : (reads settled : List ℕ) (trail : List Change) (from written : ℕ) → a.written ≤ written
       → GoesOn a (record (begun a) { reads = reads; settled = settled; trail = trail; pending_from = from; written = written })
   goes_on reads settled trail from written more = record {
     honest = from_struck.honest;
+    stays_honest = λ tells none h. unstruck none h;
     steady = refl;
     calm = λ h. h;
     tells = refl;
     tells_arms = refl;
+    arms = λ tells. record { stop_after = refl; failing = refl; taints = refl };
     faults = omega arith;
     starved = omega arith;
     quiet = λ h. inl refl;
@@ -116,10 +121,13 @@ module _ (a : FileState) (armed : IsArmed a) where
     written = ap (λ (s : FileState). s.written) fails.same;
     goes_on = record {
       honest = λ h. from_struck.honest (was_honest h);
+      stays_honest = λ tells none h. subst (λ (x : Bool). IsTrue x) (sym (ap (λ (s : FileState). s.honest) fails.same)) (unstruck none h);
       steady = ap (λ (s : FileState). s.steady) fails.same;
       calm = λ h. subst (λ (x : Bool). IsTrue x) (sym (ap (λ (s : FileState). s.calm) fails.same)) h;
       tells = ap (λ (s : FileState). s.tells) fails.same;
       tells_arms = ap (λ (s : FileState). s.tells_arms) fails.same;
+      arms = λ tells. let same : b.arms ≡ count_call a.arms = ap (λ (s : FileState). s.arms) fails.same in
+          record { stop_after = ap (λ (x : Arms). x.stop_after) same; failing = ap (λ (x : Arms). x.failing) same; taints = ap (λ (x : Arms). x.taints) same };
       faults = fails.faults;
       starved = fails.starved;
       quiet = λ calm. inr (elim fails.cause [ inl named ↦ absurd (not_named a armed calm named.0) | inr memory ↦ omega (arith, memory.1) ]);
@@ -256,10 +264,12 @@ module _ (a : FileState) (armed : IsArmed a) (d : FileState) (at : ℕ) (bytes :
     pending_from = left_changes.pending_from;
     goes_on = record {
       honest = left_changes.goes_on.honest;
+      stays_honest = left_changes.goes_on.stays_honest;
       steady = left_changes.goes_on.steady;
       calm = left_changes.goes_on.calm;
       tells = left_changes.goes_on.tells;
       tells_arms = left_changes.goes_on.tells_arms;
+      arms = left_changes.goes_on.arms;
       faults = omega (arith, left_changes.goes_on.faults, stops.faults, ap (λ (s : FileState). s.faults) stops.same);
       starved = left_changes.goes_on.starved;
       quiet = λ calm. absurd (stopped_calm calm);

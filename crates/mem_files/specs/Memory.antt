@@ -62,6 +62,7 @@ agree_any settled reads trail from honest agree = record { agrees = λ h. agree.
 pub file_sound : (file : MemFile) → Sound (file_state file)
 file_sound file = record {
   bytes = agree_any _ _ _ _ file.content.honest file.content.agree;
+  reads = file.content.are_bytes;
   told = λ honest. refl;
   calm = λ tells none. calm_unarmed file.stop_after file.failing.items none;
   steady = λ tells none. steady_unarmed (map taint_of file.taints.items) none;

@@ -1,7 +1,7 @@
 // What a file in memory holds: the bytes that a read gives, those that are settled, and where the two may differ.
 ghost use Rattle.std.specs.Prelude.{◌≡◌, ◌+◌, ◌-◌, ◌<◌, ◌≤◌, ◌^◌, ◌++◌, [], ◌∷◌, length, min, max, true, IsSome, IfOk, OnOk, OnErr, ◌==◌, if◌then◌else◌};
 ghost use Rattle.std.proofs.Props.{props};
-ghost use Rattle.disk_model.specs.Bytes.{after_mask, after_write, after_resize};
+ghost use Rattle.disk_model.specs.Bytes.{AreBytes, after_mask, after_write, after_resize};
 ghost use Rattle.disk_model.specs.State.{BytesAgree};
 ghost use Rattle.tee_ports.specs.Files.{ReadsAt};
 ghost use Rattle.mem_files.specs.Crash.{crash_of};
@@ -25,6 +25,7 @@ pub struct Content {
     trail: Vec<Change>,
     pending_from: u64,
     honest: bool,
+    ghost are_bytes: { AreBytes bytes.items } by { Prim.hlevel props },
     ghost agree: { BytesAgree (settled_bytes settled bytes.items) bytes.items trail.items pending_from true } by { Prim.hlevel props },
 }
 

@@ -15,7 +15,7 @@ use Rattle.htree_file.proofs.Causes.{fault_then, passed_none, passed_then, rests
 use Rattle.object_file.specs.Value.{ObjectValue, size_in}
 use Rattle.page_bytes.specs.Ranges.{meets}
 use Rattle.page_bytes.proofs.Laying.{byte-put}
-use Rattle.block_file.specs.Reads.{AreBytes, BlocksAnswer, IsReadFault}
+use Rattle.block_file.specs.Reads.{AreReadBytes, BlocksAnswer, IsReadFault}
 use Rattle.block_file.proofs.Reading.{bad_stands, page_first, page_then, told_first}
 use Rattle.tree_paths.specs.declared.node_set.NodeSet.{NodeSet}
 use Rattle.tree_paths.specs.Paths.{holds}
@@ -56,7 +56,7 @@ meets_alone k at n j is few met =
 
 module _ (key : List ℕ) (tree : Loaded) where
   -- a good part
-  pub part_good : (a b : FileState) (k at n : ℕ) (into : List ℕ) → at ≡ 4096 * k → 0 < n → n ≤ 4096 → n ≡ length into → AreBytes key tree a b (4096 + at) into n → ShowsPart key tree a b k into true
+  pub part_good : (a b : FileState) (k at n : ℕ) (into : List ℕ) → at ≡ 4096 * k → 0 < n → n ≤ 4096 → n ≡ length into → AreReadBytes key tree a b (4096 + at) into n → ShowsPart key tree a b k into true
   part_good a b k at n into is some few long bytes = (
     bytes.pages (k + 1),
     bytes.read (k + 1) (meets_own k at n is some few),

@@ -21,6 +21,7 @@ use Rattle.gcm_mode.specs.Gcm.{gcm_text}
 use Rattle.node_image.specs.declared.node.NodeImage.{NodeImage}
 use Rattle.node_image.specs.declared.head.Head.{Head}
 use Rattle.hmac_keys.specs.Hmac.{hmac}
+use Rattle.htree_file.proofs.PageLaws.{page_block}
 use Rattle.htree_file.specs.Pages.{page_of, tag_of}
 use Rattle.core_laws.proofs.Mending.{none_some, some_same}
 
@@ -106,8 +107,5 @@ text_bytes key iv text keyed each = gctr_bytes key _ text keyed each
 -- a page that a ciphertext of bytes deciphers to
 pub page_bytes : (key : List ℕ) (head : Head) (node : NodeImage) (k : ℕ) (ciphertext page : List ℕ) → IsBytes key → IsBytes ciphertext
     → page_of key head node k ciphertext ≡ Some page → IsBytes page
-page_bytes key head node k ciphertext page keyed each is = by_tag (bytes_eq node.tag (tag_of key head node k ciphertext)) is
-  where
-    by_tag : (b : Bool) → cond b (Some (gcm_text (cipher key) node.iv ciphertext)) None ≡ Some page → IsBytes page
-    by_tag true found = subst IsBytes (some_same (gcm_text (cipher key) node.iv ciphertext) page found) (text_bytes key node.iv ciphertext keyed each)
-    by_tag false found = absurd (none_some page found)
+page_bytes key head node k ciphertext page keyed each is =
+    subst IsBytes (page_block key head node k ciphertext page is).1 (text_bytes key node.iv ciphertext keyed each)

@@ -7,7 +7,7 @@ use Rattle.disk_model.proofs.Soundness.{agree_settled}
 use Rattle.object_calls.specs.OpeningFiles.{files_of, no_file, object_files}
 
 pub no_file-sound : Sound no_file
-no_file-sound = record { bytes = agree_settled [] true; told = λ h. refl; calm = λ tells none. refl; steady = λ tells none. refl }
+no_file-sound = record { bytes = agree_settled [] true; reads = λ place. omega arith; told = λ h. refl; calm = λ tells none. refl; steady = λ tells none. refl }
 
 module _ {F : Type 0} (state : F → FileState) where
   pub files_here : (files : List F) (i : ℕ) (f : F) → i < length files → files_of state (slice_set files i f) i ≡ state f

@@ -31,10 +31,12 @@ use Rattle.object_calls.specs.OpeningFiles.{files_of}
 use Rattle.object_calls.specs.OpenedStores.{IsStoreOf}
 use Rattle.object_calls.specs.Opening.{IsOpening, OpeningValue, bench_files, entries_in}
 use Rattle.object_calls.specs.Seats.{HasTold, IsSplitting}
-use Rattle.object_calls.specs.Services.{AreFirstSlots, MayBeFirst, OpensAsHonest}
+use Rattle.object_calls.specs.Services.{AreFirstSlots, HasSoundOpening, MayBeFirst}
 use Rattle.serial_calls.specs.Slots.{AreNumberedSlots, AreOfObjectFiles}
 use Rattle.object_calls.proofs.Files.{files_sound}
 use Rattle.object_calls.proofs.HonestOpenings.{opens_as_honest}
+use Rattle.object_calls.proofs.ObjectMaps.{opening_sound}
+use Rattle.store_model.specs.Sound.{IsObjectMap}
 
 -- THE OPENING
 module _ {F R : Type 0} (state : F → FileState) (port : R → PortState) (sound : (f : F) → Sound (state f)) (store : Store) (o : OpeningValue F R)
@@ -48,8 +50,11 @@ module _ {F R : Type 0} (state : F → FileState) (port : R → PortState) (soun
     objects = ap (λ (s : Store). s.objects) of.is;
   }
 
-  pub first_opens : OpensAsHonest store
-  first_opens = opens_as_honest store (bench_files state o) (entries_in o) mounted_store
+  pub first_opens : HasSoundOpening store
+  first_opens = record {
+    map = subst IsObjectMap (sym mounted_store.objects) (opening_sound store.keys (bench_files state o) mounted_store.sound (entries_in o) opening.entries opening.identified);
+    honest = opens_as_honest store (bench_files state o) (entries_in o) mounted_store;
+  }
 
   pub may_be_first : MayBeFirst store (entries_in o) state o.files
   may_be_first i within =

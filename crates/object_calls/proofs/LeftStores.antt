@@ -13,7 +13,6 @@ use Rattle.store_model.specs.Legal.{IsLegalFrom}
 use Rattle.store_model.specs.LegalHistory.{IsLegal, doubt_of, opening_with}
 use Rattle.store_model.specs.Object.{ObjectMap}
 use Rattle.store_model.specs.Record.{concerns_file, events_of}
-use Rattle.store_model.specs.Sound.{IsObjectMap}
 use Rattle.store_model.specs.ReplayState.{ReplayState, replay}
 use Rattle.store_model.specs.History.{AreNumbered}
 use Rattle.store_model.specs.Doubt.{Doubt}
@@ -21,6 +20,7 @@ use Rattle.history_seats.specs.Numbers.{is_in}
 use Rattle.history_seats.specs.Records.{HistoryRecord, IsUpToDate}
 use Rattle.history_seats.specs.Rule.{SlotFits}
 use Rattle.history_seats.specs.Views.{GateView}
+use Rattle.crash_core.specs.CoreState.{Phase}
 use Rattle.crash_core.specs.Pictures.{IsPictureOf, Picture}
 use Rattle.core_laws.specs.SlotParts.{SlotHolds, SlotPart}
 use Rattle.core_laws.specs.Joined.{IsObjectFile}
@@ -35,7 +35,8 @@ use Rattle.store_commit.specs.Gates.{DoubtStands, GateValue, gate_sides}
 use Rattle.store_commit.specs.Holds.{AreHolds}
 use Rattle.store_commit.specs.Sides.{Sides}
 use Rattle.core_laws.specs.Ties.{DoubtedChange, IsReplayDoubt, IsTied}
-use Rattle.serial_calls.specs.ClosedStores.{AreSlotsOf, IsClosedStore, SupposesTampered, tampered_in, no_slot, slots_of, store_files}
+use Rattle.serial_calls.specs.FinishedPhases.{phase_under}
+use Rattle.serial_calls.specs.ClosedStores.{AreSlotsOf, IsClosedStore, IsMapBy, MountsBy, SupposesTampered, tampered_in, no_slot, slots_of, store_files}
 use Rattle.serial_calls.specs.CoreTies.{doubted_change}
 use Rattle.serial_calls.proofs.ClosedStores.{closed_stores_mount, tampered_files_are_supposed, honest_stores_mount}
 use Rattle.serial_calls.proofs.Ties.{ties_tell}
@@ -44,9 +45,9 @@ use Rattle.serial_calls.specs.SlotValues.{SlotValue}
 use Rattle.serial_calls.specs.declared.Closing.{Closing}
 use Rattle.serial_calls.specs.GuardedGates.{GateInvariant, GuardedGateValue, change_in_doubt}
 use Rattle.object_calls.specs.OpeningFiles.{files_of}
-use Rattle.object_calls.specs.FinishedPhase.{AreAllHonest, GivesBack, IsAnsweredOrEnds, IsDoubtLeft, IsMapLeft, LeavesHonest, LeavesStore, PicturesMountAfter, end_replay}
+use Rattle.object_calls.specs.FinishedPhase.{AreAllHonest, GivesBack, IsAnsweredOrEnds, IsCounterLeft, IsDoubtLeft, IsMapWith, LeavesHonest, LeavesStore, PicturesMountAfter, end_replay}
 use Rattle.object_calls.specs.Retiring.{ArePlaced, AreRecorded, IsPlaced}
-use Rattle.object_calls.specs.Services.{OpensAsHonest, ServiceValue}
+use Rattle.object_calls.specs.Services.{HasSoundOpening, ServiceValue}
 use Rattle.serial_calls.specs.Slots.{AreOfObjectFiles, AreSlots}
 use Rattle.object_calls.proofs.Files.{files-past}
 use Rattle.object_calls.proofs.HonestHistories.{all_answered as all_answered_honest, events_legal}
@@ -88,6 +89,15 @@ object_or_not file = elim (cases_lt file 1) [
   ]
 ]
 
+-- the commit in doubt by its number
+mounts_numbered : (phase : Phase) (picture : Picture) (s : ReplayState) (doubt : Option Doubted) → MountsBy doubt phase picture s → MountsBy (option_map (λ (d : Doubted). d.number) doubt) phase picture s
+mounts_numbered phase picture s None mounts = mounts
+mounts_numbered phase picture s (Some d) mounts = mounts
+
+map_numbered : (phase : Phase) (picture : Picture) (s : ReplayState) (doubt : Option Doubted) → IsMapBy doubt phase picture s → IsMapWith phase.keys picture s (option_map (λ (d : Doubted). d.number) doubt)
+map_numbered phase picture s None is = is
+map_numbered phase picture s (Some d) is = is
+
 -- the commit in doubt, in the words of the gate's part
 doubt_words : (doubt : Option Doubted) → change_in_doubt doubt ≡ option_map doubted_change doubt
 doubt_words None = refl
@@ -95,7 +105,7 @@ doubt_words (Some d) = refl
 
 module _ {F R : Type 0} (state : F → FileState) (port : R → PortState) (sound : (f : F) → Sound (state f)) (store : Store) (gate : GateValue F R) (view : GateView)
     (closing : Option Closing) (taken : List SlotValue) (others : List F) (guarded : GateInvariant store gate view closing) (stands : DoubtStands (gate_sides state port gate) gate.doubt)
-    (held : AreHolds gate.dir.dir.entries gate.holds) (tagged : AreOfObjectFiles view.all) (many : length others ≡ 272) (placed : ArePlaced store view taken state 272 others) (opens : OpensAsHonest store) where
+    (held : AreHolds gate.dir.dir.entries gate.holds) (tagged : AreOfObjectFiles view.all) (many : length others ≡ 272) (placed : ArePlaced store view taken state 272 others) (opens : HasSoundOpening store) where
   abbrev g : Sides
   g = gate_sides state port gate
 
@@ -192,10 +202,12 @@ module _ {F R : Type 0} (state : F → FileState) (port : R → PortState) (soun
     tampered = tampered;
   }
 
-  mounts_after : PicturesMountAfter store view files (port gate.host.port)
-  mounts_after scenario card picture is answered has left trusted =
-      closed_stores_mount store scenario g gate.doubt gate.holds card view slots picture (closed scenario card (supposed scenario is) answered has)
-      (subst (λ (f : ℕ → FileState). IsPictureOf f card picture) (sym same_files) left) trusted
+  mounts_after : (doubt : Option ℕ) → doubt ≡ option_map (λ d. d.number) gate.doubt → PicturesMountAfter store view files (port gate.host.port) doubt
+  mounts_after doubt number scenario card picture is answered has left trusted =
+      subst (λ (d : Option ℕ). MountsBy d (phase_under store scenario) picture (replay_at store scenario view.all)) (sym number)
+      (mounts_numbered (phase_under store scenario) picture (replay_at store scenario view.all) gate.doubt
+      (closed_stores_mount store scenario g gate.doubt gate.holds card view slots picture (closed scenario card (supposed scenario is) answered has)
+      (subst (λ (f : ℕ → FileState). IsPictureOf f card picture) (sym same_files) left) trusted))
 
   doubt_by : (doubt : Option Doubted) → IsTied store view gate.dir.dir.entries gate.counter (change_in_doubt doubt) → IsDoubtLeft store view (option_map (λ d. d.number) doubt)
   doubt_by None tied scenario answered = inr refl
@@ -206,12 +218,28 @@ module _ {F R : Type 0} (state : F → FileState) (port : R → PortState) (soun
   doubted_is : (doubt : Option ℕ) → doubt ≡ option_map (λ d. d.number) gate.doubt → IsDoubtLeft store view doubt
   doubted_is doubt is = subst (IsDoubtLeft store view) (sym is) (doubt_by gate.doubt guarded.tied)
 
+  -- THE COUNTER
+  counts_by : (doubt : Option Doubted) → DoubtStands g doubt → (card : CardState) → HasCard (port gate.host.port) gate.host.key card
+      → (card.counter ≡ gate.counter) ⊎ (option_map (λ d. d.number) doubt ≡ Some card.counter)
+  counts_by None stand card has = inl (stand.named card has).counted
+  counts_by (Some d) stand card has = elim (stand.stands.named card has) [
+    | inl old ↦ inl old.counted
+    | inr next ↦ inr (ap (λ (n : ℕ). Some n) (stand.number ∙ sym next.counted))
+  ]
+
+  counted_is : (doubt : Option ℕ) → doubt ≡ option_map (λ d. d.number) gate.doubt → IsCounterLeft store view (port gate.host.port) doubt
+  counted_is doubt is scenario card answered has =
+      elim (counts_by gate.doubt stands card (subst (λ (k : List ℕ). HasCard (port gate.host.port) k card) (sym guarded.card_key) has)) [
+        | inl settled ↦ inl (settled ∙ sym (guarded.tied.counter scenario answered))
+        | inr doubted ↦ inr (is ∙ doubted)
+      ]
+
   -- WHERE EVERY FILE IS HONEST
   abbrev plain : TamperScenario
   plain = nothing_back []
 
   replay_is : replay_at store plain view.all ≡ end_replay store view
-  replay_is = ap (λ (m : ObjectMap). replay (opening_with (phase_of store) m) view.all) (opens plain refl)
+  replay_is = ap (λ (m : ObjectMap). replay (opening_with (phase_of store) m) view.all) (opens.honest plain refl)
 
   module _ (honest : AreAllHonest files) where
     own_each : (file : ℕ) → AreOwnLegal store plain file view.all
@@ -227,26 +255,27 @@ module _ {F R : Type 0} (state : F → FileState) (port : R → PortState) (soun
     supposed_plain file within off = subst (λ (s : FileState). IsTrue s.honest) (sym (same_file file)) (honest file)
 
     map_left : (card : CardState) (picture : Picture) → HasCard (port gate.host.port) (rpmb_key store.keys.huk) card → IsPictureOf files card picture
-        → IsMapLeft store.keys picture (end_replay store view)
+        → IsMapWith store.keys picture (end_replay store view) (option_map (λ d. d.number) gate.doubt)
     map_left card picture has left =
-        subst (IsMapLeft store.keys picture) replay_is
+        subst (λ (s : ReplayState). IsMapWith store.keys picture s (option_map (λ d. d.number) gate.doubt)) replay_is
+        (map_numbered (phase_under store plain) picture (replay_at store plain view.all) gate.doubt
         (honest_stores_mount store plain g gate.doubt gate.holds card view slots picture (closed plain card supposed_plain answered_plain has)
-        (subst (λ (f : ℕ → FileState). IsPictureOf f card picture) (sym same_files) left) (λ file. contains_none file))
+        (subst (λ (f : ℕ → FileState). IsPictureOf f card picture) (sym same_files) left) (λ file. contains_none file)))
 
-    leaves_honest : (doubt : Option ℕ) → IsDoubtLeft store view doubt → LeavesHonest store view files (port gate.host.port) doubt
-    leaves_honest doubt doubted = record {
-      events_legal = subst (λ (m : ObjectMap). IsLegalFrom [] (opening_with (phase_of store) m) view.all) (opens plain refl)
+    leaves_honest : (doubt : Option ℕ) → doubt ≡ option_map (λ d. d.number) gate.doubt → LeavesHonest store view files (port gate.host.port) doubt
+    leaves_honest doubt number = record {
+      events_legal = subst (λ (m : ObjectMap). IsLegalFrom [] (opening_with (phase_of store) m) view.all) (opens.honest plain refl)
           (events_legal store plain view.all (guarded.journal.fair plain) own_each);
-      doubt_left = subst (λ (s : ReplayState). (doubt ≡ doubt_of s) ⊎ (doubt ≡ None)) replay_is (doubted plain answered_plain);
-      mounts = map_left;
+      doubt_left = subst (λ (s : ReplayState). (doubt ≡ doubt_of s) ⊎ (doubt ≡ None)) replay_is (doubted_is doubt number plain answered_plain);
+      mounts = λ card picture has left. subst (IsMapWith store.keys picture (end_replay store view)) (sym number) (map_left card picture has left);
+      counted = λ card has. subst (λ (s : ReplayState). (card.counter ≡ s.counter) ⊎ (doubt ≡ Some card.counter)) replay_is (counted_is doubt number plain card answered_plain has);
     }
 
-  legal_of : (doubt : Option ℕ) → AreNumbered (events_of view.all) → LeavesHonest store view files (port gate.host.port) doubt → IsObjectMap store.objects
-      → IsLegal (phase_of store) [] view.all doubt
-  legal_of doubt numbered left is = record {
-    opens = is;
+  legal_of : (doubt : Option ℕ) → AreNumbered (events_of view.all) → LeavesHonest store view files (port gate.host.port) doubt → IsLegal (phase_of store) [] view.all doubt
+  legal_of doubt numbered left = record {
+    opens = opens.map;
     begins = store.objects;
-    begins_sound = is;
+    begins_sound = opens.map;
     altered = altered-same (phase_of store).files view.all store.objects;
     events_legal = left.events_legal;
     doubt_left = left.doubt_left;
@@ -258,16 +287,17 @@ module _ {F R : Type 0} (state : F → FileState) (port : R → PortState) (soun
     numbered = numbered;
     tagged = tagged;
     answered = answered_or;
-    mounts = mounts_after;
+    mounts = mounts_after doubt is;
     doubted = doubted_is doubt is;
-    honest = λ honest. leaves_honest honest doubt (doubted_is doubt is);
-    legal = λ honest map. legal_of doubt numbered (leaves_honest honest doubt (doubted_is doubt is)) map;
+    counted = counted_is doubt is;
+    honest = λ honest. leaves_honest honest doubt is;
+    legal = λ honest. legal_of doubt numbered (leaves_honest honest doubt is);
   }
 
 -- The parts of a store that is closed: its gate, its history once the sessions' seats were taken in, and its files.
 module _ {F R : Type 0} (state : F → FileState) (port : R → PortState) (sound : (f : F) → Sound (state f)) (store : Store) (s : GuardedGateValue F R) (later : GateView)
     (guarded : GateInvariant store s.gate s.journal.knows s.closing) (tagged : AreOfObjectFiles s.journal.knows.all) (same : IsSameHistory s.journal.knows later)
-    (taken : List SlotValue) (others : List F) (many : length others ≡ 272) (placed : ArePlaced store later taken state 272 others) (recorded : AreRecorded later) (opens : OpensAsHonest store) where
+    (taken : List SlotValue) (others : List F) (many : length others ≡ 272) (placed : ArePlaced store later taken state 272 others) (recorded : AreRecorded later) (opens : HasSoundOpening store) where
   pub leaves_parts : DoubtStands (gate_sides state port s.gate) s.gate.doubt → AreHolds s.gate.dir.dir.entries s.gate.holds → (doubt : Option ℕ)
       → doubt ≡ option_map (λ d. d.number) s.gate.doubt → (dir : F) (card : R) (files : List F) → dir ≡ s.gate.dir.file → card ≡ s.gate.host.port → files ≡ dir ∷ others
       → LeavesStore store s.journal.knows (files_of state files) (port card) doubt

@@ -51,7 +51,7 @@ module _ (store : Store) (files : ℕ → FileState) (entries : List (Option Dir
   real_in v is =
       let a = among (generation_in entries number) v is in
       let e : DirEntry = a.entry in
-      subst (IsReal store.keys) a.version_is (image_real store.keys (files e.file).reads (root_of e) e.app e.size e.attributes)
+      subst (IsReal store.keys) a.version_is (image_real store.keys (files e.file).reads (root_of e) e.app e.size e.attributes (o.sound e.file).reads)
 
   stands_in : IsTrue (files number).honest → (v : Version) → version_among number (generation_in entries number) store.mounted.entries ≡ Some v → VersionStands store.keys (files number) v
   stands_in honest v is =

@@ -54,7 +54,7 @@ module _ (store : Store) (files : ℕ → FileState) (entries : List (Option Dir
   real_told m there =
       let t = told_of store.keys files entries m (subst (λ (l : List MountedEntry). Contains l m) o.told there) in
       let e : DirEntry = t.entry in
-      subst (λ (x : MountedEntry). IsReal store.keys x.version) t.is (image_real store.keys (files e.file).reads (root_of e) e.app e.size e.attributes)
+      subst (λ (x : MountedEntry). IsReal store.keys x.version) t.is (image_real store.keys (files e.file).reads (root_of e) e.app e.size e.attributes (o.sound e.file).reads)
 
   apart_from : (rest : List (Option DirEntry)) → AreSingle rest → AreMountedApart (mounted_entries store.keys files rest)
   apart_from [] single = tt

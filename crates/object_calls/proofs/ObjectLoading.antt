@@ -12,7 +12,7 @@ use Rattle.htree_file.proofs.Causes.{fault_then, passed_then, told_then}
 use Rattle.node_image.specs.declared.node.RootRef.{RootRef}
 use Rattle.page_bytes.specs.Pages.{page_at}
 use Rattle.page_bytes.proofs.Content.{length-bytes_from}
-use Rattle.block_file.specs.Reads.{AreBytes}
+use Rattle.block_file.specs.Reads.{AreReadBytes}
 use Rattle.block_file.proofs.Reading.{told_first}
 use Rattle.tree_paths.specs.declared.node_set.NodeSet.{NodeSet}
 use Rattle.tee_types.specs.declared.reply.Cause.{Cause}
@@ -65,7 +65,7 @@ pub record IsLoaded {F : Type 0} (tsk : List ℕ) (a b : FileState) (e : DirEntr
   pub verified : IsVerified o.tree.root o.tree.tree
   pub size : o.tree.tree.head.length ≡ 4096 + e.size
   pub long : length o.attributes ≡ e.attributes
-  pub front : AreBytes o.tree.key o.tree.tree a b 0 o.attributes e.attributes
+  pub front : AreReadBytes o.tree.key o.tree.tree a b 0 o.attributes e.attributes
   pub object : Told a b → mounted_object tsk b.reads e ≡ SoundObject (held_in o b.reads)
   pub rests : Rests a b
   pub passed : FilePassed a b
@@ -85,7 +85,7 @@ module _ {F : Type 0} (tsk : List ℕ) (a b c : FileState) (e : DirEntry) (o : O
         (sym (long ∙ size_is), contents_shown o b c attributes bytes bad loaded.verified (omega (arith, loaded.size)) shows.0 shows.1 behind);
     read = read_from o.tree.key o.tree.tree a b c loaded.rests rests.goes_on tsk e attributes bytes bad
         (subst (λ (r : RootRef). IsVerified r o.tree.tree) loaded.root loaded.verified) loaded.size loaded.key
-        (ap length shows.0 ∙ loaded.long) (subst (λ (l : List ℕ). AreBytes o.tree.key o.tree.tree a b 0 l e.attributes) (sym shows.0) loaded.front)
+        (ap length shows.0 ∙ loaded.long) (subst (λ (l : List ℕ). AreReadBytes o.tree.key o.tree.tree a b 0 l e.attributes) (sym shows.0) loaded.front)
         (subst (λ (n : ℕ). ShowsData o.tree.key o.tree.tree b c n (data_blocks n) bytes bad) size_is shows.1);
   }
 

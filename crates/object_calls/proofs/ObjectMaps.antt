@@ -1,4 +1,4 @@
--- The objects that entries name, in files that read as bytes, are a map of objects.
+-- The objects that entries name are a map of objects.
 use Rattle.std.proofs.Common.{◌≡◌, ◌+◌, ◌-◌, ◌/◌, ◌%◌, ◌<◌, ◌≤◌, ◌==◌, ℕ, zero, suc, Bool, true, false, cond, List, [], ◌∷◌, length, take, filter, slice_index, Option, Some, None, is_none, is_some, Result, Ok, Err, inl, inr, refl, sym, ap, ◌∙◌, subst, arith}
 use Rattle.std.specs.Prelude.{count_by}
 use Rattle.std.specs.List.{All, AllByRecursion, range_with_len}
@@ -14,7 +14,7 @@ use Rattle.std.proofs.lemmas.List.Sums.{count_by-le-length}
 use Rattle.std.proofs.lemmas.List.Kept.{IsStrictlySortedBy-filter}
 use Rattle.tee_types.specs.Identifier.{IsIdentifier}
 use Rattle.tee_types.specs.Limits.{most_attribute_bytes, most_data_bytes}
-use Rattle.disk_model.specs.State.{FileState}
+use Rattle.disk_model.specs.State.{FileState, Sound}
 use Rattle.aes_block.specs.State.{IsBytes}
 use Rattle.aes_block.specs.WrappedKey.{unwrapped_of}
 use Rattle.node_image.specs.declared.node.RootRef.{RootRef}
@@ -41,10 +41,9 @@ use Rattle.crash_core.specs.Opening.{opening_map, reads_of}
 use Rattle.store_commit.specs.EntryForms.{AreEntriesOf}
 use Rattle.core_laws.proofs.Images.{image_real}
 use Rattle.object_calls.proofs.OpeningMaps.{opening-rises}
-use Rattle.object_calls.specs.ObjectMaps.{ReadsBytes}
 use Rattle.object_calls.specs.Opening.{AreIdentified}
 use Rattle.object_calls.proofs.EntryCounting.{length-map_of}
-use Rattle.object_calls.proofs.EntriesOf.{distinct_names}
+use Rattle.object_calls.proofs.EntriesOf.{distinct_names, form_at}
 use Rattle.object_calls.proofs.CipherBytes.{bytes-mapped, bytes-take, hmac_bytes, page_bytes, unwrapped_bytes}
 
 -- bytes, as an object's
@@ -148,7 +147,7 @@ module _ (keys : Keys) (app image : List ℕ) (read : IsBytes image) (root : Roo
     pages = row (page_in image key tree) count
 
     verified : IsVerified root tree
-    verified = (image_real keys image root app size attributes).verified tree loads
+    verified = (image_real keys image root app size attributes read).verified tree loads
 
     each_page : (k : ℕ) (page : List ℕ) → page_at pages k ≡ Some page → IsBytes page
     each_page k page is = elim (cases_lt k count) [
@@ -160,8 +159,8 @@ module _ (keys : Keys) (app image : List ℕ) (read : IsBytes image) (root : Roo
 
     long : tree.head.length ≡ 4096 + size → length pages ≡ greatest_of (4096 + size)
     long is =
-        let sized = and_parts _ (tree.head.greatest == greatest_of tree.head.length) verified.sized in
-        length-row (page_in image key tree) count ∙ verified.all ∙ eqb-true tree.head.greatest (greatest_of tree.head.length) sized.1 ∙ ap greatest_of is
+        let sized = and_parts _ (tree.head.greatest == greatest_of tree.head.length) verified.hashed.sized in
+        length-row (page_in image key tree) count ∙ verified.hashed.all ∙ eqb-true tree.head.greatest (greatest_of tree.head.length) sized.1 ∙ ap greatest_of is
 
     opened_sound : IsObject (object_of size attributes (record { bytes = tree.head.length; pages = pages }))
     opened_sound = by_length (tree.head.length == 4096 + size) refl
@@ -187,7 +186,7 @@ all-with P name x (e ∷ m) here kept all = (elim (name_cmp name e.0) as (λ o. 
   | Greater ↦ λ h. All-cons P e (insert_entry name_cmp m name x) (All-head P e m all) (all-with P name x m here kept (All-tail P e m all))
 ]) refl
 
-module _ (keys : Keys) (files : ℕ → FileState) (read : (file : ℕ) → 1 ≤ file → ReadsBytes (files file)) where
+module _ (keys : Keys) (files : ℕ → FileState) (sound : (file : ℕ) → Sound (files file)) where
   abbrev HaveForms : List (Option DirEntry) → Type 0
   HaveForms entries = (index : ℕ) (e : DirEntry) → entry_at entries index ≡ Some e → HasForm e
 
@@ -195,7 +194,7 @@ module _ (keys : Keys) (files : ℕ → FileState) (read : (file : ℕ) → 1 �
   object_for e = mounted_object (object_key keys e.app) (files e.file).reads e
 
   entry_sound : (e : DirEntry) → HasForm e → IsObject (object_for e)
-  entry_sound e form = object_sound keys e.app (files e.file).reads (read e.file form.file.0) (root_of e) e.size e.attributes form.size form.attributes
+  entry_sound e form = object_sound keys e.app (files e.file).reads (sound e.file).reads (root_of e) e.size e.attributes form.size form.attributes
 
   all_named : (entries : List (Option DirEntry)) → AreIdentified entries → All (λ (e : ObjectName × Object). IsIdentifier (e.0).id) (opening_map keys files entries)
   all_named [] named = All-nil (λ (e : ObjectName × Object). IsIdentifier (e.0).id)
@@ -211,7 +210,7 @@ module _ (keys : Keys) (files : ℕ → FileState) (read : (file : ℕ) → 1 �
       all-with (λ (e : ObjectName × Object). IsObject e.1) (name_of x) (object_for x) (opening_map keys files entries) (entry_sound x (forms 0 x refl)) (λ e same h. entry_sound x (forms 0 x refl))
       (all_sound entries (λ index e at. forms (suc index) e at))
 
-  pub map_sound : (entries : List (Option DirEntry)) → length (opening_map keys files entries) ≤ 256 → HaveForms entries → AreIdentified entries
+  map_sound : (entries : List (Option DirEntry)) → length (opening_map keys files entries) ≤ 256 → HaveForms entries → AreIdentified entries
       → IsObjectMap (opening_map keys files entries)
   map_sound entries few forms named = record {
     few = few;
@@ -221,7 +220,12 @@ module _ (keys : Keys) (files : ℕ → FileState) (read : (file : ℕ) → 1 �
   }
 
 -- it has an object for each entry
-pub opening_few : (keys : Keys) (files : ℕ → FileState) (entries : List (Option DirEntry)) → AreEntriesOf entries → length (opening_map keys files entries) ≤ 256
+opening_few : (keys : Keys) (files : ℕ → FileState) (entries : List (Option DirEntry)) → AreEntriesOf entries → length (opening_map keys files entries) ≤ 256
 opening_few keys files entries is =
     let count : length (opening_map keys files entries) ≡ count_by is_some entries = length-map_of keys (reads_of files) entries (distinct_names entries is) in
     omega (arith, count, count_by-le-length is_some entries, is.whole)
+
+-- So the objects of a directory's entries are a map, in files that are sound.
+pub opening_sound : (keys : Keys) (files : ℕ → FileState) → ((file : ℕ) → Sound (files file)) → (entries : List (Option DirEntry)) → AreEntriesOf entries → AreIdentified entries
+    → IsObjectMap (opening_map keys files entries)
+opening_sound keys files sound entries are identified = map_sound keys files sound entries (opening_few keys files entries are) (form_at entries are) identified

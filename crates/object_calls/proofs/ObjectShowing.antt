@@ -17,7 +17,7 @@ use Rattle.node_image.specs.Selection.{row}
 use Rattle.node_image.proofs.Matching.{length-row}
 use Rattle.page_bytes.specs.Pages.{byte_at, byte_in, bytes_from, page_at}
 use Rattle.page_bytes.proofs.Content.{get_or-bytes_from, length-bytes_from}
-use Rattle.block_file.specs.Reads.{AreBytes}
+use Rattle.block_file.specs.Reads.{AreReadBytes}
 use Rattle.block_file.proofs.Reading.{page_first, page_stands, page_then}
 use Rattle.tree_paths.specs.declared.node_set.NodeSet.{NodeSet}
 use Rattle.tree_paths.specs.Paths.{holds}
@@ -42,7 +42,7 @@ module _ (root : RootRef) (key : List ℕ) (tree : Loaded) (a b : FileState) (si
 
   -- how many nodes there are
   nodes_are : length tree.nodes ≡ data_blocks size + 1
-  nodes_are = let greatest : tree.head.greatest ≡ greatest_of tree.head.length = sized_greatest tree.head verified.sized in omega (arith, verified.all, greatest, sized)
+  nodes_are = let greatest : tree.head.greatest ≡ greatest_of tree.head.length = sized_greatest tree.head verified.hashed.sized in omega (arith, verified.hashed.all, greatest, sized)
 
   page_of_block : (k : ℕ) → k < data_blocks size → page_at pages (k + 1) ≡ page_in a.reads key tree (k + 1)
   page_of_block k lt = page_at-pages a.reads key tree (k + 1) (omega (arith, nodes_are, lt))
@@ -109,7 +109,7 @@ contents_shown o a b attributes bytes bad verified sized own shows told = record
 
 -- WHAT WAS LOADED, AND THEN READ
 module _ (key : List ℕ) (tree : Loaded) (a b c : FileState) (rests : Rests a b) (goes : GoesOn b c) where
-  front_first : (attributes : List ℕ) (count : ℕ) → AreBytes key tree a b 0 attributes count → AreBytes key tree a c 0 attributes count
+  front_first : (attributes : List ℕ) (count : ℕ) → AreReadBytes key tree a b 0 attributes count → AreReadBytes key tree a c 0 attributes count
   front_first attributes count bytes = record {
     pages = bytes.pages;
     read = λ k met. page_first key tree a b c k (bytes.pages k) goes (bytes.read k met);
@@ -129,12 +129,12 @@ module _ (key : List ℕ) (tree : Loaded) (a b c : FileState) (rests : Rests a b
   }
 
   pub read_from : (tsk : List ℕ) (e : DirEntry) (attributes bytes : List ℕ) (bad : NodeSet) → IsVerified (root_of e) tree → tree.head.length ≡ 4096 + e.size → key ≡ unwrapped_of tsk tree.head.wrapped
-      → length attributes ≡ e.attributes → AreBytes key tree a b 0 attributes e.attributes → ShowsData key tree b c e.size (data_blocks e.size) bytes bad → IsReadFrom tsk a c e attributes bytes bad
+      → length attributes ≡ e.attributes → AreReadBytes key tree a b 0 attributes e.attributes → ShowsData key tree b c e.size (data_blocks e.size) bytes bad → IsReadFrom tsk a c e attributes bytes bad
   read_from tsk e attributes bytes bad verified sized key_is long front given = record {
     tree = tree;
     verified = verified;
     sized = sized;
     all_attributes = long;
-    front = subst (λ (k : List ℕ). AreBytes k tree a c 0 attributes e.attributes) key_is (front_first attributes e.attributes front);
+    front = subst (λ (k : List ℕ). AreReadBytes k tree a c 0 attributes e.attributes) key_is (front_first attributes e.attributes front);
     data_are = subst (λ (k : List ℕ). ShowsData k tree a c e.size (data_blocks e.size) bytes bad) key_is (data_then e.size (data_blocks e.size) bytes bad given);
   }

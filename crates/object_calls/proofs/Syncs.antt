@@ -12,6 +12,7 @@ use Rattle.htree_file.specs.Answers.{FileFailed, FilePassed}
 use Rattle.htree_file.proofs.Causes.{passed_none, passed_then}
 use Rattle.dir_records.specs.declared.entry.DirEntry.{DirEntry}
 use Rattle.crash_core.specs.EntryLists.{entry_at}
+use Rattle.store_commit.proofs.Leavings.{left_then, rests_left, syncs_left}
 use Rattle.tee_types.specs.declared.reply.Cause.{Cause}
 use Rattle.tee_types.specs.declared.reply.Cause.TheVariants.{Fault, Frame, CardResult}
 use Rattle.tee_types.specs.declared.reply.Device.TheVariants.{Dir, File, Card, Entropy}
@@ -21,18 +22,19 @@ use Rattle.object_calls.proofs.Files.{files_behind, object_else, object_get, obj
 
 -- ONE FILE
 pub only_none : (s : FileState) → IsOnlySynced s s
-only_none s = record { keeps = keeps_none Anywhere s; reads = λ known. refl }
+only_none s = record { keeps = keeps_none Anywhere s; reads = λ known. refl; left = λ honest image left. left }
 
 only_sync : (a b : FileState) → Sound a → Syncs a b → IsOnlySynced a b
-only_sync a b sound syncs = record { keeps = sync_keeps a b sound syncs; reads = syncs.reads }
+only_sync a b sound syncs = record { keeps = sync_keeps a b sound syncs; reads = syncs.reads; left = syncs_left a b sound syncs }
 
-only_rest : (a b : FileState) → Sound a → Rests a b → IsOnlySynced a b
-only_rest a b sound rests = record { keeps = rest_keeps a b sound rests; reads = rests.reads }
+pub only_rest : (a b : FileState) → Sound a → Rests a b → IsOnlySynced a b
+only_rest a b sound rests = record { keeps = rest_keeps a b sound rests; reads = rests.reads; left = rests_left a b rests }
 
-only_then : (a b c : FileState) → IsOnlySynced a b → IsOnlySynced b c → IsOnlySynced a c
+pub only_then : (a b c : FileState) → IsOnlySynced a b → IsOnlySynced b c → IsOnlySynced a c
 only_then a b c first second = record {
   keeps = keeps_then Anywhere a b c first.keeps second.keeps;
   reads = λ known. second.reads (then_known a b c first.keeps.goes_on known) ∙ first.reads (first_known a b c second.keeps.goes_on known);
+  left = left_then a b c second.keeps.goes_on first.left second.left;
 }
 
 failed_then : (a b c : FileState) (count : ℕ) → GoesOn a b → FilePassed a b → FileFailed b c count → FileFailed a c count

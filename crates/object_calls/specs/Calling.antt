@@ -5,7 +5,7 @@ use Rattle.disk_model.specs.State.{FileState}
 use Rattle.hmac_keys.specs.KeyTable.{rpmb_key}
 use Rattle.object_calls.specs.Services.{ServiceValue}
 use Rattle.rpmb_card.specs.Port.{PortState}
-use Rattle.serial_calls.specs.ServedAnswers.{GoesOnWithout, IsAnswered}
+use Rattle.serial_calls.specs.ServedAnswers.{AreLetBe, GoesOnWithout, IsAnswered, IsAnsweredAtOnce}
 use Rattle.serial_calls.specs.HeldFiles.{KeepsHolds}
 use Rattle.serial_calls.specs.Devices.{DevicesGoOn}
 use Rattle.serial_calls.specs.Rising.{Serving, devices_in}
@@ -31,3 +31,8 @@ module _ {F R E : Type 0} (of_file : F → FileState) (of_port : R → PortState
     -- no session holds a file but for a commit in doubt, where none did before
     pub held : KeepsHolds old.gate.gate new.gate.gate
     pub storage_key : new.storage_key ≡ old.storage_key
+
+-- A misuse was answered at once; or memory ran out before anything was done.
+abbrev pub AnswersAtOnceAt : {F R E : Type 0} → (old new : Serving F R E) → Call → (place : Option ℕ) → Reply → Type 0
+AnswersAtOnceAt old new call (Some place) reply = IsAnsweredAtOnce old new call (record { place = place; reply = reply })
+AnswersAtOnceAt old new call None reply = AreLetBe old new × (new.gate.journal.knows ≡ old.gate.journal.knows)

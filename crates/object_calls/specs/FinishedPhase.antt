@@ -13,19 +13,17 @@ use Rattle.store_model.specs.Legal.{IsLegalFrom}
 use Rattle.store_model.specs.LegalHistory.{IsLegal, doubt_of}
 use Rattle.store_model.specs.Object.{ObjectMap}
 use Rattle.store_model.specs.Record.{events_of}
-use Rattle.store_model.specs.Sound.{IsObjectMap}
 use Rattle.store_model.specs.ReplayState.{ReplayState, opening, replay}
 use Rattle.history_seats.specs.Views.{GateView}
 use Rattle.crash_core.specs.Mounting.{mounted}
 use Rattle.crash_core.specs.Pictures.{IsPictureOf, Picture}
 use Rattle.crash_core.specs.CoreState.{IsTrusted}
-use Rattle.core_laws.specs.Finished.{MountsAfter}
 use Rattle.core_laws.specs.TamperScenarios.{TamperScenario}
 use Rattle.core_laws.specs.Stores.{Store, phase_of, replay_at}
 use Rattle.core_laws.specs.Answered.{AreAnswered, IsEnded}
 use Rattle.serial_calls.specs.CallerSessions.{CallerSession}
 use Rattle.serial_calls.specs.SessionViews.{BeginsAll}
-use Rattle.serial_calls.specs.ClosedStores.{tampered_in}
+use Rattle.serial_calls.specs.ClosedStores.{MountsBy, tampered_in}
 use Rattle.serial_calls.specs.FinishedPhases.{phase_under}
 use Rattle.serial_calls.specs.SlotValues.{SlotValue}
 use Rattle.serial_calls.specs.Slots.{AreOfObjectFiles}
@@ -37,18 +35,25 @@ abbrev pub IsAnsweredOrEnds : Store → GateView → (ℕ → FileState) → Typ
 IsAnsweredOrEnds store view files =
     (scenario : TamperScenario) → scenario.tampered ≡ tampered_in files → AreAnswered store scenario view.all ⊎ IsEnded store scenario view.all
 
--- Where it is answered, every picture of the files and the card mounts to the map that it leaves, or to that with the commit in doubt;
--- where the directory's file is honest, and but for objects in files that are not.
-abbrev pub PicturesMountAfter : Store → GateView → (ℕ → FileState) → PortState → Type 0
-PicturesMountAfter store view files port =
+-- Where it is answered, every picture of the files and the card mounts to the map that it leaves, or, only while a
+-- commit is in doubt, to that with it; where the directory's file is honest, and but for objects in files that are not.
+abbrev pub PicturesMountAfter : Store → GateView → (ℕ → FileState) → PortState → (doubt : Option ℕ) → Type 0
+PicturesMountAfter store view files port doubt =
     (scenario : TamperScenario) (card : CardState) (picture : Picture) → scenario.tampered ≡ tampered_in files → AreAnswered store scenario view.all
     → HasCard port (rpmb_key store.keys.huk) card → IsPictureOf files card picture → IsTrusted (phase_under store scenario) 0
-    → MountsAfter (phase_under store scenario) picture (replay_at store scenario view.all)
+    → MountsBy doubt (phase_under store scenario) picture (replay_at store scenario view.all)
 
 -- The doubt is the one that the history leaves open, or it was dropped.
 abbrev pub IsDoubtLeft : Store → GateView → Option ℕ → Type 0
 IsDoubtLeft store view doubt =
     (scenario : TamperScenario) → AreAnswered store scenario view.all → (doubt ≡ doubt_of (replay_at store scenario view.all)) ⊎ (doubt ≡ None)
+
+-- Where it is answered, the counter of a card that has the key is the one that it leaves, or the number of the commit in
+-- doubt.
+abbrev pub IsCounterLeft : Store → GateView → PortState → (doubt : Option ℕ) → Type 0
+IsCounterLeft store view port doubt =
+    (scenario : TamperScenario) (card : CardState) → AreAnswered store scenario view.all → HasCard port (rpmb_key store.keys.huk) card
+    → (card.counter ≡ (replay_at store scenario view.all).counter) ⊎ (doubt ≡ Some card.counter)
 
 -- Each session's view begins the history, past which it has no event, and the session counted its events.
 pub record HasCounted {E : Type 0} (view : GateView) (s : CallerSession E) : Type 0 where
@@ -71,13 +76,20 @@ abbrev pub IsMapLeft : Keys → Picture → ReplayState → Type 0
 IsMapLeft keys picture s =
     (mounted keys picture ≡ Ok (s.state).objects) ⊎ ((objects : ObjectMap) × (with_doubt s ≡ Some objects) × (mounted keys picture ≡ Ok objects))
 
--- Where every file is honest: each event is legal from the objects that the phase opened with, and every picture of the files and the card
--- mounts to the map that the history leaves, or to that with the commit in doubt.
+-- so, only while a commit is in doubt; else it mounts to the map of that standing
+abbrev pub IsMapWith : Keys → Picture → ReplayState → (doubt : Option ℕ) → Type 0
+IsMapWith keys picture s None = mounted keys picture ≡ Ok (s.state).objects
+IsMapWith keys picture s (Some commit) = IsMapLeft keys picture s
+
+-- Where every file is honest: each event is legal from the objects that the phase opened with; every picture of the files and the card mounts
+-- to the map that the history leaves, or, only while a commit is in doubt, to that with it; and the card's counter is the history's, or the
+-- number of that commit.
 pub record LeavesHonest (store : Store) (view : GateView) (files : ℕ → FileState) (port : PortState) (doubt : Option ℕ) : Type 0 where
   pub events_legal : IsLegalFrom [] (opening (phase_of store)) view.all
   pub doubt_left : (doubt ≡ doubt_of (end_replay store view)) ⊎ (doubt ≡ None)
   pub mounts : (card : CardState) (picture : Picture) → HasCard port (rpmb_key store.keys.huk) card → IsPictureOf files card picture
-      → IsMapLeft store.keys picture (end_replay store view)
+      → IsMapWith store.keys picture (end_replay store view) doubt
+  pub counted : (card : CardState) → HasCard port (rpmb_key store.keys.huk) card → (card.counter ≡ (end_replay store view).counter) ⊎ (doubt ≡ Some card.counter)
 
 -- What is said of a store once its phase has ended: of the events in order, the files, the card and the doubt.
 pub record LeavesStore (store : Store) (view : GateView) (files : ℕ → FileState) (port : PortState) (doubt : Option ℕ) : Type 0 where
@@ -85,11 +97,12 @@ pub record LeavesStore (store : Store) (view : GateView) (files : ℕ → FileSt
   -- the tags name files of objects
   pub tagged : AreOfObjectFiles view.all
   pub answered : IsAnsweredOrEnds store view files
-  pub mounts : PicturesMountAfter store view files port
+  pub mounts : PicturesMountAfter store view files port doubt
   pub doubted : IsDoubtLeft store view doubt
+  pub counted : IsCounterLeft store view port doubt
   pub honest : AreAllHonest files → LeavesHonest store view files port doubt
   -- so the history is a legal one of the phase
-  pub legal : AreAllHonest files → IsObjectMap store.objects → IsLegal (phase_of store) [] view.all doubt
+  pub legal : AreAllHonest files → IsLegal (phase_of store) [] view.all doubt
 
 -- The devices that are given back are those that were served, in their places: the directory's file first.
 pub record GivesBack {F R : Type 0} (state : F → FileState) (s : ServiceValue F R) (files : List F) (card : R) : Type 0 where

@@ -3,6 +3,7 @@ use Rattle.std.specs.Prelude.{◌≡◌, ◌<◌, ◌+◌, ◌≤◌, ℕ, List,
 use Rattle.disk_model.specs.State.{FileState}
 use Rattle.hmac_keys.specs.KeyTable.{ssk}
 use Rattle.dir_records.specs.declared.entry.DirEntry.{DirEntry}
+use Rattle.store_model.specs.Sound.{IsObjectMap}
 use Rattle.core_laws.specs.TamperScenarios.{TamperScenario}
 use Rattle.core_laws.specs.Stores.{Store, objects_under}
 use Rattle.serial_calls.specs.SlotValues.{SlotValue}
@@ -35,10 +36,15 @@ AreFirstSlots store entries state files count slots = (i : ℕ) (d : SlotValue) 
 abbrev pub OpensAsHonest : Store → Type 0
 OpensAsHonest store = (scenario : TamperScenario) → scenario.tampered ≡ [] → objects_under store scenario ≡ store.objects
 
+-- So of a store that opened with a map of objects.
+pub record HasSoundOpening (store : Store) : Type 0 where
+  pub map : IsObjectMap store.objects
+  pub honest : OpensAsHonest store
+
 -- What always holds of a store that is served, beside what holds behind its locks.
 pub record IsService {F R : Type 0} (store : Store) (gate : GuardedGateValue F R) (slots : List SlotValue) (storage_key : List ℕ) : Type 0 where
   pub slots_are : AreSlots slots
   pub tagged : AreOfObjectFiles gate.journal.knows.all
   pub keyed : storage_key ≡ ssk store.keys.huk store.keys.chip
   pub few : length store.mounted.applications ≤ 16
-  pub opens : OpensAsHonest store
+  pub opens : HasSoundOpening store

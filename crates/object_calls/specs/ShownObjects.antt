@@ -8,7 +8,7 @@ use Rattle.htree_file.specs.Pages.{page_in}
 use Rattle.htree_file.specs.Standing.{Told}
 use Rattle.tree_paths.specs.declared.node_set.NodeSet.{NodeSet}
 use Rattle.tree_paths.specs.Paths.{holds}
-use Rattle.block_file.specs.Reads.{AreBytes, IsPage}
+use Rattle.block_file.specs.Reads.{AreReadBytes, IsPage}
 use Rattle.store_model.specs.Object.{Contents, Object, Damaged as DamagedObject, Sound as SoundObject}
 use Rattle.dir_records.specs.declared.entry.DirEntry.{DirEntry}
 use Rattle.crash_core.specs.MountedObject.{mounted_object, root_of}
@@ -59,7 +59,7 @@ pub record IsReadFrom (tsk : List ℕ) (old new : FileState) (e : DirEntry) (att
   pub verified : IsVerified (root_of e) tree
   pub sized : tree.head.length ≡ 4096 + e.size
   pub all_attributes : length attributes ≡ e.attributes
-  pub front : AreBytes (unwrapped_of tsk tree.head.wrapped) tree old new 0 attributes e.attributes
+  pub front : AreReadBytes (unwrapped_of tsk tree.head.wrapped) tree old new 0 attributes e.attributes
   pub data_are : ShowsData (unwrapped_of tsk tree.head.wrapped) tree old new e.size (data_blocks e.size) bytes bad
 
 -- a damaged one differs, as the file reads

@@ -6,6 +6,7 @@ use Rattle.disk_model.specs.Keeps.{Anywhere, Keeps}
 use Rattle.htree_file.specs.Answers.{FileFailed, FilePassed}
 use Rattle.dir_records.specs.declared.entry.DirEntry.{DirEntry}
 use Rattle.crash_core.specs.EntryLists.{entry_at}
+use Rattle.store_commit.specs.Leaving.{LeavesNoMore}
 use Rattle.tee_types.specs.declared.reply.Cause.{Cause}
 use Rattle.tee_types.specs.declared.reply.Cause.TheVariants.{Fault}
 use Rattle.tee_types.specs.declared.reply.Device.TheVariants.{File}
@@ -14,6 +15,7 @@ use Rattle.tee_types.specs.declared.reply.Device.TheVariants.{File}
 pub record IsOnlySynced (old new : FileState) : Type 0 where
   pub keeps : Keeps Anywhere old new
   pub reads : Known old new → new.reads ≡ old.reads
+  pub left : LeavesNoMore old new
 
 -- none of the first entries names the file
 abbrev pub IsUnnamedBefore : List (Option DirEntry) → (count file : ℕ) → Type 0

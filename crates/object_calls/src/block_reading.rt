@@ -8,6 +8,7 @@ ghost use Rattle.rpmb_host.specs.Honest.{HasCard};
 ghost use Rattle.crash_core.specs.Pictures.{block_zero};
 ghost use Rattle.store_commit.specs.Causes.{counts};
 ghost use Rattle.store_commit.specs.Counts.{RefusalCounts, RefusalNotDrawn, RefusalNotOfCard};
+ghost use Rattle.store_commit.specs.Leaving.{KeepsPort};
 ghost use Rattle.store_commit.specs.Mounts.{CardRefused};
 ghost use Rattle.store_commit.specs.Reads.{AsksBlock, IsBlockRead, OfHost};
 
@@ -32,6 +33,8 @@ pub fn card_block<F, R: RpmbPort, E: Entropy>(
     ensures files_err { IfErr result (λ h. h.bench.files ≡ bench.files) }
     ensures card { IfOk result (λ r. (R.state r.bench.card).card ≡ (R.state bench.card).card) }
     ensures card_err { IfErr result (λ h. (R.state h.bench.card).card ≡ (R.state bench.card).card) }
+    ensures goes_on { IfOk result (λ r. KeepsPort (R.state bench.card) (R.state r.bench.card)) }
+    ensures goes_on_err { IfErr result (λ h. KeepsPort (R.state bench.card) (R.state h.bench.card)) }
     ensures told { IfOk result (λ r. (card : CardState) → HasCard (R.state bench.card) (rpmb_key keys.now.huk) card → block_zero card ≡ r.block) }
     ensures refused { IfErr result (λ h. CardRefused (R.state bench.card) (R.state h.bench.card) (rpmb_key keys.now.huk)
         (E.faults entropy.old) (E.faults entropy.new) h.fault) }

@@ -3,7 +3,7 @@
 ghost use Rattle.std.specs.Prelude.{◌≡◌, vec_len, IfErr, IfOk, IsTrue};
 ghost use Rattle.store_commit.specs.Causes.{counts};
 ghost use Rattle.store_commit.specs.Counts.{NoneRose, RefusalCounts, RefusalNotDrawn, RefusalNotOfCard};
-ghost use Rattle.store_commit.specs.Formats.{FormatHeard, FormatRefused, Formats, IsFormatWritten, LeavesFormat};
+ghost use Rattle.store_commit.specs.Formats.{FormatGoesOn, FormatHeard, FormatRefused, Formats, IsFormatWritten, LeavesFormat};
 ghost use Rattle.object_calls.specs.OpeningFiles.{files_of};
 ghost use Rattle.object_calls.specs.Formed.{MountsToNone};
 ghost use Rattle.object_calls.specs.MountRefusals.{SameObjectFiles};
@@ -38,6 +38,11 @@ pub fn format<F: StoreFile + Drop, R: RpmbPort + Drop, E: Entropy>(
         (R.state bench.card) (R.state h.bench.card) keys.now (E.faults entropy.old) (E.faults entropy.new) h.fault) }
     ensures others_err { IfErr result (λ h. SameObjectFiles bench.files.items h.bench.files.items) }
     ensures whole_err { IfErr result (λ h. vec_len h.bench.files ≡ 273) }
+    // What is known of the directory's file and of the port goes on.
+    ensures goes_on { IfOk result (λ b. FormatGoesOn (files_of F.state bench.files.items 0) (files_of F.state b.files.items 0)
+        (R.state bench.card) (R.state b.card)) }
+    ensures goes_on_err { IfErr result (λ h. FormatGoesOn (files_of F.state bench.files.items 0) (files_of F.state h.bench.files.items 0)
+        (R.state bench.card) (R.state h.bench.card)) }
     // Whatever the card is.
     ensures written { IfOk result (λ b. IsFormatWritten (files_of F.state b.files.items 0) (R.state bench.card) (R.state b.card) keys.now) }
     ensures heard { IfErr result (λ h. FormatHeard (files_of F.state bench.files.items 0) (files_of F.state h.bench.files.items 0)

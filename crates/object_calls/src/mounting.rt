@@ -5,7 +5,7 @@ ghost use Rattle.htree_file.specs.Answers.{FilePassed};
 ghost use Rattle.store_commit.specs.Causes.{counts};
 ghost use Rattle.store_commit.specs.Counts.{RefusalNotDrawn, RefusalNotOfCard};
 ghost use Rattle.store_commit.specs.Gates.{gate_sides};
-ghost use Rattle.store_commit.specs.Mounts.{LeavesDevices, OpensGate};
+ghost use Rattle.store_commit.specs.Mounts.{LeavesDevices, OpensGate, TellsFailure};
 ghost use Rattle.object_calls.specs.Begins.{IsWholeOpening, MountsAsRead};
 ghost use Rattle.object_calls.specs.OpeningFiles.{files_of};
 ghost use Rattle.object_calls.specs.Opening.{IsKeyed, bench_files, entries_in};
@@ -46,6 +46,8 @@ pub fn mount<F: StoreFile + Drop, R: RpmbPort + Drop, E: Entropy>(
         (E.faults entropy.old) (E.faults entropy.new) h.fault) }
     ensures leaves { IfErr result (λ h. LeavesDevices (files_of F.state bench.files.items 0) (files_of F.state h.bench.files.items 0)
         (R.state bench.card) (R.state h.bench.card)) }
+    // A failure is told as one, and not within a fault of the directory.
+    ensures told { IfErr result (λ h. TellsFailure h.fault) }
     ensures whole { IfErr result (λ h. vec_len h.bench.files ≡ 273) }
     // What was heard of the card, whatever it is.
     ensures heard { IfErr result (λ h. BenchHeard (files_of F.state h.bench.files.items 0) (R.state bench.card) (R.state h.bench.card) keys.now h.fault) }

@@ -98,7 +98,7 @@ impl<F: StoreFile + Drop, R: RpmbPort + Drop> Opening<F, R> {
     pub fn objects(&self) -> u16
         ensures entries { result ≡ count_by is_some (entries_in self.now) }
         ensures objects { (keys : Keys) → length (opening_map keys (bench_files F.state self.now) (entries_in self.now)) ≡ result }
-        // They are a map of objects, where the files read as bytes.
+        // They are a map of objects.
         ensures map { OpensObjectMap F.state self.now }
         // What always holds of an opening.
         ensures opening { IsOpening F.state self.now.gate self.now.files self.now.storage_key }

@@ -10,7 +10,7 @@ ghost use Rattle.object_calls.specs.OpeningFiles.{files_of};
 ghost use Rattle.object_calls.specs.FinishedPhase.{GivesBack, HaveCounted, LeavesStore};
 ghost use Rattle.object_calls.specs.SlotPlaces.{AreFree, place_state};
 ghost use Rattle.object_calls.specs.Retiring.{AreObjectSlots, ArePlaced, AreRecorded, IsPlaced, IsRetired};
-ghost use Rattle.object_calls.specs.Services.{OpensAsHonest};
+ghost use Rattle.object_calls.specs.Services.{HasSoundOpening};
 ghost use Rattle.object_calls.specs.OpeningSessions.{AreCallers};
 ghost use Rattle.serial_calls.specs.Slots.{AreOfObjectFiles};
 
@@ -107,7 +107,7 @@ pub fn close_slots<F: StoreFile + Drop, R: RpmbPort + Drop, E: Entropy + Drop, L
     requires empty { vec_len room ≡ 0 }
     requires room { 273 ≤ vec_capacity room }
     requires tagged { AreOfObjectFiles gate.journal.knows.all }
-    requires opens { OpensAsHonest L.store }
+    requires opens { HasSoundOpening L.store }
     requires sessions { AreCallers L.store sessions.items }
     ensures events { result.history.events ≡ events_of gate.journal.knows.all }
     ensures counted { HaveCounted gate.journal.knows sessions.items }

@@ -2,7 +2,9 @@
 
 ghost use Rattle.std.specs.Prelude.{◌≡◌};
 ghost use Rattle.serial_calls.specs.CallerSessions.{IsCallerOf};
-ghost use Rattle.object_calls.specs.Calling.{AnswersCall};
+ghost use Rattle.serial_calls.specs.GateServed.{IsMisused};
+ghost use Rattle.serial_calls.specs.SessionViews.{shown};
+ghost use Rattle.object_calls.specs.Calling.{AnswersAtOnceAt, AnswersCall, serving};
 
 use crate::service::Service;
 use core_laws::StoreName;
@@ -29,6 +31,9 @@ impl<F: StoreFile + Drop, R: RpmbPort + Drop, L: StoreName> Service<F, R, L> {
         requires { IsCallerOf L.store session.old }
         ensures answers { AnswersCall F.state R.state E.faults L.store self.old self.new session.old session.new call.now result.place result.reply }
         ensures reliable { E.is_reliable session.old.entropy → E.is_reliable session.new.entropy }
+        // A misuse waits for no commit in doubt, as the session is once it was shown the history.
+        ensures at_once { IsMisused self.old.gate (shown self.old.gate.journal.knows session.old).state call.now
+            → AnswersAtOnceAt (serving self.old session.old) (serving self.new session.new) call.now result.place result.reply }
         // A generator that never fails counts no fault.
         ensures still { E.is_reliable session.old.entropy → E.faults session.new.entropy ≡ E.faults session.old.entropy }
     {

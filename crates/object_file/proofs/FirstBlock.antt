@@ -1,5 +1,5 @@
 -- The page of block 0, which has the attributes.
-use Rattle.std.proofs.Common.{◌≡◌, ◌∙◌, ◌+◌, ◌/◌, ◌%◌, ◌<◌, ◌≤◌, ◌++◌, refl, ℕ, List, length, get_or, take, drop, Option, Some, None, sym, ap, inl, inr, arith}
+use Rattle.std.proofs.Common.{true, ◌≡◌, ◌∙◌, ◌+◌, ◌/◌, ◌%◌, ◌<◌, ◌≤◌, ◌++◌, refl, ℕ, List, length, get_or, take, drop, Option, Some, None, sym, ap, inl, inr, arith}
 use Rattle.std.proofs.lemmas.Bool.{cases_Bool, cond-true, cond-false}
 use Rattle.std.proofs.lemmas.Grind.{same_number_lists}
 use Rattle.std.proofs.lemmas.List.{get_or-take, get_or_append_left}
@@ -20,8 +20,10 @@ use Rattle.htree_file.specs.Pages.{block_in, page_in, page_of, tag_of}
 use Rattle.htree_file.specs.Standing.{Told}
 use Rattle.page_bytes.specs.Pages.{byte_in, bytes_from}
 use Rattle.page_bytes.proofs.Content.{get_or-bytes_from-zero, length-bytes_from}
-use Rattle.block_file.specs.Reads.{AreBytes, WasRead}
+use Rattle.block_file.specs.Reads.{AreReadBytes, WasRead}
 use Rattle.block_file.proofs.Reading.{page_stands, page_then}
+use Rattle.htree_file.proofs.PageLaws.{page_block}
+use Rattle.page_bytes.specs.Ranges.{meets}
 use Rattle.object_file.specs.Loading.{IsFirstRead}
 
 -- a text keeps its length
@@ -31,16 +33,8 @@ length-gcm_text e iv text = length-gctr e _ text
 
 -- a page is as long as its ciphertext
 pub page_length : (key : List ℕ) (h : Head) (node : NodeImage) (k : ℕ) (ciphertext page : List ℕ) → page_of key h node k ciphertext ≡ Some page → length page ≡ length ciphertext
-page_length key h node k ciphertext page opens = elim (cases_Bool (bytes_eq node.tag (tag_of key h node k ciphertext))) [
-  | inl same ↦
-      let is : Some (gcm_text (cipher key) node.iv ciphertext) ≡ Some page =
-      sym (cond-true (bytes_eq node.tag (tag_of key h node k ciphertext)) (Some (gcm_text (cipher key) node.iv ciphertext)) None same) ∙ opens in
-      let text : gcm_text (cipher key) node.iv ciphertext ≡ page = cc (is) in
-      ap length (sym text) ∙ length-gcm_text (cipher key) node.iv ciphertext
-  | inr other ↦
-      let none : None ≡ Some page = sym (cond-false (bytes_eq node.tag (tag_of key h node k ciphertext)) (Some (gcm_text (cipher key) node.iv ciphertext)) None other) ∙ opens in
-      absurd (cc (none))
-]
+page_length key h node k ciphertext page opens =
+    ap length (sym (page_block key h node k ciphertext page opens).1) ∙ length-gcm_text (cipher key) node.iv ciphertext
 
 -- a block has 4,096 bytes
 block_length : (image : List ℕ) (tree : Loaded) (k : ℕ) → length (block_in image tree k) ≡ 4096
@@ -65,7 +59,7 @@ first_stands key tree old new n into before whole long told was is =
     stands ∙ ap (λ (l : List ℕ). Some l) same
 
 -- the page of block 0, of which these are the first bytes
-pub first_read : (key : List ℕ) (tree : Loaded) (a b : FileState) (whole attributes : List ℕ) (count : ℕ) → count ≤ 4096 → AreBytes key tree a b 0 whole 4096 → attributes ≡ take count whole
+pub first_read : (key : List ℕ) (tree : Loaded) (a b : FileState) (whole attributes : List ℕ) (count : ℕ) → count ≤ 4096 → AreReadBytes key tree a b 0 whole 4096 → attributes ≡ take count whole
     → IsFirstRead key tree a b attributes count
 first_read key tree a b whole attributes count few read is = record {
   page = read.pages 0;
@@ -76,6 +70,18 @@ first_read key tree a b whole attributes count few read is = record {
       ap (λ (l : List ℕ). get_or l i 0) is ∙ get_or-take count whole i 0 lt ∙ read.are i (omega (arith, lt, few)) ∙ (λ j. get_or (read.pages (first j)) (place j) 0);
 }
 
+-- and these bytes were read themselves
+met_whole : (count k : ℕ) → count ≤ 4096 → meets 0 (0 + count) k ≡ true → meets 0 (0 + 4096) k ≡ true
+met_whole count k few met = grind (arith, few, met)
+
+pub bytes_front : (key : List ℕ) (tree : Loaded) (a b : FileState) (whole attributes : List ℕ) (count : ℕ) → count ≤ 4096 → AreReadBytes key tree a b 0 whole 4096 → attributes ≡ take count whole
+    → AreReadBytes key tree a b 0 attributes count
+bytes_front key tree a b whole attributes count few read is = record {
+  pages = read.pages;
+  read = λ k met. read.read k (met_whole count k few met);
+  are = λ i lt. ap (λ (l : List ℕ). get_or l i 0) is ∙ get_or-take count whole i 0 lt ∙ read.are i (omega (arith, lt, few));
+}
+
 pub first_then : (key : List ℕ) (tree : Loaded) (a b c : FileState) (attributes : List ℕ) (count : ℕ) → Rests a b → GoesOn b c → IsFirstRead key tree b c attributes count → IsFirstRead key tree a c attributes count
 first_then key tree a b c attributes count rests goes first = record {
   page = first.page;
@@ -84,7 +90,7 @@ first_then key tree a b c attributes count rests goes first = record {
 }
 
 -- bytes that were read after calls that change nothing
-pub bytes_then : (key : List ℕ) (tree : Loaded) (a b c : FileState) (at : ℕ) (bytes : List ℕ) (count : ℕ) → Rests a b → GoesOn b c → AreBytes key tree b c at bytes count → AreBytes key tree a c at bytes count
+pub bytes_then : (key : List ℕ) (tree : Loaded) (a b c : FileState) (at : ℕ) (bytes : List ℕ) (count : ℕ) → Rests a b → GoesOn b c → AreReadBytes key tree b c at bytes count → AreReadBytes key tree a c at bytes count
 bytes_then key tree a b c at bytes count rests goes read = record {
   pages = read.pages;
   read = λ k met. page_then key tree a b c k (read.pages k) rests goes (read.read k met);

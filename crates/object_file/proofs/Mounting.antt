@@ -8,7 +8,7 @@ use Rattle.node_image.specs.declared.node.RootRef.{RootRef}
 use Rattle.node_image.specs.Selection.{row}
 use Rattle.htree_file.specs.declared.fault.TreeFault.{TreeFault}
 use Rattle.htree_file.specs.declared.fault.TreeFault.TheVariants.{BadHead, BadTag, Damaged as BadNode, Failed, NoEntropy, NoMemory, Short}
-use Rattle.htree_file.specs.Opening.{IsVerified, Loaded, load_of}
+use Rattle.htree_file.specs.Opening.{IsHashed, IsVerified, Loaded, load_of}
 use Rattle.htree_file.specs.Pages.{Opened, opened_in, page_in, page_of, tag_of}
 use Rattle.htree_file.specs.Standing.{Told}
 use Rattle.disk_model.proofs.Goings.{then_known}
@@ -34,11 +34,11 @@ abbrev opened : (tsk image : List ℕ) → Loaded → Opened
 opened tsk image tree = record { bytes = tree.head.length; pages = row (page_in image (unwrapped_of tsk tree.head.wrapped) tree) (length tree.nodes) }
 
 -- its first page is that of block 0
-first_page : (tsk image : List ℕ) (root : RootRef) (tree : Loaded) → IsVerified root tree
+first_page : (tsk image : List ℕ) (root : RootRef) (tree : Loaded) → IsHashed root tree
     → page_at (opened tsk image tree).pages 0 ≡ page_in image (unwrapped_of tsk tree.head.wrapped) tree 0
-first_page tsk image root tree verified =
-    let few = sized_few tree.head verified.sized in
-    page_at-pages image (unwrapped_of tsk tree.head.wrapped) tree 0 (omega (arith, few.0, verified.all))
+first_page tsk image root tree hashed =
+    let few = sized_few tree.head hashed.sized in
+    page_at-pages image (unwrapped_of tsk tree.head.wrapped) tree 0 (omega (arith, few.0, hashed.all))
 
 -- the object that a reference names whose tree loads
 object_opened : (tsk image : List ℕ) (root : RootRef) (tree : Loaded) (size count : ℕ) → load_of image root ≡ Ok tree
@@ -58,7 +58,7 @@ held_object o tsk image size count loads verified key long front =
     let pages : List (Option (List ℕ)) = row (page_in image o.tree.key tree) (length tree.nodes) in
     let same : (opened tsk image tree).pages ≡ pages = ap (λ (k : List ℕ). row (page_in image k tree) (length tree.nodes)) (sym key) in
     let first : page_at (opened tsk image tree).pages 0 ≡ Some front.page =
-    first_page tsk image o.tree.root tree verified ∙ ap (λ (k : List ℕ). page_in image k tree 0) (sym key) ∙ front.stands in
+    first_page tsk image o.tree.root tree verified.hashed ∙ ap (λ (k : List ℕ). page_in image k tree 0) (sym key) ∙ front.stands in
     let sized : size ≡ size_in o = omega (arith, long) in
     object_opened tsk image o.tree.root tree size count loads
     ∙ object_of-sound size count (opened tsk image tree) front.page long first
@@ -73,9 +73,9 @@ with-bad size count pages (Some page) image key tree fault is = absurd (cc (is))
 with-bad size count pages None image key tree fault is = refl
 
 -- the object of a tree that a fault stands against
-tree-damaged : (tsk image : List ℕ) (root : RootRef) (tree : Loaded) (size count : ℕ) (fault : ObjectFault) → IsVerified root tree
+tree-damaged : (tsk image : List ℕ) (root : RootRef) (tree : Loaded) (size count : ℕ) (fault : ObjectFault) → IsHashed root tree
     → tree_fault image (unwrapped_of tsk tree.head.wrapped) tree size ≡ Some fault → object_of size count (opened tsk image tree) ≡ Damaged size
-tree-damaged tsk image root tree size count fault verified is =
+tree-damaged tsk image root tree size count fault hashed is =
     let key : List ℕ = unwrapped_of tsk tree.head.wrapped in
     elim (cases_eq tree.head.length (4096 + size)) [
       | inl long ↦
@@ -83,7 +83,7 @@ tree-damaged tsk image root tree size count fault verified is =
           let bad : first_fault image key tree (page_in image key tree 0) ≡ Some fault =
           sym (cond-true (tree.head.length == 4096 + size) (first_fault image key tree (page_in image key tree 0)) (Some (WrongSize size tree.head.length)) same) ∙ is in
           cond-true (tree.head.length == 4096 + size) (object_with size count (opened tsk image tree).pages (page_at (opened tsk image tree).pages 0)) (Damaged size) same
-          ∙ ap (object_with size count (opened tsk image tree).pages) (first_page tsk image root tree verified)
+          ∙ ap (object_with size count (opened tsk image tree).pages) (first_page tsk image root tree hashed)
           ∙ with-bad size count (opened tsk image tree).pages (page_in image key tree 0) image key tree fault bad
       | inr other ↦
           cond-false (tree.head.length == 4096 + size) (object_with size count (opened tsk image tree).pages (page_at (opened tsk image tree).pages 0)) (Damaged size) (ne_eqb tree.head.length (4096 + size) other)
@@ -93,7 +93,7 @@ tree-damaged tsk image root tree size count fault verified is =
 result-damaged : (tsk image : List ℕ) (root : RootRef) (size count : ℕ) (r : Result Loaded TreeFault) (fault : ObjectFault) → load_of image root ≡ r
     → fault_or tsk image size r ≡ Some fault → object_in tsk image root size count ≡ Damaged size
 result-damaged tsk image root size count (Ok tree) fault loads is =
-    object_opened tsk image root tree size count loads ∙ tree-damaged tsk image root tree size count fault (loaded_from image root tree loads).verified is
+    object_opened tsk image root tree size count loads ∙ tree-damaged tsk image root tree size count fault (loaded_from image root tree loads).hashed is
 result-damaged tsk image root size count (Err other) fault loads is = ap (λ (r : Result Loaded TreeFault). object_or_damaged size count (opened_in image tsk r)) loads
 
 -- An entry against which a fault stands mounts as damaged.

@@ -29,8 +29,8 @@ use Rattle.object_file.specs.Corrupt.{CorruptAnswer}
 -- a block that begins before the end of a verified tree has its node
 pub within_tree : (root : RootRef) (tree : Loaded) (k : ℕ) → IsVerified root tree → 4096 * k < tree.head.length → k < length tree.nodes
 within_tree root tree k verified lt =
-    let many : tree.head.greatest ≡ greatest_of tree.head.length = sized_greatest tree.head verified.sized in
-    omega (arith, verified.all, many)
+    let many : tree.head.greatest ≡ greatest_of tree.head.length = sized_greatest tree.head verified.hashed.sized in
+    omega (arith, verified.hashed.all, many)
 
 -- page k of a tree, among all
 pub page_at-pages : (image key : List ℕ) (tree : Loaded) (k : ℕ) → k < length tree.nodes → page_at (row (page_in image key tree) (length tree.nodes)) k ≡ page_in image key tree k

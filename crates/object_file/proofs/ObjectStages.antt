@@ -45,7 +45,7 @@ opens_as tsk image root tree was verified loads opened =
     record {
       bytes = bytes;
       blocks = sym (ap (λ (o : Opened). length o.pages) same) ∙ length-row (page_in image (unwrapped_of tsk tree.head.wrapped) tree) (length tree.nodes)
-          ∙ verified.all ∙ sized_greatest tree.head verified.sized ∙ ap greatest_of (sym bytes);
+          ∙ verified.hashed.all ∙ sized_greatest tree.head verified.hashed.sized ∙ ap greatest_of (sym bytes);
     }
 
 -- a sound object is one that opens

@@ -6,7 +6,7 @@ ghost use Rattle.disk_model.specs.Calls.{Rests};
 ghost use Rattle.htree_file.specs.Answers.{HasCause, HasFaultWidths};
 ghost use Rattle.htree_file.specs.Pages.{page_in};
 ghost use Rattle.htree_file.specs.Standing.{Told};
-ghost use Rattle.block_file.specs.Reads.{AreBytes};
+ghost use Rattle.block_file.specs.Reads.{AreReadBytes};
 ghost use Rattle.dir_records.specs.Form.{HasForm};
 ghost use Rattle.object_file.specs.Loading.{FirstFault, HasObjectCause, HasObjectWidths, IsFirstRead, IsFront, PartFault};
 
@@ -21,7 +21,7 @@ use tee_ports::{NoMemory, StoreFile};
 // Reads block 0.
 fn read_first<F: StoreFile>(file: &mut BlockFile<F>, page: &mut Page) -> Result<(), TreeFault>
     requires { 4096 ≤ file.old.tree.head.length }
-    ensures bytes { OnOk result (AreBytes file.old.key file.old.tree (F.state file.old.file) (F.state file.new.file) 0 page.new 4096) }
+    ensures bytes { OnOk result (AreReadBytes file.old.key file.old.tree (F.state file.old.file) (F.state file.new.file) 0 page.new 4096) }
     ensures stands { OnOk result (Told (F.state file.old.file) (F.state file.new.file) →
         page_in (F.state file.old.file).reads file.old.key file.old.tree 0 ≡ Some page.new) }
     ensures once { OnOk result (IsTrue (F.state file.old.file).tells_arms → (F.state file.new.file).arms ≡ count_call (F.state file.old.file).arms) }
@@ -52,7 +52,7 @@ pub(crate) fn read_attributes<F: StoreFile>(
     requires { HasForm entry.now }
     ensures size { OnOk result (file.old.tree.head.length ≡ 4096 + entry.now.size) }
     ensures attributes { IfOk result (λ bytes. length bytes.items ≡ entry.now.attributes) }
-    ensures bytes { IfOk result (λ bytes. AreBytes file.old.key file.old.tree
+    ensures bytes { IfOk result (λ bytes. AreReadBytes file.old.key file.old.tree
         (F.state file.old.file) (F.state file.new.file) 0 bytes.items entry.now.attributes) }
     ensures first { IfOk result (λ bytes. IsFirstRead file.old.key file.old.tree
         (F.state file.old.file) (F.state file.new.file) bytes.items entry.now.attributes) }

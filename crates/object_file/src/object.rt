@@ -11,7 +11,7 @@ ghost use Rattle.htree_file.specs.Selected.{KeepsFirm};
 ghost use Rattle.htree_file.specs.Standing.{IsFirm, Told};
 ghost use Rattle.page_bytes.specs.Ranges.{meets, read_range};
 ghost use Rattle.block_file.specs.Parts.{PageAnswer};
-ghost use Rattle.block_file.specs.Reads.{AreBytes, BlocksAnswer, IsReadFault, after_calls, blocks_of};
+ghost use Rattle.block_file.specs.Reads.{AreReadBytes, BlocksAnswer, IsReadFault, after_calls, blocks_of};
 ghost use Rattle.store_model.specs.Data.{bytes_at, meets_block};
 ghost use Rattle.store_model.specs.Object.{Damaged, Sound};
 ghost use Rattle.crash_core.specs.MountedObject.{mounted_object, root_of};
@@ -80,7 +80,7 @@ impl<F: StoreFile> ObjectFile<F> {
         ensures verified { IfOk result (λ o. IsVerified o.tree.root o.tree.tree) }
         ensures size { IfOk result (λ o. o.tree.tree.head.length ≡ 4096 + entry.now.size) }
         ensures attributes { IfOk result (λ o. length o.attributes ≡ entry.now.attributes) }
-        ensures bytes { IfOk result (λ o. AreBytes o.tree.key o.tree.tree (F.state file) (F.state o.tree.file) 0
+        ensures bytes { IfOk result (λ o. AreReadBytes o.tree.key o.tree.tree (F.state file) (F.state o.tree.file) 0
             o.attributes entry.now.attributes) }
         ensures first { IfOk result (λ o. IsFirstRead o.tree.key o.tree.tree (F.state file) (F.state o.tree.file)
             o.attributes entry.now.attributes) }
@@ -155,7 +155,7 @@ impl<F: StoreFile> ObjectFile<F> {
     pub fn read(&mut self, at: u32, into: &mut [u8]) -> Result<usize, TreeFault>
         ensures count { IfOk result (λ n. n ≡ min (length into.old) (size_in self.old - at)) }
         // Of any file.
-        ensures bytes { IfOk result (λ n. AreBytes self.old.tree.key self.old.tree.tree
+        ensures bytes { IfOk result (λ n. AreReadBytes self.old.tree.key self.old.tree.tree
             (F.state self.old.tree.file) (F.state self.new.tree.file) (4096 + at) into.new n) }
         ensures blocks { BlocksAnswer self.old.tree.key self.old.tree.tree (F.state self.old.tree.file) (F.state self.new.tree.file)
             (meets (4096 + at) (4096 + at + min (length into.old) (size_in self.old - at))) result }

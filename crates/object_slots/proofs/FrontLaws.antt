@@ -27,7 +27,7 @@ loaded_have_fronts old new tsk e o loaded =
 pub made_have_fronts : MadeHaveFronts
 made_have_fronts old new tsk attributes bytes root o few made =
     let verified : IsVerified root o.tree.tree = made.verified in
-    let within : 0 < length o.tree.tree.nodes = omega (arith, verified.all, sized_few o.tree.tree.head verified.sized) in
+    let within : 0 < length o.tree.tree.nodes = omega (arith, verified.hashed.all, sized_few o.tree.tree.head verified.hashed.sized) in
     let block = made.seals 0 within in
     let is : IsObjectPage attributes bytes 0 block.0 = block.1 in
     record {
@@ -46,7 +46,7 @@ same_page key a b n m k c wrapped iv tag = λ i. page_of key (record b { wrapped
 pub stages_keep_fronts : StagesKeepFronts
 stages_keep_fronts old new o c root s behind stage front =
     let verified : IsVerified s.root s.tree = stage.verified in
-    let within : 0 < length s.tree.nodes = omega (arith, verified.all, sized_few s.tree.head verified.sized) in
+    let within : 0 < length s.tree.nodes = omega (arith, verified.hashed.all, sized_few s.tree.head verified.hashed.sized) in
     let kept = stage.seals.missed 0 within (inl (omega (arith, behind))) in
     let was : Seals o.tree.key o.tree.tree 0 front.page = front.seals in
     let same : page_of o.tree.key s.tree.head (at_node s.tree.nodes 1) 0 was.0 ≡ page_of o.tree.key o.tree.tree.head (at_node o.tree.tree.nodes 1) 0 was.0 =

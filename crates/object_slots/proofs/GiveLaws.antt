@@ -12,7 +12,7 @@ use Rattle.page_bytes.specs.Pages.{byte_in, bytes_from}
 use Rattle.page_bytes.specs.declared.range.ByteRange.{ByteRange}
 use Rattle.page_bytes.specs.Ranges.{meets, needs}
 use Rattle.page_bytes.proofs.Content.{bytes_from-is}
-use Rattle.block_file.specs.Reads.{AreBytes, WasRead}
+use Rattle.block_file.specs.Reads.{AreReadBytes, WasRead}
 use Rattle.tee_types.specs.declared.call.Call.TheVariants.{Read}
 use Rattle.core_laws.specs.Given.{Gave, is_asked}
 use Rattle.core_laws.specs.Decodings.{Decoding, page_decoded, tree_decoding}
@@ -87,8 +87,8 @@ module _ (wrap : List ℕ) (old new : FileState) (o : HeldObject) (at : ℕ) (be
   abbrev met : ℕ → Bool
   met k = meets (4096 + at) (4096 + at + count) k
 
-  bytes : AreBytes o.tree.key o.tree.tree old new (4096 + at) after count
-  bytes = subst (λ (m : ℕ). AreBytes o.tree.key o.tree.tree old new (4096 + at) after m) reads.count reads.bytes
+  bytes : AreReadBytes o.tree.key o.tree.tree old new (4096 + at) after count
+  bytes = subst (λ (m : ℕ). AreReadBytes o.tree.key o.tree.tree old new (4096 + at) after m) reads.count reads.bytes
 
   abbrev was : (k : ℕ) → met k ≡ true → WasRead o.tree.key o.tree.tree old new k
   was k is = (bytes.pages k, bytes.read k is)

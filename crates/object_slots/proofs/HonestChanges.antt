@@ -103,10 +103,10 @@ module _ (keys : Keys) (old new : FileState) (o : HeldObject) (v : Version) (c :
       ∙ sym (row_at (page_in new.reads (unwrapped_of wrap s.tree.head.wrapped) s.tree) (length s.tree.nodes) k None lt)
 
   count : length s.tree.nodes ≡ greatest_of (4096 + c.size)
-  count = stage.verified.all ∙ sized_greatest s.tree.head stage.verified.sized ∙ ap (λ (h : Head). greatest_of h.length) stage.head
+  count = stage.verified.hashed.all ∙ sized_greatest s.tree.head stage.verified.hashed.sized ∙ ap (λ (h : Head). greatest_of h.length) stage.head
 
   old_count : length o.tree.tree.nodes ≡ greatest_of o.tree.tree.head.length
-  old_count = is.verified.all ∙ sized_greatest o.tree.tree.head is.verified.sized
+  old_count = is.verified.hashed.all ∙ sized_greatest o.tree.tree.head is.verified.hashed.sized
 
   -- a block that the change misses keeps its page, good or bad
   pub page_missed : (k : ℕ) → k < length s.tree.nodes → meets c.range.first c.range.last k ≡ false → page_decoded now k ≡ page_decoded was k

@@ -93,6 +93,6 @@ pub selected_block : (image : List ℕ) (root : RootRef) (tree : Loaded) → loa
 selected_block image root tree is k lt =
     let l = loaded_from image root tree is in
     row_at (λ j. part_in image (block j (block_bit (selected_node image root.version (j + 1)).flags))) (head_in image root.version).greatest k []
-    (omega (arith, lt, l.verified.all, ap (λ (h : Head). h.greatest) l.top))
+    (omega (arith, lt, l.hashed.all, ap (λ (h : Head). h.greatest) l.top))
     ∙ ap (λ (n : NodeImage). part_in image (block k (block_bit n.flags)))
     (node_is image root.version tree.nodes (length tree.nodes) l.matches (k + 1) (omega arith) (omega (arith, lt)))

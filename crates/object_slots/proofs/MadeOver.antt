@@ -55,7 +55,7 @@ module _ (keys : Keys) (old new : FileState) (o : HeldObject) (v : Version) (c :
   long = ap (λ (h : Head). h.length) stage.head
 
   whole : n ≡ greatest_of s.tree.head.length
-  whole = stage.verified.all ∙ sized_greatest s.tree.head stage.verified.sized
+  whole = stage.verified.hashed.all ∙ sized_greatest s.tree.head stage.verified.hashed.sized
 
   count : n ≡ greatest_of (4096 + c.size)
   count = whole ∙ ap greatest_of long

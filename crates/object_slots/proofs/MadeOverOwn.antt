@@ -48,7 +48,7 @@ module _ (keys : Keys) (old new : FileState) (o : HeldObject) (v : Version) (c :
       ∙ is.real.decodes
       ∙ is.object was_honest in
       let first = sound_of v.size v.attributes (opened_decoded own) (held_in o old.reads) here in
-      let within : 0 < length o.tree.tree.nodes = omega (arith, is.verified.all, sized_few o.tree.tree.head is.verified.sized) in
+      let within : 0 < length o.tree.tree.nodes = omega (arith, is.verified.hashed.all, sized_few o.tree.tree.head is.verified.hashed.sized) in
       (first.page, sym (row_at (page_decoded own) (length o.tree.tree.nodes) 0 None within) ∙ first.first)
 
   good : (k : ℕ) → ((k == 0) || needs c.range k) ≡ true → IsSome (page_decoded own k)
@@ -76,7 +76,7 @@ module _ (keys : Keys) (old new : FileState) (o : HeldObject) (v : Version) (c :
     tree = s.tree;
     loads = refl;
     long = long;
-    whole = stage.verified.all ∙ sized_greatest s.tree.head stage.verified.sized;
+    whole = stage.verified.hashed.all ∙ sized_greatest s.tree.head stage.verified.hashed.sized;
     wrapped = ap (λ (h : Head). h.wrapped) stage.head;
     met = page_met keys old new o v c root s stage is sound still honest was_honest size lays grown;
     seal = seal_missed keys old new o v c root s stage is sound still honest was_honest size lays grown;

@@ -59,7 +59,7 @@ module _ (store : Store) (old new : FileState) (app attributes bytes : List ℕ)
       }
 
   whole : length o.tree.tree.nodes ≡ greatest_of o.tree.tree.head.length
-  whole = verified.all ∙ sized_greatest o.tree.tree.head verified.sized
+  whole = verified.hashed.all ∙ sized_greatest o.tree.tree.head verified.hashed.sized
 
   short : length attributes ≤ 4096
   short = omega (arith, few)

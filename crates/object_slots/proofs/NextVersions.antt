@@ -64,7 +64,7 @@ replay_real keys s root tree app size attributes object sound stands =
     let shown = stands.shown s.reads (reads_left s sound) in
     subst (IsReal keys)
     (λ i. record { root = root; tree = selected_tree s.reads root.version; loads = shown.loads i; app = app; size = size; attributes = attributes; object = shown.object i })
-    (image_real keys s.reads root app size attributes)
+    (image_real keys s.reads root app size attributes sound.reads)
 
 -- What a stage leaves of an object of a version, with these ciphertexts where the file is not honest.
 module _ (keys : Keys) (old new : FileState) (o : HeldObject) (v : Version) (c : DataChange) (root : RootRef) (s : Staged) (block : ℕ → List ℕ) (stage : IsStageOf old new o c root s)

@@ -5,7 +5,7 @@ use Rattle.disk_model.specs.Calls.{Rests}
 use Rattle.aes_block.specs.WrappedKey.{unwrapped_of}
 use Rattle.htree_file.specs.Opening.{IsVerified, load_of}
 use Rattle.htree_file.specs.Standing.{Told}
-use Rattle.block_file.specs.Reads.{AreBytes, after_calls}
+use Rattle.block_file.specs.Reads.{AreReadBytes, after_calls}
 use Rattle.store_model.specs.Object.{Damaged, Sound}
 use Rattle.object_file.specs.MountedObject.{mounted_object, root_of}
 use Rattle.dir_records.specs.declared.entry.DirEntry.{DirEntry}
@@ -26,7 +26,7 @@ pub record IsLoadedBy (old new : FileState) (tsk : List ℕ) (e : DirEntry) (o :
   pub attributes : length o.attributes ≡ e.attributes
   -- of any file
   pub verified : IsVerified o.tree.root o.tree.tree
-  pub bytes : AreBytes o.tree.key o.tree.tree old new 0 o.attributes e.attributes
+  pub bytes : AreReadBytes o.tree.key o.tree.tree old new 0 o.attributes e.attributes
   pub first : IsFirstRead o.tree.key o.tree.tree old new o.attributes e.attributes
   -- of one that can be followed
   pub loads : Told old new → load_of new.reads o.tree.root ≡ Ok o.tree.tree

@@ -6,7 +6,7 @@ use Rattle.disk_model.specs.Calls.{Rests}
 use Rattle.htree_file.specs.Opening.{IsVerified}
 use Rattle.htree_file.specs.Standing.{Told}
 use Rattle.page_bytes.specs.Ranges.{meets, read_range}
-use Rattle.block_file.specs.Reads.{AreBytes, IsFirstBad, after_calls, blocks_of}
+use Rattle.block_file.specs.Reads.{AreReadBytes, IsFirstBad, after_calls, blocks_of}
 use Rattle.store_model.specs.Object.{Contents}
 use Rattle.store_model.specs.Data.{bytes_at, meets_block}
 use Rattle.object_file.specs.Held.{held_in}
@@ -50,7 +50,7 @@ ReadFault old new o asked fault = ⊥
 pub record ReadsObject (old new : FileState) (o : HeldObject) (at : ℕ) (before after : List ℕ) (result : Result ℕ SlotFault) : Type 0 where
   pub count : IfOk result (λ n. n ≡ read_count o at (length before))
   -- of any file: each byte is of a ciphertext with its node's tag
-  pub bytes : IfOk result (λ n. AreBytes o.tree.key o.tree.tree old new (4096 + at) after n)
+  pub bytes : IfOk result (λ n. AreReadBytes o.tree.key o.tree.tree old new (4096 + at) after n)
   pub refused : IfErr result (ReadFault old new o (meets (4096 + at) (4096 + at + read_count o at (length before))))
   -- of one that can be followed
   pub content : IfOk result (λ n. Told old new → after ≡ bytes_at (held_in o old.reads).bytes at (length before) ++ drop n before)

@@ -5,7 +5,7 @@ ghost use Rattle.htree_file.specs.Answers.{HasCause};
 ghost use Rattle.htree_file.specs.Opening.{IsVerified};
 ghost use Rattle.htree_file.specs.Standing.{Told};
 ghost use Rattle.page_bytes.specs.Ranges.{meets, read_range};
-ghost use Rattle.block_file.specs.Reads.{AreBytes, BlocksAnswer, IsReadFault, blocks_of};
+ghost use Rattle.block_file.specs.Reads.{AreReadBytes, BlocksAnswer, IsReadFault, blocks_of};
 ghost use Rattle.store_model.specs.Data.{bytes_at, meets_block};
 ghost use Rattle.object_file.specs.Corrupt.{CorruptAnswer};
 ghost use Rattle.object_file.specs.Held.{held_in};
@@ -90,7 +90,7 @@ impl<F: StoreFile + Drop> CachedObject<F> {
     /// `BadTag` names the first of these blocks that has not the tag of its node, as the file reads when the call ends. Besides `Failed`.
     pub(crate) fn read(&mut self, at: u32, into: &mut [u8]) -> Result<usize, TreeFault>
         ensures count { IfOk result (λ n. n ≡ min (length into.old) (size_in self.old - at)) }
-        ensures bytes { IfOk result (λ n. AreBytes self.old.tree.key self.old.tree.tree
+        ensures bytes { IfOk result (λ n. AreReadBytes self.old.tree.key self.old.tree.tree
             (F.state self.old.tree.file) (F.state self.new.tree.file) (4096 + at) into.new n) }
         ensures blocks { BlocksAnswer self.old.tree.key self.old.tree.tree (F.state self.old.tree.file) (F.state self.new.tree.file)
             (meets (4096 + at) (4096 + at + min (length into.old) (size_in self.old - at))) result }

@@ -8,7 +8,7 @@ ghost use Rattle.htree_file.specs.Standing.{Told};
 ghost use Rattle.page_bytes.specs.Pages.{bytes_from};
 ghost use Rattle.page_bytes.specs.Ranges.{meets, read_range};
 ghost use Rattle.block_file.specs.Parts.{PartAnswer};
-ghost use Rattle.block_file.specs.Reads.{AreBytes, BlocksAnswer, IsPage, IsReadFault, blocks_of};
+ghost use Rattle.block_file.specs.Reads.{AreReadBytes, BlocksAnswer, IsPage, IsReadFault, blocks_of};
 ghost use Rattle.object_slots.specs.CachedPages.{AreKept};
 ghost use Rattle.object_slots.specs.SlotReads.{AsksAtMost};
 
@@ -144,7 +144,7 @@ pub(crate) fn read_bytes<F: StoreFile>(
     ensures kept { AreKept F.state object.new.tree pages.new }
     ensures count { IfOk result (λ n. n ≡ min (length into.old) (object.old.tree.tree.head.length - at)) }
     // Of any file.
-    ensures bytes { IfOk result (λ n. AreBytes object.old.tree.key object.old.tree.tree
+    ensures bytes { IfOk result (λ n. AreReadBytes object.old.tree.key object.old.tree.tree
         (F.state object.old.tree.file) (F.state object.new.tree.file) at into.new n) }
     ensures blocks { BlocksAnswer object.old.tree.key object.old.tree.tree (F.state object.old.tree.file) (F.state object.new.tree.file)
         (meets at (at + min (length into.old) (object.old.tree.tree.head.length - at))) result }

@@ -1,5 +1,5 @@
 -- A port that carries frames to a card, as contracts see it, and what one exchange of a frame for an answer does to it.
-use Rattle.std.specs.Prelude.{◌≡◌, ◌⊎◌, ℕ, Bool, ◌-◌, ◌<◌, ◌≤◌, ◌^◌, List, ◌∷◌, [], ◌++◌, length, drop, slice_index_or, Option, Some, None, Result, Ok, Err, IsTrue, IsOk, IsErr, IfOk, IfErr, OnOk, OnErr, IfSome}
+use Rattle.std.specs.Prelude.{◌≡◌, ◌⊎◌, ℕ, Bool, ◌-◌, ◌<◌, ◌≤◌, ◌^◌, List, ◌∷◌, [], ◌++◌, length, drop, slice_index_or, Option, Some, None, Result, Ok, Err, IsTrue, IsOk, IsErr, IfOk, IfErr, OnOk, OnErr, IfSome, ◌||◌}
 use Rattle.tee_ports.specs.declared.failed.Failed.{Failed}
 use Rattle.tee_ports.specs.Faults.{Rose}
 use Rattle.rpmb_card.specs.Card.{CardState, IsCard, card_after, card_answer}
@@ -86,7 +86,8 @@ pub record Exchanged (old new : PortState) (frame : List ℕ) (result : Result (
   pub counted_call : IsTrue old.tells_arms → new.arms ≡ count_call old.arms
 
 -- An arming, or its end, changes only what is armed and whether the port is calm; a port that tells its armed faults
--- then has these.
+-- then has these. Without any it is calm, if it tells them or was calm before.
 pub record Rearmed (old new : PortState) (arms : Arms) : Type 0 where
   pub others : new ≡ record old { calm = new.calm; arms = new.arms }
   pub armed : IsTrue old.tells_arms → new.arms ≡ arms
+  pub calm : IsTrue (is_unarmed arms) → IsTrue (old.tells_arms || old.calm) → IsTrue new.calm

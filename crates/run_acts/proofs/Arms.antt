@@ -1,23 +1,20 @@
 -- Arms, one after another, and what they leave of a store that is mounted.
 use Rattle.std.proofs.Common.{◌≡◌, ◌∙◌, ℕ, List, [], ◌∷◌, ◌++◌, Option, refl, sym, ap, subst}
-use Rattle.disk_model.specs.Controls.{failure_armed, stop_armed}
 use Rattle.disk_model.specs.State.{FileState}
 use Rattle.rpmb_card.specs.Port.{PortState}
 use Rattle.hmac_keys.specs.declared.Keys.{Keys}
 use Rattle.tee_types.specs.declared.reply.Device.{Device}
 use Rattle.tee_types.specs.declared.reply.Device.TheVariants.{Dir, File, Card, Entropy}
 use Rattle.dir_records.specs.declared.entry.DirEntry.{DirEntry}
-use Rattle.crash_core.specs.CoreState.{put}
 use Rattle.crash_core.specs.Mounting.{all_held_in, map_of}
 use Rattle.crash_core.specs.Opening.{opening_map}
-use Rattle.crash_core.proofs.Lists.{put_each}
 use Rattle.script_text.specs.declared.script.Arm.{Arm}
-use Rattle.script_text.specs.declared.script.Arm.TheVariants.{Fail, Lose, Stop}
 use Rattle.script_text.specs.Laws.{IsArmable}
 use Rattle.object_calls.specs.OpeningArms.{IsOnBench}
 use Rattle.object_calls.specs.Opening.{OpeningValue}
 use Rattle.run_acts.specs.Benches.{BenchState, opening_state}
 use Rattle.run_acts.specs.PhaseArms.{ArmsAll, ArmsOneOf, OnlyDevices}
+use Rattle.run_acts.proofs.ArmedFiles.{arms_keep}
 
 -- what can be armed is of the bench
 pub armable-on_bench : (device : Device) → IsArmable device → IsOnBench device
@@ -46,29 +43,8 @@ arms_stay (first ∷ arms) old new after (between, its, others) stay = (between,
 abbrev pub ReadTheSame : (old new : BenchState) → Type 0
 ReadTheSame old new = (file : ℕ) → (new.files file).reads ≡ (old.files file).reads
 
-put_reads : (old new : ℕ → FileState) (n : ℕ) (s : FileState) → ((k : ℕ) → new k ≡ put old n s k) → s.reads ≡ (old n).reads → (k : ℕ) → (new k).reads ≡ (old k).reads
-put_reads old new n s armed same k = ap (λ (x : FileState). x.reads) (armed k) ∙ put_each (λ j x. x.reads ≡ (old j).reads) old n s k same refl
-
-stops_read : (device : Device) (calls : ℕ) (old new : BenchState) → ArmsOneOf (Stop device calls) old new → ReadTheSame old new
-stops_read Dir calls old new s = put_reads old.files new.files 0 (stop_armed (old.files 0) calls) s.files refl
-stops_read (File n) calls old new s = put_reads old.files new.files n (stop_armed (old.files n) calls) s.files refl
-stops_read Card calls old new s = λ k. ap (λ (x : FileState). x.reads) (s.0 k)
-stops_read Entropy calls old new s = λ k. ap (λ (x : FileState). x.reads) (s.files k)
-
-fails_read : (device : Device) (call : ℕ) (old new : BenchState) → ArmsOneOf (Fail device call) old new → ReadTheSame old new
-fails_read Dir call old new s = put_reads old.files new.files 0 (failure_armed (old.files 0) call) s.files refl
-fails_read (File n) call old new s = put_reads old.files new.files n (failure_armed (old.files n) call) s.files refl
-fails_read Card call old new s = λ k. ap (λ (x : FileState). x.reads) (s.0 k)
-fails_read Entropy call old new s = λ k. ap (λ (x : FileState). x.reads) (s.files k)
-
-one_reads : (arm : Arm) (old new : BenchState) → ArmsOneOf arm old new → ReadTheSame old new
-one_reads (Stop device calls) old new s = stops_read device calls old new s
-one_reads (Fail device call) old new s = fails_read device call old new s
-one_reads (Lose call) old new s = λ k. ap (λ (x : FileState). x.reads) (s.0 k)
-
 pub arms_read : (arms : List Arm) (old new : BenchState) → ArmsAll arms old new → ReadTheSame old new
-arms_read [] old new s = λ k. ap (λ (x : FileState). x.reads) (s.0 k)
-arms_read (arm ∷ arms) old new (between, its, others) = λ k. arms_read arms between new others k ∙ one_reads arm old between its k
+arms_read arms old new s k = arms_keep (λ f. f.reads ≡ (old.files k).reads) (λ f calls same. same) (λ f call same. same) arms old new s k refl
 
 -- so the objects are the same
 pub armed-map : (keys : Keys) (old new : ℕ → FileState) (entries : List (Option DirEntry)) → ((file : ℕ) → (new file).reads ≡ (old file).reads)

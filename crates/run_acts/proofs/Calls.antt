@@ -60,7 +60,7 @@ length-cond : (own : Bool) (call : Call) (number : ℕ) (calls : List Call) (num
 length-cond true call number calls numbers same = ap suc same
 length-cond false call number calls numbers same = same
 
-length-calls_of : (session : ℕ) (events : List Event) → length (calls_of session events) ≡ count_of session events
+pub length-calls_of : (session : ℕ) (events : List Event) → length (calls_of session events) ≡ count_of session events
 length-calls_of session [] = refl
 length-calls_of session (CallEvent s number call reply mark ∷ events) =
     length-cond (s == session) call number (calls_of session events) (numbers_of session events) (length-calls_of session events)

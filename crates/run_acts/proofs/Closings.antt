@@ -1,5 +1,5 @@
 -- A store that was served is closed: what its devices are, before its calls and behind them.
-use Rattle.std.proofs.Common.{◌≡◌, ◌∙◌, ◌+◌, ◌-◌, ◌<◌, ℕ, zero, suc, List, [], ◌∷◌, ◌++◌, length, Option, sym, ap, subst, arith}
+use Rattle.std.proofs.Common.{◌≡◌, ◌∙◌, ◌+◌, ◌-◌, ◌<◌, ℕ, zero, suc, List, [], ◌∷◌, ◌++◌, length, Option, refl, sym, ap, subst, arith}
 use Rattle.disk_model.specs.Calls.{GoesOn}
 use Rattle.disk_model.specs.State.{FileState}
 use Rattle.hmac_keys.specs.KeyTable.{rpmb_key}
@@ -13,6 +13,7 @@ use Rattle.shared_store.specs.CallerSessions.{CallerSession}
 use Rattle.store_commit.specs.Gates.{GateValue}
 use Rattle.shared_store.specs.SlotValues.{SlotValue}
 use Rattle.script_text.specs.declared.script.Mode.{Mode}
+use Rattle.script_text.specs.declared.script.Mode.TheVariants.{Serial}
 use Rattle.script_text.specs.declared.script.Step.{Step}
 use Rattle.shared_store.specs.EventCounts.{events_at}
 use Rattle.shared_store.specs.Cards.{TellsCard}
@@ -30,8 +31,9 @@ use Rattle.run_acts.specs.MadeCalls.{MakesCalls, faults_at}
 use Rattle.run_acts.specs.Reliable.{AreFresh, AreReliable, StayReliable}
 use Rattle.run_acts.specs.ServedSteps.{ServesSteps}
 use Rattle.run_acts.specs.Benches.{BenchState, bench_state, opening_state}
-use Rattle.run_acts.specs.Closing.{BenchGoesOn, ClosesStore, faults_on}
+use Rattle.run_acts.specs.Closing.{BenchGoesOn, ClosesEarly, ClosesStore, faults_on, served}
 use Rattle.run_acts.specs.PhaseServing.{HasDevices}
+use Rattle.run_acts.proofs.Phases.{serves_made}
 use Rattle.run_acts.proofs.Draws.{drawn_from_0, undrawn_from_0}
 
 -- as the store begins to be served, its devices are those of the mounted store
@@ -113,6 +115,13 @@ module _ {F R E : Type 0} (of_file : F → FileState) (of_port : R → PortState
               (let below : session < length was = omega (arith, within, many) in
               undrawn_from_0 is_reliable draws was now session (draws_of session makes.added) below fresh reliable (λ d. stay session d below) (λ d. makes.drawn session d below));
         }
+
+    -- memory ran out behind these calls
+    pub closes_early : (all rest : List Step) (doubt : Option ℕ) → events_at old.gate ≡ [] → all ≡ calls ++ rest → LeavesStore store new.gate.journal.knows closed.files closed.card doubt
+        → ClosesEarly store before Serial all closed
+    closes_early all rest doubt empty is leaves =
+        let in_order = (serves_made of_file of_port draws store old new was now calls makes empty Serial).in_script_order refl in
+        served new.gate.journal.knows doubt (rest, is ∙ ap (λ (l : List Step). l ++ rest) (sym in_order)) leaves goes_on
 
 -- Where a generator that never fails has streams that never do, so much is said of it.
 pub closes_where : (Streams Generator : Type 0) (store : Store) (before : BenchState) (mode : Mode) (calls : List Step) (closed : BenchState) (events : List Event) → (Generator → Streams)

@@ -7,8 +7,10 @@ use Rattle.hmac_keys.specs.KeyTable.{rpmb_key}
 use Rattle.rpmb_card.specs.Card.{CardState}
 use Rattle.rpmb_card.specs.Port.{PortState}
 use Rattle.rpmb_host.specs.Honest.{HasCard}
-use Rattle.run_acts.specs.Between.{TakesImage}
-use Rattle.run_acts.specs.DeviceLaws.{CrashesKeep, CrashesKeepSteady, CrashesMayBe, DisarmedFilesAreSteady, NothingMayBe}
+use Rattle.run_acts.specs.Benches.{BenchState}
+use Rattle.run_acts.specs.Between.{MayCrash, TakesImage}
+use Rattle.run_acts.specs.Crashes.{CrashesInPart}
+use Rattle.run_acts.specs.DeviceLaws.{CrashesKeep, CrashesKeepSteady, CrashesMayBe, DisarmedFilesAreSteady, KeptDevicesHold, NothingMayBe}
 
 -- the same card, whatever else of the port
 pub card_of : (p q : PortState) (key : List ℕ) (card : CardState) → q.card ≡ p.card → HasCard q key card → HasCard p key card
@@ -36,6 +38,15 @@ crashes_keep keys s old new holds may = record {
       (record { left = λ file. crashed_left (old.files file) (new.files file) (picture.images file) (may.files file) (is.left file); same = is.same });
 }
 
+-- so do reads and syncs
+pub kept_devices_hold : KeptDevicesHold
+kept_devices_hold keys s old new holds keeps honest = record {
+  honest = honest;
+  mounts = λ card picture has is.
+      holds.mounts card picture (card_of old.card new.card (rpmb_key keys.huk) card keeps.card has)
+      (record { left = λ file. (keeps.files file).left (honest file) (picture.images file) (is.left file); same = is.same });
+}
+
 crashed_steady : (old new : FileState) → (new ≡ old) ⊎ TakesImage old new → IsTrue old.steady → IsTrue new.steady
 crashed_steady old new (inl same) steady = subst (λ (s : FileState). IsTrue s.steady) (sym same) steady
 crashed_steady old new (inr takes) steady = subst (λ (s : FileState). IsTrue s.steady) (sym takes.2) steady
@@ -49,6 +60,16 @@ nothing_may_be bench = record { files = λ file. inl refl; card = refl }
 pub crashes_may_be : CrashesMayBe
 crashes_may_be image seed old new crashes = record {
   files = λ file. elim (cases_lt file 273) [
+    | inl below ↦ inr (image (old.files file) seed file, (crashes.files).left file below, (crashes.files).each file below)
+    | inr past ↦ inl ((crashes.files).others file past)
+  ];
+  card = crashes.card;
+}
+
+-- so may a crash in which memory ran out
+pub part_may_be : (image : FileState → ℕ → ℕ → List ℕ) (seed : ℕ) (old new : BenchState) → CrashesInPart image seed old new → MayCrash old new
+part_may_be image seed old new crashes = record {
+  files = λ file. elim (cases_lt file crashes.count) [
     | inl below ↦ inr (image (old.files file) seed file, (crashes.files).left file below, (crashes.files).each file below)
     | inr past ↦ inl ((crashes.files).others file past)
   ];

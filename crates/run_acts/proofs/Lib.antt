@@ -39,6 +39,11 @@ pub mod Mounted
 pub mod ListedLeft
 pub mod Untold
 pub mod QuietPhases
+pub mod ArmedFiles
+pub mod Untainted
+pub mod HeldOpenings
+pub mod NotDrawn
+pub mod QuietRefusals
 pub mod NotRefused
 pub mod HeldRefusals
 pub mod BadTexts

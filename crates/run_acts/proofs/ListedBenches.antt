@@ -1,12 +1,9 @@
 -- A bench that was mounted, listed and closed.
-use Rattle.std.proofs.Common.{◌≡◌, ◌≢◌, ◌∙◌, ℕ, List, Option, None, length, refl, sym, ap, subst, inl, inr, IsTrue}
+use Rattle.std.proofs.Common.{◌≡◌, ◌≢◌, ◌≤◌, ◌∙◌, ℕ, List, Option, None, length, refl, sym, ap, subst, inl, inr, IsTrue}
 use Rattle.std.proofs.lemmas.List.{length-map}
 use Rattle.std.specs.Map.{keys_of}
 use Rattle.disk_model.specs.State.{FileState, Sound}
 use Rattle.disk_model.specs.Calls.{GoesOn, Rests}
-use Rattle.disk_model.specs.Keeps.{Anywhere}
-use Rattle.disk_model.proofs.Goings.{first_known, then_known}
-use Rattle.disk_model.proofs.Laws.{keeps_then, rest_keeps}
 use Rattle.htree_file.specs.Standing.{Told}
 use Rattle.htree_file.specs.Answers.{FileFailed, FilePassed}
 use Rattle.htree_file.specs.declared.fault.TreeFault.TheVariants.{Failed as FileFault}
@@ -19,14 +16,16 @@ use Rattle.store_model.specs.declared.name.ObjectName.{ObjectName}
 use Rattle.store_model.specs.Object.{Object, ObjectMap}
 use Rattle.store_commit.specs.declared.fault.MountFault.{MountFault}
 use Rattle.store_commit.specs.declared.fault.MountFault.TheVariants.{NoStore, CardBlock, Directory, Frame, CardResult, Failed, Spent, NoMemory}
+use Rattle.store_commit.specs.Counts.{RefusalNotDrawn}
 use Rattle.crash_core.specs.Mounting.{held_in}
 use Rattle.crash_core.specs.Opening.{reads_of}
 use Rattle.dir_records.specs.declared.entry.DirEntry.{DirEntry}
 use Rattle.dir_file.specs.EntryForms.{AreEntriesOf}
 use Rattle.object_calls.specs.Next.{ShowFailed}
 use Rattle.object_calls.specs.Opening.{OpeningValue, bench_files, entries_in}
+use Rattle.object_calls.specs.OpeningFiles.{no_file}
 use Rattle.object_calls.specs.Syncing.{IsOnlySynced}
-use Rattle.object_calls.proofs.Syncs.{only_none}
+use Rattle.object_calls.proofs.Syncs.{only_none, only_rest, only_then}
 use Rattle.object_calls.proofs.EntriesOf.{distinct_names, form_at}
 use Rattle.run_acts.specs.Benches.{BenchState, HasPassed, KeepsDevices, opening_state}
 use Rattle.run_acts.specs.Between.{AreSound}
@@ -35,14 +34,12 @@ use Rattle.run_acts.specs.ListedObjects.{IsCutOff, IsListed, IsListedTo, IsNotLi
 use Rattle.run_acts.specs.MountedDevices.{IsMounted, objects_in}
 use Rattle.run_acts.proofs.ShownFiles.{one_rests, same_passed, shown_passed, shown_rests}
 use Rattle.run_acts.proofs.ShownMaps.{shown_map, shown_names}
+use Rattle.run_acts.proofs.NotDrawn.{shown_not_drawn}
 use Rattle.run_acts.proofs.ShownTold.{told_all}
 
 -- a file that was synced and then read
 only_read : (a b c : FileState) → Sound b → IsOnlySynced a b → Rests b c → IsOnlySynced a c
-only_read a b c sound first rests = record {
-  keeps = keeps_then Anywhere a b c first.keeps (rest_keeps b c sound rests);
-  reads = λ known. rests.reads (then_known a b c (first.keeps).goes_on known) ∙ first.reads (first_known a b c rests.goes_on known);
-}
+only_read a b c sound first rests = only_then a b c first (only_rest b c sound rests)
 
 -- two maps with the same names have as many objects
 length-named : (a b : ObjectMap) → keys_of a ≡ keys_of b → length a ≡ length b
@@ -65,9 +62,9 @@ module _ {F R : Type 0} (state : F → FileState) (port : R → PortState) (keys
   honest_told : ((file : ℕ) → Sound (new.files file)) → ((file : ℕ) → IsTrue (new.files file).honest) → (file : ℕ) → Told (bench_files state o file) (new.files file)
   honest_told sound_new honest file = ((sound_new file).told (honest file), inl (honest file))
 
-  pub listed_bench : (lines : List ℕ) → AreSound old.files → ((file : ℕ) → Sound (new.files file)) → IsListed (entries_in o) o.storage_key (bench_files state o) new.files lines
+  pub listed_bench : (lines : List ℕ) → AreSound old.files → ((file : ℕ) → Sound (new.files file)) → ((file : ℕ) → 273 ≤ file → new.files file ≡ no_file) → IsListed (entries_in o) o.storage_key (bench_files state o) new.files lines
       → (objects : ObjectMap) × (length objects ≡ length (objects_in state port keys o)) × ListsBench state port keys old new objects lines
-  listed_bench lines sound_old sound_new shows = (
+  listed_bench lines sound_old sound_new past shows = (
     objects,
     length-named objects (objects_in state port keys o) names,
     record {
@@ -86,6 +83,7 @@ module _ {F R : Type 0} (state : F → FileState) (port : R → PortState) (keys
         files = λ file. passed_then (old.files file) (first file) (new.files file) (passed.files file) (shown_passed entries o.storage_key None first listed.steps shows.last new.files listed.shows file);
         card = card_passed;
       };
+      past = past;
     },
   )
     where
@@ -169,6 +167,9 @@ module _ {F R : Type 0} (state : F → FileState) (port : R → PortState) (keys
     card_passed = card_passed;
     undrawn = undrawn;
   })
+
+  pub cut_not_drawn : (fault : MountFault) → IsCutOff (entries_in o) o.storage_key (bench_files state o) new.files fault → RefusalNotDrawn fault
+  cut_not_drawn fault cut = shown_not_drawn old.files new.files fault (cut_counts fault cut)
 
 pub keeps_all : (s : BenchState) → KeepsDevices s s
 keeps_all s = record { files = λ file. only_none (s.files file); card = refl }

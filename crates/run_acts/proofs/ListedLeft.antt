@@ -1,10 +1,7 @@
 -- A list of a bench that holds what is left.
-use Rattle.std.proofs.Common.{◌≡◌, ◌∙◌, ℕ, List, Bool, None, Some, Ok, IsTrue, inl, inr, sym, ap, subst}
-use Rattle.disk_model.specs.State.{FileState, LeftNow, pending, spans_of}
-use Rattle.std.specs.Prelude.{drop}
+use Rattle.std.proofs.Common.{ℕ, List, Bool, None, IsTrue, inl, inr, sym, subst}
+use Rattle.disk_model.specs.State.{FileState}
 use Rattle.disk_model.specs.Calls.{Known, Rests}
-use Rattle.disk_model.specs.Images.{MayLeave}
-use Rattle.disk_model.specs.declared.span.Span.{Span}
 use Rattle.hmac_keys.specs.declared.Keys.{Keys}
 use Rattle.hmac_keys.specs.KeyTable.{rpmb_key}
 use Rattle.rpmb_card.specs.Card.{CardState}
@@ -12,29 +9,16 @@ use Rattle.rpmb_card.specs.Port.{PortState}
 use Rattle.rpmb_host.specs.Honest.{HasCard}
 use Rattle.store_model.specs.Object.{ObjectMap}
 use Rattle.store_model.specs.ReplayState.{ReplayState}
-use Rattle.crash_core.specs.Mounting.{mounted}
-use Rattle.crash_core.specs.Pictures.{IsPictureOf, Picture}
-use Rattle.object_calls.specs.FinishedPhase.{AreAllHonest, IsMapLeft}
 use Rattle.object_calls.specs.Opening.{bench_files, entries_in}
 use Rattle.run_acts.specs.Benches.{BenchState}
 use Rattle.run_acts.specs.ListedBenches.{ListsBench}
 use Rattle.run_acts.specs.MountedDevices.{objects_in}
 use Rattle.run_acts.proofs.ShownFiles.{shown_rests}
 use Rattle.run_acts.specs.Between.{AreReadable}
-use Rattle.run_acts.specs.DeviceLaws.{ListsKeep, ListsShowLeft}
+use Rattle.run_acts.specs.DeviceLaws.{ListsKeep, ListsShowLeft, RefusedListsKeep}
 use Rattle.run_acts.specs.Left.{AreLeft, HoldsLeft}
+use Rattle.run_acts.proofs.CrashedLaws.{kept_devices_hold}
 use Rattle.run_acts.proofs.Mounted.{mount_goes_on, mount_tells, opens_with_left}
-
--- what is left after reads was left before
-rests_left : (old new : FileState) (image : List ℕ) → Rests old new → IsTrue new.honest → LeftNow new image → LeftNow old image
-rests_left old new image rests honest left now =
-    let same : pending new ≡ pending old = λ i. spans_of (drop (rests.pending_from i) (rests.trail i)) in
-    subst (λ (b : List ℕ). MayLeave b (pending old) image) (rests.settled honest) (subst (λ (l : List Span). MayLeave new.settled l image) same (left honest))
-
--- the objects that are left are those of a picture that mounts to them
-left_map : (keys : Keys) (picture : Picture) (s : ReplayState) (objects : ObjectMap) → mounted keys picture ≡ Ok objects → AreLeft s objects → IsMapLeft keys picture s
-left_map keys picture s objects is (inl same) = inl (is ∙ ap Ok same)
-left_map keys picture s objects is (inr doubted) = inr (objects, doubted, is)
 
 module _ {F R : Type 0} (of_file : F → FileState) (of_port : R → PortState) (keys : Keys) (old new : BenchState) (objects : ObjectMap) (lines : List ℕ)
     (l : ListsBench of_file of_port keys old new objects lines) where
@@ -65,25 +49,11 @@ module _ {F R : Type 0} (of_file : F → FileState) (of_port : R → PortState) 
     pub shows_left : AreReadable old.files new.files → AreLeft s objects
     shows_left readable = subst (AreLeft s) (sym (l.told (λ file. (all_tells file, read_known file (readable file))))) (opened_left readable)
 
-    pub keeps_left : AreAllHonest new.files → HoldsLeft keys new s
-    keeps_left honest = record {
-      honest = honest;
-      mounts = λ other picture there is.
-          let at_opened : IsPictureOf opened other picture = record {
-            left = λ file. rests_left (opened file) (new.files file) (picture.images file) (read_rests file) (honest file) (is.left file);
-            same = is.same;
-          } in
-          let its : HasCard (of_port ((l.opened).gate).host.port) ((l.opened).gate).host.key other = record {
-            told = ap (λ (p : PortState). p.card) (sym l.card) ∙ there.told;
-            keyed = subst (λ (k : List ℕ). other.key ≡ Some k) (sym (l.mounts).keyed.card) there.keyed;
-          } in
-          left_map keys picture s (objects_in of_file of_port keys l.opened)
-          (((l.mounts).opens).honest keys other picture (l.mounts).keyed its at_opened (λ file. ((read_rests file).goes_on).honest (honest file)))
-          (opened_left (λ file. inl (honest file)));
-    }
-
 pub lists_show_left : {F R : Type 0} (of_file : F → FileState) (of_port : R → PortState) → ListsShowLeft of_file of_port
 lists_show_left of_file of_port keys s old new objects lines card holds l readable has = shows_left of_file of_port keys old new objects lines l s card holds has readable
 
 pub lists_keep : {F R : Type 0} (of_file : F → FileState) (of_port : R → PortState) → ListsKeep of_file of_port
-lists_keep of_file of_port keys s old new objects lines card holds l honest has = keeps_left of_file of_port keys old new objects lines l s card holds has honest
+lists_keep of_file of_port keys s old new objects lines card holds l honest has = kept_devices_hold keys s old new holds l.keeps honest
+
+pub refused_lists_keep : {F R : Type 0} (of_file : F → FileState) (of_port : R → PortState) → RefusedListsKeep of_file of_port
+refused_lists_keep of_file of_port keys s old new drew draws fault holds refused honest = kept_devices_hold keys s old new holds refused.keeps honest

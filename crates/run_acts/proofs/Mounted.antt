@@ -19,10 +19,8 @@ use Rattle.object_calls.specs.Opening.{OpeningValue, bench_files}
 use Rattle.run_acts.specs.Benches.{BenchState}
 use Rattle.run_acts.specs.MountedDevices.{IsMounted, objects_in}
 use Rattle.run_acts.specs.Between.{AreReadable, AreSound}
-use Rattle.run_acts.specs.DeviceLaws.{MountsOpenWithLeft, NextOpeningsAreLeft, NextPhasesOpenWithLeft}
-use Rattle.run_acts.specs.Left.{AreLeft, HoldsLeft, replay_left}
-use Rattle.run_acts.proofs.CrashedLaws.{card_of, crashes_keep}
-use Rattle.run_acts.proofs.PhasesLeft.{phases_leave}
+use Rattle.run_acts.specs.DeviceLaws.{MountsOpenWithLeft}
+use Rattle.run_acts.specs.Left.{AreLeft, HoldsLeft}
 
 -- the map of an answer
 map_in : Result ObjectMap Refusal → ObjectMap
@@ -71,16 +69,3 @@ module _ {F R : Type 0} (of_file : F → FileState) (of_port : R → PortState) 
 
 pub mounts_open_with_left : {F R : Type 0} (of_file : F → FileState) (of_port : R → PortState) → MountsOpenWithLeft of_file of_port
 mounts_open_with_left of_file of_port keys s old o card holds sound m readable has = opens_with_left of_file of_port keys old o m s card holds sound readable has
-
-pub next_openings_are_left : {F R : Type 0} (of_file : F → FileState) (of_port : R → PortState) (Reliable : Type 0) → NextOpeningsAreLeft of_file of_port Reliable
-next_openings_are_left of_file of_port Reliable keys applications arms mode calls old new opening events between o card r honest may sound m readable has =
-    let left = replay_left opening applications events in
-    let holds : HoldsLeft keys between left = crashes_keep keys left new between (phases_leave of_file of_port Reliable keys applications arms mode calls old new opening events r honest) may in
-    let there : HasCard between.card (rpmb_key keys.huk) card =
-    card_of between.card new.card (rpmb_key keys.huk) card (ap (λ (p : PortState). p.card) (sym may.card)) has in
-    mounts_open_with_left of_file of_port keys left between o card holds sound m readable there
-
-pub next_phases_open_with_left : {F R : Type 0} (of_file : F → FileState) (of_port : R → PortState) (Reliable : Type 0) → NextPhasesOpenWithLeft of_file of_port Reliable
-next_phases_open_with_left of_file of_port Reliable keys applications later arms more mode next calls others old new between last opening objects events after card r honest may second readable has =
-    subst (AreLeft (replay_left opening applications events)) (sym second.objects)
-    (next_openings_are_left of_file of_port Reliable keys applications arms mode calls old new opening events between second.opened card r honest may second.sound second.mounts readable has)

@@ -13,6 +13,8 @@ use Rattle.object_calls.specs.MountRefusals.{BenchRefused, GateRefuses}
 use Rattle.object_calls.specs.Syncing.{IsOnlySynced}
 use Rattle.object_calls.proofs.Syncs.{only_none}
 use Rattle.run_acts.specs.Benches.{BenchState, KeepsDevices}
+use Rattle.run_acts.specs.DeviceLaws.{RefusedMountsKeep}
+use Rattle.run_acts.proofs.CrashedLaws.{kept_devices_hold}
 use Rattle.run_acts.specs.MountedDevices.{IsGateRefused, StopsMounting}
 use Rattle.run_acts.proofs.ObjectFiles.{same_objects}
 
@@ -63,7 +65,7 @@ objects_kept keys old new drew draws Spent g file from = subst (IsOnlySynced (ol
 objects_kept keys old new drew draws NoMemory g file from = subst (IsOnlySynced (old.files file)) (sym (g.same file from)) (only_none (old.files file))
 
 dir_kept : (a b : FileState) (p0 p1 : PortState) → LeavesDevices a b p0 p1 → IsOnlySynced a b
-dir_kept a b p0 p1 leaves = record { keeps = leaves.keeps; reads = leaves.reads }
+dir_kept a b p0 p1 leaves = record { keeps = leaves.keeps; reads = leaves.reads; left = leaves.left }
 
 pub refused_keeps : (keys : Keys) (old new : BenchState) (drew draws : ℕ) (fault : MountFault) → StopsMounting keys old new drew draws fault
     → LeavesDevices (old.files 0) (new.files 0) old.card new.card → KeepsDevices old new
@@ -77,3 +79,7 @@ mounted_keeps old new leaves each = record {
   files = each_file (λ file. IsOnlySynced (old.files file) (new.files file)) (dir_kept (old.files 0) (new.files 0) old.card new.card leaves) each;
   card = leaves.card;
 }
+
+pub refused_mounts_keep : RefusedMountsKeep
+refused_mounts_keep keys s old new drew draws fault holds refused honest =
+    kept_devices_hold keys s old new holds (refused_keeps keys old new drew draws fault refused.refused refused.leaves) honest

@@ -23,7 +23,7 @@ use Rattle.run_acts.specs.Left.{HoldsLeft}
 use Rattle.run_acts.specs.MountedDevices.{IsMountRefused}
 use Rattle.run_acts.specs.MountingLaws.{HeldBenchesAreNotRefused, IsOfDevice, MountingBenchesAreNotRefused}
 
-ok_err : {A B : Type 0} (a : A) (b : B) (r : Result A B) → r ≡ Ok a → r ≡ Err b → ⊥
+pub ok_err : {A B : Type 0} (a : A) (b : B) (r : Result A B) → r ≡ Ok a → r ≡ Err b → ⊥
 ok_err a b (Ok x) is other = cc
 ok_err a b (Err y) is other = cc
 
@@ -49,7 +49,7 @@ entries_read : (keys : Keys) (images : ℕ → List ℕ) (objects : ObjectMap) (
 entries_read keys images objects (Ok entries) is = (entries, refl)
 entries_read keys images objects (Err refusal) is = cc
 
-directory_read : (keys : Keys) (picture : Picture) (s : ReplayState) → IsMapLeft keys picture s → (entries : List (Option DirEntry)) × (mounted_directory keys picture ≡ Ok entries)
+pub directory_read : (keys : Keys) (picture : Picture) (s : ReplayState) → IsMapLeft keys picture s → (entries : List (Option DirEntry)) × (mounted_directory keys picture ≡ Ok entries)
 directory_read keys picture s (inl is) = entries_read keys picture.images (s.state).objects (mounted_directory keys picture) is
 directory_read keys picture s (inr doubted) = entries_read keys picture.images doubted.0 (mounted_directory keys picture) doubted.2
 

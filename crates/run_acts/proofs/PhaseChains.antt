@@ -1,7 +1,6 @@
 -- From one phase to the next: its files stay honest backward, and its card is told on.
 use Rattle.std.proofs.Common.{◌≡◌, ◌∙◌, ◌<◌, ◌≤◌, ℕ, zero, suc, List, [], ◌∷◌, length, IsTrue, inl, inr, refl, sym, ap, subst, arith}
 use Rattle.std.proofs.lemmas.Bool.{cases_lt}
-use Rattle.disk_model.specs.Controls.{failure_armed, stop_armed}
 use Rattle.disk_model.specs.State.{FileState}
 use Rattle.hmac_keys.specs.declared.Keys.{Keys}
 use Rattle.hmac_keys.specs.KeyTable.{rpmb_key}
@@ -13,8 +12,6 @@ use Rattle.tee_types.specs.declared.reply.Device.TheVariants.{Dir, File, Card, E
 use Rattle.store_model.specs.declared.event.Event.{Event}
 use Rattle.store_model.specs.Object.{ObjectMap}
 use Rattle.store_model.specs.ReplayState.{ReplayState}
-use Rattle.crash_core.specs.CoreState.{put}
-use Rattle.crash_core.proofs.Lists.{put_each}
 use Rattle.script_text.specs.declared.script.Arm.{Arm}
 use Rattle.script_text.specs.declared.script.Arm.TheVariants.{Fail, Lose, Stop}
 use Rattle.script_text.specs.declared.script.Mode.{Mode}
@@ -27,6 +24,7 @@ use Rattle.run_acts.specs.Between.{AreReadable}
 use Rattle.run_acts.specs.Left.{AreLeft, HoldsLeft, replay_left}
 use Rattle.run_acts.specs.PhaseArms.{ArmsAll, ArmsOneOf}
 use Rattle.run_acts.specs.Phases.{RunsPhase}
+use Rattle.run_acts.proofs.ArmedFiles.{arms_keep}
 use Rattle.run_acts.proofs.Mounted.{opens_with_left}
 use Rattle.run_acts.proofs.PhasesLeft.{phases_leave}
 
@@ -37,32 +35,8 @@ files_none of_file (f ∷ files) zero past = absurd (omega (arith, past))
 files_none of_file (f ∷ files) (suc k) past = files_none of_file files k (omega (arith, past))
 
 -- Files that are honest were honest before they were armed.
-abbrev WereHonest : (old new : BenchState) → Type 0
-WereHonest old new = (file : ℕ) → IsTrue (new.files file).honest → IsTrue (old.files file).honest
-
-put_honest : (old new : ℕ → FileState) (n : ℕ) (s : FileState) → ((k : ℕ) → new k ≡ put old n s k) → s.honest ≡ (old n).honest → (k : ℕ) → (new k).honest ≡ (old k).honest
-put_honest old new n s armed same k = ap (λ (x : FileState). x.honest) (armed k) ∙ put_each (λ j x. x.honest ≡ (old j).honest) old n s k same refl
-
-stops_honest : (device : Device) (calls : ℕ) (old new : BenchState) → ArmsOneOf (Stop device calls) old new → (k : ℕ) → (new.files k).honest ≡ (old.files k).honest
-stops_honest Dir calls old new s = put_honest old.files new.files 0 (stop_armed (old.files 0) calls) s.files refl
-stops_honest (File n) calls old new s = put_honest old.files new.files n (stop_armed (old.files n) calls) s.files refl
-stops_honest Card calls old new s = λ k. ap (λ (x : FileState). x.honest) (s.0 k)
-stops_honest Entropy calls old new s = λ k. ap (λ (x : FileState). x.honest) (s.files k)
-
-fails_honest : (device : Device) (call : ℕ) (old new : BenchState) → ArmsOneOf (Fail device call) old new → (k : ℕ) → (new.files k).honest ≡ (old.files k).honest
-fails_honest Dir call old new s = put_honest old.files new.files 0 (failure_armed (old.files 0) call) s.files refl
-fails_honest (File n) call old new s = put_honest old.files new.files n (failure_armed (old.files n) call) s.files refl
-fails_honest Card call old new s = λ k. ap (λ (x : FileState). x.honest) (s.0 k)
-fails_honest Entropy call old new s = λ k. ap (λ (x : FileState). x.honest) (s.files k)
-
-one_honest : (arm : Arm) (old new : BenchState) → ArmsOneOf arm old new → (k : ℕ) → (new.files k).honest ≡ (old.files k).honest
-one_honest (Stop device calls) old new s = stops_honest device calls old new s
-one_honest (Fail device call) old new s = fails_honest device call old new s
-one_honest (Lose call) old new s = λ k. ap (λ (x : FileState). x.honest) (s.0 k)
-
 all_honest : (arms : List Arm) (old new : BenchState) → ArmsAll arms old new → (k : ℕ) → (new.files k).honest ≡ (old.files k).honest
-all_honest [] old new s = λ k. ap (λ (x : FileState). x.honest) (s.0 k)
-all_honest (arm ∷ arms) old new (between, its, others) = λ k. all_honest arms between new others k ∙ one_honest arm old between its k
+all_honest arms old new s k = arms_keep (λ f. f.honest ≡ (old.files k).honest) (λ f calls same. same) (λ f call same. same) arms old new s k refl
 
 -- An arming leaves the card as it is.
 stops_card : (device : Device) (calls : ℕ) (old new : BenchState) → ArmsOneOf (Stop device calls) old new → (new.card).card ≡ (old.card).card

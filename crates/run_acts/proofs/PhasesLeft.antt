@@ -1,5 +1,5 @@
 -- What a phase leaves of its bench.
-use Rattle.std.proofs.Common.{◌≡◌, ◌∙◌, ℕ, List, IsTrue, None, Some, sym, ap, subst}
+use Rattle.std.proofs.Common.{◌≡◌, ◌∙◌, ℕ, List, IsTrue, None, Option, Some, inl, sym, ap, subst}
 use Rattle.disk_model.specs.State.{FileState, LeftNow}
 use Rattle.hmac_keys.specs.declared.Keys.{Keys}
 use Rattle.hmac_keys.specs.KeyTable.{rpmb_key}
@@ -12,11 +12,11 @@ use Rattle.script_text.specs.declared.script.Step.{Step}
 use Rattle.store_model.specs.declared.event.Event.{Event}
 use Rattle.store_model.specs.Machine.{opened_store}
 use Rattle.store_model.specs.Object.{ObjectMap}
-use Rattle.store_model.specs.ReplayState.{opening as opening_of}
+use Rattle.store_model.specs.ReplayState.{ReplayState, opening as opening_of}
 use Rattle.crash_core.specs.Pictures.{IsPictureOf, Picture}
 use Rattle.core_laws.specs.Stores.{Store, phase_of}
 use Rattle.object_calls.specs.Opening.{OpeningValue}
-use Rattle.object_calls.specs.FinishedPhase.{AreAllHonest, IsMapLeft, end_replay}
+use Rattle.object_calls.specs.FinishedPhase.{AreAllHonest, IsMapLeft, IsMapWith, end_replay}
 use Rattle.run_acts.specs.Benches.{BenchState}
 use Rattle.run_acts.specs.Phases.{RunsPhase}
 use Rattle.run_acts.specs.DeviceLaws.{CountersAreOfCards, PhasesLeave}
@@ -24,6 +24,11 @@ use Rattle.run_acts.specs.Left.{HoldsLeft, replay_left}
 use Rattle.run_acts.proofs.CrashedLaws.{card_of}
 use Rattle.run_acts.proofs.Ready.{ready-applications}
 use Rattle.run_acts.proofs.Replays.{AreAlike, left_alike, replay_alike}
+
+-- a map that is left with a commit in doubt, or without one, is left
+left_of : (keys : Keys) (picture : Picture) (s : ReplayState) (doubt : Option ℕ) → IsMapWith keys picture s doubt → IsMapLeft keys picture s
+left_of keys picture s None is = inl is
+left_of keys picture s (Some commit) is = is
 
 module _ {F R : Type 0} (of_file : F → FileState) (of_port : R → PortState) (Reliable : Type 0) (keys : Keys) (applications : List (List ℕ)) (arms : List Arm) (mode : Mode) (calls : List Step) (old new : BenchState)
     (opening : ObjectMap) (events : List Event) (r : RunsPhase of_file of_port Reliable keys applications arms mode calls old new opening events) where
@@ -79,7 +84,8 @@ module _ {F R : Type 0} (of_file : F → FileState) (of_port : R → PortState) 
       mounts = λ card picture has is.
           left_alike keys picture (end_replay s ((r.serves).closes).view) (replay_left opening applications events) alike
           (subst (λ (k : Keys). IsMapLeft k picture (end_replay s ((r.serves).closes).view)) (r.serves).keys_are
-          (((((r.serves).closes).leaves).honest closed_honest).mounts card picture (closed_card card has) (closed_picture card picture is)));
+          (left_of (s.keys) picture (end_replay s ((r.serves).closes).view) ((r.serves).closes).doubt
+          (((((r.serves).closes).leaves).honest closed_honest).mounts card picture (closed_card card has) (closed_picture card picture is))));
     }
 
 pub phases_leave : {F R : Type 0} (of_file : F → FileState) (of_port : R → PortState) (Reliable : Type 0) → PhasesLeave of_file of_port Reliable

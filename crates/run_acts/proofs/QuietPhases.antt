@@ -6,8 +6,7 @@ use Rattle.disk_model.specs.Faults.{Rose}
 use Rattle.disk_model.specs.State.{FileState}
 use Rattle.hmac_keys.specs.declared.Keys.{Keys}
 use Rattle.hmac_keys.specs.KeyTable.{rpmb_key}
-use Rattle.rpmb_card.specs.Arms.{Arms, is_unarmed}
-use Rattle.rpmb_card.specs.Port.{PortState, Sound as SoundPort}
+use Rattle.rpmb_card.specs.Port.{PortState}
 use Rattle.rpmb_host.specs.Honest.{HadCard}
 use Rattle.tee_types.specs.declared.reply.Device.{Device}
 use Rattle.tee_types.specs.declared.reply.Device.TheVariants.{Card, Dir, Entropy, File}
@@ -26,13 +25,15 @@ use Rattle.run_acts.specs.Benches.{BenchState, opening_state}
 use Rattle.run_acts.specs.Closing.{faults_on}
 use Rattle.run_acts.specs.Crashes.{Crashes}
 use Rattle.run_acts.specs.ListedBenches.{ListsBench}
+use Rattle.run_acts.specs.Opens.{FormsBench, ReadsBlock, found, made}
 use Rattle.run_acts.specs.Phases.{RunsPhase}
-use Rattle.run_acts.specs.Quiet.{AreOfMachine, IsQuiet, IsQuietFile, QuietPhasesAreOfMachine, QuietPhasesStayQuiet, TellArms}
+use Rattle.run_acts.specs.Quiet.{AreOfMachine, IsQuiet, IsQuietFile, OpeningsStayQuiet, QuietPhasesAreOfMachine, QuietPhasesStayQuiet}
 use Rattle.run_acts.proofs.Mounted.{mount_goes_on}
+use Rattle.run_acts.proofs.MountedBenches.{each_file}
 use Rattle.run_acts.proofs.PhaseChains.{phase_card}
 use Rattle.run_acts.proofs.Untold.{Untold, of_machine_all}
 
-not_risen : (n m : ℕ) → m ≡ n → n < 2 ^ 64 - 1 → Rose n m → ⊥
+pub not_risen : (n m : ℕ) → m ≡ n → n < 2 ^ 64 - 1 → Rose n m → ⊥
 not_risen n m same below rose = omega (arith, same, below, rose)
 
 module _ {F R : Type 0} (of_file : F → FileState) (of_port : R → PortState) (Reliable : Type 0) (keys : Keys) (applications : List (List ℕ)) (mode : Mode) (calls : List Step) (old new : BenchState)
@@ -118,7 +119,7 @@ or_true true second is = refl
 or_true false second is = is
 
 module _ {F R : Type 0} (of_file : F → FileState) (of_port : R → PortState) (Reliable : Type 0) (keys : Keys) (applications : List (List ℕ)) (mode : Mode) (calls : List Step) (old new : BenchState)
-    (objects : ObjectMap) (events : List Event) (sound : (port : R) → SoundPort (of_port port)) (tells : TellArms of_port)
+    (objects : ObjectMap) (events : List Event)
     (r : RunsPhase of_file of_port Reliable keys applications [] mode calls old new objects events) (was_quiet : IsQuiet keys old) where
   open r use {closed, disarms}
 
@@ -139,18 +140,8 @@ module _ {F R : Type 0} (of_file : F → FileState) (of_port : R → PortState) 
         starved = subst (λ (n : ℕ). n < 2 ^ 64 - 1) (sym starved) began.starved;
       })
 
-  new_tells : IsTrue new.card.tells_arms
-  new_tells = subst (λ (p : PortState). IsTrue p.tells_arms) (sym r.port_is) (tells r.port)
-
-  closed_tells : IsTrue (closed.card).tells_arms
-  closed_tells = subst (λ (t : Bool). IsTrue t) (ap (λ (p : PortState). p.tells_arms) (disarms.card).others) new_tells
-
-  unarmed : IsTrue (is_unarmed new.card.arms)
-  unarmed = subst (λ (a : Arms). IsTrue (is_unarmed a)) (sym ((disarms.card).armed closed_tells)) refl
-
   left_calm : IsTrue new.card.calm
-  left_calm =
-      subst (λ (p : PortState). IsTrue p.tells_arms → IsTrue (is_unarmed p.arms) → IsTrue p.calm) (sym r.port_is) ((sound r.port).calm) new_tells unarmed
+  left_calm = (disarms.card).calm refl (or_true (closed.card).tells_arms (closed.card).calm ((((r.serves).closes).devices).card.calm before_quiet.calm).calm)
 
   left_faults : new.card.faults < 2 ^ 64 - 1
   left_faults =
@@ -168,9 +159,9 @@ pub quiet_phases_are_of_machine : {F R : Type 0} (of_file : F → FileState) (of
 quiet_phases_are_of_machine of_file of_port Reliable keys applications mode calls old new objects events r quiet reliable honest =
     quiet_of_machine of_file of_port Reliable keys applications mode calls old new objects events r quiet reliable honest
 
-pub quiet_phases_stay_quiet : {F R : Type 0} (of_file : F → FileState) (of_port : R → PortState) (Reliable : Type 0) → ((port : R) → SoundPort (of_port port)) → QuietPhasesStayQuiet of_file of_port Reliable
-quiet_phases_stay_quiet of_file of_port Reliable sound keys applications mode calls old new objects events tells r quiet =
-    left_quiet of_file of_port Reliable keys applications mode calls old new objects events sound tells r quiet
+pub quiet_phases_stay_quiet : {F R : Type 0} (of_file : F → FileState) (of_port : R → PortState) (Reliable : Type 0) → QuietPhasesStayQuiet of_file of_port Reliable
+quiet_phases_stay_quiet of_file of_port Reliable keys applications mode calls old new objects events r quiet =
+    left_quiet of_file of_port Reliable keys applications mode calls old new objects events r quiet
 
 -- SO DOES A LIST, AND A CRASH
 pub quiet_list : {F R : Type 0} (of_file : F → FileState) (of_port : R → PortState) (keys : Keys) (old new : BenchState) (objects : ObjectMap) (lines : List ℕ)
@@ -196,3 +187,31 @@ quiet_crash image seed keys old new crashes quiet = record {
   faults = subst (λ (p : PortState). p.faults < 2 ^ 64 - 1) (sym crashes.card) quiet.faults;
   card = subst (λ (p : PortState). HadCard p (rpmb_key keys.huk)) (sym crashes.card) quiet.card;
 }
+
+-- A BENCH THAT IS OPENED
+quiet_read : (keys : Keys) (old new : BenchState) (block : List ℕ) → ReadsBlock keys old new block → IsQuiet keys old → IsQuiet keys new
+quiet_read keys old new block reads quiet = record {
+  files = λ file within. subst IsQuietFile (sym (reads.files file)) (quiet.files file within);
+  calm = (reads.port).calm quiet.calm;
+  faults = subst (λ (n : ℕ). n < 2 ^ 64 - 1) (sym reads.passed) quiet.faults;
+  card = let had = quiet.card in (had.0, record { told = reads.card ∙ (had.1).told; keyed = (had.1).keyed });
+}
+
+quiet_format : (keys : Keys) (old new : BenchState) → FormsBench keys old new → IsQuiet keys old → IsQuiet keys new
+quiet_format keys old new forms quiet = record {
+  files = λ file within.
+      each_file (λ k. IsQuietFile (old.files k) → IsQuietFile (new.files k))
+      (λ was. record {
+        calm = ((forms.goes_on).file).calm was.calm;
+        faults = subst (λ (n : ℕ). n < 2 ^ 64 - 1) (sym (forms.dir_passed).faults) was.faults;
+        starved = subst (λ (n : ℕ). n < 2 ^ 64 - 1) (sym (forms.dir_passed).starved) was.starved;
+      })
+      (λ k from was. subst IsQuietFile (sym (forms.others k from)) was) file (quiet.files file within);
+  calm = ((forms.goes_on).port).calm quiet.calm;
+  faults = subst (λ (n : ℕ). n < 2 ^ 64 - 1) (sym forms.card_passed) quiet.faults;
+  card = let had = quiet.card in let formed = (forms.formed had.0 had.1).1 in (formed.next, formed.has);
+}
+
+pub openings_stay_quiet : OpeningsStayQuiet
+openings_stay_quiet keys old new (found block some reads) quiet = quiet_read keys old new block reads quiet
+openings_stay_quiet keys old new (made block between blank reads forms) quiet = quiet_format keys between new forms (quiet_read keys old between block reads quiet)

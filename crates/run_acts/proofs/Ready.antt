@@ -82,6 +82,5 @@ runs_where of_file of_port Later First keys applications arms mode calls old new
   serves = serves_where of_file of_port Later First keys applications arms mode calls r.opened r.closed events lasts r.serves;
   disarms = r.disarms;
   with_memory = r.with_memory;
-  port = r.port;
-  port_is = r.port_is;
+  past = r.past;
 }

@@ -1,5 +1,5 @@
 -- Phases in which memory ran out: what became of the bench.
-use Rattle.std.proofs.Common.{◌≡◌, ℕ, List, refl}
+use Rattle.std.proofs.Common.{◌≡◌, ℕ, List, refl, subst}
 use Rattle.disk_model.specs.State.{FileState}
 use Rattle.hmac_keys.specs.declared.Keys.{Keys}
 use Rattle.rpmb_card.specs.Port.{PortState}
@@ -18,12 +18,14 @@ use Rattle.run_acts.specs.MountedDevices.{IsMounted}
 use Rattle.run_acts.specs.PhaseArms.{IsReady}
 use Rattle.run_acts.specs.PhaseRefusals.{ClosesOpened, EndsStarved, in_part, mounted}
 use Rattle.run_acts.specs.Phases.{ServesOpened}
+use Rattle.run_acts.specs.ServedSteps.{ServesFront}
 use Rattle.run_acts.proofs.Ready.{ready-keyed, ready-map}
+use Rattle.run_acts.proofs.ServedSteps.{serves_all}
 
-module _ {F R : Type 0} (of_file : F → FileState) (of_port : R → PortState) (keys : Keys) (applications : List (List ℕ)) (arms : List Arm) where
+module _ {F R : Type 0} (of_file : F → FileState) (of_port : R → PortState) (keys : Keys) (applications : List (List ℕ)) (arms : List Arm) (mode : Mode) (calls : List Step) where
   -- a store that was ready, and closed early
   pub early_opened : (opened armed : OpeningValue F R) (closed : BenchState) → IsReady of_file of_port applications arms opened armed → IsKeyed keys opened
-      → ClosesEarly (store_in keys of_file of_port armed) (opening_state of_file of_port armed) closed → ClosesOpened of_file of_port keys applications arms opened closed
+      → ClosesEarly (store_in keys of_file of_port armed) (opening_state of_file of_port armed) mode calls closed → ClosesOpened of_file of_port keys applications arms mode calls opened closed
   early_opened opened armed closed ready keyed closes = in_part (record {
     armed = armed;
     ready = ready;
@@ -35,25 +37,27 @@ module _ {F R : Type 0} (of_file : F → FileState) (of_port : R → PortState) 
   })
 
   -- a store that was served to the end, and closed
-  pub served_opened : (Reliable : Type 0) (mode : Mode) (calls : List Step) (opened : OpeningValue F R) (closed : BenchState) (events : List Event)
-      → ServesOpened of_file of_port Reliable keys applications arms mode calls opened closed events → ClosesOpened of_file of_port keys applications arms opened closed
-  served_opened Reliable mode calls opened closed events s = in_part (record {
-    armed = s.armed;
-    ready = s.ready;
-    store = s.store;
-    is_store = s.is_store;
-    keys_are = s.keys_are;
-    opens = s.opens;
-    closes = served (s.closes).view (s.closes).doubt (s.closes).leaves;
-  })
+  pub served_opened : (Reliable : Type 0) (opened : OpeningValue F R) (closed : BenchState) (events : List Event)
+      → ServesOpened of_file of_port Reliable keys applications arms mode calls opened closed events → ClosesOpened of_file of_port keys applications arms mode calls opened closed
+  served_opened Reliable opened closed events s =
+      let c = s.closes in
+      in_part (record {
+        armed = s.armed;
+        ready = s.ready;
+        store = s.store;
+        is_store = s.is_store;
+        keys_are = s.keys_are;
+        opens = s.opens;
+        closes = served c.view c.doubt (subst (ServesFront mode calls) c.events_are (serves_all mode calls events c.serves)) c.leaves c.devices;
+      })
 
   -- a bench that was disarmed then
-  pub starved_opened : (old new : BenchState) (opened : OpeningValue F R) (closed : BenchState) (fault : MountFault) → fault ≡ NoMemory → IsMounted of_file of_port keys old opened
-      → KeepsDevices old (opening_state of_file of_port opened) → ClosesOpened of_file of_port keys applications arms opened closed → Disarms closed new
-      → EndsStarved of_file of_port keys applications arms old new fault
-  starved_opened old new opened closed fault is mounts keeps closes disarms = record {
+  pub starved_opened : (old new : BenchState) (opened : OpeningValue F R) (closed : BenchState) (fault : MountFault) (drew draws : ℕ) → fault ≡ NoMemory → IsMounted of_file of_port keys old opened
+      → KeepsDevices old (opening_state of_file of_port opened) → draws ≡ drew → ClosesOpened of_file of_port keys applications arms mode calls opened closed → Disarms closed new
+      → EndsStarved of_file of_port keys applications arms mode calls old new drew draws fault
+  starved_opened old new opened closed fault drew draws is mounts keeps undrawn closes disarms = record {
     fault_is = is;
     left = closed;
-    leaves = mounted opened mounts keeps closes;
+    leaves = mounted opened mounts keeps undrawn closes;
     disarms = disarms;
   }

@@ -1,5 +1,5 @@
 -- What a store that was shared is, once it is closed.
-use Rattle.std.proofs.Common.{◌≤◌, ◌≡◌, ◌∙◌, ◌+◌, ◌<◌, ◌⊎◌, ℕ, List, [], ◌∷◌, ◌++◌, drop, length, slice_index_or, true, Option, refl, sym, ap, subst, inl, inr, arith}
+use Rattle.std.proofs.Common.{◌≤◌, ◌≡◌, ◌∙◌, ◌+◌, ◌<◌, ◌⊎◌, ℕ, zero, suc, List, [], ◌∷◌, ◌++◌, drop, length, slice_index_or, true, Option, refl, sym, ap, subst, inl, inr, arith}
 use Rattle.std.specs.List.{list_all}
 use Rattle.std.proofs.lemmas.Bool.{cases_lt, eqb-true}
 use Rattle.std.proofs.lemmas.List.Sums.{AllPass-from_list_all}
@@ -15,6 +15,7 @@ use Rattle.history_seats.specs.Views.{GateView, PassView, Sight}
 use Rattle.core_laws.specs.Stores.{Store}
 use Rattle.core_laws.proofs.Mending.{some_same}
 use Rattle.shared_store.specs.CallerSessions.{CallerSession, IsCallerOf}
+use Rattle.script_text.specs.declared.script.Mode.TheVariants.{Threads}
 use Rattle.script_text.specs.declared.script.Step.{Step}
 use Rattle.shared_store.specs.SlotValues.{SlotValue}
 use Rattle.shared_store.specs.GuardedGates.{GuardedGateValue}
@@ -28,14 +29,16 @@ use Rattle.object_calls.specs.FinishedPhase.{HasCounted, HaveCounted, LeavesStor
 use Rattle.object_calls.specs.Retiring.{IsPlaced}
 use Rattle.object_calls.specs.OpeningSessions.{AreCallers, AreSeated, HaveNoEvents}
 use Rattle.run_acts.specs.Reliable.{AreFresh, AreReliable}
-use Rattle.run_acts.specs.ServedSteps.{AreCalls, calls_in}
+use Rattle.run_acts.specs.ServedSteps.{AreCalls, ServesFront, calls_in}
+use Rattle.run_acts.specs.Benches.{BenchState}
+use Rattle.run_acts.specs.Closing.{BenchGoesOn}
 use Rattle.shared_store.specs.Kept.{AreOfSessions, KeepsGate}
 use Rattle.run_acts.specs.SharedClosing.{ClosesShared}
 use Rattle.run_acts.specs.OwnCalls.{HasMade, HasStopped, HaveWorked, is_done, own_calls}
 use Rattle.run_acts.specs.OwnDraws.{own_draws}
 use Rattle.run_acts.specs.Seen.{seen_by}
-use Rattle.run_acts.specs.Sharing.{AreKept}
-use Rattle.run_acts.proofs.Calls.{calls_in-past, calls_of-begins, calls_of-none, calls_of-past}
+use Rattle.run_acts.specs.Sharing.{AreKept, IsBenchOf}
+use Rattle.run_acts.proofs.Calls.{calls_in-past, calls_of-begins, calls_of-none, calls_of-past, length-calls_of}
 use Rattle.run_acts.proofs.ThreadDraws.{draws_of-begins, draws_of-none}
 use Rattle.history_seats.specs.Tags.{AreTagged}
 use Rattle.run_acts.proofs.Sharings.{each_counted, each_goes_on}
@@ -83,9 +86,8 @@ module _ {E : Type 0} (is_reliable : E → Type 0) (draws : E → ℕ) (store : 
       let all : now.made ≡ length (calls_in was.number steps) = eqb-true now.made (length (calls_in now.number steps)) done ∙ ap (λ (n : ℕ). length (calls_in n steps)) stopped.number in
       absurd (omega (arith, stopped.fewer, none, all))
 
-  -- So the calls of each application in the history are those of the steps.
   module _ (was now : List (CallerSession E)) (steps : List Step) (seated : AreSeated store was) (unmade : HaveNoEvents was) (many : length now ≡ length was)
-      (worked : HaveWorked is_reliable draws store steps was now) (done : list_all (is_done steps) now ≡ true) (view : GateView) (counted : HaveCounted view now) where
+      (worked : HaveWorked is_reliable draws store steps was now) (view : GateView) (counted : HaveCounted view now) where
     module _ (app : ℕ) (d : CallerSession E) (within : app < length was) where
       abbrev first : CallerSession E
       first = slice_index_or was app d
@@ -96,34 +98,40 @@ module _ {E : Type 0} (is_reliable : E → Type 0) (draws : E → ℕ) (store : 
       still : app < length now
       still = omega (arith, within, many)
 
-      made : HasMade is_reliable draws store first last (calls_in first.number steps)
-      made = made_all first last steps (unmade app d within) (AllPass-from_list_all (is_done steps) now done app d still) (worked app d within)
-
       number : first.number ≡ app
       number = seated.numbered app d within
 
-      one_serves : calls_of app (events_of view.all) ≡ calls_in app steps
-      one_serves =
-          ap (λ (n : ℕ). calls_of n (events_of view.all)) (sym (made.number ∙ number))
-          ∙ own_in_all view last made.caller (counted app d still)
-          ∙ made.calls_are
-          ∙ ap (λ (l : List Call). l ++ calls_in first.number steps) (unmade_calls first (seated.each app d within) (unmade app d within))
-          ∙ ap (λ (n : ℕ). calls_in n steps) number
+      -- the session has fewer events than calls
+      one_fewer : HasStopped store first last (calls_in first.number steps) → length (calls_of app (events_of view.all)) < length (calls_in app steps)
+      one_fewer stopped =
+          let events : length (calls_of last.number (events_of view.all)) ≡ last.made = length-calls_of last.number (events_of view.all) ∙ sym (counted app d still).made in
+          let same : length (calls_of app (events_of view.all)) ≡ last.made = ap (λ (n : ℕ). length (calls_of n (events_of view.all))) (sym (stopped.number ∙ number)) ∙ events in
+          let calls : length (calls_in first.number steps) ≡ length (calls_in app steps) = ap (λ (n : ℕ). length (calls_in n steps)) number in
+          omega (arith, same, calls, stopped.fewer, unmade app d within)
 
-      one_drawn : own_draws last ≡ draws_of app (events_of view.all)
-      one_drawn = sym (draws_in_all view last made.caller (counted app d still)) ∙ ap (λ (n : ℕ). draws_of n (events_of view.all)) (made.number ∙ number)
+      module _ (made : HasMade is_reliable draws store first last (calls_in first.number steps)) where
+        one_serves : calls_of app (events_of view.all) ≡ calls_in app steps
+        one_serves =
+            ap (λ (n : ℕ). calls_of n (events_of view.all)) (sym (made.number ∙ number))
+            ∙ own_in_all view last made.caller (counted app d still)
+            ∙ made.calls_are
+            ∙ ap (λ (l : List Call). l ++ calls_in first.number steps) (unmade_calls first (seated.each app d within) (unmade app d within))
+            ∙ ap (λ (n : ℕ). calls_in n steps) number
 
-      one_rises : (fresh : AreFresh draws was) → Rise 0 (draws last.entropy) (draws_of app (events_of view.all))
-      one_rises fresh =
-          subst (Rise 0 (draws last.entropy)) one_drawn
-          (made.drawn.rises 0
-          (subst (Rise 0 (draws first.entropy)) (sym (unmade_draws first (seated.each app d within) (unmade app d within))) (inl (fresh app d within))))
+        one_drawn : own_draws last ≡ draws_of app (events_of view.all)
+        one_drawn = sym (draws_in_all view last made.caller (counted app d still)) ∙ ap (λ (n : ℕ). draws_of n (events_of view.all)) (made.number ∙ number)
 
-      -- none is carried for one that never fails
-      one_still : (fresh : AreFresh draws was) → is_reliable first.entropy → draws_of app (events_of view.all) ≡ []
-      one_still fresh reliable =
-          let none : draws last.entropy ≡ 0 = (made.drawn.steady reliable).1 ∙ fresh app d within in
-          Rise-still 0 (draws_of app (events_of view.all)) (omega arith) (subst (λ (n : ℕ). Rise 0 n (draws_of app (events_of view.all))) none (one_rises fresh))
+        one_rises : (fresh : AreFresh draws was) → Rise 0 (draws last.entropy) (draws_of app (events_of view.all))
+        one_rises fresh =
+            subst (Rise 0 (draws last.entropy)) one_drawn
+            (made.drawn.rises 0
+            (subst (Rise 0 (draws first.entropy)) (sym (unmade_draws first (seated.each app d within) (unmade app d within))) (inl (fresh app d within))))
+
+        -- none is carried for one that never fails
+        one_still : (fresh : AreFresh draws was) → is_reliable first.entropy → draws_of app (events_of view.all) ≡ []
+        one_still fresh reliable =
+            let none : draws last.entropy ≡ 0 = (made.drawn.steady reliable).1 ∙ fresh app d within in
+            Rise-still 0 (draws_of app (events_of view.all)) (omega arith) (subst (λ (n : ℕ). Rise 0 n (draws_of app (events_of view.all))) none (one_rises fresh))
 
     -- what holds of each place of a list holds of each number below its length
     at_each : (P : ℕ → Type 0) → ((app : ℕ) (d : CallerSession E) → app < length was → P app) → (l : List (CallerSession E)) → l ≡ was → (app : ℕ) → app < length l → P app
@@ -135,20 +143,40 @@ module _ {E : Type 0} (is_reliable : E → Type 0) (draws : E → ℕ) (store : 
     other_serves app past calls known =
         calls_of-past (length store.mounted.applications) app (events_of view.all) (omega (arith, past, seated.many)) known ∙ sym (calls_in-past (length was) app steps past calls)
 
-    pub all_serve : AreCalls (length was) steps → AreOfSessions (length store.mounted.applications) (events_of view.all) → (app : ℕ) → calls_of app (events_of view.all) ≡ calls_in app steps
-    all_serve calls known app = elim (cases_lt app (length was)) [
-      | inl within ↦ at_each (λ n. calls_of n (events_of view.all) ≡ calls_in n steps) one_serves was refl app within
-      | inr past ↦ other_serves app (omega (arith, past)) calls known
+    one_front : (app : ℕ) (d : CallerSession E) → app < length was → (calls_of app (events_of view.all) ≡ calls_in app steps) ⊎ (length (calls_of app (events_of view.all)) < length (calls_in app steps))
+    one_front app d within = elim (worked app d within) [
+      | inl made ↦ inl (one_serves app d within made)
+      | inr stopped ↦ inr (one_fewer app d within stopped)
     ]
 
-    pub all_drawn : AreFresh draws was → (session : ℕ) → session < length store.mounted.applications → (last : ℕ) × Rise 0 last (draws_of session (events_of view.all))
-    all_drawn fresh session within =
-        at_each (λ n. (last : ℕ) × Rise 0 last (draws_of n (events_of view.all))) (λ n d below. (draws (slice_index_or now n d).entropy, one_rises n d below fresh)) was refl session
-        (omega (arith, within, seated.many))
+    -- So each application made its calls, or has fewer events.
+    pub front_serves : AreCalls (length was) steps → AreOfSessions (length store.mounted.applications) (events_of view.all) → ServesFront Threads steps (events_of view.all)
+    front_serves calls known app = elim (cases_lt app (length was)) [
+      | inl within ↦ at_each (λ n. (calls_of n (events_of view.all) ≡ calls_in n steps) ⊎ (length (calls_of n (events_of view.all)) < length (calls_in n steps))) one_front was refl app within
+      | inr past ↦ inl (other_serves app (omega (arith, past)) calls known)
+    ]
 
-    pub all_undrawn : AreFresh draws was → AreReliable is_reliable was → (session : ℕ) → session < length store.mounted.applications → draws_of session (events_of view.all) ≡ []
-    all_undrawn fresh reliable session within =
-        at_each (λ n. draws_of n (events_of view.all) ≡ []) (λ n d below. one_still n d below fresh (reliable n d below)) was refl session (omega (arith, within, seated.many))
+    -- Where all are done, the calls of each application in the history are those of the steps.
+    module _ (done : list_all (is_done steps) now ≡ true) where
+      made : (app : ℕ) (d : CallerSession E) (within : app < length was)
+          → HasMade is_reliable draws store (slice_index_or was app d) (slice_index_or now app d) (calls_in (slice_index_or was app d).number steps)
+      made app d within =
+          made_all (first app d within) (last app d within) steps (unmade app d within) (AllPass-from_list_all (is_done steps) now done app d (still app d within)) (worked app d within)
+
+      pub all_serve : AreCalls (length was) steps → AreOfSessions (length store.mounted.applications) (events_of view.all) → (app : ℕ) → calls_of app (events_of view.all) ≡ calls_in app steps
+      all_serve calls known app = elim (cases_lt app (length was)) [
+        | inl within ↦ at_each (λ n. calls_of n (events_of view.all) ≡ calls_in n steps) (λ n d below. one_serves n d below (made n d below)) was refl app within
+        | inr past ↦ other_serves app (omega (arith, past)) calls known
+      ]
+
+      pub all_drawn : AreFresh draws was → (session : ℕ) → session < length store.mounted.applications → (last : ℕ) × Rise 0 last (draws_of session (events_of view.all))
+      all_drawn fresh session within =
+          at_each (λ n. (last : ℕ) × Rise 0 last (draws_of n (events_of view.all))) (λ n d below. (draws (slice_index_or now n d).entropy, one_rises n d below (made n d below) fresh)) was refl session
+          (omega (arith, within, seated.many))
+
+      pub all_undrawn : AreFresh draws was → AreReliable is_reliable was → (session : ℕ) → session < length store.mounted.applications → draws_of session (events_of view.all) ≡ []
+      all_undrawn fresh reliable session within =
+          at_each (λ n. draws_of n (events_of view.all) ≡ []) (λ n d below. one_still n d below (made n d below) fresh (reliable n d below)) was refl session (omega (arith, within, seated.many))
 
 -- each session is the store's still
 pub worked_callers : {E : Type 0} (is_reliable : E → Type 0) (draws : E → ℕ) (store : Store) (steps : List Step) (was now : List (CallerSession E)) → length now ≡ length was → HaveWorked is_reliable draws store steps was now → AreCallers store now
@@ -163,6 +191,21 @@ module _ {F R : Type 0} (of_file : F → FileState) (of_port : R → PortState) 
     (placed : (i : ℕ) → i < 272 → IsPlaced store gate.journal.knows slots (i + 1) (files_of of_file files (i + 1))) (tagged : AreTagged gate.journal.knows.all) where
   abbrev all : List Event
   all = events_of gate.journal.knows.all
+
+  module _ (bench : BenchState) (is : IsBenchOf before bench) where
+    file_shared : (file : ℕ) → file < 273 → GoesOn (bench.files file) (files_of of_file files file)
+    file_shared zero within =
+        subst (λ (f : FileState). GoesOn f (files_of of_file files 0)) (sym is.dir) (subst (λ (l : List F). GoesOn before.dir (files_of of_file l 0)) (sym front) keeps.dir)
+    file_shared (suc k) within =
+        subst (λ (f : FileState). GoesOn f (files_of of_file files (suc k))) (sym (is.each (suc k) (omega arith)))
+        (each_goes_on store before slots kept gate.journal.knows tagged (files_of of_file files) placed (suc k) (omega arith, omega (arith, within)))
+
+    -- what is known of the bench goes on
+    pub bench_shared : card ≡ gate.gate.host.port → BenchGoesOn (rpmb_key store.keys.huk) bench (record { files = files_of of_file files; card = of_port card })
+    bench_shared port = record {
+      files = file_shared;
+      card = subst (λ (p : PortState × PortState). PortGoesOn (rpmb_key store.keys.huk) p.0 p.1) (λ i. (sym is.card i, of_port (sym port i))) keeps.card;
+    }
 
   pub closes_shared : (Reliable : Type 0) (calls : List Step) (events : List Event) (doubt : Option ℕ) → events ≡ all
       → ((app : ℕ) → calls_of app all ≡ calls_in app calls) → ((session : ℕ) → session < length store.mounted.applications → (last : ℕ) × Rise 0 last (draws_of session all))

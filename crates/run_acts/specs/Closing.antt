@@ -16,7 +16,7 @@ use Rattle.shared_store.specs.Devices.{PortGoesOn}
 use Rattle.object_calls.specs.OpeningArms.{IsOnBench}
 use Rattle.object_calls.specs.FinishedPhase.{LeavesStore}
 use Rattle.run_acts.specs.Benches.{BenchState}
-use Rattle.run_acts.specs.ServedSteps.{ServesSteps}
+use Rattle.run_acts.specs.ServedSteps.{ServesFront, ServesSteps}
 
 -- how many faults a device of the bench counted
 abbrev pub faults_on : BenchState → Device → ℕ
@@ -49,8 +49,9 @@ pub record ClosesStore (Reliable : Type 0) (store : Store) (before : BenchState)
   pub drawn : (session : ℕ) → session < length store.mounted.applications → (last : ℕ) × Rise 0 last (draws_of session events)
   pub undrawn : Reliable → (session : ℕ) → session < length store.mounted.applications → draws_of session events ≡ []
 
--- Memory ran out: the store was closed before it was served, or behind some calls. Then the history of these is legal, and every picture
--- of the devices mounts to what it leaves.
-pub data ClosesEarly (store : Store) (before closed : BenchState) : Type 0 where
-  unserved : closed ≡ before → ClosesEarly store before closed
-  served : (view : GateView) (doubt : Option ℕ) → LeavesStore store view closed.files closed.card doubt → ClosesEarly store before closed
+-- Memory ran out: the store was closed before it was served, or behind some of these calls. Then the history of these is legal, and every
+-- picture of the devices mounts to what it leaves.
+pub data ClosesEarly (store : Store) (before : BenchState) (mode : Mode) (calls : List Step) (closed : BenchState) : Type 0 where
+  unserved : closed ≡ before → ClosesEarly store before mode calls closed
+  served : (view : GateView) (doubt : Option ℕ) → ServesFront mode calls (events_of view.all) → LeavesStore store view closed.files closed.card doubt
+      → BenchGoesOn (rpmb_key store.keys.huk) before closed → ClosesEarly store before mode calls closed

@@ -9,19 +9,21 @@ use Rattle.rpmb_host.specs.Honest.{HasCard}
 use Rattle.script_text.specs.declared.script.Arm.{Arm}
 use Rattle.script_text.specs.declared.script.Mode.{Mode}
 use Rattle.script_text.specs.declared.script.Step.{Step}
+use Rattle.store_commit.specs.declared.fault.MountFault.{MountFault}
 use Rattle.store_model.specs.declared.event.Event.{Event}
 use Rattle.store_model.specs.Object.{ObjectMap}
 use Rattle.store_model.specs.ReplayState.{ReplayState}
 use Rattle.object_calls.specs.FinishedPhase.{AreAllHonest}
 use Rattle.object_calls.specs.Opening.{OpeningValue, bench_files}
-use Rattle.run_acts.specs.Benches.{BenchState}
+use Rattle.run_acts.specs.Benches.{BenchState, KeepsDevices}
 use Rattle.run_acts.specs.Crashes.{Crashes}
-use Rattle.run_acts.specs.ListedBenches.{ListsBench}
-use Rattle.run_acts.specs.MountedDevices.{IsMounted, objects_in}
+use Rattle.run_acts.specs.ListedBenches.{IsListRefused, ListsBench}
+use Rattle.run_acts.specs.MountedDevices.{IsMounted, IsMountRefused, objects_in}
 use Rattle.run_acts.specs.Opens.{FormsBench, ReadsBlock}
 use Rattle.run_acts.specs.Disarming.{Disarms}
 use Rattle.run_acts.specs.Phases.{RunsPhase}
 use Rattle.run_acts.specs.Between.{AreReadable, AreSound, AreSteady, MayCrash}
+use Rattle.run_acts.specs.Untainted.{AreUntainted}
 use Rattle.run_acts.specs.Left.{AreLeft, HoldsLeft, replay_left}
 
 -- a crash of all files, whatever image each takes
@@ -43,6 +45,16 @@ DisarmedFilesAreSteady =
 
 abbrev pub CrashesKeepSteady : Type 0
 CrashesKeepSteady = (old new : BenchState) → AreSteady old.files → MayCrash old new → AreSteady new.files
+
+-- Devices that keep their contents hold what they held, where every file is honest still.
+abbrev pub KeptDevicesHold : Type 0
+KeptDevicesHold = (keys : Keys) (s : ReplayState) (old new : BenchState) → HoldsLeft keys old s → KeepsDevices old new → AreAllHonest new.files → HoldsLeft keys new s
+
+-- So a mount that is refused leaves what the bench holds.
+abbrev pub RefusedMountsKeep : Type 0
+RefusedMountsKeep =
+    (keys : Keys) (s : ReplayState) (old new : BenchState) (drew draws : ℕ) (fault : MountFault) → HoldsLeft keys old s → IsMountRefused keys old new drew draws fault
+    → AreAllHonest new.files → HoldsLeft keys new s
 
 -- Reading the card's block leaves what the bench holds.
 abbrev pub BlockReadsKeep : Type 0
@@ -76,15 +88,14 @@ module _ {F R : Type 0} (of_file : F → FileState) (of_port : R → PortState) 
       → IsMounted of_file of_port keys old o → AreReadable old.files (bench_files of_file o) → HasCard old.card (rpmb_key keys.huk) card
       → AreLeft s (objects_in of_file of_port keys o)
 
-  -- THE NEXT OPENING: a phase was run, the bench crashed or not, and it was mounted. Where every file was honest as the phase was closed,
-  -- and can be followed as the bench is mounted, the objects are those that the phase's history leaves, or those with its commit in doubt.
+  -- THE NEXT OPENING: a phase was run, the bench crashed or not, and it was mounted. Where no file was tainted as the phase began, the
+  -- objects are those that the phase's history leaves, or those with its commit in doubt.
   abbrev pub NextOpeningsAreLeft : (Reliable : Type 0) → Type 0
   NextOpeningsAreLeft Reliable =
       (keys : Keys) (applications : List (List ℕ)) (arms : List Arm) (mode : Mode) (calls : List Step) (old new : BenchState) (opening : ObjectMap) (events : List Event)
       (between : BenchState) (o : OpeningValue F R) (card : CardState)
-      → RunsPhase of_file of_port Reliable keys applications arms mode calls old new opening events → AreAllHonest new.files → MayCrash new between
-      → AreSound between.files → IsMounted of_file of_port keys between o → AreReadable between.files (bench_files of_file o)
-      → HasCard new.card (rpmb_key keys.huk) card
+      → RunsPhase of_file of_port Reliable keys applications arms mode calls old new opening events → AreUntainted old.files → MayCrash new between
+      → AreSound between.files → IsMounted of_file of_port keys between o → HasCard new.card (rpmb_key keys.huk) card
       → AreLeft (replay_left opening applications events) (objects_in of_file of_port keys o)
 
   -- So the next phase opens with them.
@@ -92,9 +103,8 @@ module _ {F R : Type 0} (of_file : F → FileState) (of_port : R → PortState) 
   NextPhasesOpenWithLeft Reliable =
       (keys : Keys) (applications later : List (List ℕ)) (arms more : List Arm) (mode next : Mode) (calls others : List Step) (old new between last : BenchState)
       (opening objects : ObjectMap) (events after : List Event) (card : CardState)
-      → RunsPhase of_file of_port Reliable keys applications arms mode calls old new opening events → AreAllHonest new.files → MayCrash new between
-      → (second : RunsPhase of_file of_port Reliable keys later more next others between last objects after)
-      → AreReadable between.files (bench_files of_file second.opened) → HasCard new.card (rpmb_key keys.huk) card
+      → RunsPhase of_file of_port Reliable keys applications arms mode calls old new opening events → AreUntainted old.files → MayCrash new between
+      → RunsPhase of_file of_port Reliable keys later more next others between last objects after → HasCard new.card (rpmb_key keys.huk) card
       → AreLeft (replay_left opening applications events) objects
 
   -- A list shows them.
@@ -110,3 +120,9 @@ module _ {F R : Type 0} (of_file : F → FileState) (of_port : R → PortState) 
       (keys : Keys) (s : ReplayState) (old new : BenchState) (objects : ObjectMap) (lines : List ℕ) (card : CardState) → HoldsLeft keys old s
       → ListsBench of_file of_port keys old new objects lines → AreAllHonest new.files → HasCard old.card (rpmb_key keys.huk) card
       → HoldsLeft keys new s
+
+  -- So does a list that is refused.
+  abbrev pub RefusedListsKeep : Type 0
+  RefusedListsKeep =
+      (keys : Keys) (s : ReplayState) (old new : BenchState) (drew draws : ℕ) (fault : MountFault) → HoldsLeft keys old s
+      → IsListRefused of_file of_port keys old new drew draws fault → AreAllHonest new.files → HoldsLeft keys new s

@@ -22,6 +22,7 @@ pub mod SharedClosing
 pub mod Left
 pub mod Between
 pub mod DeviceLaws
+pub mod Untainted
 pub mod Quiet
 pub mod MountingLaws
 pub mod Lines

@@ -1,5 +1,5 @@
 -- A bench whose objects were listed: it was mounted, each object was shown, and it was closed.
-use Rattle.std.specs.Prelude.{◌≡◌, ◌≢◌, ℕ, List, IsTrue}
+use Rattle.std.specs.Prelude.{◌≡◌, ◌≢◌, ◌≤◌, ℕ, List, IsTrue}
 use Rattle.std.specs.Map.{keys_of}
 use Rattle.disk_model.specs.State.{FileState}
 use Rattle.htree_file.specs.Answers.{FileFailed, FilePassed}
@@ -12,6 +12,7 @@ use Rattle.tee_types.specs.declared.reply.Device.TheVariants.{File}
 use Rattle.store_commit.specs.declared.fault.MountFault.{MountFault}
 use Rattle.store_commit.specs.declared.fault.MountFault.TheVariants.{Failed, NoMemory}
 use Rattle.object_calls.specs.Opening.{OpeningValue, bench_files, entries_in}
+use Rattle.object_calls.specs.OpeningFiles.{no_file}
 use Rattle.run_acts.specs.Lines.{objects_text}
 use Rattle.run_acts.specs.Benches.{BenchState, HasPassed, HadMemory, IsStarved, KeepsDevices, opening_state}
 use Rattle.run_acts.specs.Between.{AreSound}
@@ -44,6 +45,8 @@ module _ {F R : Type 0} (of_file : F → FileState) (of_port : R → PortState) 
     pub card : new.card ≡ (opening_state of_file of_port opened).card
     pub keeps : KeepsDevices old new
     pub passed : HasPassed old new
+    -- there is no file past the last
+    pub past : (file : ℕ) → 273 ≤ file → new.files file ≡ no_file
 
   -- the bench was mounted, and the listing ended at an object
   pub record IsCutShort (keys : Keys) (old new : BenchState) (drew draws : ℕ) (fault : MountFault) : Type 0 where

@@ -12,7 +12,7 @@ use Rattle.store_commit.specs.declared.fault.MountFault.TheVariants.{Failed}
 use Rattle.store_commit.specs.Causes.{counts}
 use Rattle.store_commit.specs.Counts.{RefusalNotOfCard}
 use Rattle.store_commit.specs.Gates.{gate_sides}
-use Rattle.store_commit.specs.Mounts.{LeavesDevices, MountDiffers, MountRefused, OpensGate}
+use Rattle.store_commit.specs.Mounts.{LeavesDevices, MountDiffers, MountRefused, OpensGate, TellsFailure}
 use Rattle.object_calls.specs.Begins.{IsWholeOpening, MountsAsRead}
 use Rattle.object_calls.specs.Opening.{IsKeyed, OpeningValue, bench_files, entries_in}
 use Rattle.object_calls.specs.MountRefusals.{BenchCounts, BenchHeard}
@@ -52,6 +52,8 @@ StopsMounting keys old new drew draws fault = IsGateRefused keys old new drew dr
 -- The bench was not mounted, and what is then left of it: `drew` and `draws` count the draws that failed, before and after.
 pub record IsMountRefused (keys : Keys) (old new : BenchState) (drew draws : ℕ) (fault : MountFault) : Type 0 where
   pub refused : StopsMounting keys old new drew draws fault
+  -- a failure is told as one, and not within a fault of the directory
+  pub told : TellsFailure fault
   -- what holds of every file
   pub sound : AreSound old.files
   -- what was heard of the card, whatever it is

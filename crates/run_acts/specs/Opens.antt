@@ -13,7 +13,8 @@ use Rattle.store_commit.specs.declared.fault.MountFault.{MountFault}
 use Rattle.store_commit.specs.declared.fault.MountFault.TheVariants.{NoMemory}
 use Rattle.store_commit.specs.Causes.{counts}
 use Rattle.store_commit.specs.Counts.{RefusalCounts}
-use Rattle.store_commit.specs.Formats.{FormatHeard, FormatRefused, Formats, IsFormatWritten, LeavesFormat}
+use Rattle.store_commit.specs.Formats.{FormatGoesOn, FormatHeard, FormatRefused, Formats, IsFormatWritten, LeavesFormat}
+use Rattle.store_commit.specs.Leaving.{KeepsPort}
 use Rattle.store_commit.specs.Mounts.{CardRefused}
 use Rattle.store_commit.specs.Reads.{AsksBlock, IsBlockRead, OfHost}
 use Rattle.run_acts.specs.Benches.{BenchState, HadMemory, IsStarved, KeepsObjectFiles}
@@ -26,6 +27,7 @@ is_blank block = list_all (λ byte. byte == 0) block
 pub record ReadsBlock (keys : Keys) (old new : BenchState) (block : List ℕ) : Type 0 where
   pub files : (file : ℕ) → new.files file ≡ old.files file
   pub card : new.card.card ≡ old.card.card
+  pub port : KeepsPort old.card new.card
   pub passed : new.card.faults ≡ old.card.faults
   pub heard : IsBlockRead (rpmb_key keys.huk) old.card new.card block
   pub told : (card : CardState) → HasCard old.card (rpmb_key keys.huk) card → block_zero card ≡ block
@@ -34,6 +36,7 @@ pub record ReadsBlock (keys : Keys) (old new : BenchState) (block : List ℕ) : 
 pub record IsBlockUnread (keys : Keys) (old new : BenchState) (drew draws : ℕ) (fault : MountFault) : Type 0 where
   pub files : (file : ℕ) → new.files file ≡ old.files file
   pub card : new.card.card ≡ old.card.card
+  pub port : KeepsPort old.card new.card
   pub refused : CardRefused old.card new.card (rpmb_key keys.huk) drew draws fault
   pub heard : OfHost (λ f. AsksBlock (rpmb_key keys.huk) old.card new.card (Err f)) fault
   pub counted : (file : FileState) → RefusalCounts (counts file old.card drew) (counts file new.card draws) fault
@@ -49,6 +52,7 @@ pub record FormsBench (keys : Keys) (old new : BenchState) : Type 0 where
   pub formed : Formats (new.files 0) old.card new.card keys
   pub empty : HasNoObjects keys old new
   pub written : IsFormatWritten (new.files 0) old.card new.card keys
+  pub goes_on : FormatGoesOn (old.files 0) (new.files 0) old.card new.card
   pub others : KeepsObjectFiles old new
   pub dir_passed : FilePassed (old.files 0) (new.files 0)
   pub card_passed : new.card.faults ≡ old.card.faults
@@ -59,6 +63,7 @@ pub record IsNotFormed (keys : Keys) (old new : BenchState) (drew draws : ℕ) (
   pub heard : FormatHeard (old.files 0) (new.files 0) old.card new.card keys fault
   pub counted : RefusalCounts (counts (old.files 0) old.card drew) (counts (new.files 0) new.card draws) fault
   pub left : LeavesFormat (new.files 0) old.card new.card keys
+  pub goes_on : FormatGoesOn (old.files 0) (new.files 0) old.card new.card
   pub others : KeepsObjectFiles old new
 
 -- The bench has a store as it was found, or a new one.

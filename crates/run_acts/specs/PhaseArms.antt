@@ -1,5 +1,5 @@
 -- The arms of a phase.
-use Rattle.std.specs.Prelude.{◌≡◌, ℕ, List, [], ◌∷◌}
+use Rattle.std.specs.Prelude.{◌≡◌, ℕ, List, [], ◌∷◌, ◌++◌}
 use Rattle.disk_model.specs.State.{FileState}
 use Rattle.rpmb_card.specs.Arms.{arm_loss}
 use Rattle.rpmb_card.specs.Port.{PortState, Rearmed}
@@ -19,6 +19,10 @@ ArmsOneOf (Lose call) old new = ((file : ℕ) → new.files file ≡ old.files f
 abbrev pub ArmsAll : List Arm → (old new : BenchState) → Type 0
 ArmsAll [] old new = ((file : ℕ) → new.files file ≡ old.files file) × (new.card ≡ old.card)
 ArmsAll (arm ∷ arms) old new = (between : BenchState) × ArmsOneOf arm old between × ArmsAll arms between new
+
+-- the first of these arms were set, and no other
+abbrev pub ArmsFront : List Arm → (old new : BenchState) → Type 0
+ArmsFront arms old new = (front : List Arm) × (rest : List Arm) × (arms ≡ front ++ rest) × ArmsAll front old new
 
 -- of a store that is mounted, only its devices changed
 abbrev pub OnlyDevices : {F R : Type 0} → (old new : OpeningValue F R) → Type 0

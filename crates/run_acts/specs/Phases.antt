@@ -47,6 +47,5 @@ module _ {F R : Type 0} (of_file : F → FileState) (of_port : R → PortState) 
     pub serves : ServesOpened keys applications arms mode calls opened closed events
     pub disarms : Disarms closed new
     pub with_memory : HadMemory old new
-    -- the port that the bench has then
-    pub port : R
-    pub port_is : new.card ≡ of_port port
+    -- nor is there a file past the last then
+    pub past : (file : ℕ) → 273 ≤ file → new.files file ≡ no_file

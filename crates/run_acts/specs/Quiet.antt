@@ -17,6 +17,7 @@ use Rattle.script_text.specs.declared.script.Mode.{Mode}
 use Rattle.script_text.specs.declared.script.Step.{Step}
 use Rattle.object_calls.specs.FinishedPhase.{AreAllHonest}
 use Rattle.run_acts.specs.Benches.{BenchState}
+use Rattle.run_acts.specs.Opens.{OpensBench}
 use Rattle.run_acts.specs.Phases.{RunsPhase}
 
 -- A file that fails only for want of memory, and whose counts are below the last value of 64 bits.
@@ -32,9 +33,9 @@ pub record IsQuiet (keys : Keys) (bench : BenchState) : Type 0 where
   pub faults : bench.card.faults < 2 ^ 64 - 1
   pub card : HadCard bench.card (rpmb_key keys.huk)
 
--- every port of the kind tells which faults are armed
-abbrev pub TellArms : {R : Type 0} → (R → PortState) → Type 0
-TellArms {R} of_port = (port : R) → IsTrue (of_port port).tells_arms
+-- A quiet bench that is opened is quiet, whether its store was found or it was formatted.
+abbrev pub OpeningsStayQuiet : Type 0
+OpeningsStayQuiet = (keys : Keys) (old new : BenchState) → OpensBench keys old new → IsQuiet keys old → IsQuiet keys new
 
 -- The event is that of a call, which has the machine's reply where the replay stands; or a commit was due, and the card's counter is at its
 -- end.
@@ -49,19 +50,19 @@ AreOfMachine s (r ∷ records) = IsOfMachine s r.event × AreOfMachine (replay_a
 
 module _ {F R : Type 0} (of_file : F → FileState) (of_port : R → PortState) (Reliable : Type 0) where
   -- the machine answers each call of the phase, but for commits where the counter is at its end
-  abbrev pub IsOfMachineAll : (keys : Keys) (applications : List (List ℕ)) (arms : List Arm) (mode : Mode) (calls : List Step) (old new : BenchState) (objects : ObjectMap) (events : List Event)
+  abbrev pub IsPhaseOfMachine : (keys : Keys) (applications : List (List ℕ)) (arms : List Arm) (mode : Mode) (calls : List Step) (old new : BenchState) (objects : ObjectMap) (events : List Event)
       → RunsPhase of_file of_port Reliable keys applications arms mode calls old new objects events → Type 0
-  IsOfMachineAll keys applications arms mode calls old new objects events r = AreOfMachine (opening (phase_of (r.serves).store)) (((r.serves).closes).view).all
+  IsPhaseOfMachine keys applications arms mode calls old new objects events r = AreOfMachine (opening (phase_of (r.serves).store)) (((r.serves).closes).view).all
 
   -- A phase of a quiet bench for which nothing is armed, whose generator never fails, and that leaves every file honest: it is the machine's.
   abbrev pub QuietPhasesAreOfMachine : Type 0
   QuietPhasesAreOfMachine =
       (keys : Keys) (applications : List (List ℕ)) (mode : Mode) (calls : List Step) (old new : BenchState) (objects : ObjectMap) (events : List Event)
       → (r : RunsPhase of_file of_port Reliable keys applications [] mode calls old new objects events) → IsQuiet keys old → Reliable → AreAllHonest new.files
-      → IsOfMachineAll keys applications [] mode calls old new objects events r
+      → IsPhaseOfMachine keys applications [] mode calls old new objects events r
 
-  -- It leaves the bench quiet, where ports of its kind tell which faults are armed.
+  -- It leaves the bench quiet.
   abbrev pub QuietPhasesStayQuiet : Type 0
   QuietPhasesStayQuiet =
       (keys : Keys) (applications : List (List ℕ)) (mode : Mode) (calls : List Step) (old new : BenchState) (objects : ObjectMap) (events : List Event)
-      → TellArms of_port → RunsPhase of_file of_port Reliable keys applications [] mode calls old new objects events → IsQuiet keys old → IsQuiet keys new
+      → RunsPhase of_file of_port Reliable keys applications [] mode calls old new objects events → IsQuiet keys old → IsQuiet keys new

@@ -1,10 +1,9 @@
 // The arms of a phase.
 
-ghost use Rattle.std.specs.Prelude.{[], All, List, OnErr, OnOk};
+ghost use Rattle.std.specs.Prelude.{[], All, OnErr, OnOk};
 ghost use Rattle.script_text.specs.Laws.{IsArm};
-ghost use Rattle.script_text.specs.declared.script.Arm.{Arm};
 ghost use Rattle.run_acts.specs.Benches.{opening_state};
-ghost use Rattle.run_acts.specs.PhaseArms.{ArmsAll, ArmsOneOf, OnlyDevices};
+ghost use Rattle.run_acts.specs.PhaseArms.{ArmsAll, ArmsFront, ArmsOneOf, OnlyDevices};
 
 use object_calls::Opening;
 use rpmb_card::CardRig;
@@ -43,7 +42,7 @@ pub(crate) fn arm_devices<F: FileRig + Drop, R: CardRig + Drop>(
 ) -> Result<(), NoMemory>
     requires { All IsArm arms.now }
     ensures arms { OnOk result (ArmsAll arms.now (opening_state F.state R.state opening.old) (opening_state F.state R.state opening.new)) }
-    ensures some { OnErr result ((front : List Arm) × ArmsAll front (opening_state F.state R.state opening.old) (opening_state F.state R.state opening.new)) }
+    ensures some { OnErr result (ArmsFront arms.now (opening_state F.state R.state opening.old) (opening_state F.state R.state opening.new)) }
     ensures others { OnlyDevices opening.old opening.new }
 {
     for arm in arms {

@@ -4,8 +4,8 @@ ghost use Rattle.object_calls.specs.declared.bench.Bench.{Bench};
 ghost use Rattle.run_acts.specs.Benches.{bench_state};
 ghost use Rattle.run_acts.specs.Between.{AreSound};
 ghost use Rattle.run_acts.specs.MountingLaws.{HeldBenchesAreNotRefused, MountingBenchesAreNotRefused};
-ghost use Rattle.run_acts.specs.Quiet.{QuietPhasesAreOfMachine, QuietPhasesStayQuiet};
-ghost use Rattle.run_acts.specs.DeviceLaws.{BlockReadsKeep, CountersAreOfCards, CrashesKeep, CrashesKeepSteady, CrashesMayBe, DisarmedFilesAreSteady, FormedBenchesHoldNone, ListsKeep, ListsShowLeft, MountsOpenWithLeft, NextOpeningsAreLeft, NextPhasesOpenWithLeft, NothingMayBe, PhasesLeave};
+ghost use Rattle.run_acts.specs.Quiet.{OpeningsStayQuiet, QuietPhasesAreOfMachine, QuietPhasesStayQuiet};
+ghost use Rattle.run_acts.specs.DeviceLaws.{BlockReadsKeep, CountersAreOfCards, CrashesKeep, CrashesKeepSteady, CrashesMayBe, DisarmedFilesAreSteady, FormedBenchesHoldNone, KeptDevicesHold, ListsKeep, ListsShowLeft, MountsOpenWithLeft, NextOpeningsAreLeft, NextPhasesOpenWithLeft, NothingMayBe, PhasesLeave, RefusedListsKeep, RefusedMountsKeep};
 
 use object_calls::Bench;
 use rpmb_card::RpmbPort;
@@ -32,6 +32,17 @@ pub fn nothing_may_be()
 #[tactic(auto, using(crate::proofs::CrashedLaws::crashes_keep))]
 pub fn crashes_keep()
     ensures { CrashesKeep }
+{}
+
+/// Devices that keep their contents hold what they held.
+#[tactic(auto, using(crate::proofs::CrashedLaws::kept_devices_hold))]
+pub fn kept_devices_hold()
+    ensures { KeptDevicesHold }
+{}
+
+/// A mount that is refused leaves what the bench holds.
+pub fn refused_mounts_keep()
+    ensures { RefusedMountsKeep }
 {}
 
 /// Reading the card's block leaves what the bench holds.
@@ -91,6 +102,16 @@ pub fn lists_show_left<F: StoreFile, R: RpmbPort>()
 /// A list leaves what the bench holds.
 pub fn lists_keep<F: StoreFile, R: RpmbPort>()
     ensures { ListsKeep F.state R.state }
+{}
+
+/// A list that is refused leaves it, too.
+pub fn refused_lists_keep<F: StoreFile, R: RpmbPort>()
+    ensures { RefusedListsKeep F.state R.state }
+{}
+
+/// A quiet bench that is opened is quiet, whether its store was found or it was formatted.
+pub fn openings_stay_quiet()
+    ensures { OpeningsStayQuiet }
 {}
 
 /// A phase on devices that do not fail, for which nothing is armed: the machine answers each of its calls.

@@ -1,6 +1,7 @@
 //! The bench that a run begins with.
 
 ghost use Rattle.std.specs.Prelude.{◌≡◌, vec_len, IfErr, IfOk, MatchResult};
+ghost use Rattle.store_commit.specs.Counts.{RefusalNotDrawn};
 ghost use Rattle.run_acts.specs.Benches.{HasPassed, HadMemory, bench_state};
 ghost use Rattle.run_acts.specs.Opens.{FormsBench, IsBlockUnread, IsNotFormed, IsOpenRefused, OpensBench, ReadsBlock, StopsOpening, is_blank};
 
@@ -31,6 +32,7 @@ fn ask_block<F: FileRig + Drop, R: RpmbPort + Drop, E: Entropy>(
     ensures undrawn { IfOk result (λ r. E.faults entropy.new ≡ E.faults entropy.old) }
     ensures whole { IfOk result (λ r. vec_len r.bench.files ≡ 273) }
     ensures whole_err { IfErr result (λ h. vec_len h.bench.files ≡ 273) }
+    ensures drawn { E.is_reliable entropy.old → IfErr result (λ h. RefusalNotDrawn h.fault) }
     ensures reliable { E.is_reliable entropy.old → E.is_reliable entropy.new }
 {
     match card_block(bench, keys, entropy) {
@@ -52,6 +54,7 @@ fn form_bench<F: FileRig + Drop, R: RpmbPort + Drop, E: Entropy>(
     ensures undrawn { IfOk result (λ b. E.faults entropy.new ≡ E.faults entropy.old) }
     ensures whole { IfOk result (λ b. vec_len b.files ≡ 273) }
     ensures whole_err { IfErr result (λ h. vec_len h.bench.files ≡ 273) }
+    ensures drawn { E.is_reliable entropy.old → IfErr result (λ h. RefusalNotDrawn h.fault) }
     ensures reliable { E.is_reliable entropy.old → E.is_reliable entropy.new }
 {
     match format(alloc, bench, keys, entropy) {
@@ -73,6 +76,7 @@ fn open_or_form<F: FileRig + Drop, R: RpmbPort + Drop, E: Entropy>(
     ensures undrawn { IfOk result (λ b. E.faults entropy.new ≡ E.faults entropy.old) }
     ensures whole { IfOk result (λ b. vec_len b.files ≡ 273) }
     ensures whole_err { IfErr result (λ h. vec_len h.bench.files ≡ 273) }
+    ensures drawn { E.is_reliable entropy.old → IfErr result (λ h. RefusalNotDrawn h.fault) }
     ensures reliable { E.is_reliable entropy.old → E.is_reliable entropy.new }
 {
     match ask_block(bench, keys, entropy) {
@@ -107,6 +111,7 @@ pub fn open_bench<F: FileRig + Drop, R: RpmbPort + Drop, E: Entropy>(
         (E.faults entropy.old) (E.faults entropy.new) h.fault) }
     ensures whole { IfOk result (λ b. vec_len b.files ≡ 273) }
     ensures whole_err { IfErr result (λ h. vec_len h.bench.files ≡ 273) }
+    ensures drawn { E.is_reliable entropy.old → IfErr result (λ h. RefusalNotDrawn h.fault) }
     ensures reliable { E.is_reliable entropy.old → E.is_reliable entropy.new }
 {
     let Ok(before) = starved_counts(alloc, &bench.files) else {

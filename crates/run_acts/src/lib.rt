@@ -4,9 +4,9 @@
 //! and disarms. In a serial phase the calls are made one after another (`make_calls`); in a phase on threads each application's on a thread
 //! of its own (`serve_shared`). A phase that was run is whole: no call of a file was given up for want of memory, and each call has its event.
 //!
-//! Laws say what a phase leaves for the next mount, after a crash or none (`device_laws`), and that events serve the steps of a script
-//! (`phase_laws`). The lines of objects that are listed, and of a store that is refused, are printed here too (`print_object`,
-//! `print_refusal`).
+//! Laws say what a phase leaves for the next mount, after a crash or none (`device_laws`), that files stay honest (`untainted_laws`), and
+//! that events serve the steps of a script (`phase_laws`). The lines of objects that are listed, and of a store that is refused, are
+//! printed here too (`print_object`, `print_refusal`).
 #![tactic(auto)]
 
 mod arming;
@@ -29,6 +29,7 @@ mod serial_phase;
 mod sessions;
 mod shared_slots;
 mod threads_phase;
+pub mod untainted_laws;
 
 pub use crash::crash_files;
 pub use first_opening::open_bench;

@@ -1,6 +1,7 @@
 //! Mounting a bench.
 
 ghost use Rattle.std.specs.Prelude.{◌≡◌, [], vec_len, IfErr, IfOk, MatchResult};
+ghost use Rattle.store_commit.specs.Counts.{RefusalNotDrawn};
 ghost use Rattle.run_acts.specs.Benches.{HasPassed, KeepsDevices, bench_state, opening_state};
 ghost use Rattle.run_acts.specs.Between.{AreSound};
 ghost use Rattle.run_acts.specs.MountedDevices.{IsMounted, IsMountRefused};
@@ -33,6 +34,7 @@ pub fn mount_bench<F: FileRig + Drop, R: RpmbPort + Drop, E: Entropy>(
         (E.faults entropy.old) (E.faults entropy.new) h.fault) }
     ensures keeps_err { IfErr result (λ h. KeepsDevices (bench_state F.state R.state bench) (bench_state F.state R.state h.bench)) }
     ensures whole_err { IfErr result (λ h. vec_len h.bench.files ≡ 273) }
+    ensures drawn { E.is_reliable entropy.old → IfErr result (λ h. RefusalNotDrawn h.fault) }
     ensures reliable { E.is_reliable entropy.old → E.is_reliable entropy.new }
 {
     match mount(alloc, bench, keys, entropy) {

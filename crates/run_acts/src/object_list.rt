@@ -3,6 +3,7 @@
 ghost use Rattle.std.specs.Prelude.{◌≡◌, length, vec_len, IfErr, IfOk, MatchResult};
 ghost use Rattle.store_model.specs.Object.{ObjectMap};
 ghost use Rattle.object_calls.specs.Opening.{bench_files, entries_in};
+ghost use Rattle.store_commit.specs.Counts.{RefusalNotDrawn};
 ghost use Rattle.run_acts.specs.Benches.{HadMemory, KeepsDevices, bench_state};
 ghost use Rattle.run_acts.specs.ListedBenches.{IsListRefused, ListsBench, StopsListing};
 ghost use Rattle.run_acts.specs.ListedObjects.{IsCutOff, IsListed, ListsNext};
@@ -92,6 +93,7 @@ fn list_mounted<F: FileRig + Drop, R: RpmbPort + Drop, E: Entropy>(
     ensures undrawn { IfOk result (λ l. E.faults entropy.new ≡ E.faults entropy.old) }
     ensures whole { IfOk result (λ l. vec_len l.bench.files ≡ 273) }
     ensures whole_err { IfErr result (λ h. vec_len h.bench.files ≡ 273) }
+    ensures drawn { E.is_reliable entropy.old → IfErr result (λ h. RefusalNotDrawn h.fault) }
     ensures reliable { E.is_reliable entropy.old → E.is_reliable entropy.new }
 {
     match mount_bench(alloc, bench, keys, entropy) {
@@ -138,6 +140,7 @@ pub fn list_objects<F: FileRig + Drop, R: RpmbPort + Drop, E: Entropy>(
         (E.faults entropy.old) (E.faults entropy.new) h.fault) }
     ensures whole { IfOk result (λ l. vec_len l.bench.files ≡ 273) }
     ensures whole_err { IfErr result (λ h. vec_len h.bench.files ≡ 273) }
+    ensures drawn { E.is_reliable entropy.old → IfErr result (λ h. RefusalNotDrawn h.fault) }
     ensures reliable { E.is_reliable entropy.old → E.is_reliable entropy.new }
 {
     let Ok(before) = starved_counts(alloc, &bench.files) else {

@@ -2,6 +2,7 @@
 
 ghost use Rattle.std.specs.Prelude.{◌≡◌, ◌+◌, ◌*◌, ◌<◌, ◌≤◌, ◌^◌, ℕ, List, [], length, map, vec_len, All, IfErr, IfOk, MatchResult, OnErr, OnOk};
 ghost use Rattle.script_text.specs.Laws.{IsArm};
+ghost use Rattle.store_commit.specs.Counts.{RefusalNotDrawn};
 ghost use Rattle.store_model.specs.Object.{ObjectMap};
 ghost use Rattle.object_calls.specs.Opening.{IsKeyed};
 ghost use Rattle.object_calls.specs.OpeningSessions.{AreUnseated};
@@ -10,9 +11,11 @@ ghost use Rattle.run_acts.specs.ServedSteps.{AreCalls};
 ghost use Rattle.run_acts.specs.Benches.{HasPassed, KeepsDevices, bench_state, opening_state};
 ghost use Rattle.run_acts.specs.Between.{AreSound};
 ghost use Rattle.run_acts.specs.MountedDevices.{IsMounted};
-ghost use Rattle.run_acts.specs.PhaseArms.{ArmsAll, IsReady};
+ghost use Rattle.run_acts.specs.PhaseArms.{ArmsFront, IsReady};
 ghost use Rattle.run_acts.specs.Disarming.{Disarms};
 ghost use Rattle.script_text.specs.declared.script.Arm.{Arm};
+ghost use Rattle.script_text.specs.declared.script.Mode.{Mode};
+ghost use Rattle.script_text.specs.declared.script.Step.{Step};
 ghost use Rattle.run_acts.specs.Phases.{RunsPhase, ServesOpened};
 ghost use Rattle.run_acts.specs.PhaseRefusals.{ClosesOpened, IsGivenUp};
 
@@ -73,9 +76,10 @@ fn mount_with_memory<F: FileRig + Drop, R: CardRig + Drop, E: Entropy>(
     ensures passed { IfOk result (λ o. HasPassed (bench_state F.state R.state bench) (opening_state F.state R.state o)) }
     ensures undrawn { IfOk result (λ o. E.faults entropy.new ≡ E.faults entropy.old) }
     ensures unopened { IfOk result (λ o. o.applications ≡ []) }
-    ensures refused { (applications : List (List ℕ)) (arms : List Arm) → IfErr result (λ h. IsGivenUp F.state R.state keys.now applications arms
+    ensures refused { (applications : List (List ℕ)) (arms : List Arm) (mode : Mode) (calls : List Step) → IfErr result (λ h. IsGivenUp F.state R.state keys.now applications arms mode calls
         (bench_state F.state R.state bench) (bench_state F.state R.state h.bench) (E.faults entropy.old) (E.faults entropy.new) h.fault) }
     ensures whole_err { IfErr result (λ h. vec_len h.bench.files ≡ 273) }
+    ensures drawn { E.is_reliable entropy.old → IfErr result (λ h. RefusalNotDrawn h.fault) }
     ensures reliable { E.is_reliable entropy.old → E.is_reliable entropy.new }
 {
     match mount_bench(alloc, bench, keys, entropy) {
@@ -102,7 +106,7 @@ fn make_ready<F: FileRig + Drop, R: CardRig + Drop, E: Entropy>(
     ensures fresh { IfOk result (λ s. AreFresh E.faults s.items) }
     ensures reliable { E.is_reliable entropy.now → IfOk result (λ s. AreReliable E.is_reliable s.items) }
     ensures ready { OnOk result (IsReady F.state R.state applications.now arms.now opening.old opening.new) }
-    ensures unready { OnErr result ((front : List Arm) × ArmsAll front (opening_state F.state R.state opening.old) (opening_state F.state R.state opening.new)) }
+    ensures unready { OnErr result (ArmsFront arms.now (opening_state F.state R.state opening.old) (opening_state F.state R.state opening.new)) }
 {
     let sessions = open_sessions(alloc, opening, entropy, number, applications)?;
     arm_devices(opening, arms)?;
@@ -134,7 +138,7 @@ fn serve_opened<
     requires arms { All IsArm arms.now }
     requires calls { AreCalls (length applications.now) calls.now }
     ensures serves { IfOk result (λ c. ServesOpened F.state R.state (E.is_reliable entropy.now) keys.now applications.now arms.now mode calls.now opening (bench_state F.state R.state c.bench) c.history.events) }
-    ensures early { IfErr result (λ b. ClosesOpened F.state R.state keys.now applications.now arms.now opening (bench_state F.state R.state b)) }
+    ensures early { IfErr result (λ b. ClosesOpened F.state R.state keys.now applications.now arms.now mode calls.now opening (bench_state F.state R.state b)) }
     ensures whole { MatchResult result (λ c. vec_len c.bench.files ≡ 273) (λ b. vec_len b.files ≡ 273) }
 {
     let mut opening = opening;
@@ -175,11 +179,12 @@ pub fn run_phase<
     requires arms { All IsArm arms.now }
     ensures runs { IfOk result (λ p. (opening : ObjectMap) × (length opening ≡ p.objects)
         × RunsPhase F.state R.state (E.is_reliable entropy.old) keys.now applications.now arms.now mode calls.now (bench_state F.state R.state bench) (bench_state F.state R.state p.bench) opening p.history.events) }
-    ensures refused { IfErr result (λ h. IsGivenUp F.state R.state keys.now applications.now arms.now (bench_state F.state R.state bench) (bench_state F.state R.state h.bench)
+    ensures refused { IfErr result (λ h. IsGivenUp F.state R.state keys.now applications.now arms.now mode calls.now (bench_state F.state R.state bench) (bench_state F.state R.state h.bench)
         (E.faults entropy.old) (E.faults entropy.new) h.fault) }
     ensures undrawn { IfOk result (λ p. E.faults entropy.new ≡ E.faults entropy.old) }
     ensures whole { IfOk result (λ p. vec_len p.bench.files ≡ 273) }
     ensures whole_err { IfErr result (λ h. vec_len h.bench.files ≡ 273) }
+    ensures drawn { E.is_reliable entropy.old → IfErr result (λ h. RefusalNotDrawn h.fault) }
     ensures reliable { E.is_reliable entropy.old → E.is_reliable entropy.new }
 {
     let Ok(before) = starved_counts(alloc, &bench.files) else {

@@ -8,6 +8,7 @@ ghost use Rattle.shared_store.specs.EventCounts.{events_at};
 ghost use Rattle.run_acts.specs.Reliable.{AreFresh, AreReliable};
 ghost use Rattle.run_acts.specs.ServedSteps.{AreCalls};
 ghost use Rattle.script_text.specs.declared.script.Mode.{Mode};
+ghost use Rattle.script_text.specs.declared.script.Mode.TheVariants.{Serial};
 ghost use Rattle.run_acts.specs.Benches.{BenchState, bench_state, opening_state};
 ghost use Rattle.run_acts.specs.Closing.{ClosesEarly, ClosesStore};
 ghost use Rattle.run_acts.specs.PhaseServing.{HasDevices};
@@ -38,7 +39,7 @@ fn make_and_close<F: StoreFile + Drop, R: RpmbPort + Drop, E: Entropy + Drop, L:
     requires fresh { AreFresh E.faults sessions.items }
     ensures closed { (mode : Mode) (before : BenchState) → HasDevices F.state R.state service before
         → IfOk result (λ c. ClosesStore (AreReliable E.is_reliable sessions.items) L.store before mode calls.now (bench_state F.state R.state c.bench) c.history.events) }
-    ensures early { (before : BenchState) → IfErr result (λ b. ClosesEarly L.store before (bench_state F.state R.state b)) }
+    ensures early { (before : BenchState) → HasDevices F.state R.state service before → IfErr result (λ b. ClosesEarly L.store before Serial calls.now (bench_state F.state R.state b)) }
     ensures whole { MatchResult result (λ c. vec_len c.bench.files ≡ 273) (λ b. vec_len b.files ≡ 273) }
 {
     let mut service = service;
@@ -65,7 +66,7 @@ fn serve_calls<F: StoreFile + Drop, R: RpmbPort + Drop, E: Entropy + Drop, L: St
     requires fresh { AreFresh E.faults sessions.items }
     ensures closed { (mode : Mode) → IfOk result (λ c. ClosesStore (AreReliable E.is_reliable sessions.items) L.store (opening_state F.state R.state opening) mode calls.now
         (bench_state F.state R.state c.bench) c.history.events) }
-    ensures early { IfErr result (λ b. ClosesEarly L.store (opening_state F.state R.state opening) (bench_state F.state R.state b)) }
+    ensures early { IfErr result (λ b. ClosesEarly L.store (opening_state F.state R.state opening) Serial calls.now (bench_state F.state R.state b)) }
     ensures whole { MatchResult result (λ c. vec_len c.bench.files ≡ 273) (λ b. vec_len b.files ≡ 273) }
 {
     let mut sessions = sessions;
@@ -100,7 +101,7 @@ pub(crate) fn serve_once<
     requires fresh { AreFresh E.faults sessions.items }
     ensures closed { IfOk result (λ c. ClosesStore (AreReliable E.is_reliable sessions.items) (store_in keys.now F.state R.state opening) (opening_state F.state R.state opening) mode calls.now
         (bench_state F.state R.state c.bench) c.history.events) }
-    ensures early { IfErr result (λ b. ClosesEarly (store_in keys.now F.state R.state opening) (opening_state F.state R.state opening) (bench_state F.state R.state b)) }
+    ensures early { IfErr result (λ b. ClosesEarly (store_in keys.now F.state R.state opening) (opening_state F.state R.state opening) mode calls.now (bench_state F.state R.state b)) }
     ensures whole { MatchResult result (λ c. vec_len c.bench.files ≡ 273) (λ b. vec_len b.files ≡ 273) }
 {
     match mode {

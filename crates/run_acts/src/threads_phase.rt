@@ -8,12 +8,13 @@ ghost use Rattle.object_calls.specs.Opening.{IsKeyed};
 ghost use Rattle.object_calls.specs.OpeningSessions.{AreCallers, AreSeated, AreUnseated, HaveNoEvents};
 ghost use Rattle.run_acts.specs.Reliable.{AreFresh, AreReliable};
 ghost use Rattle.run_acts.specs.ServedSteps.{AreCalls};
+ghost use Rattle.script_text.specs.declared.script.Mode.TheVariants.{Threads};
 ghost use Rattle.shared_store.specs.Kept.{KeepsGate};
 ghost use Rattle.run_acts.specs.SharedClosing.{ClosesShared};
 ghost use Rattle.run_acts.specs.Benches.{BenchState, bench_state, opening_state};
 ghost use Rattle.run_acts.specs.Closing.{ClosesEarly};
 ghost use Rattle.run_acts.specs.OwnCalls.{HaveWorked};
-ghost use Rattle.run_acts.specs.Sharing.{AreKept, opening_devices};
+ghost use Rattle.run_acts.specs.Sharing.{AreKept, IsBenchOf, opening_devices};
 
 use crate::done_calls::are_done;
 use crate::own_calls::make_own_calls;
@@ -77,7 +78,7 @@ fn share_and_close<
     requires calls { AreCalls (length sessions.items) calls.now }
     requires fresh { AreFresh E.faults sessions.items }
     ensures closed { IfOk result (λ c. ClosesShared (AreReliable E.is_reliable sessions.items) L.store L.devices calls.now (files_of F.state c.bench.files.items) (R.state c.bench.card) c.history.events) }
-    ensures early { (before : BenchState) → IfErr result (λ b. ClosesEarly L.store before (bench_state F.state R.state b)) }
+    ensures early { (before : BenchState) → IsBenchOf L.devices before → IfErr result (λ b. ClosesEarly L.store before Threads calls.now (bench_state F.state R.state b)) }
     ensures whole { MatchResult result (λ c. vec_len c.bench.files ≡ 273) (λ b. vec_len b.files ≡ 273) }
 {
     let ServiceParts {
@@ -127,7 +128,7 @@ pub fn serve_shared<
     requires calls { AreCalls (length opening.applications) calls.now }
     requires fresh { AreFresh E.faults sessions.items }
     ensures closed { IfOk result (λ c. ClosesShared (AreReliable E.is_reliable sessions.items) L.store L.devices calls.now (files_of F.state c.bench.files.items) (R.state c.bench.card) c.history.events) }
-    ensures early { IfErr result (λ b. ClosesEarly L.store (opening_state F.state R.state opening) (bench_state F.state R.state b)) }
+    ensures early { IfErr result (λ b. ClosesEarly L.store (opening_state F.state R.state opening) Threads calls.now (bench_state F.state R.state b)) }
     ensures whole { MatchResult result (λ c. vec_len c.bench.files ≡ 273) (λ b. vec_len b.files ≡ 273) }
 {
     let Ok(shared) = Vec::with_capacity(alloc, FILES - 1) else {
@@ -164,7 +165,7 @@ pub fn serve_shared_once<
     requires fresh { AreFresh E.faults sessions.items }
     ensures closed { IfOk result (λ c. ClosesShared (AreReliable E.is_reliable sessions.items) (store_in keys.now F.state R.state opening) (opening_devices F.state R.state opening) calls.now
         (files_of F.state c.bench.files.items) (R.state c.bench.card) c.history.events) }
-    ensures early { IfErr result (λ b. ClosesEarly (store_in keys.now F.state R.state opening) (opening_state F.state R.state opening) (bench_state F.state R.state b)) }
+    ensures early { IfErr result (λ b. ClosesEarly (store_in keys.now F.state R.state opening) (opening_state F.state R.state opening) Threads calls.now (bench_state F.state R.state b)) }
     ensures whole { MatchResult result (λ c. vec_len c.bench.files ≡ 273) (λ b. vec_len b.files ≡ 273) }
 {
     serve_shared::<W, F, R, E, Brand>(rt, alloc, opening, sessions, keys, calls)

@@ -10,5 +10,8 @@ pub mod Loops
 pub mod Wholes
 pub mod Soaks
 pub mod Sent
+pub mod GoingFold
 pub mod RecordLaws
 pub mod QuietRuns
+pub mod RunLaws
+pub mod QuietEnds

@@ -1,65 +1,84 @@
 -- A quiet bench goes through acts that arm nothing.
-use Rattle.std.proofs.Common.{ℕ, List, [], ◌∷◌, sym, subst}
+use Rattle.std.proofs.Common.{ℕ, List, [], ◌∷◌, ◌++◌, sym, subst}
 use Rattle.disk_model.specs.State.{FileState}
 use Rattle.hmac_keys.specs.declared.Keys.{Keys}
-use Rattle.rpmb_card.specs.Port.{PortState, Sound as SoundPort}
+use Rattle.rpmb_card.specs.Port.{PortState}
+use Rattle.script_text.specs.declared.script.Arm.{Arm}
 use Rattle.script_text.specs.declared.script.Control.TheVariants.{Arm as ArmControl, Crash, List as ListControl, Mode as ModeControl, Phase}
+use Rattle.script_text.specs.declared.script.Mode.{Mode}
+use Rattle.script_text.specs.declared.script.Step.{Step}
+use Rattle.store_model.specs.Object.{ObjectMap}
 use Rattle.run_acts.specs.Benches.{BenchState}
 use Rattle.run_acts.specs.Lines.{objects_text}
-use Rattle.run_acts.specs.Quiet.{IsQuiet, TellArms}
-use Rattle.run_acts.proofs.QuietPhases.{left_quiet, quiet_crash, quiet_list, quiet_of_machine}
-use Rattle.script_runner.specs.Course.{Goes}
-use Rattle.script_runner.specs.QuietLaws.{ArmNothing, PhasesAreOfMachine, QuietRunsAreOfMachine}
-use Rattle.script_runner.specs.RecordLaws.{StaysHonest}
-use Rattle.script_runner.specs.Text.{Act, Controlled, Do, Listed, Ran, Refused, RunRecord, Serve}
+use Rattle.run_acts.specs.Quiet.{IsQuiet}
+use Rattle.run_acts.specs.Untainted.{AreUntainted}
+use Rattle.run_acts.proofs.CrashedLaws.{crashes_may_be}
+use Rattle.run_acts.proofs.QuietPhases.{left_quiet, openings_stay_quiet, quiet_crash, quiet_list, quiet_of_machine}
+use Rattle.run_acts.proofs.Untainted.{crashes_stay_untainted, lists_stay_untainted, openings_stay_untainted, phases_stay_untainted, untainted_files_are_honest}
+use Rattle.script_runner.specs.QuietLaws.{ArmNothing, OpenedRunsAreOfMachine, PhasesAreOfMachine, QuietRunsAreOfMachine}
+use Rattle.script_runner.specs.Text.{Act, Controlled, Do, Listed, PhaseRecord, Ran, RunRecord, Serve}
+use Rattle.script_runner.proofs.GoingFold.{GoesAll, Steps, fold_going}
 
-module _ {F R : Type 0} (of_file : F → FileState) (of_port : R → PortState) (image : FileState → ℕ → ℕ → List ℕ) (Reliable : Type 0) (keys : Keys) (apps : List (List ℕ))
-    (sound : (port : R) → SoundPort (of_port port)) (tells : TellArms of_port) (reliable : Reliable) where
-  abbrev Goes' : List Act → List RunRecord → (old new : BenchState) → Type 0
-  Goes' acts records old new = Goes of_file of_port image Reliable keys apps [] acts records old new
+module _ {F R : Type 0} (of_file : F → FileState) (of_port : R → PortState) (image : FileState → ℕ → ℕ → List ℕ) (Reliable : Type 0) (keys : Keys) (apps : List (List ℕ)) (reliable : Reliable) where
+  abbrev Goes' : (arms : List Arm) → List Act → List RunRecord → (old new : BenchState) → Type 0
+  Goes' arms acts records old new = GoesAll of_file of_port image Reliable keys apps arms acts records old new
 
-  abbrev Quiet' : (acts : List Act) (records : List RunRecord) (old new : BenchState) → Goes' acts records old new → Type 0
-  Quiet' acts records old new goes = PhasesAreOfMachine of_file of_port image Reliable keys apps [] acts records old new goes × IsQuiet keys new
+  -- where nothing is armed yet
+  abbrev Quiet' : (arms : List Arm) (acts : List Act) (records : List RunRecord) (old new : BenchState) → Goes' arms acts records old new → Type 0
+  Quiet' [] acts records old new goes =
+      ArmNothing acts → IsQuiet keys old → AreUntainted old.files → PhasesAreOfMachine of_file of_port image Reliable keys apps [] acts records old new goes × IsQuiet keys new
+  Quiet' (arm ∷ arms) acts records old new goes = Unit {0}
 
-  go_quiet : (acts : List Act) (records : List RunRecord) (old new : BenchState) (goes : Goes' acts records old new)
-      → StaysHonest of_file of_port image Reliable keys apps [] acts records old new goes → ArmNothing acts → IsQuiet keys old → Quiet' acts records old new goes
-  go_quiet [] [] old new goes honest unarmed quiet = (tt, subst (IsQuiet keys) (sym goes) quiet)
-  go_quiet [] (r ∷ records) old new goes honest unarmed quiet = absurd goes
-  go_quiet (Serve mode calls ∷ acts) (Ran phase ∷ records) old new goes honest unarmed quiet =
+  quiet_none : (arms : List Arm) (old new : BenchState) (goes : Goes' arms [] [] old new) → Quiet' arms [] [] old new goes
+  quiet_none [] old new goes = λ unarmed quiet files. (tt, subst (IsQuiet keys) (sym goes) quiet)
+  quiet_none (arm ∷ arms) old new goes = tt
+
+  quiet_phase : (arms : List Arm) (mode : Mode) (calls : List Step) (acts : List Act) (phase : PhaseRecord) (records : List RunRecord) (old new : BenchState)
+      (goes : Goes' arms (Serve mode calls ∷ acts) (Ran phase ∷ records) old new) → Quiet' [] acts records goes.0 new goes.2 → Quiet' arms (Serve mode calls ∷ acts) (Ran phase ∷ records) old new goes
+  quiet_phase [] mode calls acts phase records old new goes rest = λ unarmed quiet files.
       let between = goes.0 in
-      let rest =
-      go_quiet acts records between new goes.2 honest.1 unarmed
-      (left_quiet of_file of_port Reliable keys apps mode calls old between phase.opening phase.events sound tells goes.1 quiet) in
-      ((quiet_of_machine of_file of_port Reliable keys apps mode calls old between phase.opening phase.events goes.1 quiet reliable honest.0, rest.0), rest.1)
-  go_quiet (Do (ModeControl mode) ∷ acts) (Controlled ∷ records) old new goes honest unarmed quiet = go_quiet acts records old new goes honest unarmed quiet
-  go_quiet (Do Phase ∷ acts) (Controlled ∷ records) old new goes honest unarmed quiet = go_quiet acts records old new goes honest unarmed quiet
-  go_quiet (Do (ArmControl arm) ∷ acts) records old new goes honest unarmed quiet = absurd unarmed
-  go_quiet (Do (Crash seed) ∷ acts) (Controlled ∷ records) old new goes honest unarmed quiet =
-      go_quiet acts records goes.0 new goes.2 honest unarmed (quiet_crash image seed keys old goes.0 goes.1 quiet)
-  go_quiet (Do ListControl ∷ acts) (Listed objects ∷ records) old new goes honest unarmed quiet =
-      go_quiet acts records goes.0 new goes.2 honest.1 unarmed (quiet_list of_file of_port keys old goes.0 objects (objects_text objects) goes.1 quiet)
-  go_quiet (Serve mode calls ∷ acts) [] old new goes honest unarmed quiet = absurd goes
-  go_quiet (Serve mode calls ∷ acts) (Listed objects ∷ records) old new goes honest unarmed quiet = absurd goes
-  go_quiet (Serve mode calls ∷ acts) (Controlled ∷ records) old new goes honest unarmed quiet = absurd goes
-  go_quiet (Serve mode calls ∷ acts) (Refused fault ∷ records) old new goes honest unarmed quiet = absurd goes
-  go_quiet (Do (ModeControl mode) ∷ acts) [] old new goes honest unarmed quiet = absurd goes
-  go_quiet (Do (ModeControl mode) ∷ acts) (Ran phase ∷ records) old new goes honest unarmed quiet = absurd goes
-  go_quiet (Do (ModeControl mode) ∷ acts) (Listed objects ∷ records) old new goes honest unarmed quiet = absurd goes
-  go_quiet (Do (ModeControl mode) ∷ acts) (Refused fault ∷ records) old new goes honest unarmed quiet = absurd goes
-  go_quiet (Do Phase ∷ acts) [] old new goes honest unarmed quiet = absurd goes
-  go_quiet (Do Phase ∷ acts) (Ran phase ∷ records) old new goes honest unarmed quiet = absurd goes
-  go_quiet (Do Phase ∷ acts) (Listed objects ∷ records) old new goes honest unarmed quiet = absurd goes
-  go_quiet (Do Phase ∷ acts) (Refused fault ∷ records) old new goes honest unarmed quiet = absurd goes
-  go_quiet (Do (Crash seed) ∷ acts) [] old new goes honest unarmed quiet = absurd goes
-  go_quiet (Do (Crash seed) ∷ acts) (Ran phase ∷ records) old new goes honest unarmed quiet = absurd goes
-  go_quiet (Do (Crash seed) ∷ acts) (Listed objects ∷ records) old new goes honest unarmed quiet = absurd goes
-  go_quiet (Do (Crash seed) ∷ acts) (Refused fault ∷ records) old new goes honest unarmed quiet = absurd goes
-  go_quiet (Do ListControl ∷ acts) [] old new goes honest unarmed quiet = absurd goes
-  go_quiet (Do ListControl ∷ acts) (Ran phase ∷ records) old new goes honest unarmed quiet = absurd goes
-  go_quiet (Do ListControl ∷ acts) (Controlled ∷ records) old new goes honest unarmed quiet = absurd goes
-  go_quiet (Do ListControl ∷ acts) (Refused fault ∷ records) old new goes honest unarmed quiet = absurd goes
+      let after = phases_stay_untainted of_file of_port Reliable keys apps [] mode calls old between phase.opening phase.events goes.1 files in
+      let found = rest unarmed (left_quiet of_file of_port Reliable keys apps mode calls old between phase.opening phase.events goes.1 quiet) after in
+      ((quiet_of_machine of_file of_port Reliable keys apps mode calls old between phase.opening phase.events goes.1 quiet reliable (untainted_files_are_honest between.files after), found.0), found.1)
+  quiet_phase (arm ∷ arms) mode calls acts phase records old new goes rest = tt
 
-pub quiet_runs_are_of_machine : {F R : Type 0} (of_file : F → FileState) (of_port : R → PortState) (image : FileState → ℕ → ℕ → List ℕ) (Reliable : Type 0) → ((port : R) → SoundPort (of_port port))
-    → QuietRunsAreOfMachine of_file of_port image Reliable
-quiet_runs_are_of_machine of_file of_port image Reliable sound keys applications acts records old new tells goes honest unarmed quiet reliable =
-    go_quiet of_file of_port image Reliable keys applications sound tells reliable acts records old new goes honest unarmed quiet
+  quiet_mode : (arms : List Arm) (mode : Mode) (acts : List Act) (records : List RunRecord) (old new : BenchState)
+      (goes : Goes' arms acts records old new) → Quiet' arms acts records old new goes → Quiet' arms (Do (ModeControl mode) ∷ acts) (Controlled ∷ records) old new goes
+  quiet_mode [] mode acts records old new goes rest = rest
+  quiet_mode (arm ∷ arms) mode acts records old new goes rest = tt
+
+  quiet_mark : (arms : List Arm) (acts : List Act) (records : List RunRecord) (old new : BenchState)
+      (goes : Goes' arms acts records old new) → Quiet' arms acts records old new goes → Quiet' arms (Do Phase ∷ acts) (Controlled ∷ records) old new goes
+  quiet_mark [] acts records old new goes rest = rest
+  quiet_mark (arm ∷ arms) acts records old new goes rest = tt
+
+  quiet_arm : (arms : List Arm) (arm : Arm) (acts : List Act) (records : List RunRecord) (old new : BenchState)
+      (goes : Goes' (arms ++ arm ∷ []) acts records old new) → Quiet' (arms ++ arm ∷ []) acts records old new goes → Quiet' arms (Do (ArmControl arm) ∷ acts) (Controlled ∷ records) old new goes
+  quiet_arm [] arm acts records old new goes rest = λ unarmed quiet files. absurd unarmed
+  quiet_arm (first ∷ arms) arm acts records old new goes rest = tt
+
+  quiet_crashed : (arms : List Arm) (seed : ℕ) (acts : List Act) (records : List RunRecord) (old new : BenchState)
+      (goes : Goes' arms (Do (Crash seed) ∷ acts) (Controlled ∷ records) old new) → Quiet' arms acts records goes.0 new goes.2 → Quiet' arms (Do (Crash seed) ∷ acts) (Controlled ∷ records) old new goes
+  quiet_crashed [] seed acts records old new goes rest = λ unarmed quiet files.
+      rest unarmed (quiet_crash image seed keys old goes.0 goes.1 quiet) (crashes_stay_untainted old goes.0 files (crashes_may_be image seed old goes.0 goes.1))
+  quiet_crashed (arm ∷ arms) seed acts records old new goes rest = tt
+
+  quiet_listed : (arms : List Arm) (acts : List Act) (objects : ObjectMap) (records : List RunRecord) (old new : BenchState)
+      (goes : Goes' arms (Do ListControl ∷ acts) (Listed objects ∷ records) old new) → Quiet' arms acts records goes.0 new goes.2 → Quiet' arms (Do ListControl ∷ acts) (Listed objects ∷ records) old new goes
+  quiet_listed [] acts objects records old new goes rest = λ unarmed quiet files.
+      rest unarmed (quiet_list of_file of_port keys old goes.0 objects (objects_text objects) goes.1 quiet)
+      (lists_stay_untainted of_file of_port keys old goes.0 objects (objects_text objects) goes.1 files)
+  quiet_listed (arm ∷ arms) acts objects records old new goes rest = tt
+
+  quiet_steps : Steps of_file of_port image Reliable keys apps Quiet'
+  quiet_steps = record { none = quiet_none; phase = quiet_phase; mode = quiet_mode; mark = quiet_mark; arm = quiet_arm; crash = quiet_crashed; list = quiet_listed }
+
+pub quiet_runs_are_of_machine : {F R : Type 0} (of_file : F → FileState) (of_port : R → PortState) (image : FileState → ℕ → ℕ → List ℕ) (Reliable : Type 0) → QuietRunsAreOfMachine of_file of_port image Reliable
+quiet_runs_are_of_machine of_file of_port image Reliable keys applications acts records old new goes files unarmed quiet reliable =
+    fold_going of_file of_port image Reliable keys applications (Quiet' of_file of_port image Reliable keys applications reliable) (quiet_steps of_file of_port image Reliable keys applications reliable)
+    [] acts records old new goes unarmed quiet files
+
+pub opened_runs_are_of_machine : {F R : Type 0} (of_file : F → FileState) (of_port : R → PortState) (image : FileState → ℕ → ℕ → List ℕ) (Reliable : Type 0) → OpenedRunsAreOfMachine of_file of_port image Reliable
+opened_runs_are_of_machine of_file of_port image Reliable keys applications acts records first old new opens files quiet goes unarmed reliable =
+    quiet_runs_are_of_machine of_file of_port image Reliable keys applications acts records old new goes (openings_stay_untainted keys first old opens files) unarmed
+    (openings_stay_quiet keys first old opens quiet) reliable

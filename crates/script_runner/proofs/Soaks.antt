@@ -69,6 +69,15 @@ front_of_none : (put rest : List ℕ) → [] ≡ put ++ rest → put ≡ []
 front_of_none [] rest e = refl
 front_of_none (b ∷ put) rest e = absurd cc
 
+-- what holds of a script's applications and of the calls behind its first step
+pub as_soak : (number : ℕ) (P : List (List ℕ) → List Step → Type 0) (script : ScriptValue) (applications : List (List ℕ)) (calls : List Step)
+    → script ≡ soak_script number → applications ≡ applications_of script → calls ≡ take (prefix_len is_call (drop 1 script.steps)) (drop 1 script.steps)
+    → P applications calls → P (soak_applications number) (soak_calls number)
+as_soak number P script applications calls is apps_are calls_are holds =
+    let apps : applications ≡ soak_applications number = apps_are ∙ ap applications_of is in
+    let steps : calls ≡ soak_calls number = calls_are ∙ ap (λ (s : ScriptValue). take (prefix_len is_call (drop 1 s.steps)) (drop 1 s.steps)) is ∙ take-soak_calls number in
+    subst (P (soak_applications number)) steps (subst (λ (a : List (List ℕ)). P a calls) apps holds)
+
 module _ {F R : Type 0} (of_file : F → FileState) (of_port : R → PortState) (image : FileState → ℕ → ℕ → List ℕ) (Reliable : Type 0) (keys : Keys) (number : ℕ) where
   -- a phase of the calls behind the first step of its script
   pub RunsPhase-soak : (Later : Type 0) (script : ScriptValue) (applications : List (List ℕ)) (calls : List Step) (old new : BenchState) (opening : ObjectMap) (events : List Event)
@@ -76,11 +85,8 @@ module _ {F R : Type 0} (of_file : F → FileState) (of_port : R → PortState) 
       → RunsPhase of_file of_port Later keys applications [] Threads calls old new opening events
       → RunsPhase of_file of_port Reliable keys (soak_applications number) [] Threads (soak_calls number) old new opening events
   RunsPhase-soak Later script applications calls old new opening events is apps_are calls_are lasts runs =
-      let apps : applications ≡ soak_applications number = apps_are ∙ ap applications_of is in
-      let steps : calls ≡ soak_calls number = calls_are ∙ ap (λ (s : ScriptValue). take (prefix_len is_call (drop 1 s.steps)) (drop 1 s.steps)) is ∙ take-soak_calls number in
-      let Runs : List (List ℕ) → List Step → Type 0 = λ a c. RunsPhase of_file of_port Reliable keys a [] Threads c old new opening events in
-      subst (Runs (soak_applications number)) steps (subst (λ (a : List (List ℕ)). Runs a calls) apps
-      (runs_where of_file of_port Later Reliable keys applications [] Threads calls old new opening events lasts runs))
+      as_soak number (λ a c. RunsPhase of_file of_port Reliable keys a [] Threads c old new opening events) script applications calls is apps_are calls_are
+      (runs_where of_file of_port Later Reliable keys applications [] Threads calls old new opening events lasts runs)
 
   -- both acts were done
   pub GoesThrough-acts : (old between new : BenchState) (opening : ObjectMap) (events : List Event) (lines : List ℕ)
@@ -94,7 +100,7 @@ module _ {F R : Type 0} (of_file : F → FileState) (of_port : R → PortState) 
 
   module _ (drew draws : ℕ) where
     -- the phase was given up
-    pub IsBroken-phase : (old new : BenchState) (fault : MountFault) → IsGivenUp of_file of_port keys (soak_applications number) [] old new drew draws fault → IsBroken of_file of_port image Reliable keys number drew draws old new fault
+    pub IsBroken-phase : (old new : BenchState) (fault : MountFault) → IsGivenUp of_file of_port keys (soak_applications number) [] Threads (soak_calls number) old new drew draws fault → IsBroken of_file of_port image Reliable keys number drew draws old new fault
     IsBroken-phase old new fault given_up =
         broken (Refused fault ∷ []) ([], refl, record { left = soak_acts number; between = old; goes = record { done = []; front = refl; goes = refl }; refused = given_up }) refl
 

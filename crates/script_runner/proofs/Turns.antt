@@ -116,7 +116,7 @@ module _ {F R : Type 0} (of_file : F → FileState) (of_port : R → PortState) 
       (subst (λ (acts : List Act). RefusesFirst of_file of_port image Reliable drew draws keys (applications_of script) run.arms.items acts (bench_state of_file of_port run.bench) (bench_state of_file of_port end.bench) fault) (sym (ap (acts_of run.mode) next)) refused) prints whole
 
   pub EndsAt-calls : (drew draws : ℕ) (failed : Type 0) (held_old held_new : Option (List ℕ)) (run : Run F R) (end : RunEnd F R) (fault : MountFault) → IsCallFirst (drop run.at script.steps)
-      → IsGivenUp of_file of_port keys (applications_of script) run.arms.items (bench_state of_file of_port run.bench) (bench_state of_file of_port end.bench) drew draws fault → PrintsRefusal failed held_old held_new run.kept.items fault end.status → vec_len end.bench.files ≡ 273
+      → IsGivenUp of_file of_port keys (applications_of script) run.arms.items run.mode (take (prefix_len is_call (drop run.at script.steps)) (drop run.at script.steps)) (bench_state of_file of_port run.bench) (bench_state of_file of_port end.bench) drew draws fault → PrintsRefusal failed held_old held_new run.kept.items fault end.status → vec_len end.bench.files ≡ 273
       → EndsAt of_file of_port image Reliable drew draws keys script failed held_old held_new run end
   EndsAt-calls drew draws failed held_old held_new run end fault first refused prints whole =
       EndsAt-refused of_file of_port image Reliable drew draws keys script failed held_old held_new run end fault

@@ -43,7 +43,7 @@ module _ {F R : Type 0} (of_file : F → FileState) (of_port : R → PortState) 
   -- The first of these acts, a phase with these arms or a list, is refused for that reason. The generator of nonces had counted so many
   -- faults before it, and so many then.
   abbrev pub RefusesFirst : (drew draws : ℕ) → Keys → (applications : List (List ℕ)) → (arms : List Arm) → List Act → (old new : BenchState) → MountFault → Type 0
-  RefusesFirst drew draws keys applications arms (Serve mode calls ∷ acts) old new fault = IsGivenUp of_file of_port keys applications arms old new drew draws fault
+  RefusesFirst drew draws keys applications arms (Serve mode calls ∷ acts) old new fault = IsGivenUp of_file of_port keys applications arms mode calls old new drew draws fault
   RefusesFirst drew draws keys applications arms (Do ListControl ∷ acts) old new fault = IsListRefused of_file of_port keys old new drew draws fault
   RefusesFirst drew draws keys applications arms acts old new fault = ⊥
 

@@ -4,8 +4,10 @@ pub mod Trace
 pub mod Course
 pub mod RecordLaws
 pub mod QuietLaws
+pub mod RunLaws
 pub mod Ending
 pub mod RunCauses
+pub mod Runs
 pub mod Forms
 pub mod Points
 pub mod RunReady

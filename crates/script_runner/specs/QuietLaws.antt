@@ -6,10 +6,11 @@ use Rattle.rpmb_card.specs.Port.{PortState}
 use Rattle.script_text.specs.declared.script.Arm.{Arm}
 use Rattle.script_text.specs.declared.script.Control.TheVariants.{Arm as ArmControl, Crash, List as ListControl, Mode as ModeControl, Phase}
 use Rattle.run_acts.specs.Benches.{BenchState}
-use Rattle.run_acts.specs.Quiet.{IsOfMachineAll, IsQuiet, TellArms}
+use Rattle.run_acts.specs.Opens.{OpensBench}
+use Rattle.run_acts.specs.Quiet.{IsPhaseOfMachine, IsQuiet}
+use Rattle.run_acts.specs.Untainted.{AreUntainted}
 use Rattle.script_runner.specs.Text.{Act, Controlled, Do, Listed, Ran, RunRecord, Serve}
 use Rattle.script_runner.specs.Course.{Goes}
-use Rattle.script_runner.specs.RecordLaws.{StaysHonest}
 
 -- none of these acts arms a fault
 abbrev pub ArmNothing : List Act → Type 0
@@ -23,7 +24,7 @@ module _ {F R : Type 0} (of_file : F → FileState) (of_port : R → PortState) 
       → Goes of_file of_port image Reliable keys applications arms acts records old new → Type 0
   PhasesAreOfMachine keys applications arms [] [] old new goes = Unit {0}
   PhasesAreOfMachine keys applications arms (Serve mode calls ∷ acts) (Ran phase ∷ records) old new goes =
-      IsOfMachineAll of_file of_port Reliable keys applications arms mode calls old goes.0 phase.opening phase.events goes.1
+      IsPhaseOfMachine of_file of_port Reliable keys applications arms mode calls old goes.0 phase.opening phase.events goes.1
       × PhasesAreOfMachine keys applications [] acts records goes.0 new goes.2
   PhasesAreOfMachine keys applications arms (Do (ModeControl mode) ∷ acts) (Controlled ∷ records) old new goes = PhasesAreOfMachine keys applications arms acts records old new goes
   PhasesAreOfMachine keys applications arms (Do Phase ∷ acts) (Controlled ∷ records) old new goes = PhasesAreOfMachine keys applications arms acts records old new goes
@@ -33,11 +34,18 @@ module _ {F R : Type 0} (of_file : F → FileState) (of_port : R → PortState) 
   PhasesAreOfMachine keys applications arms (Do ListControl ∷ acts) (Listed objects ∷ records) old new goes = PhasesAreOfMachine keys applications arms acts records goes.0 new goes.2
   PhasesAreOfMachine keys applications arms acts records old new goes = ⊥
 
-  -- Over a quiet bench, with a generator that never fails and files that are honest behind each phase and each list, each phase of acts that
-  -- arm nothing is the machine's, and the bench is quiet behind them.
+  -- Over a quiet bench of which no file is tainted, with a generator that never fails, each phase of acts that arm nothing is the machine's, and
+  -- the bench is quiet behind them.
   abbrev pub QuietRunsAreOfMachine : Type 0
   QuietRunsAreOfMachine =
-      (keys : Keys) (applications : List (List ℕ)) (acts : List Act) (records : List RunRecord) (old new : BenchState) → TellArms of_port
-      → (goes : Goes of_file of_port image Reliable keys applications [] acts records old new) → StaysHonest of_file of_port image Reliable keys applications [] acts records old new goes
+      (keys : Keys) (applications : List (List ℕ)) (acts : List Act) (records : List RunRecord) (old new : BenchState)
+      → (goes : Goes of_file of_port image Reliable keys applications [] acts records old new) → AreUntainted old.files
       → ArmNothing acts → IsQuiet keys old → Reliable
+      → PhasesAreOfMachine keys applications [] acts records old new goes × IsQuiet keys new
+
+  -- So of such a bench before it was opened, whether its store was found or it was formatted.
+  abbrev pub OpenedRunsAreOfMachine : Type 0
+  OpenedRunsAreOfMachine =
+      (keys : Keys) (applications : List (List ℕ)) (acts : List Act) (records : List RunRecord) (first old new : BenchState) → OpensBench keys first old
+      → AreUntainted first.files → IsQuiet keys first → (goes : Goes of_file of_port image Reliable keys applications [] acts records old new) → ArmNothing acts → Reliable
       → PhasesAreOfMachine keys applications [] acts records old new goes × IsQuiet keys new

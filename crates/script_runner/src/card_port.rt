@@ -2,7 +2,6 @@
 
 ghost use Rattle.std.specs.Prelude.{◌≡◌, [], IfOk, IsTrue, Some};
 ghost use Rattle.rpmb_card.specs.Arms.{no_arms};
-ghost use Rattle.run_acts.specs.Quiet.{TellArms};
 ghost use Rattle.script_runner.specs.Port.{card_port_state};
 
 use rpmb_card::{CardRig, NoMemory, RpmbPort, SimCard, SimPort};
@@ -71,8 +70,3 @@ impl CardRig for CardPort {
         self.port.disarm();
     }
 }
-
-/// Each such port tells which faults are armed.
-pub fn card_ports_tell_arms()
-    ensures { TellArms card_port_state }
-{}

@@ -22,10 +22,13 @@ mod status;
 mod text_sink;
 mod top_call;
 
-pub use card_port::{CardPort, card_ports_tell_arms};
+pub use card_port::CardPort;
 pub use forms::{Form, form_of, words_have_forms};
 pub use phase_text::{send_control, send_lines, send_phase};
-pub use record_laws::{quiet_runs_are_of_machine, records_find_left, refusals_are_of_devices};
+pub use record_laws::{
+    opened_runs_are_of_machine, quiet_runs_are_of_machine, quiet_runs_end, records_find_left,
+    refusals_are_of_devices, runs_stand_behind,
+};
 pub use run_acts::{Bench, Shown, ShownObject, card_block, print_object};
 pub use run_state::RunEnd;
 pub use script_source::read_text;

@@ -1,10 +1,12 @@
 //! Laws of runs. Each function does nothing: its contract is the law.
 
-ghost use Rattle.script_runner.specs.QuietLaws.{QuietRunsAreOfMachine};
+ghost use Rattle.tee_ports.specs.Faults.{Rose};
+ghost use Rattle.script_runner.specs.QuietLaws.{OpenedRunsAreOfMachine, QuietRunsAreOfMachine};
 ghost use Rattle.script_runner.specs.RecordLaws.{RecordsFindLeft, RefusalsAreOfDevices};
+ghost use Rattle.script_runner.specs.RunLaws.{QuietRunsEnd, RunsStandBehind};
 
 use rpmb_card::RpmbPort;
-use tee_ports::{Entropy, FileRig};
+use tee_ports::{Entropy, FileRig, Sink, Source};
 
 /// What was answered stands in each phase and list behind it, over crashes: each finds the objects that the records before it leave, or these
 /// with the one commit that is in doubt. Every picture of the bench mounts to what all of them leave, and the card is told still.
@@ -12,12 +14,38 @@ pub fn records_find_left<F: FileRig, R: RpmbPort, E: Entropy>(entropy: &E)
     ensures { RecordsFindLeft F.state R.state F.crash_image (E.is_reliable entropy.now) }
 {}
 
+/// So does each run of a script, at whatever status it ends, and the bench then holds what its records leave, unless an act was refused. No store
+/// is refused: the bench held what was left, none of its files was tainted, and its port told a card with the key.
+pub fn runs_stand_behind<S: Source, K: Sink, F: FileRig, R: RpmbPort, E: Entropy>(entropy: &E)
+    ensures { (was source : S) (held sink : K) → RunsStandBehind F.state R.state F.crash_image (E.is_reliable entropy.now) (record {
+      source_failed = Rose (S.faults was) (S.faults source);
+      source_ended = S.has_ended source;
+      sink_failed = Rose (K.faults held) (K.faults sink);
+      sink_full = K.is_full sink;
+    }) }
+{}
+
 /// Behind such acts no store is refused: what is not done has met a device that failed, or want of memory.
 pub fn refusals_are_of_devices<F: FileRig, R: RpmbPort, E: Entropy>(entropy: &E)
     ensures { RefusalsAreOfDevices F.state R.state F.crash_image (E.is_reliable entropy.now) }
 {}
 
+/// On devices that do not fail, such a run ends with the status 0, or for want of memory.
+pub fn quiet_runs_end<S: Source, K: Sink, F: FileRig, R: RpmbPort, E: Entropy>(entropy: &E)
+    ensures { (was source : S) (held sink : K) → QuietRunsEnd F.state R.state F.crash_image (E.is_reliable entropy.now) (record {
+      source_failed = Rose (S.faults was) (S.faults source);
+      source_ended = S.has_ended source;
+      sink_failed = Rose (K.faults held) (K.faults sink);
+      sink_full = K.is_full sink;
+    }) }
+{}
+
 /// On devices that do not fail, each phase of acts that arm nothing is the machine's.
 pub fn quiet_runs_are_of_machine<F: FileRig, R: RpmbPort, E: Entropy>(entropy: &E)
     ensures { QuietRunsAreOfMachine F.state R.state F.crash_image (E.is_reliable entropy.now) }
+{}
+
+/// So is each phase of a bench that was quiet before its store was found or formatted.
+pub fn opened_runs_are_of_machine<F: FileRig, R: RpmbPort, E: Entropy>(entropy: &E)
+    ensures { OpenedRunsAreOfMachine F.state R.state F.crash_image (E.is_reliable entropy.now) }
 {}

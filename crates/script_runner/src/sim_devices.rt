@@ -6,6 +6,7 @@ ghost use Rattle.mem_files.specs.Machine.{fresh};
 ghost use Rattle.mem_files.specs.Memory.{file_state};
 ghost use Rattle.rpmb_card.specs.Arms.{no_arms};
 ghost use Rattle.rpmb_card.specs.Card.{CardState};
+ghost use Rattle.rpmb_card.specs.Protocol.{last_counter};
 ghost use Rattle.rpmb_host.specs.Honest.{HasCard};
 ghost use Rattle.script_runner.specs.Blank.{keyed_card, simulator_keys};
 ghost use Rattle.script_runner.specs.Port.{card_port_state};
@@ -86,7 +87,7 @@ pub fn blank_bench(alloc: Global) -> Result<SimBench, AllocError>
 pub fn worn(alloc: Global, bench: SimBench) -> Result<SimBench, AllocError>
     ensures files { IfOk result (λ worn. worn.files ≡ bench.files) }
     ensures card { (card : CardState) → (card_port_state bench.card).card ≡ Some card
-        → IfOk result (λ worn. (card_port_state worn.card).card ≡ Some (record card { counter = 4294967295 })) }
+        → IfOk result (λ worn. (card_port_state worn.card).card ≡ Some (record card { counter = last_counter })) }
     ensures calm { IfOk result (λ worn. IsTrue (card_port_state worn.card).calm) }
     ensures arms { IfOk result (λ worn. (card_port_state worn.card).arms ≡ no_arms) }
     ensures faults { IfOk result (λ worn. (card_port_state worn.card).faults ≡ 0) }

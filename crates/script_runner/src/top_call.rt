@@ -10,7 +10,8 @@ ghost use Rattle.run_acts.specs.Benches.{bench_state};
 ghost use Rattle.script_runner.specs.Trace.{Trace, IsTraceOf};
 ghost use Rattle.script_runner.specs.RunReady.{IsSound};
 ghost use Rattle.script_runner.specs.Ending.{EndsBench};
-ghost use Rattle.script_runner.specs.RunCauses.{RunsItsScript, HasCause, IsRun};
+ghost use Rattle.script_runner.specs.RunCauses.{RunsItsScript, HasCause};
+ghost use Rattle.script_runner.specs.Runs.{RunsSource};
 ghost use Rattle.script_runner.specs.Forms.{form_of};
 ghost use Rattle.script_runner.specs.Soaks.{RunsSoak};
 
@@ -119,14 +120,13 @@ pub fn run<
 ) -> RunEnd<F, R>
     requires { vec_len bench.files ≡ 273 }
     // `run`: what was taken, put and recorded, why the run ended so, and what it did to the bench.
-    ensures run { form_of (map string_bytes words.now) ≡ Some Form.Run → (t : Trace)
-        × IsRun (S.left source.old) (S.left source.new) (K.held sink.old) (K.held sink.new) (record {
+    ensures run { form_of (map string_bytes words.now) ≡ Some Form.Run
+        → RunsSource F.state R.state F.crash_image (E.is_reliable entropy.old) (S.left source.old) (S.left source.new) (K.held sink.old) (K.held sink.new) (record {
           source_failed = Rose (S.faults source.old) (S.faults source.new);
           source_ended = S.has_ended source.new;
           sink_failed = Rose (K.faults sink.old) (K.faults sink.new);
           sink_full = K.is_full sink.new;
-        }) result.status t
-        × EndsBench F.state R.state F.crash_image (E.is_reliable entropy.old) (E.faults entropy.old) (E.faults entropy.new) keys.now t (bench_state F.state R.state bench) (bench_state F.state R.state result.bench) result.status }
+        }) (E.faults entropy.old) (E.faults entropy.new) keys.now (bench_state F.state R.state bench) (bench_state F.state R.state result.bench) result.status }
 
     // A script within the limit is done, or a mount is refused or fails, or there is no memory, where the source and the sink do not
     // fail and the sink has room.

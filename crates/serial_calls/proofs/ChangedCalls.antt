@@ -24,6 +24,7 @@ use Rattle.core_laws.specs.Stores.{Store}
 use Rattle.tee_types.specs.declared.call.Call.{Call}
 use Rattle.tee_types.specs.declared.reply.Cause.TheVariants.{CardResult, Fault, Frame}
 use Rattle.tee_types.specs.declared.reply.Device.TheVariants.{Card, Dir, Entropy, File}
+use Rattle.store_model.specs.declared.event.Mark.{Mark}
 use Rattle.tee_types.specs.declared.reply.Reply.{Reply}
 use Rattle.tee_types.specs.declared.reply.Reply.TheVariants.{Done, NotAvailable, Refused}
 use Rattle.call_steps.specs.Devices.{AccusesRightly, CostsDoubt, Devices, Grows}
@@ -125,9 +126,9 @@ module _ {F R E : Type 0} (of_file : F → FileState) (of_port : R → PortState
       serves_ok of_file of_port draws store old new slots place before after was now are within stands same call answer
       (committed_appends of_file of_port draws store old new before.number was now call own change Reliable answer object c)
       (subst (AccusesRightly key d0 d1) (sym c.reply)
-      (end_accuses of_file of_port draws old new slots (slice_set slots place after) was now key known c.end own c.gate.counts_are c.gate.cause accuses))
-      (subst (CostsDoubt key d0 d1) (sym (committed_mark of_file of_port draws store old new before.number was now call own change Reliable answer object c))
-      (end_costs of_file of_port draws old new slots (slice_set slots place after) was now key known c.end c.gate.cause))
+      (end_accuses of_file of_port draws old new slots (slice_set slots place after) was now key known c.end own c.gate.counts_are c.gate.cause c.gate.heard accuses))
+      (subst (λ (p : Mark × Reply). CostsDoubt key d0 d1 p.0 p.1) (λ i. (sym (committed_mark of_file of_port draws store old new before.number was now call own change Reliable answer object c) i, sym c.reply i))
+      (end_costs of_file of_port draws old new slots (slice_set slots place after) was now key known c.end own c.gate.cause c.gate.doubtful))
       (end_holds old.gate new.gate change c.end c.gate.holds idle)
       (committed_goes_on of_file of_port draws store old new before.number was now call own change Reliable answer c key known) file X
 

@@ -12,10 +12,12 @@ use Rattle.call_steps.specs.ObjectCommits.{IsCommitted}
 use Rattle.rpmb_card.specs.Card.{CardState}
 use Rattle.rpmb_card.specs.Port.{PortState}
 use Rattle.rpmb_host.specs.Honest.{HadCard, HasCard}
-use Rattle.call_steps.specs.Causes.{CauseStands, Counted, EndCause, NoCard, counts}
+use Rattle.call_steps.specs.CardEnds.{CardGoesOn}
+use Rattle.call_steps.specs.Causes.{CauseStands, Counted, DoubtIsByCard, EndCause, NoCard, counts}
 use Rattle.call_steps.specs.Counts.{CauseCounts, DoubtCounts, EndCounts, RoseAlone}
 use Rattle.call_steps.specs.Changes.{change_of}
 use Rattle.call_steps.specs.Gates.{GateValue, LeavesHolds, file_in_doubt, gate_sides}
+use Rattle.call_steps.specs.Heard.{EndHeard, HeardCause}
 use Rattle.call_steps.specs.Holds.{EndsHold, file_held, unless_file}
 use Rattle.call_steps.specs.declared.CommitEnd.{CommitEnd}
 use Rattle.call_steps.specs.declared.CommitEnd.TheVariants.{Doubtful, Dropped, Made, Spent}
@@ -33,9 +35,9 @@ use Rattle.tee_types.specs.declared.reply.Reply.TheVariants.{NotAvailable}
 use Rattle.call_steps.specs.SlotValues.{SlotValue}
 use Rattle.serial_calls.specs.Appended.{AppendsCall}
 use Rattle.serial_calls.specs.HeldFiles.{HoldsForDoubt, KeepsHolds}
-use Rattle.call_steps.specs.Devices.{AccusesRightly, CostsDoubt, Devices, TellsNoCard, devices_of}
+use Rattle.call_steps.specs.Devices.{AccusesRightly, CostsDoubt, Devices, IsOfHeard, TellsNoCard, devices_of}
 use Rattle.serial_calls.specs.ServeReady.{KnowsCard}
-use Rattle.call_steps.proofs.Cards.{no_card_told, steps_told}
+use Rattle.call_steps.proofs.Cards.{no_card_told, steps_card, steps_told}
 use Rattle.call_steps.proofs.CountGrowth.{GateGrows, end_grows, end_still}
 use Rattle.serial_calls.proofs.ToldCalls.{GatesGoOn}
 
@@ -83,12 +85,18 @@ module _ {F R E : Type 0} (of_file : F → FileState) (of_port : R → PortState
         (steps_told (gate_sides of_file of_port old.gate) (gate_sides of_file of_port new.gate) change c.end c.gate.steps card
         (subst (λ (k : List ℕ). HasCard (of_port old.gate.host.port) k card) (sym known.keyed) has))
 
+    committed_card : (was is : CardState) → HasCard (of_port old.gate.host.port) key was → HasCard (of_port new.gate.host.port) key is → CardGoesOn was is
+    committed_card was is had has =
+        steps_card (gate_sides of_file of_port old.gate) (gate_sides of_file of_port new.gate) change c.end c.gate.steps was is
+        (subst (λ (k : List ℕ). HasCard (of_port old.gate.host.port) k was) (sym known.keyed) had)
+        (subst (λ (k : List ℕ). HasCard (of_port new.gate.host.port) k is) (sym (c.gate.throughout.key ∙ known.keyed)) has)
+
     pub committed_goes_on : GatesGoOn of_file of_port draws key old.gate new.gate was now
     committed_goes_on =
         let grows : GateGrows c0 c1 = end_grows c0 c1 c.end c.gate.counts_are in
         record {
           dir = c.gate.throughout.keeps.goes_on;
-          card = record { told = committed_told; calm = λ is. (c.gate.calm is).0; counted = grows.card };
+          card = record { told = committed_told; card = committed_card; calm = λ is. (c.gate.calm is).0; counted = grows.card; arms = c.gate.arms };
           drawn = grows.draws;
         }
 
@@ -119,29 +127,39 @@ module _ {F R E : Type 0} (of_file : F → FileState) (of_port : R → PortState
       no_card_told (of_port old.gate.host.port) key old.gate.counter known.counted
       (subst (λ (k : List ℕ). NoCard (of_port old.gate.host.port) k old.gate.counter) known.keyed none)
 
-  dropped_accuses : (cause : Cause) → CauseCounts b0 b1 cause → CauseStands old.gate.host.key old.gate.counter b0 b1 cause → AccusesRightly key d0 d1 (NotAvailable cause)
-  dropped_accuses (Fault device count) rose stands = rose_accuses device count rose
-  dropped_accuses (Frame fault) rose stands = none_told stands
-  dropped_accuses (CardResult result) rose stands = none_told stands
+  -- the frame that was heard
+  frame_heard : (cause : Cause) → HeardCause old.gate.host.key old.gate.counter (of_port new.gate.host.port) cause → IsOfHeard key (of_port new.gate.host.port) cause
+  frame_heard cause heard =
+      (old.gate.counter, subst (λ (k : List ℕ). HeardCause k old.gate.counter (of_port new.gate.host.port) cause) known.keyed heard)
 
-  doubted_accuses : (cause : Cause) → DoubtCounts b0 b1 cause → CauseStands old.gate.host.key old.gate.counter b0 b1 cause → AccusesRightly key d0 d1 (NotAvailable cause)
-  doubted_accuses (Fault device count) rose stands = rose_accuses device count rose
-  doubted_accuses (Frame fault) rose stands = none_told stands
-  doubted_accuses (CardResult result) rose stands = none_told stands
+  dropped_accuses : (cause : Cause) → CauseCounts b0 b1 cause → CauseStands old.gate.host.key old.gate.counter b0 b1 cause
+      → HeardCause old.gate.host.key old.gate.counter (of_port new.gate.host.port) cause → AccusesRightly key d0 d1 (NotAvailable cause)
+  dropped_accuses (Fault device count) rose stands heard = rose_accuses device count rose
+  dropped_accuses (Frame fault) rose stands heard = (none_told stands, frame_heard (Frame fault) heard)
+  dropped_accuses (CardResult result) rose stands heard = (none_told stands, frame_heard (CardResult result) heard)
 
-  pub end_accuses : (end : CommitEnd) (own : Reply) → EndCounts b0 b1 end → EndCause old.gate.host.key old.gate.counter b0 b1 end → AccusesRightly key d0 d1 own
-      → AccusesRightly key d0 d1 (reply_told end own)
-  end_accuses (Made n) own rose cause accuses = accuses
-  end_accuses (Dropped why) own rose cause accuses = dropped_accuses why rose cause
-  end_accuses (Doubtful n why) own rose cause accuses = doubted_accuses why rose cause.0
-  end_accuses Spent own rose cause accuses = tt
+  doubted_accuses : (cause : Cause) → DoubtCounts b0 b1 cause → CauseStands old.gate.host.key old.gate.counter b0 b1 cause
+      → HeardCause old.gate.host.key old.gate.counter (of_port new.gate.host.port) cause → AccusesRightly key d0 d1 (NotAvailable cause)
+  doubted_accuses (Fault device count) rose stands heard = rose_accuses device count rose
+  doubted_accuses (Frame fault) rose stands heard = (none_told stands, frame_heard (Frame fault) heard)
+  doubted_accuses (CardResult result) rose stands heard = (none_told stands, frame_heard (CardResult result) heard)
+
+  pub end_accuses : (end : CommitEnd) (own : Reply) → EndCounts b0 b1 end → EndCause old.gate.host.key old.gate.counter b0 b1 end
+      → EndHeard old.gate.host.key old.gate.counter (of_port new.gate.host.port) end → AccusesRightly key d0 d1 own → AccusesRightly key d0 d1 (reply_told end own)
+  end_accuses (Made n) own rose cause heard accuses = accuses
+  end_accuses (Dropped why) own rose cause heard accuses = dropped_accuses why rose cause heard
+  end_accuses (Doubtful n why) own rose cause heard accuses = doubted_accuses why rose cause.0 heard
+  end_accuses Spent own rose cause heard accuses = tt
 
   -- a doubt cost two counts, where the card is told
-  pub end_costs : (end : CommitEnd) → EndCause old.gate.host.key old.gate.counter b0 b1 end → CostsDoubt key d0 d1 (mark_told end)
-  end_costs (Made n) cause = tt
-  end_costs (Dropped why) cause = tt
-  end_costs (Doubtful n why) cause = λ card has. cause.1 card (subst (λ (k : List ℕ). HasCard (of_port old.gate.host.port) k card) (sym known.keyed) has) (known.counted card has)
-  end_costs Spent cause = tt
+  pub end_costs : (end : CommitEnd) (own : Reply) → EndCause old.gate.host.key old.gate.counter b0 b1 end → DoubtIsByCard end → CostsDoubt key d0 d1 (mark_told end) (reply_told end own)
+  end_costs (Made n) own cause doubtful = tt
+  end_costs (Dropped why) own cause doubtful = tt
+  end_costs (Doubtful n why) own cause doubtful = (
+    doubtful,
+    λ card has. cause.1 card (subst (λ (k : List ℕ). HasCard (of_port old.gate.host.port) k card) (sym known.keyed) has) (known.counted card has),
+  )
+  end_costs Spent own cause doubtful = tt
 
 pub none_some : (x : ℕ) → None ≡ Some x → ⊥
 none_some x e = cc

@@ -80,6 +80,8 @@ module _ {F R E : Type 0} (store : Store) (old new : GuardedGateValue F R) (file
         heard = c.gate.heard;
         counts_are = c.gate.counts_are;
         cause = c.gate.cause;
+        doubtful = c.gate.doubtful;
+        arms = c.gate.arms;
       };
     }
 

@@ -24,6 +24,7 @@ use Rattle.call_steps.specs.Gates.{GateValue}
 use Rattle.call_steps.specs.Holds.{file_held}
 use Rattle.call_steps.specs.declared.EntryChange.{EntryChange}
 use Rattle.call_steps.specs.declared.EntryChange.TheVariants.{Put}
+use Rattle.store_model.specs.declared.event.Mark.{Mark}
 use Rattle.store_model.specs.declared.event.Mark.TheVariants.{Unchanged}
 use Rattle.core_laws.specs.Joined.{IsObjectFile}
 use Rattle.core_laws.specs.Stores.{Store}
@@ -146,10 +147,10 @@ module _ {F R E : Type 0} (of_file : F → FileState) (of_port : R → PortState
       (moved_appends store old new mid behind was now (create_call object) answer refl refl
       (committed_appends of_file of_port draws store mid behind before.number was now (create_call object) own change Reliable answer object_file c))
       (subst (AccusesRightly key d0 d1) (sym c.reply)
-      (end_accuses of_file of_port draws mid behind slots (slice_set slots place after) was now key known c.end own c.gate.counts_are c.gate.cause tt))
-      (subst (CostsDoubt key d0 d1)
-      (sym (committed_mark of_file of_port draws store mid behind before.number was now (create_call object) own change Reliable answer object_file c))
-      (end_costs of_file of_port draws mid behind slots (slice_set slots place after) was now key known c.end c.gate.cause))
+      (end_accuses of_file of_port draws mid behind slots (slice_set slots place after) was now key known c.end own c.gate.counts_are c.gate.cause c.gate.heard tt))
+      (subst (λ (p : Mark × Reply). CostsDoubt key d0 d1 p.0 p.1)
+      (λ i. (sym (committed_mark of_file of_port draws store mid behind before.number was now (create_call object) own change Reliable answer object_file c) i, sym c.reply i))
+      (end_costs of_file of_port draws mid behind slots (slice_set slots place after) was now key known c.end own c.gate.cause c.gate.doubtful))
       (λ held. committed_holds was.number before.number behind change c.end mid.gate.holds (alone held) c.gate.holds c.gate.doubt (ap (λ (n : ℕ). Some n) b.file_is))
       (moved_goes_on (committed_goes_on of_file of_port draws store mid behind before.number was now (create_call object) own change Reliable answer c key known)) file X
 

@@ -8,6 +8,7 @@ pub mod ServeSettling
 pub mod HeldSettling
 pub mod RuledCalls
 pub mod WholeCalls
+pub mod AtOnce
 pub mod Replies
 pub mod Appends
 pub mod MeantCalls
@@ -41,6 +42,7 @@ pub use Rattle.call_steps.proofs.Contents
 pub use Rattle.call_steps.proofs.CountGrowth
 pub use Rattle.call_steps.proofs.Journals
 pub use Rattle.call_steps.proofs.Knowing
+pub use Rattle.call_steps.proofs.PortArms
 pub use Rattle.call_steps.proofs.MetAgain
 pub use Rattle.call_steps.proofs.MoreRecords
 pub use Rattle.call_steps.proofs.Rises

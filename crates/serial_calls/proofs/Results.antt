@@ -99,6 +99,8 @@ module _ {F R E : Type 0} (of_file : F → FileState) (of_port : R → PortState
           (λ (n : ℕ). EndCause old.gate.host.key old.gate.counter (counts (of_file old.gate.dir.file) (of_port old.gate.host.port) n)
           (counts (of_file new.gate.dir.file) (of_port new.gate.host.port) (faults now.entropy)) end)
           same x.cause;
+      doubtful = x.doubtful;
+      arms = x.arms;
     }
 
     pub committed_drawn : IsCommitted of_file of_port store old new number (record was { entropy = entropy }) now call own change (reliable entropy) (faults entropy) (faults now.entropy) answer

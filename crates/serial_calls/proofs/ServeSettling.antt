@@ -18,9 +18,10 @@ use Rattle.tee_types.specs.declared.reply.Cause.{Cause}
 use Rattle.call_steps.specs.EventCounts.{events_at, landing_events}
 use Rattle.call_steps.specs.Devices.{PortGoesOn}
 use Rattle.call_steps.specs.Slots.{AreOfObjectFiles}
+use Rattle.call_steps.proofs.PortArms.{exchanged_arms}
 use Rattle.call_steps.proofs.MoreRecords.{events_more, tagged_more}
 use Rattle.serial_calls.proofs.CommittedCalls.{none_some}
-use Rattle.call_steps.proofs.CountGrowth.{grows_le, same_file_goes_on, same_port_goes_on}
+use Rattle.call_steps.proofs.CountGrowth.{card_goes_on_none, grows_le, same_card, same_file_goes_on, same_port_goes_on}
 
 module _ {F R : Type 0} (of_file : F → FileState) (of_port : R → PortState) (key : List ℕ) where
   -- The history has at most one landing more, and the gate's devices go on.
@@ -52,8 +53,11 @@ module _ {F R : Type 0} (of_file : F → FileState) (of_port : R → PortState) 
       → PortGoesOn key (of_port old.gate.host.port) (of_port mid.gate.host.port)
   card_goes_on nonce d old mid result r = record {
     told = λ card has. (card, record { told = r.card ∙ has.told; keyed = has.keyed });
+    card = λ was is had has.
+        card_goes_on_none was is (same_card (of_port mid.gate.host.port) key was is (record { told = r.card ∙ had.told; keyed = had.keyed }) has);
     calm = λ is. (r.calm is).0;
     counted = grows_le (of_port old.gate.host.port).faults (of_port mid.gate.host.port).faults r.answered.exchanged.counted;
+    arms = exchanged_arms (of_port old.gate.host.port) (of_port mid.gate.host.port) _ _ r.answered.exchanged;
   }
 
   resolved_settles : (nonce : List ℕ) (d : Doubted) (old mid : GuardedGateValue F R) (how : Resolved) → HasResolved of_file of_port nonce d old mid (Ok how) → Settles old mid

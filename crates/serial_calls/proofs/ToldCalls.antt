@@ -84,9 +84,14 @@ told_appends store old new was now file object call answer s = record {
     some_number : (other : ℕ) → Some file ≡ Some other → file ≡ other
     some_number other e = cc
 
+pub told_mark : {F R E : Type 0} (store : Store) (old new : GuardedGateValue F R) (was now : CallerSession E) (file : ℕ) (object : IsObjectFile file) (call : Call) (answer : PlacedReply)
+    (s : IsServed store old new was now file call answer) → (told_appends store old new was now file object call answer s).mark ≡ Unchanged
+unfolding told_appends
+told_mark store old new was now file object call answer s = refl
+
 -- it changed nothing
 pub told_quiet : {F R E : Type 0} (store : Store) (old new : GuardedGateValue F R) (was now : CallerSession E) (file : ℕ) (object : IsObjectFile file) (call : Call) (answer : PlacedReply)
-    (s : IsServed store old new was now file call answer) → (key : List ℕ) (d0 d1 : Devices) → CostsDoubt key d0 d1 (told_appends store old new was now file object call answer s).mark
+    (s : IsServed store old new was now file call answer) → (key : List ℕ) (d0 d1 : Devices) → CostsDoubt key d0 d1 (told_appends store old new was now file object call answer s).mark answer.reply
 unfolding told_appends
 told_quiet store old new was now file object call answer s key d0 d1 = tt
 
@@ -151,7 +156,7 @@ module _ {F R E : Type 0} (of_file : F → FileState) (of_port : R → PortState
   pub told_accuses : (reply : Reply) → HasToldCause before.file after.file before.number reply → AccusesRightly key d0 d1 reply
   told_accuses reply told = told_accuses_file key d0 d1 before.number before.file after.file (λ n own. (file_from n own, file_to n own)) reply told
 
-  pub serves_ok : (call : Call) (answer : PlacedReply) → (appends : AppendsCall store old new was now call answer) → AccusesRightly key d0 d1 answer.reply → CostsDoubt key d0 d1 appends.mark
+  pub serves_ok : (call : Call) (answer : PlacedReply) → (appends : AppendsCall store old new was now call answer) → AccusesRightly key d0 d1 answer.reply → CostsDoubt key d0 d1 appends.mark answer.reply
       → KeepsHolds old.gate new.gate → GatesGoOn of_file of_port draws key old.gate new.gate was now → FileGoesOn before.file after.file → (X : Type 0)
       → ServesObject of_file of_port draws {X = X} store from to call (Ok answer)
   serves_ok call answer appends accuses costs held gates file X =
@@ -166,7 +171,7 @@ module _ {F R E : Type 0} (of_file : F → FileState) (of_port : R → PortState
   served_appends call answer s = told_appends store old new was now before.number is_object_file call answer s
 
   -- it changed nothing
-  pub served_quiet : (call : Call) (answer : PlacedReply) (s : IsServed store old new was now before.number call answer) → CostsDoubt key d0 d1 (served_appends call answer s).mark
+  pub served_quiet : (call : Call) (answer : PlacedReply) (s : IsServed store old new was now before.number call answer) → CostsDoubt key d0 d1 (served_appends call answer s).mark answer.reply
   unfolding served_appends
   served_quiet call answer s = told_quiet store old new was now before.number is_object_file call answer s key d0 d1
 

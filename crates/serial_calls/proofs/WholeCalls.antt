@@ -6,7 +6,7 @@ use Rattle.disk_model.specs.Calls.{GoesOn as FileGoesOn}
 use Rattle.disk_model.specs.Faults.{Rose}
 use Rattle.disk_model.specs.State.{FileState}
 use Rattle.disk_model.proofs.Goings.{goes_on_none}
-use Rattle.call_steps.specs.Resolved.{StaysInDoubt}
+use Rattle.call_steps.specs.Resolved.{HasResolved, StaysInDoubt}
 use Rattle.call_steps.specs.Seen.{GoesOn}
 use Rattle.call_steps.specs.GateServed.{IsServedAlone, IsUnserved, Precedes}
 use Rattle.call_steps.specs.GateServed.Precedes.{HeldUp, Misused, Ruled}
@@ -19,6 +19,7 @@ use Rattle.rpmb_card.specs.Card.{CardState}
 use Rattle.rpmb_card.specs.Port.{PortState}
 use Rattle.rpmb_host.specs.Honest.{HasCard}
 use Rattle.call_steps.specs.CardCauses.{IsOfFrame}
+use Rattle.call_steps.specs.Heard.{HeardCause}
 use Rattle.call_steps.specs.Gates.{DoubtStands, GateValue, gate_sides}
 use Rattle.call_steps.specs.declared.Doubted.{Doubted}
 use Rattle.store_model.specs.Files.{is_misuse}
@@ -36,11 +37,12 @@ use Rattle.tee_types.specs.declared.reply.Reply.TheVariants.{NotAvailable}
 use Rattle.serial_calls.specs.ServedAnswers.{GoesOnWith, GoesOnWithout, ServesCall}
 use Rattle.serial_calls.specs.Appended.{AppendsCall}
 use Rattle.serial_calls.specs.HeldFiles.{KeepsHolds}
-use Rattle.call_steps.specs.Devices.{AccusesRightly, CostsDoubt, Devices, DevicesGoOn, PortGoesOn, TellsNoCard, faults_of, file_in}
+use Rattle.call_steps.specs.Devices.{AccusesRightly, CostsDoubt, Devices, DevicesGoOn, IsOfHeard, PortGoesOn, TellsNoCard, faults_of, file_in}
 use Rattle.call_steps.specs.Slots.{AreOfObjectFiles, AreSlots}
 use Rattle.serial_calls.specs.ServeReplay.{ServesObject}
 use Rattle.call_steps.specs.Rising.{Serving, devices_in}
 use Rattle.call_steps.proofs.Cards.{doubted_counts}
+use Rattle.call_steps.proofs.HeardAnswers.{answered_heard}
 use Rattle.call_steps.proofs.CountGrowth.{counts_grow, devices_go_on_then, grows_le, grows_rose, grows_twice}
 use Rattle.call_steps.proofs.MoreRecords.{events_more, tagged_more}
 use Rattle.serial_calls.proofs.ServeSettling.{Settles, reserved_settles, same_settles, settled_settles, stays_settles, was_settles}
@@ -59,17 +61,21 @@ none_since key old new goes_on none card has = let then = goes_on.told card has 
 accuses_since : (key : List ℕ) (before mid after : Devices) → DevicesGoOn key before mid → (reply : Reply) → AccusesRightly key mid after reply → AccusesRightly key before after reply
 accuses_since key before mid after goes_on (NotAvailable (Fault device count)) a =
     (grows_rose (faults_of before device) (faults_of mid device) (faults_of after device) (counts_grow key before mid goes_on device) a.0, a.1)
-accuses_since key before mid after goes_on (NotAvailable (Frame fault)) a = none_since key before.card mid.card goes_on.card a
-accuses_since key before mid after goes_on (NotAvailable (CardResult result)) a = none_since key before.card mid.card goes_on.card a
+accuses_since key before mid after goes_on (NotAvailable (Frame fault)) a = (none_since key before.card mid.card goes_on.card a.0, a.1)
+accuses_since key before mid after goes_on (NotAvailable (CardResult result)) a = (none_since key before.card mid.card goes_on.card a.0, a.1)
 accuses_since key before mid after goes_on reply a = tt
 
 -- so a doubt's price was paid since before
-costs_since : (key : List ℕ) (before mid after : Devices) → DevicesGoOn key before mid → (mark : Mark) → CostsDoubt key mid after mark → CostsDoubt key before after mark
-costs_since key before mid after goes_on Unchanged costs = tt
-costs_since key before mid after goes_on (Made n) costs = tt
-costs_since key before mid after goes_on (Doubtful n) costs = λ card has.
-    let then = goes_on.card.told card has in
-    grows_twice before.card mid.card after.card goes_on.card.counted (costs then.0 then.1)
+costs_since : (key : List ℕ) (before mid after : Devices) → DevicesGoOn key before mid → (mark : Mark) (reply : Reply) → CostsDoubt key mid after mark reply → CostsDoubt key before after mark reply
+costs_since key before mid after goes_on Unchanged reply costs = tt
+costs_since key before mid after goes_on (Made n) reply costs = tt
+costs_since key before mid after goes_on (Doubtful n) (NotAvailable cause) costs = (
+  costs.0,
+  λ card has.
+      let then = goes_on.card.told card has in
+      grows_twice before.card mid.card after.card goes_on.card.counted (costs.1 then.0 then.1),
+)
+costs_since key before mid after goes_on (Doubtful n) reply costs = costs
 
 length_events : (records : List HistoryRecord) → length records ≡ length (events_of records)
 length_events records = sym (length-map records (λ (r : HistoryRecord). r.event))
@@ -129,7 +135,7 @@ module _ {F R E : Type 0} (of_file : F → FileState) (of_port : R → PortState
     answers = record {
       goes_on = appends_goes_on of_file of_port draws store old mid new was now settled shown call answer number made goes_on s.answers.appends;
       accuses = accuses_since (card_key store) d0 dm da began answer.reply s.answers.accuses;
-      costs = costs_since (card_key store) d0 dm da began s.answers.appends.mark s.answers.costs;
+      costs = costs_since (card_key store) d0 dm da began s.answers.appends.mark answer.reply s.answers.costs;
     };
     slots = s.slots;
     tagged = λ files. subst AreOfObjectFiles (sym s.answers.appends.all)
@@ -182,10 +188,22 @@ module _ {F R E : Type 0} (of_file : F → FileState) (of_port : R → PortState
       subst
       (λ (g : GateValue F R). HasCard (of_port g.host.port) g.host.key card → (card.counter ≡ g.counter) ⊎ (card.counter ≡ g.counter + 1) → ⊥) ready (none card) had counts
 
-  frame_accuses : (cause : Cause) → IsOfFrame cause → TellsNoCard (of_port first.gate.host.port) (card_key store) → AccusesRightly (card_key store) d1 d2 (NotAvailable cause)
-  frame_accuses (Frame fault) is none = none
-  frame_accuses (CardResult result) is none = none
-  frame_accuses (Fault device count) is none = absurd is
+  frame_accuses : (cause : Cause) → IsOfFrame cause → TellsNoCard (of_port first.gate.host.port) (card_key store) → IsOfHeard (card_key store) (of_port new.gate.host.port) cause
+      → AccusesRightly (card_key store) d1 d2 (NotAvailable cause)
+  frame_accuses (Frame fault) is none heard = (none, heard)
+  frame_accuses (CardResult result) is none heard = (none, heard)
+  frame_accuses (Fault device count) is none heard = absurd is
+
+  -- the frame that the read of the counter heard
+  doubt_heard : (between : GuardedGateValue F R) (cause : Cause) (nonce : List ℕ) (d : Doubted) → HasResolved of_file of_port nonce d old between (Err cause)
+      → new.gate ≡ record between.gate { open_handles = new.gate.open_handles } → IsOfHeard (card_key store) (of_port new.gate.host.port) cause
+  doubt_heard between cause nonce d read same =
+      let key : old.gate.host.key ≡ card_key store = ap (λ (g : GateValue F R). g.host.key) ready ∙ keyed in
+      let port : of_port between.gate.host.port ≡ of_port new.gate.host.port = sym (ap (λ (g : GateValue F R). of_port g.host.port) same) in (
+        old.gate.counter,
+        subst (λ (p : List ℕ × PortState). HeardCause p.0 old.gate.counter p.1 cause) (λ i. (key i, port i))
+            (answered_heard old.gate.host.key old.gate.counter nonce (of_port old.gate.host.port) (of_port between.gate.host.port) cause read.answered),
+      )
 
   doubt_accuses : (between : GuardedGateValue F R) (cause : Cause) → StaysInDoubt of_file of_port Reliable (draws was.entropy) (draws now.entropy) old between cause
       → new.gate ≡ record between.gate { open_handles = new.gate.open_handles } → AccusesRightly (card_key store) d1 d2 (NotAvailable cause)
@@ -196,7 +214,7 @@ module _ {F R E : Type 0} (of_file : F → FileState) (of_port : R → PortState
           let began : (of_port old.gate.host.port).faults ≡ (of_port first.gate.host.port).faults = ap (λ (g : GateValue F R). (of_port g.host.port).faults) ready in
           let ended : (of_port new.gate.host.port).faults ≡ (of_port between.gate.host.port).faults = ap (λ (g : GateValue F R). (of_port g.host.port).faults) same in
           subst (λ (c : Cause). AccusesRightly (card_key store) d1 d2 (NotAvailable c)) (sym rose.1) (subst (λ (p : ℕ × ℕ). Rose p.0 p.1) (λ i. (began i, sym ended i)) rose.0, sym ended)
-      | inr none ↦ frame_accuses cause none.1 (doubted_none stays.doubted stays.was none.0)
+      | inr none ↦ frame_accuses cause none.1 (doubted_none stays.doubted stays.was none.0) (doubt_heard between cause read.0 stays.doubted read.1 same)
     ]
   ]
 

@@ -17,7 +17,7 @@ module _ {F R E : Type 0} (of_file : F → FileState) (of_port : R → PortState
   pub record Answers (store : Store) (old new : Serving F R E) (call : Call) (answer : PlacedReply) : Type 0 where
     pub appends : AppendsCall store old.gate new.gate old.session new.session call answer
     pub accuses : AccusesRightly (rpmb_key store.keys.huk) (devices_in of_file of_port draws old) (devices_in of_file of_port draws new) answer.reply
-    pub costs : CostsDoubt (rpmb_key store.keys.huk) (devices_in of_file of_port draws old) (devices_in of_file of_port draws new) appends.mark
+    pub costs : CostsDoubt (rpmb_key store.keys.huk) (devices_in of_file of_port draws old) (devices_in of_file of_port draws new) appends.mark answer.reply
 
   -- that, or memory ran out and nothing was appended
   abbrev pub AnswersOrNot : {X : Type 0} → Store → (old new : Serving F R E) → Call → Result PlacedReply X → Type 0

@@ -1,5 +1,5 @@
 -- What a served call is answered, and what it leaves of the history: at most the landing of the commit that was in doubt, and then the call.
-use Rattle.std.specs.Prelude.{Err, Ok, Option, Result, [], length, ℕ, ◌+◌, ◌++◌, ◌∷◌, ◌≡◌}
+use Rattle.std.specs.Prelude.{Err, Ok, Option, Result, [], length, true, ℕ, ◌+◌, ◌++◌, ◌∷◌, ◌≡◌}
 use Rattle.call_steps.specs.CallerSessions.{CallerSession, IsCallerOf, session_value}
 use Rattle.disk_model.specs.State.{FileState}
 use Rattle.call_steps.specs.Seen.{GoesOn}
@@ -8,11 +8,14 @@ use Rattle.call_steps.specs.declared.PlacedReply.{PlacedReply}
 use Rattle.call_steps.specs.GuardedGates.{GuardedGateValue}
 use Rattle.rpmb_card.specs.Port.{PortState}
 use Rattle.call_steps.specs.Devices.{AccusesRightly, CostsDoubt, DevicesGoOn}
+use Rattle.call_steps.specs.JournalCalls.{alone_record}
 use Rattle.call_steps.specs.Slots.{AreOfObjectFiles, AreSlots}
 use Rattle.call_steps.specs.Rising.{Serving, devices_in}
 use Rattle.call_steps.specs.EventCounts.{events_at, landing_events}
 use Rattle.store_model.specs.declared.event.Event.TheVariants.{Call as CallEvent}
 use Rattle.store_model.specs.declared.event.Mark.{Mark}
+use Rattle.store_model.specs.Files.{is_misuse}
+use Rattle.history_seats.specs.Changes.{with_record}
 use Rattle.serial_calls.specs.HeldFiles.{KeepsHolds}
 use Rattle.core_laws.specs.Sessions.{Extends}
 use Rattle.core_laws.specs.Stores.{Store}
@@ -43,7 +46,7 @@ module _ {F R E : Type 0} (of_file : F → FileState) (of_port : R → PortState
   pub record IsAnswered (store : Store) (old new : Serving F R E) (call : Call) (answer : PlacedReply) : Type 0 where
     pub goes_on : GoesOnWith store old.gate new.gate old.session new.session call answer
     pub accuses : AccusesRightly (rpmb_key store.keys.huk) (devices_in of_file of_port draws old) (devices_in of_file of_port draws new) answer.reply
-    pub costs : CostsDoubt (rpmb_key store.keys.huk) (devices_in of_file of_port draws old) (devices_in of_file of_port draws new) goes_on.mark
+    pub costs : CostsDoubt (rpmb_key store.keys.huk) (devices_in of_file of_port draws old) (devices_in of_file of_port draws new) goes_on.mark answer.reply
 
   abbrev pub IsAnsweredOrNot : {X : Type 0} → Store → (old new : Serving F R E) → Call → Result PlacedReply X → Type 0
   IsAnsweredOrNot store old new call (Ok answer) = IsAnswered store old new call answer
@@ -57,3 +60,24 @@ module _ {F R E : Type 0} (of_file : F → FileState) (of_port : R → PortState
     -- no session holds a file but for a commit in doubt, where none did before
     pub held : KeepsHolds old.gate.gate new.gate.gate
     pub devices : DevicesGoOn (rpmb_key store.keys.huk) (devices_in of_file of_port draws old) (devices_in of_file of_port draws new)
+
+module _ {F R E : Type 0} where
+  -- Room may have been made at the gate. Else it is as it was, with the directory, the card and the doubt, and so are
+  -- the slots with their files, and the session's generator.
+  pub record AreLetBe (old new : Serving F R E) : Type 0 where
+    pub gate : new.gate.gate ≡ record old.gate.gate { open_handles = new.gate.gate.open_handles; room = new.gate.gate.room }
+    pub closing : new.gate.closing ≡ old.gate.closing
+    pub slots : new.slots ≡ old.slots
+    pub entropy : new.session.entropy ≡ old.session.entropy
+
+  -- The call was answered with a misuse, as the next event. No device was used, and a commit in doubt stays so.
+  pub record IsAnsweredAtOnce (old new : Serving F R E) (call : Call) (answer : PlacedReply) : Type 0 where
+    pub let_be : AreLetBe old new
+    pub misuse : is_misuse answer.reply ≡ true
+    pub place : answer.place ≡ length old.gate.journal.knows.all
+    pub knows : new.gate.journal.knows ≡ with_record (alone_record old.session.number old.session.made call answer.reply) old.gate.journal.knows
+
+  -- That, or memory ran out before anything was done.
+  abbrev pub AnswersAtOnce : {X : Type 0} → (old new : Serving F R E) → Call → Result PlacedReply X → Type 0
+  AnswersAtOnce old new call (Ok answer) = IsAnsweredAtOnce old new call answer
+  AnswersAtOnce old new call (Err none) = AreLetBe old new × (new.gate.journal.knows ≡ old.gate.journal.knows)

@@ -3,8 +3,10 @@
 ghost use Rattle.std.specs.Prelude.{◌≡◌, ◌≤◌, length, true};
 ghost use Rattle.hmac_keys.specs.KeyTable.{ssk};
 ghost use Rattle.call_steps.specs.CallerSessions.{IsCallerOf};
+ghost use Rattle.call_steps.specs.GateServed.{IsMisused};
 ghost use Rattle.call_steps.specs.Rulings.{is_on_object};
-ghost use Rattle.serial_calls.specs.ServedAnswers.{ServesCall};
+ghost use Rattle.call_steps.specs.SessionViews.{shown};
+ghost use Rattle.serial_calls.specs.ServedAnswers.{AnswersAtOnce, ServesCall};
 ghost use Rattle.serial_calls.specs.ServeReady.{IsReady};
 ghost use Rattle.call_steps.specs.Slots.{AreSlots};
 ghost use Rattle.serial_calls.specs.ServeReplay.{ServesObject};
@@ -106,6 +108,10 @@ pub fn serve<F: StoreFile + Drop, R: RpmbPort + Drop, L: StoreName, E: Entropy>(
         (record { gate = gate.new; slots = slots.new.items; session = session.new }) call.now result }
     ensures reliable { E.is_reliable session.old.entropy → E.is_reliable session.new.entropy }
     ensures still { E.is_reliable session.old.entropy → E.faults session.new.entropy ≡ E.faults session.old.entropy }
+    // A misuse waits for no commit in doubt, as the session is once it was shown the history.
+    ensures at_once { IsMisused gate.old (shown gate.old.journal.knows session.old).state call.now → AnswersAtOnce
+        (record { gate = gate.old; slots = slots.old.items; session = session.old })
+        (record { gate = gate.new; slots = slots.new.items; session = session.new }) call.now result }
 {
     // Tells how the gate and the card stand to each other.
     let _doubt = gate.doubt();

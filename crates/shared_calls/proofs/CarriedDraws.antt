@@ -40,4 +40,4 @@ carries-committed of_file of_port draws store old new file was now call own chan
     let d0 : Devices = devices_of of_file of_port old.gate [] (draws was.entropy) in
     let d1 : Devices = devices_of of_file of_port new.gate [] (draws now.entropy) in
     carries-accused key d0 d1 answer.reply
-    (subst (AccusesRightly key d0 d1) (sym c.reply) (end_accuses of_file of_port draws old new [] [] was now key known c.end own c.gate.counts_are c.gate.cause (owns d0 d1)))
+    (subst (AccusesRightly key d0 d1) (sym c.reply) (end_accuses of_file of_port draws old new [] [] was now key known c.end own c.gate.counts_are c.gate.cause c.gate.heard (owns d0 d1)))

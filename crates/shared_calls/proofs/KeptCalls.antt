@@ -21,6 +21,7 @@ use Rattle.store_model.specs.Record.{events_of}
 use Rattle.store_model.specs.declared.event.Event.TheVariants.{Call as CallEvent}
 use Rattle.serial_calls.specs.Stores.{Store}
 use Rattle.tee_types.specs.declared.call.Call.{Call}
+use Rattle.store_model.specs.declared.event.Mark.{Mark}
 use Rattle.tee_types.specs.declared.reply.Reply.{Reply}
 use Rattle.serial_calls.specs.EventCounts.{events_at, landing_events}
 use Rattle.serial_calls.specs.Appended.{AppendsCall}
@@ -104,9 +105,9 @@ module _ {F R : Type 0} (of_file : F → FileState) (of_port : R → PortState) 
       let d1 : Devices = devices_at new (file_in []) (draws now.entropy) in
       keeps-appended of_file of_port store before old new k gates.dir gates.card (file_in []) (file_in []) (draws was.entropy) (draws now.entropy) was now call answer
       (committed_appends of_file of_port draws store old new file was now call own change Reliable answer object c)
-      (subst (AccusesRightly key d0 d1) (sym c.reply) (end_accuses of_file of_port draws old new [] [] was now key known c.end own c.gate.counts_are c.gate.cause (owns d0 d1)))
-      (subst (CostsDoubt key d0 d1) (sym (committed_mark of_file of_port draws store old new file was now call own change Reliable answer object c))
-      (end_costs of_file of_port draws old new [] [] was now key known c.end c.gate.cause))
+      (subst (AccusesRightly key d0 d1) (sym c.reply) (end_accuses of_file of_port draws old new [] [] was now key known c.end own c.gate.counts_are c.gate.cause c.gate.heard (owns d0 d1)))
+      (subst (λ (p : Mark × Reply). CostsDoubt key d0 d1 p.0 p.1) (λ i. (sym (committed_mark of_file of_port draws store old new file was now call own change Reliable answer object c) i, sym c.reply i))
+      (end_costs of_file of_port draws old new [] [] was now key known c.end own c.gate.cause c.gate.doubtful))
 
   -- What the gate does alone, behind the making of room.
   module _ {E : Type 0} (draws : E → ℕ) (first old new : GuardedGateValue F R) (was now : CallerSession E) (ready : old.gate ≡ record first.gate { open_handles = old.gate.open_handles; room = old.gate.room })

@@ -112,7 +112,7 @@ module _ {F R : Type 0} (of_file : F → FileState) (of_port : R → PortState) 
       -- a call was appended, behind the landing of a commit in doubt if that landed
       pub keeps-call : (landed : Option ℕ) (session number : ℕ) (call : Call) (reply : Reply) (mark : Mark) → session < sessions
           → events_at new ≡ events_at old ++ (landing_events landed ++ CallEvent session number call reply mark ∷ []) → AreOfObjectFiles new.journal.knows.all
-          → AccusesRightly key d0 d1 reply → CostsDoubt key d0 d1 mark → Keeps new
+          → AccusesRightly key d0 d1 reply → CostsDoubt key d0 d1 mark reply → Keeps new
       keeps-call landed session number call reply mark known events tagged accuses costs =
           let own : List Event = CallEvent session number call reply mark ∷ [] in
           keeps-added dir card (landing_events landed ++ own) events (AreOfSessions-append sessions (landing_events landed) own (AreOfSessions-landing sessions landed) (known, tt)) tagged
@@ -123,7 +123,7 @@ module _ {F R : Type 0} (of_file : F → FileState) (of_port : R → PortState) 
 
       -- the same, by the one record that was appended
       pub keeps-appended : {E : Type 0} (was now : CallerSession E) (call : Call) (answer : PlacedReply) (a : AppendsCall store old new was now call answer)
-          → AccusesRightly key d0 d1 answer.reply → CostsDoubt key d0 d1 a.mark → Keeps new
+          → AccusesRightly key d0 d1 answer.reply → CostsDoubt key d0 d1 a.mark answer.reply → Keeps new
       keeps-appended was now call answer a accuses costs =
           keeps-call None was.number was.made call answer.reply a.mark (known-session old new was now call answer a)
           (ap (λ (l : List HistoryRecord). events_of l) a.all ∙ events_more old.journal.knows.all a.last ∙ ap (λ (e : Event). events_at old ++ e ∷ []) a.event)

@@ -12,10 +12,9 @@ use Rattle.serial_calls.specs.FileAnswers.{Fails, IsFileAnswer, Refuses, Tells, 
 use Rattle.serial_calls.specs.AnswerServed.{IsServed}
 use Rattle.rpmb_card.specs.Port.{PortState}
 use Rattle.store_model.specs.Record.{events_of}
+use Rattle.store_model.specs.declared.event.Mark.{Mark}
 use Rattle.store_model.specs.declared.event.Event.{Event}
 use Rattle.store_model.specs.declared.event.Event.TheVariants.{Call as CallEvent}
-use Rattle.store_model.specs.declared.event.Mark.{Mark}
-use Rattle.store_model.specs.declared.event.Mark.TheVariants.{Doubtful}
 use Rattle.serial_calls.specs.Given.{Tells as TellsDecoding, decoding_given}
 use Rattle.serial_calls.specs.Decodings.{Decoding}
 use Rattle.serial_calls.specs.Stores.{Store}
@@ -35,7 +34,7 @@ use Rattle.serial_calls.specs.Slots.{AreOfObjectFiles}
 use Rattle.serial_calls.proofs.CarriedCounts.{counts_of-call}
 use Rattle.serial_calls.proofs.CountGrowth.{grows_le}
 use Rattle.serial_calls.proofs.MoreRecords.{events_more, tagged_more}
-use Rattle.serial_calls.proofs.ToldCalls.{GatesGoOn, quiet_goes_on, told_appends}
+use Rattle.serial_calls.proofs.ToldCalls.{GatesGoOn, quiet_goes_on, told_appends, told_mark}
 use Rattle.shared_calls.specs.Kept.{KeepsGate}
 use Rattle.shared_calls.proofs.KeptGates.{keeps-added, known-session}
 
@@ -91,11 +90,6 @@ spares-frame (NotAvailable (Frame fault)) spares = absurd spares
 spares-frame (NotAvailable (CardResult result)) spares = absurd spares
 spares-frame reply spares = tt
 
-spares-costs : (from : ℕ) (mark : Mark) (reply : Reply) → SparesGate reply → CostsTwo from mark reply
-spares-costs from (Doubtful commit) (NotAvailable (Fault Card count)) spares = absurd spares
-spares-costs from (Doubtful commit) reply spares = tt
-spares-costs from mark reply spares = tt
-
 module _ {F R E : Type 0} (of_file : F → FileState) (of_port : R → PortState) (store : Store) (before : Devices) (old new : GuardedGateValue F R) (was now : CallerSession E) (file : ℕ) (object : IsObjectFile file)
     (call : Call) (answer : PlacedReply) where
   abbrev key : List ℕ
@@ -116,4 +110,4 @@ module _ {F R E : Type 0} (of_file : F → FileState) (of_port : R → PortState
       (subst AreOfObjectFiles (sym a.all) (tagged_more old.journal.knows.all a.last a.tagged k.tagged))
       (subst (Rise dir0.faults dir1.faults) (sym (counts_of-call was.number was.made call answer.reply a.mark Dir None ∙ spares-dir answer.reply spares)) (grows_le dir0.faults dir1.faults gates.dir.faults))
       (subst (Rise port0.faults port1.faults) (sym (counts_of-call was.number was.made call answer.reply a.mark Card None ∙ spares-card answer.reply spares)) gates.card.counted)
-      (record { frames = λ had. (spares-frame answer.reply spares, tt); doubts = λ had. (spares-costs port0.faults a.mark answer.reply spares, tt) })
+      (record { frames = λ had. (spares-frame answer.reply spares, tt); doubts = λ had. (subst (λ (m : Mark). CostsTwo port0.faults m answer.reply) (sym (told_mark store old new was now file object call answer s)) tt, tt) })

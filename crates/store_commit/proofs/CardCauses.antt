@@ -17,7 +17,7 @@ use Rattle.tee_types.specs.declared.reply.Device.TheVariants.{Dir, File, Card, E
 use Rattle.store_commit.specs.declared.change.CardEnd.{CardEnd}
 use Rattle.store_commit.specs.declared.change.CardEnd.TheVariants.{Landed, Lost, Unknown}
 use Rattle.store_commit.specs.CardCauses.{AskCalm, AskCause, CardCalm, CardCounts, FaultIs, IsCardFault, IsOfFrame, PortCause}
-use Rattle.store_commit.specs.Causes.{IsDrawn, NoCard, NotDrawn, NotOfCard, StaysCalm}
+use Rattle.store_commit.specs.Causes.{IsByCard, IsDrawn, NoCard, NotDrawn, NotOfCard, StaysCalm}
 use Rattle.store_commit.specs.Prepared.{SideCause}
 use Rattle.store_commit.proofs.CardWrites.{next_card, write_done}
 
@@ -167,6 +167,14 @@ frame_not_card (Fault Card count) of = absurd of
 frame_not_card (Fault Entropy count) of = tt
 frame_not_card (Frame fault) of = tt
 frame_not_card (CardResult result) of = tt
+
+pub port_by_card : (key : List ℕ) (counter : ℕ) (old new : PortState) (cause : Cause) → PortCause key counter old new cause → IsByCard cause
+port_by_card key counter old new (Fault Dir count) c = c
+port_by_card key counter old new (Fault (File n) count) c = c
+port_by_card key counter old new (Fault Card count) c = tt
+port_by_card key counter old new (Fault Entropy count) c = c
+port_by_card key counter old new (Frame fault) c = tt
+port_by_card key counter old new (CardResult result) c = tt
 
 pub not_both : (cause : Cause) → NotDrawn cause → IsDrawn cause → ⊥
 not_both (Fault Dir count) not is = is

@@ -1,5 +1,6 @@
 pub mod CardWrites
 pub mod CardCauses
+pub mod PortArms
 pub mod Preparing
 pub mod Ending
 pub mod Hearing
@@ -17,6 +18,7 @@ pub mod Formatting
 pub mod Counting
 pub mod Fitting
 pub mod Readings
+pub mod Leavings
 pub mod Indexing
 pub mod Marking
 pub mod Rearming

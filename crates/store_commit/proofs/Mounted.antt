@@ -2,8 +2,6 @@
 use Rattle.std.proofs.Common.{◌≡◌, ◌⊎◌, ◌∙◌, ◌==◌, ℕ, Bool, true, false, List, [], Option, Some, None, Result, Ok, Err, IsTrue, refl, sym, ap, subst, inl, inr}
 use Rattle.std.specs.List.{list_all}
 use Rattle.disk_model.specs.State.{FileState, pending}
-use Rattle.disk_model.specs.Calls.{Known}
-use Rattle.disk_model.specs.Keeps.{Anywhere, Keeps}
 use Rattle.node_image.specs.declared.node.RootRef.{RootRef}
 use Rattle.htree_file.specs.declared.fault.TreeFault.TheVariants.{BadHead, BadTag, Damaged, Failed as FileFault, NoEntropy, NoMemory as NoRoom, Short}
 use Rattle.htree_file.specs.Making.{IsSynced}
@@ -30,13 +28,13 @@ use Rattle.crash_core.specs.Mounting.{directory_by, mounted_directory, unless_fa
 use Rattle.dir_file.specs.View.{DirView}
 use Rattle.dir_file.specs.EntryForms.{AreEntriesOf}
 use Rattle.dir_file.specs.Held.{IsDurable}
-use Rattle.dir_file.specs.Loading.{DirCause, IsOutsideDir, IsReadDirectory}
+use Rattle.dir_file.specs.Loading.{DirCause, IsDirFault, IsOutsideDir, IsReadDirectory}
 use Rattle.dir_file.specs.Refusals.{DirDiffers}
 use Rattle.store_commit.specs.declared.fault.MountFault.{MountFault}
 use Rattle.store_commit.specs.declared.fault.MountFault.TheVariants.{NoStore, CardBlock, Directory, Frame, CardResult, Failed, Spent, NoMemory}
 use Rattle.store_commit.specs.Blocks.{block_answer, picture_of}
 use Rattle.store_commit.specs.Reads.{IsRootRead}
-use Rattle.store_commit.specs.Mounts.{CardRefused, MountDiffers, MountRefused, OpensGate, Tells, directory_answer}
+use Rattle.store_commit.specs.Mounts.{CardRefused, LeavesDevices, MountDiffers, MountRefused, OpensGate, Tells, TellsFailure, directory_answer}
 use Rattle.store_commit.specs.Sides.{IsSettled, Sides, sides}
 use Rattle.store_commit.proofs.Cards.{has_still}
 use Rattle.store_commit.proofs.Outside.{root_other, root_zero}
@@ -152,6 +150,40 @@ module _ (file : FileState) (p0 p1 : PortState) (keys : Keys) (drew draws : ℕ)
   directory_differs root named (Record index offset) is = record { root = root; named = named; differs = is }
   directory_differs root named (Double index first) is = record { root = root; named = named; differs = is }
 
+-- a failure is told as one
+pub card_tells : (p0 p1 : PortState) (key : List ℕ) (drew draws : ℕ) (fault : MountFault) → CardRefused p0 p1 key drew draws fault → TellsFailure fault
+card_tells p0 p1 key drew draws NoStore c = tt
+card_tells p0 p1 key drew draws (CardBlock byte) c = tt
+card_tells p0 p1 key drew draws (Directory d) c = absurd c
+card_tells p0 p1 key drew draws (Frame f) c = tt
+card_tells p0 p1 key drew draws (CardResult n) c = tt
+card_tells p0 p1 key drew draws (Failed cause) c = tt
+card_tells p0 p1 key drew draws Spent c = tt
+card_tells p0 p1 key drew draws NoMemory c = tt
+
+or_tells : (block : List ℕ) (o : Option ℕ) (fault : MountFault) → Err fault ≡ block_answer (root_or block o) → TellsFailure fault
+or_tells block None fault is = absurd (cc (is))
+or_tells block (Some offset) fault is = let e : fault ≡ CardBlock offset = cc (is) in subst TellsFailure (sym e) tt
+
+pub block_tells : (block : List ℕ) (fault : MountFault) → Err fault ≡ block_answer (root_in block) → TellsFailure fault
+block_tells block fault is = by_test (list_all (λ x. x == 0) block) refl
+  where
+    by_test : (b : Bool) → list_all (λ x. x == 0) block ≡ b → TellsFailure fault
+    by_test true zero_block = let e : fault ≡ NoStore = cc (is ∙ ap block_answer (root_zero block zero_block)) in subst TellsFailure (sym e) tt
+    by_test false other = or_tells block (first_outside block 0 256) fault (is ∙ ap block_answer (root_other block other))
+
+pub directory_tells : (fault : DirFault) → IsDirFault fault → TellsFailure (directory_answer fault)
+directory_tells (Tree (FileFault count)) kind = tt
+directory_tells (Tree NoRoom) kind = tt
+directory_tells (Tree (BadHead long greatest)) kind = (tt, λ o. o)
+directory_tells (Tree (Short end need)) kind = (tt, λ o. o)
+directory_tells (Tree (Damaged n want found)) kind = (tt, λ o. o)
+directory_tells (Tree (BadTag k want found)) kind = (tt, λ o. o)
+directory_tells (Tree (NoEntropy count)) kind = absurd kind
+directory_tells (WrongLength bytes) kind = (tt, λ o. o)
+directory_tells (Record index offset) kind = (tt, λ o. o)
+directory_tells (Double index first) kind = (tt, λ o. o)
+
 -- what a block that is answered as a root names on the card
 pub card_names : (p0 : PortState) (k : List ℕ) (counter : ℕ) (block : List ℕ) (root : RootRef) → ((card : CardState) → HasCard p0 k card → Tells card counter block)
     → Ok root ≡ block_answer (root_in block) → (card : CardState) → HasCard p0 k card → root_in (block_zero card) ≡ Ok root
@@ -186,12 +218,12 @@ module _ (old : FileState) (p0 p1 : PortState) (keys : Keys) (k : List ℕ) (cou
         };
   }
 
-  pub gate_opens : Keeps Anywhere old s → (Known old s → s.reads ≡ old.reads) → IsSynced s → pending s ≡ [] → IsRootRead (rpmb_key keys.huk) p0 p1 counter root → IsVerified root dir.tree → IsReadDirectory (directory_key keys) dir.tree (Ok dir.entries)
+  pub gate_opens : LeavesDevices old s p0 p1 → IsSynced s → pending s ≡ [] → IsRootRead (rpmb_key keys.huk) p0 p1 counter root → IsVerified root dir.tree → IsReadDirectory (directory_key keys) dir.tree (Ok dir.entries)
       → (Told old s → directory_of (directory_key keys) s.reads root ≡ Ok dir.entries) → OpensGate old p0 keys g
-  gate_opens keeps reads synced unwritten heard verified pages directory = record {
+  gate_opens devices synced unwritten heard verified pages directory = record {
     unwritten = unwritten;
     heard = subst (λ (r : RootRef). IsRootRead (rpmb_key keys.huk) p0 p1 counter r) (sym root_is) heard;
-    devices = record { keeps = keeps; reads = reads; card = stays };
+    devices = devices;
     tsk_is = tsk_is;
     key_is = same_key;
     settled = gate_settled;

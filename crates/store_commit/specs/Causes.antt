@@ -83,6 +83,25 @@ EndNotOfCard (Dropped cause) = NotOfCard cause
 EndNotOfCard (Doubtful n cause) = NotOfCard cause
 EndNotOfCard Spent = Unit {0}
 
+-- the cause is the card's: its port failed, or what it answered is refused
+abbrev pub IsByCard : Cause → Type 0
+IsByCard (Fault Card count) = Unit {0}
+IsByCard (Fault device count) = ⊥
+IsByCard (Frame fault) = Unit {0}
+IsByCard (CardResult result) = Unit {0}
+
+-- only the card leaves a commit in doubt
+abbrev pub DoubtIsByCard : CommitEnd → Type 0
+DoubtIsByCard (Made n) = Unit {0}
+DoubtIsByCard (Dropped cause) = Unit {0}
+DoubtIsByCard (Doubtful n cause) = IsByCard cause
+DoubtIsByCard Spent = Unit {0}
+
+-- A port tells its armed faults where it did before, and they are the same but for the count of calls.
+pub record KeepsPortArms (old new : PortState) : Type 0 where
+  pub tells : new.tells_arms ≡ old.tells_arms
+  pub arms : IsTrue old.tells_arms → new.arms ≡ record old.arms { calls = new.arms.calls }
+
 -- a port that is calm stays so, and counts no fault
 pub record StaysCalm (old new : PortState) : Type 0 where
   pub calm : IsTrue new.calm

@@ -1,6 +1,7 @@
 -- What formatting a store answers.
 use Rattle.std.specs.Prelude.{◌≡◌, ◌≢◌, ◌⊎◌, ℕ, ◌+◌, List, Ok, Err, IsTrue}
 use Rattle.disk_model.specs.Faults.{Rose}
+use Rattle.disk_model.specs.Calls.{GoesOn}
 use Rattle.disk_model.specs.State.{FileState, LeftNow}
 use Rattle.htree_file.specs.declared.fault.TreeFault.{TreeFault}
 use Rattle.htree_file.specs.declared.fault.TreeFault.TheVariants.{Failed as FileFault, NoEntropy}
@@ -25,6 +26,7 @@ use Rattle.dir_file.specs.Held.{IsDurable}
 use Rattle.store_commit.specs.declared.fault.MountFault.{MountFault}
 use Rattle.store_commit.specs.declared.fault.MountFault.TheVariants.{Frame, CardResult, Failed, Spent, NoMemory}
 use Rattle.store_commit.specs.Blocks.{picture_of}
+use Rattle.store_commit.specs.Leaving.{KeepsPort}
 use Rattle.store_commit.specs.Reads.{AsksCounter, IsCounterRead, IsRootWritten}
 use Rattle.store_commit.specs.Mounts.{NoCardOf}
 
@@ -55,6 +57,12 @@ pub record IsFormatWritten (file : FileState) (p0 p1 : PortState) (keys : Keys) 
 -- after a fault the card is as before, or the store is formatted
 abbrev pub LeavesFormat : FileState → (p0 p1 : PortState) → Keys → Type 0
 LeavesFormat file p0 p1 keys = (card : CardState) → HasCard p0 (rpmb_key keys.huk) card → (p1.card ≡ p0.card) ⊎ IsFormatted file p1 keys card
+
+-- What a format leaves of its devices, refused or not: what is known of the file goes on, and the port keeps its calm and
+-- its arms.
+pub record FormatGoesOn (old new : FileState) (p0 p1 : PortState) : Type 0 where
+  pub file : GoesOn old new
+  pub port : KeepsPort p0 p1
 
 -- why a store is not formatted
 abbrev pub FormatRefused : (old new : FileState) → (p0 p1 : PortState) → Keys → (drew draws : ℕ) → MountFault → Type 0

@@ -15,6 +15,7 @@ pub mod Noting
 pub mod Blocks
 pub mod Reads
 pub mod Counts
+pub mod Leaving
 pub mod Mounts
 pub mod Formats
 pub mod Marks

@@ -29,8 +29,9 @@ use Rattle.crash_core.specs.Pictures.{block_zero}
 use Rattle.store_commit.specs.declared.fault.MountFault.{MountFault}
 use Rattle.store_commit.specs.declared.fault.MountFault.TheVariants.{NoStore, CardBlock, Directory, Frame, CardResult, Failed, Spent, NoMemory}
 use Rattle.store_commit.specs.Blocks.{picture_of}
+use Rattle.store_commit.specs.Leaving.{KeepsPort, LeavesNoMore}
 use Rattle.store_commit.specs.Reads.{IsCardRead, IsReadRefused, IsRootRead}
-use Rattle.dir_file.specs.Loading.{IsReadDirectory}
+use Rattle.dir_file.specs.Loading.{IsDirFault, IsOutsideDir, IsReadDirectory}
 use Rattle.dir_file.specs.Refusals.{DirDiffers}
 use Rattle.store_commit.specs.Sides.{EachPicture, IsSettled, Sides}
 
@@ -120,11 +121,18 @@ MountHeard file p0 p1 keys (Failed cause) = Unit {0}
 MountHeard file p0 p1 keys Spent = ⊥
 MountHeard file p0 p1 keys NoMemory = HasRootRead (rpmb_key keys.huk) p0 p1
 
+-- Where a device failed or memory ran out, that is told, and never a fault of the directory.
+abbrev pub TellsFailure : MountFault → Type 0
+TellsFailure (Directory fault) = IsDirFault fault × (IsOutsideDir fault → ⊥)
+TellsFailure fault = Unit {0}
+
 -- What stands after a mount, refused or not: the card is as it was, and the calls of the directory's file were reads and at most one sync.
 pub record LeavesDevices (old new : FileState) (p0 p1 : PortState) : Type 0 where
   pub keeps : Keeps Anywhere old new
   pub reads : Known old new → new.reads ≡ old.reads
+  pub left : LeavesNoMore old new
   pub card : p1.card ≡ p0.card
+  pub port : KeepsPort p0 p1
 
 -- A gate that was mounted: its keys are the device's, and its directory the one that the card names, in every picture.
 pub record OpensGate (old : FileState) (p0 : PortState) (keys : Keys) (g : Sides) : Type 0 where

@@ -6,7 +6,7 @@ ghost use Rattle.rpmb_card.specs.Protocol.{last_counter};
 ghost use Rattle.rpmb_host.specs.Honest.{HadCard, HasCard};
 ghost use Rattle.rpmb_host.specs.declared.fault.HostFault.TheVariants.{Spent};
 ghost use Rattle.crash_core.specs.CardBlock.{root_block};
-ghost use Rattle.store_commit.specs.Causes.{StaysCalm};
+ghost use Rattle.store_commit.specs.Causes.{KeepsPortArms, StaysCalm};
 ghost use Rattle.store_commit.specs.CardEnds.{AskLeft, CardLeft};
 ghost use Rattle.store_commit.specs.CardCauses.{AskCalm, AskCause, CardCalm, CardCounts, FaultIs, IsCardFault};
 ghost use Rattle.store_commit.specs.Heard.{AskHeard, CardHeard, LastStays};
@@ -56,6 +56,7 @@ fn ask<R: RpmbPort>(host: &mut Host<R>, counter: u32, nonce: &[u8; 16], cause: C
     ensures stays { LastStays (R.state host.old.port) (R.state host.new.port) }
     ensures counted { (R.state host.old.port).faults ≤ (R.state host.new.port).faults }
     ensures cause { AskCause host.old.key counter (R.state host.old.port) (R.state host.new.port) cause result }
+    ensures arms { KeepsPortArms (R.state host.old.port) (R.state host.new.port) }
 {
     match host.read_counter(nonce) {
         Ok(now) => {
@@ -93,6 +94,7 @@ pub fn write_root<R: RpmbPort>(
     ensures heard { CardHeard host.old.key counter (R.state host.new.port) result }
     ensures counts { CardCounts (R.state host.old.port) (R.state host.new.port) result }
     ensures cause { IsCardFault host.old.key counter (R.state host.old.port) (R.state host.new.port) result }
+    ensures arms { KeepsPortArms (R.state host.old.port) (R.state host.new.port) }
 {
     let block = root_block(root);
     match host.write_block(0, counter, &block) {

@@ -6,7 +6,7 @@ ghost use Rattle.store_commit.specs.Changes.{FitsIn};
 ghost use Rattle.store_commit.specs.Sides.{IsSettled, sides};
 ghost use Rattle.store_commit.specs.Ends.{Leaves, Throughout};
 ghost use Rattle.store_commit.specs.Steps.{Steps};
-ghost use Rattle.store_commit.specs.Causes.{EndCause, EndIsDrawn, EndNotDrawn, EndNotOfCard, StaysCalm, counts};
+ghost use Rattle.store_commit.specs.Causes.{DoubtIsByCard, EndCause, EndIsDrawn, EndNotDrawn, EndNotOfCard, KeepsPortArms, StaysCalm, counts};
 ghost use Rattle.store_commit.specs.Counts.{EndCounts};
 ghost use Rattle.store_commit.specs.Heard.{EndHeard};
 ghost use Rattle.store_commit.specs.Prepared.{DrawnCause};
@@ -73,6 +73,8 @@ pub fn commit_parts<F: StoreFile, R: RpmbPort, E: Entropy>(
     ensures cause { EndCause host.old.key counter.old
         (counts (F.state dir.old.file) (R.state host.old.port) (E.faults entropy.old))
         (counts (F.state dir.new.file) (R.state host.new.port) (E.faults entropy.new)) result }
+    ensures doubtful { DoubtIsByCard result }
+    ensures arms { KeepsPortArms (R.state host.old.port) (R.state host.new.port) }
 {
     let at = *counter;
     if at == u32::MAX {

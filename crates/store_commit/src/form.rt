@@ -3,7 +3,7 @@
 ghost use Rattle.std.specs.Prelude.{◌≡◌, IfErr, IfOk, IsTrue};
 ghost use Rattle.store_commit.specs.Causes.{counts};
 ghost use Rattle.store_commit.specs.Counts.{NoneRose, RefusalCounts, RefusalNotDrawn, RefusalNotOfCard};
-ghost use Rattle.store_commit.specs.Formats.{FormatHeard, FormatRefused, Formats, IsFormatWritten, LeavesFormat, make_answer};
+ghost use Rattle.store_commit.specs.Formats.{FormatGoesOn, FormatHeard, FormatRefused, Formats, IsFormatWritten, LeavesFormat, make_answer};
 
 use crate::card::root_block;
 use crate::fault::{GateBroken, MountFault};
@@ -52,6 +52,8 @@ pub fn format_parts<F: StoreFile + Drop, R: RpmbPort + Drop, E: Entropy>(
     ensures left { IfErr result (λ b. LeavesFormat (F.state b.dir) (R.state card) (R.state b.card) keys.now) }
     ensures refused { IfErr result (λ b. FormatRefused (F.state dir) (F.state b.dir) (R.state card) (R.state b.card) keys.now
         (E.faults entropy.old) (E.faults entropy.new) b.fault) }
+    ensures goes_on { IfOk result (λ m. FormatGoesOn (F.state dir) (F.state m.0) (R.state card) (R.state m.1)) }
+    ensures goes_on_err { IfErr result (λ b. FormatGoesOn (F.state dir) (F.state b.dir) (R.state card) (R.state b.card)) }
     // Whatever the card is.
     ensures written { IfOk result (λ m. IsFormatWritten (F.state m.0) (R.state card) (R.state m.1) keys.now) }
     ensures heard { IfErr result (λ b. FormatHeard (F.state dir) (F.state b.dir) (R.state card) (R.state b.card) keys.now b.fault) }

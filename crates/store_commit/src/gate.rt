@@ -9,7 +9,7 @@ ghost use Rattle.store_commit.specs.Changes.{FitsIn, change_of};
 ghost use Rattle.store_commit.specs.Sides.{IsSettled};
 ghost use Rattle.store_commit.specs.Ends.{Leaves, Throughout};
 ghost use Rattle.store_commit.specs.Steps.{Steps};
-ghost use Rattle.store_commit.specs.Causes.{EndCause, EndIsDrawn, EndNotDrawn, EndNotOfCard, StaysCalm, counts};
+ghost use Rattle.store_commit.specs.Causes.{DoubtIsByCard, EndCause, EndIsDrawn, EndNotDrawn, EndNotOfCard, KeepsPortArms, StaysCalm, counts};
 ghost use Rattle.store_commit.specs.Counts.{EndCounts};
 ghost use Rattle.store_commit.specs.Heard.{EndHeard};
 ghost use Rattle.store_commit.specs.Gates.{DoubtStands, LeavesHolds, doubt_left, file_in_doubt, gate_sides};
@@ -169,6 +169,8 @@ impl<F: StoreFile + Drop, R: RpmbPort + Drop> Gate<F, R> {
         ensures cause { EndCause self.old.host.key self.old.counter
             (counts (F.state self.old.dir.file) (R.state self.old.host.port) (E.faults entropy.old))
             (counts (F.state self.new.dir.file) (R.state self.new.host.port) (E.faults entropy.new)) result }
+        ensures doubtful { DoubtIsByCard result }
+        ensures arms { KeepsPortArms (R.state self.old.host.port) (R.state self.new.host.port) }
     {
         let before = entry_of(&self.dir, index_of(&change));
         let end = commit_parts(

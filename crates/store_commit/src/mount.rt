@@ -6,7 +6,7 @@ ghost use Rattle.store_commit.specs.Gates.{gate_sides};
 ghost use Rattle.store_commit.specs.Holds.{file_held};
 ghost use Rattle.store_commit.specs.Causes.{counts};
 ghost use Rattle.store_commit.specs.Counts.{NoneRose, RefusalCounts, RefusalNotDrawn, RefusalNotOfCard};
-ghost use Rattle.store_commit.specs.Mounts.{LeavesDevices, MountDiffers, MountHeard, MountRefused, OpensGate, directory_answer};
+ghost use Rattle.store_commit.specs.Mounts.{LeavesDevices, MountDiffers, MountHeard, MountRefused, OpensGate, TellsFailure, directory_answer};
 ghost use Rattle.store_commit.specs.NameIndex.{IndexesEntry, IsIndexOf};
 ghost use Rattle.store_commit.specs.Sides.{IsSettled, sides};
 ghost use Rattle.store_commit.specs.declared.fault.MountFault.TheVariants.{NoMemory};
@@ -123,6 +123,7 @@ impl<F: StoreFile + Drop, R: RpmbPort + Drop> Gate<F, R> {
         ensures unheld { IfOk result (λ g. (session : _) → file_held g.holds session ≡ None) }
         ensures refused { IfErr result (λ b. MountRefused (F.state dir) (F.state b.dir) (R.state card) (R.state b.card) keys.now
             (E.faults entropy.old) (E.faults entropy.new) b.fault) }
+        ensures told { IfErr result (λ b. TellsFailure b.fault) }
         // Of any file.
         ensures differs { IfErr result (λ b. MountDiffers (F.state b.dir) (R.state card) keys.now b.fault) }
         // Whatever the card is.

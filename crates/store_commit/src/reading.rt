@@ -7,6 +7,7 @@ ghost use Rattle.rpmb_host.specs.Honest.{HasCard};
 ghost use Rattle.crash_core.specs.Pictures.{block_zero};
 ghost use Rattle.store_commit.specs.Causes.{counts};
 ghost use Rattle.store_commit.specs.Counts.{RefusalCounts, RefusalNotDrawn, RefusalNotOfCard};
+ghost use Rattle.store_commit.specs.Leaving.{KeepsPort};
 ghost use Rattle.store_commit.specs.Mounts.{CardRefused, Tells, host_answer};
 ghost use Rattle.store_commit.specs.Reads.{AsksBlock, AsksCounter, IsBlockRead, IsCardRead, IsCounterRead, IsReadRefused, OfHost};
 
@@ -46,6 +47,7 @@ pub(crate) fn read_counter<R: RpmbPort, E: Entropy>(
 ) -> Result<u32, MountFault>
     ensures key { host.new.key ≡ host.old.key }
     ensures stays { (R.state host.new.port).card ≡ (R.state host.old.port).card }
+    ensures goes_on { KeepsPort (R.state host.old.port) (R.state host.new.port) }
     ensures told { IfOk result (λ n. (card : CardState) → HasCard (R.state host.old.port) host.old.key card → card.counter ≡ n) }
     ensures fault { IfErr result (CardRefused (R.state host.old.port) (R.state host.new.port) host.old.key (E.faults entropy.old) (E.faults entropy.new)) }
     ensures passed { OnOk result (((R.state host.new.port).faults ≡ (R.state host.old.port).faults) × (E.faults entropy.new ≡ E.faults entropy.old)) }
@@ -79,6 +81,7 @@ pub fn read_block<R: RpmbPort, E: Entropy>(
 ) -> Result<[u8; 256], MountFault>
     ensures key { host.new.key ≡ host.old.key }
     ensures stays { (R.state host.new.port).card ≡ (R.state host.old.port).card }
+    ensures goes_on { KeepsPort (R.state host.old.port) (R.state host.new.port) }
     ensures told { IfOk result (λ b. (card : CardState) → HasCard (R.state host.old.port) host.old.key card → block_zero card ≡ b) }
     ensures fault { IfErr result (CardRefused (R.state host.old.port) (R.state host.new.port) host.old.key (E.faults entropy.old) (E.faults entropy.new)) }
     ensures passed { OnOk result (((R.state host.new.port).faults ≡ (R.state host.old.port).faults) × (E.faults entropy.new ≡ E.faults entropy.old)) }
@@ -108,6 +111,7 @@ pub(crate) fn read_card<R: RpmbPort, E: Entropy>(
 ) -> Result<CardRead, MountFault>
     ensures key { host.new.key ≡ host.old.key }
     ensures stays { (R.state host.new.port).card ≡ (R.state host.old.port).card }
+    ensures goes_on { KeepsPort (R.state host.old.port) (R.state host.new.port) }
     ensures told { IfOk result (λ r. (card : CardState) → HasCard (R.state host.old.port) host.old.key card → Tells card r.counter r.block) }
     ensures fault { IfErr result (CardRefused (R.state host.old.port) (R.state host.new.port) host.old.key (E.faults entropy.old) (E.faults entropy.new)) }
     ensures passed { OnOk result (((R.state host.new.port).faults ≡ (R.state host.old.port).faults) × (E.faults entropy.new ≡ E.faults entropy.old)) }

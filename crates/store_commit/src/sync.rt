@@ -11,8 +11,9 @@ ghost use Rattle.htree_file.specs.Standing.{Told};
 ghost use Rattle.crash_core.specs.Directory.{directory_of};
 ghost use Rattle.dir_file.specs.EntryForms.{AreEntriesOf};
 ghost use Rattle.dir_file.specs.Held.{IsDurable};
-ghost use Rattle.dir_file.specs.Loading.{DirCause, IsOutsideDir, IsReadDirectory};
+ghost use Rattle.dir_file.specs.Loading.{DirCause, IsDirFault, IsOutsideDir, IsReadDirectory};
 ghost use Rattle.dir_file.specs.Refusals.{DirDiffers};
+ghost use Rattle.store_commit.specs.Leaving.{LeavesNoMore};
 
 use crash_core::DirFault;
 use dir_file::{DirBroken, DirFile};
@@ -51,6 +52,9 @@ pub(crate) fn open_directory<F: StoreFile>(
     ensures reads_err { IfErr result (λ b. Known (F.state file) (F.state b.file) → (F.state b.file).reads ≡ (F.state file).reads) }
     ensures keeps { IfOk result (λ d. Keeps Anywhere (F.state file) (F.state d.file)) }
     ensures keeps_err { IfErr result (λ b. Keeps Anywhere (F.state file) (F.state b.file)) }
+    ensures left { IfOk result (λ d. LeavesNoMore (F.state file) (F.state d.file)) }
+    ensures left_err { IfErr result (λ b. LeavesNoMore (F.state file) (F.state b.file)) }
+    ensures kind { IfErr result (λ b. IsDirFault b.fault) }
     // Of any file.
     ensures pages { IfOk result (λ d. IsReadDirectory tsk.now d.dir.tree (Result.Ok d.dir.entries)) }
     ensures differs { IfErr result (λ b. DirDiffers tsk.now (F.state b.file) root b.fault) }

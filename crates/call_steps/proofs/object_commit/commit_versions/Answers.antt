@@ -64,6 +64,8 @@ returns-clause-committed g c =
         heard = e.heard;
         counts_are = e.counts;
         cause = e.cause;
+        doubtful = e.doubtful;
+        arms = e.arms;
       };
     }
 

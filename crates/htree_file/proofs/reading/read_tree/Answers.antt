@@ -8,7 +8,7 @@ use Rattle.node_image.specs.declared.node.NodeImage.{NodeImage}
 use Rattle.node_image.specs.declared.node.RootRef.{RootRef}
 use Rattle.node_image.specs.Selection.{bytes_at}
 use Rattle.htree_file.specs.declared.fault.TreeFault.TheVariants.{Short}
-use Rattle.htree_file.specs.Opening.{Loaded, need_of, table_of}
+use Rattle.htree_file.specs.Opening.{need_of, table_of}
 use Rattle.htree_file.specs.Standing.{Told}
 use Rattle.htree_file.proofs.SameTable.{table_read}
 use Rattle.htree_file.proofs.Verified.{long_is, short_is, table_differs, table_fault, table_verified}
@@ -37,7 +37,7 @@ returns-in_err-head-clause-differs g c =
     (same_table c.deref.result.now c.read_padded.new.into _ reads c.args.root (length c.deref_mut.result.now) c.in_ok-image.image.len c.requires.version (search rules) (omega arith) c.deref.ensures.value (c.in_ok-read_padded.ensures.bytes tells) ∙ c.in_err-head.ensures.err))
 
 pub returns-clause-verified : goal.returns-clause-verified
-returns-clause-verified g c = table_verified c.deref.result.now c.args.root _ c.in_ok-head.ensures.ok
+returns-clause-verified g c = table_verified c.deref.result.now c.args.root _ c.read_table.ensures.bytes c.in_ok-head.ensures.ok
 
 pub returns-clause-loaded : goal.returns-clause-loaded
 returns-clause-loaded g c = λ told.
@@ -70,7 +70,7 @@ returns-then-end-need-clause-differs g c = λ tells. (
   c.if-end-need.true,
   record {
     tree = record { head = c.in_ok-head.head; nodes = take c.in_ok-head.head.greatest c.read_table.new.nodes };
-    verified = table_verified c.deref.result.now c.args.root _ c.in_ok-head.ensures.ok;
+    verified = table_verified c.deref.result.now c.args.root _ c.read_table.ensures.bytes c.in_ok-head.ensures.ok;
     is = c.need_of-need.ensures;
   },
 )

@@ -1,7 +1,7 @@
 use Rattle.std.proofs.Common.{List, sym, subst}
 use Rattle.store_commit.specs.Causes.{counts}
 use Rattle.store_commit.specs.Counts.{NoneRose}
-use Rattle.store_commit.specs.Formats.{Formats, IsFormatWritten}
+use Rattle.store_commit.specs.Formats.{FormatGoesOn, Formats, IsFormatWritten}
 use Rattle.object_calls.specs.OpeningFiles.{files_of}
 use Rattle.object_calls.proofs.FormedBench.{mounts_none}
 use Rattle.object_calls.proofs.formatting.format.Goals as goal
@@ -31,3 +31,11 @@ returns-in-Ok-clause-passed g c =
     subst (λ (l : List g.row.F.Denot). NoneRose (counts (files_of state l 0) (port c.args.bench.card) drew) (counts (files_of state c.with_dir-files.result.items 0) (port c.in-Ok.card) draws)) (sym c.take_dir-dir.ensures.files)
     (subst (λ (l : List g.row.F.Denot). NoneRose (counts (state c.take_dir-dir.result.0) (port c.args.bench.card) drew) (counts (files_of state l 0) (port c.in-Ok.card) draws)) (sym c.with_dir-files.ensures.files)
     c.in-Ok.ensures.passed)
+
+pub returns-in-Ok-clause-goes_on : goal.returns-in-Ok-clause-goes_on
+returns-in-Ok-clause-goes_on g c =
+    let state = g.F.StoreFile.state in
+    let port = g.R.RpmbPort.state in
+    subst (λ (l : List g.row.F.Denot). FormatGoesOn (files_of state l 0) (files_of state c.with_dir-files.result.items 0) (port c.args.bench.card) (port c.in-Ok.card)) (sym c.take_dir-dir.ensures.files)
+    (subst (λ (l : List g.row.F.Denot). FormatGoesOn (state c.take_dir-dir.result.0) (files_of state l 0) (port c.args.bench.card) (port c.in-Ok.card)) (sym c.with_dir-files.ensures.files)
+    c.in-Ok.ensures.goes_on)

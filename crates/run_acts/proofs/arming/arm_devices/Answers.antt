@@ -1,4 +1,4 @@
-use Rattle.std.proofs.Common.{List, get_or, take, sym, subst}
+use Rattle.std.proofs.Common.{List, drop, get_or, take, sym, subst, take-append-drop}
 use Rattle.std.proofs.lemmas.List.{take_more}
 use Rattle.std.proofs.lemmas.Result.{err_from_is_err_and}
 use Rattle.tee_types.specs.declared.reply.Device.TheVariants.{Dir}
@@ -28,4 +28,4 @@ returns-in_err-arm_device-clause-some g c =
     let state = opening_state g.F.StoreFile.state g.R.RpmbPort.state in
     let front = take l.arm-index c.args.arms.now in
     let p = err_from_is_err_and c.from_residual.result c.from_residual.ensures.1 in
-    rw (p.1) (front, arms_stay front (state c.args.opening.now) (state l.opening) (state c.arm_device.new.opening) l.invariant.arms c.in_err-arm_device.ensures.unarmed)
+    rw (p.1) (front, drop l.arm-index c.args.arms.now, sym (take-append-drop l.arm-index c.args.arms.now), arms_stay front (state c.args.opening.now) (state l.opening) (state c.arm_device.new.opening) l.invariant.arms c.in_err-arm_device.ensures.unarmed)

@@ -1,4 +1,4 @@
-use Rattle.run_acts.proofs.Mounted.{next_openings_are_left}
+use Rattle.run_acts.proofs.Untainted.{next_openings_are_left}
 use Rattle.run_acts.proofs.device_laws.next_openings_are_left.Goals as goal
 
 pub returns : goal.returns

@@ -1,4 +1,4 @@
-use Rattle.run_acts.proofs.Mounted.{next_phases_open_with_left}
+use Rattle.run_acts.proofs.Untainted.{next_phases_open_with_left}
 use Rattle.run_acts.proofs.device_laws.next_phases_open_with_left.Goals as goal
 
 pub returns : goal.returns

@@ -6,6 +6,7 @@ returns-in-Ok-clause-answer g c = record {
   formed = c.in-Ok.ensures.made;
   empty = c.in-Ok.ensures.mounts;
   written = c.in-Ok.ensures.written;
+  goes_on = c.in-Ok.ensures.goes_on;
   others = same_objects g.F.StoreFile.state c.args.bench.files.items c.in-Ok.bench.files.items c.in-Ok.ensures.others;
   dir_passed = c.in-Ok.ensures.passed.file;
   card_passed = c.in-Ok.ensures.passed.card;
@@ -17,5 +18,6 @@ returns-in-Err-clause-answer g c = record {
   heard = c.in-Err.ensures.heard;
   counted = c.in-Err.ensures.counts;
   left = c.in-Err.ensures.left;
+  goes_on = c.in-Err.ensures.goes_on_err;
   others = same_objects g.F.StoreFile.state c.args.bench.files.items c.in-Err.halted.bench.files.items c.in-Err.ensures.others_err;
 }

@@ -4,6 +4,7 @@ use Rattle.object_calls.specs.declared.bench.Bench.{Bench}
 use Rattle.run_acts.specs.Benches.{HasPassed, bench_state}
 use Rattle.run_acts.specs.Opens.{IsOpenRefused, StopsOpening, starved, stopped, unasked}
 use Rattle.run_acts.proofs.OpenedBenches.{opens_passed}
+use Rattle.run_acts.proofs.NotDrawn.{told_not_drawn}
 use Rattle.run_acts.proofs.first_opening.open_bench.Goals as goal
 
 pub returns-in_default-clause-refused : goal.returns-in_default-clause-refused
@@ -36,3 +37,11 @@ returns-clause-refused g c =
       | inr gone ↦ starved halted.fault gone.0 stops gone.1
     ] in
     subst (λ (b : Bench g.row.F.Denot g.row.R.Denot). IsOpenRefused c.args.keys.now old (view b) drew draws c.tell_fault.result.fault) (sym c.tell_fault.ensures.bench) refused
+
+pub returns-clause-drawn : goal.returns-clause-drawn
+returns-clause-drawn g c = λ reliable.
+    let view = bench_state g.F.StoreFile.state g.R.RpmbPort.state in
+    let halted = c.in-Err.halted in
+    let counted = c.deref-in-Err.ensures.value ∙ c.in-Ok.ensures ∙ ap (λ (l : List g.row.F.Denot). map (λ f. (g.F.StoreFile.state f).starved) l) c.deref.ensures.value in
+    told_not_drawn (view c.args.bench) (view halted.bench) halted.fault c.tell_fault.result.fault
+    (c.tell_fault.ensures.told c.args.bench (c.requires ∙ sym c.in-Err.ensures.whole_err) counted) (c.in-Err.ensures.drawn reliable)

@@ -31,6 +31,7 @@ pub returns-in-Err-clause-refused : goal.returns-in-Err-clause-refused
 returns-in-Err-clause-refused g c = record {
   refused = stops_mounting g.F.StoreFile.state c.args.keys.now c.args.bench.files.items c.in-Err.halted.bench.files.items (g.R.RpmbPort.state c.args.bench.card) (g.R.RpmbPort.state c.in-Err.halted.bench.card)
       (g.E.Entropy.faults c.args.entropy.now) (g.E.Entropy.faults c.mount.new.entropy) c.in-Err.halted.fault c.in-Err.ensures.refused;
+  told = c.in-Err.ensures.told;
   sound = files_sound g.F.StoreFile.state g.met.F.StoreFile.sound c.args.bench.files.items;
   heard = c.in-Err.ensures.heard;
   counted = c.in-Err.ensures.counts;

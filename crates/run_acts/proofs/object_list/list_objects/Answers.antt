@@ -4,6 +4,7 @@ use Rattle.object_calls.specs.declared.bench.Bench.{Bench}
 use Rattle.run_acts.specs.Benches.{bench_state}
 use Rattle.run_acts.specs.ListedBenches.{IsListRefused, StopsListing, starved, stopped, unasked}
 use Rattle.run_acts.proofs.ListedBenches.{keeps_all}
+use Rattle.run_acts.proofs.NotDrawn.{told_not_drawn}
 use Rattle.run_acts.proofs.object_list.list_objects.Goals as goal
 
 pub returns-in_default-clause-refused : goal.returns-in_default-clause-refused
@@ -29,3 +30,12 @@ returns-clause-refused g c =
       keeps = c.in-Err.ensures.keeps;
     } in
     subst (λ (b : Bench g.row.F.Denot g.row.R.Denot). IsListRefused state port c.args.keys.now old (bench_state state port b) drew draws c.tell_fault.result.fault) (sym c.tell_fault.ensures.bench) refused
+
+pub returns-clause-drawn : goal.returns-clause-drawn
+returns-clause-drawn g c = λ reliable.
+    let state = g.F.StoreFile.state in
+    let port = g.R.RpmbPort.state in
+    let halted = c.in-Err.halted in
+    let counted = c.deref-in-Err.ensures.value ∙ c.in-Ok.ensures ∙ ap (λ (l : List g.row.F.Denot). map (λ f. (state f).starved) l) c.deref.ensures.value in
+    told_not_drawn (bench_state state port c.args.bench) (bench_state state port halted.bench) halted.fault c.tell_fault.result.fault
+    (c.tell_fault.ensures.told c.args.bench (c.requires ∙ sym c.in-Err.ensures.whole_err) counted) (c.in-Err.ensures.drawn reliable)

@@ -21,11 +21,11 @@ returns-in_err-sessions-clause-unready g c =
     let state = opening_state g.F.StoreFile.state g.R.RpmbPort.state in
     let old : OpeningValue g.row.F.Denot g.row.R.Denot = c.args.opening.now in
     let p = err_from_is_err_and c.from_residual.result c.from_residual.ensures.1 in
-    rw (p.1) ([], subst (λ (b : BenchState). ArmsAll [] (state old) b) (ap state (sym c.open_sessions.ensures.same)) (λ file. refl, refl))
+    rw (p.1) ([], c.args.arms.now, refl, subst (λ (b : BenchState). ArmsAll [] (state old) b) (ap state (sym c.open_sessions.ensures.same)) (λ file. refl, refl))
 
 pub returns-in_err-arm_devices-clause-unready : goal.returns-in_err-arm_devices-clause-unready
 returns-in_err-arm_devices-clause-unready g c =
     let state = opening_state g.F.StoreFile.state g.R.RpmbPort.state in
     let some = c.in_err-arm_devices.ensures.some in
     let p = err_from_is_err_and c.from_residual-in_err-arm_devices.result c.from_residual-in_err-arm_devices.ensures.1 in
-    rw (p.1) (some.0, subst (λ (b : BenchState). ArmsAll some.0 b (state c.arm_devices.new.opening)) (ap state c.in_ok-sessions.ensures.opened) some.1)
+    rw (p.1) (some.0, some.1, some.2, subst (λ (b : BenchState). ArmsAll some.0 b (state c.arm_devices.new.opening)) (ap state c.in_ok-sessions.ensures.opened) some.3)

@@ -9,6 +9,7 @@ use Rattle.run_acts.proofs.Ready.{serves_where}
 use Rattle.run_acts.specs.PhaseRefusals.{uncalled}
 use Rattle.run_acts.proofs.PhaseChains.{files_none}
 use Rattle.run_acts.proofs.Starved.{served_opened, starved_opened}
+use Rattle.run_acts.proofs.NotDrawn.{memory_not_drawn}
 use Rattle.run_acts.proofs.phase.run_phase.Goals as goal
 
 pub returns-in-Ok-serve_opened-clause-runs : goal.returns-in-Ok-serve_opened-clause-runs
@@ -40,8 +41,8 @@ returns-in-Ok-serve_opened-clause-runs g c =
         disarms = c.disarm_bench.ensures.disarms;
         with_memory = fed_disarmed (bench_state of_file of_port c.args.bench) (bench_state of_file of_port closed.bench) (bench_state of_file of_port c.disarm_bench.result) with_memory
             c.disarm_bench.ensures.disarms;
-        port = c.disarm_bench.result.card;
-        port_is = refl;
+        past = λ file beyond. files_none of_file c.disarm_bench.result.files.items file
+            (omega (arith, beyond, c.disarm_bench.ensures.whole, c.in-Ok-serve_opened.ensures.whole, c.disarm_bench.result.files.ok.0));
       },
     )
 
@@ -52,14 +53,14 @@ returns-in_default-clause-refused g c =
     inr (record {
       fault_is = c.starved_bench.ensures.fault;
       left = bench_state of_file of_port c.args.bench;
-      leaves = uncalled refl;
+      leaves = uncalled refl refl;
       disarms = c.starved_bench.ensures.disarms;
     })
 
 pub returns-in_err-opening-clause-refused : goal.returns-in_err-opening-clause-refused
 returns-in_err-opening-clause-refused g c =
     let p = err_from_is_err_and c.from_residual.result c.from_residual.ensures.1 in
-    rw (p.1, p.2) (c.in_err-opening.ensures.refused c.args.applications.now c.args.arms.now)
+    rw (p.1, p.2) (c.in_err-opening.ensures.refused c.args.applications.now c.args.arms.now c.args.mode c.args.calls.now)
 
 pub returns-in-Ok-2-clause-refused : goal.returns-in-Ok-2-clause-refused
 returns-in-Ok-2-clause-refused g c =
@@ -71,9 +72,9 @@ returns-in-Ok-2-clause-refused g c =
     let closed = c.in-Ok-serve_opened.closed in
     let left = bench_state of_file of_port closed.bench in
     let halted = c.starved_bench-in-Ok-2.result in
-    inr (starved_opened of_file of_port keys c.args.applications.now c.args.arms.now (bench_state of_file of_port c.args.bench) (bench_state of_file of_port halted.bench) opened left halted.fault
-    c.starved_bench-in-Ok-2.ensures.fault mounted.mounts mounted.keeps
-    (served_opened of_file of_port keys c.args.applications.now c.args.arms.now (g.E.Entropy.is_reliable c.mount_with_memory.new.entropy) c.args.mode c.args.calls.now opened left
+    inr (starved_opened of_file of_port keys c.args.applications.now c.args.arms.now c.args.mode c.args.calls.now (bench_state of_file of_port c.args.bench) (bench_state of_file of_port halted.bench) opened left halted.fault
+    _ _ c.starved_bench-in-Ok-2.ensures.fault mounted.mounts mounted.keeps mounted.undrawn
+    (served_opened of_file of_port keys c.args.applications.now c.args.arms.now c.args.mode c.args.calls.now (g.E.Entropy.is_reliable c.mount_with_memory.new.entropy) opened left
     closed.history.events c.in-Ok-serve_opened.ensures.serves)
     c.starved_bench-in-Ok-2.ensures.disarms)
 
@@ -84,5 +85,19 @@ returns-clause-refused g c =
     let opened : OpeningValue g.row.F.Denot g.row.R.Denot = c.in_ok-opening.opening in
     let mounted = c.in_ok-opening.ensures in
     let halted = c.starved_bench-in-Err.result in
-    inr (starved_opened of_file of_port c.args.keys.now c.args.applications.now c.args.arms.now (bench_state of_file of_port c.args.bench) (bench_state of_file of_port halted.bench) opened
-    (bench_state of_file of_port c.in-Err.bench) halted.fault c.starved_bench-in-Err.ensures.fault mounted.mounts mounted.keeps c.in-Err.ensures.early c.starved_bench-in-Err.ensures.disarms)
+    inr (starved_opened of_file of_port c.args.keys.now c.args.applications.now c.args.arms.now c.args.mode c.args.calls.now (bench_state of_file of_port c.args.bench) (bench_state of_file of_port halted.bench) opened
+    (bench_state of_file of_port c.in-Err.bench) halted.fault _ _ c.starved_bench-in-Err.ensures.fault mounted.mounts mounted.keeps mounted.undrawn c.in-Err.ensures.early c.starved_bench-in-Err.ensures.disarms)
+
+pub returns-in_default-clause-drawn : goal.returns-in_default-clause-drawn
+returns-in_default-clause-drawn g c = λ reliable. memory_not_drawn c.starved_bench.result.fault c.starved_bench.ensures.fault
+
+pub returns-in_err-opening-clause-drawn : goal.returns-in_err-opening-clause-drawn
+returns-in_err-opening-clause-drawn g c = λ reliable.
+    let p = err_from_is_err_and c.from_residual.result c.from_residual.ensures.1 in
+    rw (p.1, p.2) (c.in_err-opening.ensures.drawn reliable)
+
+pub returns-in-Ok-2-clause-drawn : goal.returns-in-Ok-2-clause-drawn
+returns-in-Ok-2-clause-drawn g c = λ reliable. memory_not_drawn c.starved_bench-in-Ok-2.result.fault c.starved_bench-in-Ok-2.ensures.fault
+
+pub returns-clause-drawn : goal.returns-clause-drawn
+returns-clause-drawn g c = λ reliable. memory_not_drawn c.starved_bench-in-Err.result.fault c.starved_bench-in-Err.ensures.fault

@@ -53,9 +53,9 @@ returns-in-Ok-clause-early g c =
     let keys = c.args.keys.now in
     let armed : OpeningValue g.row.F.Denot g.row.R.Denot = c.make_ready.new.opening in
     IfErr-weaker c.serve_once.result
-    (λ b. ClosesEarly (store_in keys of_file of_port armed) (opening_state of_file of_port armed) (bench_state of_file of_port b))
-    (λ b. ClosesOpened of_file of_port keys c.args.applications.now c.args.arms.now c.args.opening (bench_state of_file of_port b))
-    (λ b closes. early_opened of_file of_port keys c.args.applications.now c.args.arms.now c.args.opening armed (bench_state of_file of_port b) c.in-Ok.ensures.ready c.requires.keyed closes)
+    (λ b. ClosesEarly (store_in keys of_file of_port armed) (opening_state of_file of_port armed) c.args.mode c.args.calls.now (bench_state of_file of_port b))
+    (λ b. ClosesOpened of_file of_port keys c.args.applications.now c.args.arms.now c.args.mode c.args.calls.now c.args.opening (bench_state of_file of_port b))
+    (λ b closes. early_opened of_file of_port keys c.args.applications.now c.args.arms.now c.args.mode c.args.calls.now c.args.opening armed (bench_state of_file of_port b) c.in-Ok.ensures.ready c.requires.keyed closes)
     c.serve_once.ensures.early
 
 pub returns-in-Err-clause-early : goal.returns-in-Err-clause-early
@@ -65,5 +65,10 @@ returns-in-Err-clause-early g c =
     let state = opening_state of_file of_port in
     let left : OpeningValue g.row.F.Denot g.row.R.Denot = c.make_ready.new.opening in
     let some = c.in-Err.ensures.unready in
-    unready some.0 (subst (λ (b : BenchState). ArmsAll some.0 (state c.args.opening) b)
-    (sym (closed_state of_file of_port left left c.close.result refl c.close.ensures.files c.close.ensures.card)) some.1)
+    unready (
+      some.0,
+      some.1,
+      some.2,
+      subst (λ (b : BenchState). ArmsAll some.0 (state c.args.opening) b)
+          (sym (closed_state of_file of_port left left c.close.result refl c.close.ensures.files c.close.ensures.card)) some.3,
+    )

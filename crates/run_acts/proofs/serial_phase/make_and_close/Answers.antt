@@ -1,12 +1,13 @@
-use Rattle.std.proofs.Common.{◌≡◌, ◌∙◌, List, length, sym, ap, subst}
+use Rattle.std.proofs.Common.{◌≡◌, ◌∙◌, List, drop, length, take, sym, ap, subst, take-append-drop}
+use Rattle.script_text.specs.declared.script.Step.{Step}
 use Rattle.shared_store.specs.CallerSessions.{CallerSession}
 use Rattle.object_calls.specs.OpeningSessions.{AreCallers}
 use Rattle.object_calls.proofs.Files.{refilled}
 use Rattle.run_acts.specs.Reliable.{AreFresh, AreReliable}
 use Rattle.run_acts.specs.ServedSteps.{AreCalls}
 use Rattle.run_acts.specs.Benches.{bench_state}
-use Rattle.run_acts.specs.Closing.{ClosesStore, served}
-use Rattle.run_acts.proofs.Closings.{closes_store, ends_devices}
+use Rattle.run_acts.specs.Closing.{ClosesStore}
+use Rattle.run_acts.proofs.Closings.{closes_early, closes_store, ends_devices}
 use Rattle.run_acts.proofs.serial_phase.make_and_close.Goals as goal
 
 pub make_calls-made-requires-clause-calls : goal.make_calls-made-requires-clause-calls
@@ -40,4 +41,14 @@ returns-in-Ok-clause-closed g c = λ mode before has.
     closed.ensures.events closed.ensures.leaves)
 
 pub returns-in-Err-clause-early : goal.returns-in-Err-clause-early
-returns-in-Err-clause-early g c = λ before. served _ _ c.finish-closed.ensures.leaves
+returns-in-Err-clause-early g c = λ before has.
+    let of_file = g.F.StoreFile.state in
+    let of_port = g.R.RpmbPort.state in
+    let was : List (CallerSession g.row.E.Denot) = c.deref_mut.result.now in
+    let made = c.make_calls-made in
+    let closed = c.finish-closed in
+    let front = c.in-Err.ensures.stopped in
+    let calls : List Step = c.args.calls.now in
+    closes_early of_file of_port g.E.Entropy.faults g.E.Entropy.is_reliable g.L.StoreName.store c.args.service made.new.service before (bench_state of_file of_port closed.result.bench) was made.new.sessions
+    (take front.0 calls) has (ends_devices of_file of_port made.new.service closed.result.bench.files.items closed.result.bench.card closed.ensures.gives) front.2 calls (drop front.0 calls) closed.result.doubt
+    c.requires.begins (sym (take-append-drop front.0 calls)) closed.ensures.leaves

@@ -71,7 +71,10 @@ returns-in-Ok-clause-closed g c = λ mode.
     (c.make_and_close.ensures.closed mode before (begins_devices of_file of_port store c.args.opening service c.in-Ok.ensures.served))
 
 pub returns-in-Ok-clause-early : goal.returns-in-Ok-clause-early
-returns-in-Ok-clause-early g c = c.make_and_close.ensures.early (opening_state g.F.StoreFile.state g.R.RpmbPort.state c.args.opening)
+returns-in-Ok-clause-early g c =
+    let of_file = g.F.StoreFile.state in
+    let of_port = g.R.RpmbPort.state in
+    c.make_and_close.ensures.early (opening_state of_file of_port c.args.opening) (begins_devices of_file of_port g.L.StoreName.store c.args.opening c.in-Ok.service c.in-Ok.ensures.served)
 
 pub returns-in-Err-clause-early : goal.returns-in-Err-clause-early
 returns-in-Err-clause-early g c =

@@ -1,11 +1,11 @@
-use Rattle.std.proofs.Common.{IfOk, refl, subst, sym}
+use Rattle.std.proofs.Common.{IfErr, IfOk, refl, subst, sym}
 use Rattle.object_calls.specs.OpeningFiles.{files_of}
 use Rattle.object_calls.specs.OpenedStores.{store_in}
 use Rattle.run_acts.specs.Reliable.{AreReliable}
 use Rattle.script_text.specs.declared.script.Mode.{Mode}
 use Rattle.script_text.specs.declared.script.Mode.TheVariants.{Threads}
 use Rattle.run_acts.specs.Benches.{bench_state, opening_state}
-use Rattle.run_acts.specs.Closing.{ClosesStore}
+use Rattle.run_acts.specs.Closing.{ClosesEarly, ClosesStore}
 use Rattle.std.proofs.lemmas.Result.{IfOk-weaker}
 use Rattle.run_acts.proofs.SharedClosings.{shared_closes}
 use Rattle.run_acts.specs.SharedClosing.{ClosesShared}
@@ -34,7 +34,17 @@ returns-in-Threads-clause-closed g c =
     (λ x closes. shared_closes of_file of_port reliable store c.args.opening calls (bench_state of_file of_port x.bench) x.history.events closes) c.serve_shared_once.ensures.closed)
 
 pub returns-in-Serial-clause-early : goal.returns-in-Serial-clause-early
-returns-in-Serial-clause-early g c = c.serve_calls.ensures.early
+returns-in-Serial-clause-early g c =
+    let of_file = g.F.StoreFile.state in
+    let of_port = g.R.RpmbPort.state in
+    let before = opening_state of_file of_port c.args.opening in
+    subst (λ (mode : Mode). IfErr c.serve_calls.result (λ b. ClosesEarly (store_in c.args.keys.now of_file of_port c.args.opening) before mode c.args.calls.now (bench_state of_file of_port b)))
+    (sym c.in-Serial.is) c.serve_calls.ensures.early
 
 pub returns-in-Threads-clause-early : goal.returns-in-Threads-clause-early
-returns-in-Threads-clause-early g c = c.serve_shared_once.ensures.early
+returns-in-Threads-clause-early g c =
+    let of_file = g.F.StoreFile.state in
+    let of_port = g.R.RpmbPort.state in
+    let before = opening_state of_file of_port c.args.opening in
+    subst (λ (mode : Mode). IfErr c.serve_shared_once.result (λ b. ClosesEarly (store_in c.args.keys.now of_file of_port c.args.opening) before mode c.args.calls.now (bench_state of_file of_port b)))
+    (sym c.in-Threads.is) c.serve_shared_once.ensures.early

@@ -6,7 +6,7 @@ use Rattle.object_calls.specs.OpeningFiles.{files_of}
 use Rattle.object_calls.specs.OpeningSessions.{AreSeated, DrawAlike, HaveNoEvents}
 use Rattle.object_calls.proofs.Files.{refilled}
 use Rattle.shared_store.specs.Kept.{KeepsGate}
-use Rattle.run_acts.specs.Sharing.{AreKept}
+use Rattle.run_acts.specs.Sharing.{AreKept, IsBenchOf}
 use Rattle.run_acts.proofs.Sharings.{first_gate_kept, first_slots_kept}
 use Rattle.run_acts.specs.Reliable.{AreFresh, AreReliable}
 use Rattle.run_acts.specs.ServedSteps.{AreCalls}
@@ -96,7 +96,12 @@ returns-in_default-clause-early g c =
     unserved (closed_state g.F.StoreFile.state g.R.RpmbPort.state c.args.opening c.args.opening c.close.result refl c.close.ensures.files c.close.ensures.card)
 
 pub returns-in-Ok-serve-clause-early : goal.returns-in-Ok-serve-clause-early
-returns-in-Ok-serve-clause-early g c = c.share_and_close.ensures.early (opening_state g.F.StoreFile.state g.R.RpmbPort.state c.args.opening)
+returns-in-Ok-serve-clause-early g c =
+    let of_file = g.F.StoreFile.state in
+    let of_port = g.R.RpmbPort.state in
+    let before = opening_state of_file of_port c.args.opening in
+    c.share_and_close.ensures.early before
+    (subst (λ (d : Devices). IsBenchOf d before) (sym c.requires.devices) (record { dir = refl; each = λ file from. refl; card = refl }))
 
 pub returns-in-Err-clause-early : goal.returns-in-Err-clause-early
 returns-in-Err-clause-early g c =

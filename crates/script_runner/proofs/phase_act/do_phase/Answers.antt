@@ -61,8 +61,9 @@ returns-clause-err g c = λ first lasts.
     let run = c.args.run in
     let script = c.args.script.now in
     let halted = c.in-Err.field-0 in
-    let GivenUp : List (List ℕ) → List Arm → Type 0 = λ apps arms.
-    IsGivenUp of_file of_port c.args.keys.now apps arms (bench_state of_file of_port run.bench) (bench_state of_file of_port halted.bench) (g.E.Entropy.faults c.args.entropy.now) (g.E.Entropy.faults c.run_phase.new.entropy) halted.fault in
-    let given_up = subst (λ (a : List Arm). GivenUp (applications_of script) a) c.as_slice.ensures.value
-    (subst (λ (a : List (List ℕ)). GivenUp a c.as_slice.result.now) c.applications.ensures c.in-Err.ensures.refused) in
+    let GivenUp : List (List ℕ) → List Arm → List Step → Type 0 = λ apps arms steps.
+    IsGivenUp of_file of_port c.args.keys.now apps arms run.mode steps (bench_state of_file of_port run.bench) (bench_state of_file of_port halted.bench) (g.E.Entropy.faults c.args.entropy.now) (g.E.Entropy.faults c.run_phase.new.entropy) halted.fault in
+    let given_up = subst (λ (s : List Step). GivenUp (applications_of script) run.arms.items s) c.calls_from-calls.ensures.calls
+    (subst (λ (a : List Arm). GivenUp (applications_of script) a c.calls_from-calls.result.now) c.as_slice.ensures.value
+    (subst (λ (a : List (List ℕ)). GivenUp a c.as_slice.result.now c.calls_from-calls.result.now) c.applications.ensures c.in-Err.ensures.refused)) in
     EndsAt-calls of_file of_port g.F.FileRig.crash_image (g.E.Entropy.is_reliable first) c.args.keys.now script _ _ _ _ _ run _ halted.fault c.requires.call given_up c.print_mount_refusal-status.ensures.prints c.in-Err.ensures.whole_err

@@ -3,14 +3,15 @@ use Rattle.std.proofs.lemmas.List.{length-map}
 use Rattle.std.proofs.lemmas.Result.{IfErr-weaker, IfOk-weaker}
 use Rattle.run_acts.specs.ServedSteps.{AreCalls}
 use Rattle.script_text.specs.Script.{Declaration, ScriptValue}
+use Rattle.script_text.specs.declared.script.Mode.TheVariants.{Threads}
 use Rattle.run_acts.specs.declared.MountFault.TheVariants.{NoMemory}
 use Rattle.run_acts.specs.Benches.{bench_state}
 use Rattle.run_acts.specs.ListedBenches.{IsListRefused, ListsBench}
 use Rattle.run_acts.specs.PhaseRefusals.{IsGivenUp}
 use Rattle.store_model.specs.Object.{ObjectMap}
-use Rattle.script_runner.specs.Soaks.{GoesThrough, IsBroken, PrintsObjects, soak_applications}
+use Rattle.script_runner.specs.Soaks.{GoesThrough, IsBroken, PrintsObjects}
 use Rattle.script_runner.specs.Trace.{applications_of}
-use Rattle.script_runner.proofs.Soaks.{GoesThrough-acts, IsBroken-undone, IsBroken-phase, IsBroken-printed, RunsPhase-soak, length-soak_applications}
+use Rattle.script_runner.proofs.Soaks.{GoesThrough-acts, IsBroken-undone, IsBroken-phase, IsBroken-printed, RunsPhase-soak, as_soak, length-soak_applications}
 use Rattle.script_runner.proofs.soak_run.soak_opened.Goals as goal
 
 pub returns-in_default-clause-err : goal.returns-in_default-clause-err
@@ -72,6 +73,6 @@ returns-clause-err g c = λ first lasts.
     let halted = c.in-Err.halted in
     let old = bench_state state port c.args.bench in
     let new = bench_state state port halted.bench in
-    let same : c.applications.result.now ≡ soak_applications number = c.applications.ensures ∙ ap applications_of c.in-Ok.ensures in
     IsBroken-phase state port g.F.FileRig.crash_image (g.E.Entropy.is_reliable first) keys number _ _ old new halted.fault
-    (subst (λ (a : List (List ℕ)). IsGivenUp state port keys a [] old new (g.E.Entropy.faults c.args.entropy.now) (g.E.Entropy.faults c.run_phase.new.entropy) halted.fault) same c.in-Err.ensures.refused)
+    (as_soak number (λ a s. IsGivenUp state port keys a [] Threads s old new (g.E.Entropy.faults c.args.entropy.now) (g.E.Entropy.faults c.run_phase.new.entropy) halted.fault) c.in-Ok.script _ _
+    c.in-Ok.ensures c.applications.ensures c.calls_from-calls.ensures.calls c.in-Err.ensures.refused)

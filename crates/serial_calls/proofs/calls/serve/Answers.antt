@@ -1,7 +1,7 @@
 -- The gate answered the call, or the slot of its object did, or memory ran out.
 use Rattle.std.proofs.Common.{◌≡◌, ◌∙◌, ℕ, List, None, Ok, Option, ap, arith, subst, sym}
 use Rattle.std.proofs.lemmas.Result.{err_from_is_err_and}
-use Rattle.call_steps.specs.GateServed.{IsLeft, ServesAlone}
+use Rattle.call_steps.specs.GateServed.{IsLeft, ServesAlone, ServesAtOnce}
 use Rattle.hmac_keys.specs.KeyTable.{rpmb_key}
 use Rattle.call_steps.specs.declared.PlacedReply.{PlacedReply}
 use Rattle.history_seats.specs.Views.{GateView}
@@ -10,6 +10,7 @@ use Rattle.rpmb_host.specs.Honest.{HasCard}
 use Rattle.call_steps.specs.Gates.{DoubtStands, GateValue, gate_sides}
 use Rattle.call_steps.proofs.Cards.{settled_counts}
 use Rattle.serial_calls.specs.HeldFiles.{KeepsHolds}
+use Rattle.serial_calls.proofs.AtOnce.{answered_at_once, misused_ready, unanswered_at_once}
 use Rattle.serial_calls.proofs.HeldSettling.{room_holds, settled_holds}
 use Rattle.serial_calls.proofs.ServeSettling.{Settles, reserved_settles, settled_settles, settles_reserved}
 use Rattle.serial_calls.proofs.WholeCalls.{alone_serves, none_serves, object_serves, unserved_serves}
@@ -116,3 +117,48 @@ returns-clause-serves g c =
     let done = c.serve_object in
     object_serves of_file of_port g.E.Entropy.faults store c.args.gate.now c.reserve-2.new.self done.new.gate c.args.slots.now.items done.new.slots.items c.args.session.now alone.new.session
     done.new.session settled held alone.ensures.counted left.number left.made left.goes_on c.args.call.now _ done.result done.ensures.serves
+
+pub returns-in_err-answer-clause-at_once : goal.returns-in_err-answer-clause-at_once
+returns-in_err-answer-clause-at_once g c = λ misused.
+    let alone = c.answer_alone in
+    let p = err_from_is_err_and c.from_residual-in_err-answer.result c.from_residual-in_err-answer.ensures.1 in
+    let left = c.in_err-answer.ensures.at_once
+    (misused_ready g.L.StoreName.store c.args.call.now c.args.gate.now c.reserve.new.self alone.new.gate c.args.session.now alone.new.session c.args.slots.now.items
+    c.reserve.ensures.gate c.reserve.ensures.handles c.reserve.ensures.knows c.reserve.ensures.closing misused) in
+    rw (p.1)
+    (unanswered_at_once g.L.StoreName.store c.args.call.now c.args.gate.now c.reserve.new.self alone.new.gate c.args.session.now alone.new.session c.args.slots.now.items
+    c.reserve.ensures.gate c.reserve.ensures.handles c.reserve.ensures.knows c.reserve.ensures.closing left.0 left.1)
+
+pub returns-in-Some-clause-at_once : goal.returns-in-Some-clause-at_once
+returns-in-Some-clause-at_once g c = λ misused.
+    let alone = c.answer_alone in
+    let served = c.in_ok-answer.ensures.at_once
+    (misused_ready g.L.StoreName.store c.args.call.now c.args.gate.now c.reserve.new.self alone.new.gate c.args.session.now alone.new.session c.args.slots.now.items
+    c.reserve.ensures.gate c.reserve.ensures.handles c.reserve.ensures.knows c.reserve.ensures.closing misused) in
+    answered_at_once g.L.StoreName.store c.args.call.now c.args.gate.now c.reserve.new.self alone.new.gate c.args.session.now alone.new.session c.args.slots.now.items
+    c.reserve.ensures.gate c.reserve.ensures.handles c.reserve.ensures.knows c.reserve.ensures.closing c.in-Some.answer
+    (subst
+    (λ (o : Option PlacedReply). ServesAtOnce {X = Unit {0}} g.L.StoreName.store c.args.call.now c.reserve.new.self alone.new.gate c.args.session.now alone.new.session (Ok o))
+    c.in-Some.is served)
+
+pub returns-in_err-reserve-2-clause-at_once : goal.returns-in_err-reserve-2-clause-at_once
+returns-in_err-reserve-2-clause-at_once g c = λ misused.
+    let alone = c.answer_alone in
+    let served = c.in_ok-answer.ensures.at_once
+    (misused_ready g.L.StoreName.store c.args.call.now c.args.gate.now c.reserve.new.self alone.new.gate c.args.session.now alone.new.session c.args.slots.now.items
+    c.reserve.ensures.gate c.reserve.ensures.handles c.reserve.ensures.knows c.reserve.ensures.closing misused) in
+    absurd
+    (subst
+    (λ (o : Option PlacedReply). ServesAtOnce {X = Unit {0}} g.L.StoreName.store c.args.call.now c.reserve.new.self alone.new.gate c.args.session.now alone.new.session (Ok o))
+    c.in_default.is served)
+
+pub returns-clause-at_once : goal.returns-clause-at_once
+returns-clause-at_once g c = λ misused.
+    let alone = c.answer_alone in
+    let served = c.in_ok-answer.ensures.at_once
+    (misused_ready g.L.StoreName.store c.args.call.now c.args.gate.now c.reserve.new.self alone.new.gate c.args.session.now alone.new.session c.args.slots.now.items
+    c.reserve.ensures.gate c.reserve.ensures.handles c.reserve.ensures.knows c.reserve.ensures.closing misused) in
+    absurd
+    (subst
+    (λ (o : Option PlacedReply). ServesAtOnce {X = Unit {0}} g.L.StoreName.store c.args.call.now c.reserve.new.self alone.new.gate c.args.session.now alone.new.session (Ok o))
+    c.in_default.is served)

@@ -1,6 +1,7 @@
 use Rattle.std.proofs.Common.{refl}
 use Rattle.store_commit.proofs.CardCauses.{asked_fault, asked_neither, not_failed, same_faults}
 use Rattle.store_commit.proofs.Hearing.{last_stays, neither_heard, refused_counter, some_read}
+use Rattle.store_commit.proofs.PortArms.{exchanged_arms}
 use Rattle.store_commit.proofs.card.ask.Goals as goal
 
 pub returns-else-now-counter-2-clause-cause : goal.returns-else-now-counter-2-clause-cause
@@ -57,3 +58,15 @@ returns-in-Err-clause-calm g c calm =
       },
       not_failed c.in-Err.fault c.cause_of.result c.cause_of.ensures stays.0,
     )
+
+pub returns-then-now-counter-clause-arms : goal.returns-then-now-counter-clause-arms
+returns-then-now-counter-clause-arms g c = exchanged_arms (g.R.RpmbPort.state c.args.host.now.port) (g.R.RpmbPort.state c.read_counter.new.self.port) _ _ c.in-Ok.ensures.exchanged
+
+pub returns-then-now-counter-2-clause-arms : goal.returns-then-now-counter-2-clause-arms
+returns-then-now-counter-2-clause-arms g c = exchanged_arms (g.R.RpmbPort.state c.args.host.now.port) (g.R.RpmbPort.state c.read_counter.new.self.port) _ _ c.in-Ok.ensures.exchanged
+
+pub returns-else-now-counter-2-clause-arms : goal.returns-else-now-counter-2-clause-arms
+returns-else-now-counter-2-clause-arms g c = exchanged_arms (g.R.RpmbPort.state c.args.host.now.port) (g.R.RpmbPort.state c.read_counter.new.self.port) _ _ c.in-Ok.ensures.exchanged
+
+pub returns-in-Err-clause-arms : goal.returns-in-Err-clause-arms
+returns-in-Err-clause-arms g c = exchanged_arms (g.R.RpmbPort.state c.args.host.now.port) (g.R.RpmbPort.state c.read_counter.new.self.port) _ _ c.in-Err.ensures.exchanged

@@ -7,6 +7,7 @@ use Rattle.store_commit.specs.Heard.{AskHeard}
 use Rattle.store_commit.proofs.CardWrites.{asked, next_card}
 use Rattle.store_commit.proofs.CardCauses.{calm_end, calm_then, not_failed, same_faults, write_cause, write_counts}
 use Rattle.store_commit.proofs.Hearing.{card_heard, refused_write, some_written}
+use Rattle.store_commit.proofs.PortArms.{arms_then, written_arms}
 use Rattle.store_commit.proofs.card.write_root.Goals as goal
 
 pub returns-in-Ok-clause-card : goal.returns-in-Ok-clause-card
@@ -75,3 +76,12 @@ pub returns-in-Err-clause-counts : goal.returns-in-Err-clause-counts
 returns-in-Err-clause-counts g c =
     write_counts c.write_block.new.self.key c.args.counter (g.R.RpmbPort.state c.args.host.now.port) (g.R.RpmbPort.state c.write_block.new.self.port) (g.R.RpmbPort.state c.ask.new.host.port)
     c.in-Err.fault c.cause_of-cause.result c.ask.result c.cause_of-cause.ensures c.in-Err.ensures.counts c.in-Err.ensures.counted c.ask.ensures.counted c.ask.ensures.cause
+
+pub returns-in-Ok-clause-arms : goal.returns-in-Ok-clause-arms
+returns-in-Ok-clause-arms g c = written_arms (g.R.RpmbPort.state c.args.host.now.port) (g.R.RpmbPort.state c.write_block.new.self.port) _ _ (c.in-Ok.ensures.exchanged c.requires)
+
+pub returns-in-Err-clause-arms : goal.returns-in-Err-clause-arms
+returns-in-Err-clause-arms g c =
+    let old = g.R.RpmbPort.state c.args.host.now.port in
+    let mid = g.R.RpmbPort.state c.write_block.new.self.port in
+    arms_then old mid (g.R.RpmbPort.state c.ask.new.host.port) (written_arms old mid _ _ (c.in-Err.ensures.exchanged c.requires)) c.ask.ensures.arms

@@ -10,7 +10,8 @@ use Rattle.store_commit.proofs.Ending.{doubted, doubted_steps, dropped, landed_n
 use Rattle.store_commit.proofs.Preparing.{adopted_dir, adopted_file}
 use Rattle.htree_file.specs.Answers.{FilePassed}
 use Rattle.store_commit.specs.Causes.{counts}
-use Rattle.store_commit.proofs.CardCauses.{frame_not_card, not_both, port_not_drawn, side_not_card}
+use Rattle.store_commit.proofs.CardCauses.{frame_not_card, not_both, port_by_card, port_not_drawn, side_not_card}
+use Rattle.store_commit.proofs.PortArms.{same_arms}
 use Rattle.store_commit.proofs.Counting.{doubt_counts, drawn_counts, lost_counts, side_counts}
 use Rattle.store_commit.proofs.commit.commit_parts.Goals as goal
 
@@ -199,3 +200,16 @@ returns-in-Unknown-clause-counts g c =
     (counts (g.F.StoreFile.state c.prepare.new.dir.file) (g.R.RpmbPort.state c.write_root.new.host.port) (g.E.Entropy.faults c.prepare.new.entropy))
     c.args.host.now.key c.args.counter.now c.in-Ok-prepare.ensures.cause.0
     (c.in-Ok-prepare.ensures.cause.1 ∙ c.in-Ok.ensures.cause) c.in-Unknown.cause c.in-Unknown.ensures.cause.0 c.in-Unknown.ensures.counts
+
+pub returns-then-at-clause-arms : goal.returns-then-at-clause-arms
+returns-then-at-clause-arms g c = same_arms (g.R.RpmbPort.state c.args.host.now.port)
+
+pub returns-in-Err-clause-arms : goal.returns-in-Err-clause-arms
+returns-in-Err-clause-arms g c = same_arms (g.R.RpmbPort.state c.args.host.now.port)
+
+pub returns-in-Err-prepare-clause-arms : goal.returns-in-Err-prepare-clause-arms
+returns-in-Err-prepare-clause-arms g c = same_arms (g.R.RpmbPort.state c.args.host.now.port)
+
+pub returns-in-Unknown-clause-doubtful : goal.returns-in-Unknown-clause-doubtful
+returns-in-Unknown-clause-doubtful g c =
+    port_by_card c.args.host.now.key c.args.counter.now (g.R.RpmbPort.state c.args.host.now.port) (g.R.RpmbPort.state c.write_root.new.host.port) c.in-Unknown.cause c.in-Unknown.ensures.cause.0

@@ -1,8 +1,7 @@
-use Rattle.std.proofs.Common.{◌≡◌, ◌≢◌, ◌∙◌, ◌+◌, ℕ, List, Ok, Err, IsTrue, refl, sym, ap, subst, inl, inr, arith}
-use Rattle.node_image.specs.declared.node.RootRef.{RootRef}
+use Rattle.std.proofs.Common.{◌≡◌, ◌≢◌, ◌∙◌, ◌+◌, ℕ, List, Ok, Err, IsTrue, refl, sym, ap, subst, inr, arith}
+use Rattle.disk_model.specs.Calls.{GoesOn}
+use Rattle.disk_model.proofs.Goings.{goes_on_none}
 use Rattle.htree_file.specs.Answers.{FilePassed}
-use Rattle.rpmb_host.specs.declared.fault.HostFault.{HostFault}
-use Rattle.rpmb_frame.specs.declared.frame.Frame.{Frame}
 use Rattle.hmac_keys.specs.KeyTable.{dir_tsk, rpmb_key}
 use Rattle.rpmb_card.specs.Protocol.{last_counter}
 use Rattle.rpmb_card.specs.Card.{CardState}
@@ -13,12 +12,14 @@ use Rattle.dir_file.specs.EntryForms.{no_entries}
 use Rattle.dir_file.specs.Held.{IsDurable}
 use Rattle.store_commit.specs.Causes.{counts}
 use Rattle.store_commit.specs.Counts.{NoneRose, RefusalCounts, RefusalNotDrawn, RefusalNotOfCard}
-use Rattle.store_commit.specs.Formats.{FormatHeard, FormatRefused, Formats, IsFormatRefused, IsFormatWritten, LeavesFormat}
+use Rattle.store_commit.specs.Formats.{FormatGoesOn, FormatHeard, FormatRefused, Formats, IsFormatWritten, LeavesFormat}
+use Rattle.store_commit.specs.Leaving.{KeepsPort}
 use Rattle.store_commit.specs.Mounts.{CardRefused}
 use Rattle.store_commit.specs.Reads.{AsksCounter, AsksWrite, IsCounterRead, IsRootWritten, OfHost}
 use Rattle.store_commit.proofs.Cards.{card_writes, has_still, host_refused, refused_then}
-use Rattle.store_commit.proofs.Counting.{faults_since, file_same, host_counts, host_not_card, host_not_drawn, make_counts, make_not_card, make_not_drawn}
+use Rattle.store_commit.proofs.Counting.{faults_since, host_counts, host_not_card, host_not_drawn}
 use Rattle.store_commit.proofs.Formatting.{card_formats, formats, leaves_format}
+use Rattle.store_commit.proofs.Leavings.{port_then, writes_keep}
 use Rattle.store_commit.proofs.Readings.{counter_heard_so, format_heard, write_made, write_refused}
 use Rattle.store_commit.proofs.form.format_parts.Goals as goal
 
@@ -268,3 +269,63 @@ returns-then-counter-clause-refused g c card has =
     let p0 = port c.args.card in
     subst (λ h. (x : CardState) → HasCard (port h.port) h.key x → x.counter ≡ c.in-Ok.counter) c.new-host.ensures c.in-Ok.ensures.told card
     (has_still p0 p0 key c.rpmb_key.result card refl c.rpmb_key.ensures has) ∙ c.if-counter.true
+
+-- what is known of the devices goes on
+pub returns-in-Err-clause-goes_on_err : goal.returns-in-Err-clause-goes_on_err
+returns-in-Err-clause-goes_on_err g c =
+    let state = g.F.StoreFile.state in
+    let port = g.R.RpmbPort.state in
+    let p0 = port c.args.card in
+    let p1 = port c.read_counter.new.host.port in
+    let keeps : KeepsPort p0 p1 = subst (λ h. KeepsPort (port h.port) p1) c.new-host.ensures c.in-Err.ensures.goes_on in
+    subst (λ r. FormatGoesOn (state c.args.dir) (state c.args.dir) p0 (port r)) (sym c.into_port-card.ensures) (record { file = goes_on_none (state c.args.dir); port = keeps })
+
+pub returns-then-counter-clause-goes_on_err : goal.returns-then-counter-clause-goes_on_err
+returns-then-counter-clause-goes_on_err g c =
+    let state = g.F.StoreFile.state in
+    let port = g.R.RpmbPort.state in
+    let p0 = port c.args.card in
+    let p1 = port c.read_counter.new.host.port in
+    let keeps : KeepsPort p0 p1 = subst (λ h. KeepsPort (port h.port) p1) c.new-host.ensures c.in-Ok.ensures.goes_on in
+    subst (λ r. FormatGoesOn (state c.args.dir) (state c.args.dir) p0 (port r)) (sym c.into_port-card-then-counter.ensures) (record { file = goes_on_none (state c.args.dir); port = keeps })
+
+pub returns-in-Err-make-clause-goes_on_err : goal.returns-in-Err-make-clause-goes_on_err
+returns-in-Err-make-clause-goes_on_err g c =
+    let state = g.F.StoreFile.state in
+    let port = g.R.RpmbPort.state in
+    let p0 = port c.args.card in
+    let p1 = port c.read_counter.new.host.port in
+    let b = c.in-Err-make.field-0 in
+    let keeps : KeepsPort p0 p1 = subst (λ h. KeepsPort (port h.port) p1) c.new-host.ensures c.in-Ok.ensures.goes_on in
+    subst (λ r. FormatGoesOn (state c.args.dir) (state b.file) p0 (port r)) (sym c.into_port-card-in-Err-make.ensures)
+    (record { file = c.in-Err-make.ensures.keeps_err.goes_on; port = keeps })
+
+pub returns-in-Ok-write_block-clause-goes_on : goal.returns-in-Ok-write_block-clause-goes_on
+returns-in-Ok-write_block-clause-goes_on g c =
+    let state = g.F.StoreFile.state in
+    let port = g.R.RpmbPort.state in
+    let p0 = port c.args.card in
+    let p1 = port c.read_counter.new.host.port in
+    let p2 = port c.write_block.new.self.port in
+    let keeps : KeepsPort p0 p1 = subst (λ h. KeepsPort (port h.port) p1) c.new-host.ensures c.in-Ok.ensures.goes_on in
+    let unspent : c.in-Ok.counter ≢ last_counter = c.if-counter.false in
+    subst (λ r. FormatGoesOn (state c.args.dir) (state c.into_file-file.result) p0 (port r)) (sym c.into_port.ensures)
+    (record {
+      file = subst (λ f. GoesOn (state c.args.dir) (state f)) (sym c.into_file-file.ensures) c.in-Ok-make.ensures.keeps.goes_on;
+      port = port_then p0 p1 p2 keeps (writes_keep p1 p2 _ _ (c.in-Ok-write_block.ensures.exchanged unspent));
+    })
+
+pub returns-in-Err-write_block-clause-goes_on_err : goal.returns-in-Err-write_block-clause-goes_on_err
+returns-in-Err-write_block-clause-goes_on_err g c =
+    let state = g.F.StoreFile.state in
+    let port = g.R.RpmbPort.state in
+    let p0 = port c.args.card in
+    let p1 = port c.read_counter.new.host.port in
+    let p2 = port c.write_block.new.self.port in
+    let keeps : KeepsPort p0 p1 = subst (λ h. KeepsPort (port h.port) p1) c.new-host.ensures c.in-Ok.ensures.goes_on in
+    let unspent : c.in-Ok.counter ≢ last_counter = c.if-counter.false in
+    subst (λ r. FormatGoesOn (state c.args.dir) (state c.into_file-file.result) p0 (port r)) (sym c.into_port-card-in-Err-write_block.ensures)
+    (record {
+      file = subst (λ f. GoesOn (state c.args.dir) (state f)) (sym c.into_file-file.ensures) c.in-Ok-make.ensures.keeps.goes_on;
+      port = port_then p0 p1 p2 keeps (writes_keep p1 p2 _ _ (c.in-Err-write_block.ensures.exchanged unspent));
+    })

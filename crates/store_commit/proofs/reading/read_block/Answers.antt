@@ -6,6 +6,7 @@ use Rattle.store_commit.specs.Counts.{RefusalCounts, RefusalNotDrawn, RefusalNot
 use Rattle.store_commit.specs.Reads.{AsksBlock, OfHost}
 use Rattle.store_commit.proofs.Cards.{host_refused, refused_then}
 use Rattle.store_commit.proofs.Counting.{drawn_counts, drawn_not_card, file_same, host_counts, host_not_card, host_not_drawn}
+use Rattle.store_commit.proofs.Leavings.{exchange_keeps, port_still}
 use Rattle.store_commit.proofs.Readings.{block_read, block_refused, of_draw, of_host}
 use Rattle.store_commit.proofs.reading.read_block.Goals as goal
 
@@ -64,3 +65,14 @@ returns-in-Err-clause-counts g c file =
 
 pub returns-in-Err-clause-calm : goal.returns-in-Err-clause-calm
 returns-in-Err-clause-calm g c calm = (calm, drawn_not_card (g.E.Entropy.faults c.draw_nonce.new.entropy) c.in-Err.cause c.in-Err.ensures.cause.1)
+
+pub returns-in-Err-clause-goes_on : goal.returns-in-Err-clause-goes_on
+returns-in-Err-clause-goes_on g c = port_still (g.R.RpmbPort.state c.args.host.now.port)
+
+pub returns-in-Ok-read_block-clause-goes_on : goal.returns-in-Ok-read_block-clause-goes_on
+returns-in-Ok-read_block-clause-goes_on g c =
+    exchange_keeps (g.R.RpmbPort.state c.args.host.now.port) (g.R.RpmbPort.state c.read_block.new.self.port) _ _ c.in-Ok-read_block.ensures.exchanged
+
+pub returns-in-Err-read_block-clause-goes_on : goal.returns-in-Err-read_block-clause-goes_on
+returns-in-Err-read_block-clause-goes_on g c =
+    exchange_keeps (g.R.RpmbPort.state c.args.host.now.port) (g.R.RpmbPort.state c.read_block.new.self.port) _ _ c.in-Err-read_block.ensures.exchanged

@@ -1,11 +1,8 @@
-use Rattle.std.proofs.Common.{◌≡◌, ℕ, List, Err, IfErr, refl, sym, subst}
-use Rattle.disk_model.specs.State.{FileState}
-use Rattle.rpmb_host.specs.Honest.{HasCard}
+use Rattle.std.proofs.Common.{refl}
 use Rattle.store_commit.specs.Causes.{counts}
-use Rattle.store_commit.specs.Counts.{RefusalCounts}
-use Rattle.store_commit.specs.Mounts.{CardRefused}
 use Rattle.store_commit.proofs.Cards.{has_still, refused_then}
 use Rattle.store_commit.proofs.Counting.{counts_after}
+use Rattle.store_commit.proofs.Leavings.{port_then}
 use Rattle.store_commit.proofs.reading.read_card.Goals as goal
 
 pub returns-in-Err-clause-fault : goal.returns-in-Err-clause-fault
@@ -28,3 +25,13 @@ returns-in-Ok-clause-told g c card has = record {
       (has_still (g.R.RpmbPort.state c.args.host.now.port) (g.R.RpmbPort.state c.read_counter.new.host.port) c.args.host.now.key c.read_counter.new.host.key card
       c.in_ok-counter.ensures.stays c.in_ok-counter.ensures.key has);
 }
+
+pub returns-in-Ok-clause-goes_on : goal.returns-in-Ok-clause-goes_on
+returns-in-Ok-clause-goes_on g c =
+    let port = g.R.RpmbPort.state in
+    port_then (port c.args.host.now.port) (port c.read_counter.new.host.port) (port c.read_block.new.host.port) c.in_ok-counter.ensures.goes_on c.in-Ok.ensures.goes_on
+
+pub returns-in-Err-clause-goes_on : goal.returns-in-Err-clause-goes_on
+returns-in-Err-clause-goes_on g c =
+    let port = g.R.RpmbPort.state in
+    port_then (port c.args.host.now.port) (port c.read_counter.new.host.port) (port c.read_block.new.host.port) c.in_ok-counter.ensures.goes_on c.in-Err.ensures.goes_on

@@ -3,6 +3,8 @@ use Rattle.disk_model.specs.State.{pending}
 use Rattle.disk_model.specs.Calls.{Rests}
 use Rattle.disk_model.specs.Keeps.{Anywhere, Keeps}
 use Rattle.disk_model.proofs.Laws.{rest_keeps}
+use Rattle.store_commit.specs.Leaving.{LeavesNoMore}
+use Rattle.store_commit.proofs.Leavings.{left_then, rests_left, syncs_left}
 use Rattle.store_commit.proofs.Mounting.{rests_pending}
 use Rattle.store_commit.proofs.Syncing.{err_map, keeps_after, ok_map}
 use Rattle.store_commit.proofs.sync.open_directory.Goals as goal
@@ -33,3 +35,22 @@ returns-in-Ok-clause-unwritten g c =
     let a = state c.args.file in
     let b = state c.sync.new.self in
     ok_map c.load.result (λ d. Rests b (state d.file)) (λ d. pending (state d.file) ≡ []) (λ d rests. rests_pending a b (state d.file) c.in-Ok.ensures.synced rests) c.load.ensures.rests
+
+pub returns-in-Ok-clause-left : goal.returns-in-Ok-clause-left
+returns-in-Ok-clause-left g c =
+    let state = g.F.StoreFile.state in
+    let a = state c.args.file in
+    let b = state c.sync.new.self in
+    ok_map c.load.result (λ d. Rests b (state d.file)) (λ d. LeavesNoMore a (state d.file))
+    (λ d rests. left_then a b (state d.file) rests.goes_on (syncs_left a b (g.met.F.StoreFile.sound c.args.file) c.in-Ok.ensures.synced) (rests_left b (state d.file) rests)) c.load.ensures.rests
+
+pub returns-in-Ok-clause-left_err : goal.returns-in-Ok-clause-left_err
+returns-in-Ok-clause-left_err g c =
+    let state = g.F.StoreFile.state in
+    let a = state c.args.file in
+    let b = state c.sync.new.self in
+    err_map c.load.result (λ d. Rests b (state d.file)) (λ d. LeavesNoMore a (state d.file))
+    (λ d rests. left_then a b (state d.file) rests.goes_on (syncs_left a b (g.met.F.StoreFile.sound c.args.file) c.in-Ok.ensures.synced) (rests_left b (state d.file) rests)) c.load.ensures.rests_err
+
+pub returns-in-Err-clause-left_err : goal.returns-in-Err-clause-left_err
+returns-in-Err-clause-left_err g c = rests_left (g.F.StoreFile.state c.args.file) (g.F.StoreFile.state c.sync.new.self) c.in-Err.ensures.unsettled

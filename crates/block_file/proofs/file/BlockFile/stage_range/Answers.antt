@@ -37,7 +37,7 @@ stage_pages-requires-clause-changes g c =
     let t = c.args.self.now in
     let a = g.F.StoreFile.state t.file in
     let b = g.F.StoreFile.state c.new_pages.new.self.file in
-    let before : t.tree.head.greatest ≡ greatest_of c.args.range.size = sized_greatest t.tree.head c.requires.verified.sized ∙ ap greatest_of (sym c.requires.old_size) in
+    let before : t.tree.head.greatest ≡ greatest_of c.args.range.size = sized_greatest t.tree.head c.requires.verified.hashed.sized ∙ ap greatest_of (sym c.requires.old_size) in
     let r = c.args.range in
     let ends : c.min-upto.result ≡ min (end_block r) (greatest_of c.args.size) = upto_is c.min-upto.result c.end_block-end.result c.greatest_node.result r c.args.size c.min-upto.ensures c.end_block-end.ensures.value c.greatest_node.ensures.value in
     subst (λ (l : List BlockChange). AreChanges c.new_pages.new.self.tree.head.greatest (greatest_of c.args.size) l) (sym c.deref.ensures.value)
@@ -54,7 +54,7 @@ returns-clause-rewritten g c =
     let new = g.F.StoreFile.state c.stage_pages.new.self.file in
     let r = c.args.range in
     let ends : c.min-upto.result ≡ min (end_block r) (greatest_of c.args.size) = upto_is c.min-upto.result c.end_block-end.result c.greatest_node.result r c.args.size c.min-upto.ensures c.end_block-end.ensures.value c.greatest_node.ensures.value in
-    let many : length t.tree.nodes ≡ greatest_of r.size = c.requires.verified.all ∙ sized_greatest t.tree.head c.requires.verified.sized ∙ ap greatest_of (sym c.requires.old_size) in
+    let many : length t.tree.nodes ≡ greatest_of r.size = c.requires.verified.hashed.all ∙ sized_greatest t.tree.head c.requires.verified.hashed.sized ∙ ap greatest_of (sym c.requires.old_size) in
     let opened = subst (λ old. OnOk c.stage_pages.result (Known (g.F.StoreFile.state old.file) new → load_of (g.F.StoreFile.state old.file).reads old.root ≡ Ok old.tree
     → IfSome c.stage_pages.new.self.stage (λ s. OpensAfter old.key old.tree.head.wrapped (g.F.StoreFile.state old.file).reads old.root new.reads s.root c.args.size c.deref.result.now)))
     c.in_ok-changes.ensures.same c.stage_pages.ensures.opened in

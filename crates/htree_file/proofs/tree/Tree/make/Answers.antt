@@ -1,7 +1,6 @@
-use Rattle.std.proofs.Common.{◌≡◌, inl, List, ◌++◌, length, map, take, drop, Some, Ok, sym, ◌∙◌, ap, subst, arith}
+use Rattle.std.proofs.Common.{◌≡◌, inl, ◌++◌, length, map, take, drop, Some, Ok, sym, ◌∙◌, ap, subst, arith}
 use Rattle.disk_model.specs.Calls.{Known}
 use Rattle.aes_block.specs.WrappedKey.{unwrapped_of}
-use Rattle.node_image.specs.declared.node.NodeImage.{NodeImage}
 use Rattle.node_image.specs.declared.head.Head.{Head}
 use Rattle.htree_file.specs.Changes.{numbered}
 use Rattle.htree_file.specs.Making.{NamesVersionZero}

@@ -1,4 +1,4 @@
-use Rattle.std.proofs.Common.{◌≡◌, ℕ, ◌-◌, ◌++◌, length, take, drop, ◌∙◌, ap, refl, sym, arith}
+use Rattle.std.proofs.Common.{◌≡◌, ◌++◌, length, take, drop, ◌∙◌, ap, refl, sym, arith}
 use Rattle.disk_model.specs.Calls.{Known}
 use Rattle.node_image.specs.declared.head.Head.{Head}
 use Rattle.htree_file.specs.Stages.{IsStage}

@@ -18,4 +18,4 @@ invariant_of-self-2 c =
     let settled : settled_bytes c.settle_changes.new.settled s.bytes.items ≡ s.bytes.items =
     subst (λ (l : List ℕ). settled_bytes c.settle_changes.new.settled l ≡ l) c.deref.ensures.value c.in_ok-settle_changes.ensures.ok in
     let agree = agree_settled_now (settled_bytes s.settled s.bytes.items) s.bytes.items s.trail.items grown s.pending_from c.len.result true s.agree push (search rules) in
-    record { agree = subst (λ (l : List ℕ). BytesAgree l s.bytes.items grown c.len.result true) (sym settled) agree }
+    record { are_bytes = s.are_bytes; agree = subst (λ (l : List ℕ). BytesAgree l s.bytes.items grown c.len.result true) (sym settled) agree }

@@ -3,9 +3,10 @@ use Rattle.crash_core.specs.Opening.{opening_map, reads_of}
 use Rattle.object_calls.specs.OpeningFiles.{files_of}
 use Rattle.object_calls.specs.ObjectMaps.{OpensObjectMap}
 use Rattle.object_calls.specs.Opening.{OpeningValue, bench_files, entries_in}
+use Rattle.object_calls.proofs.Files.{files_sound}
 use Rattle.object_calls.proofs.EntryCounting.{length-map_of}
-use Rattle.object_calls.proofs.EntriesOf.{distinct_names, form_at}
-use Rattle.object_calls.proofs.ObjectMaps.{map_sound, opening_few}
+use Rattle.object_calls.proofs.EntriesOf.{distinct_names}
+use Rattle.object_calls.proofs.ObjectMaps.{opening_sound}
 use Rattle.object_calls.proofs.opening.Opening.objects.Goals as goal
 
 pub returns-clause-objects : goal.returns-clause-objects
@@ -25,5 +26,4 @@ returns-clause-map g c =
     record { gate = i.gate; files = i.files.items; storage_key = i.storage_key; table = i.table; applications = i.applications.items } in
     let is = c.self.invariant.0 in
     subst (OpensObjectMap state) c.self.view_is
-    (λ keys read. map_sound keys (bench_files state o) read (entries_in o)
-    (opening_few keys (bench_files state o) (entries_in o) is.entries) (form_at (entries_in o) is.entries) is.identified)
+    (λ keys. opening_sound keys (bench_files state o) (files_sound state g.met.F.StoreFile.sound (i.gate.dir.file ∷ i.files.items)) (entries_in o) is.entries is.identified)

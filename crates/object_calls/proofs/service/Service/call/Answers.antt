@@ -1,7 +1,9 @@
 -- What the call leaves keeps the service whole, and is its answer.
 use Rattle.std.proofs.Common.{ℕ, Option, refl, sym, subst}
 use Rattle.tee_types.specs.declared.reply.Reply.{Reply}
-use Rattle.object_calls.specs.Calling.{AnswersCall}
+use Rattle.serial_calls.specs.GateServed.{IsMisused}
+use Rattle.serial_calls.specs.SessionViews.{shown}
+use Rattle.object_calls.specs.Calling.{AnswersAtOnceAt, AnswersCall, serving}
 use Rattle.object_calls.specs.Services.{ServiceValue}
 use Rattle.object_calls.proofs.service.Service.call.Goals as goal
 use Rattle.object_calls.proofs.service.Service.call.Goals.{in-Err, in-Ok}
@@ -32,4 +34,21 @@ returns-clause-answers g c =
           let done = w.in-Err.ensures.serves in
           subst (λ (p : Option ℕ × Reply). AnswersCall of_file of_port faults store was now c.args.session.now c.serve.new.session c.args.call.now p.0 p.1)
           (λ j. ((sym w.result-is j).place, (sym w.result-is j).reply)) (record { at = (refl, done.answers); devices = done.devices; held = done.held; storage_key = refl })
+    ])
+
+pub returns-clause-at_once : goal.returns-clause-at_once
+returns-clause-at_once g c =
+    let i = c.self.inside in
+    let was : ServiceValue g.row.F.Denot g.row.R.Denot = record { gate = i.gate; slots = i.slots.items; storage_key = i.storage_key } in
+    let now : ServiceValue g.row.F.Denot g.row.R.Denot = record { gate = c.serve.new.gate; slots = c.serve.new.slots.items; storage_key = i.storage_key } in
+    subst
+    (λ (s : ServiceValue g.row.F.Denot g.row.R.Denot). IsMisused s.gate (shown s.gate.journal.knows c.args.session.now).state c.args.call.now
+    → AnswersAtOnceAt (serving s c.args.session.now) (serving now c.serve.new.session) c.args.call.now c.match-serve.result.place c.match-serve.result.reply)
+    c.self.view_is (λ misused. elim c.match-serve.branch [
+      | in-Ok w ↦
+          subst (λ (p : Option ℕ × Reply). AnswersAtOnceAt (serving was c.args.session.now) (serving now c.serve.new.session) c.args.call.now p.0 p.1)
+          (λ j. ((sym w.result-is j).place, (sym w.result-is j).reply)) (w.in-Ok.ensures.at_once misused)
+      | in-Err w ↦
+          subst (λ (p : Option ℕ × Reply). AnswersAtOnceAt (serving was c.args.session.now) (serving now c.serve.new.session) c.args.call.now p.0 p.1)
+          (λ j. ((sym w.result-is j).place, (sym w.result-is j).reply)) (w.in-Err.ensures.at_once misused)
     ])

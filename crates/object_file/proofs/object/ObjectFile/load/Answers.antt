@@ -4,7 +4,7 @@ use Rattle.aes_block.specs.WrappedKey.{unwrapped_of}
 use Rattle.htree_file.specs.Opening.{IsVerified, load_of}
 use Rattle.htree_file.specs.Standing.{Told}
 use Rattle.htree_file.specs.Value.{TreeValue}
-use Rattle.block_file.specs.Reads.{AreBytes}
+use Rattle.block_file.specs.Reads.{AreReadBytes}
 use Rattle.crash_core.specs.MountedObject.{root_of}
 use Rattle.object_file.specs.Loading.{IsFirstRead, IsFront, PartFault}
 use Rattle.object_file.proofs.FirstBlock.{bytes_then, first_then}
@@ -65,11 +65,11 @@ returns-in-Ok-read_attributes-clause-bytes g c =
     let count = c.args.entry.now.attributes in
     let attributes = c.in-Ok-read_attributes.attributes.items in
     let rests : Rests b d = subst (λ (t : TreeValue g.row.F.Denot). Rests (g.F.StoreFile.state t.file) d) c.new-file.ensures c.read_attributes.ensures.rests in
-    let read : AreBytes c.in-Ok.tree.key c.in-Ok.tree.tree b d 0 attributes count =
-    subst (λ (t : TreeValue g.row.F.Denot). AreBytes t.key t.tree (g.F.StoreFile.state t.file) d 0 attributes count) c.new-file.ensures c.in-Ok-read_attributes.ensures.bytes in
+    let read : AreReadBytes c.in-Ok.tree.key c.in-Ok.tree.tree b d 0 attributes count =
+    subst (λ (t : TreeValue g.row.F.Denot). AreReadBytes t.key t.tree (g.F.StoreFile.state t.file) d 0 attributes count) c.new-file.ensures c.in-Ok-read_attributes.ensures.bytes in
     let same : record c.in-Ok.tree { file = c.read_attributes.new.file.file } ≡ c.read_attributes.new.file =
     sym (subst (λ (t : TreeValue g.row.F.Denot). c.read_attributes.new.file ≡ record t { file = c.read_attributes.new.file.file }) c.new-file.ensures c.read_attributes.ensures.same) in
-    subst (λ (t : TreeValue g.row.F.Denot). AreBytes t.key t.tree a d 0 attributes count) same
+    subst (λ (t : TreeValue g.row.F.Denot). AreReadBytes t.key t.tree a d 0 attributes count) same
     (bytes_then c.in-Ok.tree.key c.in-Ok.tree.tree a b d 0 attributes count c.in-Ok.ensures.rests rests.goes_on read)
 
 pub returns-in-Ok-read_attributes-clause-first : goal.returns-in-Ok-read_attributes-clause-first

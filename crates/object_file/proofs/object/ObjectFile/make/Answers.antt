@@ -41,9 +41,9 @@ returns-in-Ok-make-clause-seals g c =
     let bytes : List ℕ = c.args.bytes.now in
     let attributes : List ℕ = c.args.attributes.now in
     let verified = c.in-Ok-make.ensures.verified in
-    let many : tree.tree.head.greatest ≡ greatest_of tree.tree.head.length = sized_greatest tree.tree.head verified.sized in
+    let many : tree.tree.head.greatest ≡ greatest_of tree.tree.head.length = sized_greatest tree.tree.head verified.hashed.sized in
     let long : tree.tree.head.length ≡ 4096 + length bytes = c.in-Ok-make.ensures.bytes ∙ (search rules) in
-    let whole : length pages ≡ length tree.tree.nodes = c.in-Ok-object_pages.ensures.count ∙ ap greatest_of (sym long) ∙ sym many ∙ sym verified.all in
+    let whole : length pages ≡ length tree.tree.nodes = c.in-Ok-object_pages.ensures.count ∙ ap greatest_of (sym long) ∙ sym many ∙ sym verified.hashed.all in
     let given : length c.deref.result.now ≡ length pages = ap (λ (l : List (List ℕ)). length l) c.deref.ensures.value in
     subst (λ t. (k : ℕ) → k < length t.tree.nodes → (page : List ℕ) × IsObjectPage attributes bytes k page × Seals t.key t.tree k page) (sym c.new.ensures)
     (λ k lt.

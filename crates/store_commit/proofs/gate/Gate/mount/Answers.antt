@@ -1,9 +1,10 @@
 use Rattle.std.proofs.Common.{◌≡◌, ◌⊎◌, ◌∙◌, ℕ, List, Ok, Err, IsTrue, refl, sym, ap, subst}
+use Rattle.disk_model.specs.Keeps.{Anywhere}
+use Rattle.disk_model.proofs.Laws.{keeps_none}
 use Rattle.hmac_keys.specs.KeyTable.{dir_tsk, rpmb_key}
 use Rattle.rpmb_card.specs.Card.{CardState}
 use Rattle.rpmb_host.specs.Honest.{HasCard}
 use Rattle.htree_file.specs.Standing.{Told}
-use Rattle.rpmb_host.specs.declared.fault.HostFault.{HostFault}
 use Rattle.crash_core.specs.CardBlock.{root_in}
 use Rattle.crash_core.specs.DeviceKeys.{directory_key}
 use Rattle.crash_core.specs.Directory.{directory_of}
@@ -12,14 +13,15 @@ use Rattle.dir_file.specs.Loading.{IsOutsideDir, IsReadDirectory}
 use Rattle.dir_file.specs.Refusals.{DirDiffers}
 use Rattle.store_commit.specs.declared.fault.MountFault.TheVariants.{NoMemory}
 use Rattle.store_commit.specs.Gates.{gate_sides}
-use Rattle.store_commit.specs.Causes.{Counted, counts}
+use Rattle.store_commit.specs.Causes.{counts}
 use Rattle.store_commit.specs.Counts.{NoneRose, RefusalCounts, RefusalNotDrawn, RefusalNotOfCard}
-use Rattle.store_commit.specs.Mounts.{CardRefused, HasRootRead, LeavesDevices, MountDiffers, MountHeard, MountRefused, OpensGate, Tells}
+use Rattle.store_commit.specs.Mounts.{CardRefused, HasRootRead, LeavesDevices, MountDiffers, MountHeard, MountRefused, OpensGate, Tells, TellsFailure}
+use Rattle.store_commit.specs.Leaving.{KeepsPort}
 use Rattle.store_commit.specs.Reads.{IsCardRead, IsReadRefused, OfHost}
 use Rattle.store_commit.specs.Sides.{sides}
 use Rattle.store_commit.proofs.Cards.{has_still}
-use Rattle.store_commit.proofs.Counting.{block_counts, block_not_card, counts_after, directory_counts, directory_not_card, file_same}
-use Rattle.store_commit.proofs.Mounted.{answer_root, block_differs, block_refuses, card_refuses, card_names, directory_differs, directory_refuses, gate_opens, gate_settled}
+use Rattle.store_commit.proofs.Counting.{block_counts, block_not_card, directory_counts, directory_not_card, file_same}
+use Rattle.store_commit.proofs.Mounted.{answer_root, block_differs, block_refuses, card_refuses, card_names, card_tells, block_tells, directory_differs, directory_refuses, directory_tells, gate_opens, gate_settled}
 use Rattle.store_commit.proofs.Readings.{block_heard, card_heard_so, directory_heard, root_read}
 use Rattle.store_commit.proofs.Syncing.{err_map, ok_map}
 use Rattle.store_commit.proofs.gate.Gate.mount.Goals as goal
@@ -66,9 +68,11 @@ returns-in-Ok-open_directory-clause-opens g c =
     let read : IsCardRead key (port c.args.card) (port c.read_card.new.host.port) c.in-Ok.read.counter c.in-Ok.read.block =
     subst (λ (k : List ℕ). IsCardRead k (port c.args.card) (port c.read_card.new.host.port) c.in-Ok.read.counter c.in-Ok.read.block) c.rpmb_key.ensures
     (subst (λ h. IsCardRead h.key (port h.port) (port c.read_card.new.host.port) c.in-Ok.read.counter c.in-Ok.read.block) c.new-host.ensures c.in-Ok.ensures.heard) in
+    let keeps : KeepsPort (port c.args.card) (port c.read_card.new.host.port) = subst (λ h. KeepsPort (port h.port) (port c.read_card.new.host.port)) c.new-host.ensures c.in-Ok.ensures.goes_on in
+    let devices : LeavesDevices (state c.args.dir) (state d.file) (port c.args.card) (port c.read_card.new.host.port) = record { keeps = o.keeps; reads = o.reads; left = o.left; card = stays; port = keeps } in
     let opens = gate_opens (state c.args.dir) (port c.args.card) (port c.read_card.new.host.port) keys c.read_card.new.host.key c.in-Ok.read.counter c.in-Ok.read.block c.in-Ok-root_in.root
     (state d.file) d.dir stays key_is tells c.in-Ok-root_in.ensures.answer c.in-Ok-root_in.ensures.form o.root o.idle (o.tsk ∙ tsk_is) o.entries held
-    o.keeps o.reads o.synced o.unwritten (record { block = c.in-Ok.read.block; read = read; named = answer_root (root_in c.in-Ok.read.block) c.in-Ok-root_in.root c.in-Ok-root_in.ensures.answer }) o.verified (subst (λ (t : List ℕ). IsReadDirectory t d.dir.tree (Ok d.dir.entries)) tsk_is o.pages) directory in
+    devices o.synced o.unwritten (record { block = c.in-Ok.read.block; read = read; named = answer_root (root_in c.in-Ok.read.block) c.in-Ok-root_in.root c.in-Ok-root_in.ensures.answer }) o.verified (subst (λ (t : List ℕ). IsReadDirectory t d.dir.tree (Ok d.dir.entries)) tsk_is o.pages) directory in
     ok_map c.new.result (λ v. (v.dir ≡ d) × (v.host ≡ c.read_card.new.host) × (v.counter ≡ c.in-Ok.read.counter))
     (λ v. OpensGate (state c.args.dir) (port c.args.card) keys (gate_sides state port v))
     (λ v made. subst (OpensGate (state c.args.dir) (port c.args.card) keys)
@@ -357,6 +361,63 @@ returns-in-Ok-open_directory-clause-leaves g c =
     let d = c.in-Ok-open_directory.dir in
     let o = c.in-Ok-open_directory.ensures in
     let stays : p1.card ≡ p0.card = c.in-Ok.ensures.stays ∙ ap (λ h. (port h.port).card) c.new-host.ensures in
-    let devices : LeavesDevices (state c.args.dir) (state d.file) p0 p1 = record { keeps = o.keeps; reads = o.reads; card = stays } in
+    let keeps : KeepsPort p0 p1 = subst (λ h. KeepsPort (port h.port) p1) c.new-host.ensures c.in-Ok.ensures.goes_on in
+    let devices : LeavesDevices (state c.args.dir) (state d.file) p0 p1 = record { keeps = o.keeps; reads = o.reads; left = o.left; card = stays; port = keeps } in
     err_map c.new.result (λ b. (b.dir ≡ d.file) × (b.card ≡ c.read_card.new.host.port) × (b.fault ≡ NoMemory)) (λ b. LeavesDevices (state c.args.dir) (state b.dir) p0 (port b.card))
     (λ b is. subst (λ f. LeavesDevices (state c.args.dir) (state f) p0 (port b.card)) (sym is.0) (subst (λ r. LeavesDevices (state c.args.dir) (state d.file) p0 (port r)) (sym is.1) devices)) c.new.ensures.broken
+
+-- what a refusal leaves of the devices
+pub returns-in-Err-clause-leaves : goal.returns-in-Err-clause-leaves
+returns-in-Err-clause-leaves g c =
+    let state = g.F.StoreFile.state in
+    let port = g.R.RpmbPort.state in
+    let p0 = port c.args.card in
+    let p1 = port c.read_card.new.host.port in
+    let stays : p1.card ≡ p0.card = c.in-Err.ensures.stays ∙ ap (λ h. (port h.port).card) c.new-host.ensures in
+    let keeps : KeepsPort p0 p1 = subst (λ h. KeepsPort (port h.port) p1) c.new-host.ensures c.in-Err.ensures.goes_on in
+    subst (λ r. LeavesDevices (state c.args.dir) (state c.args.dir) p0 (port r)) (sym c.into_port-card.ensures)
+    (record { keeps = keeps_none Anywhere (state c.args.dir); reads = λ known. refl; left = λ honest image left. left; card = stays; port = keeps })
+
+pub returns-in-Err-root_in-clause-leaves : goal.returns-in-Err-root_in-clause-leaves
+returns-in-Err-root_in-clause-leaves g c =
+    let state = g.F.StoreFile.state in
+    let port = g.R.RpmbPort.state in
+    let p0 = port c.args.card in
+    let p1 = port c.read_card.new.host.port in
+    let stays : p1.card ≡ p0.card = c.in-Ok.ensures.stays ∙ ap (λ h. (port h.port).card) c.new-host.ensures in
+    let keeps : KeepsPort p0 p1 = subst (λ h. KeepsPort (port h.port) p1) c.new-host.ensures c.in-Ok.ensures.goes_on in
+    subst (λ r. LeavesDevices (state c.args.dir) (state c.args.dir) p0 (port r)) (sym c.into_port-card-in-Err-root_in.ensures)
+    (record { keeps = keeps_none Anywhere (state c.args.dir); reads = λ known. refl; left = λ honest image left. left; card = stays; port = keeps })
+
+pub returns-in-Err-open_directory-clause-leaves : goal.returns-in-Err-open_directory-clause-leaves
+returns-in-Err-open_directory-clause-leaves g c =
+    let state = g.F.StoreFile.state in
+    let port = g.R.RpmbPort.state in
+    let p0 = port c.args.card in
+    let p1 = port c.read_card.new.host.port in
+    let b = c.in-Err-open_directory.field-0 in
+    let o = c.in-Err-open_directory.ensures in
+    let stays : p1.card ≡ p0.card = c.in-Ok.ensures.stays ∙ ap (λ h. (port h.port).card) c.new-host.ensures in
+    let keeps : KeepsPort p0 p1 = subst (λ h. KeepsPort (port h.port) p1) c.new-host.ensures c.in-Ok.ensures.goes_on in
+    subst (λ r. LeavesDevices (state c.args.dir) (state b.file) p0 (port r)) (sym c.into_port-card-in-Err-open_directory.ensures)
+    (record { keeps = o.keeps_err; reads = o.reads_err; left = o.left_err; card = stays; port = keeps })
+
+-- a failure is told as one
+pub returns-in-Err-clause-told : goal.returns-in-Err-clause-told
+returns-in-Err-clause-told g c =
+    let port = g.R.RpmbPort.state in
+    card_tells (port c.new-host.result.port) (port c.read_card.new.host.port) c.new-host.result.key (g.E.Entropy.faults c.args.entropy.now) (g.E.Entropy.faults c.read_card.new.entropy)
+    c.in-Err.fault c.in-Err.ensures.fault
+
+pub returns-in-Err-root_in-clause-told : goal.returns-in-Err-root_in-clause-told
+returns-in-Err-root_in-clause-told g c = block_tells c.in-Ok.read.block c.in-Err-root_in.fault c.in-Err-root_in.ensures.answer
+
+pub returns-in-Err-open_directory-clause-told : goal.returns-in-Err-open_directory-clause-told
+returns-in-Err-open_directory-clause-told g c =
+    subst TellsFailure (sym c.directory_answer-fault.ensures) (directory_tells c.in-Err-open_directory.field-0.fault c.in-Err-open_directory.ensures.kind)
+
+pub returns-in-Ok-open_directory-clause-told : goal.returns-in-Ok-open_directory-clause-told
+returns-in-Ok-open_directory-clause-told g c =
+    let d = c.in-Ok-open_directory.dir in
+    err_map c.new.result (λ b. (b.dir ≡ d.file) × (b.card ≡ c.read_card.new.host.port) × (b.fault ≡ NoMemory)) (λ b. TellsFailure b.fault)
+    (λ b is. subst TellsFailure (sym is.2) tt) c.new.ensures.broken

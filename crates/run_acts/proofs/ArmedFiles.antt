@@ -1,0 +1,38 @@
+-- What an arming leaves of each file.
+use Rattle.std.proofs.Common.{◌≡◌, ℕ, List, [], ◌∷◌, sym, subst}
+use Rattle.disk_model.specs.Controls.{failure_armed, stop_armed}
+use Rattle.disk_model.specs.State.{FileState}
+use Rattle.tee_types.specs.declared.reply.Device.{Device}
+use Rattle.tee_types.specs.declared.reply.Device.TheVariants.{Dir, File, Card, Entropy}
+use Rattle.crash_core.specs.CoreState.{put}
+use Rattle.crash_core.proofs.Lists.{put_each}
+use Rattle.script_text.specs.declared.script.Arm.{Arm}
+use Rattle.script_text.specs.declared.script.Arm.TheVariants.{Fail, Lose, Stop}
+use Rattle.run_acts.specs.Benches.{BenchState}
+use Rattle.run_acts.specs.PhaseArms.{ArmsAll, ArmsOneOf}
+
+-- what holds of a file, whatever stop or failure is armed for it
+module _ (P : FileState → Type 0) (stops : (s : FileState) (calls : ℕ) → P s → P (stop_armed s calls)) (fails : (s : FileState) (call : ℕ) → P s → P (failure_armed s call)) where
+  put_armed : (old new : ℕ → FileState) (n : ℕ) (s : FileState) → ((k : ℕ) → new k ≡ put old n s k) → (P (old n) → P s) → (k : ℕ) → P (old k) → P (new k)
+  put_armed old new n s is armed k = subst (λ (x : FileState). P (old k) → P x) (sym (is k)) (put_each (λ j x. P (old j) → P x) old n s k armed (λ p. p))
+
+  stop_keeps : (device : Device) (calls : ℕ) (old new : BenchState) → ArmsOneOf (Stop device calls) old new → (k : ℕ) → P (old.files k) → P (new.files k)
+  stop_keeps Dir calls old new s = put_armed old.files new.files 0 (stop_armed (old.files 0) calls) s.files (stops (old.files 0) calls)
+  stop_keeps (File n) calls old new s = put_armed old.files new.files n (stop_armed (old.files n) calls) s.files (stops (old.files n) calls)
+  stop_keeps Card calls old new s = λ k. subst P (sym (s.0 k))
+  stop_keeps Entropy calls old new s = λ k. subst P (sym (s.files k))
+
+  fail_keeps : (device : Device) (call : ℕ) (old new : BenchState) → ArmsOneOf (Fail device call) old new → (k : ℕ) → P (old.files k) → P (new.files k)
+  fail_keeps Dir call old new s = put_armed old.files new.files 0 (failure_armed (old.files 0) call) s.files (fails (old.files 0) call)
+  fail_keeps (File n) call old new s = put_armed old.files new.files n (failure_armed (old.files n) call) s.files (fails (old.files n) call)
+  fail_keeps Card call old new s = λ k. subst P (sym (s.0 k))
+  fail_keeps Entropy call old new s = λ k. subst P (sym (s.files k))
+
+  arm_keeps : (arm : Arm) (old new : BenchState) → ArmsOneOf arm old new → (k : ℕ) → P (old.files k) → P (new.files k)
+  arm_keeps (Stop device calls) old new s = stop_keeps device calls old new s
+  arm_keeps (Fail device call) old new s = fail_keeps device call old new s
+  arm_keeps (Lose call) old new s = λ k. subst P (sym (s.0 k))
+
+  pub arms_keep : (arms : List Arm) (old new : BenchState) → ArmsAll arms old new → (k : ℕ) → P (old.files k) → P (new.files k)
+  arms_keep [] old new s = λ k. subst P (sym (s.0 k))
+  arms_keep (arm ∷ arms) old new (between, its, others) = λ k p. arms_keep arms between new others k (arm_keeps arm old between its k p)
