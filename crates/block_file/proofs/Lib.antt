@@ -4,3 +4,4 @@ pub mod NewPages
 pub mod StageAfterReads
 pub mod StageRewrites
 pub mod StageBytes
+pub mod Checks

@@ -2,31 +2,33 @@
 use Rattle.std.proofs.Common.{◌≡◌, ◌∙◌, inl, inr, ℕ, ◌+◌, ◌-◌, ◌≤◌, List, [], ◌∷◌, ◌++◌, None, Some, Err, true, sym, subst, arith}
 use Rattle.std.proofs.lemmas.Bool.{cases_lt}
 use Rattle.disk_model.specs.State.{FileState}
-use Rattle.disk_model.specs.Calls.{GoesOn, Rests}
+use Rattle.disk_model.specs.Calls.{Rests}
+use Rattle.disk_model.specs.Keeps.{Keeps}
 use Rattle.htree_file.specs.declared.fault.TreeFault.{TreeFault}
 use Rattle.htree_file.specs.declared.fault.TreeFault.TheVariants.{BadHead, BadTag, Damaged, Failed, NoEntropy, NoMemory, Short}
 use Rattle.htree_file.specs.declared.change.BlockChange.{BlockChange}
 use Rattle.htree_file.specs.Changes.{page_for}
 use Rattle.htree_file.specs.Opening.{Loaded}
+use Rattle.htree_file.specs.Selected.{Lies}
 use Rattle.page_bytes.specs.declared.range.ByteRange.{ByteRange}
 use Rattle.page_bytes.specs.Ranges.{needs}
 use Rattle.block_file.specs.NewPages.{AreNewPages, IsNewPage, NewPageAnswer, NewPagesAnswer}
 use Rattle.block_file.proofs.ChangeLists.{blocks-push, page_for-last, page_for-missed, page_for-push}
 use Rattle.block_file.proofs.Reading.{page_first, page_then}
 
-module _ (key : List ℕ) (tree : Loaded) (r : ByteRange) (at : ℕ) (bytes : List ℕ) (a b c : FileState) (goes : GoesOn b c) where
+module _ {root : ℕ} (key : List ℕ) (tree : Loaded) (r : ByteRange) (at : ℕ) (bytes : List ℕ) (a b c : FileState) (keeps : Keeps (Lies tree.nodes root) b c) where
   -- a page that was made stays one as the calls go on
   pub new_page_first : (k : ℕ) (page : List ℕ) → IsNewPage key tree a b r at bytes k page → IsNewPage key tree a c r at bytes k page
   new_page_first k page made = record {
     over = made.over;
-    read = λ is. page_first key tree a b c k made.over goes (made.read is);
+    read = λ is. page_first key tree a b c k made.over keeps (made.read is);
     rewritten = made.rewritten;
   }
 
   new_page_then : Rests a b → (k : ℕ) (page : List ℕ) → IsNewPage key tree b c r at bytes k page → IsNewPage key tree a c r at bytes k page
   new_page_then rests k page made = record {
     over = made.over;
-    read = λ is. page_then key tree a b c k made.over rests goes (made.read is);
+    read = λ is. page_then key tree a b c k made.over rests keeps.goes_on (made.read is);
     rewritten = made.rewritten;
   }
 
@@ -54,7 +56,7 @@ module _ (key : List ℕ) (tree : Loaded) (r : ByteRange) (at : ℕ) (bytes : Li
       → NewPageAnswer key tree b c r at bytes k {A = A} (Err e) page → (upto : ℕ) → NewPagesAnswer key tree a c r at bytes first upto {A = B} items (Err e)
   page_missing changes first k page A B items (BadTag bad want found) within before answer upto = rw (answer.1) (record {
     is_asked = answer.0;
-    earlier = λ j lt needed. let read = (before.pages j (within j needed) lt).2 in (read.over, page_first key tree a b c j read.over goes (read.read needed));
+    earlier = λ j lt needed. let read = (before.pages j (within j needed) lt).2 in (read.over, page_first key tree a b c j read.over keeps (read.read needed));
     bad = answer.2;
   })
   page_missing changes first k page A B items (Failed count) within before answer upto = tt

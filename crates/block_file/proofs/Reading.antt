@@ -1,16 +1,26 @@
 -- Pages that were read, in the course of further calls.
-use Rattle.std.proofs.Common.{◌≡◌, ◌∙◌, ℕ, ◌+◌, ◌-◌, ◌*◌, ◌/◌, ◌%◌, ◌<◌, ◌≤◌, ◌==◌, suc, cond, List, [], ◌++◌, length, get_or, drop, min, ◌&&◌, nat_le, nat_lt, if◌then◌else◌, Option, None, Some, Bool, true, inl, inr, Result, Ok, Err, IsTrue, ap, sym, subst, arith, length-append, length-drop}
+use Rattle.std.proofs.Common.{◌≡◌, ◌∙◌, ℕ, ◌+◌, ◌-◌, ◌*◌, ◌/◌, ◌%◌, ◌<◌, ◌≤◌, ◌==◌, suc, cond, List, [], ◌++◌, length, get_or, drop, min, refl, ◌&&◌, nat_le, nat_lt, if◌then◌else◌, Option, None, Some, Bool, true, inl, inr, Result, Ok, Err, IsTrue, ap, sym, subst, arith, length-append, length-drop}
 use Rattle.std.proofs.lemmas.Bool.{cases_lt, cond-false, cond-true, eq-eqb, false≢true, ne_eqb}
 use Rattle.std.proofs.lemmas.Grind.{same_number_lists}
 use Rattle.std.proofs.lemmas.List.{get_or_append_left, get_or-append_right, get_or-drop}
 use Rattle.disk_model.specs.Arms.{Arms, count_call}
 use Rattle.disk_model.specs.State.{FileState}
 use Rattle.disk_model.specs.Calls.{GoesOn, Rests}
+use Rattle.disk_model.specs.State.{Sound}
+use Rattle.disk_model.specs.Keeps.{Keeps}
 use Rattle.disk_model.proofs.Goings.{first_known}
+use Rattle.disk_model.proofs.Laws.{rest_keeps}
+use Rattle.disk_model.proofs.Seen.{runs_fewer, seen_later, seen_now, seen_then}
 use Rattle.htree_file.specs.Opening.{Loaded}
 use Rattle.htree_file.specs.Pages.{block_in, page_in, page_of}
-use Rattle.node_image.specs.Tables.{at_node}
+use Rattle.node_image.specs.declared.node.NodeImage.{NodeImage}
+use Rattle.node_image.specs.Parts.{In}
+use Rattle.node_image.specs.Parts.Part.{block}
+use Rattle.node_image.specs.Tables.{at_node, block_version}
+use Rattle.htree_file.specs.Answers.{BlockAnswer}
+use Rattle.htree_file.specs.Selected.{Lies}
 use Rattle.htree_file.specs.Standing.{Told}
+use Rattle.htree_file.proofs.Firmness.{keeps_selected}
 use Rattle.htree_file.proofs.Causes.{told_then}
 use Rattle.page_bytes.specs.declared.range.ByteRange.{ByteRange}
 use Rattle.page_bytes.specs.Pages.{byte_at, byte_in, bytes_from}
@@ -28,6 +38,10 @@ use Rattle.block_file.specs.Parts.{AreRead, IsGiven, KeepsBehind, PageAnswer, Pa
 pub told_first : (a b c : FileState) → GoesOn b c → Told a c → Told a b
 told_first a b c goes told = (subst (λ (t : Bool). IsTrue t) goes.tells told.0, first_known a b c goes told.1)
 
+-- calls that change nothing keep the tree's places
+pub rests_keep : (nodes : List NodeImage) (a b : FileState) → Sound a → Rests a b → Keeps (Lies nodes 0) a b
+rests_keep nodes a b sound rests = keeps_selected nodes 0 a b (rest_keeps a b sound rests)
+
 -- a page put among others
 abbrev put_page : (pages : ℕ → List ℕ) (k : ℕ) (page : List ℕ) → ℕ → List ℕ
 put_page pages k page j = cond (j == k) page (pages j)
@@ -39,21 +53,32 @@ put_new : (pages : ℕ → List ℕ) (k j : ℕ) (page : List ℕ) → j ≡ k �
 put_new pages k j page same = cond-true (j == k) page (pages j) (eq-eqb j k same)
 
 module _ (key : List ℕ) (tree : Loaded) where
-  -- a page that was read stays one as the calls go on
-  pub page_first : (a b c : FileState) (k : ℕ) (page : List ℕ) → GoesOn b c → IsPage key tree a b k page → IsPage key tree a c k page
-  page_first a b c k page goes read = record { ciphertext = read.ciphertext; stands = λ told. read.stands (told_first a b c goes told); opens = read.opens; long = read.long }
+  -- a page that was read stays one as calls go on that do not write at the tree's places
+  pub page_first : {root : ℕ} (a b c : FileState) (k : ℕ) (page : List ℕ) → Keeps (Lies tree.nodes root) b c → IsPage key tree a b k page → IsPage key tree a c k page
+  page_first {root} a b c k page keeps read = record {
+    among = read.among;
+    ciphertext = read.ciphertext;
+    seen = seen_later (In (block k (block_version tree.nodes k))) a b c (λ image. read.ciphertext ≡ block_in image tree k)
+        (runs_fewer (Lies tree.nodes root) (In (block k (block_version tree.nodes k))) b c (λ place within. record { part = block k (block_version tree.nodes k); selected = (read.among, refl); within = within }) keeps.run)
+        read.seen;
+    stands = λ told. read.stands (told_first a b c keeps.goes_on told);
+    opens = read.opens;
+    long = read.long;
+  }
 
   -- a page that is read after calls that change nothing
   pub page_then : (a b c : FileState) (k : ℕ) (page : List ℕ) → Rests a b → GoesOn b c → IsPage key tree b c k page → IsPage key tree a c k page
   page_then a b c k page rests goes read = record {
+    among = read.among;
     ciphertext = read.ciphertext;
+    seen = seen_then (In (block k (block_version tree.nodes k))) a b c (λ image. read.ciphertext ≡ block_in image tree k) rests read.seen;
     stands = λ told. read.stands (told_then a b c rests.goes_on told) ∙ ap (λ (bytes : List ℕ). block_in bytes tree k) (rests.reads (first_known a b c goes told.1));
     opens = read.opens;
     long = read.long;
   }
 
-  pub was_first : (a b c : FileState) (k : ℕ) → GoesOn b c → WasRead key tree a b k → WasRead key tree a c k
-  was_first a b c k goes read = (read.0, page_first a b c k read.0 goes read.1)
+  pub was_first : {root : ℕ} (a b c : FileState) (k : ℕ) → Keeps (Lies tree.nodes root) b c → WasRead key tree a b k → WasRead key tree a c k
+  was_first a b c k keeps read = (read.0, page_first a b c k read.0 keeps read.1)
 
   -- no block was read yet
   pub read_none : (a : FileState) (r : ByteRange) (k : ℕ) (into : List ℕ) → k ≡ first_block r → AreRead key tree a a r k into
@@ -64,15 +89,15 @@ module _ (key : List ℕ) (tree : Loaded) where
   }
 
   -- one block more was read, and its bytes stand where they belong
-  pub read_step : (a b c : FileState) (r : ByteRange) (k : ℕ) (before after : List ℕ) → Rests a b → GoesOn b c
+  pub read_step : {root : ℕ} (a b c : FileState) (r : ByteRange) (k : ℕ) (before after : List ℕ) → Rests a b → Keeps (Lies tree.nodes root) b c
       → AreRead key tree a b r k before → IsGiven key tree b c r k before after → AreRead key tree a c r (k + 1) after
-  read_step a b c r k before after rests goes old given = record {
+  read_step a b c r k before after rests keeps old given = record {
     pages = put_page old.pages k given.page;
     read = λ j lt met. elim (cases_lt j k) [
-      | inl low ↦ subst (λ (page : List ℕ). IsPage key tree a c j page) (sym (put_old old.pages k j given.page low)) (page_first a b c j (old.pages j) goes (old.read j low met))
+      | inl low ↦ subst (λ (page : List ℕ). IsPage key tree a c j page) (sym (put_old old.pages k j given.page low)) (page_first a b c j (old.pages j) keeps (old.read j low met))
       | inr high ↦ let same : j ≡ k = omega arith in
           subst (λ (page : List ℕ). IsPage key tree a c j page) (sym (put_new old.pages k j given.page same))
-          (subst (λ (n : ℕ). IsPage key tree a c n given.page) (sym same) (page_then a b c k given.page rests goes given.read))
+          (subst (λ (n : ℕ). IsPage key tree a c n given.page) (sym same) (page_then a b c k given.page rests keeps.goes_on given.read))
     ];
     are = λ i among lt. elim (cases_lt (r.first + i) (4096 * k)) [
       | inl low ↦
@@ -89,20 +114,20 @@ module _ (key : List ℕ) (tree : Loaded) where
   }
 
 -- a block that was not read, behind those that were
-pub part_blocks : (key : List ℕ) (tree : Loaded) (a b c : FileState) (asked : ℕ → Bool) (r : ByteRange) (k : ℕ) (before after : List ℕ) (A B : Type 0) (e : TreeFault)
-    → GoesOn b c → asked k ≡ true → ((j : ℕ) → j < k → asked j ≡ true → WasRead key tree a b j)
+pub part_blocks : {root : ℕ} (key : List ℕ) (tree : Loaded) (a b c : FileState) (asked : ℕ → Bool) (r : ByteRange) (k : ℕ) (before after : List ℕ) (A B : Type 0) (e : TreeFault)
+    → Keeps (Lies tree.nodes root) b c → asked k ≡ true → ((j : ℕ) → j < k → asked j ≡ true → WasRead key tree a b j)
     → PartAnswer key tree b c r k before after {A = A} (Err e) → BlocksAnswer key tree a c asked {A = B} (Err e)
-part_blocks key tree a b c asked r k before after A B (BadTag bad want found) goes is earlier answer = rw (answer.0) (record {
+part_blocks key tree a b c asked r k before after A B (BadTag bad want found) keeps is earlier answer = rw (answer.0) (record {
   is_asked = is;
-  earlier = λ j lt met. was_first key tree a b c j goes (earlier j lt met);
+  earlier = λ j lt met. was_first key tree a b c j keeps (earlier j lt met);
   bad = answer.1;
 })
-part_blocks key tree a b c asked r k before after A B (Failed count) goes is earlier answer = tt
-part_blocks key tree a b c asked r k before after A B (BadHead long greatest) goes is earlier answer = tt
-part_blocks key tree a b c asked r k before after A B (Short end need) goes is earlier answer = tt
-part_blocks key tree a b c asked r k before after A B (Damaged n want found) goes is earlier answer = tt
-part_blocks key tree a b c asked r k before after A B (NoEntropy count) goes is earlier answer = absurd answer
-part_blocks key tree a b c asked r k before after A B NoMemory goes is earlier answer = tt
+part_blocks key tree a b c asked r k before after A B (Failed count) keeps is earlier answer = tt
+part_blocks key tree a b c asked r k before after A B (BadHead long greatest) keeps is earlier answer = tt
+part_blocks key tree a b c asked r k before after A B (Short end need) keeps is earlier answer = tt
+part_blocks key tree a b c asked r k before after A B (Damaged n want found) keeps is earlier answer = tt
+part_blocks key tree a b c asked r k before after A B (NoEntropy count) keeps is earlier answer = absurd answer
+part_blocks key tree a b c asked r k before after A B NoMemory keeps is earlier answer = tt
 
 -- and what lies behind the range stays
 pub part_kept : (key : List ℕ) (tree : Loaded) (b c : FileState) (r : ByteRange) (k : ℕ) (before after : List ℕ) (A : Type 0) (e : TreeFault)
@@ -255,3 +280,23 @@ module _ (r : ByteRange) (k : ℕ) (before page : List ℕ) (low : r.first ≤ 4
   part_inside key tree b c A (Err (Damaged n want found)) answer = absurd answer
   part_inside key tree b c A (Err (NoEntropy count)) answer = absurd answer
   part_inside key tree b c A (Err NoMemory) answer = absurd answer
+
+-- what reading a block answers
+pub page_answer : (key : List ℕ) (tree : Loaded) (a b : FileState) (k : ℕ) (A : Type 0) (result : Result A TreeFault) (page : List ℕ) → k < length tree.nodes → length page ≡ 4096 → Rests a b
+    → BlockAnswer key tree.head (at_node tree.nodes (k + 1)) k (λ ciphertext. IsTrue b.tells → ciphertext ≡ block_in b.reads tree k) result page → PageAnswer key tree a b k result page
+page_answer key tree a b k A (Ok done) page lt long rests answer = record {
+  among = lt;
+  ciphertext = answer.0;
+  seen = seen_now (In (block k (block_version tree.nodes k))) a b (λ image. answer.0 ≡ block_in image tree k) rests answer.1;
+  stands = λ told. answer.1 told.0 ∙ ap (λ (bytes : List ℕ). block_in bytes tree k) (rests.reads told.1);
+  opens = answer.2;
+  long = long;
+}
+page_answer key tree a b k A (Err (BadTag bad want found)) page lt long rests answer =
+    (answer.2, record { ciphertext = page; stands = answer.0; block = answer.5; fails = answer.1; wants = answer.3; finds = answer.4 })
+page_answer key tree a b k A (Err (Failed count)) page lt long rests answer = tt
+page_answer key tree a b k A (Err (BadHead h g)) page lt long rests answer = absurd answer
+page_answer key tree a b k A (Err (Short end need)) page lt long rests answer = absurd answer
+page_answer key tree a b k A (Err (Damaged n want found)) page lt long rests answer = absurd answer
+page_answer key tree a b k A (Err (NoEntropy count)) page lt long rests answer = absurd answer
+page_answer key tree a b k A (Err NoMemory) page lt long rests answer = absurd answer

@@ -6,6 +6,7 @@ use Rattle.std.proofs.lemmas.Bool.{cases_lt, false≢true}
 use Rattle.aes_block.specs.WrappedKey.{unwrapped_of}
 use Rattle.disk_model.specs.State.{FileState}
 use Rattle.disk_model.specs.Calls.{GoesOn, Known, Rests}
+use Rattle.disk_model.specs.Keeps.{Keeps}
 use Rattle.disk_model.proofs.Goings.{first_known, then_known}
 use Rattle.htree_file.specs.Value.{Staged}
 use Rattle.node_image.specs.declared.node.RootRef.{RootRef}
@@ -19,6 +20,7 @@ use Rattle.htree_file.specs.Changes.{AreChanges, OpensAfter, SealsAt, SealsChang
 use Rattle.htree_file.specs.Making.{IsDeviceFault}
 use Rattle.htree_file.specs.Opening.{IsVerified, Loaded, load_of}
 use Rattle.htree_file.specs.Pages.{Opened, opened_in, page_in}
+use Rattle.htree_file.specs.Selected.{Lies}
 use Rattle.htree_file.specs.Standing.{Told}
 use Rattle.page_bytes.specs.declared.range.ByteRange.{ByteRange}
 use Rattle.page_bytes.specs.Pages.{page_at}
@@ -50,7 +52,7 @@ met_end r k met = elim (cases_lt k (end_block r)) [
 ]
 
 -- one that the change needs has old bytes, and stays
-needed_met : (r : ByteRange) (k : ℕ) → needs r k ≡ true → meets r.first r.last k ≡ true
+pub needed_met : (r : ByteRange) (k : ℕ) → needs r k ≡ true → meets r.first r.last k ≡ true
 needed_met r k needed = grind (arith, needed)
 
 needed_old : (r : ByteRange) (k : ℕ) → needs r k ≡ true → 4096 * k < r.size
@@ -97,22 +99,22 @@ module _ (key : List ℕ) (tree : Loaded) (r : ByteRange) (at : ℕ) (bytes : Li
       (λ k low high. let page = made.pages k low (omega arith) in subst (λ (o : Option (List ℕ)). IsSome o) (sym page.1) refl)
 
   -- a block that the change needs was read before its page was made
-  needed_read : (c : FileState) → GoesOn b c → (k : ℕ) → needs r k ≡ true → WasRead key tree a c k
-  needed_read c goes k needed =
+  needed_read : {root : ℕ} (c : FileState) → Keeps (Lies tree.nodes root) b c → (k : ℕ) → needs r k ≡ true → WasRead key tree a c k
+  needed_read c keeps k needed =
       let stays = needed_stays r size k reaches needed in
       let page = made.pages k (omega (arith, stays.0, begins)) (omega (arith, stays.1, ends)) in
-      (page.2.over, page_first key tree a b c k page.2.over goes (page.2.read needed))
+      (page.2.over, page_first key tree a b c k page.2.over keeps (page.2.read needed))
 
   -- those that the change needs were read, also where a draw failed
-  pub blocks_read : (c : FileState) (A : Type 0) (result : Result A TreeFault) → GoesOn b c → IfErr result IsDeviceFault → BlocksAnswer key tree a c (needs r) result
-  blocks_read c A (Ok done) goes fault = needed_read c goes
-  blocks_read c A (Err (BadTag bad want found)) goes fault = absurd fault
-  blocks_read c A (Err (Failed count)) goes fault = tt
-  blocks_read c A (Err (BadHead long greatest)) goes fault = tt
-  blocks_read c A (Err (Short end need)) goes fault = tt
-  blocks_read c A (Err (Damaged n want found)) goes fault = tt
-  blocks_read c A (Err (NoEntropy count)) goes fault = needed_read c goes
-  blocks_read c A (Err NoMemory) goes fault = tt
+  pub blocks_read : {root : ℕ} (c : FileState) (A : Type 0) (result : Result A TreeFault) → Keeps (Lies tree.nodes root) b c → IfErr result IsDeviceFault → BlocksAnswer key tree a c (needs r) result
+  blocks_read c A (Ok done) keeps fault = needed_read c keeps
+  blocks_read c A (Err (BadTag bad want found)) keeps fault = absurd fault
+  blocks_read c A (Err (Failed count)) keeps fault = tt
+  blocks_read c A (Err (BadHead long greatest)) keeps fault = tt
+  blocks_read c A (Err (Short end need)) keeps fault = tt
+  blocks_read c A (Err (Damaged n want found)) keeps fault = tt
+  blocks_read c A (Err (NoEntropy count)) keeps fault = needed_read c keeps
+  blocks_read c A (Err NoMemory) keeps fault = tt
 
   module _ (told : Told a b) (root next : RootRef) (after : List ℕ) (verified : IsVerified root tree) (old_size : r.size ≡ tree.head.length) (many : length tree.nodes ≡ greatest_of r.size)
       (loads : load_of a.reads root ≡ Ok tree) where
@@ -169,20 +171,20 @@ rewritten_then old mid new A (Ok done) stage tree root P Q rests goes was then =
 rewritten_then old mid new A (Err fault) stage tree root P Q rests goes was then = tt
 
 -- what the nodes of a stage seal, by the pages that were made for it
-pub seals_range : (key : List ℕ) (tree : Loaded) (r : ByteRange) (at : ℕ) (bytes : List ℕ) (size first upto : ℕ) (a b c : FileState) (changes : List BlockChange)
-    → first ≡ first_block r → upto ≡ min (end_block r) (greatest_of size) → first ≤ upto → AreNewPages key tree a b r at bytes changes first upto → GoesOn b c
+pub seals_range : {root : ℕ} (key : List ℕ) (tree : Loaded) (r : ByteRange) (at : ℕ) (bytes : List ℕ) (size first upto : ℕ) (a b c : FileState) (changes : List BlockChange)
+    → first ≡ first_block r → upto ≡ min (end_block r) (greatest_of size) → first ≤ upto → AreNewPages key tree a b r at bytes changes first upto → Keeps (Lies tree.nodes root) b c
     → (A : Type 0) (result : Result A TreeFault) (stage : Option Staged)
     → OnOk result (IfSome stage (λ s. SealsChanges key tree s.tree changes)) → OnOk result (IfSome stage (λ s. SealsRange key tree s.tree a c r at bytes size))
-seals_range key tree r at bytes size first upto a b c changes begins ends forward made goes A (Ok done) stage seals =
+seals_range key tree r at bytes size first upto a b c changes begins ends forward made keeps A (Ok done) stage seals =
     some_then stage (λ s. SealsChanges key tree s.tree changes) (λ s. SealsRange key tree s.tree a c r at bytes size) (λ s each. record {
       met = λ k lt from below.
           let page = made.pages k (omega (arith, from, begins)) (omega (arith, below, ends)) in
-          (page.0, subst (λ (o : Option (List ℕ)). SealsAt key tree s.tree k o) page.1 (each k lt), new_page_first key tree r at bytes a b c goes k page.0 page.2);
+          (page.0, subst (λ (o : Option (List ℕ)). SealsAt key tree s.tree k o) page.1 (each k lt), new_page_first key tree r at bytes a b c keeps k page.0 page.2);
       missed = λ k lt out.
           let outside : (k < first) ⊎ (first + (upto - first) ≤ k) = elim out [ inl low ↦ inl (omega (arith, low, begins)) | inr high ↦ inr (omega (arith, high, ends, forward)) ] in
           subst (λ (o : Option (List ℕ)). SealsAt key tree s.tree k o) (page_for-missed changes first (upto - first) k made.blocks outside) (each k lt);
     }) seals
-seals_range key tree r at bytes size first upto a b c changes begins ends forward made goes A (Err fault) stage seals = tt
+seals_range key tree r at bytes size first upto a b c changes begins ends forward made keeps A (Err fault) stage seals = tt
 
 -- and what it wrote
 pub writes_range : (r : ByteRange) (size before first upto : ℕ) (changes : List BlockChange) (old mid new : FileState) → first ≡ first_block r → upto ≡ min (end_block r) (greatest_of size)

@@ -2,7 +2,10 @@
 use Rattle.std.specs.Prelude.{◌≡◌, ℕ, zero, suc, ◌+◌, ◌-◌, ◌/◌, ◌%◌, ◌<◌, List, length, get_or, Some, None, Bool, true, Result, Ok, Err, IsTrue}
 use Rattle.disk_model.specs.Arms.{Arms, count_call}
 use Rattle.disk_model.specs.State.{FileState}
-use Rattle.node_image.specs.Tables.{at_node}
+use Rattle.disk_model.specs.Seen.{WasSeen}
+use Rattle.node_image.specs.Parts.{In}
+use Rattle.node_image.specs.Parts.Part.{block}
+use Rattle.node_image.specs.Tables.{at_node, block_version}
 use Rattle.htree_file.specs.declared.fault.TreeFault.{TreeFault}
 use Rattle.htree_file.specs.declared.fault.TreeFault.TheVariants.{BadTag, Failed, NoEntropy, NoMemory}
 use Rattle.htree_file.specs.Opening.{Loaded}
@@ -11,10 +14,13 @@ use Rattle.htree_file.specs.Standing.{Told}
 use Rattle.page_bytes.specs.declared.range.ByteRange.{ByteRange}
 use Rattle.page_bytes.specs.Ranges.{end_block, first_block, meets}
 
--- Block k was read as that page of 4,096 bytes: a ciphertext with the tag of its node deciphers to it. Where the file is followed, it is
--- the one that stands there.
+-- Block k of the tree was read as that page of 4,096 bytes: a ciphertext with the tag of its node deciphers to it. It stood in the block
+-- at a moment since which no call wrote there. Where the file is followed, it is the one that stands there; where it tells its arms, it
+-- is the one that stood there before, with armed masks over it.
 pub record IsPage (key : List ℕ) (tree : Loaded) (old new : FileState) (k : ℕ) (page : List ℕ) : Type 0 where
+  pub among : k < length tree.nodes
   pub ciphertext : List ℕ
+  pub seen : WasSeen (In (block k (block_version tree.nodes k))) old new (λ image. ciphertext ≡ block_in image tree k)
   pub stands : Told old new → ciphertext ≡ block_in old.reads tree k
   pub opens : page_of key tree.head (at_node tree.nodes (k + 1)) k ciphertext ≡ Some page
   pub long : length page ≡ 4096

@@ -35,7 +35,12 @@ fn blank_change(block: u32) -> BlockChange
 
 impl<F: StoreFile> BlockFile<F> {
     // Reads block k, where the change of a range needs it.
-    fn read_needed(&mut self, range: ByteRange, k: u32, page: &mut Page) -> Result<(), TreeFault>
+    pub(crate) fn read_needed(
+        &mut self,
+        range: ByteRange,
+        k: u32,
+        page: &mut Page,
+    ) -> Result<(), TreeFault>
         requires verified { IsVerified self.old.root self.old.tree }
         requires size { range.size ≡ self.old.tree.head.length }
         ensures answer { NeededAnswer self.old.key self.old.tree (F.state self.old.file) (F.state self.new.file) range k result page.new }

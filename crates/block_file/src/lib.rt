@@ -7,6 +7,7 @@
 
 mod arms;
 mod change;
+mod check;
 mod file;
 
 pub use file::BlockFile;

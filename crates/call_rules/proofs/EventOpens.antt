@@ -35,7 +35,8 @@ use Rattle.call_rules.specs.OpenLaws.{IsOpenedFile, NotesLanding}
 use Rattle.call_rules.proofs.CommitOpens.{landed-open, made-open}
 use Rattle.call_rules.proofs.LinkedCalls.{linked}
 use Rattle.call_rules.proofs.OpenCalls.{undone_open}
-use Rattle.call_rules.proofs.ReplayHandles.{unmarked, well_replay-answered}
+use Rattle.core_laws.proofs.DueEvents.{unmarked}
+use Rattle.call_rules.proofs.ReplayHandles.{well_replay-answered}
 
 -- what the table does at a call that the machine answers, and that is no commit
 record IsQuiet (entries : List (Option DirEntry)) (old new : TableState) (s : MachineState) (i file : ℕ) (call : Call) : Type 0 where

@@ -2,7 +2,6 @@
 use Rattle.std.proofs.Common.{◌≡◌, ℕ, Bool, true, false, true≢false, List, [], ◌∷◌, ◌++◌, map, slice_index_or, zero, suc, Option, Some, None, inl, inr, refl, sym, ap, ◌∙◌, subst, append_assoc, arith}
 use Rattle.tee_types.specs.declared.call.Call.{Call}
 use Rattle.tee_types.specs.declared.reply.Reply.{Reply}
-use Rattle.tee_types.specs.declared.reply.Reply.TheVariants.{Misuse, Corrupt, NotAvailable, CounterSpent}
 use Rattle.store_model.specs.declared.event.Event.{Event}
 use Rattle.store_model.specs.declared.event.Event.TheVariants.{Call as CallEvent, Landed}
 use Rattle.store_model.specs.declared.event.Mark.{Mark}
@@ -11,14 +10,14 @@ use Rattle.store_model.specs.declared.session.Handle.{Handle}
 use Rattle.store_model.specs.Machine.{MachineState, Session, handle_at, new_session, session_at}
 use Rattle.store_model.specs.Calls.{state_after}
 use Rattle.store_model.specs.Doubt.{Doubt}
-use Rattle.store_model.specs.Legal.{IsLegalAnswer, IsLegalEvent, IsLegalFrom, is_commit_due, mark_of}
-use Rattle.store_model.specs.Legal.IsLegalAnswer.{Answered, Unavailable, Doubted, FoundCorrupt, Spent}
+use Rattle.store_model.specs.Legal.{IsLegalEvent, IsLegalFrom}
 use Rattle.store_model.specs.Record.{Record, file_of}
 use Rattle.store_model.specs.ReplayState.{PhaseOpening, ReplayState, is_undone, keeps_doubt, opening, replay, replay_after, replay_after_call, replay_landed}
 use Rattle.core_laws.specs.Records.{HistoryRecord}
 use Rattle.core_laws.specs.TamperScenarios.{TamperScenario}
 use Rattle.core_laws.specs.Stores.{Store, replay_at, start_under}
 use Rattle.core_laws.specs.Answered.{AreAnswered, IsAnsweredAt}
+use Rattle.core_laws.proofs.DueEvents.{doubtful_due, undone-kept}
 use Rattle.core_laws.proofs.Answers.{replay_state-snoc}
 use Rattle.call_rules.specs.Numbers.{HasNumbers}
 use Rattle.call_rules.specs.WellOpened.{WellOpened}
@@ -46,13 +45,6 @@ well_opened-opening phase = record {
 
 pub well_replay-opening : (phase : PhaseOpening) → IsWellReplay (opening phase)
 well_replay-opening phase = record { opened = well_opened-opening phase; due = λ doubt is. absurd (cc (is)) }
-
-undone-kept : (reply : Reply) → keeps_doubt reply ≡ true → is_undone reply ≡ true
-undone-kept (Misuse reason) keeps = refl
-undone-kept Corrupt keeps = refl
-undone-kept (NotAvailable cause) keeps = refl
-undone-kept (CounterSpent counter) keeps = refl
-undone-kept reply keeps = absurd (true≢false (sym keeps))
 
 module _ (s : ReplayState) (well : IsWellReplay s) where
   unchanged : (session : ℕ) (call : Call) (keeps undone : Bool) → (keeps ≡ true → undone ≡ true)
@@ -88,22 +80,10 @@ well_replay-replay s [] due well = well
 well_replay-replay s (r ∷ records) due well =
     well_replay-replay (replay_after s r.event (file_of r)) records due.1 (well_replay-after s well r.event (file_of r) due.0)
 
-pub unmarked : (counter commit : ℕ) (b : Bool) → Doubtful commit ≡ mark_of counter b → ⊥
-unmarked counter commit true is = cc (is)
-unmarked counter commit false is = cc (is)
-
-legal_answer : (tampered : List ℕ) (s : ReplayState) (session : ℕ) (call : Call) (reply : Reply) (commit : ℕ) (file : Option ℕ)
-    → IsLegalAnswer tampered s session call reply (Doubtful commit) file → is_commit_due s session call ≡ true
-legal_answer tampered s session call reply commit file (Answered answered) = absurd (unmarked s.counter commit (is_commit_due s session call) answered.marked)
-legal_answer tampered s session call reply commit file (Unavailable unavailable) = absurd (cc (unavailable.marked))
-legal_answer tampered s session call reply commit file (Doubted doubted) = doubted.due
-legal_answer tampered s session call reply commit file (FoundCorrupt corrupt) = absurd (cc (corrupt.marked))
-legal_answer tampered s session call reply commit file (Spent spent) = absurd (cc (spent.marked))
-
 legal_event : (tampered : List ℕ) (s : ReplayState) (event : Event) (file : Option ℕ) → IsLegalEvent tampered s event file → IsDoubtDue s event
 legal_event tampered s (CallEvent session number call reply Unchanged) file legal = tt
 legal_event tampered s (CallEvent session number call reply (Made commit)) file legal = tt
-legal_event tampered s (CallEvent session number call reply (Doubtful commit)) file legal = legal_answer tampered s session call reply commit file legal.answer
+legal_event tampered s (CallEvent session number call reply (Doubtful commit)) file legal = doubtful_due tampered s session call reply commit file legal.answer
 legal_event tampered s (Landed commit) file legal = tt
 
 pub legal_doubts : {Root : Type 0} (tampered : List ℕ) (s : ReplayState) (records : List (Record Root)) → IsLegalFrom tampered s records → AreDoubtsDue s records

@@ -1,9 +1,9 @@
 -- Why a reply accuses the object's file, over two calls of the file.
-use Rattle.std.proofs.Common.{◌≡◌, ℕ, Some, refl, sym, ◌∙◌, subst}
-use Rattle.disk_model.specs.Calls.{GoesOn, Rests}
+use Rattle.std.proofs.Common.{◌≡◌, ℕ, None, Some, Result, Ok, Err, refl, sym, ◌∙◌, subst}
+use Rattle.std.specs.Prelude.{OnErr}
+use Rattle.disk_model.specs.Calls.{GoesOn}
 use Rattle.disk_model.specs.Faults.{Rose}
 use Rattle.disk_model.specs.State.{FileState}
-use Rattle.disk_model.proofs.Goings.{first_known, goes_on_then, then_known}
 use Rattle.htree_file.specs.Answers.{FileFailed, FilePassed}
 use Rattle.tee_types.specs.declared.reply.Cause.TheVariants.{Fault}
 use Rattle.tee_types.specs.declared.reply.Device.TheVariants.{File}
@@ -13,6 +13,7 @@ use Rattle.core_laws.proofs.Mending.{none_some, some_same}
 use Rattle.object_slots.specs.declared.fault.SlotFault.{SlotFault}
 use Rattle.object_slots.specs.declared.fault.SlotFault.TheVariants.{Corrupt as IsCorrupt, Failed, NoEntropy, NoMemory}
 use Rattle.object_slots.specs.SlotFaults.{FaultCause}
+use Rattle.call_steps.specs.PlainReplies.{AccusesNone}
 use Rattle.call_steps.specs.AnswerCauses.{HasToldCause}
 use Rattle.call_steps.specs.FileFaults.{reply_of_fault}
 
@@ -38,13 +39,23 @@ module _ (a b c : FileState) (passed : FilePassed a b) (goes : GoesOn a b) where
   passed-told number (NotAvailable other) cause = absurd cause
   passed-told number reply cause = record { faults = cause.faults ∙ passed.faults; starved = cause.starved ∙ passed.starved }
 
--- two calls that read
-pub rests-then : (a b c : FileState) → Rests a b → Rests b c → Rests a c
-rests-then a b c first second = record {
-  trail = second.trail ∙ first.trail;
-  settled = λ honest. second.settled honest ∙ first.settled (second.goes_on.honest honest);
-  pending_from = second.pending_from ∙ first.pending_from;
-  reads = λ known. second.reads (then_known a b c first.goes_on known) ∙ first.reads (first_known a b c second.goes_on known);
-  written = second.written ∙ first.written;
-  goes_on = goes_on_then a b c first.goes_on second.goes_on;
-}
+-- what holds anyhow holds at an error
+pub on-err : {A E : Type 0} (result : Result A E) (P : Type 0) → P → OnErr result P
+on-err (Ok done) P holds = tt
+on-err (Err none) P holds = holds
+
+pub on-err-then : {A E : Type 0} (result : Result A E) (P Q : Type 0) → (P → Q) → OnErr result P → OnErr result Q
+on-err-then (Ok done) P Q then holds = tt
+on-err-then (Err none) P Q then holds = then holds
+
+-- where nothing is told, no call of the file failed
+pub untold-passed : (old new : FileState) (number : ℕ) (fault : SlotFault) → None ≡ reply_of_fault number fault → FaultCause old new fault → FilePassed old new
+untold-passed old new number IsCorrupt is cause = absurd (none_some Corrupt is)
+untold-passed old new number (Failed count) is cause = absurd (none_some (NotAvailable (Fault (File number) count)) is)
+untold-passed old new number (NoEntropy count) is cause = cause
+untold-passed old new number NoMemory is cause = cause
+
+-- nor where the reply accuses none
+pub bare-passed : (old new : FileState) (number : ℕ) (reply : Reply) → AccusesNone reply → HasToldCause old new number reply → FilePassed old new
+bare-passed old new number (NotAvailable cause) none told = absurd none
+bare-passed old new number reply none told = told

@@ -1,5 +1,6 @@
 -- A slot with a stage, as it is brought to the gate.
 use Rattle.std.proofs.Common.{None, Option, Some, ap, refl, subst, sym, ℕ, ◌<◌, ◌∙◌, ◌≡◌}
+use Rattle.core_laws.specs.Masked.{StandsMasked}
 use Rattle.core_laws.specs.SlotParts.{VersionStands}
 use Rattle.disk_model.specs.State.{FileState}
 use Rattle.history_seats.proofs.Keeping.{seen-whole}
@@ -68,6 +69,7 @@ staged_committable store slot seat v next is gives =
       after = is.after;
       real = λ w same. subst (IsReal store.keys) (some_same next w same) object.of_next.real;
       stands = λ honest w same. subst (VersionStands store.keys slot.file) (some_same next w same) (object.of_next.stands honest);
+      masked = λ w same. subst (StandsMasked store.keys slot.file) (some_same next w same) object.of_next.bytes;
     }
 
 pub shown_see : ShownSeatsSeeWhole

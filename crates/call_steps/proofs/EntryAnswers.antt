@@ -1,15 +1,18 @@
 -- What an entry's file gave to a call on its object may be told.
-use Rattle.std.proofs.Common.{◌≡◌, ◌<◌, ◌^◌, ℕ, false, List, Option, Some, None, IsTrue, sym, ap, ◌∙◌, subst, inl}
+use Rattle.std.proofs.Common.{◌≡◌, ◌<◌, ◌^◌, ℕ, false, List, Option, Some, None, IsTrue, true, refl, sym, ap, ◌∙◌, subst, inl}
 use Rattle.tee_types.specs.declared.call.Call.{Call}
 use Rattle.tee_types.specs.declared.call.Call.TheVariants.{Info, Open, Read}
 use Rattle.tee_types.specs.declared.reply.Cause.TheVariants.{Fault}
 use Rattle.tee_types.specs.declared.reply.Device.TheVariants.{Entropy, File}
 use Rattle.tee_types.specs.declared.reply.Reply.{Reply}
-use Rattle.tee_types.specs.declared.reply.Reply.TheVariants.{Corrupt, Handle as HandleReply, NotAvailable}
+use Rattle.tee_types.specs.declared.reply.Reply.TheVariants.{Corrupt, CounterSpent, Handle as HandleReply, NotAvailable}
+use Rattle.store_model.specs.declared.event.Mark.TheVariants.{Unchanged}
 use Rattle.store_model.specs.Files.{object_named}
+use Rattle.store_model.specs.Legal.{IsLegalAnswer, NotMade, Spent as LegalSpent, Unavailable, is_commit_due}
+use Rattle.rpmb_card.specs.Protocol.{last_counter}
 use Rattle.store_model.specs.Machine.{MachineState, name_in}
 use Rattle.store_model.specs.Record.{fault_in_reply}
-use Rattle.store_model.specs.ReplayState.{ReplayState}
+use Rattle.store_model.specs.ReplayState.{ReplayState, is_undone}
 use Rattle.dir_records.specs.declared.entry.DirEntry.{DirEntry}
 use Rattle.history_seats.specs.Directory.{given_version}
 use Rattle.history_seats.specs.Mounts.{Mounted}
@@ -20,10 +23,12 @@ use Rattle.crash_core.specs.DirectoryLaws.{AreEntries}
 use Rattle.crash_core.specs.Entries.{name_of}
 use Rattle.crash_core.specs.EntryLists.{entry_at}
 use Rattle.core_laws.specs.Answered.{AreAnswered, IsFairAt, IsLegalAt}
-use Rattle.core_laws.specs.Given.{Gave, Tells, is_asked, position_by, decoding_given}
+use Rattle.core_laws.specs.Given.{Tells, is_asked, position_by, decoding_given}
 use Rattle.core_laws.specs.TamperScenarios.{TamperScenario}
 use Rattle.core_laws.specs.ReadLaws.{IsAdmitted}
-use Rattle.core_laws.specs.Decodings.{Decoding, wrap_of}
+use Rattle.core_laws.specs.Decodings.{Decoding}
+use Rattle.core_laws.specs.Masked.{GaveVersion, told_taints}
+use Rattle.disk_model.specs.Arms.{Taint}
 use Rattle.core_laws.specs.Stores.{Store, replay_at}
 use Rattle.core_laws.proofs.Mending.{none_some, some_same}
 use Rattle.core_laws.specs.EventAnswers.{unchanged_record}
@@ -41,8 +46,8 @@ use Rattle.commit_gate.proofs.EntryCalls.{entry_calls}
 use Rattle.commit_gate.proofs.FairAnswers.{failed_files, refused_files, told_files}
 use Rattle.commit_gate.proofs.Honest.{honest_answers}
 use Rattle.call_steps.specs.EntryAnswers.{AdmitsIfTold, IsEntryCall}
-use Rattle.call_steps.specs.FileAnswers.{Fails, IsFileAnswer, Refuses, Tells as FileTells, Undrawn}
-use Rattle.call_steps.specs.ServableReplies.{MayBeServed}
+use Rattle.call_steps.specs.FileAnswers.{Fails, IsFileAnswer, Refuses, Spent as FileSpent, Tells as FileTells, Undrawn}
+use Rattle.call_steps.specs.ServableReplies.{MayBeServed, TellsCounter}
 use Rattle.call_steps.specs.Undrawn.{IsSpared, IsUndrawn}
 use Rattle.call_steps.proofs.AnswerMoves.{here-matches}
 use Rattle.call_steps.proofs.Meetings.{own-seat}
@@ -63,6 +68,10 @@ admitted-told m session long sp size attributes position (Open id flags) (NotAva
 admitted-told m session long sp size attributes position (Read handle count) (NotAvailable cause) tells admits = absurd tells
 admitted-told m session long sp size attributes position (Info handle) (NotAvailable cause) tells admits = absurd tells
 admitted-told m session long sp size attributes position call (NotAvailable cause) tells admits = absurd tells
+admitted-told m session long sp size attributes position (Open id flags) (CounterSpent last) tells admits = absurd tells
+admitted-told m session long sp size attributes position (Read handle count) (CounterSpent last) tells admits = absurd tells
+admitted-told m session long sp size attributes position (Info handle) (CounterSpent last) tells admits = absurd tells
+admitted-told m session long sp size attributes position call (CounterSpent last) tells admits = absurd tells
 admitted-told m session long sp size attributes position call reply tells admits = admits
 
 faultless : (sp : Decoding) (size attributes position : ℕ) (call : Call) (reply : Reply) → Tells sp size attributes position call reply → (n : ℕ) → fault_in_reply reply ≡ Some n → ⊥
@@ -101,6 +110,9 @@ module _ {F R E : Type 0} (store : Store) (gate : GateValue F R) (knows : GateVi
   pub file-is : view.file ≡ e.file
   file-is = own-view.own ∙ may.at.file
 
+  taints-are : told_taints slot.file ≡ store.taints e.file
+  taints-are = own-view.told ∙ ap store.taints may.at.file
+
   given : given_version store.mounted knows.all e.file e.generation ≡ Some v
   given = ap (λ (m : Mounted). given_version m knows.all e.file e.generation) (sym own-view.mounted) ∙ may.at.given
 
@@ -130,13 +142,13 @@ module _ {F R E : Type 0} (store : Store) (gate : GateValue F R) (knows : GateVi
     on-file = entry_calls F R store gate knows closing guarded are low s.number may.index call e v may.moves.was.session.known may.held given scenario answered on.named on.depends
 
     -- what the file told, at the machine's position
-    told-by : IsToldBy store v may.position call reply → IsToldBy store v (position_by here.state s.number call) call reply
-    told-by is = subst (λ (p : ℕ). IsToldBy store v p call reply) (sym on.at) is
+    told-by : IsToldBy store (told_taints slot.file) v may.position call reply → IsToldBy store (store.taints e.file) v (position_by here.state s.number call) call reply
+    told-by is = subst (λ (x : Option (List Taint) × ℕ). IsToldBy store x.0 v x.1 call reply) (λ i. (taints-are i, sym on.at i)) is
 
     admits : AdmitsIfTold here.state s.number v.size call reply
     admits = subst (λ (n : ℕ). AdmitsIfTold here.state s.number n call reply) (sym may.at.own.size) on.admitted
 
-    admitted : IsToldBy store v may.position call reply → IsAdmitted here.state s.number v.size call reply
+    admitted : IsToldBy store (told_taints slot.file) v may.position call reply → IsAdmitted here.state s.number v.size call reply
     admitted is = admitted-told here.state s.number v.size (decoding_given is.gave) v.size v.attributes may.position call reply is.tells admits
 
     answers-by : Answers v.object may.position call reply → Answers v.object (position_by here.state s.number call) call reply
@@ -148,19 +160,30 @@ module _ {F R E : Type 0} (store : Store) (gate : GateValue F R) (knows : GateVi
         (sym (is ∙ ap (λ (n : ℕ). NotAvailable (Fault (File n) count)) may.at.file))
         (failed_files store scenario knows.all s.number s.made call e.file e.generation count v on-file)
 
-    -- A draw failed.
-    module _ (count : ℕ) (is : reply ≡ NotAvailable (Fault Entropy count)) (by : IsUndrawn store slot.file v may.position call) where
+    -- A commit was due, and it is told that it was not made.
+    module _ (p : Reply) (is : reply ≡ p) (faultless-is : fault_in_reply p ≡ None) (undone-is : is_undone p ≡ true)
+        (unmade : is_commit_due here s.number call ≡ true → IsLegalAnswer scenario.tampered here s.number call p Unchanged (Some e.file)) (by : IsUndrawn store slot.file v may.position call) where
       undrawn-told : IsFairAt store scenario knows.all told
       undrawn-told =
           subst (λ (p : Reply). IsFairAt store scenario knows.all (told_record s.number s.made call p e.file e.generation v)) (sym is)
-          (undrawn-fair store scenario knows.all s.number s.made call e.file e.generation count v on-file by.changes
-          (subst (λ (p : ℕ). Gave (wrap_of store.keys v) v.root v.size (is_asked v.size p call)) (sym on.at) by.gave))
+          (undrawn-fair store scenario knows.all s.number s.made call p e.file e.generation v on-file faultless-is undone-is unmade by.changes
+          (subst (λ (x : Option (List Taint) × ℕ). GaveVersion store.keys x.0 v (is_asked v.size x.1 call)) (λ i. (taints-are i, sym on.at i)) by.gave))
 
       undrawn-honest : IsTrue slot.file.honest → is_in slot.number scenario.tampered ≡ false → IsLegalAt store scenario knows.all told
       undrawn-honest honest off =
           subst (λ (p : Reply). IsLegalAt store scenario knows.all (told_record s.number s.made call p e.file e.generation v)) (sym is)
-          (undrawn-legal store scenario knows.all s.number s.made call e.file e.generation count v on-file (ap (λ (n : ℕ). is_in n scenario.tampered) (sym may.at.file) ∙ off)
+          (undrawn-legal store scenario knows.all s.number s.made call p e.file e.generation v on-file faultless-is undone-is unmade (ap (λ (n : ℕ). is_in n scenario.tampered) (sym may.at.file) ∙ off)
           (subst (λ (p : ℕ). IsSpared v.object p call) (sym on.at) (by.spared honest)))
+
+    -- since a draw failed
+    undrawn-due : (count : ℕ) → is_commit_due here s.number call ≡ true → IsLegalAnswer scenario.tampered here s.number call (NotAvailable (Fault Entropy count)) Unchanged (Some e.file)
+    undrawn-due count due = Unavailable (record { cause = Fault Entropy count; replied = refl; marked = refl; due = NotMade due })
+
+    -- since the card's counter is at its end
+    spent-due : reply ≡ CounterSpent last_counter → is_commit_due here s.number call ≡ true → IsLegalAnswer scenario.tampered here s.number call (CounterSpent last_counter) Unchanged (Some e.file)
+    spent-due is due =
+        let at_end : gate.counter ≡ last_counter = subst (TellsCounter gate.counter) is may.counter in
+        LegalSpent (record { replied = refl; marked = refl; due = due; spent = guarded.tied.counter scenario answered ∙ at_end })
 
     -- it is fair whatever the file is
     fair-by : IsFileAnswer store slot.file slot.number v may.position call reply → IsFairAt store scenario knows.all told
@@ -169,7 +192,8 @@ module _ {F R E : Type 0} (store : Store) (gate : GateValue F R) (knows : GateVi
         subst (λ (p : Reply). IsFairAt store scenario knows.all (told_record s.number s.made call p e.file e.generation v)) (sym is)
         (refused_files store scenario knows.all s.number s.made call e.file e.generation v on-file)
     fair-by (Fails count is) = λ answered owed. inl (inl (failed-told count is))
-    fair-by (Undrawn count is by) = undrawn-told count is by
+    fair-by (Undrawn count is by) = undrawn-told (NotAvailable (Fault Entropy count)) is refl refl (undrawn-due count) by
+    fair-by (FileSpent is by) = undrawn-told (CounterSpent last_counter) is refl refl (spent-due is) by
 
     -- and legal where the file is honest, now and under the tamper scenario
     legal-by : IsTrue slot.file.honest → is_in slot.number scenario.tampered ≡ false → IsFileAnswer store slot.file slot.number v may.position call reply → IsLegalAt store scenario knows.all told
@@ -180,7 +204,8 @@ module _ {F R E : Type 0} (store : Store) (gate : GateValue F R) (knows : GateVi
         honest_answers store scenario knows.all s.number s.made call reply e.file e.generation v on-file (ap (λ (n : ℕ). is_in n scenario.tampered) (sym may.at.file) ∙ off) (answers-by (own_ honest))
         (subst (IsAdmittedOr here.state s.number v.size call) (sym is) tt)
     legal-by honest off (Fails count is) = failed-told count is
-    legal-by honest off (Undrawn count is by) = undrawn-honest count is by honest off
+    legal-by honest off (Undrawn count is by) = undrawn-honest (NotAvailable (Fault Entropy count)) is refl refl (undrawn-due count) by honest off
+    legal-by honest off (FileSpent is by) = undrawn-honest (CounterSpent last_counter) is refl refl (spent-due is) by honest off
 
   -- the reply accuses no other file
   fault-is : IsFileAnswer store slot.file slot.number v may.position call reply → (n : ℕ) → fault_in_reply reply ≡ Some n → n ≡ view.file
@@ -188,6 +213,7 @@ module _ {F R E : Type 0} (store : Store) (gate : GateValue F R) (knows : GateVi
   fault-is (Refuses is honest) n at = absurd (none_some n (ap fault_in_reply (sym is) ∙ at))
   fault-is (Fails count is) n at = sym (some_same slot.number n (ap fault_in_reply (sym is) ∙ at)) ∙ sym own-view.own
   fault-is (Undrawn count is by) n at = absurd (none_some n (ap fault_in_reply (sym is) ∙ at))
+  fault-is (FileSpent is by) n at = absurd (none_some n (ap fault_in_reply (sym is) ∙ at))
 
   pub answer-told : MayBeTold store gate.doubt gate.dir.dir.entries knows view s.number s.made call reply
   answer-told = record {

@@ -9,7 +9,7 @@ use Rattle.history_seats.specs.Records.{HistoryRecord, Version}
 use Rattle.history_seats.specs.Views.{GateView, SlotView}
 use Rattle.commit_gate.specs.Commits.{EndsUnder, call_record, tag_of}
 use Rattle.commit_gate.specs.declared.guarded_gate.Closing.{Closing}
-use Rattle.call_steps.proofs.AtObject.{fact_here, name_here}
+use Rattle.call_steps.proofs.AtObject.{fact_here, mapped_here, name_here, version_real}
 use Rattle.call_steps.specs.AtObject.{IsAtObject}
 use Rattle.commit_gate.specs.Gates.{GateValue}
 use Rattle.tee_types.specs.declared.reply.Reply.TheVariants.{Done}
@@ -18,10 +18,10 @@ use Rattle.store_model.specs.Record.{Tag}
 use Rattle.store_model.specs.declared.event.Event.TheVariants.{Call as CallEvent}
 use Rattle.store_model.specs.declared.event.Mark.{Mark}
 use Rattle.core_laws.specs.Answered.{AreAnswered}
-use Rattle.core_laws.specs.Given.{Gave, is_asked, position_by}
+use Rattle.core_laws.specs.Given.{is_asked, position_by}
+use Rattle.core_laws.specs.Masked.{GaveVersion}
 use Rattle.core_laws.specs.TamperScenarios.{TamperScenario}
 use Rattle.core_laws.specs.Shown.{IsGivenAt, IsWriteEndAt}
-use Rattle.core_laws.specs.Decodings.{wrap_of}
 use Rattle.core_laws.specs.Stores.{Store, replay_at}
 use Rattle.tee_types.specs.declared.call.Call.{Call}
 use Rattle.tee_types.specs.declared.reply.Reply.{Reply}
@@ -60,6 +60,9 @@ ends_any store scenario before session number call slot reply mark versions ends
         position = g.position;
         at = g.at;
         gave = g.gave;
+        real = g.real;
+        mapped = g.mapped;
+        masked = g.masked;
       };
       changes = ends.changes;
       ends = ended;
@@ -71,7 +74,7 @@ module _ {F R E : Type 0} (store : Store) (gate : GateValue F R) (knows : GateVi
   -- such a call, by what the file gave
   abbrev pub given_call : (call : Call) (reply : Reply) (mark : Mark) (versions : TagVersions) (position : ℕ)
       → object_named (replay_at store scenario knows.all).state caller.number call ≡ name_by (replay_at store scenario knows.all).state caller.number handle
-      → position ≡ position_by (replay_at store scenario knows.all).state caller.number call → Gave (wrap_of store.keys v) v.root v.size (is_asked v.size position call)
+      → position ≡ position_by (replay_at store scenario knows.all).state caller.number call → GaveVersion store.keys (store.taints slot.file) v (is_asked v.size position call)
       → IsGivenAt store scenario knows.all (call_record caller.number caller.made call reply mark slot versions)
   given_call call reply mark versions position names place gave = record {
     session = caller.number;
@@ -92,5 +95,8 @@ module _ {F R E : Type 0} (store : Store) (gate : GateValue F R) (knows : GateVi
     gives = at_object.gives;
     position = position;
     at = place;
-    gave = gave;
+    gave = gave.gave;
+    masked = gave.masked;
+    real = version_real store gate knows closing caller handle found slot v at_object;
+    mapped = mapped_here store gate knows closing caller handle found slot v at_object scenario answered;
   }

@@ -5,7 +5,7 @@ use Rattle.htree_file.specs.Answers.{FilePassed}
 use Rattle.tee_types.specs.declared.call.Call.TheVariants.{Info}
 use Rattle.tee_types.specs.declared.reply.Cause.{Cause}
 use Rattle.tee_types.specs.declared.reply.Reply.{Reply}
-use Rattle.tee_types.specs.declared.reply.Reply.TheVariants.{Corrupt, Info as InfoReply, NotAvailable}
+use Rattle.tee_types.specs.declared.reply.Reply.TheVariants.{Corrupt, CounterSpent, Info as InfoReply, NotAvailable}
 use Rattle.store_model.specs.declared.session.Handle.{Handle}
 use Rattle.store_model.specs.Calls.{state_after}
 use Rattle.store_model.specs.Data.{info_of}
@@ -33,14 +33,14 @@ use Rattle.call_steps.specs.EntryAnswers.{AdmitsIfTold, IsEntryCall}
 use Rattle.call_steps.specs.FileAnswers.{IsFileAnswer, Tells as FileTells}
 use Rattle.call_steps.specs.ReadyEntries.{IsUnloaded}
 use Rattle.call_steps.specs.ServableReplies.{MayBeServed, MovesAlike}
-use Rattle.call_steps.proofs.UndoneAnswers.{refused-or_failed}
+use Rattle.call_steps.proofs.UndoneAnswers.{counter-untold, refused-or_failed}
 
 -- What is told of a loaded object, its file gave.
 info-answer : (store : Store) (slot : SlotValue) (v : Version) (handle : Handle) (attributes : List ℕ) → ShowsAttributes store.keys slot.file v attributes → (number : ℕ)
     → IsFileAnswer store slot.file slot.number v 0 (Info number) (InfoReply v.size handle.position handle.flags attributes)
 info-answer store slot v handle attributes shows number =
     let told = shows.info 0 number handle.position handle.flags in
-    FileTells (record { gave = told.0; tells = told.1 })
+    FileTells (record { gave = told.0.gave; masked = told.0.masked; tells = told.1 })
     (λ honest.
     let own = shows.sound honest in
     subst (λ (x : Object). Answers x 0 (Info number) (InfoReply v.size handle.position handle.flags attributes)) (sym own.1) own.2)
@@ -74,7 +74,7 @@ undone-says size handle reply (inr failed) = subst (SaysIfTold size handle) (sym
 pub undescribed : (store : Store) (was : FileState) (slot : SlotValue) (v : Version) (handle : Handle) (reply : Reply) → IsUnloaded store was slot v reply → DescribesObject store was slot v handle reply
 undescribed store was slot v handle reply unloaded = record {
   answers = λ number. unloaded.answers 0 (Info number);
-  says = undone-says v.size handle reply (refused-or_failed store slot.file slot.number v 0 (Info 0) reply (unloaded.answers 0 (Info 0)) unloaded.undone);
+  says = undone-says v.size handle reply (refused-or_failed store slot.file slot.number v 0 (Info 0) reply (λ partial. partial) (unloaded.answers 0 (Info 0)) unloaded.undone);
   cause = unloaded.cause;
 }
 
@@ -97,6 +97,7 @@ admits-info : (m : MachineState) (i size number : ℕ) (handle : Handle) (reply 
     → AdmitsIfTold m i size (Info number) reply
 admits-info m i size number handle Corrupt there says = tt
 admits-info m i size number handle (NotAvailable cause) there says = tt
+admits-info m i size number handle (CounterSpent last) there says = tt
 admits-info m i size number handle reply there says = (record { handle = handle; live = there }, says)
 
 -- So does the session.
@@ -137,6 +138,7 @@ info-served store gate knows was slot s now number found reply idle calmly opene
       at = describes.at;
       position = 0;
       answers = describes.describes.answers number;
+      counter = counter-untold store slot.file slot.number describes.version 0 (Info number) reply (λ partial. partial) (describes.describes.answers number) gate.counter;
       before = s.state;
       moves = info-moves store knows gate.dir.dir.entries gate.open_handles s number found.handle opened.live calmly reply;
       on = λ m at.

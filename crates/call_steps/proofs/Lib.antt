@@ -57,6 +57,7 @@ pub mod MoreRecords
 pub use Rattle.commit_gate.proofs.CallMoves
 pub use Rattle.object_slots.proofs.ChangeAnswers
 pub use Rattle.commit_gate.proofs.ClosedStores
+pub use Rattle.commit_gate.proofs.GivenPictures
 pub use Rattle.object_slots.proofs.Contents
 pub use Rattle.commit_gate.proofs.Journals
 pub use Rattle.commit_gate.proofs.Knowing

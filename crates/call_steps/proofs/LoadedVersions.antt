@@ -2,7 +2,7 @@
 use Rattle.std.proofs.Common.{◌≡◌, ℕ, List, Some, Result, Ok, Err, IsOk, true≢false, refl, sym, subst}
 use Rattle.disk_model.specs.Calls.{Rests}
 use Rattle.disk_model.specs.State.{FileState}
-use Rattle.disk_model.proofs.Goings.{goes_on_none}
+use Rattle.disk_model.proofs.Goings.{rests_none}
 use Rattle.dir_records.specs.declared.entry.DirEntry.{DirEntry}
 use Rattle.history_seats.specs.Records.{Version}
 use Rattle.core_laws.specs.Stores.{Store}
@@ -69,9 +69,6 @@ pub gives-still : (old new : SlotValue) (v : Version) → new ≡ record old { f
 gives-still old new v same gives = subst (λ (s : SlotValue). GivesVersion s v) (sym same) (record { seat = gives.seat; is = gives.is; gives = gives.gives })
 
 -- A file that is let be.
-pub rests-none : (s : FileState) → Rests s s
-rests-none s = record { trail = refl; settled = λ honest. refl; pending_from = refl; reads = λ known. refl; written = refl; goes_on = goes_on_none s }
-
 passed-none : (s : FileState) (result : Result (Unit {0}) SlotFault) → IsOk result → HasCause s s result
 passed-none s (Ok done) ok = record { faults = refl; starved = refl }
 passed-none s (Err fault) ok = absurd (true≢false (sym ok))
@@ -83,7 +80,7 @@ pub record ReadsAtMost (old new : FileState) (result : Result (Unit {0}) SlotFau
 
 let_be : (old new : SlotValue) (result : Result (Unit {0}) SlotFault) → (new ≡ old) × IsOk result → ReadsAtMost old.file new.file result
 let_be old new result stays =
-    subst (λ (s : SlotValue). ReadsAtMost old.file s.file result) (sym stays.0) (record { rests = rests-none old.file; cause = passed-none old.file result stays.1 })
+    subst (λ (s : SlotValue). ReadsAtMost old.file s.file result) (sym stays.0) (record { rests = rests_none old.file; cause = passed-none old.file result stays.1 })
 
 pub reads-at_most : (holds : Holding) (old new : SlotValue) (tsk : List ℕ) (e : DirEntry) (result : Result (Unit {0}) SlotFault) → FillsOrStays holds old new tsk e result → ReadsAtMost old.file new.file result
 reads-at_most free old new tsk e result filled = record { rests = filled.rests; cause = filled.cause }

@@ -3,6 +3,7 @@ use Rattle.std.proofs.Common.{Bool, Contains, List, None, Option, Some, [], ap, 
 use Rattle.std.proofs.lemmas.Bool.{cases_Bool, cases_lt, cond-false, ne_eqb}
 use Rattle.commit_gate.specs.Journals.{IsJournal}
 use Rattle.core_laws.proofs.Contained.{contains_first, contains_later}
+use Rattle.core_laws.specs.Masked.{StandsMasked}
 use Rattle.core_laws.specs.SlotParts.{Knows, VersionStands}
 use Rattle.crash_core.specs.EntryLists.{IsUnnamed}
 use Rattle.dir_records.specs.declared.entry.DirEntry.{DirEntry}
@@ -127,6 +128,8 @@ module _ (store : Store) (knows : GateView) (entries : List (Option DirEntry)) (
     holds = λ stage. record { sound = (own.holds None).sound; stands = λ honest v known. absurd (nothing v known) };
     real = λ v known. absurd (nothing v known);
     single = nothing_for;
+    told = own.told;
+    masked = λ v known. absurd (nothing v known);
     legal = λ honest scenario off.
         (own_grows store scenario slot.number).whole old.knows.seen knows.all
         (subst (λ (n : ℕ). IsUpToDate (concerns_file n) old.knows.seen knows.all) own.own fits.sees.begins) (own.legal honest scenario off);
@@ -161,4 +164,5 @@ new_committable store slot lent next is is_free =
       after = is.after;
       real = λ w same. subst (IsReal store.keys) (some_same next w same) object.of_next.real;
       stands = λ honest w same. subst (VersionStands store.keys slot.file) (some_same next w same) (object.of_next.stands honest);
+      masked = λ w same. subst (StandsMasked store.keys slot.file) (some_same next w same) object.of_next.bytes;
     }

@@ -50,7 +50,7 @@ module _ {F R E : Type 0} (store : Store) (gate : GateValue F R) (knows : GateVi
   lent_slot : IsCommittableSlot store (record slot { seat = None }) seat versions
   lent_slot =
       let b = subst (λ (s : Sight SlotView). IsCommittableSlot store slot s versions) same committable.committable in
-      record { settled = b.settled; before = b.before; held = b.held; after = b.after; real = b.real; stands = b.stands }
+      record { settled = b.settled; before = b.before; held = b.held; after = b.after; real = b.real; stands = b.stands; masked = b.masked }
 
   -- the slot that lent it, once the seat is back from the gate
   pub lent_ended : (closing : Option Closing) (lent : SlotValue) (given : Sight SlotView) (end : CommitEnd) (place : ℕ) (after : GateView) → GateInvariant store gate knows closing → gate.doubt ≡ None

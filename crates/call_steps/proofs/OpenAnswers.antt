@@ -44,14 +44,14 @@ use Rattle.call_steps.specs.FileAnswers.{IsFileAnswer, Tells as FileTells}
 use Rattle.call_steps.specs.OpenAnswers.{open_reply}
 use Rattle.call_steps.specs.ReadyEntries.{IsReady, IsReadyEntry}
 use Rattle.call_steps.specs.ServableReplies.{MayBeServed, MovesAlike}
-use Rattle.call_steps.proofs.UndoneAnswers.{refused-or_failed, undone-admitted, undone-moves}
+use Rattle.call_steps.proofs.UndoneAnswers.{counter-untold, refused-or_failed, undone-admitted, undone-moves}
 
 -- The file of a loaded object gave what an Open has to know.
 open-answer : (store : Store) (slot : SlotValue) (v : Version) (attributes : List ℕ) → ShowsAttributes store.keys slot.file v attributes → (id : List ℕ) (flags : Flags) (number : ℕ)
     → IsFileAnswer store slot.file slot.number v 0 (Open id flags) (HandleReply number)
 open-answer store slot v attributes shows id flags number =
     let told = shows.opening 0 number id flags in
-    FileTells (record { gave = told.0; tells = told.1 }) (λ honest. subst (λ (x : Object). Answers x 0 (Open id flags) (HandleReply number)) (sym (shows.sound honest).1) tt)
+    FileTells (record { gave = told.0.gave; masked = told.0.masked; tells = told.1 }) (λ honest. subst (λ (x : Object). Answers x 0 (Open id flags) (HandleReply number)) (sym (shows.sound honest).1) tt)
 
 -- the reply tells of the object
 abbrev tells_object : Reply → Bool
@@ -172,6 +172,7 @@ open-served {F = F} {R = R} {E = E} store gate knows was slot s now id flags hel
       at = ready.at;
       position = 0;
       answers = open-answer store slot ready.version attributes shows id flags s.state.next_handle;
+      counter = tt;
       before = s.state;
       moves = open-moves store knows entries table s id flags held calmly is_named opens s.state.next_handle;
       on = λ m at.
@@ -188,7 +189,7 @@ unopened-served store gate knows was slot s now id flags held reply idle calmly 
     let table = gate.open_handles in
     let answers : IsFileAnswer store slot.file slot.number ready.version 0 (Open id flags) reply = ready.ready.answers 0 (Open id flags) in
     let kind : (reply ≡ Corrupt) ⊎ ((cause : Cause) × (reply ≡ NotAvailable cause)) =
-    refused-or_failed store slot.file slot.number ready.version 0 (Open id flags) reply answers ready.ready.undone in
+    refused-or_failed store slot.file slot.number ready.version 0 (Open id flags) reply (λ partial. partial) answers ready.ready.undone in
     subst (MayBeServed store gate knows slot (Open id flags) reply) (sym same) (record {
       idle = idle;
       index = held.index;
@@ -198,6 +199,7 @@ unopened-served store gate knows was slot s now id flags held reply idle calmly 
       at = ready.at;
       position = 0;
       answers = answers;
+      counter = counter-untold store slot.file slot.number ready.version 0 (Open id flags) reply (λ partial. partial) answers gate.counter;
       before = s.state;
       moves = undone-moves store knows entries table (Open id flags) reply s calmly ready.ready.undone;
       on = λ m at.

@@ -93,6 +93,7 @@ module _ {F R E : Type 0} (store : Store) (gate : GateValue F R) (knows : GateVi
     right = right;
     real = λ v known. absurd known;
     stands = λ honest v known. absurd known;
+    masked = λ v known. absurd known;
     legal = λ honest scenario off answered. answer-legal store gate knows closing guarded are machine low slot own call reply s may honest scenario off answered;
   }
 

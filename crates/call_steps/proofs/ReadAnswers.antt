@@ -15,7 +15,7 @@ use Rattle.tee_types.specs.declared.reply.Cause.TheVariants.{Fault}
 use Rattle.tee_types.specs.declared.reply.Device.TheVariants.{File}
 use Rattle.tee_types.specs.declared.reply.Reply.{Reply}
 use Rattle.tee_types.specs.declared.reply.Reason.TheVariants.{BadHandle}
-use Rattle.tee_types.specs.declared.reply.Reply.TheVariants.{Content, Corrupt, Misuse, NotAvailable}
+use Rattle.tee_types.specs.declared.reply.Reply.TheVariants.{Content, Corrupt, CounterSpent, Misuse, NotAvailable}
 use Rattle.tee_types.specs.Rights.{has, read_bit}
 use Rattle.store_model.specs.declared.session.Handle.{Handle}
 use Rattle.store_model.specs.Calls.{reply_of, state_after}
@@ -27,6 +27,8 @@ use Rattle.dir_records.specs.declared.entry.DirEntry.{DirEntry}
 use Rattle.open_table.specs.Table.{TableState}
 use Rattle.history_seats.specs.Records.{Version}
 use Rattle.history_seats.specs.Views.{GateView}
+use Rattle.disk_model.specs.Arms.{Taint}
+use Rattle.core_laws.specs.Masked.{IsMaskedOf, told_taints}
 use Rattle.core_laws.specs.Given.{DiffersInBytes, Gave, position_of, decoding_given}
 use Rattle.core_laws.specs.Decodings.{page_decoded, wrap_of}
 use Rattle.core_laws.specs.Stores.{Store}
@@ -50,7 +52,8 @@ use Rattle.object_slots.proofs.Contents.{slot_object}
 use Rattle.commit_gate.specs.Commits.{IsCalm}
 use Rattle.commit_gate.specs.ReplyLaws.{Answers, DependsOnFile, IsToldBy}
 use Rattle.call_steps.specs.FileFaults.{reply_of_fault}
-use Rattle.call_steps.specs.FileAnswers.{Fails, IsFileAnswer, Refuses, Tells as FileTells, Undrawn}
+use Rattle.call_steps.proofs.UndoneAnswers.{counter-untold}
+use Rattle.call_steps.specs.FileAnswers.{Fails, IsFileAnswer, Refuses, Spent, Tells as FileTells, Undrawn}
 use Rattle.call_steps.specs.EntryAnswers.{AdmitsIfTold, IsEntryCall, MeansAlike}
 use Rattle.call_steps.specs.ReadyEntries.{IsUnloaded}
 use Rattle.call_steps.proofs.AnswerCauses.{passed-told, told-cause}
@@ -94,17 +97,18 @@ module _ (store : Store) (was : FileState) (slot : SlotValue) (v : Version) (at 
   abbrev GivesSome : ℕ × List ℕ → Type 0
   GivesSome p =
       (gave : Gave (wrap_of keys v) v.root v.size (λ k. (k == 0) || meets (4096 + at) (4096 + at + p.0) k))
+      × IsMaskedOf keys (told_taints slot.file) v (λ k. (k == 0) || meets (4096 + at) (4096 + at + p.0) k) gave.tree gave.block
       × (p.1 ≡ bytes_from (page_decoded (decoding_given gave)) (4096 + at) p.0)
 
   module _ (n : ℕ) (reads : ReadsVersion keys slot.file v at after (Ok n)) where
     whole : take n after ≡ after
     whole = ap (λ (m : ℕ). take m after) (reads.count ∙ given) ∙ take_all (length after) after (omega arith)
 
-    told : (handle : ℕ) → IsToldBy store v at (Read handle count) (Content after)
+    told : (handle : ℕ) → IsToldBy store (told_taints slot.file) v at (Read handle count) (Content after)
     told handle =
-        let value : GivesSome (min (length after) (v.size - at), take n after) = reads.tells handle in
+        let value : GivesSome (min (length after) (v.size - at), take n after) = let own = reads.tells handle in (own.0.gave, own.0.masked, own.1) in
         let moved : GivesSome (min count (v.size - at), after) = subst GivesSome (λ i. (some i, whole i)) value in
-        record { gave = moved.0; tells = moved.1 }
+        record { gave = moved.0; masked = moved.1; tells = moved.2 }
 
     bytes-are : (c : Contents) → length c.bytes ≡ v.size → take n after ≡ bytes_at c.bytes at (length after) → after ≡ bytes_at c.bytes at count
     bytes-are c size is =
@@ -239,16 +243,17 @@ alike-content bytes (Content other) (inr differs) = (other, refl, differs)
 alike-content bytes meant (inr differs) = absurd differs
 
 -- A reply that the file gave gives bytes, or the call was not done.
-told-kind : (store : Store) (v : Version) (at number count : ℕ) (reply : Reply) → IsToldBy store v at (Read number count) reply → (bytes : List ℕ) × (reply ≡ Content bytes)
-told-kind store v at number count (Content bytes) by = (bytes, refl)
-told-kind store v at number count reply by = absurd by.tells
+told-kind : (store : Store) (told : Option (List Taint)) (v : Version) (at number count : ℕ) (reply : Reply) → IsToldBy store told v at (Read number count) reply → (bytes : List ℕ) × (reply ≡ Content bytes)
+told-kind store told v at number count (Content bytes) by = (bytes, refl)
+told-kind store told v at number count reply by = absurd by.tells
 
 read-kind : (store : Store) (file : FileState) (n : ℕ) (v : Version) (at number count : ℕ) (reply : Reply) → IsFileAnswer store file n v at (Read number count) reply
     → (is_undone reply ≡ true) ⊎ ((bytes : List ℕ) × (reply ≡ Content bytes))
-read-kind store file n v at number count reply (FileTells by honest) = inr (told-kind store v at number count reply by)
+read-kind store file n v at number count reply (FileTells by honest) = inr (told-kind store (told_taints file) v at number count reply by)
 read-kind store file n v at number count reply (Refuses is honest) = inl (ap is_undone is)
 read-kind store file n v at number count reply (Fails many is) = inl (ap is_undone is)
 read-kind store file n v at number count reply (Undrawn many is by) = absurd by.changes
+read-kind store file n v at number count reply (Spent is by) = absurd by.changes
 
 undone-stays : (s : Session) (number : ℕ) (handle : Handle) (reply : Reply) → is_undone reply ≡ true → read_session s number handle reply ≡ s
 undone-stays s number handle (Content bytes) undone = absurd (true≢false (sym undone))
@@ -261,6 +266,7 @@ same-application s number handle reply = refl
 admits-read : (m : MachineState) (i size number count : ℕ) (reply : Reply) → DependsOnFile m i size (Read number count) → AdmitsIfTold m i size (Read number count) reply
 admits-read m i size number count Corrupt depends = tt
 admits-read m i size number count (NotAvailable cause) depends = tt
+admits-read m i size number count (CounterSpent last) depends = tt
 admits-read m i size number count reply depends = depends
 
 -- The session moves as the machine's.
@@ -322,6 +328,7 @@ read-served store gate knows was slot s now number count found reply idle calmly
       at = reads.at;
       position = found.handle.position;
       answers = answers;
+      counter = counter-untold store slot.file slot.number reads.version found.handle.position (Read number count) reply (λ partial. partial) answers gate.counter;
       before = s.state;
       moves =
           read-moves store knows gate.dir.dir.entries gate.open_handles s number count found.handle live_ rightful.has_right calmly reply

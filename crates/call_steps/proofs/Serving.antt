@@ -40,27 +40,27 @@ module _ {E F R : Type 0} (store : Store) (before between : CallerSession E) (go
   }
 
 module _ {F R : Type 0} (of_file : F → FileState) (of_port : R → PortState) (reliable : Type 0) (drew draws : ℕ) where
-  settled-touched : (old new : GuardedGateValue F R) → IsSettled of_file of_port old new
-      → (new ≡ old) ⊎ WasResolved of_file of_port old new ⊎ ((cause : Cause) × StaysInDoubt of_file of_port reliable drew draws old new cause)
+  settled-touched : (old new : GuardedGateValue F R) → IsSettled of_file of_port old new → (new ≡ old) ⊎ WasResolved of_file of_port old new
   settled-touched old new (inl (idle, same)) = inl same
-  settled-touched old new (inr resolved) = inr (inl resolved)
+  settled-touched old new (inr resolved) = inr resolved
 
   -- the rules' answer behind what was settled
   pub serves-behind : {E X : Type 0} (store : Store) (call : Call) (old between new : GuardedGateValue F R) (before shown after : CallerSession E) (result : Result (Option PlacedReply) X)
-      → IsLeft of_file of_port store old between before shown → ServesByRules store call between new shown after result
+      → IsLeft of_file of_port store old between before shown → draws ≡ drew → ServesByRules store call between new shown after result
       → ServesAlone of_file of_port reliable drew draws store call old new before after result
-  serves-behind store call old between new before shown after (Ok (Some answer)) left served = record {
+  serves-behind store call old between new before shown after (Ok (Some answer)) left undrawn served = record {
     between = between;
     precedes = Ruled left.settled served.1;
     served = served-from store before shown left.goes_on left.number left.made call answer between new after served.0;
   }
-  serves-behind store call old between new before shown after (Ok None) left same =
+  serves-behind store call old between new before shown after (Ok None) left undrawn same =
       subst (λ (g : GuardedGateValue F R). IsLeft of_file of_port store old g before after) (sym same.0)
       (subst (λ (s : CallerSession _). IsLeft of_file of_port store old between before s) (sym same.1) left)
-  serves-behind store call old between new before shown after (Err none) left same =
+  serves-behind store call old between new before shown after (Err none) left undrawn same =
       subst (λ (g : GuardedGateValue F R). IsUnserved of_file of_port reliable drew draws store old g before after) (sym same.0)
       (subst (λ (s : CallerSession _). IsUnserved of_file of_port reliable drew draws store old between before s) (sym same.1) (record {
         gate = settled-touched old between left.settled;
+        undrawn = undrawn;
         caller = left.calm.caller;
         number = left.number;
         made = left.made;
@@ -92,6 +92,7 @@ module _ {F R : Type 0} (of_file : F → FileState) (of_port : R → PortState) 
   }
   serves-shown store call old new before shown after (Err none) goes number made x = record {
     gate = x.gate;
+    undrawn = x.undrawn;
     caller = x.caller;
     number = x.number ∙ number;
     made = x.made ∙ made;

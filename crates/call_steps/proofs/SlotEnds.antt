@@ -162,6 +162,7 @@ commits_end F R E store gate knows closing caller call reply change slot seat ve
             (end_right store knows gate.dir.dir.entries gate.counter caller.number caller.made call reply change seat.knows versions guarded.journal tied calm.caller.session.known commit.ready end);
         real = λ v known. committable.real v (newly_left caller.number caller.made call reply versions end v known);
         stands = λ honest v known. committable.stands honest v (newly_left caller.number caller.made call reply versions end v known);
+        masked = λ v known. committable.masked v (newly_left caller.number caller.made call reply versions end v known);
         legal = λ honest scenario off answered.
             end_legal store knows gate.dir.dir.entries gate.counter caller.number caller.made call reply change seat.knows versions guarded.journal tied calm.caller.session.known commit.ready scenario answered
             (commit.honest honest scenario answered (ap (λ (n : ℕ). is_in n scenario.tampered) own.own ∙ off)) end at_end;

@@ -1,5 +1,5 @@
 -- A truncation that was staged may be brought to the gate.
-use Rattle.std.proofs.Common.{IsTrue, Option, Some, [], ap, false, length, max, min, nat_lt, refl, slice_index_or, subst, sym, ℕ, ◌==◌, ◌∙◌, ◌≡◌, ◌≤◌, ◌⊎◌}
+use Rattle.std.proofs.Common.{IsTrue, List, Option, Some, [], ap, false, length, max, min, nat_lt, refl, slice_index_or, subst, sym, ℕ, ◌==◌, ◌∙◌, ◌≡◌, ◌≤◌, ◌⊎◌}
 use Rattle.std.proofs.lemmas.Bool.{le-ltb}
 use Rattle.std.specs.List.{list_any}
 use Rattle.commit_gate.specs.CallerSessions.{CallerSession}
@@ -16,7 +16,7 @@ use Rattle.history_seats.specs.Records.{Version}
 use Rattle.history_seats.specs.Views.{GateView, SlotView}
 use Rattle.commit_gate.specs.Commits.{EndsUnder, IsDueUnder, call_record, tag_of}
 use Rattle.commit_gate.specs.declared.guarded_gate.Closing.{Closing}
-use Rattle.object_slots.specs.GuardedStages.{IsMadeOverGiven, resize_of}
+use Rattle.object_slots.specs.GuardedStages.{IsMadeOverGiven, VersionChange, resize_of}
 use Rattle.call_rules.specs.WellOpened.{IsSoundAt}
 use Rattle.node_image.specs.declared.node.RootRef.{RootRef}
 use Rattle.call_steps.proofs.AtObject.{at_hand, entry_name, live_here, mapped_here, version_real}
@@ -37,6 +37,8 @@ use Rattle.core_laws.proofs.StagedChanges.{truncations_due}
 use Rattle.core_laws.specs.Answered.{AreAnswered}
 use Rattle.core_laws.specs.TamperScenarios.{TamperScenario, object_under}
 use Rattle.core_laws.specs.Shown.{IsGivenAt}
+use Rattle.core_laws.specs.Masked.{told_taints}
+use Rattle.disk_model.specs.Arms.{Taint}
 use Rattle.core_laws.specs.Stores.{Store, replay_at}
 use Rattle.tee_types.specs.Limits.{most_data_bytes}
 use Rattle.tee_types.specs.declared.call.Call.{Call}
@@ -45,7 +47,7 @@ use Rattle.tee_types.specs.declared.reply.Reply.TheVariants.{Done}
 
 module _ {F R E : Type 0} (store : Store) (gate : GateValue F R) (knows : GateView) (closing : Option Closing) (caller : CallerSession E) (handle : ℕ) (found : OpenObject) (slot : SlotView) (v next : Version)
     (file : FileState) (root : RootRef) (size : ℕ) (at_object : IsAtObject store gate knows closing caller handle found slot v) (may : MayResize found.handle v.size size)
-    (staged : IsStagedVersion store.keys file v next (resize_of v.size size) root) where
+    (told : told_taints file ≡ store.taints slot.file) (staged : IsStagedVersion store.keys file v next (resize_of v.size size) root) where
   abbrev e : DirEntry
   e = found.held.entry
 
@@ -71,8 +73,8 @@ module _ {F R E : Type 0} (store : Store) (gate : GateValue F R) (knows : GateVi
   resizes : resize_of v.size next.size ≡ resize_of v.size size
   resizes = ap (resize_of v.size) staged.follows.size
 
-  over : IsMadeOverGiven store.keys v next (resize_of v.size next.size)
-  over = subst (IsMadeOverGiven store.keys v next) (sym resizes) staged.follows.over
+  over : IsMadeOverGiven store.keys (store.taints slot.file) v next (resize_of v.size next.size)
+  over = subst (λ (x : Option (List Taint) × VersionChange). IsMadeOverGiven store.keys x.0 v next x.1) (λ i. (told i, sym resizes i)) staged.follows.over
 
   -- Under a tamper scenario.
   module _ (scenario : TamperScenario) (answered : AreAnswered store scenario knows.all) where
@@ -155,5 +157,5 @@ module _ {F R E : Type 0} (store : Store) (gate : GateValue F R) (knows : GateVi
       staged.follows.size by_next
 
 pub truncations_commit : (F R E : Type 0) → TruncationsMayCommit F R E
-truncations_commit F R E store gate knows closing caller handle found slot v next file root size at_object may staged =
-    truncation_commits store gate knows closing caller handle found slot v next file root size at_object may staged
+truncations_commit F R E store gate knows closing caller handle found slot v next file root size at_object may told staged =
+    truncation_commits store gate knows closing caller handle found slot v next file root size at_object may told staged

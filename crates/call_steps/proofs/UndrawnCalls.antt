@@ -1,32 +1,31 @@
--- A change of an object's data whose stage could not draw: a commit was due, and was not made; or the promises end there.
-use Rattle.std.proofs.Common.{◌≡◌, ◌+◌, ◌==◌, ℕ, true, false, List, length, max, min, Some, refl, sym, ap, ◌∙◌, subst, inl, inr}
+-- A change of an object's data that was not drawn for: a commit was due, and was not made; or the promises end there.
+use Rattle.std.proofs.Common.{◌≡◌, ◌+◌, ◌==◌, ℕ, true, false, List, length, max, min, None, Some, refl, sym, ap, ◌∙◌, subst, inl, inr}
 use Rattle.std.specs.List.{list_any}
 use Rattle.tee_types.specs.declared.call.Call.{Call}
 use Rattle.tee_types.specs.declared.call.Call.TheVariants.{Truncate, Write}
-use Rattle.tee_types.specs.declared.reply.Cause.TheVariants.{Fault}
-use Rattle.tee_types.specs.declared.reply.Device.TheVariants.{Entropy}
 use Rattle.tee_types.specs.declared.reply.Reply.{Reply}
-use Rattle.tee_types.specs.declared.reply.Reply.TheVariants.{NotAvailable}
 use Rattle.page_bytes.specs.Ranges.{needs, resize_range, write_range}
 use Rattle.store_model.specs.declared.event.Mark.TheVariants.{Unchanged}
 use Rattle.store_model.specs.declared.name.ObjectName.{ObjectName}
 use Rattle.store_model.specs.Calls.{is_commit, reply_of}
 use Rattle.store_model.specs.Data.{needs_block, range_resized, range_written, spoils}
 use Rattle.store_model.specs.Files.{object_named}
-use Rattle.store_model.specs.Legal.{NotMade, Unavailable, is_commit_due}
+use Rattle.store_model.specs.Legal.{IsLegalAnswer, is_commit_due}
 use Rattle.store_model.specs.Machine.{MachineState}
 use Rattle.store_model.specs.Object.{Contents, Damaged, Object, Sound, object_at, size_of}
-use Rattle.store_model.specs.ReplayState.{ReplayState}
+use Rattle.store_model.specs.Record.{fault_in_reply}
+use Rattle.store_model.specs.ReplayState.{ReplayState, is_undone}
 use Rattle.crash_core.proofs.ObjectChanges.{bad-needed, resize_range-shifted, write_range-shifted}
 use Rattle.history_seats.specs.Numbers.{is_in}
 use Rattle.history_seats.specs.Records.{HistoryRecord, Version}
 use Rattle.history_seats.proofs.Lists.{or_right}
 use Rattle.core_laws.specs.Answered.{IsFairAt, IsLegalAt}
-use Rattle.core_laws.specs.Given.{Gave, is_asked, position_by, position_of}
+use Rattle.core_laws.specs.Given.{is_asked, position_by, position_of}
+use Rattle.core_laws.specs.Masked.{GaveVersion}
 use Rattle.core_laws.specs.TamperScenarios.{TamperScenario}
 use Rattle.core_laws.specs.Mapped.{IsMapped}
 use Rattle.core_laws.specs.Shown.{IsGivenAt, IsPartial, asked_of}
-use Rattle.core_laws.specs.Decodings.{IsReal, pages_decoded, wrap_of}
+use Rattle.core_laws.specs.Decodings.{IsReal, pages_decoded}
 use Rattle.core_laws.specs.Stores.{Store, replay_at}
 use Rattle.core_laws.proofs.ChangeCalls.{truncate_commits, write_commits}
 use Rattle.core_laws.proofs.Mending.{none_some, object_honest, size_under}
@@ -87,22 +86,19 @@ module _ (store : Store) (scenario : TamperScenario) (before : List HistoryRecor
   pub fine-spared : IsSpared (Sound c) x.position x.call
   fine-spared = spared-by x.call refl
 
--- On an object's file.
-module _ (store : Store) (scenario : TamperScenario) (before : List HistoryRecord) (session number : ℕ) (call : Call) (file generation count : ℕ) (v : Version)
-    (x : IsOnFile store scenario before session call file generation v) where
+-- On an object's file; the reply accuses no file, and tells that a commit was not made.
+module _ (store : Store) (scenario : TamperScenario) (before : List HistoryRecord) (session number : ℕ) (call : Call) (reply : Reply) (file generation : ℕ) (v : Version)
+    (x : IsOnFile store scenario before session call file generation v) (faultless : fault_in_reply reply ≡ None) (undone : is_undone reply ≡ true)
+    (unmade : is_commit_due (replay_at store scenario before) session call ≡ true → IsLegalAnswer scenario.tampered (replay_at store scenario before) session call reply Unchanged (Some file)) where
   abbrev here : ReplayState
   here = replay_at store scenario before
-
-  abbrev reply : Reply
-  reply = NotAvailable (Fault Entropy count)
 
   abbrev r : HistoryRecord
   r = told_record session number call reply file generation v
 
   not-made : is_commit_due here session call ≡ true → IsLegalAt store scenario before r
   not-made due =
-      legal_by store scenario before session call file generation v x number reply (λ n is. absurd (none_some n is))
-      (Unavailable (record { cause = Fault Entropy count; replied = refl; marked = refl; due = NotMade due }))
+      legal_by store scenario before session call file generation v x number reply (λ n is. absurd (none_some n (sym faultless ∙ is))) (unmade due)
 
   -- legal where the file is honest under the tamper scenario, and its object is spared
   pub undrawn-legal : is_in file scenario.tampered ≡ false → IsSpared v.object (position_by here.state session call) call → IsLegalAt store scenario before r
@@ -111,7 +107,7 @@ module _ (store : Store) (scenario : TamperScenario) (before : List HistoryRecor
       not-made (spared-due here.state session v.size x.name call v.object x.of_call (object-there store scenario before session call file generation v x ∙ ap Some honest)
       (ap size_of (sym honest) ∙ size_under store.keys scenario file generation v) x.depends spared)
 
-  module _ (partial : IsPartial call) (gave : Gave (wrap_of store.keys v) v.root v.size (is_asked v.size (position_by here.state session call) call)) where
+  module _ (partial : IsPartial call) (gave : GaveVersion store.keys (store.taints file) v (is_asked v.size (position_by here.state session call) call)) where
     abbrev given : IsGivenAt store scenario before r
     given = record {
       session = session;
@@ -132,7 +128,10 @@ module _ (store : Store) (scenario : TamperScenario) (before : List HistoryRecor
       gives = x.gives;
       position = position_by here.state session call;
       at = refl;
-      gave = gave;
+      gave = gave.gave;
+      masked = gave.masked;
+      real = x.real;
+      mapped = x.mapped;
     }
 
     fine-legal : IsFine store scenario before r given x.real x.mapped partial → IsLegalAt store scenario before r
@@ -143,7 +142,7 @@ module _ (store : Store) (scenario : TamperScenario) (before : List HistoryRecor
 
     -- and fair, whatever the file is
     pub undrawn-fair : IsFairAt store scenario before r
-    undrawn-fair answered owed = elim (fine_or_end store scenario before r given x.real x.mapped partial refl) [
+    undrawn-fair answered owed = elim (fine_or_end store scenario before r given x.real x.mapped partial undone) [
       | inl fine ↦ inl (inl (fine-legal fine))
       | inr ends ↦ inr (inr ends)
     ]

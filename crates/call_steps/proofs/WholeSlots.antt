@@ -61,6 +61,7 @@ module _ (store : Store) (slot : SlotValue) (seat : Sight SlotView) (v : Version
       after = subst (λ (h : Holding). IsOfVersion store.keys slot.file h (Some v)) (sym (with_is store.keys slot.file slot.holds (Some v) holding)) holding;
       real = λ w is. own.real w (known w is);
       stands = λ honest w is. (own.holds None).stands honest w (known w is);
+      masked = λ w is. own.masked w (known w is);
     }
       where
         known : (w : Version) → Some v ≡ Some w → Knows seat.knows w
@@ -77,6 +78,7 @@ module _ (store : Store) (slot : SlotValue) (seat : Sight SlotView) (v : Version
     after = of_free (with_stage slot.holds) None (subst IsFree (free_with slot.holds is_free) is_free);
     real = λ w is. absurd (none_some w is);
     stands = λ honest w is. absurd (none_some w is);
+    masked = λ w is. absurd (none_some w is);
   }
     where
       of_free : (holds : Holding) (version : Option Version) → IsFree holds → IsOfVersion store.keys slot.file holds version

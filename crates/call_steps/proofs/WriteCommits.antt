@@ -37,6 +37,9 @@ use Rattle.core_laws.specs.Answered.{AreAnswered}
 use Rattle.core_laws.specs.Given.{position_of}
 use Rattle.core_laws.specs.TamperScenarios.{TamperScenario, object_under}
 use Rattle.core_laws.specs.Shown.{IsGivenAt}
+use Rattle.core_laws.specs.Masked.{told_taints}
+use Rattle.disk_model.specs.Arms.{Taint}
+use Rattle.object_slots.specs.GuardedStages.{IsMadeOverGiven}
 use Rattle.core_laws.specs.Stores.{Store, replay_at}
 use Rattle.tee_types.specs.Limits.{most_data_bytes}
 use Rattle.tee_types.specs.declared.call.Call.{Call}
@@ -48,7 +51,7 @@ data_fits old position count small fits = omega arith
 
 module _ {F R E : Type 0} (store : Store) (gate : GateValue F R) (knows : GateView) (closing : Option Closing) (caller : CallerSession E) (handle : ℕ) (found : OpenObject) (slot : SlotView) (v next : Version)
     (file : FileState) (root : RootRef) (bytes : List ℕ) (at_object : IsAtObject store gate knows closing caller handle found slot v) (may : MayWrite found.handle bytes)
-    (staged : IsStagedVersion store.keys file v next (write_of v.size found.handle.position bytes) root) where
+    (told : told_taints file ≡ store.taints slot.file) (staged : IsStagedVersion store.keys file v next (write_of v.size found.handle.position bytes) root) where
   abbrev e : DirEntry
   e = found.held.entry
 
@@ -76,6 +79,9 @@ module _ {F R E : Type 0} (store : Store) (gate : GateValue F R) (knows : GateVi
   makes : IsCallChange (slice_index_or store.mounted.applications caller.number []) write gate.dir.dir.entries gate.counter (Put found.held.index (changed_entry e next))
   makes = put_next store gate knows closing caller handle found slot v at_object next staged.follows.app staged.follows.attributes staged.real staged.bit few
 
+  over : IsMadeOverGiven store.keys (store.taints slot.file) v next (write_of v.size found.handle.position bytes)
+  over = subst (λ (t : Option (List Taint)). IsMadeOverGiven store.keys t v next (write_of v.size found.handle.position bytes)) told staged.follows.over
+
   -- Under a tamper scenario.
   module _ (scenario : TamperScenario) (answered : AreAnswered store scenario knows.all) where
     abbrev m : MachineState
@@ -93,7 +99,7 @@ module _ {F R E : Type 0} (store : Store) (gate : GateValue F R) (knows : GateVi
     abbrev given : IsGivenAt store scenario knows.all (call_record caller.number caller.made write Done (Made 0) slot versions)
     given =
         given_call store gate knows closing caller handle found slot v at_object scenario answered write Done (Made 0) versions found.handle.position refl
-        (sym (ap position_of live)) staged.follows.over.0
+        (sym (ap position_of live)) over.0
 
     due_write : IsDueUnder store scenario knows.all caller.number write Done (Put found.held.index (changed_entry e next)) (tag_of slot versions)
         ⊎ EndsUnder store scenario knows.all caller.number caller.made write Done slot
@@ -101,7 +107,7 @@ module _ {F R E : Type 0} (store : Store) (gate : GateValue F R) (knows : GateVi
         due_or_end store gate knows closing caller handle found slot v at_object next staged.follows.app staged.follows.attributes staged.real staged.bit few write tt makes scenario answered on_write Done (Made 0) given
         (writes_due store scenario knows.all (call_record caller.number caller.made write Done (Made 0) slot versions) given (version_real store gate knows closing caller handle found slot v at_object) refl
         (mapped_here store gate knows closing caller handle found slot v at_object scenario answered) next handle bytes refl
-        (record { handle = found.handle; live = live }, may.right, may.some, low, fits) staged.follows.size staged.follows.over.1)
+        (record { handle = found.handle; live = live }, may.right, may.some, low, fits) staged.follows.size over.1)
 
     -- Over an honest file.
     module _ (now : IsTrue file.honest) (honest : is_in slot.file scenario.tampered ≡ false) where
@@ -141,14 +147,14 @@ module _ {F R E : Type 0} (store : Store) (gate : GateValue F R) (knows : GateVi
       }
 
 pub writes_commit : (F R E : Type 0) → WritesMayCommit F R E
-writes_commit F R E store gate knows closing caller handle found slot v next file root bytes at_object may staged = record {
+writes_commit F R E store gate knows closing caller handle found slot v next file root bytes at_object may told staged = record {
   ready = record {
     commit = commits_change store gate knows closing caller handle found slot v at_object next staged.follows.app staged.follows.attributes staged.real staged.bit
-        (few store gate knows closing caller handle found slot v next file root bytes at_object may staged) (Write handle bytes)
-        (makes store gate knows closing caller handle found slot v next file root bytes at_object may staged);
+        (few store gate knows closing caller handle found slot v next file root bytes at_object may told staged) (Write handle bytes)
+        (makes store gate knows closing caller handle found slot v next file root bytes at_object may told staged);
     given = sym at_object.gives;
-    on = on_write store gate knows closing caller handle found slot v next file root bytes at_object may staged;
-    due = λ scenario answered off. due_write store gate knows closing caller handle found slot v next file root bytes at_object may staged scenario answered;
+    on = on_write store gate knows closing caller handle found slot v next file root bytes at_object may told staged;
+    due = λ scenario answered off. due_write store gate knows closing caller handle found slot v next file root bytes at_object may told staged scenario answered;
   };
-  honest = λ now scenario answered honest. due_honest store gate knows closing caller handle found slot v next file root bytes at_object may staged scenario answered now honest;
+  honest = λ now scenario answered honest. due_honest store gate knows closing caller handle found slot v next file root bytes at_object may told staged scenario answered now honest;
 }

@@ -1,5 +1,6 @@
 -- The slot of a commit that is brought to the gate.
 use Rattle.std.specs.Prelude.{IsTrue, None, Ok, Option, Some, ◌≡◌}
+use Rattle.core_laws.specs.Masked.{StandsMasked}
 use Rattle.core_laws.specs.SlotParts.{VersionStands}
 use Rattle.history_seats.specs.Changes.{TagVersions, slot_renewed, together}
 use Rattle.history_seats.specs.Records.{Version}
@@ -17,7 +18,8 @@ use Rattle.core_laws.specs.Decodings.{IsReal}
 use Rattle.core_laws.specs.Stores.{Store}
 
 -- With its seat and without its stage the slot may stand behind its lock, and holds what is of the committed version. With the stage adopted it
--- holds what is of the version that the commit leaves, which is real, and stands in the file while that is honest.
+-- holds what is of the version that the commit leaves, which is real, and stands in the file while that is honest, and with the masks over it
+-- that the file tells.
 pub record IsCommittableSlot (store : Store) (slot : SlotValue) (seat : Sight SlotView) (versions : TagVersions) : Type 0 where
   pub settled : slot.doubt ≡ None
   pub before : SlotInvariant store (record slot { seat = Some seat; holds = without_stage slot.holds })
@@ -25,6 +27,7 @@ pub record IsCommittableSlot (store : Store) (slot : SlotValue) (seat : Sight Sl
   pub after : IsOfVersion store.keys slot.file (with_stage slot.holds) versions.doubted
   pub real : (v : Version) → versions.doubted ≡ Some v → IsReal store.keys v
   pub stands : IsTrue slot.file.honest → (v : Version) → versions.doubted ≡ Some v → VersionStands store.keys slot.file v
+  pub masked : (v : Version) → versions.doubted ≡ Some v → StandsMasked store.keys slot.file v
 
 -- The seat sees the whole history, which is as the seats' rule has it.
 pub record SeesWhole (knows : GateView) (seat : Sight SlotView) : Type 0 where

@@ -14,6 +14,7 @@ use Rattle.call_steps.specs.SlotCommits.{IsSlotCommit}
 use Rattle.call_steps.specs.StagedVersions.{IsStagedVersion, change_versions, changed_entry}
 use Rattle.commit_gate.specs.Gates.{GateValue}
 use Rattle.store_model.specs.declared.session.Handle.{Handle}
+use Rattle.core_laws.specs.Masked.{told_taints}
 use Rattle.core_laws.specs.Stores.{Store}
 use Rattle.tee_types.specs.Rights.{has, write_bit}
 use Rattle.tee_types.specs.declared.call.Call.TheVariants.{Truncate, Write}
@@ -35,7 +36,7 @@ abbrev pub WritesMayCommit : (F R E : Type 0) → Type 0
 WritesMayCommit F R E =
     (store : Store) (gate : GateValue F R) (knows : GateView) (closing : Option Closing) (caller : CallerSession E) (handle : ℕ) (found : OpenObject) (slot : SlotView) (v next : Version)
     (file : FileState) (root : RootRef) (bytes : List ℕ) → IsAtObject store gate knows closing caller handle found slot v → MayWrite found.handle bytes
-    → IsStagedVersion store.keys file v next (write_of v.size found.handle.position bytes) root
+    → told_taints file ≡ store.taints slot.file → IsStagedVersion store.keys file v next (write_of v.size found.handle.position bytes) root
     → IsSlotCommit store knows gate.dir.dir.entries gate.counter caller.number caller.made (Write handle bytes) Done
     (Put found.held.index (changed_entry found.held.entry next)) file slot (change_versions v next)
 
@@ -43,6 +44,6 @@ abbrev pub TruncationsMayCommit : (F R E : Type 0) → Type 0
 TruncationsMayCommit F R E =
     (store : Store) (gate : GateValue F R) (knows : GateView) (closing : Option Closing) (caller : CallerSession E) (handle : ℕ) (found : OpenObject) (slot : SlotView) (v next : Version)
     (file : FileState) (root : RootRef) (size : ℕ) → IsAtObject store gate knows closing caller handle found slot v → MayResize found.handle v.size size
-    → IsStagedVersion store.keys file v next (resize_of v.size size) root
+    → told_taints file ≡ store.taints slot.file → IsStagedVersion store.keys file v next (resize_of v.size size) root
     → IsSlotCommit store knows gate.dir.dir.entries gate.counter caller.number caller.made (Truncate handle size) Done
     (Put found.held.index (changed_entry found.held.entry next)) file slot (change_versions v next)

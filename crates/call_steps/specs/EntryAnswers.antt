@@ -2,7 +2,7 @@
 use Rattle.std.specs.Prelude.{◌≡◌, ◌⊎◌, ℕ, Some}
 use Rattle.tee_types.specs.declared.call.Call.{Call}
 use Rattle.tee_types.specs.declared.reply.Reply.{Reply}
-use Rattle.tee_types.specs.declared.reply.Reply.TheVariants.{Corrupt, NotAvailable}
+use Rattle.tee_types.specs.declared.reply.Reply.TheVariants.{Corrupt, CounterSpent, NotAvailable}
 use Rattle.store_model.specs.Calls.{reply_of}
 use Rattle.store_model.specs.Files.{object_named}
 use Rattle.store_model.specs.Machine.{MachineState}
@@ -16,6 +16,7 @@ use Rattle.commit_gate.specs.ReplyLaws.{DependsOnFile}
 abbrev pub AdmitsIfTold : MachineState → (session size : ℕ) → Call → Reply → Type 0
 AdmitsIfTold m session size call Corrupt = Unit {0}
 AdmitsIfTold m session size call (NotAvailable cause) = Unit {0}
+AdmitsIfTold m session size call (CounterSpent last) = Unit {0}
 AdmitsIfTold m session size call reply = IsAdmitted m session size call reply
 
 -- The call names the entry's object, at that position, and the machine does it if it finds no damage.

@@ -65,9 +65,10 @@ module _ {F R : Type 0} (of_file : F → FileState) (of_port : R → PortState) 
     pub precedes : Precedes old between answer.reply
     pub served : IsServed store call answer between new before after
 
-  -- Memory ran out. The session may have been shown the history, and a commit in doubt may have been resolved.
+  -- Memory ran out. The session may have been shown the history, and a commit in doubt may have been resolved. No draw failed.
   pub record IsUnserved {E : Type 0} (store : Store) (old new : GuardedGateValue F R) (before after : CallerSession E) : Type 0 where
-    pub gate : (new ≡ old) ⊎ WasResolved of_file of_port old new ⊎ ((cause : Cause) × StaysInDoubt of_file of_port reliable drew draws old new cause)
+    pub gate : (new ≡ old) ⊎ WasResolved of_file of_port old new
+    pub undrawn : draws ≡ drew
     pub caller : IsCallerOf store after
     pub number : after.number ≡ before.number
     pub made : after.made ≡ before.made

@@ -79,6 +79,7 @@ pub use Rattle.commit_gate.specs.SessionMoves
 pub use Rattle.commit_gate.specs.SessionViews
 pub use Rattle.commit_gate.specs.SlotAnswers
 pub use Rattle.object_slots.specs.SlotCalls
+pub use Rattle.object_slots.specs.SlotChecks
 pub use Rattle.object_slots.specs.SlotFaults
 pub use Rattle.object_slots.specs.SlotInside
 pub use Rattle.object_slots.specs.SlotObjects

@@ -2,6 +2,8 @@
 use Rattle.std.specs.Prelude.{◌≡◌, ℕ, true, false, List, None, Option, Some}
 use Rattle.tee_types.specs.declared.call.Call.{Call}
 use Rattle.tee_types.specs.declared.reply.Reply.{Reply}
+use Rattle.tee_types.specs.declared.reply.Reply.TheVariants.{CounterSpent}
+use Rattle.rpmb_card.specs.Protocol.{last_counter}
 use Rattle.dir_records.specs.declared.entry.DirEntry.{DirEntry}
 use Rattle.open_table.specs.Table.{TableState}
 use Rattle.store_model.specs.Calls.{state_after}
@@ -31,6 +33,11 @@ pub record MovesAlike {E : Type 0} (store : Store) (knows : GateView) (entries :
   pub done : is_undone reply ≡ false → (m : MachineState) → Matches entries table before m s.number → MeansAlike m s.number call reply
       → session_at (state_after m s.number call) s.number ≡ s.state
 
+-- that the card's counter is at its end is told only where it is
+abbrev pub TellsCounter : (counter : ℕ) → Reply → Type 0
+TellsCounter counter (CounterSpent last) = counter ≡ last_counter
+TellsCounter counter reply = Unit {0}
+
 -- The call is on the object of one of the gate's entries, the slot is at that entry, and its file gave the reply.
 pub record MayBeServed {F R E : Type 0} (store : Store) (gate : GateValue F R) (knows : GateView) (slot : SlotValue) (call : Call) (reply : Reply) (s : CallerSession E) : Type 0 where
   pub idle : gate.doubt ≡ None
@@ -41,6 +48,7 @@ pub record MayBeServed {F R E : Type 0} (store : Store) (gate : GateValue F R) (
   pub at : IsAtEntry knows slot entry version
   pub position : ℕ
   pub answers : IsFileAnswer store slot.file slot.number version position call reply
+  pub counter : TellsCounter gate.counter reply
   pub before : Session
   pub moves : MovesAlike store knows gate.dir.dir.entries gate.open_handles call reply before s
   pub on : (m : MachineState) → Matches gate.dir.dir.entries gate.open_handles before m s.number → IsEntryCall m s.number entry position call reply

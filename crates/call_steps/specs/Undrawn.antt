@@ -1,4 +1,5 @@
--- A change of an object's data whose stage could not draw: what its file gave before, and that the change was due.
+-- A change of an object's data that was not drawn for, since no vector could be drawn or no commit could follow: what its file gave before, and
+-- that the change was due.
 use Rattle.std.specs.Prelude.{◌≡◌, ℕ, false, length, IsTrue}
 use Rattle.disk_model.specs.State.{FileState}
 use Rattle.tee_types.specs.declared.call.Call.{Call}
@@ -6,9 +7,9 @@ use Rattle.tee_types.specs.declared.call.Call.TheVariants.{Truncate, Write}
 use Rattle.store_model.specs.Data.{range_resized, range_written, spoils}
 use Rattle.store_model.specs.Object.{Object, Sound}
 use Rattle.history_seats.specs.Records.{Version}
-use Rattle.core_laws.specs.Given.{Gave, is_asked}
+use Rattle.core_laws.specs.Given.{is_asked}
+use Rattle.core_laws.specs.Masked.{GaveVersion, told_taints}
 use Rattle.core_laws.specs.Shown.{IsPartial}
-use Rattle.core_laws.specs.Decodings.{wrap_of}
 use Rattle.core_laws.specs.Stores.{Store}
 
 -- The object is sound, and such a change of it, at that position, spoils no bad block.
@@ -21,5 +22,5 @@ IsSpared object position call = ⊥
 -- that the change would be done.
 pub record IsUndrawn (store : Store) (file : FileState) (v : Version) (position : ℕ) (call : Call) : Type 0 where
   pub changes : IsPartial call
-  pub gave : Gave (wrap_of store.keys v) v.root v.size (is_asked v.size position call)
+  pub gave : GaveVersion store.keys (told_taints file) v (is_asked v.size position call)
   pub spared : IsTrue file.honest → IsSpared v.object position call

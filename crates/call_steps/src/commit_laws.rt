@@ -41,7 +41,6 @@ pub fn new_seats_are_guarded<F: StoreFile, R: RpmbPort>()
 {}
 
 /// A slot with an object that was made is brought to the gate as a create wants it.
-#[tactic(auto, using(crate::proofs::NewFiles::new_committable))]
 pub fn new_slots_are_committable()
     ensures { NewSlotsAreCommittable }
 {}
@@ -64,7 +63,6 @@ pub fn stages_are_versions()
 {}
 
 /// A slot with a stage is brought to the gate as a commit wants it.
-#[tactic(auto, using(crate::proofs::CommittableSlots::staged_committable))]
 pub fn staged_slots_are_committable()
     ensures { StagedSlotsAreCommittable }
 {}

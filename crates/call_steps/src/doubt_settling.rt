@@ -71,6 +71,8 @@ pub fn settle<F: StoreFile + Drop, R: RpmbPort + Drop, L: StoreName, E: Entropy>
     ensures still { E.is_reliable session.old.entropy → E.faults session.new.entropy ≡ E.faults session.old.entropy }
     // Nor does any, where the commit is settled.
     ensures undrawn { OnOk result (E.faults session.new.entropy ≡ E.faults session.old.entropy) }
+    // Nothing is drawn where no commit is in doubt.
+    ensures let_be { gate.old.gate.doubt ≡ None → session.new.entropy ≡ session.old.entropy }
 {
     if gate.doubt().is_none() {
         return Ok(());

@@ -114,6 +114,7 @@ fn answer_early<F: StoreFile + Drop, R: RpmbPort + Drop, L: StoreName, E: Entrop
     ensures reliable { E.is_reliable session.old.entropy → E.is_reliable session.new.entropy }
     ensures still { E.is_reliable session.old.entropy → E.faults session.new.entropy ≡ E.faults session.old.entropy }
     ensures undrawn { IfOk result (λ answer. IsNone answer → E.faults session.new.entropy ≡ E.faults session.old.entropy) }
+    ensures let_be { gate.old.gate.doubt ≡ None → session.new.entropy ≡ session.old.entropy }
     ensures at_once { IsMisused gate.old session.old.state call.now → ServesAtOnce L.store call.now gate.old gate.new session.old session.new result }
 {
     if gate.doubt().is_none() {
@@ -151,6 +152,8 @@ pub fn answer_alone<F: StoreFile + Drop, R: RpmbPort + Drop, L: StoreName, E: En
     ensures reliable { E.is_reliable session.old.entropy → E.is_reliable session.new.entropy }
     ensures still { E.is_reliable session.old.entropy → E.faults session.new.entropy ≡ E.faults session.old.entropy }
     ensures undrawn { IfOk result (λ answer. IsNone answer → E.faults session.new.entropy ≡ E.faults session.old.entropy) }
+    // Nothing is drawn where no commit is in doubt.
+    ensures let_be { gate.old.gate.doubt ≡ None → session.new.entropy ≡ session.old.entropy }
     // A misuse waits for no commit in doubt.
     ensures at_once { IsMisused gate.old (shown gate.old.journal.knows session.old).state call.now → ServesAtOnce L.store call.now gate.old gate.new session.old session.new result }
 {

@@ -1,6 +1,7 @@
 //! TEE_GetObjectInfo1: what is known of an open object.
 
-ghost use Rattle.std.specs.Prelude.{◌≡◌, ◌≤◌, None, IfOk};
+ghost use Rattle.std.specs.Prelude.{◌≡◌, ◌≤◌, None, IfOk, OnErr};
+ghost use Rattle.htree_file.specs.Answers.{FilePassed};
 ghost use Rattle.disk_model.specs.Calls.{Rests};
 ghost use Rattle.disk_model.specs.State.{FileState};
 ghost use Rattle.dir_records.specs.Form.{HasForm};
@@ -19,6 +20,7 @@ ghost use Rattle.call_steps.specs.AnswerServed.{IsServed, IsServedOrNot};
 
 use crate::answer_appending::tell;
 use crate::object_loading::load_or_reply;
+use crate::replies::copied;
 use crate::slot_catch_up::catch_up_entry;
 use call_rules::OpenObject;
 use commit_gate::{GuardedGate, PlacedReply, Session};
@@ -71,6 +73,8 @@ pub fn describe_object<F: StoreFile + Drop, L: StoreName>(
     ensures same { slot.new ≡ record slot.old { file = slot.new.file; holds = slot.new.holds } }
     ensures guarded { SlotInvariant L.store slot.new }
     ensures rests { Rests slot.old.file slot.new.file }
+    // Where memory ran out, no call of the file failed.
+    ensures passed { OnErr result (FilePassed slot.old.file slot.new.file) }
     ensures describes { (v : Version) → GivesVersion slot.old v → IfOk result (DescribesObject L.store slot.old.file slot.new v handle) }
 {
     if let Some(reply) = load_or_reply::<F, L>(alloc, slot, entry, tsk)? {
@@ -138,11 +142,12 @@ pub fn info<F: StoreFile + Drop, R: RpmbPort + Drop, L: StoreName, E: Entropy>(
     // The object's file was read at most. The reply accuses it where it failed, and no other.
     ensures rests { Rests slot.old.file slot.new.file }
     ensures cause { IfOk result (λ answer. HasToldCause slot.old.file slot.new.file slot.old.number answer.reply) }
+    ensures passed { OnErr result (FilePassed slot.old.file slot.new.file) }
 {
     let object = found.handle;
     let entry = found.held.entry;
     catch_up_entry(gate, &mut slot.slot, session, &entry);
     let reply = describe_object::<F, L>(alloc, &mut slot.slot, &entry, tsk, object)?;
-    let told = reply.copy(alloc)?;
+    let told = copied(alloc, &reply)?;
     Ok(answer_info(gate, &mut slot.slot, session, found, handle, reply, told))
 }

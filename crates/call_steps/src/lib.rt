@@ -56,11 +56,12 @@ pub use info_call::{answer_info, describe_object, info};
 pub use object_commit::commit_change;
 pub use object_loading::load_or_reply;
 pub use object_slots::{
-    GuardedSlot, Slot, SlotFault, SlotParts, stage_new, stage_truncate, stage_write,
+    GuardedSlot, Slot, SlotFault, SlotParts, check_truncate, check_write, stage_new,
+    stage_truncate, stage_write,
 };
 pub use open_call::{answer_open, open};
 pub use read_call::{answer_read, read, read_object};
-pub use replies::twice;
+pub use replies::{copied, twice};
 pub use rule_answers::answer_ruled;
 pub use slot_catch_up::{catch_up_entry, catch_up_slot};
 pub use stage_ends::settle_slot;

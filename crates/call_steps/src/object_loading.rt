@@ -1,6 +1,7 @@
 //! Loading the object of an entry into its slot.
 
-ghost use Rattle.std.specs.Prelude.{◌≡◌, IfOk};
+ghost use Rattle.std.specs.Prelude.{◌≡◌, IfOk, OnErr};
+ghost use Rattle.htree_file.specs.Answers.{FilePassed};
 ghost use Rattle.disk_model.specs.Calls.{Rests};
 ghost use Rattle.dir_records.specs.Form.{HasForm};
 ghost use Rattle.crash_core.specs.DeviceKeys.{object_key};
@@ -61,6 +62,8 @@ pub fn load_or_reply<F: StoreFile + Drop, L: StoreName>(
     ensures same { slot.new ≡ record slot.old { file = slot.new.file; holds = slot.new.holds } }
     ensures guarded { SlotInvariant L.store slot.new }
     ensures rests { Rests slot.old.file slot.new.file }
+    // Where memory ran out, no call of the file failed.
+    ensures passed { OnErr result (FilePassed slot.old.file slot.new.file) }
     ensures ready { (v : Version) → GivesVersion slot.old v → IfOk result (IsReady L.store slot.old.file slot.new v) }
 {
     match fill_free::<F, L>(alloc, slot, entry, tsk) {

@@ -1,6 +1,7 @@
 //! TEE_OpenPersistentObject: a new handle on an object.
 
-ghost use Rattle.std.specs.Prelude.{◌≡◌, ◌≤◌, false, None, Some, IfOk};
+ghost use Rattle.std.specs.Prelude.{◌≡◌, ◌≤◌, false, None, Some, IfOk, OnErr};
+ghost use Rattle.htree_file.specs.Answers.{FilePassed};
 ghost use Rattle.disk_model.specs.Calls.{Rests};
 ghost use Rattle.disk_model.specs.State.{FileState};
 ghost use Rattle.crash_core.specs.DeviceKeys.{object_key};
@@ -110,6 +111,8 @@ pub fn open<F: StoreFile + Drop, R: RpmbPort + Drop, L: StoreName, E: Entropy>(
     // The object's file was read at most. The reply accuses it where it failed, and no other.
     ensures rests { Rests slot.old.file slot.new.file }
     ensures cause { IfOk result (λ answer. HasToldCause slot.old.file slot.new.file slot.old.number answer.reply) }
+    // Where memory ran out, no call of the file failed.
+    ensures passed { OnErr result (FilePassed slot.old.file slot.new.file) }
 {
     let entry = held.entry;
     catch_up_entry(gate, &mut slot.slot, session, &entry);

@@ -1,6 +1,7 @@
 //! TEE_ReadObjectData: a read of an open object's data.
 
-ghost use Rattle.std.specs.Prelude.{◌≡◌, ◌≤◌, None, Some, IfOk};
+ghost use Rattle.std.specs.Prelude.{◌≡◌, ◌≤◌, None, Some, IfOk, OnErr};
+ghost use Rattle.htree_file.specs.Answers.{FilePassed};
 ghost use Rattle.tee_types.specs.Rights.{read_bit};
 ghost use Rattle.disk_model.specs.Calls.{Rests};
 ghost use Rattle.disk_model.specs.State.{FileState};
@@ -22,6 +23,7 @@ ghost use Rattle.call_steps.specs.AnswerServed.{IsServed, IsServedOrNot};
 use crate::answer_appending::tell;
 use crate::fault_replies::fault_reply;
 use crate::object_loading::load_or_reply;
+use crate::replies::copied;
 use crate::slot_catch_up::catch_up_entry;
 use call_rules::OpenObject;
 use commit_gate::{GuardedGate, PlacedReply, Session};
@@ -47,6 +49,7 @@ fn read_bytes<F: StoreFile + Drop, L: StoreName>(
     ensures same { slot.new ≡ record slot.old { file = slot.new.file } }
     ensures guarded { SlotInvariant L.store slot.new }
     ensures rests { Rests slot.old.file slot.new.file }
+    ensures passed { OnErr result (FilePassed slot.old.file slot.new.file) }
     ensures reads { (v : Version) → GivesVersion slot.old v → v.size ≡ size → IfOk result (ReadsAnswer L.store slot.old.file slot.new v at count) }
 {
     let long = count.min(size.saturating_sub(at));
@@ -83,6 +86,8 @@ pub fn read_object<F: StoreFile + Drop, L: StoreName>(
     ensures same { slot.new ≡ record slot.old { file = slot.new.file; holds = slot.new.holds } }
     ensures guarded { SlotInvariant L.store slot.new }
     ensures rests { Rests slot.old.file slot.new.file }
+    // Where memory ran out, no call of the file failed.
+    ensures passed { OnErr result (FilePassed slot.old.file slot.new.file) }
     ensures reads { (v : Version) → GivesVersion slot.old v → IfOk result (ReadsAnswer L.store slot.old.file slot.new v at count) }
 {
     if let Some(reply) = load_or_reply::<F, L>(alloc, slot, entry, tsk)? {
@@ -169,12 +174,13 @@ pub fn read<F: StoreFile + Drop, R: RpmbPort + Drop, L: StoreName, E: Entropy>(
     // The object's file was read at most. The reply accuses it where it failed, and no other.
     ensures rests { Rests slot.old.file slot.new.file }
     ensures cause { IfOk result (λ answer. HasToldCause slot.old.file slot.new.file slot.old.number answer.reply) }
+    ensures passed { OnErr result (FilePassed slot.old.file slot.new.file) }
 {
     let position = found.handle.position;
     let entry = found.held.entry;
     catch_up_entry(gate, &mut slot.slot, session, &entry);
     let reply = read_object::<F, L>(alloc, &mut slot.slot, &entry, tsk, position, count)?;
-    let told = reply.copy(alloc)?;
+    let told = copied(alloc, &reply)?;
     Ok(answer_read(
         gate,
         &mut slot.slot,

@@ -33,7 +33,7 @@ use Rattle.commit_gate.specs.ClosedStores.{ClosedStoresMount, TamperedFilesAreSu
 use Rattle.commit_gate.proofs.RestingGates.{resting_gates_hold}
 
 -- the slot of an object file, and of another number
-slot_is : (slots : ℕ → SlotPart) (file : ℕ) → file ≤ last_file → slots_of slots file ≡ slots file
+pub slot_is : (slots : ℕ → SlotPart) (file : ℕ) → file ≤ last_file → slots_of slots file ≡ slots file
 slot_is slots file le = cond-false (nat_lt last_file file) (no_slot file) (slots file) (le-ltb last_file file le)
 
 slot_none : (slots : ℕ → SlotPart) (file : ℕ) → last_file < file → slots_of slots file ≡ no_slot file

@@ -4,8 +4,9 @@ use Rattle.std.specs.Prelude.{◌==◌, get_or, slice_set}
 use Rattle.std.specs.Option.{option_map}
 use Rattle.std.proofs.lemmas.Bool.{cond-true, cond-false, eq-eqb, ne_eqb}
 use Rattle.disk_model.specs.State.{FileState, Sound}
-use Rattle.disk_model.specs.Keeps.{Keeps, Writes}
+use Rattle.disk_model.specs.Keeps.{Keeps, Outside, Writes}
 use Rattle.disk_model.proofs.Goings.{goes_on_none}
+use Rattle.disk_model.proofs.Masks.{reads_masked_none}
 use Rattle.disk_model.proofs.ImageLaws.{reads_left}
 use Rattle.node_image.specs.declared.node.RootRef.{RootRef}
 use Rattle.htree_file.specs.Selected.{Lies}
@@ -61,6 +62,7 @@ no_write : (s : FileState) → Writes 0 0 s s
 no_write s = record {
   changes = record { trail = inl refl; settled = λ honest. refl; pending_from = refl; goes_on = goes_on_none s };
   others = λ known place byte off has. has;
+  masked = λ tells. reads_masked_none (Outside 0 0) s.arms s.reads;
 }
 
 -- the first block of a card that names a directory is set

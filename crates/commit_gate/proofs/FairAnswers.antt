@@ -103,7 +103,7 @@ module _ (store : Store) (scenario : TamperScenario) (before : List HistoryRecor
   pub refused_legal : (number : ℕ) → Contains scenario.tampered file → IsLegalAt store scenario before (told_record session number call Corrupt file generation version)
   refused_legal number off = legal_by number Corrupt (λ n is. absurd (none_some n is)) (refused off meant)
 
-  module _ (number : ℕ) (reply : Reply) (y : IsToldBy store version (position_by here.state session call) call reply) where
+  module _ (number : ℕ) (reply : Reply) (y : IsToldBy store (store.taints file) version (position_by here.state session call) call reply) where
     pub is_told : IsToldAt store scenario before (told_record session number call reply file generation version)
     is_told = record {
       given = record {
@@ -126,6 +126,9 @@ module _ (store : Store) (scenario : TamperScenario) (before : List HistoryRecor
         position = position_by here.state session call;
         at = refl;
         gave = y.gave;
+        real = x.real;
+        mapped = x.mapped;
+        masked = y.masked;
       };
       unchanged = refl;
       tells = y.tells;

@@ -26,11 +26,13 @@ pub mod CallMoves
 pub mod ShownViews
 pub mod SameMaps
 pub mod HeldDirectories
+pub mod ListedMaps
 pub mod ReadDirectories
 pub mod LandedEntries
 pub mod Holders
 pub mod RestingGates
 pub mod ClosedStores
+pub mod GivenPictures
 pub mod CommitSteps
 pub mod ResolveSteps
 pub mod EventSteps

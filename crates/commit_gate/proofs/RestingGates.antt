@@ -12,7 +12,7 @@ use Rattle.store_model.proofs.CloseCommits.{rising-after}
 use Rattle.dir_records.specs.declared.entry.DirEntry.{DirEntry}
 use Rattle.history_seats.specs.Records.{Version}
 use Rattle.history_seats.specs.Mounts.{Mounted}
-use Rattle.history_seats.specs.Settling.{as_landed}
+use Rattle.history_seats.specs.Settling.{IsOpenDoubt, as_landed}
 use Rattle.history_seats.specs.Directory.{given_version}
 use Rattle.history_seats.specs.Known.{version_from}
 use Rattle.history_seats.specs.Views.{GateView, no_mount}
@@ -70,13 +70,13 @@ module _ (store : Store) (scenario : TamperScenario) (g : Sides) (view : GateVie
   mount_is : mount_of view ≡ store.mounted
   mount_is = ap (λ (o : Option Mounted). unwrap_or o no_mount) mounted
 
-  given_known : (e : DirEntry) (v : Version) → given_version store.mounted view.all e.file e.generation ≡ Some v → KnowsEntry view e v
+  pub given_known : (e : DirEntry) (v : Version) → given_version store.mounted view.all e.file e.generation ≡ Some v → KnowsEntry view e v
   given_known e v given = inl (subst (λ (m : Mounted). given_version m view.all e.file e.generation ≡ Some v) (sym mount_is) given)
 
-  landed_known : (d : Doubted) (r : IsDoubtRead store scenario view g.dir.entries d) (e : DirEntry) (v : Version) → landed_version store.mounted view.all e.file e.generation ≡ Some v → KnowsEntry view e v
-  landed_known d r e v given =
+  pub landed_known : (number : ℕ) → IsOpenDoubt number view.decided view.all → (e : DirEntry) (v : Version) → landed_version store.mounted view.all e.file e.generation ≡ Some v → KnowsEntry view e v
+  landed_known number late e v given =
       subst (λ (m : Mounted). (given_version m view.all e.file e.generation ≡ Some v) ⊎ ((version_from view.decided e.file e.generation m view.all).if_landed ≡ Some (Some v))) (sym mount_is)
-      (landed_is_known store.mounted view.all d.number view.decided r.late e.file e.generation v given)
+      (landed_is_known store.mounted view.all number view.decided late e.file e.generation v given)
 
   -- the committed directory stands for the gate
   committed_stands : (doubt : Option Doubted) → IsTiedUnder store scenario view g.dir.entries g.counter doubt → AreEntriesOf g.dir.entries
@@ -144,7 +144,7 @@ module _ (store : Store) (scenario : TamperScenario) (g : Sides) (doubt : Option
         let after : AreEntriesOf (entries_after g.dir.entries d.change) = subst AreEntriesOf of.entries stands.next_entries in
         reading_stands store scenario (entries_after g.dir.entries d.change) (as_landed (entries_at store view.all)).now (landed_version store.mounted view.all) (replay_landed at_now (Some read.doubt))
         read.landed (entries_distinct (entries_after g.dir.entries d.change) after) (rising-after at_now.state (read.doubt).session (read.doubt).call tied.rising)
-        view (λ index e v stood given. landed_known store scenario g view tied.mounted d read e v given) g.file (of.next).root
+        view (λ index e v stood given. landed_known store scenario g view tied.mounted d.number read.late e v given) g.file (of.next).root
         (λ trusted. subst (DirectoryReads store.keys g.file (of.next).root) of.entries
         (own_reads (of.next).root (of.next).tree (of.next).entries stands.next_form stands.next_held trusted))
 

@@ -1,10 +1,17 @@
 -- A store that is closed at the end of a phase: its gate, and a slot for each file of an object.
-use Rattle.std.specs.Prelude.{◌≡◌, ◌==◌, ◌≤◌, ℕ, zero, suc, nat_lt, if◌then◌else◌, true, false, List, [], ◌∷◌, Option, Some, None, Ok, Contains, IsTrue}
+use Rattle.std.specs.Prelude.{◌≡◌, ◌⊎◌, ◌==◌, ◌≤◌, ℕ, zero, suc, nat_lt, if◌then◌else◌, true, false, List, [], ◌∷◌, Option, Some, None, Ok, Contains, IsTrue}
+use Rattle.std.specs.Option.{option_map}
 use Rattle.disk_model.specs.Arms.{no_arms}
 use Rattle.disk_model.specs.State.{FileState}
 use Rattle.tee_types.specs.Limits.{last_file}
 use Rattle.rpmb_card.specs.Card.{CardState}
+use Rattle.store_model.specs.declared.name.ObjectName.{ObjectName}
+use Rattle.store_model.specs.Object.{Object, ObjectMap, object_at}
 use Rattle.store_model.specs.ReplayState.{ReplayState}
+use Rattle.history_seats.specs.Directory.{given_version}
+use Rattle.history_seats.specs.Mounts.{Entry}
+use Rattle.history_seats.specs.Records.{HistoryRecord}
+use Rattle.history_seats.specs.Settling.{as_landed}
 use Rattle.history_seats.specs.Rule.{SlotFits}
 use Rattle.history_seats.specs.Views.{GateView, no_devices, no_mount}
 use Rattle.crash_core.specs.Pictures.{IsPictureOf, Picture}
@@ -15,9 +22,12 @@ use Rattle.core_laws.specs.SlotParts.{SlotHolds, SlotPart}
 use Rattle.core_laws.specs.Finished.{IsMapAfter, MountsAfter}
 use Rattle.core_laws.specs.Joined.{IsObjectFile}
 use Rattle.core_laws.specs.TamperScenarios.{TamperScenario}
-use Rattle.core_laws.specs.Stores.{Store, replay_at}
+use Rattle.core_laws.specs.Mapped.{Versions, landed_version}
+use Rattle.core_laws.specs.Stores.{Store, entries_at, entry_named, replay_at}
+use Rattle.core_laws.specs.Ties.{IsTied}
 use Rattle.store_commit.specs.declared.gate.Doubted.{Doubted}
 use Rattle.store_commit.specs.Sides.{Sides}
+use Rattle.commit_gate.specs.CoreTies.{doubted_change}
 use Rattle.commit_gate.specs.FinishedPhases.{phase_under}
 use Rattle.commit_gate.specs.Readings.{IsTiedUnder}
 use Rattle.commit_gate.specs.Resting.{IsGateOf}
@@ -106,6 +116,40 @@ HonestStoresMount =
     (store : Store) (scenario : TamperScenario) (g : Sides) (doubt : Option Doubted) (holds : List (Option ℕ)) (card : CardState) (view : GateView) (slots : ℕ → SlotPart) (picture : Picture)
     → IsClosedStore store scenario g doubt holds card view slots → IsPictureOf (store_files g slots) card picture → ((file : ℕ) → IsTrusted (phase_under store scenario) file)
     → IsMapBy doubt (phase_under store scenario) picture (replay_at store scenario view.all)
+
+-- the object of an entry's version
+abbrev pub object_given : Versions → Option Entry → Option Object
+object_given versions None = None
+object_given versions (Some e) = option_map (λ v. v.object) (versions e.file e.generation)
+
+-- The picture mounts to the map that has under the name of each of these entries the object of its version, and no other name.
+pub record MountsGiven (phase : Phase) (picture : Picture) (versions : Versions) (entries : List Entry) : Type 0 where
+  pub objects : ObjectMap
+  pub given : (name : ObjectName) → object_at objects name ≡ object_given versions (entry_named name entries)
+  pub mounts : MountsTo phase picture objects
+
+-- So with the entries and versions that the records leave; or, only while a commit is in doubt, with those once it landed.
+abbrev pub MountsGivenBy : {D : Type 0} → Option D → Store → Phase → Picture → List HistoryRecord → Type 0
+MountsGivenBy None store phase picture records = MountsGiven phase picture (given_version store.mounted records) (entries_at store records).now
+MountsGivenBy (Some d) store phase picture records =
+    MountsGiven phase picture (given_version store.mounted records) (entries_at store records).now
+    ⊎ MountsGiven phase picture (landed_version store.mounted records) (as_landed (entries_at store records)).now
+
+-- A store that is closed, whatever its history tells: its gate is tied to the records, and its slots hold.
+pub record IsTiedStore (store : Store) (scenario : TamperScenario) (g : Sides) (doubt : Option Doubted) (holds : List (Option ℕ)) (card : CardState) (view : GateView) (slots : ℕ → SlotPart) : Type 0 where
+  pub gate : IsGateOf store g doubt holds card
+  pub tied : IsTied store view g.dir.entries g.counter (option_map doubted_change doubt)
+  pub mounted : view.mounted ≡ Some store.mounted
+  pub slots_hold : AreSlotsOf store view slots
+  pub tampered : SupposesTampered scenario (store_files g slots)
+
+-- Every picture of its files and its card mounts so, where the directory's file is honest, and but for objects in files that are not; that the
+-- history is answered is not asked.
+abbrev pub TiedStoresMount : Type 0
+TiedStoresMount =
+    (store : Store) (scenario : TamperScenario) (g : Sides) (doubt : Option Doubted) (holds : List (Option ℕ)) (card : CardState) (view : GateView) (slots : ℕ → SlotPart) (picture : Picture)
+    → IsTiedStore store scenario g doubt holds card view slots → IsPictureOf (store_files g slots) card picture → IsTrusted (phase_under store scenario) 0
+    → MountsGivenBy doubt store (phase_under store scenario) picture view.all
 
 -- A tamper scenario by which exactly the files are not honest that are not has them all.
 abbrev pub TamperedFilesAreSupposed : Type 0

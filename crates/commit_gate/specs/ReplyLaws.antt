@@ -1,5 +1,5 @@
 -- Answers to a call on an object that the object's file has a part in, and that change nothing: what is asked of the call, and of the reply.
-use Rattle.std.specs.Prelude.{◌≡◌, ◌+◌, ◌<◌, ◌^◌, ℕ, true, false, List, length, Some, None}
+use Rattle.std.specs.Prelude.{◌≡◌, ◌+◌, ◌<◌, ◌^◌, ℕ, true, false, List, length, Option, Some, None}
 use Rattle.std.specs.List.{list_any}
 use Rattle.tee_types.specs.declared.call.Call.{Call}
 use Rattle.tee_types.specs.declared.call.Call.TheVariants.{Info, Open, Read, Truncate, Write}
@@ -20,6 +20,8 @@ use Rattle.history_seats.specs.Numbers.{is_in}
 use Rattle.history_seats.specs.Records.{HistoryRecord, Version}
 use Rattle.core_laws.specs.Answered.{IsFairAt, IsLegalAt}
 use Rattle.core_laws.specs.ChangeLaws.{IsChanging}
+use Rattle.core_laws.specs.Masked.{IsMaskedOf}
+use Rattle.disk_model.specs.Arms.{Taint}
 use Rattle.core_laws.specs.Given.{Gave, Tells, is_asked, position_by, decoding_given}
 use Rattle.core_laws.specs.TamperScenarios.{TamperScenario}
 use Rattle.core_laws.specs.Mapped.{IsMapped}
@@ -71,9 +73,11 @@ RefusedFilesAreFair =
     (store : Store) (scenario : TamperScenario) (before : List HistoryRecord) (session number : ℕ) (call : Call) (file generation : ℕ) (version : Version)
     → IsOnFile store scenario before session call file generation version → IsFairAt store scenario before (told_record session number call Corrupt file generation version)
 
--- The file gave each block that the call has to know, and the reply tells what it gave.
-pub record IsToldBy (store : Store) (version : Version) (position : ℕ) (call : Call) (reply : Reply) : Type 0 where
+-- The file gave each block that the call has to know, and the reply tells what it gave. What it gave was committed, with masks over it,
+-- where the file tells these.
+pub record IsToldBy (store : Store) (told : Option (List Taint)) (version : Version) (position : ℕ) (call : Call) (reply : Reply) : Type 0 where
   pub gave : Gave (wrap_of store.keys version) version.root version.size (is_asked version.size position call)
+  pub masked : IsMaskedOf store.keys told version (is_asked version.size position call) gave.tree gave.block
   pub tells : Tells (decoding_given gave) version.size version.attributes position call reply
 
 -- The reply is fair, whatever the file is.
@@ -81,7 +85,7 @@ abbrev pub ToldFilesAreFair : Type 0
 ToldFilesAreFair =
     (store : Store) (scenario : TamperScenario) (before : List HistoryRecord) (session number : ℕ) (call : Call) (reply : Reply) (file generation : ℕ) (version : Version)
     → IsOnFile store scenario before session call file generation version
-    → IsToldBy store version (position_by (replay_at store scenario before).state session call) call reply
+    → IsToldBy store (store.taints file) version (position_by (replay_at store scenario before).state session call) call reply
     → IsAdmitted (replay_at store scenario before).state session version.size call reply
     → IsFairAt store scenario before (told_record session number call reply file generation version)
 

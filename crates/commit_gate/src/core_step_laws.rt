@@ -2,7 +2,7 @@
 
 ghost use Rattle.commit_gate.specs.CommitFacts.{DirectoryRunsKeep, SealsKeep};
 ghost use Rattle.commit_gate.specs.CommitSteps.{CommitsAreSteps};
-ghost use Rattle.commit_gate.specs.ClosedStores.{ClosedStoresMount, TamperedFilesAreSupposed, HonestStoresMount};
+ghost use Rattle.commit_gate.specs.ClosedStores.{ClosedStoresMount, TamperedFilesAreSupposed, HonestStoresMount, TiedStoresMount};
 ghost use Rattle.commit_gate.specs.EventSteps.{UnchangedEventsAreSteps};
 ghost use Rattle.commit_gate.specs.Finishing.{FinishedPhasesMount};
 ghost use Rattle.commit_gate.specs.GateMoves.{RestingGatesMove};
@@ -25,6 +25,12 @@ pub fn resting_gates_hold()
 /// Nothing is said of objects in files that are not honest, nor where the directory's file is not.
 pub fn closed_stores_mount()
     ensures { ClosedStoresMount }
+{}
+
+/// Whatever became of the history, every picture mounts to the entries that its records leave, and shows of each file that is honest the
+/// object of the version that they give. Nothing is said where the directory's file is not honest.
+pub fn tied_stores_mount()
+    ensures { TiedStoresMount }
 {}
 
 /// Where every file is honest, it mounts to that map itself.

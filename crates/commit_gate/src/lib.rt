@@ -35,8 +35,8 @@ mod versions_name;
 pub use core_step_laws::{
     closed_stores_mount, commits_are_steps, directory_runs_keep, finished_phases_mount,
     honest_stores_mount, releases_are_steps, reserves_are_steps, resolves_are_steps,
-    resting_gates_hold, resting_gates_move, seals_keep, tampered_files_are_supposed, ties_tell,
-    unchanged_events_are_steps,
+    resting_gates_hold, resting_gates_move, seals_keep, tampered_files_are_supposed,
+    tied_stores_mount, ties_tell, unchanged_events_are_steps,
 };
 pub use doubt_outcome::Settled;
 pub use end_versions::{MadeVersions, UnmadeVersions};

@@ -1,5 +1,5 @@
 -- Histories whose events are answered, and what is owed of them, with one record more.
-use Rattle.std.proofs.Common.{◌≡◌, ℕ, true, false, true≢false, List, [], ◌∷◌, ◌++◌, Some, refl, sym, ap, ◌∙◌, append_assoc, eq-eqb}
+use Rattle.std.proofs.Common.{◌≡◌, ℕ, true, true≢false, List, [], ◌∷◌, ◌++◌, Some, refl, sym, ap, ◌∙◌, append_assoc, eq-eqb}
 use Rattle.store_model.specs.Record.{concerns_file, file_of, is_file}
 use Rattle.store_model.specs.ReplayState.{replay_after}
 use Rattle.store_model.proofs.Sessions.{replay-append}

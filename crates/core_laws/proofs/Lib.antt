@@ -20,6 +20,9 @@ pub mod SameTrees
 pub mod Answers
 pub mod Narrowing
 pub mod Undamaged
+pub mod MaskedBytes
+pub mod OneTree
+pub mod Unmasked
 pub mod InStep
 pub mod MapSteps
 pub mod MapCommits
@@ -38,6 +41,9 @@ pub mod CallSessions
 pub mod ChangeCalls
 pub mod StagedChanges
 pub mod Rising
+pub mod DueEvents
+pub mod UndamagedReplays
+pub mod FirstClashes
 pub mod Uniqueness
 pub mod Listing
 pub mod Matching

@@ -1,20 +1,17 @@
 -- The directory's entries beside those of the history.
-use Rattle.std.proofs.Common.{◌≡◌, ◌⊎◌, ℕ, Bool, true, false, true≢false, cond, List, [], ◌∷◌, Option, Some, None, inl, inr, refl, sym, ap, ◌∙◌, subst, is_eq}
+use Rattle.std.proofs.Common.{◌≡◌, Bool, true, false, true≢false, cond, List, [], ◌∷◌, Some, inl, inr, refl, sym, ap, ◌∙◌, is_eq}
 use Rattle.std.specs.Prelude.{Contains}
 use Rattle.std.proofs.lemmas.Bool.{cases_Bool, cases_eq, cond-true, cond-false}
 use Rattle.store_model.specs.declared.name.ObjectName.{ObjectName}
-use Rattle.store_model.specs.Name.{name_cmp}
 use Rattle.store_model.proofs.Maps.{at}
 use Rattle.store_model.proofs.MapLaws.{alike}
-use Rattle.dir_records.specs.declared.entry.DirEntry.{DirEntry}
 use Rattle.crash_core.specs.Entries.{name_of}
-use Rattle.crash_core.specs.EntryLists.{AreDistinct, AreSingle, entry_at}
+use Rattle.crash_core.specs.EntryLists.{entry_at}
 use Rattle.crash_core.proofs.EntryMaps.{self}
 use Rattle.history_seats.specs.Mounts.{Entry}
-use Rattle.core_laws.specs.Listed.{AreListed, IsInDirectory, history_entry}
+use Rattle.core_laws.specs.Listed.{IsInDirectory, history_entry}
 use Rattle.core_laws.proofs.Contained.{contains_cases, contains_first, contains_later, contains_none}
 use Rattle.core_laws.specs.Stores.{entry_named}
-use Rattle.core_laws.specs.Mapped.{AreApart}
 use Rattle.core_laws.specs.Listings.{ListedEntriesAreApart, ListedEntriesAreNamed}
 use Rattle.core_laws.proofs.Mending.{none_some, some_same}
 

@@ -6,7 +6,7 @@ use Rattle.store_model.specs.ReplayState.{ReplayState}
 use Rattle.history_seats.specs.Records.{HistoryRecord}
 use Rattle.core_laws.specs.TamperScenarios.{TamperScenario}
 use Rattle.core_laws.specs.Stores.{Store, replay_at, start_under}
-use Rattle.core_laws.specs.Answered.{AreAnswered, AreFair, AreOwnLegal, HasNoClash, IsAnsweredAt, IsEnded, IsOwed}
+use Rattle.core_laws.specs.Answered.{AreAnswered, AreFair, AreLegalEach, AreOwnLegal, HasNoClash, IsAnsweredAt, IsEnded, IsOwed}
 use Rattle.core_laws.specs.Shown.{IsEndAt}
 use Rattle.core_laws.proofs.Mending.{none_some, some_same}
 use Rattle.core_laws.proofs.Answers.{answered-snoc, nothing-answered, replay_state-snoc}
@@ -50,16 +50,22 @@ module _ (store : Store) (scenario : TamperScenario) where
       → AreAnswered store scenario all ⊎ IsEnded store scenario all
   all_answered all fair each = answered-from all [] all refl (narrowed all fair each) (nothing-answered store scenario)
 
-  legal-from : (front rest : List HistoryRecord) → AreAnswered store scenario (front ++ rest) → HasNoClash store scenario (front ++ rest)
-      → IsLegalFrom scenario.tampered (replay_at store scenario front) rest
-  legal-from front [] answered none = tt
-  legal-from front (r ∷ rest) answered none = (
-    elim (answered front r rest refl) [ inl legal ↦ legal.legal | inr clash ↦ absurd (none front r rest refl clash) ],
+  -- records that are legal are answered
+  pub answered_each : (records : List HistoryRecord) → AreLegalEach store scenario records → AreAnswered store scenario records
+  answered_each records legal front r back e = inl (legal front r back e)
+
+  legal-from : (front rest : List HistoryRecord) → AreLegalEach store scenario (front ++ rest) → IsLegalFrom scenario.tampered (replay_at store scenario front) rest
+  legal-from front [] legal = tt
+  legal-from front (r ∷ rest) legal = (
+    (legal front r rest refl).legal,
     subst (λ (s : ReplayState). IsLegalFrom scenario.tampered s rest) (replay_state-snoc store scenario front r)
-        (legal-from (front ++ r ∷ []) rest (subst (AreAnswered store scenario) (sym (append_assoc front (r ∷ []) rest)) answered)
-        (λ fs x back e. none fs x back (e ∙ append_assoc front (r ∷ []) rest))),
+        (legal-from (front ++ r ∷ []) rest (subst (AreLegalEach store scenario) (sym (append_assoc front (r ∷ []) rest)) legal)),
   )
 
-  -- where no event shows a clash, the history is legal
+  -- where each event is legal, so is the history
+  pub legal_each : (all : List HistoryRecord) → AreLegalEach store scenario all → IsLegalFrom scenario.tampered (start_under store scenario) all
+  legal_each all legal = legal-from [] all legal
+
+  -- where no event shows a clash, it is
   pub legal_without : (all : List HistoryRecord) → AreAnswered store scenario all → HasNoClash store scenario all → IsLegalFrom scenario.tampered (start_under store scenario) all
-  legal_without all answered none = legal-from [] all answered none
+  legal_without all answered none = legal_each all (λ front r back e. elim (answered front r back e) [ inl legal ↦ legal | inr clash ↦ absurd (none front r back e clash) ])

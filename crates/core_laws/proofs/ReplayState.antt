@@ -91,6 +91,14 @@ module _ (keys : Keys) (scenario : TamperScenario) (file generation : ℕ) (v : 
       by_test true tree = refl
       by_test false tree = refl
 
+  pub own_under : (tree : Loaded) → v.loads ≡ Ok tree → under keys scenario file generation v ≡ Some (decoded_with (is_in file scenario.tampered) tree)
+  own_under tree loads = by_test (is_in file scenario.tampered)
+    where
+      by_test : (b : Bool) → cond b (supposed_under keys scenario file generation v) (decoding_of keys v) ≡ Some (decoded_with b tree)
+      by_test true =
+          ap (λ (r : Result Loaded TreeFault). option_map (λ t. mended (scenario.blocks file generation) (tree_decoding (wrap_of keys v) (block_of v) t)) (tree_or r (scenario.trees file generation v.root))) loads
+      by_test false = ap (tree_decoding_if (wrap_of keys v) (block_of v)) loads
+
   -- what stands for a version whose tree loads
   pub keeps_own : (own : Decoding) → decoding_of keys v ≡ Some own → KeepsGood keys scenario file generation v own
   keeps_own own is = by_test (is_in file scenario.tampered) refl

@@ -18,6 +18,11 @@ pub record IsLegalAt (store : Store) (scenario : TamperScenario) (before : List 
   pub legal : IsLegalEvent scenario.tampered (replay_at store scenario before) r.event (file_of r)
   pub kept : IsKeptAt store scenario before r
 
+-- so does each of these records
+abbrev pub AreLegalEach : Store → TamperScenario → List HistoryRecord → Type 0
+AreLegalEach store scenario records =
+    (front : List HistoryRecord) (r : HistoryRecord) (back : List HistoryRecord) → front ++ r ∷ back ≡ records → IsLegalAt store scenario front r
+
 -- The event is legal, or shows a clash.
 abbrev pub IsAnsweredAt : Store → TamperScenario → List HistoryRecord → HistoryRecord → Type 0
 IsAnsweredAt store scenario before r = IsLegalAt store scenario before r ⊎ IsClashedAt store scenario before r

@@ -1,18 +1,19 @@
 -- From what is owed of each event to a history that is answered, and to a legal one.
 use Rattle.std.specs.Prelude.{◌≡◌, ◌⊎◌, ℕ, List, [], ◌∷◌, ◌++◌, Some, Contains}
 use mathlib.Core.Logic.{inl, inr}
-use Rattle.store_model.specs.Object.{Contents, Sound}
 use Rattle.store_model.specs.Legal.{IsLegalFrom}
 use Rattle.store_model.specs.Record.{concerns_file, file_of}
 use Rattle.history_seats.specs.Records.{HistoryRecord, IsUpToDate}
 use Rattle.history_seats.specs.SessionLaws.{AreLandingsDue}
-use Rattle.core_laws.specs.Decodings.{IsReal, Decoding}
-use Rattle.core_laws.specs.TamperScenarios.{TamperScenario}
+use Rattle.core_laws.specs.Decodings.{Decoding}
+use Rattle.core_laws.specs.TamperScenarios.{TamperScenario, object_under}
 use Rattle.core_laws.specs.Clashes.{Clash}
-use Rattle.core_laws.specs.Stores.{Store, start_under}
+use Rattle.core_laws.specs.Stores.{Store, mounted_files, objects_under, start_under}
 use Rattle.core_laws.specs.Given.{decoding_given}
-use Rattle.core_laws.specs.Shown.{IsEndAt, IsGivenAt, asked_of, stands_for}
-use Rattle.core_laws.specs.Answered.{AreAnswered, AreFair, AreOwnLegal, HasNoClash, IsAnsweredAt, IsEnded, IsFairAt, IsFairHistory, IsLegalAt}
+use Rattle.core_laws.specs.Shown.{IsClashedAt, IsEndAt, IsGivenAt, asked_of, stands_for}
+use Rattle.core_laws.specs.Answered.{AreAnswered, AreFair, AreLegalEach, AreOwnLegal, HasNoClash, IsAnsweredAt, IsEnded, IsFairAt, IsFairHistory, IsLegalAt}
+use Rattle.core_laws.specs.TieLaws.{AreRising}
+use Rattle.core_laws.specs.Undamaged.{AreUndamagedIn, IsUndamaged}
 
 -- Where each file is among those that are not honest, or its events are legal by themselves, each event is answered, or the promises end at
 -- a first one.
@@ -36,12 +37,44 @@ abbrev pub given_at : {store : Store} {scenario : TamperScenario} {before : List
 given_at (inl lacking) = lacking.told.given
 given_at (inr strays) = strays.given
 
--- Where nothing of the version is damaged, the promises end only at a clash.
+-- What the file gave, where the promises end, clashes with what stands for the version.
+pub record IsEndByClash (store : Store) (scenario : TamperScenario) (before : List HistoryRecord) (r : HistoryRecord) : Type 0 where
+  pub ends : IsEndAt store scenario before r
+  pub sp : Decoding
+  pub stands : stands_for (given_at ends) ≡ Some sp
+  pub clash : Clash (asked_of (given_at ends)) sp (decoding_given (given_at ends).gave)
+
+-- Where nothing of what stands for the version is damaged, the promises end only at a clash.
 abbrev pub UndamagedEndsClash : Type 0
 UndamagedEndsClash =
-    (store : Store) (scenario : TamperScenario) (before : List HistoryRecord) (r : HistoryRecord) (x : IsEndAt store scenario before r) → IsReal store.keys (given_at x).version
-    → (c : Contents) → (given_at x).version.object ≡ Sound c → c.bad ≡ []
-    → (sp : Decoding) × (stands_for (given_at x) ≡ Some sp) × Clash (asked_of (given_at x)) sp (decoding_given (given_at x).gave)
+    (store : Store) (scenario : TamperScenario) (before : List HistoryRecord) (r : HistoryRecord) (x : IsEndAt store scenario before r)
+    → IsUndamaged (object_under store.keys scenario (given_at x).tag.file (given_at x).tag.generation (given_at x).version) → IsEndByClash store scenario before r
+
+-- At a first event, by a call on an object whose file is not honest, what the file gave clashes with what was committed. The events before it
+-- are legal.
+pub record HasClashed (store : Store) (scenario : TamperScenario) (records : List HistoryRecord) : Type 0 where
+  pub front : List HistoryRecord
+  pub event : HistoryRecord
+  pub back : List HistoryRecord
+  pub is : front ++ event ∷ back ≡ records
+  pub legal : AreLegalEach store scenario front
+  pub file : ℕ
+  pub of_file : file_of event ≡ Some file
+  pub not_honest : Contains scenario.tampered file
+  pub shows : IsClashedAt store scenario front event ⊎ IsEndByClash store scenario front event
+
+-- Where no object in a file that is not honest is damaged as the phase opens, each event is legal, or there is a first clash.
+abbrev pub FairHistoriesAreLegal : Type 0
+FairHistoriesAreLegal =
+    (store : Store) (scenario : TamperScenario) (records : List HistoryRecord) → AreRising store.objects
+    → AreUndamagedIn scenario.tampered (mounted_files store.mounted) (objects_under store scenario) → AreFair store scenario records
+    → ((file : ℕ) → Contains scenario.tampered file ⊎ AreOwnLegal store scenario file records) → AreLegalEach store scenario records ⊎ HasClashed store scenario records
+
+-- Where each event is legal, so is the history.
+abbrev pub LegalEventsAreLegal : Type 0
+LegalEventsAreLegal =
+    (store : Store) (scenario : TamperScenario) (records : List HistoryRecord) → AreLegalEach store scenario records
+    → AreAnswered store scenario records × IsLegalFrom scenario.tampered (start_under store scenario) records
 
 -- What begins an answered history is answered, and one more answered event leaves it so.
 pub record AnswersGrow (store : Store) (scenario : TamperScenario) : Type 0 where

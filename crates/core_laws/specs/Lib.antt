@@ -16,12 +16,14 @@ pub mod Clashes
 pub mod Stores
 pub mod Mapped
 pub mod Given
+pub mod Masked
 pub mod Shown
 pub mod Answered
 pub mod Listings
 pub mod Sessions
 pub mod TreeLaws
 pub mod EndLaws
+pub mod MaskLaws
 pub mod MapLaws
 pub mod CommitLaws
 pub mod SessionLaws
@@ -35,6 +37,7 @@ pub mod CallChanges
 pub mod Ties
 pub mod MachineChanges
 pub mod TieLaws
+pub mod Undamaged
 pub mod EntryFacts
 pub mod TagLaws
 pub mod OwnEntries

@@ -16,10 +16,12 @@ use Rattle.store_model.specs.ReplayState.{is_undone}
 use Rattle.history_seats.specs.Records.{HistoryRecord, Version}
 use Rattle.history_seats.specs.Mounts.{Entry}
 use Rattle.history_seats.specs.Directory.{given_version}
-use Rattle.core_laws.specs.Decodings.{Decoding, page_decoded, wrap_of}
+use Rattle.core_laws.specs.Decodings.{Decoding, IsReal, page_decoded, wrap_of}
 use Rattle.core_laws.specs.TamperScenarios.{TamperScenario, under}
 use Rattle.core_laws.specs.Clashes.{Clash, NodeClash}
 use Rattle.core_laws.specs.Stores.{Store, entries_at, entry_named, replay_at}
+use Rattle.core_laws.specs.Mapped.{IsMapped}
+use Rattle.core_laws.specs.Masked.{IsMaskedOf}
 use Rattle.core_laws.specs.Given.{DiffersInBytes, Gave, Tells, is_asked, position_by, decoding_given}
 
 -- The event is a call on an object, by the version that the records before it give for the file of its tag, and the file gave the blocks
@@ -45,6 +47,11 @@ pub record IsGivenAt (store : Store) (scenario : TamperScenario) (before : List 
   pub position : ℕ
   pub at : position ≡ position_by (replay_at store scenario before).state session call
   pub gave : Gave (wrap_of store.keys version) version.root version.size (is_asked version.size position call)
+  pub real : IsReal store.keys version
+  -- the map is in step with the directory, so that the machine's object is what stands for the version
+  pub mapped : IsMapped store scenario before
+  -- what was committed, with masks over it, where the file tells these
+  pub masked : IsMaskedOf store.keys (store.taints tag.file) version (is_asked version.size position call) gave.tree gave.block
 
 -- what stands for that version under the tamper scenario
 abbrev pub stands_for : {store : Store} {scenario : TamperScenario} {before : List HistoryRecord} {r : HistoryRecord} → IsGivenAt store scenario before r → Option Decoding

@@ -1,6 +1,7 @@
 -- The store of one phase, and where the replay of its history stands under a tamper scenario.
 use Rattle.std.specs.Prelude.{◌≡◌, ℕ, List, [], map, find, Option, Some, None, option_map}
 use Rattle.std.specs.Ordering.{is_eq}
+use Rattle.disk_model.specs.Arms.{Taint}
 use Rattle.atomic_table.specs.Seated.{TableId}
 use Rattle.hmac_keys.specs.declared.Keys.{Keys}
 use Rattle.store_model.specs.declared.name.ObjectName.{ObjectName}
@@ -17,7 +18,7 @@ use Rattle.history_seats.specs.Views.{no_mount, no_devices}
 use Rattle.core_laws.specs.TamperScenarios.{TamperScenario, object_under}
 
 -- What one phase is fixed by: the table of its history, the device's keys, the mount, the devices as they are served, the objects that it
--- opens with and the card's write counter.
+-- opens with, the card's write counter, and the masks that are armed on each file that tells its bytes and its arms.
 pub record Store : Type 0 where
   pub table : TableId
   pub keys : Keys
@@ -25,6 +26,7 @@ pub record Store : Type 0 where
   pub served : Served
   pub objects : ObjectMap
   pub counter : ℕ
+  pub taints : (file : ℕ) → Option (List Taint)
 
 -- no store
 abbrev pub no_store : Store
@@ -35,6 +37,7 @@ no_store = record {
   served = no_devices;
   objects = [];
   counter = 0;
+  taints = λ file. None;
 }
 
 -- the entry of that name

@@ -1,7 +1,9 @@
 //! Laws of tamper scenarios. Each function does nothing: its contract is the law.
 
 ghost use Rattle.core_laws.specs.TreeLaws.{OneReferenceNamesOneTree, AlikeTreesAreSame, ImagesHoldRealVersions, ScenariosMend, ScenariosKeepSizes, HonestFilesStand, NothingComesBack, ScenariosAreVerified, ScenariosKeepGood, UnmetPagesStay};
-ghost use Rattle.core_laws.specs.EndLaws.{FairHistoriesAreAnswered, AnsweredHistoriesAreLegal, AnsweredLandingsAreDue, UndamagedEndsClash, AnswersAreByEvent, FairnessIsByEvent, OwnEventsAreByEvent};
+ghost use Rattle.core_laws.specs.EndLaws.{FairHistoriesAreAnswered, AnsweredHistoriesAreLegal, AnsweredLandingsAreDue, UndamagedEndsClash, FairHistoriesAreLegal, LegalEventsAreLegal, AnswersAreByEvent, FairnessIsByEvent, OwnEventsAreByEvent};
+ghost use Rattle.core_laws.specs.Undamaged.{LegalHistoriesDamageNone};
+ghost use Rattle.core_laws.specs.MaskLaws.{MasksOnBlocksShowNoOther, UnmaskedFilesEndNothing, UnmaskedFilesShowNoClash};
 ghost use Rattle.core_laws.specs.MapLaws.{OpeningsAreInStep, EntriesHaveObjects, UnchangedEventsKeepMaps, LandingsKeepMaps, DropsKeepMaps};
 ghost use Rattle.core_laws.specs.CommitLaws.{MadeChangesKeepMaps, DoubtfulChangesKeepMaps};
 ghost use Rattle.core_laws.specs.Listings.{ListedEntriesAreApart, ListedEntriesAreNamed};
@@ -89,9 +91,40 @@ pub fn answered_landings_are_due()
     ensures { AnsweredLandingsAreDue }
 {}
 
-/// Where nothing of a version is damaged, the promises end at it only by a clash.
+/// A legal history damages no object of these files.
+pub fn legal_histories_damage_none()
+    ensures { LegalHistoriesDamageNone }
+{}
+
+/// Where nothing of what stands for a version is damaged, the promises end at it only by a clash.
 pub fn undamaged_ends_clash()
     ensures { UndamagedEndsClash }
+{}
+
+/// Where each event is legal, so is the history.
+pub fn legal_events_are_legal()
+    ensures { LegalEventsAreLegal }
+{}
+
+/// Where no object in a file that is not honest is damaged as the phase opens, each event of a fair history is legal, or there is a first clash.
+#[tactic(auto, using(crate::proofs::FirstClashes::legal_or_clashed))]
+pub fn fair_histories_are_legal()
+    ensures { FairHistoriesAreLegal }
+{}
+
+/// Masks behind the heads and the nodes of a tree show no other tree under its reference.
+pub fn masks_on_blocks_show_no_other()
+    ensures { MasksOnBlocksShowNoOther }
+{}
+
+/// What a file gave on which no mask is armed clashes with nothing, where it tells its bytes and its arms.
+pub fn unmasked_files_show_no_clash()
+    ensures { UnmaskedFilesShowNoClash }
+{}
+
+/// And no promise ends at it.
+pub fn unmasked_files_end_nothing()
+    ensures { UnmaskedFilesEndNothing }
 {}
 
 /// A history is answered event by event.

@@ -64,7 +64,7 @@ module _ (old new : FileState) (wrap : List ℕ) (root : RootRef) (what : Sight)
     ]
 
     keeps : Keeps (Lies misses.tree.nodes root.version) old new
-    keeps = keeps_fewer (Outside from upto) (Lies misses.tree.nodes root.version) old new outside (change_keeps from upto old new sound writes.changes writes.others)
+    keeps = keeps_fewer (Outside from upto) (Lies misses.tree.nodes root.version) old new outside (change_keeps from upto old new sound writes)
 
     write_stands : (i : List ℕ) → LeftNow new i → sight_of wrap i root ≡ what
     write_stands i left =

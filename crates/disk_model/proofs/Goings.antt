@@ -2,7 +2,8 @@
 use Rattle.std.proofs.Common.{◌≡◌, ◌⊎◌, inl, inr, Bool, IsTrue, refl, sym, subst, ◌∙◌, arith}
 use Rattle.disk_model.specs.Faults.{Rose}
 use Rattle.disk_model.specs.State.{FileState}
-use Rattle.disk_model.specs.Calls.{Known, GoesOn}
+use Rattle.disk_model.specs.Calls.{Known, GoesOn, Rests}
+use Rattle.disk_model.proofs.Masks.{masked_armed, masked_none, masked_then}
 
 pub goes_on_none : (s : FileState) → GoesOn s s
 goes_on_none s = record {
@@ -67,3 +68,20 @@ known_at_end a b goes (inr steady) = inr (subst (λ (t : Bool). IsTrue t) goes.s
 pub known_at_start : (a b : FileState) → GoesOn a b → Known a b → Known a a
 known_at_start a b goes (inl honest) = inl (goes.honest honest)
 known_at_start a b goes (inr steady) = inr steady
+
+-- calls that change nothing, one after another
+pub rests_none : (s : FileState) → Rests s s
+rests_none s = record { trail = refl; settled = λ h. refl; pending_from = refl; reads = λ known. refl; masked = λ tells. masked_none s.arms s.reads; written = refl; goes_on = goes_on_none s }
+
+pub rests_then : (a b c : FileState) → Rests a b → Rests b c → Rests a c
+rests_then a b c first second = record {
+  trail = second.trail ∙ first.trail;
+  settled = λ honest. second.settled honest ∙ first.settled (second.goes_on.honest honest);
+  pending_from = second.pending_from ∙ first.pending_from;
+  reads = λ known. second.reads (then_known a b c first.goes_on known) ∙ first.reads (first_known a b c second.goes_on known);
+  masked = λ tells.
+      let still : IsTrue b.tells_arms = subst (λ (t : Bool). IsTrue t) (sym first.goes_on.tells_arms) tells in
+      masked_then a.arms a.reads b.reads c.reads (first.masked tells) (masked_armed b.arms a.arms b.reads c.reads ((first.goes_on.arms tells).taints) (second.masked still));
+  written = second.written ∙ first.written;
+  goes_on = goes_on_then a b c first.goes_on second.goes_on;
+}

@@ -5,10 +5,11 @@ use Rattle.disk_model.specs.declared.span.Span.{Span}
 use Rattle.disk_model.specs.declared.span.Change.{Change}
 use Rattle.disk_model.specs.Images.{Has, in_span, in_spans, MayLeave, Every}
 use Rattle.disk_model.specs.State.{FileState, spans_of, pending, moment, base_at, spans_since, LeftSince, LeftNow, Sound}
-use Rattle.disk_model.specs.Calls.{Known, AddsChange, Changes, Rests, Syncs}
-use Rattle.disk_model.specs.Keeps.{Anywhere, CallOff, FileCall, write, sync, rest, IsFileRun, Outside, Grows, Keeps}
+use Rattle.disk_model.specs.Calls.{AddsChange, Changes, Rests, Syncs}
+use Rattle.disk_model.specs.Keeps.{Anywhere, write, sync, rest, Outside, Writes, Grows, Keeps}
 use Rattle.disk_model.proofs.Spans.{in_spans-append, in_spans_front, in_spans_drop, one_span, no_place, spans_of-append, drop_push, not_nil, base_push}
 use Rattle.disk_model.proofs.ImageLaws.{push_span, every_reads, every_free}
+use Rattle.disk_model.proofs.Seen.{runs_none, runs_one, runs_fewer, runs_then}
 use Rattle.disk_model.proofs.Goings.{goes_on_none, goes_on_then, first_known, then_known}
 
 -- one change or one sync more in the trail
@@ -71,29 +72,17 @@ module _ (from upto : ℕ) (old new : FileState) (sound : Sound old) (changes : 
     | inr adds ↦ record { more = adds.change ∷ []; trail = adds.trail; misses = λ honest p x out h. one_span adds.change.span p (misses adds p x out h) }
   ]
 
-  pub change_keeps : (Known old new → (p x : ℕ) → Outside from upto p → Has old.reads p x → Has new.reads p x) → Keeps (Outside from upto) old new
-  change_keeps others = record {
-    goes_on = changes.goes_on;
-    later = elim changes.trail [ inl same ↦ omega (arith, ap length same) | inr adds ↦ later_push _ old new sound adds ];
-    past = past_change;
-    places = places_change;
-    reads = others;
-    grows = grows_change;
-    run = record { calls = write from upto ∷ []; run = (new, sound, record { changes = changes; others = others }, λ p at. at, refl) };
-  }
-
-off_fewer : (K L : ℕ → Type 0) → ((p : ℕ) → L p → K p) → (call : FileCall) → CallOff K call → CallOff L call
-off_fewer K L fewer (write from upto) off = λ p at. off p (fewer p at)
-off_fewer K L fewer sync off = tt
-off_fewer K L fewer rest off = tt
-
-run_fewer : (K L : ℕ → Type 0) → ((p : ℕ) → L p → K p) → (old : FileState) (calls : List FileCall) (new : FileState) → IsFileRun K old calls new → IsFileRun L old calls new
-run_fewer K L fewer old [] new run = run
-run_fewer K L fewer old (call ∷ calls) new run = (run.0, run.1, run.2, off_fewer K L fewer call run.3, run_fewer K L fewer run.0 calls new run.4)
-
-run_then : (K : ℕ → Type 0) (a : FileState) (xs : List FileCall) (b : FileState) (ys : List FileCall) (c : FileState) → IsFileRun K a xs b → IsFileRun K b ys c → IsFileRun K a (xs ++ ys) c
-run_then K a [] b ys c first second = subst (λ (s : FileState). IsFileRun K s ys c) first second
-run_then K a (x ∷ xs) b ys c first second = (first.0, first.1, first.2, first.3, run_then K first.0 xs b ys c first.4 second)
+-- A write or a change of the length keeps what lies outside it.
+pub change_keeps : (from upto : ℕ) (old new : FileState) → Sound old → Writes from upto old new → Keeps (Outside from upto) old new
+change_keeps from upto old new sound writes = record {
+  goes_on = writes.changes.goes_on;
+  later = elim writes.changes.trail [ inl same ↦ omega (arith, ap length same) | inr adds ↦ later_push _ old new sound adds ];
+  past = past_change from upto old new sound writes.changes;
+  places = places_change from upto old new sound writes.changes;
+  reads = writes.others;
+  grows = grows_change from upto old new sound writes.changes;
+  run = runs_one (Outside from upto) (write from upto) old new sound writes (λ p at. at);
+}
 
 pub keeps_fewer : (K L : ℕ → Type 0) (old new : FileState) → ((p : ℕ) → L p → K p) → Keeps K old new → Keeps L old new
 keeps_fewer K L old new fewer keeps = record {
@@ -103,7 +92,7 @@ keeps_fewer K L old new fewer keeps = record {
   places = λ honest t p x le at every. keeps.places honest t p x le (fewer p at) every;
   reads = λ known p x at h. keeps.reads known p x (fewer p at) h;
   grows = record { more = keeps.grows.more; trail = keeps.grows.trail; misses = λ honest p x at h. keeps.grows.misses honest p x (fewer p at) h };
-  run = record { calls = keeps.run.calls; run = run_fewer K L fewer old keeps.run.calls new keeps.run.run };
+  run = runs_fewer K L old new fewer keeps.run;
 }
 
 pub keeps_then : (K : ℕ → Type 0) (a b c : FileState) → Keeps K a b → Keeps K b c → Keeps K a c
@@ -121,7 +110,7 @@ keeps_then K a b c first second = record {
         subst (λ (l : List Span). in_spans l p ≡ false) (sym (spans_of-append first.grows.more second.grows.more))
         (in_spans-append (spans_of first.grows.more) (spans_of second.grows.more) p (first.grows.misses before p x at h) (second.grows.misses honest p x at (first.reads (inl before) p x at h)));
   };
-  run = record { calls = first.run.calls ++ second.run.calls; run = run_then K a first.run.calls b second.run.calls c first.run.run second.run.run };
+  run = runs_then K a b c first.run second.run;
 }
 
 pub keeps_none : (K : ℕ → Type 0) (s : FileState) → Keeps K s s
@@ -132,7 +121,7 @@ keeps_none K s = record {
   places = λ honest t p x le at every. every;
   reads = λ known p x at h. h;
   grows = record { more = []; trail = sym (append-nil s.trail); misses = λ honest p x at h. refl };
-  run = record { calls = []; run = refl };
+  run = runs_none K s;
 }
 
 -- a call that changes nothing is a change of no place
@@ -142,7 +131,16 @@ rest_changes old new rests = record { trail = inl rests.trail; settled = rests.s
 -- a call that changes nothing keeps all
 pub rest_keeps : (old new : FileState) → Sound old → Rests old new → Keeps Anywhere old new
 rest_keeps old new sound rests =
-    keeps_fewer (Outside 0 0) Anywhere old new (λ p at. inr (omega arith)) (change_keeps 0 0 old new sound (rest_changes old new rests) (λ known p x at h. subst (λ (b : List ℕ). Has b p x) (sym (rests.reads known)) h))
+    let changes = rest_changes old new rests in
+    record {
+      goes_on = rests.goes_on;
+      later = omega (arith, ap length rests.trail);
+      past = past_change 0 0 old new sound changes;
+      places = λ honest t p x le at every. places_change 0 0 old new sound changes honest t p x le (inr (omega arith)) every;
+      reads = λ known p x at h. subst (λ (b : List ℕ). Has b p x) (sym (rests.reads known)) h;
+      grows = record { more = []; trail = rests.trail ∙ sym (append-nil old.trail); misses = λ honest p x at h. refl };
+      run = runs_one Anywhere rest old new sound rests tt;
+    }
 
 -- so does a sync
 pub sync_keeps : (old new : FileState) → Sound old → Syncs old new → Keeps Anywhere old new
@@ -153,7 +151,7 @@ sync_keeps old new sound syncs = record {
   places = places;
   reads = λ known p x at h. subst (λ (b : List ℕ). Has b p x) (sym (syncs.reads known)) h;
   grows = record { more = syncs.trail.change ∷ []; trail = syncs.trail.trail; misses = λ honest p x at h. one_span syncs.trail.change.span p (out p) };
-  run = record { calls = sync ∷ []; run = (new, sound, syncs, tt, refl) };
+  run = runs_one Anywhere sync old new sound syncs tt;
 }
   where
     out : (p : ℕ) → in_span syncs.trail.change.span p ≡ false

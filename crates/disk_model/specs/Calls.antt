@@ -5,6 +5,8 @@ use Rattle.disk_model.specs.Arms.{KeepsArms}
 use Rattle.disk_model.specs.Faults.{Rose}
 use Rattle.disk_model.specs.Images.{in_span}
 use Rattle.disk_model.specs.State.{FileState}
+use Rattle.disk_model.specs.Controls.{struck}
+use Rattle.disk_model.specs.Masks.{AreMasked}
 
 -- what the file reads as can be followed from old to new
 abbrev pub Known : FileState → FileState → Type 0
@@ -41,21 +43,24 @@ pub record Changes (from upto : ℕ) (old new : FileState) : Type 0 where
   pub pending_from : new.pending_from ≡ old.pending_from
   pub goes_on : GoesOn old new
 
--- a call that changes nothing: a read, whether it succeeds or fails, or a sync that fails
+-- A call that changes nothing: a read, whether it succeeds or fails, or a sync that fails. Several such calls are one. Of a file that
+-- tells its arms, masks that are armed may have struck, and nothing else changed what it reads as.
 pub record Rests (old new : FileState) : Type 0 where
   pub trail : new.trail ≡ old.trail
   pub settled : IsTrue new.honest → new.settled ≡ old.settled
   pub pending_from : new.pending_from ≡ old.pending_from
   pub reads : Known old new → new.reads ≡ old.reads
+  pub masked : IsTrue old.tells_arms → AreMasked old.arms old.reads new.reads
   pub written : new.written ≡ old.written
   pub goes_on : GoesOn old new
 
 -- A sync that succeeds: what an honest file reads as is settled, and nothing is pending. Of one that is not honest it says
--- only that the sync is in the trail, and nothing of its bytes.
+-- only that the sync is in the trail, and of its bytes only what masks that it tells made of them.
 pub record Syncs (old new : FileState) : Type 0 where
   pub trail : AddsChange (λ place. ⊥) old new
   pub settled : IsTrue new.honest → new.settled ≡ new.reads
   pub pending_from : new.pending_from ≡ length new.trail
   pub reads : Known old new → new.reads ≡ old.reads
+  pub struck : IsTrue old.tells_arms → new.reads ≡ (struck old).reads
   pub written : new.written ≡ old.written
   pub goes_on : GoesOn old new

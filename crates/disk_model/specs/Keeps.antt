@@ -4,6 +4,7 @@ use Rattle.disk_model.specs.declared.span.Change.{Change}
 use Rattle.disk_model.specs.Images.{Has, in_spans, Every}
 use Rattle.disk_model.specs.State.{FileState, Sound, spans_of, moment, LeftSince}
 use Rattle.disk_model.specs.Calls.{Changes, Known, GoesOn, Rests, Syncs}
+use Rattle.disk_model.specs.Masks.{ReadsMasked}
 
 -- every place
 abbrev pub Anywhere : ℕ → Type 0
@@ -20,10 +21,11 @@ pub record Grows (Kept : ℕ → Type 0) (old new : FileState) : Type 0 where
   pub misses : IsTrue new.honest → (place byte : ℕ) → Kept place → Has old.reads place byte → in_spans (spans_of more) place ≡ false
 
 -- A write or a change of the length of the places from one up to another, whether it succeeds or fails: what lies outside is read as
--- before.
+-- before, and of a file that tells its arms, with armed masks over it. A write of nothing is one too.
 pub record Writes (from upto : ℕ) (old new : FileState) : Type 0 where
   pub changes : Changes from upto old new
   pub others : Known old new → (place byte : ℕ) → Outside from upto place → Has old.reads place byte → Has new.reads place byte
+  pub masked : IsTrue old.tells_arms → ReadsMasked (Outside from upto) old.arms old.reads new.reads
 
 -- a call of a file: a write or a change of the length, a sync that succeeds, or a call that changes nothing
 pub data FileCall : Type 0 where

@@ -6,3 +6,5 @@ pub mod Calls
 pub mod Keeps
 pub mod Arms
 pub mod Controls
+pub mod Masks
+pub mod Seen

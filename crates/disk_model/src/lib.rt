@@ -4,6 +4,8 @@
 //! may leave anything. An image is a list of bytes that a crash may leave.
 #![tactic(auto)]
 
+mod file_laws;
 mod span;
 
+pub use file_laws::{masks_undo_themselves, runs_read_masked};
 pub use span::{Change, Span, touched};

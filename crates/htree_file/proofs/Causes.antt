@@ -2,26 +2,14 @@
 use Rattle.std.proofs.Common.{ℕ, ◌∙◌, subst, refl}
 use Rattle.disk_model.specs.Faults.{Rose}
 use Rattle.disk_model.specs.State.{FileState}
-use Rattle.disk_model.specs.Calls.{GoesOn, Rests}
-use Rattle.disk_model.proofs.Goings.{first_known, goes_on_none, goes_on_then, then_known}
+use Rattle.disk_model.specs.Calls.{GoesOn}
+pub use Rattle.disk_model.proofs.Goings.{rests_none, rests_then}
+use Rattle.disk_model.proofs.Goings.{then_known}
 use Rattle.htree_file.specs.declared.fault.TreeFault.{TreeFault}
 use Rattle.htree_file.specs.declared.fault.TreeFault.TheVariants.{BadHead, BadTag, Damaged, Failed, NoEntropy, NoMemory, Short}
 use Rattle.htree_file.specs.Answers.{FaultCause, FileFailed, FilePassed}
 use Rattle.htree_file.specs.Making.{IsDeviceFault, IsDrawFault}
 use Rattle.htree_file.specs.Standing.{Told}
-
-pub rests_none : (s : FileState) → Rests s s
-rests_none s = record { trail = refl; settled = λ h. refl; pending_from = refl; reads = λ k. refl; written = refl; goes_on = goes_on_none s }
-
-pub rests_then : (a b c : FileState) → Rests a b → Rests b c → Rests a c
-rests_then a b c first second = record {
-  trail = second.trail ∙ first.trail;
-  settled = λ honest. second.settled honest ∙ first.settled (second.goes_on.honest honest);
-  pending_from = second.pending_from ∙ first.pending_from;
-  reads = λ known. second.reads (then_known a b c first.goes_on known) ∙ first.reads (first_known a b c second.goes_on known);
-  written = second.written ∙ first.written;
-  goes_on = goes_on_then a b c first.goes_on second.goes_on;
-}
 
 pub passed_none : (s : FileState) → FilePassed s s
 passed_none s = record { faults = refl; starved = refl }

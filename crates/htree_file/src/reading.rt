@@ -1,10 +1,12 @@
 // A tree is read from a file that may hold anything.
 ghost use Rattle.std.specs.Prelude.{◌≡◌, ◌⊎◌, ◌<◌, ◌≤◌, length, take, IfErr, IfOk, IsTrue, Result};
 ghost use Rattle.disk_model.specs.Calls.{Rests};
+ghost use Rattle.disk_model.specs.Seen.{WasSeen};
 ghost use Rattle.node_image.specs.Layout.{is_sized};
 ghost use Rattle.node_image.specs.Selection.{bytes_at};
 ghost use Rattle.htree_file.specs.Answers.{Differs, HasCause, IsLoadFault, IsOutside};
-ghost use Rattle.htree_file.specs.Opening.{IsVerified, load_of};
+ghost use Rattle.htree_file.specs.Opening.{IsVerified, load_of, table_of};
+ghost use Rattle.htree_file.specs.Selected.{Lies};
 ghost use Rattle.htree_file.specs.Standing.{Told};
 ghost use Rattle.disk_model.specs.Arms.{count_call};
 
@@ -38,6 +40,8 @@ pub(crate) fn read_tree<F: StoreFile>(
     ensures few { IfOk result (λ h. (1 ≤ h.greatest) × (h.greatest ≤ 256)) }
     ensures fault { IfErr result (λ e. IsOutside e ⊎ (Told (F.state file.old) (F.state file.new) →
         load_of (F.state file.new).reads root ≡ Result.Err e)) }
+    ensures seen { IfOk result (λ h. WasSeen (Lies (take h.greatest nodes.new) root.version) (F.state file.old) (F.state file.new)
+        (λ image. table_of image root ≡ Result.Ok (record { head = h; nodes = take h.greatest nodes.new }))) }
     ensures kind { IfErr result IsLoadFault }
     ensures differs { IfErr result (λ e. IsTrue (F.state file.new).tells → Differs (F.state file.new).reads root e) }
     ensures rests { Rests (F.state file.old) (F.state file.new) }

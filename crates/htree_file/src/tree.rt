@@ -5,12 +5,13 @@ ghost use Rattle.disk_model.specs.Controls.{disarmed, failure_armed, stop_armed,
 ghost use Rattle.disk_model.specs.Arms.{count_call};
 ghost use Rattle.disk_model.specs.Calls.{Known, Rests, Syncs};
 ghost use Rattle.disk_model.specs.Keeps.{Anywhere, Keeps};
+ghost use Rattle.disk_model.specs.Seen.{WasSeen};
 ghost use Rattle.node_image.specs.Layout.{greatest_of, is_sized};
 ghost use Rattle.node_image.specs.Tables.{at_node};
 ghost use Rattle.htree_file.specs.Answers.{BlockAnswer, Differs, FaultCause, FilePassed, HasCause, HasFaultWidths, IsFailed, IsLoadFault, IsOutside};
 ghost use Rattle.htree_file.specs.Changes.{AreChanges, OpensAfter, Seals, SealsChanges, SparesZero, changed_blocks};
 ghost use Rattle.htree_file.specs.Making.{DrawFault, HasCauses, IsDeviceFault, IsDrawFault, IsMakeFault, NamesVersionZero, NotEntropy, Nowhere};
-ghost use Rattle.htree_file.specs.Opening.{IsVerified, load_of};
+ghost use Rattle.htree_file.specs.Opening.{IsVerified, load_of, table_of};
 ghost use Rattle.htree_file.specs.Pages.{block_in, opened_of};
 ghost use Rattle.htree_file.specs.Selected.{KeepsFirm, Lies};
 ghost use Rattle.htree_file.specs.Standing.{IsFirm, Told};
@@ -202,6 +203,9 @@ impl<F: StoreFile> Tree<F> {
         // Of any file.
         ensures kind { IfErr result (λ b. IsLoadFault b.fault) }
         ensures verified { IfOk result (λ t. IsVerified root t.tree) }
+        // Head and nodes are those that the file read as at one moment of the call.
+        ensures seen { IfOk result (λ t. WasSeen (Lies t.tree.nodes root.version) (F.state file) (F.state t.file)
+            (λ image. table_of image root ≡ Result.Ok t.tree)) }
         ensures few { IfOk result (λ t. (1 ≤ t.tree.head.greatest) × (t.tree.head.greatest ≤ 256)) }
         ensures widths { IfErr result (λ b. HasFaultWidths b.fault) }
         ensures differs { IfErr result (λ b. IsTrue (F.state b.file).tells → Differs (F.state b.file).reads root b.fault) }

@@ -26,8 +26,3 @@ overlaid_all (b ∷ bytes) [] zero is = refl
 overlaid_all (b ∷ bytes) [] (suc n) is = refl
 overlaid_all (b ∷ bytes) (m ∷ mask) zero is = absurd (omega arith)
 overlaid_all (b ∷ bytes) (m ∷ mask) (suc n) is = ap (λ (l : List ℕ). bit_xor b m ∷ l) (overlaid_all bytes mask n (omega arith))
-
-pub length-overlaid : (bytes mask : List ℕ) → length (overlaid bytes mask) ≡ length bytes
-length-overlaid [] mask = refl
-length-overlaid (b ∷ bytes) [] = refl
-length-overlaid (b ∷ bytes) (m ∷ mask) = ap suc (length-overlaid bytes mask)

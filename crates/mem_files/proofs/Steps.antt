@@ -1,5 +1,5 @@
 -- The steps of a file in memory are those of a file.
-use Rattle.std.proofs.Common.{◌≡◌, ◌⊎◌, inl, inr, ⊎_elim, ℕ, ◌+◌, ◌<◌, ◌≤◌, List, [], ◌∷◌, length, min, max, Bool, true, false, IsTrue, IsSomeAnd, Option, Some, None, Contains, fold, filter, ◌==◌, if◌then◌else◌, length-append, length-take, length-drop, refl, sym, ◌∙◌, ap, subst, arith}
+use Rattle.std.proofs.Common.{◌≡◌, ◌⊎◌, inl, inr, ⊎_elim, ℕ, ◌+◌, ◌<◌, ◌≤◌, List, [], ◌∷◌, length, min, max, Bool, true, false, IsTrue, IsSomeAnd, Option, Some, None, Contains, fold, filter, ◌==◌, if◌then◌else◌, length-append, refl, sym, ◌∙◌, ap, subst, arith}
 use Rattle.std.proofs.lemmas.Bool.{cases_lt, false≢true}
 use Rattle.disk_model.specs.declared.span.Change.{Change}
 use Rattle.disk_model.specs.Faults.{next_count}
@@ -9,13 +9,14 @@ use Rattle.disk_model.specs.Arms.{Arms, Taint, count_call, NamesNext, StopsNext,
 use Rattle.disk_model.specs.State.{FileState}
 use Rattle.disk_model.specs.Calls.{Known, GoesOn, Changes, Rests, Syncs}
 use Rattle.disk_model.specs.Keeps.{Outside}
+use Rattle.disk_model.specs.Masks.{AreMasked}
 use Rattle.disk_model.specs.Controls.{Stored, stored, is_struck, strike, struck}
+use Rattle.disk_model.proofs.Masks.{length-masked, struck_masked}
 use Rattle.disk_model.proofs.Spans.{within_span}
 use Rattle.disk_model.proofs.Writes.{written_keeps, resized_keeps}
 use Rattle.mem_files.specs.Held.{change_of}
 use Rattle.mem_files.specs.Memory.{IsArmed}
 use Rattle.mem_files.specs.Machine.{begun, wrote, resized, synced, FailsBegun, StopsWithin}
-use Rattle.mem_files.proofs.Overlays.{length-overlaid}
 
 -- what masks leave of a file that is honest still
 record IsStruckFrom (s t : Stored) : Type 0 where
@@ -23,9 +24,6 @@ record IsStruckFrom (s t : Stored) : Type 0 where
   settled : IsTrue t.honest → t.settled ≡ s.settled
   reads : IsTrue t.honest → t.reads ≡ s.reads
   length : length t.reads ≡ length s.reads
-
-length-after_mask : (bytes : List ℕ) (at : ℕ) (mask : List ℕ) → length (after_mask bytes at mask) ≡ length bytes
-length-after_mask bytes at mask = simp (length-append, length-take, length-overlaid, length-drop) (omega arith)
 
 strike_from : (s : Stored) (taint : Taint) → IsStruckFrom s (strike s taint)
 strike_from s taint = elim (is_struck s taint) as (λ (b : Bool). IsStruckFrom s (if b then record {
@@ -37,7 +35,7 @@ strike_from s taint = elim (is_struck s taint) as (λ (b : Bool). IsStruckFrom s
     honest = λ h. absurd (false≢true h);
     settled = λ h. absurd (false≢true h);
     reads = λ h. absurd (false≢true h);
-    length = length-after_mask s.reads taint.at taint.mask;
+    length = length-masked s.reads taint.at taint.mask;
   }
   | false ↦ record { honest = λ h. h; settled = λ h. refl; reads = λ h. refl; length = refl }
 ]
@@ -107,6 +105,7 @@ module _ (a : FileState) (armed : IsArmed a) where
     settled = from_struck.settled;
     pending_from = refl;
     reads = begun_reads;
+    masked = λ tells. struck_masked a;
     written = refl;
     goes_on = goes_on (struck a).reads (struck a).settled a.trail a.pending_from a.written (omega arith);
   })
@@ -118,6 +117,7 @@ module _ (a : FileState) (armed : IsArmed a) where
     settled = λ h. ap (λ (s : FileState). s.settled) fails.same ∙ from_struck.settled (was_honest h);
     pending_from = ap (λ (s : FileState). s.pending_from) fails.same;
     reads = λ known. ap (λ (s : FileState). s.reads) fails.same ∙ begun_reads (was_known known);
+    masked = λ tells. subst (AreMasked a.arms a.reads) (sym (ap (λ (s : FileState). s.reads) fails.same)) (struck_masked a);
     written = ap (λ (s : FileState). s.written) fails.same;
     goes_on = record {
       honest = λ h. from_struck.honest (was_honest h);
@@ -147,6 +147,9 @@ module _ (a : FileState) (armed : IsArmed a) where
 
   pub fails_others : (b : FileState) (count : ℕ) → FailsBegun a b count → Known a b → (place byte : ℕ) → Has a.reads place byte → Has b.reads place byte
   fails_others b count fails known place byte has = subst (λ (l : List ℕ). Has l place byte) (sym ((fails_rests b count fails).reads known)) has
+
+  pub fails_others_struck : (b : FileState) (count : ℕ) → FailsBegun a b count → (place byte : ℕ) → Has (struck a).reads place byte → Has b.reads place byte
+  fails_others_struck b count fails place byte has = subst (λ (l : List ℕ). Has l place byte) (sym (ap (λ (s : FileState). s.reads) fails.same)) has
 
   known_struck : (b : FileState) → (IsTrue b.honest → IsTrue (struck a).honest) → Known a b → IsTrue (struck a).honest ⊎ IsTrue a.steady
   known_struck b back (inl honest) = inl (back honest)
@@ -180,6 +183,9 @@ module _ (a : FileState) (armed : IsArmed a) where
     pub wrote_others : Known a c → (place byte : ℕ) → Outside at (at + length bytes) place → Has a.reads place byte → Has c.reads place byte
     wrote_others known place byte out has = subst (λ (l : List ℕ). Has l place byte) (sym (wrote_reads known)) (written_keeps a.reads at bytes place byte out has)
 
+    pub wrote_others_struck : (place byte : ℕ) → Outside at (at + length bytes) place → Has (struck a).reads place byte → Has c.reads place byte
+    wrote_others_struck place byte out has = subst (λ (l : List ℕ). Has l place byte) (sym (ap (λ (s : FileState). s.reads) wrote_begun)) (written_keeps (struck a).reads at bytes place byte out has)
+
   -- a change of the length that succeeded
   module _ (b c : FileState) (size : ℕ) (begins : b ≡ begun a) (is : c ≡ resized b size) where
     resized_begun : c ≡ resized (begun a) size
@@ -207,6 +213,10 @@ module _ (a : FileState) (armed : IsArmed a) where
     pub resized_others : Known a c → (place byte : ℕ) → Outside size (length a.reads) place → Has a.reads place byte → Has c.reads place byte
     resized_others known place byte out has = subst (λ (l : List ℕ). Has l place byte) (sym (resized_reads known)) (resized_keeps a.reads size place byte (⊎_elim (λ low. low) (λ high. omega (arith, high, has.below)) out) has)
 
+    pub resized_others_struck : (place byte : ℕ) → Outside size (length a.reads) place → Has (struck a).reads place byte → Has c.reads place byte
+    resized_others_struck place byte out has = subst (λ (l : List ℕ). Has l place byte) (sym (ap (λ (s : FileState). s.reads) resized_begun))
+        (resized_keeps (struck a).reads size place byte (⊎_elim (λ low. low) (λ high. omega (arith, high, has.below, from_struck.length)) out) has)
+
   -- a sync that succeeded
   pub synced_syncs : (b c : FileState) → b ≡ begun a → c ≡ synced b → Syncs a c
   synced_syncs b c begins is = subst (λ (s : FileState). Syncs a s) (sym (is ∙ ap synced begins)) (record {
@@ -214,6 +224,7 @@ module _ (a : FileState) (armed : IsArmed a) where
     settled = λ honest. refl;
     pending_from = sym (length-append a.trail (change_of a.pending_from 0 0 ∷ []));
     reads = λ known. begun_reads (known_struck (synced (begun a)) (λ h. h) known);
+    struck = λ tells. refl;
     written = refl;
     goes_on = goes_on (struck a).reads (struck a).reads (synced (begun a)).trail (synced (begun a)).pending_from a.written (omega arith);
   })
@@ -289,3 +300,9 @@ module _ (a : FileState) (armed : IsArmed a) (d : FileState) (at : ℕ) (bytes :
           known_by : Known a d → Known a left
           known_by (inl honest) = inl (subst (λ (x : Bool). IsTrue x) (ap (λ (s : FileState). s.honest) stops.same) honest)
           known_by (inr steady) = inr steady
+
+  pub stopped_others_struck : (place byte : ℕ) → Outside at (at + length bytes) place → Has (struck a).reads place byte → Has d.reads place byte
+  stopped_others_struck place byte out has = subst (λ (l : List ℕ). Has l place byte) (sym (ap (λ (s : FileState). s.reads) stops.same)) (elim stops.either [
+    | inl wrote_it ↦ wrote_others_struck a armed (begun a) left at bytes refl wrote_it place byte out has
+    | inr nothing ↦ subst (λ (l : List ℕ). Has l place byte) (sym (ap (λ (s : FileState). s.reads) nothing)) has
+  ])

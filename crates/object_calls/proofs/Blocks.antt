@@ -2,13 +2,15 @@
 use Rattle.std.proofs.Common.{◌≡◌, ◌∙◌, ◌+◌, ◌-◌, ◌*◌, ◌/◌, ◌%◌, ◌<◌, ◌≤◌, ◌==◌, ◌||◌, min, not, ℕ, Bool, true, false, List, length, get_or, replicate, Some, None, Err, refl, sym, ap, subst, inl, inr, arith, true≢false}
 use Rattle.std.proofs.lemmas.Bool.{cases_Bool, cases_eq, cases_lt, eq-eqb, ne_eqb, or_left}
 use Rattle.std.proofs.lemmas.List.{get_or-replicate}
-use Rattle.disk_model.specs.State.{FileState}
+use Rattle.disk_model.specs.State.{FileState, Sound}
+use Rattle.disk_model.specs.Keeps.{Keeps}
 use Rattle.disk_model.specs.Calls.{GoesOn, Rests}
 use Rattle.disk_model.proofs.Goings.{first_known}
 use Rattle.htree_file.specs.declared.fault.TreeFault.{TreeFault}
 use Rattle.htree_file.specs.declared.fault.TreeFault.TheVariants.{BadHead, BadTag, Damaged, Failed, NoEntropy, NoMemory, Short}
 use Rattle.htree_file.specs.Opening.{Loaded}
 use Rattle.htree_file.specs.Pages.{page_in}
+use Rattle.htree_file.specs.Selected.{Lies}
 use Rattle.htree_file.specs.Answers.{FaultCause, FileFailed, FilePassed}
 use Rattle.tee_ports.specs.declared.failed.Failed.{Failed as Failure}
 use Rattle.htree_file.proofs.Causes.{fault_then, passed_none, passed_then, rests_none, rests_then, told_then}
@@ -16,7 +18,7 @@ use Rattle.object_file.specs.Value.{ObjectValue, size_in}
 use Rattle.page_bytes.specs.Ranges.{meets}
 use Rattle.page_bytes.proofs.Laying.{byte-put}
 use Rattle.block_file.specs.Reads.{AreReadBytes, BlocksAnswer, IsReadFault}
-use Rattle.block_file.proofs.Reading.{bad_stands, page_first, page_then, told_first}
+use Rattle.block_file.proofs.Reading.{bad_stands, page_first, page_then, rests_keep, told_first}
 use Rattle.tree_paths.specs.declared.node_set.NodeSet.{NodeSet}
 use Rattle.tree_paths.specs.Paths.{holds}
 use Rattle.object_calls.specs.ObjectReads.{ShowsNext, ShowsPart, failure_in}
@@ -103,12 +105,12 @@ module _ (key : List ℕ) (tree : Loaded) where
     part_shown false shows = (shows.0, λ i from upto lt. byte_in_part i from upto lt ∙ shows.1 (i - 4096 * k) (omega (arith, from, upto, lt, begins, counts, own, within)))
 
   -- IN THE COURSE OF FURTHER CALLS
-  block_first : (a b c : FileState) (size k : ℕ) (before after : List ℕ) (good : Bool) → GoesOn b c → ((i : ℕ) → i < 4096 * (k + 1) → get_or after i 0 ≡ get_or before i 0)
+  block_first : {root : ℕ} (a b c : FileState) (size k : ℕ) (before after : List ℕ) (good : Bool) → Keeps (Lies tree.nodes root) b c → ((i : ℕ) → i < 4096 * (k + 1) → get_or after i 0 ≡ get_or before i 0)
       → ShowsBlock key tree a b size k before good → ShowsBlock key tree a c size k after good
-  block_first a b c size k before after true goes kept shows =
-      (shows.0, page_first key tree a b c (k + 1) shows.0 goes shows.1, λ i from upto lt. kept i upto ∙ shows.2 i from upto lt)
-  block_first a b c size k before after false goes kept shows =
-      (λ told. shows.0 (told_first a b c goes told), λ i from upto lt. kept i upto ∙ shows.1 i from upto lt)
+  block_first a b c size k before after true keeps kept shows =
+      (shows.0, page_first key tree a b c (k + 1) shows.0 keeps shows.1, λ i from upto lt. kept i upto ∙ shows.2 i from upto lt)
+  block_first a b c size k before after false keeps kept shows =
+      (λ told. shows.0 (told_first a b c keeps.goes_on told), λ i from upto lt. kept i upto ∙ shows.1 i from upto lt)
 
   block_then : (a b c : FileState) (size k : ℕ) (bytes : List ℕ) (good : Bool) → Rests a b → GoesOn b c → ShowsBlock key tree b c size k bytes good → ShowsBlock key tree a c size k bytes good
   block_then a b c size k bytes true rests goes shows = (shows.0, page_then key tree a b c (k + 1) shows.0 rests goes shows.1, shows.2)
@@ -123,19 +125,19 @@ module _ (key : List ℕ) (tree : Loaded) where
   }
 
   -- one block more
-  pub data_step : (a b c : FileState) (size k : ℕ) (before after : List ℕ) (was now : NodeSet) → Rests a b → GoesOn b c → length after ≡ size
+  pub data_step : {root : ℕ} (a b c : FileState) (size k : ℕ) (before after : List ℕ) (was now : NodeSet) → Rests a b → Keeps (Lies tree.nodes root) b c → length after ≡ size
       → ShowsData key tree a b size k before was → ShowsNext key tree b c size k before after was now → ShowsData key tree a c size (k + 1) after now
-  data_step a b c size k before after was now rests goes long given next = record {
+  data_step a b c size k before after was now rests keeps long given next = record {
     long = long;
     each = λ j lt. elim (cases_lt j k) [
       | inl low ↦
           let same : holds now (j + 1) ≡ holds was (j + 1) = next.others (j + 1) (λ e. omega (arith, e, low)) in
           subst (λ (g : Bool). ShowsBlock key tree a c size j after (not g)) (sym same)
-          (block_first a b c size j before after (not (holds was (j + 1))) goes (λ i upto. next.kept i (omega (arith, upto, low))) (given.each j low))
+          (block_first a b c size j before after (not (holds was (j + 1))) keeps (λ i upto. next.kept i (omega (arith, upto, low))) (given.each j low))
       | inr high ↦
           let same : j ≡ k = omega (arith, lt, high) in
           subst (λ (n : ℕ). ShowsBlock key tree a c size n after (not (holds now (n + 1)))) (sym same)
-          (block_then a b c size k after (not (holds now (k + 1))) rests goes next.block)
+          (block_then a b c size k after (not (holds now (k + 1))) rests keeps.goes_on next.block)
     ];
     others = λ n is. elim (cases_eq n (k + 1)) [
       | inl same ↦ (omega (arith, same), omega (arith, same))
@@ -196,12 +198,12 @@ module _ {F : Type 0} (state : F → FileState) (o m n : ObjectValue F) (k : ℕ
   pub reads_failed : (count : ℕ) → FileFailed (state m.tree.file) (state n.tree.file) count → FileFailed (state o.tree.file) (state n.tree.file) count
   reads_failed count failed = fault_then (state o.tree.file) (state m.tree.file) (state n.tree.file) (Failed count) reads.rests.goes_on reads.passed failed
 
-  pub reads_more : length after ≡ size_in o → FilePassed (state m.tree.file) (state n.tree.file)
+  pub reads_more : Sound (state m.tree.file) → length after ≡ size_in o → FilePassed (state m.tree.file) (state n.tree.file)
       → ShowsNext m.tree.key m.tree.tree (state m.tree.file) (state n.tree.file) (size_in m) k before after was now → ReadsBlocks state o n (k + 1) after now
-  reads_more long passed next = record {
+  reads_more sound long passed next = record {
     same = reads_same;
     rests = reads_rests;
     passed = passed_then (state o.tree.file) (state m.tree.file) (state n.tree.file) reads.passed passed;
-    data_are = data_step o.tree.key o.tree.tree (state o.tree.file) (state m.tree.file) (state n.tree.file) (size_in o) k before after was now reads.rests rests.goes_on long reads.data_are
+    data_are = data_step o.tree.key o.tree.tree (state o.tree.file) (state m.tree.file) (state n.tree.file) (size_in o) k before after was now reads.rests (rests_keep o.tree.tree.nodes (state m.tree.file) (state n.tree.file) sound rests) long reads.data_are
         (subst (λ (v : ObjectValue F). ShowsNext v.tree.key v.tree.tree (state m.tree.file) (state n.tree.file) (size_in v) k before after was now) reads.same next);
   }

@@ -34,7 +34,7 @@ use Rattle.object_calls.specs.Seats.{HasTold, IsSplitting}
 use Rattle.object_calls.specs.Services.{AreFirstSlots, HasSoundOpening, MayBeFirst}
 use Rattle.serial_calls.specs.Slots.{AreNumberedSlots, AreOfObjectFiles}
 use Rattle.object_calls.proofs.Files.{files_sound}
-use Rattle.object_calls.proofs.HonestOpenings.{opens_as_honest}
+use Rattle.object_calls.proofs.HonestOpenings.{opens_unchanged}
 use Rattle.object_calls.proofs.ObjectMaps.{opening_sound}
 use Rattle.store_model.specs.Sound.{IsObjectMap}
 
@@ -48,12 +48,13 @@ module _ {F R : Type 0} (state : F → FileState) (port : R → PortState) (soun
     synced = opening.synced;
     told = ap (λ (s : Store). s.mounted.entries) of.is;
     objects = ap (λ (s : Store). s.objects) of.is;
+    taints = λ file. ap (λ (s : Store). s.taints file) of.is;
   }
 
   pub first_opens : HasSoundOpening store
   first_opens = record {
     map = subst IsObjectMap (sym mounted_store.objects) (opening_sound store.keys (bench_files state o) mounted_store.sound (entries_in o) opening.entries opening.identified);
-    honest = opens_as_honest store (bench_files state o) (entries_in o) mounted_store;
+    unchanged = opens_unchanged store (bench_files state o) (entries_in o) mounted_store;
   }
 
   pub may_be_first : MayBeFirst store (entries_in o) state o.files

@@ -13,7 +13,7 @@ use Rattle.store_model.specs.Legal.{IsLegalFrom}
 use Rattle.store_model.specs.LegalHistory.{IsLegal, doubt_of, opening_with}
 use Rattle.store_model.specs.Object.{ObjectMap}
 use Rattle.store_model.specs.Record.{concerns_file, events_of}
-use Rattle.store_model.specs.ReplayState.{ReplayState, replay}
+use Rattle.store_model.specs.ReplayState.{ReplayState, opening, replay}
 use Rattle.store_model.specs.History.{AreNumbered}
 use Rattle.store_model.specs.Doubt.{Doubt}
 use Rattle.history_seats.specs.Numbers.{is_in}
@@ -26,31 +26,33 @@ use Rattle.core_laws.specs.SlotParts.{SlotHolds, SlotPart}
 use Rattle.core_laws.specs.Joined.{IsObjectFile}
 use Rattle.core_laws.proofs.Contained.{contains_first, contains_later, contains_cases, contains_none}
 use Rattle.core_laws.specs.TamperScenarios.{TamperScenario, nothing_back}
-use Rattle.core_laws.specs.Stores.{Store, phase_of, replay_at}
-use Rattle.core_laws.specs.Answered.{AreAnswered, AreOwnLegal}
+use Rattle.core_laws.specs.Stores.{Store, mounted_files, phase_of, replay_at}
+use Rattle.core_laws.specs.Answered.{AreAnswered, AreLegalEach, AreOwnLegal}
 use Rattle.core_laws.proofs.Answers.{own-whole}
-use Rattle.core_laws.proofs.Narrowing.{all_answered}
+use Rattle.core_laws.specs.Undamaged.{AreUndamagedIn}
+use Rattle.core_laws.proofs.FirstClashes.{legal_or_clashed}
+use Rattle.core_laws.proofs.Narrowing.{all_answered, answered_each, legal_each}
 use Rattle.store_commit.specs.declared.gate.Doubted.{Doubted}
 use Rattle.store_commit.specs.Gates.{DoubtStands, GateValue, gate_sides}
 use Rattle.store_commit.specs.Holds.{AreHolds}
 use Rattle.store_commit.specs.Sides.{Sides}
 use Rattle.core_laws.specs.Ties.{DoubtedChange, IsReplayDoubt, IsTied}
 use Rattle.serial_calls.specs.FinishedPhases.{phase_under}
-use Rattle.serial_calls.specs.ClosedStores.{AreSlotsOf, IsClosedStore, IsMapBy, MountsBy, SupposesTampered, tampered_in, no_slot, slots_of, store_files}
+use Rattle.serial_calls.specs.ClosedStores.{AreSlotsOf, IsClosedStore, IsMapBy, IsTiedStore, MountsBy, MountsGivenBy, SupposesTampered, tampered_in, no_slot, slots_of, store_files}
 use Rattle.serial_calls.specs.CoreTies.{doubted_change}
 use Rattle.serial_calls.proofs.ClosedStores.{closed_stores_mount, tampered_files_are_supposed, honest_stores_mount}
+use Rattle.serial_calls.proofs.GivenPictures.{tied_stores_mount}
 use Rattle.serial_calls.proofs.Ties.{ties_tell}
 use Rattle.serial_calls.specs.SlotCalls.{part}
 use Rattle.serial_calls.specs.SlotValues.{SlotValue}
 use Rattle.serial_calls.specs.declared.Closing.{Closing}
 use Rattle.serial_calls.specs.GuardedGates.{GateInvariant, GuardedGateValue, change_in_doubt}
 use Rattle.object_calls.specs.OpeningFiles.{files_of}
-use Rattle.object_calls.specs.FinishedPhase.{AreAllHonest, GivesBack, IsAnsweredOrEnds, IsCounterLeft, IsDoubtLeft, IsMapWith, LeavesHonest, LeavesStore, PicturesMountAfter, end_replay}
+use Rattle.object_calls.specs.FinishedPhase.{AreAllHonest, GivesBack, IsAnsweredOrEnds, IsCounterLeft, IsDoubtLeft, IsLegalOrClashed, IsMapWith, LeavesHonest, LeavesStore, PicturesMountAfter, PicturesMountGiven, end_replay}
 use Rattle.object_calls.specs.Retiring.{ArePlaced, AreRecorded, IsPlaced}
 use Rattle.object_calls.specs.Services.{HasSoundOpening, ServiceValue}
 use Rattle.serial_calls.specs.Slots.{AreOfObjectFiles, AreSlots}
 use Rattle.object_calls.proofs.Files.{files-past}
-use Rattle.object_calls.proofs.HonestHistories.{all_answered as all_answered_honest, events_legal}
 use Rattle.object_calls.proofs.HonestOpenings.{altered-same}
 use Rattle.object_calls.proofs.Retirings.{IsSameHistory, placed_back, recorded_back}
 
@@ -155,6 +157,10 @@ module _ {F R : Type 0} (state : F → FileState) (port : R → PortState) (soun
   same_files : store_files g slots ≡ files
   same_files = λ j file. same_file file j
 
+  -- the tamper scenario that nothing comes back in those that are not honest
+  abbrev as_left : TamperScenario
+  as_left = nothing_back (tampered_in files)
+
   -- THE HISTORY
   supposed : (scenario : TamperScenario) → scenario.tampered ≡ tampered_in files → SupposesTampered scenario (store_files g slots)
   supposed scenario is = tampered_files_are_supposed scenario (store_files g slots) (is ∙ ap tampered_in (sym same_files))
@@ -187,9 +193,9 @@ module _ {F R : Type 0} (state : F → FileState) (port : R → PortState) (soun
   tied_words : IsTied store view gate.dir.dir.entries gate.counter (option_map doubted_change gate.doubt)
   tied_words = subst (λ (d : Option DoubtedChange). IsTied store view gate.dir.dir.entries gate.counter d) (doubt_words gate.doubt) guarded.tied
 
-  closed : (scenario : TamperScenario) (card : CardState) → SupposesTampered scenario (store_files g slots) → AreAnswered store scenario view.all
-      → HasCard (port gate.host.port) (rpmb_key store.keys.huk) card → IsClosedStore store scenario g gate.doubt gate.holds card view slots
-  closed scenario card tampered answered has = record {
+  tied_store : (scenario : TamperScenario) (card : CardState) → SupposesTampered scenario (store_files g slots) → HasCard (port gate.host.port) (rpmb_key store.keys.huk) card
+      → IsTiedStore store scenario g gate.doubt gate.holds card view slots
+  tied_store scenario card tampered has = record {
     gate = record {
       tsk = guarded.directory_key;
       sound = sound gate.dir.file;
@@ -197,6 +203,16 @@ module _ {F R : Type 0} (state : F → FileState) (port : R → PortState) (soun
       held = held;
       told = record { own = card; has = subst (λ (k : List ℕ). HasCard (port gate.host.port) k card) (sym guarded.card_key) has; same = record { key = refl; counter = refl; blocks = refl } };
     };
+    tied = tied_words;
+    mounted = guarded.journal.mounted;
+    slots_hold = slots_hold;
+    tampered = tampered;
+  }
+
+  closed : (scenario : TamperScenario) (card : CardState) → SupposesTampered scenario (store_files g slots) → AreAnswered store scenario view.all
+      → HasCard (port gate.host.port) (rpmb_key store.keys.huk) card → IsClosedStore store scenario g gate.doubt gate.holds card view slots
+  closed scenario card tampered answered has = record {
+    gate = (tied_store scenario card tampered has).gate;
     tied = ties_tell store scenario view gate.dir.dir.entries gate.counter gate.doubt guarded.journal.mounted tied_words answered (guarded.journal.in_step scenario answered);
     slots_hold = slots_hold;
     tampered = tampered;
@@ -208,6 +224,20 @@ module _ {F R : Type 0} (state : F → FileState) (port : R → PortState) (soun
       (mounts_numbered (phase_under store scenario) picture (replay_at store scenario view.all) gate.doubt
       (closed_stores_mount store scenario g gate.doubt gate.holds card view slots picture (closed scenario card (supposed scenario is) answered has)
       (subst (λ (f : ℕ → FileState). IsPictureOf f card picture) (sym same_files) left) trusted))
+
+  -- whatever became of the history
+  mounts_given : (doubt : Option ℕ) → doubt ≡ option_map (λ d. d.number) gate.doubt → PicturesMountGiven store view files (port gate.host.port) doubt
+  mounts_given doubt number card picture has left trusted =
+      subst (λ (d : Option ℕ). MountsGivenBy d store (phase_under store as_left) picture view.all) (sym number)
+      (given_numbered (phase_under store as_left) picture gate.doubt
+      (tied_stores_mount store as_left g gate.doubt gate.holds card view slots picture
+      (tied_store as_left card (supposed as_left refl) has)
+      (subst (λ (f : ℕ → FileState). IsPictureOf f card picture) (sym same_files) left) trusted))
+    where
+      given_numbered : (phase : Phase) (picture : Picture) (doubt : Option Doubted) → MountsGivenBy doubt store phase picture view.all
+          → MountsGivenBy (option_map (λ (d : Doubted). d.number) doubt) store phase picture view.all
+      given_numbered phase picture None mounts = mounts
+      given_numbered phase picture (Some d) mounts = mounts
 
   doubt_by : (doubt : Option Doubted) → IsTied store view gate.dir.dir.entries gate.counter (change_in_doubt doubt) → IsDoubtLeft store view (option_map (λ d. d.number) doubt)
   doubt_by None tied scenario answered = inr refl
@@ -234,12 +264,40 @@ module _ {F R : Type 0} (state : F → FileState) (port : R → PortState) (soun
         | inr doubted ↦ inr (is ∙ doubted)
       ]
 
+  -- WHERE NOTHING COMES BACK
+  replay_same : (files : List ℕ) → replay_at store (nothing_back files) view.all ≡ end_replay store view
+  replay_same files = ap (λ (m : ObjectMap). replay (opening_with (phase_of store) m) view.all) (opens.unchanged files)
+
+  -- events that are legal are a legal history
+  legal_left : (doubt : Option ℕ) → AreNumbered (events_of view.all) → (files : List ℕ) → IsLegalFrom files (opening (phase_of store)) view.all
+      → (doubt ≡ doubt_of (end_replay store view)) ⊎ (doubt ≡ None) → IsLegal (phase_of store) files view.all doubt
+  legal_left doubt numbered files legal left = record {
+    opens = opens.map;
+    begins = store.objects;
+    begins_sound = opens.map;
+    altered = altered-same (phase_of store).files files view.all store.objects;
+    events_legal = legal;
+    doubt_left = left;
+    numbered = numbered;
+  }
+
+  legal_or : (doubt : Option ℕ) → doubt ≡ option_map (λ d. d.number) gate.doubt → AreNumbered (events_of view.all) → IsLegalOrClashed store view files doubt
+  legal_or doubt number numbered fine =
+      elim (legal_or_clashed store as_left view.all opens.map.rising
+      (subst (AreUndamagedIn (tampered_in files) (mounted_files store.mounted)) (sym (opens.unchanged (tampered_in files))) fine) (guarded.journal.fair as_left) (own_legal as_left refl)) [
+        | inr clash ↦ inr clash
+        | inl legal ↦ inl (legal_left doubt numbered (tampered_in files)
+            (subst (λ (m : ObjectMap). IsLegalFrom (tampered_in files) (opening_with (phase_of store) m) view.all) (opens.unchanged (tampered_in files)) (legal_each store as_left view.all legal))
+            (subst (λ (s : ReplayState). (doubt ≡ doubt_of s) ⊎ (doubt ≡ None)) (replay_same (tampered_in files))
+            (doubted_is doubt number as_left (answered_each store as_left view.all legal))))
+      ]
+
   -- WHERE EVERY FILE IS HONEST
   abbrev plain : TamperScenario
   plain = nothing_back []
 
   replay_is : replay_at store plain view.all ≡ end_replay store view
-  replay_is = ap (λ (m : ObjectMap). replay (opening_with (phase_of store) m) view.all) (opens.honest plain refl)
+  replay_is = replay_same []
 
   module _ (honest : AreAllHonest files) where
     own_each : (file : ℕ) → AreOwnLegal store plain file view.all
@@ -248,8 +306,15 @@ module _ {F R : Type 0} (state : F → FileState) (port : R → PortState) (soun
       | inl own ↦ own_of plain file own (honest file) refl
     ]
 
+    legal_plain : AreLegalEach store plain view.all
+    legal_plain =
+        elim (legal_or_clashed store plain view.all opens.map.rising (λ name object file there named among. absurd (contains_none file among)) (guarded.journal.fair plain) (λ file. inr (own_each file))) [
+          | inl legal ↦ legal
+          | inr clash ↦ absurd (contains_none clash.file clash.not_honest)
+        ]
+
     answered_plain : AreAnswered store plain view.all
-    answered_plain = all_answered_honest store plain view.all (guarded.journal.fair plain) own_each
+    answered_plain = answered_each store plain view.all legal_plain
 
     supposed_plain : SupposesTampered plain (store_files g slots)
     supposed_plain file within off = subst (λ (s : FileState). IsTrue s.honest) (sym (same_file file)) (honest file)
@@ -264,23 +329,12 @@ module _ {F R : Type 0} (state : F → FileState) (port : R → PortState) (soun
 
     leaves_honest : (doubt : Option ℕ) → doubt ≡ option_map (λ d. d.number) gate.doubt → LeavesHonest store view files (port gate.host.port) doubt
     leaves_honest doubt number = record {
-      events_legal = subst (λ (m : ObjectMap). IsLegalFrom [] (opening_with (phase_of store) m) view.all) (opens.honest plain refl)
-          (events_legal store plain view.all (guarded.journal.fair plain) own_each);
+      events_legal = subst (λ (m : ObjectMap). IsLegalFrom [] (opening_with (phase_of store) m) view.all) (opens.unchanged [])
+          (legal_each store plain view.all legal_plain);
       doubt_left = subst (λ (s : ReplayState). (doubt ≡ doubt_of s) ⊎ (doubt ≡ None)) replay_is (doubted_is doubt number plain answered_plain);
       mounts = λ card picture has left. subst (IsMapWith store.keys picture (end_replay store view)) (sym number) (map_left card picture has left);
       counted = λ card has. subst (λ (s : ReplayState). (card.counter ≡ s.counter) ⊎ (doubt ≡ Some card.counter)) replay_is (counted_is doubt number plain card answered_plain has);
     }
-
-  legal_of : (doubt : Option ℕ) → AreNumbered (events_of view.all) → LeavesHonest store view files (port gate.host.port) doubt → IsLegal (phase_of store) [] view.all doubt
-  legal_of doubt numbered left = record {
-    opens = opens.map;
-    begins = store.objects;
-    begins_sound = opens.map;
-    altered = altered-same (phase_of store).files view.all store.objects;
-    events_legal = left.events_legal;
-    doubt_left = left.doubt_left;
-    numbered = numbered;
-  }
 
   pub leaves : (doubt : Option ℕ) → doubt ≡ option_map (λ d. d.number) gate.doubt → AreNumbered (events_of view.all) → LeavesStore store view files (port gate.host.port) doubt
   leaves doubt is numbered = record {
@@ -288,10 +342,12 @@ module _ {F R : Type 0} (state : F → FileState) (port : R → PortState) (soun
     tagged = tagged;
     answered = answered_or;
     mounts = mounts_after doubt is;
+    given = mounts_given doubt is;
+    legal_or_clashed = legal_or doubt is numbered;
     doubted = doubted_is doubt is;
     counted = counted_is doubt is;
     honest = λ honest. leaves_honest honest doubt is;
-    legal = λ honest. legal_of doubt numbered (leaves_honest honest doubt is);
+    legal = λ honest. let left = leaves_honest honest doubt is in legal_left doubt numbered [] left.events_legal left.doubt_left;
   }
 
 -- The parts of a store that is closed: its gate, its history once the sessions' seats were taken in, and its files.

@@ -22,7 +22,6 @@ pub mod SplitFiles
 pub mod SeatSplitting
 pub mod Retirings
 pub mod Placings
-pub mod HonestHistories
 pub mod LeftStores
 pub mod ListedEntries
 pub mod OpeningMaps

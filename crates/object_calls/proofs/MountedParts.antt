@@ -9,6 +9,7 @@ use Rattle.crash_core.specs.MountedObject.{root_of}
 use Rattle.crash_core.proofs.Sightings.{one_image}
 use Rattle.core_laws.specs.SlotParts.{IsShownIn, VersionStands}
 use Rattle.core_laws.specs.Decodings.{IsReal}
+use Rattle.core_laws.proofs.MaskedBytes.{stands_own}
 use Rattle.core_laws.specs.Stores.{Store, replay_at}
 use Rattle.core_laws.proofs.Images.{image_real}
 use Rattle.serial_calls.proofs.Journals.{openings}
@@ -53,21 +54,25 @@ module _ (store : Store) (files : ℕ → FileState) (entries : List (Option Dir
       let e : DirEntry = a.entry in
       subst (IsReal store.keys) a.version_is (image_real store.keys (files e.file).reads (root_of e) e.app e.size e.attributes (o.sound e.file).reads)
 
+  shown_in : (v : Version) → version_among number (generation_in entries number) store.mounted.entries ≡ Some v → IsShownIn store.keys (files number).reads v
+  shown_in v is =
+      let a = among (generation_in entries number) v is in
+      let e : DirEntry = a.entry in
+      let own : IsShownIn store.keys (files e.file).reads (version_in store.keys files e) = record { selects = refl; loads = refl; object = refl } in
+      subst (λ (n : ℕ). IsShownIn store.keys (files n).reads v) a.file_is (subst (IsShownIn store.keys (files e.file).reads) a.version_is own)
+
   stands_in : IsTrue (files number).honest → (v : Version) → version_among number (generation_in entries number) store.mounted.entries ≡ Some v → VersionStands store.keys (files number) v
   stands_in honest v is =
       let a = among (generation_in entries number) v is in
       let e : DirEntry = a.entry in
-      let own : IsShownIn store.keys (files e.file).reads (version_in store.keys files e) = record { selects = refl; loads = refl; object = refl } in
-      let there : IsShownIn store.keys (files number).reads v =
-      subst (λ (n : ℕ). IsShownIn store.keys (files n).reads v) a.file_is (subst (IsShownIn store.keys (files e.file).reads) a.version_is own) in
       let settled : pending (files number) ≡ [] = subst (λ (n : ℕ). pending (files n) ≡ []) a.file_is (o.synced a.index e a.at) in
       record {
         bit = subst (λ (w : Version). w.root.version < 2) a.version_is (o.forms.forms a.index e a.at).version;
-        shown = λ image left. subst (λ (i : List ℕ). IsShownIn store.keys i v) (sym (one_image (files number) (o.sound number) honest settled image left)) there;
+        shown = λ image left. subst (λ (i : List ℕ). IsShownIn store.keys i v) (sym (one_image (files number) (o.sound number) honest settled image left)) (shown_in v is);
       }
 
   mounted_file : IsMountedFile store number (generation_in entries number) (files number)
-  mounted_file = record { sound = o.sound number; single = of_generation; real = real_in; stands = stands_in }
+  mounted_file = record { sound = o.sound number; single = of_generation; real = real_in; stands = stands_in; told = sym (o.taints number); masked = λ v is. stands_own store.keys (files number) v (shown_in v is) }
 
   pub slot_guarded : SlotInvariant store (first_slot store number (generation_in entries number) (files number))
   slot_guarded = first_slots_are_guarded store number (generation_in entries number) (files number) mounted_file

@@ -2,7 +2,7 @@
 use Rattle.std.proofs.Common.{◌≡◌, ◌⊎◌, ◌∙◌, ◌+◌, ℕ, List, length, Result, Ok, Err, refl, sym, ap, subst, inl, inr, arith}
 use Rattle.std.specs.Prelude.{IfOk, IfErr, OnOk}
 use Rattle.aes_block.specs.WrappedKey.{unwrapped_of}
-use Rattle.disk_model.specs.State.{FileState}
+use Rattle.disk_model.specs.State.{FileState, Sound as SoundFile}
 use Rattle.disk_model.specs.Calls.{Rests}
 use Rattle.htree_file.specs.declared.fault.TreeFault.TheVariants.{BadHead, BadTag, Damaged as DamagedTree, Failed as FileFault, NoEntropy, NoMemory as NoRoom, Short}
 use Rattle.htree_file.specs.Answers.{FilePassed}
@@ -13,7 +13,7 @@ use Rattle.node_image.specs.declared.node.RootRef.{RootRef}
 use Rattle.page_bytes.specs.Pages.{page_at}
 use Rattle.page_bytes.proofs.Content.{length-bytes_from}
 use Rattle.block_file.specs.Reads.{AreReadBytes}
-use Rattle.block_file.proofs.Reading.{told_first}
+use Rattle.block_file.proofs.Reading.{rests_keep, told_first}
 use Rattle.tree_paths.specs.declared.node_set.NodeSet.{NodeSet}
 use Rattle.tee_types.specs.declared.reply.Cause.{Cause}
 use Rattle.tee_types.specs.declared.reply.Cause.TheVariants.{Fault, Frame as OfFrame, CardResult as OfResult}
@@ -70,7 +70,7 @@ pub record IsLoaded {F : Type 0} (tsk : List ℕ) (a b : FileState) (e : DirEntr
   pub rests : Rests a b
   pub passed : FilePassed a b
 
-module _ {F : Type 0} (tsk : List ℕ) (a b c : FileState) (e : DirEntry) (o : ObjectValue F) (loaded : IsLoaded tsk a b e o) (rests : Rests b c) where
+module _ {F : Type 0} (tsk : List ℕ) (a b c : FileState) (e : DirEntry) (o : ObjectValue F) (loaded : IsLoaded tsk a b e o) (sound : SoundFile b) (rests : Rests b c) where
   size_is : size_in o ≡ e.size
   size_is = omega (arith, loaded.size)
 
@@ -83,7 +83,7 @@ module _ {F : Type 0} (tsk : List ℕ) (a b c : FileState) (e : DirEntry) (o : O
         let long : length (held_in o b.reads).bytes ≡ size_in o = length-bytes_from (page_at (pages_in o.tree b.reads)) 4096 (size_in o) in
         subst (ShowsObject (Sound attributes bytes bad) e.size) (sym is)
         (sym (long ∙ size_is), contents_shown o b c attributes bytes bad loaded.verified (omega (arith, loaded.size)) shows.0 shows.1 behind);
-    read = read_from o.tree.key o.tree.tree a b c loaded.rests rests.goes_on tsk e attributes bytes bad
+    read = read_from o.tree.key o.tree.tree a b c loaded.rests (rests_keep o.tree.tree.nodes b c sound rests) tsk e attributes bytes bad
         (subst (λ (r : RootRef). IsVerified r o.tree.tree) loaded.root loaded.verified) loaded.size loaded.key
         (ap length shows.0 ∙ loaded.long) (subst (λ (l : List ℕ). AreReadBytes o.tree.key o.tree.tree a b 0 l e.attributes) (sym shows.0) loaded.front)
         (subst (λ (n : ℕ). ShowsData o.tree.key o.tree.tree b c n (data_blocks n) bytes bad) size_is shows.1);

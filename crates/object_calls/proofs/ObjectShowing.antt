@@ -4,10 +4,12 @@ use Rattle.std.proofs.lemmas.Bool.{cases_Bool, eq-eqb, eqb-true}
 use Rattle.std.proofs.lemmas.List.{ext_get_or}
 use Rattle.aes_block.specs.WrappedKey.{unwrapped_of}
 use Rattle.disk_model.specs.State.{FileState}
-use Rattle.disk_model.specs.Calls.{GoesOn, Rests}
+use Rattle.disk_model.specs.Calls.{Rests}
+use Rattle.disk_model.specs.Keeps.{Keeps}
 use Rattle.disk_model.proofs.Goings.{first_known}
 use Rattle.htree_file.specs.Opening.{IsVerified, Loaded}
 use Rattle.htree_file.specs.Pages.{page_in}
+use Rattle.htree_file.specs.Selected.{Lies}
 use Rattle.htree_file.specs.Standing.{Told}
 use Rattle.htree_file.proofs.Causes.{told_then}
 use Rattle.htree_file.proofs.Sizes.{sized_greatest}
@@ -108,18 +110,18 @@ contents_shown o a b attributes bytes bad verified sized own shows told = record
 }
 
 -- WHAT WAS LOADED, AND THEN READ
-module _ (key : List ℕ) (tree : Loaded) (a b c : FileState) (rests : Rests a b) (goes : GoesOn b c) where
+module _ {root : ℕ} (key : List ℕ) (tree : Loaded) (a b c : FileState) (rests : Rests a b) (keeps : Keeps (Lies tree.nodes root) b c) where
   front_first : (attributes : List ℕ) (count : ℕ) → AreReadBytes key tree a b 0 attributes count → AreReadBytes key tree a c 0 attributes count
   front_first attributes count bytes = record {
     pages = bytes.pages;
-    read = λ k met. page_first key tree a b c k (bytes.pages k) goes (bytes.read k met);
+    read = λ k met. page_first key tree a b c k (bytes.pages k) keeps (bytes.read k met);
     are = bytes.are;
   }
 
   block_then : (size k : ℕ) (bytes : List ℕ) (good : Bool) → ShowsBlock key tree b c size k bytes good → ShowsBlock key tree a c size k bytes good
-  block_then size k bytes true shows = (shows.0, page_then key tree a b c (k + 1) shows.0 rests goes shows.1, shows.2)
+  block_then size k bytes true shows = (shows.0, page_then key tree a b c (k + 1) shows.0 rests keeps.goes_on shows.1, shows.2)
   block_then size k bytes false shows =
-      (λ told. ap (λ (image : List ℕ). page_in image key tree (k + 1)) (sym (rests.reads (first_known a b c goes told.1))) ∙ shows.0 (told_then a b c rests.goes_on told), shows.1)
+      (λ told. ap (λ (image : List ℕ). page_in image key tree (k + 1)) (sym (rests.reads (first_known a b c keeps.goes_on told.1))) ∙ shows.0 (told_then a b c rests.goes_on told), shows.1)
 
   data_then : (size count : ℕ) (bytes : List ℕ) (bad : NodeSet) → ShowsData key tree b c size count bytes bad → ShowsData key tree a c size count bytes bad
   data_then size count bytes bad given = record {

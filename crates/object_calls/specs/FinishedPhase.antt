@@ -18,12 +18,14 @@ use Rattle.history_seats.specs.Views.{GateView}
 use Rattle.crash_core.specs.Mounting.{mounted}
 use Rattle.crash_core.specs.Pictures.{IsPictureOf, Picture}
 use Rattle.crash_core.specs.CoreState.{IsTrusted}
-use Rattle.core_laws.specs.TamperScenarios.{TamperScenario}
-use Rattle.core_laws.specs.Stores.{Store, phase_of, replay_at}
+use Rattle.core_laws.specs.TamperScenarios.{TamperScenario, nothing_back}
+use Rattle.core_laws.specs.Stores.{Store, mounted_files, phase_of, replay_at}
 use Rattle.core_laws.specs.Answered.{AreAnswered, IsEnded}
+use Rattle.core_laws.specs.EndLaws.{HasClashed}
+use Rattle.core_laws.specs.Undamaged.{AreUndamagedIn}
 use Rattle.serial_calls.specs.CallerSessions.{CallerSession}
 use Rattle.serial_calls.specs.SessionViews.{BeginsAll}
-use Rattle.serial_calls.specs.ClosedStores.{MountsBy, tampered_in}
+use Rattle.serial_calls.specs.ClosedStores.{MountsBy, MountsGivenBy, tampered_in}
 use Rattle.serial_calls.specs.FinishedPhases.{phase_under}
 use Rattle.serial_calls.specs.SlotValues.{SlotValue}
 use Rattle.serial_calls.specs.Slots.{AreOfObjectFiles}
@@ -42,6 +44,22 @@ PicturesMountAfter store view files port doubt =
     (scenario : TamperScenario) (card : CardState) (picture : Picture) → scenario.tampered ≡ tampered_in files → AreAnswered store scenario view.all
     → HasCard port (rpmb_key store.keys.huk) card → IsPictureOf files card picture → IsTrusted (phase_under store scenario) 0
     → MountsBy doubt (phase_under store scenario) picture (replay_at store scenario view.all)
+
+-- Whatever became of the history, so long as the directory's file is honest, every picture of the files and the card mounts to the entries that
+-- the records leave, and each has the object of the version that they give for its file; or, only while a commit is in doubt, to those once it
+-- landed. Nothing is said of objects in files that are not honest.
+abbrev pub PicturesMountGiven : Store → GateView → (ℕ → FileState) → PortState → (doubt : Option ℕ) → Type 0
+PicturesMountGiven store view files port doubt =
+    (card : CardState) (picture : Picture) → HasCard port (rpmb_key store.keys.huk) card → IsPictureOf files card picture
+    → IsTrusted (phase_under store (nothing_back (tampered_in files))) 0
+    → MountsGivenBy doubt store (phase_under store (nothing_back (tampered_in files))) picture view.all
+
+-- Where no object in a file that is not honest was damaged as the phase opened, the history is a legal one of the phase, with these files as
+-- those that are not honest; or at a first event what such a file gave clashes with what was committed.
+abbrev pub IsLegalOrClashed : Store → GateView → (ℕ → FileState) → (doubt : Option ℕ) → Type 0
+IsLegalOrClashed store view files doubt =
+    AreUndamagedIn (tampered_in files) (mounted_files store.mounted) store.objects
+    → IsLegal (phase_of store) (tampered_in files) view.all doubt ⊎ HasClashed store (nothing_back (tampered_in files)) view.all
 
 -- The doubt is the one that the history leaves open, or it was dropped.
 abbrev pub IsDoubtLeft : Store → GateView → Option ℕ → Type 0
@@ -98,6 +116,8 @@ pub record LeavesStore (store : Store) (view : GateView) (files : ℕ → FileSt
   pub tagged : AreOfObjectFiles view.all
   pub answered : IsAnsweredOrEnds store view files
   pub mounts : PicturesMountAfter store view files port doubt
+  pub given : PicturesMountGiven store view files port doubt
+  pub legal_or_clashed : IsLegalOrClashed store view files doubt
   pub doubted : IsDoubtLeft store view doubt
   pub counted : IsCounterLeft store view port doubt
   pub honest : AreAllHonest files → LeavesHonest store view files port doubt

@@ -5,6 +5,7 @@ use Rattle.hmac_keys.specs.declared.Keys.{Keys}
 use Rattle.rpmb_card.specs.Port.{PortState}
 use Rattle.crash_core.specs.Opening.{opening_map}
 use Rattle.history_seats.specs.Mounts.{Mounted, Served, ServedDevice}
+use Rattle.core_laws.specs.Masked.{told_taints}
 use Rattle.core_laws.specs.Stores.{Store}
 use Rattle.object_calls.specs.MountedEntries.{mounted_entries}
 use Rattle.object_calls.specs.Opening.{IsKeyed, OpeningValue, bench_files, entries_in}
@@ -40,6 +41,7 @@ store_in keys state port o = record {
   served = devices_in state port o;
   objects = opening_map keys (bench_files state o) (entries_in o);
   counter = o.gate.counter;
+  taints = λ file. told_taints (bench_files state o file);
 }
 
 -- The store is that one, under the keys that the opening's keys come from.

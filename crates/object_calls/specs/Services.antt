@@ -4,7 +4,7 @@ use Rattle.disk_model.specs.State.{FileState}
 use Rattle.hmac_keys.specs.KeyTable.{ssk}
 use Rattle.dir_records.specs.declared.entry.DirEntry.{DirEntry}
 use Rattle.store_model.specs.Sound.{IsObjectMap}
-use Rattle.core_laws.specs.TamperScenarios.{TamperScenario}
+use Rattle.core_laws.specs.TamperScenarios.{nothing_back}
 use Rattle.core_laws.specs.Stores.{Store, objects_under}
 use Rattle.serial_calls.specs.SlotValues.{SlotValue}
 use Rattle.serial_calls.specs.GuardedGates.{GuardedGateValue}
@@ -32,14 +32,14 @@ MayBeFirst store entries state files = (i : ℕ) → i < length files → SlotIn
 abbrev pub AreFirstSlots : {F : Type 0} → Store → List (Option DirEntry) → (F → FileState) → List F → (count : ℕ) → List SlotValue → Type 0
 AreFirstSlots store entries state files count slots = (i : ℕ) (d : SlotValue) → i < count → slice_index_or slots i d ≡ slot_for store entries state files i
 
--- No tamper scenario by which all files are honest has other objects at the opening than the store's.
-abbrev pub OpensAsHonest : Store → Type 0
-OpensAsHonest store = (scenario : TamperScenario) → scenario.tampered ≡ [] → objects_under store scenario ≡ store.objects
+-- Where nothing comes back, the phase opens with the store's objects, whichever files are not honest.
+abbrev pub OpensUnchanged : Store → Type 0
+OpensUnchanged store = (tampered : List ℕ) → objects_under store (nothing_back tampered) ≡ store.objects
 
 -- So of a store that opened with a map of objects.
 pub record HasSoundOpening (store : Store) : Type 0 where
   pub map : IsObjectMap store.objects
-  pub honest : OpensAsHonest store
+  pub unchanged : OpensUnchanged store
 
 -- What always holds of a store that is served, beside what holds behind its locks.
 pub record IsService {F R : Type 0} (store : Store) (gate : GuardedGateValue F R) (slots : List SlotValue) (storage_key : List ℕ) : Type 0 where

@@ -1,9 +1,14 @@
 //! How a served store answers a call.
 
-ghost use Rattle.std.specs.Prelude.{◌≡◌};
+ghost use Rattle.std.specs.Prelude.{◌≡◌, IsNone, None};
+ghost use Rattle.core_laws.specs.Shown.{IsPartial};
+ghost use Rattle.rpmb_card.specs.Protocol.{last_counter};
 ghost use Rattle.serial_calls.specs.CallerSessions.{IsCallerOf};
 ghost use Rattle.serial_calls.specs.GateServed.{IsMisused};
 ghost use Rattle.serial_calls.specs.SessionViews.{shown};
+ghost use Rattle.serial_calls.specs.ChangeChecks.{AreOnlyRead};
+ghost use Rattle.serial_calls.specs.Rising.{devices_in};
+ghost use Rattle.serial_calls.specs.Unfailed.{NoneFailed};
 ghost use Rattle.object_calls.specs.Calling.{AnswersAtOnceAt, AnswersCall, serving};
 
 use crate::service::Service;
@@ -26,7 +31,8 @@ impl<F: StoreFile + Drop, R: RpmbPort + Drop, L: StoreName> Service<F, R, L> {
     /// Answers a session's call by the Trusted Storage chapter, and appends it to the phase's history with its reply. A commit that is in
     /// doubt is resolved before, unless the call is a misuse.
     ///
-    /// The reply `NoMemory` has no place and no event. Then nothing changed but that a commit in doubt may have landed.
+    /// The reply `NoMemory` has no place and no event. Then nothing changed but that a commit in doubt may have landed, and no device
+    /// failed.
     pub fn call<E: Entropy>(&mut self, session: &mut Session<E>, call: &Call) -> Answer
         requires { IsCallerOf L.store session.old }
         ensures answers { AnswersCall F.state R.state E.faults L.store self.old self.new session.old session.new call.now result.place result.reply }
@@ -36,6 +42,13 @@ impl<F: StoreFile + Drop, R: RpmbPort + Drop, L: StoreName> Service<F, R, L> {
             → AnswersAtOnceAt (serving self.old session.old) (serving self.new session.new) call.now result.place result.reply }
         // A generator that never fails counts no fault.
         ensures still { E.is_reliable session.old.entropy → E.faults session.new.entropy ≡ E.faults session.old.entropy }
+        // Where memory ran out, no device counted a fault.
+        ensures passed { IsNone result.place → NoneFailed (devices_in F.state R.state E.faults (serving self.old session.old))
+            (devices_in F.state R.state E.faults (serving self.new session.new)) }
+        // Where no commit can follow a change of data, the object's file is only read. Nothing is drawn, and neither directory nor card is
+        // asked.
+        ensures spent { IsPartial call.now → self.old.gate.gate.doubt ≡ None → self.old.gate.gate.counter ≡ last_counter
+            → AreOnlyRead (serving self.old session.old) (serving self.new session.new) }
     {
         match serve(
             self.alloc,

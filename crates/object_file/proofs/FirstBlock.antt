@@ -1,9 +1,7 @@
 -- The page of block 0, which has the attributes.
-use Rattle.std.proofs.Common.{true, ◌≡◌, ◌∙◌, ◌+◌, ◌/◌, ◌%◌, ◌<◌, ◌≤◌, ◌++◌, refl, ℕ, List, length, get_or, take, drop, Option, Some, None, sym, ap, inl, inr, arith}
-use Rattle.std.proofs.lemmas.Bool.{cases_Bool, cond-true, cond-false}
+use Rattle.std.proofs.Common.{true, ◌≡◌, ◌∙◌, ◌+◌, ◌/◌, ◌%◌, ◌<◌, ◌≤◌, ◌++◌, refl, ℕ, List, length, get_or, take, drop, Option, Some, sym, ap, arith}
 use Rattle.std.proofs.lemmas.Grind.{same_number_lists}
 use Rattle.std.proofs.lemmas.List.{get_or-take, get_or_append_left}
-use Rattle.std.specs.Str.{bytes_eq}
 use Rattle.disk_model.specs.State.{FileState}
 use Rattle.disk_model.specs.Calls.{GoesOn, Rests}
 use Rattle.aes_block.specs.Cipher.{cipher}
@@ -16,7 +14,7 @@ use Rattle.node_image.specs.Parts.Part.{block}
 use Rattle.node_image.specs.Tables.{at_node, block_version}
 use Rattle.node_image.proofs.ImageBytes.{length-bytes_at}
 use Rattle.htree_file.specs.Opening.{Loaded}
-use Rattle.htree_file.specs.Pages.{block_in, page_in, page_of, tag_of}
+use Rattle.htree_file.specs.Pages.{block_in, page_in, page_of}
 use Rattle.htree_file.specs.Standing.{Told}
 use Rattle.page_bytes.specs.Pages.{byte_in, bytes_from}
 use Rattle.page_bytes.proofs.Content.{get_or-bytes_from-zero, length-bytes_from}

@@ -148,3 +148,8 @@ early_rests a c A P (Err (BadHead long greatest)) early = λ bad. absurd bad
 early_rests a c A P (Err (Short end need)) early = λ bad. absurd bad
 early_rests a c A P (Err (DamagedNode n want found)) early = λ bad. absurd bad
 early_rests a c A P (Err NoMemory) early = λ bad. absurd bad
+
+-- where reads alone were made
+pub rests_bad : (a c : FileState) (A : Type 0) (result : Result A TreeFault) → Rests a c → IfErr result (λ e. IsBadTag e → Rests a c)
+rests_bad a c A (Ok done) rests = tt
+rests_bad a c A (Err fault) rests = λ bad. rests

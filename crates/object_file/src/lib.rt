@@ -5,6 +5,7 @@
 #![tactic(auto)]
 
 mod change;
+mod check;
 mod fault;
 mod loading;
 mod making;

@@ -5,9 +5,10 @@ ghost use Rattle.aes_block.specs.WrappedKey.{unwrapped_of};
 ghost use Rattle.disk_model.specs.Arms.{count_call};
 ghost use Rattle.disk_model.specs.Calls.{Known, Rests, Syncs};
 ghost use Rattle.disk_model.specs.Keeps.{Anywhere, Keeps};
+ghost use Rattle.disk_model.specs.Seen.{WasSeen};
 ghost use Rattle.htree_file.specs.Answers.{FilePassed, HasCause, HasFaultWidths, IsFailed};
-ghost use Rattle.htree_file.specs.Opening.{IsVerified, load_of};
-ghost use Rattle.htree_file.specs.Selected.{KeepsFirm};
+ghost use Rattle.htree_file.specs.Opening.{IsVerified, load_of, table_of};
+ghost use Rattle.htree_file.specs.Selected.{KeepsFirm, Lies};
 ghost use Rattle.htree_file.specs.Standing.{IsFirm, Told};
 ghost use Rattle.page_bytes.specs.Ranges.{meets, read_range};
 ghost use Rattle.block_file.specs.Parts.{PageAnswer};
@@ -95,6 +96,8 @@ impl<F: StoreFile> ObjectFile<F> {
         ensures damaged { IfErr result (λ b. IsOutsideObject b.fault ⊎ (Told (F.state file) (F.state b.file) →
             mounted_object tsk.now (F.state b.file).reads entry.now ≡ Damaged entry.now.size)) }
         // Of any file.
+        ensures seen { IfOk result (λ o. WasSeen (Lies o.tree.tree.nodes o.tree.root.version) (F.state file) (F.state o.tree.file)
+            (λ image. table_of image o.tree.root ≡ Result.Ok o.tree.tree)) }
         ensures differs { IfErr result (λ b. ObjectDiffers tsk.now (F.state b.file) entry.now b.fault) }
         ensures kind { IfErr result (λ b. IsObjectFault b.fault) }
         ensures widths { IfErr result (λ b. HasObjectWidths b.fault) }

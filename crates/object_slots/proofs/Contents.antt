@@ -1,12 +1,17 @@
 -- A locked slot after calls of its file.
-use Rattle.std.proofs.Common.{◌≡◌, ◌∙◌, ℕ, Option, Some, None, IsTrue, refl, sym, ap, subst}
+use Rattle.std.proofs.Common.{◌≡◌, ◌∙◌, ℕ, Option, Some, None, refl, sym, ap, subst}
 use Rattle.disk_model.specs.State.{FileState}
-use Rattle.disk_model.specs.Calls.{Rests}
+use Rattle.disk_model.specs.Calls.{GoesOn, Rests}
+use Rattle.disk_model.specs.Keeps.{rest}
+use Rattle.disk_model.proofs.Seen.{runs_one}
+use Rattle.htree_file.specs.Selected.{Lies}
 use Rattle.hmac_keys.specs.declared.Keys.{Keys}
 use Rattle.history_seats.specs.Records.{Version}
 use Rattle.history_seats.specs.Settling.{Pending, calm}
 use Rattle.history_seats.specs.Views.{Sight, SlotView}
-use Rattle.core_laws.specs.SlotParts.{SlotHolds}
+use Rattle.core_laws.specs.Masked.{StandsMasked}
+use Rattle.core_laws.specs.SlotParts.{Knows, SlotHolds}
+use Rattle.core_laws.proofs.MaskedBytes.{stands_later, told_stays}
 use Rattle.core_laws.specs.SlotSteps.{Reader}
 use Rattle.core_laws.proofs.SlotRuns.{run_holds}
 use Rattle.core_laws.specs.Stores.{Store}
@@ -19,9 +24,9 @@ use Rattle.object_slots.specs.GuardedReads.{GivesVersion}
 use Rattle.object_slots.proofs.Stays.{object_rests}
 
 -- the store's file after calls that keep the core's fact
-pub file_moves : (store : Store) (number : ℕ) (old new : FileState) (seat : Sight SlotView) → (IsTrue new.honest → IsTrue old.honest)
-    → ((stage : Option ℕ) → SlotHolds store.keys (part new seat.knows stage)) → IsSlotOf store number old seat → IsSlotOf store number new seat
-file_moves store number old new seat was holds own = record {
+pub file_moves : (store : Store) (number : ℕ) (old new : FileState) (seat : Sight SlotView) → GoesOn old new → ((stage : Option ℕ) → SlotHolds store.keys (part new seat.knows stage))
+    → ((v : Version) → Knows seat.knows v → StandsMasked store.keys new v) → IsSlotOf store number old seat → IsSlotOf store number new seat
+file_moves store number old new seat goes holds masked own = record {
   table = own.table;
   mounted = own.mounted;
   served = own.served;
@@ -29,7 +34,9 @@ file_moves store number old new seat was holds own = record {
   holds = holds;
   real = own.real;
   single = own.single;
-  legal = λ honest scenario off. own.legal (was honest) scenario off;
+  told = told_stays old new goes ∙ own.told;
+  masked = masked;
+  legal = λ honest scenario off. own.legal (goes.honest honest) scenario off;
 }
 
 -- a call that only reads is such
@@ -40,7 +47,11 @@ read_holds store old new view holds steps stage =
     run_holds Reader store.keys (part old view stage) s.steps (part new view stage) (holds stage) s.run
 
 pub own_rests : (store : Store) (number : ℕ) (old new : FileState) (seat : Sight SlotView) → Rests old new → ReadSteps old new → IsSlotOf store number old seat → IsSlotOf store number new seat
-own_rests store number old new seat rests steps own = file_moves store number old new seat rests.goes_on.honest (read_holds store old new seat.knows own.holds steps) own
+own_rests store number old new seat rests steps own =
+    file_moves store number old new seat rests.goes_on (read_holds store old new seat.knows own.holds steps)
+    (λ v known.
+    stands_later store.keys old new v rests.goes_on (λ taints tree told one. runs_one (Lies tree.nodes v.root.version) rest old new (own.holds None).sound rests tt) (own.masked v known))
+    own
 
 module _ (keys : Keys) (old new : FileState) (stays : (o : HeldObject) (v : Version) → IsObjectOf keys old o v → IsObjectOf keys new o v) where
   pub of_version_stays : (holds : Holding) (version : Option Version) → IsOfVersion keys old holds version → IsOfVersion keys new holds version

@@ -1,12 +1,15 @@
 -- What loading the object of a locked slot leaves.
 use Rattle.std.proofs.Common.{◌≡◌, ◌∙◌, ◌+◌, ℕ, List, Option, Some, None, Result, Ok, Err, IsTrue, inl, refl, sym, ap, subst, arith}
 use Rattle.disk_model.specs.State.{FileState, Sound as SoundFile}
+use Rattle.disk_model.specs.Calls.{GoesOn}
 use Rattle.aes_block.specs.WrappedKey.{unwrapped_of}
 use Rattle.dir_records.specs.declared.entry.DirEntry.{DirEntry}
 use Rattle.store_model.specs.Object.{Damaged}
 use Rattle.object_file.specs.DeviceKeys.{object_key}
 use Rattle.history_seats.specs.Records.{Version}
 use Rattle.core_laws.specs.GateParts.{IsVersionOf}
+use Rattle.core_laws.specs.Masked.{StandsMasked}
+use Rattle.object_slots.proofs.MaskedObjects.{loaded_masked}
 use Rattle.core_laws.specs.SlotParts.{Knows, VersionStands}
 use Rattle.history_seats.specs.Directory.{given_version}
 use Rattle.history_seats.specs.Settling.{calm}
@@ -21,7 +24,6 @@ use Rattle.object_slots.specs.declared.fault.SlotFault.TheVariants.{Corrupt, Fai
 use Rattle.object_slots.specs.Loads.{IsLoadedBy, IsRefusedBy, LoadsObject}
 use Rattle.object_slots.specs.SlotValues.{HeldObject, Holding, SlotValue, free, live}
 use Rattle.object_slots.specs.SlotVersions.{HasVersion}
-use Rattle.object_slots.proofs.FrontLaws.{loaded_have_fronts}
 use Rattle.object_slots.proofs.VersionLaws.{loaded_are_versions, refused_are_damaged}
 use Rattle.object_slots.specs.SlotObjects.{IsObjectOf, IsOfVersion}
 use Rattle.object_slots.specs.GuardedSlots.{IsContentOf, SlotInvariant, IsSlotOf}
@@ -35,8 +37,8 @@ with_fault f = Err f
 -- A slot that is free, whose view gives the version of the entry. The version is real and stands, be it known or not.
 module _ (store : Store) (old : SlotValue) (new : FileState) (e : DirEntry) (tsk : List ℕ) (key : tsk ≡ object_key store.keys e.app) (v : Version) (is : IsVersionOf e v) where
   -- what is loaded is of the version
-  object_filled : (o : HeldObject) → SoundFile new → IsReal store.keys v → (IsTrue new.honest → VersionStands store.keys new v) → IsLoadedBy old.file new tsk e o → IsObjectOf store.keys new o v
-  object_filled o sound real stands loaded =
+  object_filled : (o : HeldObject) → SoundFile new → IsReal store.keys v → (IsTrue new.honest → VersionStands store.keys new v) → StandsMasked store.keys old.file v → StandsMasked store.keys new v → GoesOn old.file new → IsLoadedBy old.file new tsk e o → IsObjectOf store.keys new o v
+  object_filled o sound real stands before bytes goes loaded =
       let by_key : IsLoadedBy old.file new (object_key store.keys e.app) e o = subst (λ (k : List ℕ). IsLoadedBy old.file new k e o) key loaded in
       let size : size_in o ≡ e.size = omega (arith, loaded.size) in
       let version : IsTrue new.honest → HasVersion store.keys o v (held_in o new.reads) = λ honest. loaded_are_versions store.keys old.file new e v o sound honest (stands honest) is by_key in
@@ -48,7 +50,14 @@ module _ (store : Store) (old : SlotValue) (new : FileState) (e : DirEntry) (tsk
         long = loaded.size ∙ ap (λ (n : ℕ). 4096 + n) (sym size);
         attributes = is.attributes ∙ sym loaded.attributes;
         verified = loaded.verified;
-        front = loaded_have_fronts old.file new tsk e o loaded;
+        front = record {
+          page = loaded.first.page;
+          long = loaded.first.read.long;
+          seals = (loaded.first.read.ciphertext, loaded.first.read.opens);
+          front = λ i lt. loaded.first.are i (omega (arith, lt, loaded.attributes));
+        };
+        masked = loaded_masked store.keys old.file new goes o v loaded.first.read.ciphertext (is.root ∙ sym loaded.root_is) before loaded.seen loaded.first.read.seen;
+        bytes = bytes;
         stands = stands;
         loads = λ honest. (version honest).loads;
         object = λ honest. (version honest).object;
@@ -94,7 +103,7 @@ module _ (store : Store) (old new : SlotValue) (e : DirEntry) (tsk : List ℕ) (
       → SlotInvariant store new × ((w : Version) → GivesVersion old w → IsDamagedAnswer new.file w result)
   fill_guarded (Ok done) loads =
       let left : (o : HeldObject) × (new.holds ≡ live o) × IsLoadedBy old.file new.file tsk e o = loads.leaves in
-      let object = object_filled store old new.file e tsk key v given.is left.0 ((own (Ok done) loads).holds None).sound (is.own.real v known) (stood (Ok done) loads) left.2 in
+      let object = object_filled store old new.file e tsk key v given.is left.0 ((own (Ok done) loads).holds None).sound (is.own.real v known) (stood (Ok done) loads) (is.own.masked v known) ((own (Ok done) loads).masked v known) loads.rests.goes_on left.2 in
       (lock (Ok done) loads (live left.0) left.1 (v, refl, object), λ w other. tt)
   fill_guarded (Err fault) loads =
       (lock (Err fault) loads free loads.leaves tt, λ w other. damaged fault loads w (calm_version w other))

@@ -6,7 +6,11 @@ use Rattle.std.proofs.lemmas.List.{get_or-take, length-take-le}
 use Rattle.disk_model.specs.State.{FileState}
 use Rattle.aes_block.specs.WrappedKey.{unwrapped_of}
 use Rattle.node_image.specs.declared.node.NodeImage.{NodeImage}
-use Rattle.node_image.specs.Tables.{at_node}
+use Rattle.disk_model.specs.Seen.{WasSeen}
+use Rattle.node_image.specs.Parts.{In}
+use Rattle.node_image.specs.Parts.Part.{block as block_part}
+use Rattle.node_image.specs.Tables.{at_node, block_version}
+use Rattle.htree_file.specs.Pages.{block_in}
 use Rattle.htree_file.specs.Pages.{page_of}
 use Rattle.page_bytes.specs.Pages.{byte_in, bytes_from}
 use Rattle.page_bytes.specs.declared.range.ByteRange.{ByteRange}
@@ -18,7 +22,7 @@ use Rattle.core_laws.specs.Given.{Gave, is_asked}
 use Rattle.core_laws.specs.Decodings.{Decoding, page_decoded, tree_decoding}
 use Rattle.object_file.specs.Value.{size_in}
 use Rattle.object_slots.specs.Fronts.{HasFront}
-use Rattle.object_slots.specs.Gives.{ChangesGive, ReadsTell}
+use Rattle.object_slots.specs.Gives.{ChangesGive, IsGivenBy, ReadsTell}
 use Rattle.object_slots.specs.SlotReads.{ReadsObject, read_count}
 use Rattle.object_slots.specs.SlotValues.{HeldObject}
 
@@ -72,6 +76,26 @@ module _ (wrap : List ℕ) (old new : FileState) (o : HeldObject) (key : o.tree.
       subst IsSome (sym same)
       (when-true (asked k) f (λ c. IsSome (page_of o.tree.key o.tree.tree.head node k c)) (λ e. subst IsSome (sym (read k e).1.opens) refl) is)
 
+  -- what holds of the front's and of each that was read holds of these
+  pub block_first : block 0 ≡ front.seals.0
+  block_first = refl
+
+  pub block_each : (P : List ℕ → Type 0) (k : ℕ) → 1 ≤ k → ((is : asked k ≡ true) → P (read k is).1.ciphertext) → asked k ≡ true → P (block k)
+  block_each P k behind each is =
+      let f : asked k ≡ true → List ℕ = λ e. (read k e).1.ciphertext in
+      let own : block k ≡ when (asked k) f = cond-false (k == 0) front.seals.0 (when (asked k) f) (ne_eqb k 0 (λ same. omega (arith, behind, same))) in
+      subst P (sym own) (when-true (asked k) f P each is)
+
+  -- each other block that was asked was seen
+  pub block_seen : (k : ℕ) → ((k == 0) || asked k) ≡ true → 1 ≤ k
+      → WasSeen (In (block_part k (block_version o.tree.tree.nodes k))) old new (λ image. block k ≡ block_in image o.tree.tree k)
+  block_seen k any behind = elim (or_true (k == 0) (asked k) any) [
+    | inl zero ↦ absurd (omega (arith, behind, eqb-true k 0 zero))
+    | inr one ↦
+        block_each (λ c. WasSeen (In (block_part k (block_version o.tree.tree.nodes k))) old new (λ image. c ≡ block_in image o.tree.tree k)) k behind
+        (λ e. (read k e).1.seen) one
+  ]
+
   -- block 0 and the others were given
   pub good_blocks : ((k : ℕ) → asked k ≡ true → 1 ≤ k) → (k : ℕ) → ((k == 0) || asked k) ≡ true → IsSome (page_decoded sp k)
   good_blocks behind k any = elim (or_true (k == 0) (asked k) any) [
@@ -99,6 +123,9 @@ module _ (wrap : List ℕ) (old new : FileState) (o : HeldObject) (at : ℕ) (be
   abbrev given : o.tree.tree.head.length ≡ 4096 + size_in o → Gave wrap o.tree.root (size_in o) (is_asked (size_in o) at (Read handle (length before)))
   given long = record { tree = o.tree.tree; verified = reads.verified; long = long; block = block wrap old new o key front met was; good = good }
 
+  seen_given : (long : o.tree.tree.head.length ≡ 4096 + size_in o) → IsGivenBy old new o front (given long)
+  seen_given long = record { tree = refl; first = refl; seen = λ k any behind. block_seen wrap old new o key front met was k any behind }
+
   told : length after ≡ length before → take n after ≡ bytes_from (page_decoded (sp wrap old new o key front met was)) (4096 + at) (min (length before) (size_in o - at))
   told whole =
       let within : n ≤ length after = omega (arith, reads.count, whole) in
@@ -110,18 +137,23 @@ module _ (wrap : List ℕ) (old new : FileState) (o : HeldObject) (at : ℕ) (be
       ∙ sym (ap (λ (page : Option (List ℕ)). byte_in page ((4096 + at + i) % 4096)) (page_read wrap old new o key front met was k (bytes.pages k) (met_data at count k is) (λ e. refl) is))))
 
 pub reads_tell : ReadsTell
-reads_tell wrap old new o at before after n handle key long whole front reads =
-    (given wrap old new o at before after n handle key front reads long, told wrap old new o at before after n handle key front reads whole)
+reads_tell wrap old new o at before after n handle key long whole front reads = (
+  given wrap old new o at before after n handle key front reads long,
+  seen_given wrap old new o at before after n handle key front reads long,
+  told wrap old new o at before after n handle key front reads whole,
+)
 
 needed_data : (r : ByteRange) (k : ℕ) → 4096 ≤ r.first → needs r k ≡ true → 1 ≤ k
 needed_data r k behind is = grind (arith, behind, is)
 
 pub changes_give : ChangesGive
-changes_give wrap old new o c key long verified behind front read =
-    record {
-      tree = o.tree.tree;
-      verified = verified;
-      long = long;
-      block = block wrap old new o key front (needs c.range) read;
-      good = good_blocks wrap old new o key front (needs c.range) read (λ k is. needed_data c.range k behind is);
-    }
+changes_give wrap old new o c key long verified behind front read = (
+  record {
+    tree = o.tree.tree;
+    verified = verified;
+    long = long;
+    block = block wrap old new o key front (needs c.range) read;
+    good = good_blocks wrap old new o key front (needs c.range) read (λ k is. needed_data c.range k behind is);
+  },
+  record { tree = refl; first = refl; seen = λ k any one. block_seen wrap old new o key front (needs c.range) read k any one },
+)

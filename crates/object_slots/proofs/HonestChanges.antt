@@ -42,7 +42,7 @@ page_decoding keys v o = tree_decoding (object_key keys v.app) (block_of v) o.tr
 abbrev pub next_decoding : Keys → (new : FileState) → Version → Staged → Decoding
 next_decoding keys new v s = tree_decoding (object_key keys v.app) (λ k. get_or (selected_tree new.reads s.root.version).blocks k []) s.tree
 
-needed_old : (r : ByteRange) (k : ℕ) → needs r k ≡ true → 4096 * k < r.size
+pub needed_old : (r : ByteRange) (k : ℕ) → needs r k ≡ true → 4096 * k < r.size
 needed_old r k is = grind (arith, is)
 
 some_is : {A : Type 0} (o : Option A) → IsSome o → (a : A) × (o ≡ Some a)

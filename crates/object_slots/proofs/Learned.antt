@@ -40,6 +40,8 @@ own_renewed store gate number file seat fits own = record {
   holds = λ stage. renewed_holds store.keys gate (part file seat.knows stage) fits (own.holds stage);
   real = λ v known. own.real v (entry_known gate seat.knows fits v known);
   single = λ generation v known. own.single generation v (renewed_known gate seat.knows fits generation v known);
+  told = own.told;
+  masked = λ v known. own.masked v (entry_known gate seat.knows fits v known);
   legal = λ honest scenario off.
       (own_grows store scenario number).whole seat.knows.seen gate.all
       (subst (λ (n : ℕ). IsUpToDate (concerns_file n) seat.knows.seen gate.all) own.own fits.sees.begins) (own.legal honest scenario off);

@@ -9,6 +9,7 @@ pub mod SettleAnswers
 pub mod VersionLaws
 pub mod FrontLaws
 pub mod GiveLaws
+pub mod MaskedObjects
 pub mod KeptPages
 pub mod CacheEntries
 pub mod Askings
@@ -31,6 +32,7 @@ pub mod HonestChanges
 pub mod MadeOverOwn
 pub mod SlotStaged
 pub mod ChangeAnswers
+pub mod CheckAnswers
 pub mod NewObjects
 pub mod NewSlots
 pub mod ToldFronts

@@ -24,9 +24,10 @@ use Rattle.core_laws.specs.Decodings.{block_of, wrap_of}
 use Rattle.core_laws.specs.WriteLaws.{IsMadeOver}
 use Rattle.core_laws.proofs.ReplayState.{page_same}
 use Rattle.object_file.specs.Value.{size_in}
+use Rattle.object_slots.specs.Gives.{IsGivenBy}
 use Rattle.object_slots.specs.SlotStages.{DataChange, IsStageOf}
 use Rattle.object_slots.specs.SlotValues.{HeldObject}
-use Rattle.object_slots.proofs.GiveLaws.{block as given_block, good_blocks, page_read}
+use Rattle.object_slots.proofs.GiveLaws.{block as given_block, block_seen, good_blocks, page_read}
 use Rattle.object_slots.specs.SlotObjects.{IsObjectOf}
 use Rattle.object_slots.proofs.NewObjects.{pick, pick-is}
 use Rattle.object_slots.proofs.NextVersions.{decoded_block, version_decoded}
@@ -113,6 +114,10 @@ module _ (keys : Keys) (old new : FileState) (o : HeldObject) (v : Version) (c :
     block = given_block (wrap_of keys v) old new o is.key is.front (needs r) read;
     good = good_blocks (wrap_of keys v) old new o is.key is.front (needs r) read (λ k need. needed_data r k behind need);
   }
+
+  pub gave_by : IsGivenBy old new o is.front gave
+  unfolding gave
+  gave_by = record { tree = refl; first = refl; seen = λ k any one. block_seen (wrap_of keys v) old new o is.key is.front (needs r) read k any one }
 
   -- the ciphertexts of the next version: what the nodes seal, or what the version has
   abbrev pub chosen : ℕ → List ℕ

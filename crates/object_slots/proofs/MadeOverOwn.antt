@@ -17,6 +17,9 @@ use Rattle.store_model.specs.Object.{Sound}
 use Rattle.object_file.specs.MountedObject.{object_of}
 use Rattle.history_seats.specs.Records.{Version}
 use Rattle.history_seats.proofs.Lists.{or_second}
+use Rattle.core_laws.specs.Masked.{IsMaskedOf}
+use Rattle.object_slots.proofs.MaskedObjects.{own_masked}
+use Rattle.disk_model.specs.Arms.{Taint}
 use Rattle.core_laws.specs.Given.{Gave, decoding_given}
 use Rattle.core_laws.specs.Decodings.{Decoding, block_of, object_decoded, opened_decoded, page_decoded, tree_decoding_if, wrap_of}
 use Rattle.core_laws.specs.WriteLaws.{IsMadeOver}
@@ -27,7 +30,7 @@ use Rattle.object_slots.specs.SlotStages.{DataChange, IsStageOf}
 use Rattle.object_slots.specs.SlotValues.{HeldObject}
 use Rattle.object_slots.specs.SlotVersions.{changed_version}
 use Rattle.object_slots.specs.SlotObjects.{IsObjectOf}
-use Rattle.object_slots.proofs.HonestChanges.{page_met, page_missed, page_needed, page_decoding, seal_missed}
+use Rattle.object_slots.proofs.HonestChanges.{needed_old, page_met, page_missed, page_needed, page_decoding, seal_missed}
 use Rattle.object_slots.proofs.HonestPages.{Lays}
 
 is_some_of : (o : Option (List ℕ)) (page : List ℕ) → o ≡ Some page → IsSome o
@@ -61,6 +64,19 @@ module _ (keys : Keys) (old new : FileState) (o : HeldObject) (v : Version) (c :
 
   pub gave_own : Gave (wrap_of keys v) o.tree.root (size_in o) (λ k. (k == 0) || needs c.range k)
   gave_own = record { tree = o.tree.tree; verified = is.verified; long = is.long; block = block_of v; good = good }
+
+  within : (k : ℕ) → ((k == 0) || needs c.range k) ≡ true → k < length o.tree.tree.nodes
+  within k any =
+      let few : (1 ≤ o.tree.tree.head.greatest) × (o.tree.tree.head.greatest ≤ 256) = sized_few o.tree.tree.head is.verified.hashed.sized in
+      elim (cases_Bool (k == 0)) [
+        | inl zero ↦ omega (arith, eqb-true k 0 zero, is.verified.hashed.all, few.0)
+        | inr other ↦
+            omega (arith, is.verified.hashed.all, sized_greatest o.tree.tree.head is.verified.hashed.sized, size, needed_old c.range k (or_second (k == 0) (needs c.range k) any other))
+      ]
+
+  pub gave_own_masked : (told : Option (List Taint)) → IsMaskedOf keys told v (λ k. (k == 0) || needs c.range k) gave_own.tree gave_own.block
+  unfolding gave_own
+  gave_own_masked told = own_masked keys told v o.tree.tree (λ k. (k == 0) || needs c.range k) (is.loads was_honest) within
 
   abbrev next : Version
   next = changed_version new v (held_in o old.reads) c s

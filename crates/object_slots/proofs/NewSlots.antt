@@ -9,7 +9,12 @@ use Rattle.htree_file.proofs.Sizes.{sized_greatest}
 use Rattle.store_model.specs.Object.{Contents, Sound}
 use Rattle.object_file.specs.DeviceKeys.{object_key}
 use Rattle.history_seats.specs.Records.{Version}
-use Rattle.core_laws.specs.SlotParts.{SlotHolds}
+use Rattle.core_laws.specs.Decodings.{IsReal}
+use Rattle.core_laws.specs.Masked.{told_taints}
+use Rattle.core_laws.specs.SlotParts.{IsShownIn, SlotHolds}
+use Rattle.disk_model.proofs.ImageLaws.{reads_left}
+use Rattle.object_slots.proofs.MaskedObjects.{front_masked, version_front}
+use Rattle.core_laws.proofs.MaskedBytes.{stands_own}
 use Rattle.core_laws.specs.SlotSteps.{Taker}
 use Rattle.core_laws.proofs.SlotRuns.{run_holds}
 use Rattle.core_laws.specs.Stores.{Store}
@@ -27,7 +32,7 @@ use Rattle.object_slots.specs.NewObjects.{IsNewVersion, KnowsNothing, NewLeaves}
 use Rattle.object_slots.specs.GuardedStages.{IsStagedSlot}
 use Rattle.object_slots.proofs.Contents.{file_moves}
 use Rattle.object_slots.proofs.NewObjects.{decodes_new, text}
-use Rattle.object_slots.proofs.NextVersions.{decoded_real, replay_real, version_decoded}
+use Rattle.object_slots.proofs.NextVersions.{decoded_real, decoded_unshown, replay_real, version_decoded}
 
 -- The object that was made, of an application.
 module _ (store : Store) (old new : FileState) (app attributes bytes : List ℕ) (root : RootRef) (o : HeldObject) (few : length attributes ≤ 2048) (still : SoundFile new)
@@ -44,15 +49,21 @@ module _ (store : Store) (old new : FileState) (app attributes bytes : List ℕ)
   of_honest : IsTrue new.honest → IsObjectOf store.keys new o (new_version new app attributes bytes o)
   of_honest honest =
       let both = made_are_versions store.keys old new app attributes bytes root o still honest is in
+      let v : Version = new_version new app attributes bytes o in
+      let c : Contents = new_contents attributes bytes in
+      let shows : IsShownIn store.keys new.reads v = both.0.shown new.reads (reads_left new still) in
+      let real : IsReal store.keys v = replay_real store.keys new o.tree.root o.tree.tree app (length bytes) (length attributes) (Sound c) still both.0 in
       record {
-        real = replay_real store.keys new o.tree.root o.tree.tree app (length bytes) (length attributes) (Sound (new_contents attributes bytes)) still both.0;
+        real = real;
         root = refl;
         key = is.key;
         size = sym size;
         long = long;
         attributes = ap length (sym is.attributes_are);
         verified = verified;
-        front = made_have_fronts old new (object_key store.keys app) attributes bytes root o few is;
+        front = version_front store.keys o v c new.reads shows real refl refl (sym is.attributes_are) (ap length (sym is.attributes_are)) is.key verified;
+        masked = front_masked store.keys o v c new.reads shows real refl refl (sym is.attributes_are) (ap length (sym is.attributes_are)) is.key verified (told_taints new);
+        bytes = stands_own store.keys new v shows;
         stands = λ here. both.0;
         loads = λ here. refl;
         object = λ here. ap (λ (x : Contents). Sound x) (sym (versions_are_held store.keys new o (new_version new app attributes bytes o) (new_contents attributes bytes) still both.0 both.1));
@@ -80,6 +91,8 @@ module _ (store : Store) (old new : FileState) (app attributes bytes : List ℕ)
     attributes = ap length (sym is.attributes_are);
     verified = verified;
     front = made_have_fronts old new (object_key store.keys app) attributes bytes root o few is;
+    masked = λ taints own told one. absurd (decoded_unshown store.keys o.tree.root o.tree.tree app (length bytes) (length attributes) block taints own one);
+    bytes = λ taints own told one. absurd (decoded_unshown store.keys o.tree.root o.tree.tree app (length bytes) (length attributes) block taints own one);
     stands = λ here. absurd (off here);
     loads = λ here. absurd (off here);
     object = λ here. absurd (off here);
@@ -112,7 +125,7 @@ module _ (store : Store) (old new : SlotValue) (tsk attributes bytes : List ℕ)
       record { sound = h.sound; stands = h.stands }
 
   own : IsSlotOf store old.number new.file is.seat
-  own = file_moves store old.number old.file new.file is.seat makes.keeps.goes_on.honest make_holds is.own
+  own = file_moves store old.number old.file new.file is.seat makes.keeps.goes_on make_holds (λ v known. absurd (nothing is.seat is.is v known)) is.own
 
   -- with nothing loaded it may stand behind its lock
   vacated : SlotInvariant store (record old { file = new.file; holds = free; doubt = None })

@@ -7,7 +7,11 @@ use Rattle.aes_block.specs.WrappedKey.{unwrapped_of}
 use Rattle.hmac_keys.specs.declared.Keys.{Keys}
 use Rattle.node_image.specs.declared.node.RootRef.{RootRef}
 use Rattle.node_image.specs.declared.head.Head.{Head}
-use Rattle.node_image.specs.Selection.{row, selected_tree}
+use Rattle.node_image.specs.Selection.{SelectedTree, part_in, row, selected_tree}
+use Rattle.node_image.specs.Parts.{start}
+use Rattle.node_image.specs.Parts.Part.{head}
+use Rattle.node_image.proofs.ImageBytes.{length-bytes_at}
+use Rattle.disk_model.specs.Arms.{Taint}
 use Rattle.node_image.proofs.Matching.{row_at}
 use Rattle.htree_file.specs.declared.fault.TreeFault.{TreeFault}
 use Rattle.htree_file.specs.Opening.{IsVerified, Loaded}
@@ -15,7 +19,10 @@ use Rattle.htree_file.specs.Value.{Staged}
 use Rattle.store_model.specs.Object.{Contents, Object, Sound}
 use Rattle.object_file.specs.DeviceKeys.{object_key}
 use Rattle.history_seats.specs.Records.{Version}
-use Rattle.core_laws.specs.SlotParts.{VersionStands}
+use Rattle.core_laws.specs.Masked.{HasOneTree, told_taints}
+use Rattle.core_laws.specs.SlotParts.{IsShownIn, VersionStands}
+use Rattle.object_slots.proofs.MaskedObjects.{front_masked, version_front}
+use Rattle.core_laws.proofs.MaskedBytes.{stands_own}
 use Rattle.core_laws.specs.Decodings.{IsReal, block_of, object_decoded, tree_decoding}
 use Rattle.core_laws.proofs.Images.{image_real}
 use Rattle.object_file.specs.Changes.{adopted}
@@ -56,6 +63,13 @@ pub decoded_block : (keys : Keys) (root : RootRef) (tree : Loaded) (app : List �
     → block_of (version_decoded keys root tree app size attributes block) k ≡ block k
 decoded_block keys root tree app size attributes block k lt = row_at block (length tree.nodes) k [] lt
 
+-- No image shows it.
+pub decoded_unshown : (keys : Keys) (root : RootRef) (tree : Loaded) (app : List ℕ) (size attributes : ℕ) (block : ℕ → List ℕ) (taints : List Taint) (own : Loaded)
+    → HasOneTree keys taints (version_decoded keys root tree app size attributes block) own → ⊥
+decoded_unshown keys root tree app size attributes block taints own one =
+    let none : length (part_in one.image (head root.version)) ≡ 0 = ap (λ (t : SelectedTree). length t.head_bytes) one.shows.selects in
+    omega (arith, none, length-bytes_at one.image (start (head root.version)) 32)
+
 -- A version that stands in a file, with its tree selected there, is real.
 pub replay_real : (keys : Keys) (s : FileState) (root : RootRef) (tree : Loaded) (app : List ℕ) (size attributes : ℕ) (object : Object) → SoundFile s
     → VersionStands keys s (record { root = root; tree = selected_tree s.reads root.version; loads = Ok tree; app = app; size = size; attributes = attributes; object = object })
@@ -92,15 +106,20 @@ module _ (keys : Keys) (old new : FileState) (o : HeldObject) (v : Version) (c :
   pub of_changed : IsTrue new.honest → IsObjectOf keys new (adopted o s) changed
   of_changed honest =
       let both = stages_are_versions keys old new o v was c root s own sound still honest (is.stands (honest_still honest)) (has_version keys old o v is (honest_still honest)) stage in
+      let shows : IsShownIn keys new.reads changed = both.0.shown new.reads (reads_left new still) in
+      let real : IsReal keys changed = replay_real keys new s.root s.tree v.app c.size v.attributes (Sound (c.contents was)) still both.0 in
+      let attributes : (c.contents was).attributes ≡ o.attributes = own was in
       record {
-        real = replay_real keys new s.root s.tree v.app c.size v.attributes (Sound (c.contents was)) still both.0;
+        real = real;
         root = refl;
         key = key;
         size = sym size;
         long = long ∙ ap (λ (n : ℕ). 4096 + n) (sym size);
         attributes = is.attributes;
         verified = stage.verified;
-        front = stages_keep_fronts old new o c root s behind stage is.front;
+        front = version_front keys (adopted o s) changed (c.contents was) new.reads shows real refl refl attributes is.attributes key stage.verified;
+        masked = front_masked keys (adopted o s) changed (c.contents was) new.reads shows real refl refl attributes is.attributes key stage.verified (told_taints new);
+        bytes = stands_own keys new changed shows;
         stands = λ here. both.0;
         loads = λ here. refl;
         object = λ here. ap (λ (x : Contents). Sound x) (sym (versions_are_held keys new (adopted o s) changed (c.contents was) still both.0 both.1));
@@ -117,6 +136,8 @@ module _ (keys : Keys) (old new : FileState) (o : HeldObject) (v : Version) (c :
     attributes = is.attributes;
     verified = stage.verified;
     front = stages_keep_fronts old new o c root s behind stage is.front;
+    masked = λ taints tree told one. absurd (decoded_unshown keys s.root s.tree v.app c.size v.attributes block taints tree one);
+    bytes = λ taints tree told one. absurd (decoded_unshown keys s.root s.tree v.app c.size v.attributes block taints tree one);
     stands = λ here. absurd (off here);
     loads = λ here. absurd (off here);
     object = λ here. absurd (off here);

@@ -77,6 +77,11 @@ module _ (store : Store) (gate : GateView) (number : ℕ) (file : FileState) (se
       | inl same ↦ sym same
       | inr old ↦ was.single generation v (renewed_known gate view own.fits generation v old)
     ];
+    told = was.told;
+    masked = λ v known. elim (known_after view.mounted gate.all gate.decided within view.file view.generation versions event own.on_a_call own.right v known) [
+      | inl old ↦ was.masked v (entry_known gate view own.fits v old)
+      | inr new ↦ own.masked v new
+    ];
     legal = λ honest scenario off.
         let grows = own_grows store scenario number in
         grows.more gate.all r

@@ -1,7 +1,8 @@
 -- What a read of a locked slot's object tells of its version.
-use Rattle.std.proofs.Common.{◌≡◌, ◌∙◌, ◌+◌, ◌-◌, ◌++◌, ℕ, List, length, length-drop, take, drop, min, None, Result, Ok, Err, IsTrue, inl, refl, sym, ap, subst}
+use Rattle.std.proofs.Common.{◌≡◌, ◌∙◌, ◌+◌, ◌-◌, ◌++◌, ℕ, Bool, List, length, length-drop, take, drop, min, None, Result, Ok, Err, IsTrue, inl, refl, sym, ap, subst}
 use Rattle.std.proofs.lemmas.List.{length-take}
 use Rattle.std.proofs.Math.Seq.{take-append_seam}
+use Rattle.disk_model.specs.Calls.{GoesOn}
 use Rattle.disk_model.specs.State.{FileState}
 use Rattle.htree_file.specs.Standing.{Told}
 use Rattle.page_bytes.specs.Pages.{page_at}
@@ -15,7 +16,9 @@ use Rattle.history_seats.specs.Records.{Version}
 use Rattle.node_image.specs.declared.node.RootRef.{RootRef}
 use Rattle.core_laws.specs.Given.{Gave, Tells, is_asked, decoding_given}
 use Rattle.core_laws.specs.Decodings.{wrap_of}
+use Rattle.core_laws.specs.Masked.{IsMaskedOf, told_taints}
 use Rattle.core_laws.specs.Stores.{Store}
+use Rattle.object_slots.proofs.MaskedObjects.{given_masked}
 use Rattle.object_file.specs.Held.{held_in, pages_in}
 use Rattle.object_file.specs.Value.{size_in}
 use Rattle.object_slots.specs.declared.fault.SlotFault.{SlotFault}
@@ -38,12 +41,16 @@ module _ (keys : Keys) (old new : FileState) (o : HeldObject) (v : Version) (at 
   count_same : read_count o at (length before) ≡ given_count v at (length after)
   count_same = λ i. min (sym whole i) (sym is.size i - at)
 
-  tells : (n : ℕ) → ReadsObject old new o at before after (Ok n) → TellsRead keys v at (length after) (take n after)
-  tells n reads handle =
+  tells : GoesOn old new → (n : ℕ) → ReadsObject old new o at before after (Ok n) → TellsRead keys (told_taints new) v at (length after) (take n after)
+  tells goes n reads handle =
       let own = reads_tell (wrap_of keys v) old new o at before after n handle is.key is.long whole is.front reads in
-      subst
-      (λ (x : RootRef × ℕ × ℕ × ℕ). (gave : Gave (wrap_of keys v) x.0 x.1 (is_asked x.1 at (Read handle x.3))) × Tells (decoding_given gave) x.1 x.2 at (Read handle x.3) (Content (take n after)))
-      (λ i. (sym is.root i, sym is.size i, sym is.attributes i, sym whole i)) own
+      let asked : ℕ → Bool = is_asked (size_in o) at (Read handle (length before)) in
+      let told = subst
+      (λ (x : RootRef × ℕ × ℕ × ℕ). (gave : Gave (wrap_of keys v) x.0 x.1 (is_asked x.1 at (Read handle x.3)))
+      × IsMaskedOf keys (told_taints new) v (is_asked x.1 at (Read handle x.3)) gave.tree gave.block × Tells (decoding_given gave) x.1 x.2 at (Read handle x.3) (Content (take n after)))
+      (λ i. (sym is.root i, sym is.size i, sym is.attributes i, sym whole i))
+      (own.0, given_masked keys old new goes o v is (wrap_of keys v) (size_in o) asked own.0 own.1, own.2) in
+      (record { gave = told.0; masked = told.1 }, told.2)
 
   -- an honest file is told, and holds the version's object
   held : (c : Contents) → v.object ≡ Sound c → IsTrue old.honest → held_in o old.reads ≡ c
@@ -68,15 +75,15 @@ module _ (keys : Keys) (old new : FileState) (o : HeldObject) (v : Version) (at 
   corrupt_same result answer c same =
       subst (λ (x : Contents × ℕ). CorruptAnswer x.0 (meets_block at (at + x.1)) result) (λ i. (same i, count_same i)) answer
 
-  by_result : (result : Result ℕ SlotFault) → (IsTrue new.honest → IsTrue new.tells) → (IsTrue new.honest → IsTrue old.honest) → ReadsObject old new o at before after result
+  by_result : (result : Result ℕ SlotFault) → GoesOn old new → (IsTrue new.honest → IsTrue new.tells) → (IsTrue new.honest → IsTrue old.honest) → ReadsObject old new o at before after result
       → ReadsVersion keys new v at after result
-  by_result (Ok n) tell was reads = record {
+  by_result (Ok n) goes tell was reads = record {
     count = reads.count ∙ count_same;
-    tells = tells n reads;
+    tells = tells goes n reads;
     content = λ honest c object. content n reads (tell honest, inl honest) c (held c object (was honest));
     corrupt = λ honest c object. corrupt_same (Ok n) (reads.corrupt (tell honest, inl honest)) c (held c object (was honest));
   }
-  by_result (Err fault) tell was reads = record {
+  by_result (Err fault) goes tell was reads = record {
     count = tt;
     tells = tt;
     content = λ honest c object. tt;
@@ -95,7 +102,7 @@ module _ (store : Store) (old new : SlotValue) (same : new ≡ record old { file
       let guarded : SlotInvariant store (record old { file = new.file }) = slot_rests store old new.file reads.rests reads.steps is in (
         subst (SlotInvariant store) (sym same) guarded,
         λ v given. by_result store.keys old.file new.file o v at before after whole (slot_object store old v o is given holds) result
-            (guarded.own.holds None).sound.told reads.rests.goes_on.honest reads,
+            reads.rests.goes_on (guarded.own.holds None).sound.told reads.rests.goes_on.honest reads,
       )
 
 pub read_guarded : (store : Store) (old new : SlotValue) (at : ℕ) (before after : List ℕ) (result : Result ℕ SlotFault) → new ≡ record old { file = new.file } → length after ≡ length before → SlotInvariant store old

@@ -52,6 +52,8 @@ module _ (store : Store) (number generation : ℕ) (file : FileState) (m : IsMou
       holds = λ stage. record { sound = m.sound; stands = λ honest v known. m.stands honest v (of_own v known) };
       real = λ v known. m.real v (of_own v known);
       single = λ other v known. m.single other v (told other v known);
+      told = m.told;
+      masked = λ v known. m.masked v (of_own v known);
       legal = λ honest scenario off front r back is tag answered. absurd (no_front front r back is);
     };
     content = record {

@@ -8,6 +8,8 @@ use Rattle.store_model.specs.Object.{Contents, Sound}
 use Rattle.history_seats.specs.Records.{Version}
 use Rattle.history_seats.specs.Settling.{calm}
 use Rattle.core_laws.specs.Given.{Gave, decoding_given}
+use Rattle.core_laws.specs.Masked.{GaveVersion, IsMaskedOf, told_taints}
+use Rattle.object_slots.proofs.MaskedObjects.{given_masked}
 use Rattle.core_laws.specs.Decodings.{block_of, tree_decoding_if, wrap_of}
 use Rattle.core_laws.specs.Stores.{Store}
 use Rattle.core_laws.specs.WriteLaws.{IsMadeOver}
@@ -35,8 +37,8 @@ use Rattle.object_slots.proofs.HonestPages.{Lays}
 use Rattle.node_image.specs.declared.head.Head.{Head}
 use Rattle.object_slots.specs.SlotVersions.{changed_version}
 use Rattle.object_slots.specs.GuardedStages.{ChangesPages}
-use Rattle.object_slots.proofs.MadeOver.{chosen, gave, made_over}
-use Rattle.object_slots.proofs.MadeOverOwn.{gave_own, made_over_own}
+use Rattle.object_slots.proofs.MadeOver.{chosen, gave, gave_by, made_over}
+use Rattle.object_slots.proofs.MadeOverOwn.{gave_own, gave_own_masked, made_over_own}
 use Rattle.object_slots.proofs.Staged.{object_keeps, own_stays}
 
 sound_same : (a b : Contents) → Sound a ≡ Sound b → a ≡ b
@@ -94,10 +96,15 @@ module _ (store : Store) (old new : SlotValue) (o : HeldObject) (c : DataChange)
 
     -- where a draw failed, what the change needs was read
     given_undrawn : (fault : SlotFault) → StageFault old.file new.file o (needs c.range) Undrawn fault
-        → IfUndrawn {A = RootRef} (Err fault) (Gave (wrap_of store.keys v) v.root v.size (λ k. (k == 0) || needs change.range k))
+        → IfUndrawn {A = RootRef} (Err fault) (GaveVersion store.keys (told_taints new.file) v (λ k. (k == 0) || needs change.range k))
     given_undrawn (NoEntropy count) refused =
-        subst (λ (x : RootRef × ℕ × ByteRange). Gave (wrap_of store.keys v) x.0 x.1 (λ k. (k == 0) || needs x.2 k)) (λ i. (sym object.root i, sym object.size i, of.range i))
-        (changes_give (wrap_of store.keys v) old.file new.file o c object.key object.long object.verified of.behind object.front refused.1)
+        let own = changes_give (wrap_of store.keys v) old.file new.file o c object.key object.long object.verified of.behind object.front refused.1 in
+        let told = subst
+        (λ (x : RootRef × ℕ × ByteRange). (g : Gave (wrap_of store.keys v) x.0 x.1 (λ k. (k == 0) || needs x.2 k))
+        × IsMaskedOf store.keys (told_taints new.file) v (λ k. (k == 0) || needs x.2 k) g.tree g.block)
+        (λ i. (sym object.root i, sym object.size i, of.range i))
+        (own.0, given_masked store.keys old.file new.file stages.keeps.goes_on o v object (wrap_of store.keys v) (size_in o) (λ k. (k == 0) || needs c.range k) own.0 own.1) in
+        record { gave = told.0; masked = told.1 }
     given_undrawn Corrupt refused = tt
     given_undrawn NoMemory refused = tt
     given_undrawn (Failed count) refused = tt
@@ -120,28 +127,34 @@ module _ (store : Store) (old new : SlotValue) (o : HeldObject) (c : DataChange)
       block = chosen store.keys old.file new.file o v c root s stage object of.behind of.inside
 
       over : (next : Version) (told : Gave (wrap_of store.keys v) o.tree.root (size_in o) (λ k. (k == 0) || needs c.range k))
-          → IsMadeOver store.keys v next (decoding_given told) c.range c.at c.bytes → IsMadeOverGiven store.keys v next change
-      over next told made =
-          subst
+          → IsMaskedOf store.keys (told_taints new.file) v (λ k. (k == 0) || needs c.range k) told.tree told.block
+          → IsMadeOver store.keys v next (decoding_given told) c.range c.at c.bytes → IsMadeOverGiven store.keys (told_taints new.file) v next change
+      over next told masked made =
+          let all = subst
           (λ (x : RootRef × ℕ × ByteRange × ℕ × List ℕ). (g : Gave (wrap_of store.keys v) x.0 x.1 (λ k. (k == 0) || needs x.2 k))
+          × IsMaskedOf store.keys (told_taints new.file) v (λ k. (k == 0) || needs x.2 k) g.tree g.block
           × IsMadeOver store.keys v next (decoding_given g) x.2 x.3 x.4)
           (λ i. (sym object.root i, sym object.size i, of.range i, of.place i, of.bytes i))
-          (told, made)
+          (told, masked, made) in
+          (record { gave = all.0; masked = all.1 }, all.2)
 
       -- over what was read, in any file
-      over_given : IsMadeOverGiven store.keys v (version_decoded store.keys s.root s.tree v.app c.size v.attributes block) change
+      over_given : IsMadeOverGiven store.keys (told_taints new.file) v (version_decoded store.keys s.root s.tree v.app c.size v.attributes block) change
       over_given =
           over (version_decoded store.keys s.root s.tree v.app c.size v.attributes block)
           (gave store.keys old.file new.file o v c root s stage object of.behind of.inside)
+          (given_masked store.keys old.file new.file stages.keeps.goes_on o v object (wrap_of store.keys v) (size_in o) (λ k. (k == 0) || needs c.range k)
+          (gave store.keys old.file new.file o v c root s stage object of.behind of.inside) (gave_by store.keys old.file new.file o v c root s stage object of.behind of.inside))
           (made_over store.keys old.file new.file o v c root s stage object of.behind of.inside)
 
       -- and over what the version spells, in an honest one
-      over_own : IsTrue new.file.honest → IsMadeOverGiven store.keys v (changed_version new.file v (held_in o old.file.reads) c s) change
+      over_own : IsTrue new.file.honest → IsMadeOverGiven store.keys (told_taints new.file) v (changed_version new.file v (held_in o old.file.reads) c s) change
       over_own honest =
           let kept : SoundFile old.file = (is.own.holds None).sound in
           let still : SoundFile new.file = (own.holds None).sound in
           over (changed_version new.file v (held_in o old.file.reads) c s)
           (gave_own store.keys old.file new.file o v c root s stage object kept still honest (was honest) of.from of.lays of.grown)
+          (gave_own_masked store.keys old.file new.file o v c root s stage object kept still honest (was honest) of.from of.lays of.grown (told_taints new.file))
           (made_over_own store.keys old.file new.file o v c root s stage object kept still honest (was honest) of.from of.lays of.grown)
 
       -- in an honest file the pages are those that the change makes

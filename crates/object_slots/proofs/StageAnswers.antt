@@ -1,7 +1,7 @@
 -- A change of an object's data, from opening its stage and from settling it.
 use Rattle.std.proofs.Common.{◌≡◌, ◌∙◌, ◌+◌, ◌-◌, ◌<◌, ℕ, List, length, true, false, Option, Some, None, Result, Ok, Err, IfErr, IfSome, IsTrue, OnOk, inl, refl, sym, ap, subst}
 use Rattle.disk_model.specs.State.{FileState, Sound}
-use Rattle.disk_model.specs.Calls.{GoesOn, Known, Rests}
+use Rattle.disk_model.specs.Calls.{Known, Rests}
 use Rattle.disk_model.specs.Keeps.{Anywhere, Keeps}
 use Rattle.disk_model.proofs.Goings.{then_known}
 use Rattle.disk_model.proofs.Laws.{keeps_then}
@@ -118,14 +118,14 @@ module _ (o : HeldObject) (c : DataChange) (Undrawn : Type 0) where
   }
 
   -- what the new nodes seal, in the course of further calls
-  seals_first : (a b d : FileState) (next : Loaded) → GoesOn b d → SealsRange o.tree.key o.tree.tree next a b c.range c.at c.bytes (4096 + c.size)
+  seals_first : (a b d : FileState) (next : Loaded) → Keeps (Lies o.tree.tree.nodes o.tree.root.version) b d → SealsRange o.tree.key o.tree.tree next a b c.range c.at c.bytes (4096 + c.size)
       → SealsRange o.tree.key o.tree.tree next a d c.range c.at c.bytes (4096 + c.size)
-  seals_first a b d next goes seals = record {
+  seals_first a b d next keeps seals = record {
     met = λ k lt first last.
         let was = seals.met k lt first last in
         let page : List ℕ = was.0 in
         let new_page : IsNewPage o.tree.key o.tree.tree a b c.range c.at c.bytes k page = was.2 in
-        let read = λ (asked : needs c.range k ≡ true). page_first o.tree.key o.tree.tree a b d k new_page.over goes (new_page.read asked) in
+        let read = λ (asked : needs c.range k ≡ true). page_first o.tree.key o.tree.tree a b d k new_page.over keeps (new_page.read asked) in
         (page, was.1, record { over = new_page.over; read = read; rewritten = new_page.rewritten });
     missed = seals.missed;
   }
@@ -175,6 +175,9 @@ module _ (o : HeldObject) (c : DataChange) (Undrawn : Type 0) where
       next_is : IsNext s
       next_is = at_some stage IsNext s is opens.next
 
+      kept : Keeps (Lies o.tree.tree.nodes o.tree.root.version) mid new
+      kept = keeps_selected o.tree.tree.nodes o.tree.root.version mid new settles.keeps
+
       stage_of : IsStageOf old new o c root after
       stage_of = record {
         root_is = sym leaves_is.0;
@@ -184,9 +187,9 @@ module _ (o : HeldObject) (c : DataChange) (Undrawn : Type 0) where
         synced = (mid, opens.keeps, settles.synced);
         verified = at_some stage (λ x. IsVerified x.root x.tree) s is opens.verifies;
         spares = at_some stage (λ x. SparesZero o.tree.tree x.tree) s is opens.spares;
-        seals = seals_first old mid new s.tree settles.keeps.goes_on
+        seals = seals_first old mid new s.tree kept
             (at_some stage (λ x. SealsRange o.tree.key o.tree.tree x.tree old mid c.range c.at c.bytes (4096 + c.size)) s is opens.seals);
-        read = λ k asked. was_first o.tree.key o.tree.tree old mid new k settles.keeps.goes_on (opens.blocks k asked);
+        read = λ k asked. was_first o.tree.key o.tree.tree old mid new k kept (opens.blocks k asked);
         stands = holds_now;
         firm = λ honest loads.
             at_some stage (λ x. IsTrue new.honest → load_of mid.reads x.root ≡ Ok x.tree → IsFirm new x.root x.tree) s is settles.next_firm honest

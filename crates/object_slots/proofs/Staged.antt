@@ -7,6 +7,9 @@ use Rattle.htree_file.specs.Selected.{Lies}
 use Rattle.history_seats.specs.Records.{Version}
 use Rattle.history_seats.specs.Settling.{calm}
 use Rattle.history_seats.specs.Views.{Sight, SlotView}
+use Rattle.core_laws.specs.Masked.{StandsMasked}
+use Rattle.core_laws.proofs.MaskedBytes.{stands_later}
+use Rattle.object_slots.proofs.MaskedObjects.{object_runs}
 use Rattle.core_laws.specs.SlotParts.{SlotHolds, VersionStands}
 use Rattle.core_laws.specs.SlotSteps.{KnowsOne, Stager}
 use Rattle.core_laws.proofs.SlotRuns.{run_holds}
@@ -36,7 +39,13 @@ module _ (store : Store) (number : ℕ) (old new : FileState) (seat : Sight Slot
 
   -- the file is the store's still
   pub own_stays : IsSlotOf store number new seat
-  own_stays = file_moves store number old new seat keeps.goes_on.honest stage_holds own
+  own_stays =
+      file_moves store number old new seat keeps.goes_on stage_holds
+      (λ w known.
+      subst (StandsMasked store.keys new) (some_same v w (known_one seat.knows (Some v) gives own.single w known))
+      (stands_later store.keys old new v keeps.goes_on
+      (λ taints tree told one. object_runs store.keys old new keeps.goes_on o v is keeps.run taints tree told one) is.bytes))
+      own
 
   pub version_keeps : IsTrue new.honest → VersionStands store.keys new v
   version_keeps honest =
@@ -49,4 +58,4 @@ module _ (store : Store) (number : ℕ) (old new : FileState) (seat : Sight Slot
 
   -- and the object is of its version still
   pub object_keeps : IsObjectOf store.keys new o v
-  object_keeps = object_stays store.keys old new o v (stage_holds None).sound keeps.goes_on.honest version_keeps is
+  object_keeps = object_stays store.keys old new o v (stage_holds None).sound keeps.run version_keeps is

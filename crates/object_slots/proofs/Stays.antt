@@ -1,8 +1,10 @@
 -- What holds of a slot's object after calls of its file.
-use Rattle.std.proofs.Common.{◌≡◌, ◌∙◌, ◌⊎◌, ℕ, ◌<◌, ◌≤◌, List, [], ◌∷◌, Ok, IsTrue, inl, inr, refl, sym, ap, subst, arith}
+use Rattle.std.proofs.Common.{◌≡◌, ◌∙◌, ◌⊎◌, ◌==◌, ℕ, ◌<◌, ◌≤◌, List, [], ◌∷◌, Option, Ok, IsTrue, inl, inr, refl, sym, ap, subst, arith}
 use Rattle.disk_model.specs.State.{FileState, Sound as SoundFile}
-use Rattle.disk_model.specs.Calls.{Rests}
-use Rattle.disk_model.specs.Keeps.{CallOff, FileCall, IsFileRun, write, sync, rest}
+use Rattle.disk_model.specs.Calls.{GoesOn, Rests}
+use Rattle.disk_model.proofs.Seen.{runs_one}
+use Rattle.disk_model.specs.Arms.{Taint}
+use Rattle.disk_model.specs.Keeps.{CallOff, FileCall, IsFileRun, Runs, write, sync, rest}
 use Rattle.disk_model.proofs.ImageLaws.{reads_left}
 use Rattle.hmac_keys.specs.declared.Keys.{Keys}
 use Rattle.htree_file.specs.Opening.{Loaded}
@@ -10,7 +12,10 @@ use Rattle.htree_file.specs.Selected.{Lies}
 use Rattle.store_model.specs.Object.{Contents, Sound}
 use Rattle.object_file.proofs.Sightings.{CallMisses}
 use Rattle.history_seats.specs.Records.{Version}
+use Rattle.core_laws.specs.Masked.{IsMaskedOf, told_taints}
 use Rattle.core_laws.specs.SlotParts.{VersionStands}
+use Rattle.core_laws.proofs.MaskedBytes.{runs_go_on, stands_later, told_stays}
+use Rattle.object_slots.proofs.MaskedObjects.{object_runs}
 use Rattle.core_laws.proofs.SlotRuns.{call_honest, version_stays}
 use Rattle.object_file.specs.Held.{held_in}
 use Rattle.object_slots.specs.SlotValues.{HeldObject}
@@ -31,9 +36,10 @@ has_version keys s o v is honest = record {
 }
 
 -- While its version stands, the object holds what it held.
-pub object_stays : (keys : Keys) (old new : FileState) (o : HeldObject) (v : Version) → SoundFile new → (IsTrue new.honest → IsTrue old.honest) → (IsTrue new.honest → VersionStands keys new v)
+pub object_stays : (keys : Keys) (old new : FileState) (o : HeldObject) (v : Version) → SoundFile new → Runs (Lies o.tree.tree.nodes o.tree.root.version) old new
+    → (IsTrue new.honest → VersionStands keys new v)
     → IsObjectOf keys old o v → IsObjectOf keys new o v
-object_stays keys old new o v sound was stands is = record {
+object_stays keys old new o v sound runs stands is = record {
   real = is.real;
   root = is.root;
   key = is.key;
@@ -43,16 +49,24 @@ object_stays keys old new o v sound was stands is = record {
   verified = is.verified;
   front = is.front;
   stands = stands;
-  loads = λ honest. is.loads (was honest);
+  loads = λ honest. is.loads (goes.honest honest);
   object = λ honest.
-      is.object (was honest)
-      ∙ ap (λ (c : Contents). Sound c) (sym (versions_are_held keys new o v (held_in o old.reads) sound (stands honest) (has_version keys old o v is (was honest))));
+      is.object (goes.honest honest)
+      ∙ ap (λ (c : Contents). Sound c) (sym (versions_are_held keys new o v (held_in o old.reads) sound (stands honest) (has_version keys old o v is (goes.honest honest))));
+  masked = subst (λ (told : Option (List Taint)). IsMaskedOf keys told v (λ k. k == 0) o.tree.tree (λ k. is.front.seals.0)) same is.masked;
+  bytes = stands_later keys old new v goes (λ taints tree told one. object_runs keys old new goes o v is runs taints tree told one) is.bytes;
 }
+  where
+    goes : GoesOn old new
+    goes = runs_go_on (Lies o.tree.tree.nodes o.tree.root.version) old new runs
+
+    same : told_taints old ≡ told_taints new
+    same = sym (told_stays old new goes)
 
 -- a call that changes nothing
 pub object_rests : (keys : Keys) (old new : FileState) (o : HeldObject) (v : Version) → SoundFile old → SoundFile new → Rests old new → IsObjectOf keys old o v → IsObjectOf keys new o v
 object_rests keys old new o v sound still rests is =
-    object_stays keys old new o v still rests.goes_on.honest (λ honest. version_stays keys rest old new v sound still honest rests tt (is.stands (rests.goes_on.honest honest))) is
+    object_stays keys old new o v still (runs_one (Lies o.tree.tree.nodes o.tree.root.version) rest old new sound rests tt) (λ honest. version_stays keys rest old new v sound still honest rests tt (is.stands (rests.goes_on.honest honest))) is
 
 first_sound : (Kept : ℕ → Type 0) (old : FileState) (calls : List FileCall) (new : FileState) → IsFileRun Kept old calls new → SoundFile new → SoundFile old
 first_sound Kept old [] new run sound = subst SoundFile run sound

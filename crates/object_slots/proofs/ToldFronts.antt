@@ -2,7 +2,7 @@
 use Rattle.std.proofs.Common.{◌≡◌, ◌∙◌, ◌+◌, ◌≤◌, ◌==◌, ◌||◌, ℕ, Bool, true, false, true≢false, List, length, take, Some, refl, sym, subst, arith}
 use Rattle.std.specs.Option.{IsSome}
 use Rattle.std.specs.Prelude.{IfSome}
-use Rattle.std.proofs.lemmas.Bool.{eqb-true}
+use Rattle.std.proofs.lemmas.Bool.{eq-eqb, eqb-true}
 use Rattle.std.proofs.lemmas.Grind.{same_number_lists}
 use Rattle.std.proofs.lemmas.List.{get_or-take, length-take-le}
 use Rattle.disk_model.specs.State.{FileState}
@@ -15,7 +15,9 @@ use Rattle.tee_types.specs.declared.reply.Reply.TheVariants.{Handle as HandleRep
 use Rattle.history_seats.specs.Records.{Version}
 use Rattle.core_laws.specs.Given.{Gave, Tells, is_asked, decoding_given}
 use Rattle.core_laws.specs.Decodings.{Decoding, page_decoded, tree_decoding, wrap_of}
+use Rattle.core_laws.specs.Masked.{IsMaskedOf, told_taints}
 use Rattle.core_laws.specs.Stores.{Store}
+use Rattle.object_slots.proofs.MaskedObjects.{masked_fewer}
 use Rattle.object_file.specs.Held.{held_in}
 use Rattle.object_file.specs.Value.{size_in}
 use Rattle.object_slots.specs.SlotValues.{HeldObject, Holding, IfLive, IsLive, SlotValue, committed, free, live, made, staged}
@@ -69,6 +71,12 @@ module _ (keys : Keys) (file : FileState) (o : HeldObject) (v : Version) (is : I
     good = λ k any. subst (λ (j : ℕ). IsSome (page_decoded sp j)) (sym (only k any)) (subst IsSome (sym first) refl);
   }
 
+  first_masked : (asked : ℕ → Bool) (only : (k : ℕ) → asked k ≡ true → k ≡ 0)
+      → IsMaskedOf keys (told_taints file) v asked (gave_first asked only).tree (gave_first asked only).block
+  unfolding gave_first
+  first_masked asked only =
+      masked_fewer keys (told_taints file) v (λ k. k == 0) asked o.tree.tree (λ k. is.front.seals.0) (λ k any. eq-eqb k 0 (only k any)) is.masked
+
   -- the attributes are the first bytes of its page
   own : length o.attributes ≤ 2048 → o.attributes ≡ take (length o.attributes) is.front.page
   own few =
@@ -77,22 +85,26 @@ module _ (keys : Keys) (file : FileState) (o : HeldObject) (v : Version) (is : I
       same_number_lists o.attributes (take (length o.attributes) page) (sym (length-take-le (length o.attributes) page within))
       (λ i lt. is.front.front i lt ∙ sym (get_or-take (length o.attributes) page i 0 lt))
 
-  tells_info : length o.attributes ≤ 2048 → TellsInfo keys v o.attributes
+  tells_info : length o.attributes ≤ 2048 → TellsInfo keys (told_taints file) v o.attributes
   unfolding gave_first
   tells_info few position handle at flags =
-      subst
+      let told = subst
       (λ (x : RootRef × ℕ × ℕ). (gave : Gave (wrap_of keys v) x.0 x.1 (is_asked x.1 position (Info handle)))
+      × IsMaskedOf keys (told_taints file) v (is_asked x.1 position (Info handle)) gave.tree gave.block
       × Tells (decoding_given gave) x.1 x.2 position (Info handle) (InfoReply x.1 at flags o.attributes))
       (λ i. (sym is.root i, sym is.size i, sym is.attributes i))
-      (gave_first (is_asked (size_in o) position (Info handle)) only_first, (is.front.page, first, own few))
+      (gave_first (is_asked (size_in o) position (Info handle)) only_first, first_masked (is_asked (size_in o) position (Info handle)) only_first, (is.front.page, first, own few)) in
+      (record { gave = told.0; masked = told.1 }, told.2)
 
-  tells_open : TellsOpen keys v
+  tells_open : TellsOpen keys (told_taints file) v
   tells_open position number id flags =
-      subst
+      let told = subst
       (λ (x : RootRef × ℕ). (gave : Gave (wrap_of keys v) x.0 x.1 (is_asked x.1 position (Open id flags)))
+      × IsMaskedOf keys (told_taints file) v (is_asked x.1 position (Open id flags)) gave.tree gave.block
       × Tells (decoding_given gave) x.1 v.attributes position (Open id flags) (HandleReply number))
       (λ i. (sym is.root i, sym is.size i))
-      (gave_first (is_asked (size_in o) position (Open id flags)) only_first, tt)
+      (gave_first (is_asked (size_in o) position (Open id flags)) only_first, first_masked (is_asked (size_in o) position (Open id flags)) only_first, tt) in
+      (record { gave = told.0; masked = told.1 }, told.2)
 
   pub shows : length o.attributes ≤ 2048 → ShowsAttributes keys file v o.attributes
   shows few = record { info = tells_info few; opening = tells_open; sound = λ honest. (held_in o file.reads, is.object honest, refl) }

@@ -15,8 +15,8 @@ abbrev pub kept_in : {V : Type 0} → Option (LruCache ℕ V) → (bytes : V →
 kept_in None bytes = []
 kept_in (Some cache) bytes = pages_of cache.entries bytes
 
--- Each page that is kept is that of its block of the committed tree, and of a file that can be followed it is the one that stands
--- there now.
+-- Each page that is kept is that of its block of the committed tree, whose ciphertext the file read as at a moment since which no call
+-- wrote there. Of a file that can be followed it is the one that stands there now.
 abbrev pub AreKept : {F : Type 0} → (state : F → FileState) → TreeValue F → List (ℕ × List ℕ) → Type 0
 AreKept state t pages = (k : ℕ) (page : List ℕ) → Contains pages (k, page) → IsPage t.key t.tree (state t.file) (state t.file) k page
 

@@ -6,6 +6,7 @@ use Rattle.history_seats.specs.Versions.{version_among}
 use Rattle.core_laws.specs.Opened.{first_view}
 use Rattle.core_laws.specs.SlotParts.{VersionStands}
 use Rattle.core_laws.specs.Decodings.{IsReal}
+use Rattle.core_laws.specs.Masked.{StandsMasked, told_taints}
 use Rattle.core_laws.specs.Stores.{Store}
 use Rattle.object_slots.specs.SlotValues.{SlotValue, free}
 use Rattle.object_slots.specs.GuardedSlots.{SlotInvariant}
@@ -15,6 +16,8 @@ pub record IsMountedFile (store : Store) (number generation : ℕ) (file : FileS
   pub sound : Sound file
   pub single : (other : ℕ) (v : Version) → version_among number other store.mounted.entries ≡ Some v → other ≡ generation
   pub real : (v : Version) → version_among number generation store.mounted.entries ≡ Some v → IsReal store.keys v
+  pub told : told_taints file ≡ store.taints number
+  pub masked : (v : Version) → version_among number generation store.mounted.entries ≡ Some v → StandsMasked store.keys file v
   pub stands : IsTrue file.honest → (v : Version) → version_among number generation store.mounted.entries ≡ Some v → VersionStands store.keys file v
 
 -- a free slot, whose seat is as it is split before the first event

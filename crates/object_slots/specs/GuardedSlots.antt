@@ -9,6 +9,7 @@ use Rattle.history_seats.specs.Views.{Sight, SlotView}
 use Rattle.core_laws.specs.SlotParts.{Knows, SlotHolds}
 use Rattle.core_laws.specs.TamperScenarios.{TamperScenario}
 use Rattle.core_laws.specs.Decodings.{IsReal}
+use Rattle.core_laws.specs.Masked.{StandsMasked, told_taints}
 use Rattle.core_laws.specs.Stores.{Store}
 use Rattle.core_laws.specs.Answered.{AreOwnLegal}
 use Rattle.object_slots.specs.SlotCalls.{part}
@@ -26,6 +27,9 @@ pub record IsSlotOf (store : Store) (number : ℕ) (file : FileState) (seat : Si
   pub holds : (stage : Option ℕ) → SlotHolds store.keys (part file seat.knows stage)
   pub real : (v : Version) → Knows seat.knows v → IsReal store.keys v
   pub single : KnowsItsOwn seat.knows
+  -- the file tells the masks that the store has for it, and with these over it each version that the view knows stands in it
+  pub told : told_taints file ≡ store.taints number
+  pub masked : (v : Version) → Knows seat.knows v → StandsMasked store.keys file v
   -- while the file is honest, each of its events is legal under each tamper scenario in which it is honest
   pub legal : IsTrue file.honest → (scenario : TamperScenario) → is_in number scenario.tampered ≡ false → AreOwnLegal store scenario number seat.knows.seen
 

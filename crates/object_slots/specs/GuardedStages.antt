@@ -1,5 +1,6 @@
 -- What a stage of a locked slot leaves, in terms of its versions.
-use Rattle.std.specs.Prelude.{◌<◌, ◌≡◌, ◌+◌, ◌==◌, ◌||◌, ℕ, Bool, List, [], length, min, max, None, Some, Result, Ok, Err, IsTrue, true, false}
+use Rattle.std.specs.Prelude.{◌<◌, ◌≡◌, ◌+◌, ◌==◌, ◌||◌, ℕ, Bool, List, [], length, min, max, None, Option, Some, Result, Ok, Err, IsTrue, true, false}
+use Rattle.disk_model.specs.Arms.{Taint}
 use Rattle.disk_model.specs.State.{FileState}
 use Rattle.node_image.specs.declared.node.RootRef.{RootRef}
 use Rattle.htree_file.specs.Changes.{SealsAt}
@@ -10,8 +11,9 @@ use Rattle.page_bytes.specs.Ranges.{meets, needs, resize_range, write_range}
 use Rattle.store_model.specs.Object.{Contents, Sound}
 use Rattle.store_model.specs.Data.{needs_block, resized_contents, written_contents}
 use Rattle.history_seats.specs.Records.{Version}
-use Rattle.core_laws.specs.Given.{Gave, decoding_given}
-use Rattle.core_laws.specs.Decodings.{Decoding, page_decoded, decoding_of, wrap_of}
+use Rattle.core_laws.specs.Given.{decoding_given}
+use Rattle.core_laws.specs.Masked.{GaveVersion, told_taints}
+use Rattle.core_laws.specs.Decodings.{Decoding, page_decoded, decoding_of}
 use Rattle.core_laws.specs.Stores.{Store}
 use Rattle.core_laws.specs.WriteLaws.{IsMadeOver}
 use Rattle.object_slots.specs.declared.fault.SlotFault.{SlotFault}
@@ -62,10 +64,10 @@ resize_of size to = record {
 }
 
 -- The next version was made over what the file gave: block 0, and each block that the change needs.
-abbrev pub IsMadeOverGiven : Keys → (v next : Version) → VersionChange → Type 0
-IsMadeOverGiven keys v next change =
-    (gave : Gave (wrap_of keys v) v.root v.size (λ k. (k == 0) || needs change.range k))
-    × IsMadeOver keys v next (decoding_given gave) change.range change.place change.bytes
+abbrev pub IsMadeOverGiven : Keys → (told : Option (List Taint)) → (v next : Version) → VersionChange → Type 0
+IsMadeOverGiven keys told v next change =
+    (given : GaveVersion keys told v (λ k. (k == 0) || needs change.range k))
+    × IsMadeOver keys v next (decoding_given given.gave) change.range change.place change.bytes
 
 -- The pages of the version's tree become those of the next: a block that the change meets has the page that the change makes, over the one
 -- that it had where it needs that; any other keeps its page, good or bad, and its seal.
@@ -89,7 +91,7 @@ pub record IsNextVersion (keys : Keys) (file : FileState) (v next : Version) (ch
   pub attributes : next.attributes ≡ v.attributes
   pub object : IsTrue file.honest → (c : Contents) → v.object ≡ Sound c → next.object ≡ Sound (change.contents c)
   pub pages : IsTrue file.honest → ChangesPages keys v next change.range change.place change.bytes
-  pub over : IsMadeOverGiven keys v next change
+  pub over : IsMadeOverGiven keys (told_taints file) v next change
 
 abbrev pub StageLeaves : Store → (new : SlotValue) → (v : Version) → VersionChange → Result RootRef SlotFault → Type 0
 StageLeaves store new v change (Ok root) = (next : Version) × IsStagedSlot store new next × IsNextVersion store.keys new.file v next change root
@@ -105,4 +107,4 @@ IfUndrawn result P = Unit {0}
 pub record StagesVersion (store : Store) (new : SlotValue) (v : Version) (change : VersionChange) (result : Result RootRef SlotFault) : Type 0 where
   pub leaves : StageLeaves store new v change result
   pub corrupt : IsTrue new.file.honest → (c : Contents) → v.object ≡ Sound c → CorruptAnswer c change.asked result
-  pub undrawn : IfUndrawn result (Gave (wrap_of store.keys v) v.root v.size (λ k. (k == 0) || needs change.range k))
+  pub undrawn : IfUndrawn result (GaveVersion store.keys (told_taints new.file) v (λ k. (k == 0) || needs change.range k))

@@ -22,6 +22,7 @@ pub mod Fills
 pub mod GuardedFronts
 pub mod LiveSlots
 pub mod GuardedStages
+pub mod SlotChecks
 pub mod NewObjects
 pub use Rattle.object_file.specs.Changes
 pub use Rattle.object_file.specs.Held

@@ -2,8 +2,10 @@
 use Rattle.std.specs.Prelude.{◌≡◌, ℕ, ◌+◌, List, length, Some, None, Result, Ok, Err, IfErr, OnOk, IsTrue}
 use Rattle.disk_model.specs.State.{FileState}
 use Rattle.disk_model.specs.Calls.{Rests}
+use Rattle.disk_model.specs.Seen.{WasSeen}
 use Rattle.aes_block.specs.WrappedKey.{unwrapped_of}
-use Rattle.htree_file.specs.Opening.{IsVerified, load_of}
+use Rattle.htree_file.specs.Opening.{IsVerified, load_of, table_of}
+use Rattle.htree_file.specs.Selected.{Lies}
 use Rattle.htree_file.specs.Standing.{Told}
 use Rattle.block_file.specs.Reads.{AreReadBytes, after_calls}
 use Rattle.store_model.specs.Object.{Damaged, Sound}
@@ -26,6 +28,7 @@ pub record IsLoadedBy (old new : FileState) (tsk : List ℕ) (e : DirEntry) (o :
   pub attributes : length o.attributes ≡ e.attributes
   -- of any file
   pub verified : IsVerified o.tree.root o.tree.tree
+  pub seen : WasSeen (Lies o.tree.tree.nodes o.tree.root.version) old new (λ image. table_of image o.tree.root ≡ Ok o.tree.tree)
   pub bytes : AreReadBytes o.tree.key o.tree.tree old new 0 o.attributes e.attributes
   pub first : IsFirstRead o.tree.key o.tree.tree old new o.attributes e.attributes
   -- of one that can be followed

@@ -14,6 +14,7 @@ use Rattle.core_laws.specs.SlotLaws.{IsNewlyKnown}
 use Rattle.core_laws.specs.SlotParts.{VersionStands}
 use Rattle.core_laws.specs.TamperScenarios.{TamperScenario}
 use Rattle.core_laws.specs.Decodings.{IsReal}
+use Rattle.core_laws.specs.Masked.{StandsMasked}
 use Rattle.core_laws.specs.Stores.{Store}
 use Rattle.core_laws.specs.Answered.{AreAnswered, IsLegalAt}
 use Rattle.object_slots.specs.SlotValues.{Holding, SlotValue, with_stage, without_stage}
@@ -38,6 +39,7 @@ pub record IsOwnEvent (store : Store) (gate : GateView) (number : ℕ) (file : F
   pub right : HasRightTag seat.knows.mounted gate.all (own_record seat event versions)
   pub real : (v : Version) → IsNewlyKnown event versions v → IsReal store.keys v
   pub stands : IsTrue file.honest → (v : Version) → IsNewlyKnown event versions v → VersionStands store.keys file v
+  pub masked : (v : Version) → IsNewlyKnown event versions v → StandsMasked store.keys file v
   pub legal : IsTrue file.honest → (scenario : TamperScenario) → is_in number scenario.tampered ≡ false → AreAnswered store scenario gate.all
       → IsLegalAt store scenario gate.all (own_record seat event versions)
 

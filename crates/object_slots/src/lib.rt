@@ -13,9 +13,11 @@
 
 mod cached;
 mod cached_reads;
+mod checking;
 mod content;
 mod creating;
 mod fault;
+mod guarded_check;
 mod guarded_front;
 pub mod guarded_laws;
 mod guarded_load;
@@ -30,6 +32,7 @@ pub mod slot_laws;
 mod staging;
 
 pub use fault::SlotFault;
+pub use guarded_check::{check_truncate, check_write};
 pub use guarded_front::{attributes, size};
 pub use guarded_load::fill;
 pub use guarded_read::read;

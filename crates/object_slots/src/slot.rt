@@ -8,9 +8,11 @@ ghost use Rattle.object_slots.specs.SlotFaults.{HasCauses};
 ghost use Rattle.object_slots.specs.Loads.{LoadsObject};
 ghost use Rattle.object_slots.specs.Makes.{MakesObject};
 ghost use Rattle.object_slots.specs.SlotReads.{ReadsObject};
+ghost use Rattle.object_slots.specs.SlotChecks.{ChecksObject};
 ghost use Rattle.object_slots.specs.SlotStages.{StagesObject, resize_change, write_change};
 ghost use Rattle.object_slots.specs.SlotValues.{HasNoStage, HasStage, IfLive, IsFree, IsHolding, IsLive, committed, free, with_stage, without_stage};
 
+use crate::checking::{check_resized, check_written};
 use crate::content::Content;
 use crate::creating::make_object;
 use crate::fault::SlotFault;
@@ -319,6 +321,45 @@ impl<F: StoreFile + Drop> Slot<F> {
             unreachable!()
         };
         let (content, answer) = truncate_object(alloc, object.into_object(), size, entropy);
+        self.content = Some(content);
+        answer
+    }
+
+    /// Reads the blocks that a write of these bytes from the place `at` on needs, as `stage_write` does before it draws or writes anything,
+    /// and no more.
+    ///
+    /// # Errors
+    ///
+    /// `Corrupt` where one of these blocks is bad, and `Failed`.
+    pub fn check_write(&mut self, alloc: Global, at: u32, bytes: &[u8]) -> Result<(), SlotFault>
+        requires live { IsLive self.old.holds }
+        requires few { at + length bytes.now ≤ 1044480 }
+        ensures same { self.new ≡ record self.old { file = self.new.file; holds = self.new.holds } }
+        ensures checks { IfLive self.old.holds (λ o. ChecksObject self.old.file self.new.file o (write_change o at bytes.now) self.new.holds result) }
+    {
+        let Some(Content::Live(object)) = self.content.take() else {
+            unreachable!()
+        };
+        let (content, answer) = check_written(alloc, object.into_object(), at, bytes);
+        self.content = Some(content);
+        answer
+    }
+
+    /// Reads the block that a truncation to so many bytes needs, as `stage_truncate` does before it draws or writes anything, and no more.
+    ///
+    /// # Errors
+    ///
+    /// As for a write.
+    pub fn check_truncate(&mut self, alloc: Global, size: u32) -> Result<(), SlotFault>
+        requires live { IsLive self.old.holds }
+        requires few { size ≤ 1044480 }
+        ensures same { self.new ≡ record self.old { file = self.new.file; holds = self.new.holds } }
+        ensures checks { IfLive self.old.holds (λ o. ChecksObject self.old.file self.new.file o (resize_change o size) self.new.holds result) }
+    {
+        let Some(Content::Live(object)) = self.content.take() else {
+            unreachable!()
+        };
+        let (content, answer) = check_resized(alloc, object.into_object(), size);
         self.content = Some(content);
         answer
     }

@@ -82,5 +82,6 @@ runs_where of_file of_port Later First keys applications arms mode calls old new
   serves = serves_where of_file of_port Later First keys applications arms mode calls r.opened r.closed events lasts r.serves;
   disarms = r.disarms;
   with_memory = r.with_memory;
+  sound_left = r.sound_left;
   past = r.past;
 }

@@ -47,5 +47,6 @@ module _ {F R : Type 0} (of_file : F → FileState) (of_port : R → PortState) 
     pub serves : ServesOpened keys applications arms mode calls opened closed events
     pub disarms : Disarms closed new
     pub with_memory : HadMemory old new
-    -- nor is there a file past the last then
+    -- what holds of every file then, and there is none past the last
+    pub sound_left : AreSound new.files
     pub past : (file : ℕ) → 273 ≤ file → new.files file ≡ no_file

@@ -4,6 +4,7 @@ ghost use Rattle.std.specs.Prelude.{◌≡◌, ℕ, length, vec_len};
 ghost use Rattle.disk_model.specs.Controls.{disarmed};
 ghost use Rattle.object_calls.specs.OpeningFiles.{files_of};
 ghost use Rattle.run_acts.specs.Benches.{bench_state};
+ghost use Rattle.run_acts.specs.Between.{AreSound};
 ghost use Rattle.run_acts.specs.Disarming.{Disarms};
 
 use object_calls::Bench;
@@ -23,6 +24,7 @@ fn disarm_files<F: FileRig>(files: &mut [F])
 pub(crate) fn disarm_bench<F: FileRig + Drop, R: CardRig + Drop>(bench: Bench<F, R>) -> Bench<F, R>
     ensures disarms { Disarms (bench_state F.state R.state bench) (bench_state F.state R.state result) }
     ensures whole { vec_len result.files ≡ vec_len bench.files }
+    ensures sound { AreSound (bench_state F.state R.state result).files }
 {
     let Bench {
         mut files,

@@ -15,3 +15,8 @@ pub mod RecordLaws
 pub mod QuietRuns
 pub mod RunLaws
 pub mod QuietEnds
+pub mod RunBenches
+pub mod CalmPorts
+pub mod CalmFiles
+pub mod CountLaws
+pub mod HeldRuns

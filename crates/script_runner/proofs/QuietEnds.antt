@@ -93,7 +93,7 @@ pub quiet_runs_end : {F R : Type 0} (of_file : F → FileState) (of_port : R →
 quiet_runs_end of_file of_port image Reliable w left_old left_new held_old held_new drew draws keys handed given Done s script r held is opened quiet reliable undrawn unarmed runs = tt
 quiet_runs_end of_file of_port image Reliable w left_old left_new held_old held_new drew draws keys handed given NoMemory s script r held is opened quiet reliable undrawn unarmed runs = tt
 quiet_runs_end of_file of_port image Reliable w left_old left_new held_old held_new drew draws keys handed given (MountRefused fault) s script r held is opened quiet reliable undrawn unarmed runs =
-    (runs_stand_behind of_file of_port image Reliable w left_old left_new held_old held_new drew draws keys handed given (MountRefused fault) s script r held is).stored fault refl
+    ((runs_stand_behind of_file of_port image Reliable w left_old left_new held_old held_new drew draws keys handed given (MountRefused fault) s script r held is).stands).stored fault refl
 quiet_runs_end of_file of_port image Reliable w left_old left_new held_old held_new drew draws keys handed given (DeviceFault fault) s script r held is opened quiet reliable undrawn unarmed runs =
     let e : ◌≡◌ {A = Result ScriptValue ScriptFault} (Ok (r.2.0)) (Ok script) = sym (r.2.1) ∙ is in
     let same : r.2.0 ≡ script = cc in

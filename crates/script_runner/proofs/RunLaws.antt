@@ -65,7 +65,7 @@ by_devices-refused (Controlled ∷ front) fault none is = by_devices-refused fro
 by_devices-refused (Refused other ∷ front) fault none is = absurd none
 
 -- a failure, or want of memory, is no refusal for what was read
-not_both : (fault : MountFault) → IsOfDevice fault → IsRefusal fault → ⊥
+pub not_both : (fault : MountFault) → IsOfDevice fault → IsRefusal fault → ⊥
 not_both NoStore is refusal = is
 not_both (CardBlock offset) is refusal = is
 not_both (Directory why) is refusal = is
@@ -113,7 +113,7 @@ module _ {F R : Type 0} (of_file : F → FileState) (of_port : R → PortState) 
         → ((fault : MountFault) → start ≡ Some fault → IsOfDevice fault) → ((fault : MountFault) → status ≡ MountRefused fault → ⊥) → Stands start records given status
     stands_silent start records given status none held opened stored =
         subst (λ (l : List RunRecord). Stands start l given status) (sym none)
-        (record { finds = tt; leaves = λ free. held; done = λ is. tt; opened = opened; refused = tt; stored = stored })
+        (record { stands = record { finds = tt; done = λ is. tt; refused = tt; stored = stored }; leaves = λ free. held; opened = opened })
 
     not_opened : (start : Option MountFault) → start ≡ None → (fault : MountFault) → start ≡ Some fault → IsOfDevice fault
     not_opened start none fault some = let e : ◌≡◌ {A = Option MountFault} None (Some fault) = sym none ∙ some in absurd cc
@@ -124,7 +124,11 @@ module _ {F R : Type 0} (of_file : F → FileState) (of_port : R → PortState) 
       stands_until status left stored g =
           let found = records_find_left of_file of_port image Reliable keys apps arms g.done records between given s g.goes held in
           let free = goes_unrefused apps arms g.done records between given g.goes in
-          record { finds = found.0; leaves = λ unrefused. found.1; done = λ is. free; opened = not_opened start none; refused = by_devices-none records free; stored = stored }
+          record {
+            stands = record { finds = found.0; done = λ is. free; refused = by_devices-none records free; stored = stored };
+            leaves = λ unrefused. found.1;
+            opened = not_opened start none;
+          }
 
       pub refusal_of_device : (fault : MountFault) → RecordsRefusal of_file of_port image Reliable drew draws keys apps arms acts records between given fault → IsOfDevice fault
       refusal_of_device fault (front, is, g) =
@@ -137,12 +141,14 @@ module _ {F R : Type 0} (of_file : F → FileState) (of_port : R → PortState) 
           let found = records_find_left of_file of_port image Reliable keys apps arms (g.goes).done front between g.between s (g.goes).goes held in
           let free = goes_unrefused apps arms (g.goes).done front between g.between (g.goes).goes in
           subst (λ (l : List RunRecord). Stands start l given status) (sym is) (record {
-            finds = find_left-refused apps s front fault found.0;
+            stands = record {
+              finds = find_left-refused apps s front fault found.0;
+              done = λ is_done. absurd (undone is_done);
+              refused = by_devices-refused front fault free (refusal_of_device fault (front, is, g));
+              stored = stored;
+            };
             leaves = λ unrefused. absurd (some_refused front fault unrefused);
-            done = λ is_done. absurd (undone is_done);
             opened = not_opened start none;
-            refused = by_devices-refused front fault free (refusal_of_device fault (front, is, g));
-            stored = stored;
           })
 
       stands_crashed : (status : Status) → ((fault : MountFault) → status ≡ MountRefused fault → ⊥) → GoesUntilCrashed of_file of_port image Reliable keys apps arms acts records between given → Stands start records given status
@@ -153,19 +159,16 @@ module _ {F R : Type 0} (of_file : F → FileState) (of_port : R → PortState) 
           let before = found.1 in
           let card = before.card in
           record {
-            finds = found.0;
+            stands = record { finds = found.0; done = λ is. free; refused = by_devices-none records free; stored = stored };
             leaves = λ unrefused. record {
               files = crashes_stay_untainted g.between given before.files may;
               holds = crashes_keep keys (left_behind apps s records) g.between given before.holds may;
               card = (card.0, card_of given.card (g.between).card (rpmb_key keys.huk) card.0 (ap (λ (p : PortState). p.card) (sym may.card)) card.1);
             };
-            done = λ is. free;
             opened = not_opened start none;
-            refused = by_devices-none records free;
-            stored = stored;
           }
 
-      stands_acts : (status : Status) → ((fault : MountFault) → status ≡ MountRefused fault → IsRefusal fault) → EndsActs of_file of_port image Reliable drew draws keys apps arms acts records between given status
+      pub stands_acts : (status : Status) → ((fault : MountFault) → status ≡ MountRefused fault → IsRefusal fault) → EndsActs of_file of_port image Reliable drew draws keys apps arms acts records between given status
           → Stands start records given status
       stands_acts Done cause ends = stands_until Done [] (λ fault is. cc) ends
       stands_acts WriteFault cause (inl (left, g)) = stands_until WriteFault left (λ fault is. cc) g

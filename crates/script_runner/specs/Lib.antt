@@ -5,6 +5,9 @@ pub mod Course
 pub mod RecordLaws
 pub mod QuietLaws
 pub mod RunLaws
+pub mod RunBenches
+pub mod CountLaws
+pub mod HeldRuns
 pub mod Ending
 pub mod RunCauses
 pub mod Runs

@@ -33,18 +33,23 @@ RefusedByDevices [] = Unit {0}
 RefusedByDevices (Refused fault ∷ records) = IsOfDevice fault × RefusedByDevices records
 RefusedByDevices (done ∷ records) = RefusedByDevices records
 
--- What a run with that status and these records did over a bench that held what `s` leaves. `start` is why the bench was not opened, if so.
-pub record StandsBehind (keys : Keys) (applications : List (List ℕ)) (s : ReplayState) (start : Option MountFault) (records : List RunRecord) (given : BenchState) (status : Status) : Type 0 where
+-- What the records of a run with that status tell, where `s` was left before them.
+pub record RecordsStand (applications : List (List ℕ)) (s : ReplayState) (records : List RunRecord) (status : Status) : Type 0 where
   -- each phase and each list found what the records before it leave
   pub finds : FindLeft applications s records
-  -- and where no act was refused, the bench holds what all of them leave
-  pub leaves : NoneRefused records → HoldsUntainted keys given (left_behind applications s records)
-  -- so where the status is 0
+  -- no act was refused where the status is 0
   pub done : status ≡ Done → NoneRefused records
-  -- no store is refused: where an act is, or the bench is not opened, a device failed or memory ran out
-  pub opened : (fault : MountFault) → start ≡ Some fault → IsOfDevice fault
+  -- no store is refused: where an act is, a device failed or memory ran out
   pub refused : RefusedByDevices records
   pub stored : (fault : MountFault) → status ≡ MountRefused fault → ⊥
+
+-- What such a run did over a bench that held what `s` leaves. `start` is why the bench was not opened, if so.
+pub record StandsBehind (keys : Keys) (applications : List (List ℕ)) (s : ReplayState) (start : Option MountFault) (records : List RunRecord) (given : BenchState) (status : Status) : Type 0 where
+  pub stands : RecordsStand applications s records status
+  -- where no act was refused, the bench holds what all of them leave
+  pub leaves : NoneRefused records → HoldsUntainted keys given (left_behind applications s records)
+  -- where the bench is not opened, a device failed or memory ran out
+  pub opened : (fault : MountFault) → start ≡ Some fault → IsOfDevice fault
 
 -- the status is 0 or 9
 abbrev pub IsDoneOrStarved : Status → Type 0

@@ -1,6 +1,8 @@
 //! Laws of runs. Each function does nothing: its contract is the law.
 
 ghost use Rattle.tee_ports.specs.Faults.{Rose};
+ghost use Rattle.script_runner.specs.CountLaws.{RunsCountAsArmed};
+ghost use Rattle.script_runner.specs.HeldRuns.{FormattedRunsStand, RunsHoldLeft};
 ghost use Rattle.script_runner.specs.QuietLaws.{OpenedRunsAreOfMachine, QuietRunsAreOfMachine};
 ghost use Rattle.script_runner.specs.RecordLaws.{RecordsFindLeft, RefusalsAreOfDevices};
 ghost use Rattle.script_runner.specs.RunLaws.{QuietRunsEnd, RunsStandBehind};
@@ -48,4 +50,36 @@ pub fn quiet_runs_are_of_machine<F: FileRig, R: RpmbPort, E: Entropy>(entropy: &
 /// So is each phase of a bench that was quiet before its store was found or formatted.
 pub fn opened_runs_are_of_machine<F: FileRig, R: RpmbPort, E: Entropy>(entropy: &E)
     ensures { OpenedRunsAreOfMachine F.state R.state F.crash_image (E.is_reliable entropy.now) }
+{}
+
+/// A file or a card that fails only where it is armed, counts no fault over a whole run but where a line above armed it. So it is in each bench
+/// that the run leaves, at whatever status it ends; of a file, but for calls that found no memory.
+pub fn runs_count_as_armed<S: Source, K: Sink, F: FileRig, R: RpmbPort, E: Entropy>(entropy: &E)
+    ensures { (was source : S) (held sink : K) → RunsCountAsArmed F.state R.state F.crash_image (E.is_reliable entropy.now) (record {
+      source_failed = Rose (S.faults was) (S.faults source);
+      source_ended = S.has_ended source;
+      sink_failed = Rose (K.faults held) (K.faults sink);
+      sink_full = K.is_full sink;
+    }) }
+{}
+
+/// Each bench of a run holds what the records down to there leave, whether the store was found or formatted: between any two acts, and as the bench
+/// is handed back, also behind a mount or a list that was refused. None of its files is tainted, and its port tells a card with the key.
+pub fn runs_hold_left<S: Source, K: Sink, F: FileRig, R: RpmbPort, E: Entropy>(entropy: &E)
+    ensures { (was source : S) (held sink : K) → RunsHoldLeft F.state R.state F.crash_image (E.is_reliable entropy.now) (record {
+      source_failed = Rose (S.faults was) (S.faults source);
+      source_ended = S.has_ended source;
+      sink_failed = Rose (K.faults held) (K.faults sink);
+      sink_full = K.is_full sink;
+    }) }
+{}
+
+/// Over a bench whose card's block 0 is blank the records stand as over a store without objects. Behind the format no store is refused.
+pub fn formatted_runs_stand<S: Source, K: Sink, F: FileRig, R: RpmbPort, E: Entropy>(entropy: &E)
+    ensures { (was source : S) (held sink : K) → FormattedRunsStand F.state R.state F.crash_image (E.is_reliable entropy.now) (record {
+      source_failed = Rose (S.faults was) (S.faults source);
+      source_ended = S.has_ended source;
+      sink_failed = Rose (K.faults held) (K.faults sink);
+      sink_full = K.is_full sink;
+    }) }
 {}

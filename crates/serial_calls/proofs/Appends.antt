@@ -134,6 +134,7 @@ module _ {F R E : Type 0} (store : Store) (gate : GateValue F R) (knows : GateVi
     right = right;
     real = λ w known. absurd known;
     stands = λ honest w known. absurd known;
+    masked = λ w known. absurd known;
     legal = λ honest scenario off answered. subst (IsLegalAt store scenario knows.all) record-is (may.legal honest scenario off answered);
   }
 

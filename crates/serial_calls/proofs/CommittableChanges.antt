@@ -35,6 +35,7 @@ use Rattle.call_steps.specs.StagedVersions.{change_versions, changed_entry}
 use Rattle.call_steps.specs.SlotValues.{SlotValue, without_stage}
 use Rattle.call_steps.specs.Changes.{change_of}
 use Rattle.call_steps.specs.Gates.{GateValue}
+use Rattle.core_laws.specs.Masked.{told_taints}
 use Rattle.core_laws.specs.Stores.{Store}
 use Rattle.tee_types.specs.Rights.{write_bit}
 use Rattle.tee_types.specs.declared.call.Call.TheVariants.{Truncate, Write}
@@ -63,6 +64,9 @@ module _ {F R E : Type 0} (store : Store) (gate : GateValue F R) (knows : GateVi
 
     mine : IsSlotOf store slot.number slot.file seat
     mine = own-seat store (record slot { holds = without_stage slot.holds }) seat at.sees.is stages.staged.before
+
+    told_here : told_taints slot.file ≡ store.taints seat.knows.file
+    told_here = mine.told ∙ ap store.taints (sym mine.own)
 
     seated : slot ≡ record slot { seat = Some seat }
     seated = λ i. record slot { seat = at.sees.is i }
@@ -110,7 +114,7 @@ module _ {F R E : Type 0} (store : Store) (gate : GateValue F R) (knows : GateVi
       brings_renewed change stages (max e.size (found.handle.position + length bytes))
       (stages.version.follows.size ∙ ap (λ (n : ℕ). max n (found.handle.position + length bytes)) sized) (Write number bytes)
       (writes_commit F R E store gate knows closing s number found seat.knows v (next change stages) slot.file root bytes (at_object change stages)
-      (record { right = rightful.has_right; some = some; fits = fits }) stages.version)
+      (record { right = rightful.has_right; some = some; fits = fits }) (told_here change stages) stages.version)
 
   pub truncate_committable : (size : ℕ) → (size == e.size) ≡ false → size ≤ 1044480 → StagesChange store slot v (resizing size) (Root root)
       → (versions : TagVersions) × IsCommittable store gate knows slot s (Truncate number size) Done (change_of (renewal found.held root size)) versions
@@ -118,4 +122,4 @@ module _ {F R E : Type 0} (store : Store) (gate : GateValue F R) (knows : GateVi
       let change : VersionChange = resize_of v.size size in
       brings_renewed change stages size stages.version.follows.size (Truncate number size)
       (truncations_commit F R E store gate knows closing s number found seat.knows v (next change stages) slot.file root size (at_object change stages)
-      (record { right = rightful.has_right; other = ap (λ (n : ℕ). size == n) sized ∙ other; fits = fits }) stages.version)
+      (record { right = rightful.has_right; other = ap (λ (n : ℕ). size == n) sized ∙ other; fits = fits }) (told_here change stages) stages.version)

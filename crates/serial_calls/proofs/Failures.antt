@@ -11,11 +11,11 @@ use Rattle.dir_records.specs.declared.entry.DirEntry.{DirEntry}
 use Rattle.history_seats.specs.Records.{Version}
 use Rattle.history_seats.specs.Views.{GateView}
 use Rattle.call_steps.specs.Commits.{IsCalm}
-use Rattle.call_steps.proofs.UndoneAnswers.{refused-or_failed, undone-admitted, undone-moves}
+use Rattle.call_steps.proofs.UndoneAnswers.{kind-admitted, refused-or_failed, undone-kind, undone-moves}
 use Rattle.call_steps.specs.EntryAnswers.{IsEntryCall}
 use Rattle.call_steps.specs.FileAnswers.{IsFileAnswer}
 use Rattle.call_steps.specs.SlotCatchUp.{IsAtEntry}
-use Rattle.call_steps.specs.ServableReplies.{MayBeServed}
+use Rattle.call_steps.specs.ServableReplies.{MayBeServed, TellsCounter}
 use Rattle.call_steps.specs.SlotValues.{SlotValue}
 use Rattle.open_table.specs.Table.{TableState}
 use Rattle.call_steps.specs.Gates.{GateValue}
@@ -25,6 +25,7 @@ use Rattle.store_model.specs.ReplayState.{is_undone}
 use Rattle.store_model.specs.declared.name.ObjectName.{ObjectName}
 use Rattle.store_model.specs.declared.session.Handle.{Handle}
 use Rattle.core_laws.specs.Given.{position_of}
+use Rattle.core_laws.specs.Shown.{IsPartial}
 use Rattle.core_laws.specs.Stores.{Store}
 use Rattle.tee_types.specs.Limits.{most_data_bytes}
 use Rattle.tee_types.specs.Rights.{write_bit}
@@ -32,11 +33,11 @@ use Rattle.tee_types.specs.declared.call.Call.TheVariants.{Truncate, Write}
 use Rattle.tee_types.specs.declared.call.Call.{Call}
 use Rattle.tee_types.specs.declared.reply.Reply.{Reply}
 
--- what was not done, and was answered with a file, is a failure
-pub undone_failure : (store : Store) (slot : SlotValue) (v : Version) (position : ℕ) (call : Call) (reply : Reply) → IsFileAnswer store slot.file slot.number v position call reply → is_undone reply ≡ true
+-- what was not done of a call that changes no data, and was answered with a file, is a failure
+pub undone_failure : (store : Store) (slot : SlotValue) (v : Version) (position : ℕ) (call : Call) (reply : Reply) → (IsPartial call → ⊥) → IsFileAnswer store slot.file slot.number v position call reply → is_undone reply ≡ true
     → IsFailure reply
-undone_failure store slot v position call reply answers undone =
-    elim (refused-or_failed store slot.file slot.number v position call reply answers undone) [
+undone_failure store slot v position call reply whole answers undone =
+    elim (refused-or_failed store slot.file slot.number v position call reply whole answers undone) [
       | inl is ↦ subst IsFailure (sym is) tt
       | inr failed ↦ subst IsFailure (sym failed.1) tt
     ]
@@ -61,7 +62,7 @@ module _ {F R E : Type 0} (store : Store) (gate : GateValue F R) (knows : GateVi
   named : (m : MachineState) → Matches entries table s.state m s.number → option_map (λ (x : Handle). x.name) (handle_at (session_at m s.number) number) ≡ Some (name_of e)
   named m matches = ap (option_map (λ (x : Handle). x.name)) (live m matches) ∙ ap (λ (n : ObjectName). Some n) (sym rightful.opened.named.1)
 
-  module _ (reply : Reply) (undone : is_undone reply ≡ true) where
+  module _ (reply : Reply) (undone : is_undone reply ≡ true) (counter : TellsCounter gate.counter reply) where
     serves : (position : ℕ) (call : Call) → IsFileAnswer store slot.file slot.number v position call reply
         → ((m : MachineState) → Matches entries table s.state m s.number → IsEntryCall m s.number e position call reply) → MayBeServed store gate knows slot call reply s
     serves position call answers on = record {
@@ -73,6 +74,7 @@ module _ {F R E : Type 0} (store : Store) (gate : GateValue F R) (knows : GateVi
       at = at;
       position = position;
       answers = answers;
+      counter = counter;
       before = s.state;
       moves = undone-moves store knows entries table call reply s calmly undone;
       on = on;
@@ -89,7 +91,7 @@ module _ {F R E : Type 0} (store : Store) (gate : GateValue F R) (knows : GateVi
           depends = (record { handle = h; live = live m matches }, rightful.has_right, some, low, le-ltb most_data_bytes (h.position + length bytes) fits);
           at = ap position_of (live m matches);
           admitted =
-              undone-admitted m s.number e.size (Write number bytes) reply (refused-or_failed store slot.file slot.number v h.position (Write number bytes) reply answers undone);
+              kind-admitted m s.number e.size (Write number bytes) reply (undone-kind store slot.file slot.number v h.position (Write number bytes) reply answers undone);
         })
 
     -- another size within the limits
@@ -101,5 +103,5 @@ module _ {F R E : Type 0} (store : Store) (gate : GateValue F R) (knows : GateVi
           named = named m matches;
           depends = (record { handle = h; live = live m matches }, rightful.has_right, other, le-ltb most_data_bytes size fits);
           at = refl;
-          admitted = undone-admitted m s.number e.size (Truncate number size) reply (refused-or_failed store slot.file slot.number v 0 (Truncate number size) reply answers undone);
+          admitted = kind-admitted m s.number e.size (Truncate number size) reply (undone-kind store slot.file slot.number v 0 (Truncate number size) reply answers undone);
         })

@@ -80,10 +80,7 @@ module _ {F R : Type 0} (of_file : F → FileState) (of_port : R → PortState) 
       → KeepsHolds old.gate mid.gate
   unserved_holds Reliable drew draws store old mid was now u = elim u.gate [
     | inl same ↦ same_holds old mid same
-    | inr other ↦ elim other [
-      | inl w ↦ was_holds old mid w
-      | inr doubt ↦ stays_holds Reliable drew draws old mid doubt.0 doubt.1
-    ]
+    | inr w ↦ was_holds old mid w
   ]
 
 -- room was made

@@ -17,6 +17,8 @@ pub mod MeantChanges
 pub mod MovedSessions
 pub mod Failures
 pub mod Unstaged
+pub mod Checked
+pub mod Unfailed
 pub mod Slots
 pub mod ChangeStages
 pub mod MetStages
@@ -38,6 +40,7 @@ pub mod CreateAnswers
 pub use Rattle.call_steps.proofs.Cards
 pub use Rattle.call_steps.proofs.CarriedCounts
 pub use Rattle.call_steps.proofs.ClosedStores
+pub use Rattle.call_steps.proofs.GivenPictures
 pub use Rattle.call_steps.proofs.Contents
 pub use Rattle.call_steps.proofs.CountGrowth
 pub use Rattle.call_steps.proofs.Journals

@@ -91,6 +91,7 @@ module _ {F R E : Type 0} (store : Store) (gate : GateValue F R) (knows : GateVi
         (unmade_tag store knows caller.number caller.made call (reply_unmade why) seat.knows versions refl);
     real = λ v known. absurd known;
     stands = λ honest v known. absurd known;
+    masked = λ v known. absurd known;
     legal = λ honest scenario off answered.
         told_legal store gate knows closing guarded idle are caller calmed call create makes seat.knows unnamed_view why may_view scenario answered;
   }

@@ -15,6 +15,7 @@ use Rattle.call_steps.specs.AnswerCauses.{HasToldCause}
 use Rattle.call_steps.specs.ReadyEntries.{IsReady}
 use Rattle.call_steps.specs.SlotValues.{SlotValue}
 use Rattle.core_laws.specs.Stores.{Store}
+use Rattle.tee_types.specs.declared.call.Call.TheVariants.{Info}
 use Rattle.tee_types.specs.declared.reply.Reply.{Reply}
 
 -- why it could not be loaded is the reply
@@ -22,7 +23,7 @@ pub unloaded_changes : (store : Store) (was : FileState) (slot : SlotValue) (v :
     → StagesChange store slot v asked (Unstaged reply)
 unloaded_changes store was slot v asked reply guarded ready = record {
   guarded = guarded;
-  failure = undone_failure store slot v asked.position (asked.call 0) reply (ready.answers asked.position (asked.call 0)) ready.undone;
+  failure = undone_failure store slot v 0 (Info 0) reply (λ partial. partial) (ready.answers 0 (Info 0)) ready.undone;
   answers = λ handle. ready.answers asked.position (asked.call handle);
 }
 

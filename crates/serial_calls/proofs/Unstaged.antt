@@ -1,5 +1,5 @@
 -- Why a change was not staged, in terms of the object's version.
-use Rattle.std.proofs.Common.{Err, IsTrue, List, Some, false, length, max, min, subst, sym, true, ℕ, ◌+◌, ◌==◌, ◌||◌, ◌∙◌, ◌≡◌}
+use Rattle.std.proofs.Common.{Err, IsTrue, List, Option, Some, false, length, max, min, subst, sym, true, ℕ, ◌+◌, ◌==◌, ◌||◌, ◌∙◌, ◌≡◌}
 use Rattle.std.specs.List.{list_any}
 use Rattle.serial_calls.specs.ChangeReplies.{IsFailure, reply_of_stage}
 use Rattle.disk_model.specs.State.{FileState}
@@ -22,9 +22,10 @@ use Rattle.page_bytes.specs.Ranges.{needs}
 use Rattle.store_model.specs.Data.{needs_block}
 use Rattle.store_model.specs.Object.{Contents, Object, Sound}
 use Rattle.core_laws.proofs.Mending.{none_some, some_same}
-use Rattle.core_laws.specs.Given.{Gave, is_asked}
+use Rattle.core_laws.specs.Given.{is_asked}
+use Rattle.core_laws.specs.Masked.{GaveVersion, told_taints}
+use Rattle.disk_model.specs.Arms.{Taint}
 use Rattle.core_laws.specs.Shown.{IsPartial}
-use Rattle.core_laws.specs.Decodings.{wrap_of}
 use Rattle.core_laws.specs.Stores.{Store}
 use Rattle.tee_types.specs.declared.call.Call.TheVariants.{Truncate, Write}
 use Rattle.tee_types.specs.declared.call.Call.{Call}
@@ -54,20 +55,20 @@ sound_held keys file v (live o) on own honest =
 
 -- The slot held the version's object, and a change of it was not staged.
 module _ (store : Store) (old new : SlotValue) (v : Version) (holds : HoldsVersion store.keys old v) (was : IsTrue new.file.honest → IsTrue old.file.honest) where
-  sound : IsTrue new.file.honest → IsSoundVersion v
+  pub sound : IsTrue new.file.honest → IsSoundVersion v
   sound honest = sound_held store.keys old.file v old.holds holds.live holds.own (was honest)
 
   -- where a block that it needs is bad, a call is answered Corrupt; where none is and a draw failed, it is spared
   pub record IsChangeBy (change : VersionChange) (at : ℕ) (call : Call) : Type 0 where
     pub partial : IsPartial call
-    pub asks : (wrap : List ℕ) → Gave wrap v.root v.size (λ k. (k == 0) || needs change.range k) → Gave wrap v.root v.size (is_asked v.size at call)
+    pub asks : (keys : Keys) (told : Option (List Taint)) → GaveVersion keys told v (λ k. (k == 0) || needs change.range k) → GaveVersion keys told v (is_asked v.size at call)
     pub corrupt : (is : IsSoundVersion v) → list_any change.asked is.contents.bad ≡ true → Answers v.object at call Corrupt
     pub spared : (is : IsSoundVersion v) → list_any change.asked is.contents.bad ≡ false → IsSpared v.object at call
 
   pub write_by : (at number : ℕ) (bytes : List ℕ) → IsChangeBy (write_of v.size at bytes) at (Write number bytes)
   write_by at number bytes = record {
     partial = tt;
-    asks = λ wrap gave. gave;
+    asks = λ keys told gave. gave;
     corrupt = λ is bad.
         subst (λ (o : Object). Answers o at (Write number bytes) Corrupt) (sym is.object)
         ((λ i. list_any (needs_block (is.size i) (min at (is.size i)) (at + length bytes)) is.contents.bad) ∙ bad);
@@ -79,7 +80,7 @@ module _ (store : Store) (old new : SlotValue) (v : Version) (holds : HoldsVersi
   pub truncate_by : (number to : ℕ) → IsChangeBy (resize_of v.size to) 0 (Truncate number to)
   truncate_by number to = record {
     partial = tt;
-    asks = λ wrap gave. gave;
+    asks = λ keys told gave. gave;
     corrupt = λ is bad.
         subst (λ (o : Object). Answers o 0 (Truncate number to) Corrupt) (sym is.object)
         ((λ i. list_any (needs_block (is.size i) (min to (is.size i)) (max to (is.size i))) is.contents.bad) ∙ bad);
@@ -101,7 +102,7 @@ module _ (store : Store) (old new : SlotValue) (v : Version) (holds : HoldsVersi
     unstaged_answers (NoEntropy count) reply is stages =
         Undrawn count (some_same reply (NotAvailable (Fault Entropy count)) is) (record {
           changes = by.partial;
-          gave = by.asks (wrap_of store.keys v) stages.undrawn;
+          gave = by.asks store.keys (told_taints new.file) stages.undrawn;
           spared = λ honest. let o = sound honest in by.spared o (stages.corrupt honest o.contents o.object);
         })
     unstaged_answers NoMemory reply is stages = absurd (none_some reply (sym is))

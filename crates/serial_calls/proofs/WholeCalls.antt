@@ -258,10 +258,7 @@ module _ {F R E : Type 0} (of_file : F → FileState) (of_port : R → PortState
   unserved_settles u =
       reserved_settles of_file of_port (card_key store) first old new ready knows (elim u.gate [
         | inl same ↦ same_settles of_file of_port (card_key store) old new same
-        | inr other ↦ elim other [
-          | inl w ↦ was_settles of_file of_port (card_key store) old new w
-          | inr doubt ↦ stays_settles of_file of_port (card_key store) Reliable (draws was.entropy) (draws now.entropy) old new doubt.0 doubt.1
-        ]
+        | inr w ↦ was_settles of_file of_port (card_key store) old new w
       ])
 
   -- the gate as memory ran out

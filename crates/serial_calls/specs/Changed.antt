@@ -3,7 +3,7 @@ use Rattle.std.specs.Prelude.{Err, Ok, Result, ℕ, ◌≡◌}
 use Rattle.call_steps.specs.CallerSessions.{CallerSession}
 use Rattle.serial_calls.specs.ChangeCauses.{HasChangeCause}
 use Rattle.serial_calls.specs.Renewed.{renewal}
-use Rattle.serial_calls.specs.ChangeReplies.{IsDoneOrRefused, IsFailure}
+use Rattle.serial_calls.specs.ChangeReplies.{IsDoneOrRefused, IsNotDone}
 use Rattle.serial_calls.specs.declared.stage_result.Staged.{Staged}
 use Rattle.serial_calls.specs.declared.stage_result.Staged.TheVariants.{Root, Unstaged}
 use Rattle.disk_model.specs.State.{FileState}
@@ -47,7 +47,7 @@ module _ {F R : Type 0} (of_file : F → FileState) (of_port : R → PortState) 
   -- The file of that number was asked, for a change of the held object that would leave that size.
   pub data IsTried {E : Type 0} (store : Store) (old new : GuardedGateValue F R) (number : ℕ) (from to : FileState) (was now : CallerSession E) (call : Call) (held : Held) (size : ℕ) (answer : PlacedReply) : Type 0 where
     -- the reply says why nothing was done
-    Failed : IsServed store old new was now number call answer → IsFailure answer.reply → HasChangeCause from to number Reliable drew draws answer.reply
+    Failed : IsServed store old new was now number call answer → IsNotDone answer.reply → HasChangeCause from to number Reliable drew draws answer.reply
         → IsTried store old new number from to was now call held size answer
     -- the reply says how the commit ended, which gave the object's entry the reference of what was staged
     Committable : (root : RootRef) → IsCommitted of_file of_port store old new number was now call Done (renewal held root size) Reliable drew draws answer → FilePassed from to

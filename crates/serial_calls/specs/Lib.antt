@@ -1,6 +1,7 @@
 pub mod HeldFiles
 pub mod ServeReady
 pub mod ServeReplay
+pub mod Unfailed
 pub mod Appended
 pub mod ServedAnswers
 pub mod ChangeReplies
@@ -9,6 +10,7 @@ pub mod Appending
 pub mod Meant
 pub mod Renewed
 pub mod ChangeStaging
+pub mod ChangeChecks
 pub mod Changed
 pub mod NameChanges
 pub mod Rules

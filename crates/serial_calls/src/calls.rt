@@ -1,6 +1,11 @@
 //! The fifteen calls.
 
-ghost use Rattle.std.specs.Prelude.{◌≡◌, ◌≤◌, length, true};
+ghost use Rattle.std.specs.Prelude.{◌≡◌, ◌≤◌, length, true, None, OnErr};
+ghost use Rattle.call_steps.specs.Rising.{devices_in};
+ghost use Rattle.serial_calls.specs.Unfailed.{NoneFailed};
+ghost use Rattle.rpmb_card.specs.Protocol.{last_counter};
+ghost use Rattle.serial_calls.specs.ChangeChecks.{AreOnlyRead};
+ghost use Rattle.core_laws.specs.Shown.{IsPartial};
 ghost use Rattle.hmac_keys.specs.KeyTable.{ssk};
 ghost use Rattle.call_steps.specs.CallerSessions.{IsCallerOf};
 ghost use Rattle.call_steps.specs.GateServed.{IsMisused};
@@ -40,6 +45,10 @@ fn serve_object<F: StoreFile + Drop, R: RpmbPort + Drop, L: StoreName, E: Entrop
         (record { gate = gate.new; slots = slots.new.items; session = session.new }) (call.now) result }
     ensures reliable { E.is_reliable session.old.entropy → E.is_reliable session.new.entropy }
     ensures still { E.is_reliable session.old.entropy → E.faults session.new.entropy ≡ E.faults session.old.entropy }
+    ensures passed { OnErr result (NoneFailed (devices_in F.state R.state E.faults (record { gate = gate.old; slots = slots.old.items; session = session.old }))
+        (devices_in F.state R.state E.faults (record { gate = gate.new; slots = slots.new.items; session = session.new }))) }
+    ensures spent { IsPartial call.now → gate.old.gate.counter ≡ last_counter → AreOnlyRead (record { gate = gate.old; slots = slots.old.items; session = session.old })
+        (record { gate = gate.new; slots = slots.new.items; session = session.new }) }
 {
     match call {
         Call::Create {
@@ -108,6 +117,12 @@ pub fn serve<F: StoreFile + Drop, R: RpmbPort + Drop, L: StoreName, E: Entropy>(
         (record { gate = gate.new; slots = slots.new.items; session = session.new }) call.now result }
     ensures reliable { E.is_reliable session.old.entropy → E.is_reliable session.new.entropy }
     ensures still { E.is_reliable session.old.entropy → E.faults session.new.entropy ≡ E.faults session.old.entropy }
+    // Where memory ran out, no device counted a fault.
+    ensures passed { OnErr result (NoneFailed (devices_in F.state R.state E.faults (record { gate = gate.old; slots = slots.old.items; session = session.old }))
+        (devices_in F.state R.state E.faults (record { gate = gate.new; slots = slots.new.items; session = session.new }))) }
+    // Where no commit can follow a change of data, the object's file is only read. Nothing is drawn, and neither directory nor card is asked.
+    ensures spent { IsPartial call.now → gate.old.gate.doubt ≡ None → gate.old.gate.counter ≡ last_counter → AreOnlyRead (record { gate = gate.old; slots = slots.old.items; session = session.old })
+        (record { gate = gate.new; slots = slots.new.items; session = session.new }) }
     // A misuse waits for no commit in doubt, as the session is once it was shown the history.
     ensures at_once { IsMisused gate.old (shown gate.old.journal.knows session.old).state call.now → AnswersAtOnce
         (record { gate = gate.old; slots = slots.old.items; session = session.old })

@@ -1,6 +1,10 @@
 //! Calls that change the data of an open object.
 
-ghost use Rattle.std.specs.Prelude.{◌≡◌};
+ghost use Rattle.std.specs.Prelude.{◌≡◌, OnErr};
+ghost use Rattle.call_steps.specs.Rising.{devices_in};
+ghost use Rattle.serial_calls.specs.Unfailed.{NoneFailed};
+ghost use Rattle.rpmb_card.specs.Protocol.{last_counter};
+ghost use Rattle.serial_calls.specs.ChangeChecks.{AreOnlyRead};
 ghost use Rattle.hmac_keys.specs.KeyTable.{ssk};
 ghost use Rattle.serial_calls.specs.ServeReady.{IsReady};
 ghost use Rattle.serial_calls.specs.ServeReplay.{ServesObject};
@@ -35,6 +39,10 @@ pub(crate) fn write<F: StoreFile + Drop, R: RpmbPort + Drop, L: StoreName, E: En
         (record { gate = gate.new; slots = slots.new.items; session = session.new }) (Call.Write handle bytes.now) result }
     ensures reliable { E.is_reliable session.old.entropy → E.is_reliable session.new.entropy }
     ensures still { E.is_reliable session.old.entropy → E.faults session.new.entropy ≡ E.faults session.old.entropy }
+    ensures passed { OnErr result (NoneFailed (devices_in F.state R.state E.faults (record { gate = gate.old; slots = slots.old.items; session = session.old }))
+        (devices_in F.state R.state E.faults (record { gate = gate.new; slots = slots.new.items; session = session.new }))) }
+    ensures spent { gate.old.gate.counter ≡ last_counter → AreOnlyRead (record { gate = gate.old; slots = slots.old.items; session = session.old })
+        (record { gate = gate.new; slots = slots.new.items; session = session.new }) }
 {
     let found = match call_rules::write(&*gate, session.state(), handle, bytes) {
         Decision::Answered(reply) => return answer(alloc, gate, slots, session, call, reply),
@@ -72,6 +80,10 @@ pub(crate) fn truncate<F: StoreFile + Drop, R: RpmbPort + Drop, L: StoreName, E:
         (record { gate = gate.new; slots = slots.new.items; session = session.new }) (Call.Truncate handle size) result }
     ensures reliable { E.is_reliable session.old.entropy → E.is_reliable session.new.entropy }
     ensures still { E.is_reliable session.old.entropy → E.faults session.new.entropy ≡ E.faults session.old.entropy }
+    ensures passed { OnErr result (NoneFailed (devices_in F.state R.state E.faults (record { gate = gate.old; slots = slots.old.items; session = session.old }))
+        (devices_in F.state R.state E.faults (record { gate = gate.new; slots = slots.new.items; session = session.new }))) }
+    ensures spent { gate.old.gate.counter ≡ last_counter → AreOnlyRead (record { gate = gate.old; slots = slots.old.items; session = session.old })
+        (record { gate = gate.new; slots = slots.new.items; session = session.new }) }
 {
     let found = match call_rules::truncate(&*gate, session.state(), handle) {
         Decision::Answered(reply) => return answer(

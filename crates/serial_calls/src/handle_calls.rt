@@ -1,6 +1,8 @@
 //! Calls that give a handle.
 
-ghost use Rattle.std.specs.Prelude.{◌≡◌, ◌≤◌, length};
+ghost use Rattle.std.specs.Prelude.{◌≡◌, ◌≤◌, length, OnErr};
+ghost use Rattle.call_steps.specs.Rising.{devices_in};
+ghost use Rattle.serial_calls.specs.Unfailed.{NoneFailed};
 ghost use Rattle.hmac_keys.specs.KeyTable.{ssk};
 ghost use Rattle.serial_calls.specs.ServeReady.{IsReady};
 ghost use Rattle.serial_calls.specs.ServeReplay.{ServesObject};
@@ -33,6 +35,8 @@ pub(crate) fn open<F: StoreFile + Drop, R: RpmbPort + Drop, L: StoreName, E: Ent
         (record { gate = gate.new; slots = slots.new.items; session = session.new }) (Call.Open id flags) result }
     ensures reliable { E.is_reliable session.old.entropy → E.is_reliable session.new.entropy }
     ensures still { E.is_reliable session.old.entropy → E.faults session.new.entropy ≡ E.faults session.old.entropy }
+    ensures passed { OnErr result (NoneFailed (devices_in F.state R.state E.faults (record { gate = gate.old; slots = slots.old.items; session = session.old }))
+        (devices_in F.state R.state E.faults (record { gate = gate.new; slots = slots.new.items; session = session.new }))) }
 {
     let held = match call_rules::open(&*gate, session.state(), id, flags) {
         Decision::Answered(reply) => return answer(
@@ -73,6 +77,8 @@ pub(crate) fn create<F: StoreFile + Drop, R: RpmbPort + Drop, L: StoreName, E: E
         (record { gate = gate.new; slots = slots.new.items; session = session.new }) (Call.Create id flags attributes.now bytes.now) result }
     ensures reliable { E.is_reliable session.old.entropy → E.is_reliable session.new.entropy }
     ensures still { E.is_reliable session.old.entropy → E.faults session.new.entropy ≡ E.faults session.old.entropy }
+    ensures passed { OnErr result (NoneFailed (devices_in F.state R.state E.faults (record { gate = gate.old; slots = slots.old.items; session = session.old }))
+        (devices_in F.state R.state E.faults (record { gate = gate.new; slots = slots.new.items; session = session.new }))) }
 {
     let place = match call_rules::create(&*gate, session.state(), id, flags, attributes, bytes) {
         Decision::Answered(reply) => return answer(alloc, gate, slots, session, call, reply),

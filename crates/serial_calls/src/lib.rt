@@ -16,6 +16,7 @@
 #![tactic(auto)]
 
 mod calls;
+mod change_check;
 mod create_call;
 mod create_commit;
 mod create_failure;

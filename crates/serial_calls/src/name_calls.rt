@@ -1,6 +1,8 @@
 //! Calls that change an open object's name.
 
-ghost use Rattle.std.specs.Prelude.{◌≡◌};
+ghost use Rattle.std.specs.Prelude.{◌≡◌, OnErr};
+ghost use Rattle.call_steps.specs.Rising.{devices_in};
+ghost use Rattle.serial_calls.specs.Unfailed.{NoneFailed};
 ghost use Rattle.serial_calls.specs.ServeReady.{IsReady};
 ghost use Rattle.serial_calls.specs.ServeReplay.{ServesObject};
 
@@ -29,6 +31,8 @@ pub(crate) fn rename<F: StoreFile + Drop, R: RpmbPort + Drop, L: StoreName, E: E
         (record { gate = gate.new; slots = slots.new.items; session = session.new }) (Call.Rename handle id) result }
     ensures reliable { E.is_reliable session.old.entropy → E.is_reliable session.new.entropy }
     ensures still { E.is_reliable session.old.entropy → E.faults session.new.entropy ≡ E.faults session.old.entropy }
+    ensures passed { OnErr result (NoneFailed (devices_in F.state R.state E.faults (record { gate = gate.old; slots = slots.old.items; session = session.old }))
+        (devices_in F.state R.state E.faults (record { gate = gate.new; slots = slots.new.items; session = session.new }))) }
 {
     let found = match call_rules::rename(&*gate, session.state(), handle, id) {
         Decision::Answered(reply) => return answer(
@@ -60,6 +64,8 @@ pub(crate) fn delete<F: StoreFile + Drop, R: RpmbPort + Drop, L: StoreName, E: E
         (record { gate = gate.new; slots = slots.new.items; session = session.new }) (Call.Delete handle) result }
     ensures reliable { E.is_reliable session.old.entropy → E.is_reliable session.new.entropy }
     ensures still { E.is_reliable session.old.entropy → E.faults session.new.entropy ≡ E.faults session.old.entropy }
+    ensures passed { OnErr result (NoneFailed (devices_in F.state R.state E.faults (record { gate = gate.old; slots = slots.old.items; session = session.old }))
+        (devices_in F.state R.state E.faults (record { gate = gate.new; slots = slots.new.items; session = session.new }))) }
 {
     let found = match call_rules::delete(&*gate, session.state(), handle) {
         Decision::Answered(reply) => return answer(

@@ -1,6 +1,8 @@
 //! Calls that tell of an open object.
 
-ghost use Rattle.std.specs.Prelude.{◌≡◌};
+ghost use Rattle.std.specs.Prelude.{◌≡◌, OnErr};
+ghost use Rattle.call_steps.specs.Rising.{devices_in};
+ghost use Rattle.serial_calls.specs.Unfailed.{NoneFailed};
 ghost use Rattle.hmac_keys.specs.KeyTable.{ssk};
 ghost use Rattle.serial_calls.specs.ServeReady.{IsReady};
 ghost use Rattle.serial_calls.specs.ServeReplay.{ServesObject};
@@ -33,6 +35,8 @@ pub(crate) fn read<F: StoreFile + Drop, R: RpmbPort + Drop, L: StoreName, E: Ent
         (record { gate = gate.new; slots = slots.new.items; session = session.new }) (Call.Read handle size) result }
     ensures reliable { E.is_reliable session.old.entropy → E.is_reliable session.new.entropy }
     ensures still { E.is_reliable session.old.entropy → E.faults session.new.entropy ≡ E.faults session.old.entropy }
+    ensures passed { OnErr result (NoneFailed (devices_in F.state R.state E.faults (record { gate = gate.old; slots = slots.old.items; session = session.old }))
+        (devices_in F.state R.state E.faults (record { gate = gate.new; slots = slots.new.items; session = session.new }))) }
 {
     let found = match call_rules::read(&*gate, session.state(), handle) {
         Decision::Answered(reply) => return answer(
@@ -67,6 +71,8 @@ pub(crate) fn info<F: StoreFile + Drop, R: RpmbPort + Drop, L: StoreName, E: Ent
         (record { gate = gate.new; slots = slots.new.items; session = session.new }) (Call.Info handle) result }
     ensures reliable { E.is_reliable session.old.entropy → E.is_reliable session.new.entropy }
     ensures still { E.is_reliable session.old.entropy → E.faults session.new.entropy ≡ E.faults session.old.entropy }
+    ensures passed { OnErr result (NoneFailed (devices_in F.state R.state E.faults (record { gate = gate.old; slots = slots.old.items; session = session.old }))
+        (devices_in F.state R.state E.faults (record { gate = gate.new; slots = slots.new.items; session = session.new }))) }
 {
     let found = match call_rules::info(&*gate, session.state(), handle) {
         Decision::Answered(reply) => return answer(

@@ -1,6 +1,9 @@
 //! Calls on objects that the rules answer.
 
-ghost use Rattle.std.specs.Prelude.{◌≡◌, ℕ};
+ghost use Rattle.std.specs.Prelude.{◌≡◌, ℕ, OnErr};
+ghost use Rattle.call_steps.specs.Rising.{devices_in};
+ghost use Rattle.serial_calls.specs.Unfailed.{NoneFailed};
+ghost use Rattle.serial_calls.specs.ChangeChecks.{AreOnlyRead};
 ghost use Rattle.store_model.specs.Machine.{MachineState};
 ghost use Rattle.call_rules.specs.Matches.{Matches};
 ghost use Rattle.call_rules.specs.Plain.{IsPlain};
@@ -35,6 +38,10 @@ pub(crate) fn answer<F: StoreFile + Drop, R: RpmbPort + Drop, L: StoreName, E: E
         (record { gate = gate.new; slots = slots.now.items; session = session.new }) call.now result }
     ensures reliable { E.is_reliable session.old.entropy → E.is_reliable session.new.entropy }
     ensures still { E.is_reliable session.old.entropy → E.faults session.new.entropy ≡ E.faults session.old.entropy }
+    ensures passed { OnErr result (NoneFailed (devices_in F.state R.state E.faults (record { gate = gate.old; slots = slots.now.items; session = session.old }))
+        (devices_in F.state R.state E.faults (record { gate = gate.new; slots = slots.now.items; session = session.new }))) }
+    ensures quiet { AreOnlyRead (record { gate = gate.old; slots = slots.now.items; session = session.old })
+        (record { gate = gate.new; slots = slots.now.items; session = session.new }) }
 {
     let kept = call.copy(alloc)?;
     Ok(answer_ruled(gate, session, kept, reply))

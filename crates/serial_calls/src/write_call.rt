@@ -2,12 +2,18 @@
 
 ghost use Rattle.std.specs.Prelude.{◌==◌, ◌≡◌, ◌+◌, ◌≤◌, IfOk, None, OnErr, false, length, max};
 ghost use Rattle.call_rules.specs.Objects.{IsRightful};
+ghost use Rattle.serial_calls.specs.ChangeChecks.{IsOnlyRead};
+ghost use Rattle.serial_calls.specs.ChangeReplies.{IsNotDone};
+ghost use Rattle.call_steps.specs.AnswerCauses.{HasToldCause};
+ghost use Rattle.call_steps.specs.AnswerServed.{IsServedOrNot};
+ghost use Rattle.rpmb_card.specs.Protocol.{last_counter};
+ghost use Rattle.htree_file.specs.Answers.{FilePassed};
 ghost use Rattle.serial_calls.specs.ChangeCauses.{HasStageCause};
 ghost use Rattle.serial_calls.specs.Changed.{AnswersStaged, IsChangedOrNot};
 ghost use Rattle.serial_calls.specs.ChangeStaging.{StagesChange, StagesEntry, writing};
 ghost use Rattle.crash_core.specs.DeviceKeys.{object_key};
 ghost use Rattle.dir_records.specs.Form.{HasForm};
-ghost use Rattle.disk_model.specs.Calls.{GoesOn};
+ghost use Rattle.disk_model.specs.Calls.{GoesOn, Rests};
 ghost use Rattle.history_seats.specs.Records.{Version};
 ghost use Rattle.call_steps.specs.Commits.{IsCalm};
 ghost use Rattle.call_steps.specs.Fills.{GivesEntry};
@@ -17,6 +23,7 @@ ghost use Rattle.call_steps.specs.GuardedReads.{GivesVersion};
 ghost use Rattle.call_steps.specs.SlotValues.{IsLive, without_stage};
 ghost use Rattle.tee_types.specs.Rights.{write_bit};
 
+use crate::change_check::check_write_object;
 use crate::early_answers::answer_meant;
 use crate::failure_replies::tell_failure;
 use crate::stage_commit::commit_stage;
@@ -24,7 +31,7 @@ use crate::stage_result::{Staged, staged_by};
 use call_rules::{OpenObject, write_refusal};
 use call_steps::{
     GuardedGate, GuardedSlot, PlacedReply, Session, SessionMove, Slot, catch_up_entry,
-    load_or_reply, stage_write,
+    load_or_reply, stage_write, tell, twice,
 };
 use core_laws::StoreName;
 use dir_records::DirEntry;
@@ -50,6 +57,7 @@ fn write_loaded<F: StoreFile + Drop, L: StoreName, E: Entropy>(
     ensures base { SlotInvariant L.store (record slot.new { holds = without_stage slot.new.holds }) }
     ensures guarded { OnErr result (SlotInvariant L.store slot.new) }
     ensures undrawn { OnErr result (entropy.new ≡ entropy.old) }
+    ensures passed { OnErr result (FilePassed slot.old.file slot.new.file) }
     ensures stages { (v : Version) → GivesVersion slot.old v → IfOk result (StagesChange L.store slot.new v (writing start bytes.now)) }
     ensures cause { IfOk result (HasStageCause slot.old.file slot.new.file slot.old.number (E.is_reliable entropy.old) (E.faults entropy.old) (E.faults entropy.new)) }
     ensures goes_on { GoesOn slot.old.file slot.new.file }
@@ -87,6 +95,7 @@ pub fn write_object<F: StoreFile + Drop, L: StoreName, E: Entropy>(
     ensures base { SlotInvariant L.store (record slot.new { holds = without_stage slot.new.holds }) }
     ensures guarded { OnErr result (SlotInvariant L.store slot.new) }
     ensures undrawn { OnErr result (entropy.new ≡ entropy.old) }
+    ensures passed { OnErr result (FilePassed slot.old.file slot.new.file) }
     ensures stages { (v : Version) → GivesVersion slot.old v → IfOk result (StagesChange L.store slot.new v (writing start bytes.now)) }
     // The reply accuses the file or the entropy where it failed, and no other.
     ensures cause { IfOk result (HasStageCause slot.old.file slot.new.file slot.old.number (E.is_reliable entropy.old) (E.faults entropy.old) (E.faults entropy.new)) }
@@ -150,8 +159,49 @@ pub fn answer_write<F: StoreFile + Drop, R: RpmbPort + Drop, L: StoreName, E: En
     }
 }
 
+// Tells that no commit can follow, or why the object's file does not give what the write needs. The file is only read, and nothing is drawn.
+fn write_spent<F: StoreFile + Drop, R: RpmbPort + Drop, L: StoreName, E: Entropy>(
+    alloc: Global,
+    gate: &mut GuardedGate<F, R, L>,
+    slot: &mut Slot<F>,
+    session: &mut Session<E>,
+    found: &OpenObject,
+    tsk: &[u8; 32],
+    handle: u32,
+    bytes: Bytes,
+) -> Result<PlacedReply, NoMemory>
+    requires room { 1 ≤ gate.old.journal.spare }
+    requires handle { 1 ≤ gate.old.gate.open_handles.spare }
+    requires idle { gate.old.gate.doubt ≡ None }
+    requires calm { IsCalm L.store gate.old.journal.knows session.old }
+    requires spent { gate.old.gate.counter ≡ last_counter }
+    requires found { IsRightful gate.old.gate.dir.dir.entries session.old.state handle write_bit found.now }
+    requires some { (length bytes == 0) ≡ false }
+    requires fits { found.now.handle.position + length bytes ≤ 1044480 }
+    requires guarded { SlotInvariant L.store slot.old }
+    requires file { slot.old.number ≡ found.now.held.entry.file }
+    requires key { tsk.now ≡ object_key L.store.keys found.now.held.entry.app }
+    ensures served { IsServedOrNot L.store gate.old gate.new session.old session.new slot.old.number (Call.Write handle bytes) result }
+    ensures kind { IfOk result (λ answer. IsNotDone answer.reply) }
+    ensures cause { IfOk result (λ answer. HasToldCause slot.old.file slot.new.file slot.old.number answer.reply) }
+    ensures entropy { session.new.entropy ≡ session.old.entropy }
+    ensures rests { Rests slot.old.file slot.new.file }
+    ensures passed { OnErr result (FilePassed slot.old.file slot.new.file) }
+    ensures number { slot.new.number ≡ slot.old.number }
+    ensures guarded { SlotInvariant L.store slot.new }
+{
+    let entry = found.held.entry;
+    catch_up_entry(gate, slot, session, &entry);
+    let start = found.handle.position;
+    let reply = check_write_object::<F, L>(alloc, slot, &entry, tsk, start, bytes.as_slice())?;
+    let (kept, told) = twice(reply);
+    let call = Call::Write { handle, bytes };
+    Ok(tell(gate, slot, session, call, kept, told))
+}
+
 /// Writes these bytes, of which there are some, from the handle's position on, and advances the position by as many. `found` is what the
-/// rules found of the handle, whose session was shown the history. `tsk` is the key of the entry's application.
+/// rules found of the handle, whose session was shown the history. `tsk` is the key of the entry's application. Where the card's counter is at
+/// its end the blocks are read that the write needs, nothing is drawn or written, and that is told.
 ///
 /// # Errors
 ///
@@ -178,6 +228,10 @@ pub fn write<F: StoreFile + Drop, R: RpmbPort + Drop, L: StoreName, E: Entropy>(
     ensures changed { IsChangedOrNot F.state R.state (E.is_reliable session.old.entropy) (E.faults session.old.entropy) (E.faults session.new.entropy)
         L.store gate.old gate.new slot.old slot.new session.old session.new (Call.Write handle bytes.now) found.now.held
         (max found.now.held.entry.size (found.now.handle.position + length bytes.now)) result }
+    // Where no commit can follow the file is only read, and nothing is drawn.
+    ensures spent { gate.old.gate.counter ≡ last_counter → IsOnlyRead gate.old gate.new slot.old.file slot.new.file session.old session.new }
+    // Where memory ran out, no call of the file failed.
+    ensures passed { OnErr result (FilePassed slot.old.file slot.new.file) }
     ensures number { slot.new.number ≡ slot.old.number }
     ensures goes_on { GoesOn slot.old.file slot.new.file }
     ensures reliable { E.is_reliable session.old.entropy → E.is_reliable session.new.entropy }
@@ -191,6 +245,19 @@ pub fn write<F: StoreFile + Drop, R: RpmbPort + Drop, L: StoreName, E: Entropy>(
             bytes: kept,
         };
         return Ok(answer_meant(gate, &mut slot.slot, session, &entry, call, reply));
+    }
+    let counter = gate.counter();
+    if counter == u32::MAX {
+        return write_spent(
+            alloc,
+            gate,
+            &mut slot.slot,
+            session,
+            found,
+            tsk,
+            handle,
+            kept,
+        );
     }
     catch_up_entry(gate, &mut slot.slot, session, &entry);
     let entropy = session.entropy_mut();

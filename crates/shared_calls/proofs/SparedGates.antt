@@ -8,7 +8,7 @@ use Rattle.history_seats.specs.Records.{HistoryRecord, Version}
 use Rattle.hmac_keys.specs.KeyTable.{rpmb_key}
 use Rattle.serial_calls.specs.declared.PlacedReply.{PlacedReply}
 use Rattle.serial_calls.specs.GuardedGates.{GuardedGateValue}
-use Rattle.serial_calls.specs.FileAnswers.{Fails, IsFileAnswer, Refuses, Tells, Undrawn}
+use Rattle.serial_calls.specs.FileAnswers.{Fails, IsFileAnswer, Refuses, Spent, Tells, Undrawn}
 use Rattle.serial_calls.specs.AnswerServed.{IsServed}
 use Rattle.rpmb_card.specs.Port.{PortState}
 use Rattle.store_model.specs.Record.{events_of}
@@ -64,6 +64,7 @@ failure-spares store file number v position call reply failure (Tells told hones
 failure-spares store file number v position call reply failure (Refuses is honest) = subst SparesGate (sym is) tt
 failure-spares store file number v position call reply failure (Fails count is) = subst SparesGate (sym is) tt
 failure-spares store file number v position call reply failure (Undrawn count is spared) = subst SparesGate (sym is) tt
+failure-spares store file number v position call reply failure (Spent is spared) = subst SparesGate (sym is) tt
 
 -- it carries no count of theirs, and no frame
 spares-dir : (reply : Reply) → SparesGate reply → told_of Dir reply ≡ []

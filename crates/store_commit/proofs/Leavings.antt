@@ -1,5 +1,5 @@
 -- What calls leave of a file and of the port.
-use Rattle.std.proofs.Common.{◌≡◌, ◌∙◌, ℕ, List, Result, Ok, IsTrue, Bool, refl, sym, ap, subst, inl, inr, drop}
+use Rattle.std.proofs.Common.{◌≡◌, ◌∙◌, ℕ, List, Result, Ok, sym, subst, inl, inr, drop}
 use Rattle.tee_ports.specs.declared.failed.Failed.{Failed}
 use Rattle.disk_model.specs.declared.span.Span.{Span}
 use Rattle.disk_model.specs.Calls.{GoesOn, Rests, Syncs}
@@ -7,10 +7,10 @@ use Rattle.disk_model.specs.Images.{MayLeave}
 use Rattle.disk_model.specs.State.{FileState, LeftNow, Sound, pending, spans_of}
 use Rattle.disk_model.proofs.ImageLaws.{reads_left}
 use Rattle.disk_model.proofs.Laws.{synced}
-use Rattle.rpmb_card.specs.Arms.{Arms, count_call}
 use Rattle.rpmb_card.specs.Port.{Exchanged, PortState}
 use Rattle.rpmb_host.specs.Calls.{WriteExchanges}
 use Rattle.store_commit.specs.Leaving.{KeepsPort, LeavesNoMore}
+use Rattle.store_commit.proofs.PortArms.{arms_then, exchanged_arms, same_arms}
 
 -- FILES
 pub left_then : (a b c : FileState) → GoesOn b c → LeavesNoMore a b → LeavesNoMore b c → LeavesNoMore a c
@@ -28,25 +28,13 @@ syncs_left a b sound syncs honest image left =
 
 -- PORTS
 pub port_still : (p : PortState) → KeepsPort p p
-port_still p = record { calm = λ h. h; tells_arms = refl; arms = λ tells. refl }
+port_still p = record { calm = λ h. h; arms = same_arms p }
 
 pub port_then : (a b c : PortState) → KeepsPort a b → KeepsPort b c → KeepsPort a c
-port_then a b c first second = record {
-  calm = λ h. second.calm (first.calm h);
-  tells_arms = second.tells_arms ∙ first.tells_arms;
-  arms = λ tells.
-      second.arms (subst (λ (t : Bool). IsTrue t) (sym first.tells_arms) tells)
-      ∙ ap (λ (x : Arms). let y : Arms = record x { calls = (c.arms).calls } in y) (first.arms tells);
-}
+port_then a b c first second = record { calm = λ h. second.calm (first.calm h); arms = arms_then a b c first.arms second.arms }
 
 pub exchange_keeps : (a b : PortState) (frame : List ℕ) (result : Result (List ℕ) Failed) → Exchanged a b frame result → KeepsPort a b
-exchange_keeps a b frame result x = record {
-  calm = x.stays_calm;
-  tells_arms = x.tells_arms;
-  arms = λ tells.
-      let is : b.arms ≡ count_call a.arms = x.counted_call tells in
-      is ∙ ap (λ (n : ℕ). let y : Arms = record (a.arms) { calls = n } in y) (sym (ap (λ (y : Arms). y.calls) is));
-}
+exchange_keeps a b frame result x = record { calm = x.stays_calm; arms = exchanged_arms a b frame result x }
 
 pub writes_keep : (a b : PortState) (write : List ℕ) (outcome : Result (List ℕ) Failed) → WriteExchanges a b write outcome → KeepsPort a b
 writes_keep a b write outcome (inl failed) = exchange_keeps a b write outcome failed.1

@@ -6,7 +6,6 @@ ghost use Rattle.rpmb_card.specs.Protocol.{last_counter};
 ghost use Rattle.open_table.specs.Table.{allows_on_file, is_file_open};
 ghost use Rattle.crash_core.specs.EntryChanges.{file_put, index_of};
 ghost use Rattle.store_commit.specs.Changes.{FitsIn, change_of};
-ghost use Rattle.store_commit.specs.Sides.{IsSettled};
 ghost use Rattle.store_commit.specs.Ends.{Leaves, Throughout};
 ghost use Rattle.store_commit.specs.Steps.{Steps};
 ghost use Rattle.store_commit.specs.Causes.{DoubtIsByCard, EndCause, EndIsDrawn, EndNotDrawn, EndNotOfCard, KeepsPortArms, StaysCalm, counts};

@@ -16,7 +16,9 @@ use crate::Failed;
 /// anything. The file counts its faults, and a call answers `Failed` only where it counted one.
 ///
 /// An honest file reads as its user's calls left it. A steady one reads at the end of a call as at its start, unless the
-/// call writes. Of a file that is neither a caller knows what a read gave, and no more.
+/// call writes. One that tells its arms reads at the end of a call as the masks that are armed for the call left it, but for
+/// the places that the call writes, whether it succeeds or fails. Of any other file a caller knows what a read gave, and no
+/// more.
 ///
 /// Places and lengths are in bytes, and below 2^32.
 pub trait StoreFile {
@@ -54,6 +56,9 @@ pub trait StoreFile {
         ensures others { Known (state self.old) (state self.new) → (place byte : ℕ) →
             Outside at (at + length from.now) place →
             Has (state self.old).reads place byte → Has (state self.new).reads place byte }
+        ensures others_struck { IsTrue (state self.old).tells_arms → (place byte : ℕ) →
+            Outside at (at + length from.now) place →
+            Has (struck (state self.old)).reads place byte → Has (state self.new).reads place byte }
 
         // The bytes that were written are counted.
         ensures at_most { (state self.new).written ≤ (state self.old).written + length from.now }
@@ -78,6 +83,9 @@ pub trait StoreFile {
         ensures others { Known (state self.old) (state self.new) → (place byte : ℕ) →
             Outside size (length (state self.old).reads) place →
             Has (state self.old).reads place byte → Has (state self.new).reads place byte }
+        ensures others_struck { IsTrue (state self.old).tells_arms → (place byte : ℕ) →
+            Outside size (length (state self.old).reads) place →
+            Has (struck (state self.old)).reads place byte → Has (state self.new).reads place byte }
         ensures counted { (state self.new).written ≡ (state self.old).written }
 
         ensures cause { HasCause (state self.old) (state self.new) result }

@@ -1,5 +1,7 @@
 -- What is shown and settled first goes on in the answer.
-use Rattle.std.proofs.Common.{Option, Ok, ap, ◌∙◌, subst}
+use Rattle.std.proofs.Common.{Option, Ok, ap, ◌∙◌, refl, subst, sym}
+use Rattle.std.specs.Prelude.{IsNone}
+use Rattle.commit_gate.specs.CallerSessions.{CallerSession}
 use Rattle.commit_gate.specs.declared.placed_reply.PlacedReply.{PlacedReply}
 use Rattle.call_steps.specs.GateServed.{ServesAlone, ServesAtOnce}
 use Rattle.call_steps.proofs.Serving.{at_once_caught_up, at_once_err, serves-after-catch_up, serves-behind, unserved-as}
@@ -39,7 +41,9 @@ returns-clause-serves g c =
     g.L.StoreName.store c.args.call.now c.args.gate.now c.answer_early.new.gate first last r) (c.in_ok-answer.was ∙ ap (λ (o : Option PlacedReply). Ok o) c.in_default.is) early in
     serves-behind g.F.StoreFile.state g.R.RpmbPort.state (g.E.Entropy.is_reliable first.entropy) (g.E.Entropy.faults first.entropy)
     (g.E.Entropy.faults c.answer_by_rules.new.session.entropy) g.L.StoreName.store c.args.call.now c.args.gate.now c.answer_early.new.gate c.answer_by_rules.new.gate first last
-    c.answer_by_rules.new.session c.answer_by_rules.result left c.answer_by_rules.ensures.serves
+    c.answer_by_rules.new.session c.answer_by_rules.result left
+    (ap g.E.Entropy.faults c.answer_by_rules.ensures.entropy ∙ c.in_ok-answer.ensures.undrawn (subst (λ (o : Option PlacedReply). IsNone o) (sym c.in_default.is) refl) ∙ ap (λ (s : CallerSession g.row.E.Denot). g.E.Entropy.faults s.entropy) c.catch_up.ensures.session)
+    c.answer_by_rules.ensures.serves
 
 pub returns-in_err-answer-clause-at_once : goal.returns-in_err-answer-clause-at_once
 returns-in_err-answer-clause-at_once g c = λ misused.

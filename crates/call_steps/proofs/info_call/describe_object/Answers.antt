@@ -1,5 +1,7 @@
 -- The object was loaded and told of, or could not be.
 use Rattle.std.proofs.Common.{None, subst}
+use Rattle.htree_file.specs.Answers.{FilePassed}
+use Rattle.call_steps.proofs.AnswerCauses.{on-err}
 use Rattle.call_steps.proofs.InfoAnswers.{described, undescribed}
 use Rattle.call_steps.proofs.LoadedVersions.{gives-still}
 use Rattle.call_steps.specs.ReadyEntries.{IsReady}
@@ -27,3 +29,10 @@ returns-clause-describes g c = λ v gives.
     let mid = c.load_or_reply.new.slot in
     let ready : IsReady store old.file mid v None = subst (IsReady store old.file mid v) c.in_default.is (c.in_ok-reply.ensures.ready v gives) in
     described store old.file mid v c.args.handle ready.1 c.describe.result (c.describe.ensures v (gives-still old mid v c.load_or_reply.ensures.same gives))
+
+pub returns-clause-passed : goal.returns-clause-passed
+returns-clause-passed g c =
+    let given = c.requires.given in
+    let ready : IsReady g.L.StoreName.store c.args.slot.now.file c.load_or_reply.new.slot given.version None =
+    subst (IsReady g.L.StoreName.store c.args.slot.now.file c.load_or_reply.new.slot given.version) c.in_default.is (c.in_ok-reply.ensures.ready given.version given.gives) in
+    on-err c.describe.result (FilePassed c.args.slot.now.file c.load_or_reply.new.slot.file) ready.1

@@ -1,5 +1,7 @@
 -- The object was loaded, or the fault is told.
-use Rattle.std.proofs.Common.{sym, ap, ◌∙◌, ℕ}
+use Rattle.std.proofs.Common.{sym, ap, ◌∙◌, ℕ, subst}
+use Rattle.object_slots.specs.SlotFaults.{HasCause}
+use Rattle.call_steps.proofs.AnswerCauses.{untold-passed}
 use Rattle.call_steps.proofs.LoadedVersions.{reads-at_most}
 use Rattle.call_steps.proofs.ReadyEntries.{ready-none, ready-some}
 use Rattle.call_steps.specs.FileFaults.{reply_of_fault}
@@ -32,3 +34,9 @@ returns-in-Some-clause-ready g c = λ v gives.
     let reads = reads-at_most old.holds old c.fill_free.new.slot c.args.tsk.now c.args.entry.now c.fill_free.result c.fill_free.ensures.filled in
     ready-some g.L.StoreName.store old.file c.fill_free.new.slot v c.fill_free.result (c.fill_free.ensures.version v gives) reads.cause c.in-Err.fault c.in-Some.reply c.in-Err.is
     (sym c.in-Some.is ∙ c.fault_reply.ensures ∙ ap (λ (n : ℕ). reply_of_fault n c.in-Err.fault) c.number.ensures.number)
+
+pub returns-in_default-clause-passed : goal.returns-in_default-clause-passed
+returns-in_default-clause-passed g c =
+    let old = c.args.slot.now in
+    let reads = reads-at_most old.holds old c.fill_free.new.slot c.args.tsk.now c.args.entry.now c.fill_free.result c.fill_free.ensures.filled in
+    untold-passed old.file c.fill_free.new.slot.file c.number.result c.in-Err.fault (sym c.in_default.is ∙ c.fault_reply.ensures) (subst (HasCause old.file c.fill_free.new.slot.file) c.in-Err.is reads.cause)

@@ -6,6 +6,8 @@ use Rattle.commit_gate.specs.GuardedGates.{GuardedGateValue}
 use Rattle.object_slots.specs.SlotValues.{SlotValue}
 use Rattle.call_steps.specs.AnswerCauses.{HasToldCause}
 use Rattle.call_steps.specs.ReadAnswers.{ReadsEntry}
+use Rattle.htree_file.specs.Answers.{FilePassed}
+use Rattle.call_steps.proofs.AnswerCauses.{bare-passed, on-err}
 use Rattle.call_steps.proofs.Meetings.{at-stays}
 use Rattle.call_steps.proofs.read_call.read.Goals as goal
 
@@ -31,3 +33,12 @@ returns-clause-cause g c =
     ap (λ (s : SlotValue). s.number) c.read_object.ensures.same ∙ c.catch_up_entry.ensures.number ∙ ap (λ (s : SlotValue). s.number) c.slot.view_is in
     subst (λ (x : FileState × FileState × ℕ × Reply). HasToldCause x.0 x.1 x.2 x.3) (λ i. (same i, sym c.answer_read.ensures.file i, number i, sym c.answer_read.ensures.reply i))
     (c.in_ok-reply.ensures.reads at.0 at.1.gives).cause
+
+pub returns-in_err-told-clause-passed : goal.returns-in_err-told-clause-passed
+returns-in_err-told-clause-passed g c =
+    let at = c.catch_up_entry.ensures.at in
+    let new = c.read_object.new.slot in
+    let same : c.catch_up_entry.new.slot.file ≡ c.args.slot.now.file = c.catch_up_entry.ensures.file ∙ ap (λ (s : SlotValue). s.file) c.slot.view_is in
+    on-err c.from_residual-in_err-told.result (FilePassed c.args.slot.now.file new.file)
+    (subst (λ (f : FileState). FilePassed f new.file) same
+    (bare-passed c.catch_up_entry.new.slot.file new.file new.number c.in_ok-reply.reply c.in_err-told.ensures.none (c.in_ok-reply.ensures.reads at.0 at.1.gives).cause))

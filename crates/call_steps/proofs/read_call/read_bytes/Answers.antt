@@ -7,6 +7,7 @@ use Rattle.object_slots.specs.SlotValues.{IsLive, SlotValue}
 use Rattle.object_slots.specs.GuardedReads.{ReadsVersion}
 use Rattle.call_steps.specs.FileFaults.{reply_of_fault}
 use Rattle.call_steps.specs.ReadAnswers.{ReadsAnswer}
+use Rattle.call_steps.proofs.AnswerCauses.{untold-passed}
 use Rattle.call_steps.proofs.LoadedVersions.{gives-still}
 use Rattle.call_steps.proofs.Meetings.{file-moved}
 use Rattle.call_steps.proofs.ReadAnswers.{content-answer, fault-answer, live-reads}
@@ -50,3 +51,10 @@ returns-in-Ok-clause-rests g c =
 pub returns-in-Some-clause-rests : goal.returns-in-Some-clause-rests
 returns-in-Some-clause-rests g c =
     (live-reads c.args.slot.now.holds c.args.slot.now.file c.read.new.slot.file c.args.at c.as_mut_slice.result.now c.read.new.into c.read.result c.requires.live c.read.ensures.reads).0
+
+pub returns-in_default-clause-passed : goal.returns-in_default-clause-passed
+returns-in_default-clause-passed g c =
+    let old = c.args.slot.now.file in
+    let new = c.read.new.slot.file in
+    untold-passed old new c.number.result c.in-Err.fault (sym c.in_default.is ∙ c.fault_reply.ensures)
+    (subst (HasCause old new) c.in-Err.is (live-reads c.args.slot.now.holds old new c.args.at c.as_mut_slice.result.now c.read.new.into c.read.result c.requires.live c.read.ensures.reads).1)

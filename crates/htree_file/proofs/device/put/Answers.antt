@@ -1,19 +1,28 @@
 use Rattle.std.proofs.Common.{◌+◌, ◌≤◌, List, length, ℕ, sym, ◌∙◌, ap, subst}
 use Rattle.disk_model.proofs.Laws.{change_keeps}
+use Rattle.disk_model.proofs.Seen.{written_masked}
 use Rattle.node_image.specs.Selection.{bytes_at}
 use Rattle.htree_file.proofs.Transfers.{written_fits, written_stands}
 use Rattle.htree_file.proofs.device.put.Goals as goal
 
 pub returns-in_err-write_at-clause-writes : goal.returns-in_err-write_at-clause-writes
 returns-in_err-write_at-clause-writes g c = record {
-  keeps = change_keeps c.args.at (c.args.at + length c.args.bytes.now) _ _ (g.met.F.StoreFile.sound c.args.file.now) c.write_at.ensures.changes c.write_at.ensures.others;
+  keeps = change_keeps c.args.at (c.args.at + length c.args.bytes.now) _ _ (g.met.F.StoreFile.sound c.args.file.now) (record {
+    changes = c.write_at.ensures.changes;
+    others = c.write_at.ensures.others;
+    masked = λ tells. written_masked c.args.at (c.args.at + length c.args.bytes.now) (g.F.StoreFile.state c.args.file.now) (g.F.StoreFile.state c.write_at.new.self) (c.write_at.ensures.others_struck tells);
+  });
   written = c.write_at.ensures.at_most;
   pending_from = c.write_at.ensures.changes.pending_from;
 }
 
 pub returns-clause-writes : goal.returns-clause-writes
 returns-clause-writes g c = record {
-  keeps = change_keeps c.args.at (c.args.at + length c.args.bytes.now) _ _ (g.met.F.StoreFile.sound c.args.file.now) c.write_at.ensures.changes c.write_at.ensures.others;
+  keeps = change_keeps c.args.at (c.args.at + length c.args.bytes.now) _ _ (g.met.F.StoreFile.sound c.args.file.now) (record {
+    changes = c.write_at.ensures.changes;
+    others = c.write_at.ensures.others;
+    masked = λ tells. written_masked c.args.at (c.args.at + length c.args.bytes.now) (g.F.StoreFile.state c.args.file.now) (g.F.StoreFile.state c.write_at.new.self) (c.write_at.ensures.others_struck tells);
+  });
   written = c.write_at.ensures.at_most;
   pending_from = c.write_at.ensures.changes.pending_from;
 }

@@ -3,12 +3,15 @@ use Rattle.std.proofs.lemmas.List.{take_at}
 use Rattle.std.proofs.lemmas.Result.{err_from_is_err_and}
 use Rattle.disk_model.specs.State.{FileState}
 use Rattle.disk_model.specs.Calls.{Rests}
-use Rattle.disk_model.proofs.Goings.{then_known}
+use Rattle.disk_model.specs.Keeps.{rest}
+use Rattle.disk_model.proofs.Goings.{rests_then, then_known}
+use Rattle.disk_model.proofs.Seen.{runs_one, seen_later, seen_now}
 use Rattle.node_image.specs.declared.node.NodeImage.{NodeImage}
 use Rattle.node_image.specs.declared.node.RootRef.{RootRef}
 use Rattle.node_image.specs.Selection.{bytes_at}
 use Rattle.htree_file.specs.declared.fault.TreeFault.TheVariants.{Short}
-use Rattle.htree_file.specs.Opening.{need_of, table_of}
+use Rattle.htree_file.specs.Opening.{Loaded, need_of, table_of}
+use Rattle.htree_file.specs.Selected.{Lies}
 use Rattle.htree_file.specs.Standing.{Told}
 use Rattle.htree_file.proofs.SameTable.{table_read}
 use Rattle.htree_file.proofs.Verified.{long_is, short_is, table_differs, table_fault, table_verified}
@@ -74,3 +77,25 @@ returns-then-end-need-clause-differs g c = λ tells. (
     is = c.need_of-need.ensures;
   },
 )
+
+pub returns-clause-seen : goal.returns-clause-seen
+returns-clause-seen g c =
+    let old = g.F.StoreFile.state c.args.file.now in
+    let mid = g.F.StoreFile.state c.read_padded.new.file in
+    let new = g.F.StoreFile.state c.len.new.self in
+    let tree : Loaded = record { head = c.in_ok-head.head; nodes = take c.in_ok-head.head.greatest c.read_table.new.nodes } in
+    let places = Lies tree.nodes c.args.root.version in
+    let shown : List ℕ → Type 0 = λ image. table_of image c.args.root ≡ Ok tree in
+    seen_later places old mid new shown (runs_one places rest mid new (g.met.F.StoreFile.sound c.read_padded.new.file) c.len.ensures.rests tt)
+    (seen_now places old mid shown c.read_padded.ensures.rests (λ tells.
+    same_table c.deref.result.now c.read_padded.new.into _ mid.reads c.args.root (length c.deref_mut.result.now) c.in_ok-image.image.len c.requires.version (search rules) (omega arith) c.deref.ensures.value (c.in_ok-read_padded.ensures.bytes tells)
+    ∙ c.in_ok-head.ensures.ok))
+
+pub returns-in_err-end-clause-rests : goal.returns-in_err-end-clause-rests
+returns-in_err-end-clause-rests g c = rests_then _ _ _ c.read_padded.ensures.rests c.len.ensures.rests
+
+pub returns-then-end-need-clause-rests : goal.returns-then-end-need-clause-rests
+returns-then-end-need-clause-rests g c = rests_then _ _ _ c.read_padded.ensures.rests c.len.ensures.rests
+
+pub returns-clause-rests : goal.returns-clause-rests
+returns-clause-rests g c = rests_then _ _ _ c.read_padded.ensures.rests c.len.ensures.rests

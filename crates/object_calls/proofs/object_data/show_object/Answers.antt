@@ -1,4 +1,5 @@
 use Rattle.std.proofs.Common.{subst, sym}
+use Rattle.disk_model.proofs.Goings.{rests_then}
 use Rattle.object_calls.specs.Next.{ShowAnswer}
 use Rattle.object_calls.proofs.ObjectLoading.{IsLoaded, loaded_answer}
 use Rattle.object_calls.proofs.object_data.show_object.Goals as goal
@@ -25,4 +26,7 @@ returns-in-Ok-clause-answer g c =
       passed = l.passed;
     } in
     subst (λ (f : g.row.F.Denot). ShowAnswer key a (state f) e c.show_loaded-shown.result) (sym c.into_file.ensures)
-    (loaded_answer key a b (state c.show_loaded-shown.new.object.tree.file) e o loaded s.rests c.show_loaded-shown.result s.shows s.passed s.failed)
+    (loaded_answer key a b (state c.show_loaded-shown.new.object.tree.file) e o loaded (g.met.F.StoreFile.sound o.tree.file) s.rests c.show_loaded-shown.result s.shows s.passed s.failed)
+
+pub returns-in-Ok-clause-rests : goal.returns-in-Ok-clause-rests
+returns-in-Ok-clause-rests g c = rw (c.into_file.ensures) (rests_then _ _ _ c.in-Ok.ensures.rests c.show_loaded-shown.ensures.rests)

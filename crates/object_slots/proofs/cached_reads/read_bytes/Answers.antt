@@ -1,11 +1,11 @@
-use Rattle.std.proofs.Common.{rules, ◌≡◌, ◌∙◌, ◌+◌, ◌-◌, ℕ, IsTrue, Err, true, length, get_or, min, ap, sym, subst, refl, arith}
+use Rattle.std.proofs.Common.{rules, ◌≡◌, ◌∙◌, ◌+◌, ◌-◌, ℕ, Err, true, length, get_or, min, ap, sym, subst, refl, arith}
 use Rattle.std.proofs.lemmas.Result.{err_from_is_err_and}
 use Rattle.htree_file.specs.Pages.{page_in}
 use Rattle.htree_file.proofs.Causes.{passed_none, passed_then, rests_none, rests_then}
 use Rattle.page_bytes.specs.Ranges.{first_block, meets, read_range}
 use Rattle.page_bytes.proofs.Content.{meets-blocks}
 use Rattle.block_file.specs.Parts.{IsGiven, PartAnswer}
-use Rattle.block_file.proofs.Reading.{all_read, byte_stands, part_blocks, part_kept, range_count, range_meets, read_content, read_none, read_rest, read_step, rest_step}
+use Rattle.block_file.proofs.Reading.{all_read, byte_stands, part_blocks, part_kept, range_count, range_meets, read_content, read_none, read_rest, rests_keep, read_step, rest_step}
 use Rattle.object_slots.proofs.Askings.{asks_none, asks_then, asks_within, blocks_few}
 use Rattle.object_slots.proofs.cached_reads.read_bytes.Goals as goal
 
@@ -27,7 +27,7 @@ returns-in_err-read_part-clause-blocks g c =
     subst (λ o. PartAnswer o.tree.key o.tree.tree b new r k c.loop-k.into c.read_part.new.into {A = Unit {0}} (Err c.in_err-read_part.field-0.0)) before.same c.in_err-read_part.ensures.answer in
     let p = err_from_is_err_and c.from_residual.result c.from_residual.ensures.1 in
     rw (p.1, p.2) (part_blocks t.key t.tree a b new (meets at (at + count)) r k c.loop-k.into c.read_part.new.into (Unit {0}) ℕ c.in_err-read_part.field-0.0
-    c.in_err-read_part.ensures.rests.goes_on (same k ∙ met) (λ j lt is. (before.read.pages j, before.read.read j lt (sym (same j) ∙ is))) answer)
+    (rests_keep t.tree.nodes b new (g.met.F.StoreFile.sound c.loop-k.object.tree.file) c.in_err-read_part.ensures.rests) (same k ∙ met) (λ j lt is. (before.read.pages j, before.read.read j lt (sym (same j) ∙ is))) answer)
 
 pub returns-in_err-read_part-clause-rest : goal.returns-in_err-read_part-clause-rest
 returns-in_err-read_part-clause-rest g c =
@@ -57,7 +57,7 @@ loop-k-preserved g c =
       rests = rests_then a b new before.rests step.rests;
       passed = passed_then a b new before.passed step.cause;
       kept = step.kept;
-      read = read_step t.key t.tree a b new r k c.loop-k.into c.read_part.new.into before.rests step.rests.goes_on before.read given;
+      read = read_step t.key t.tree a b new r k c.loop-k.into c.read_part.new.into before.rests (rests_keep t.tree.nodes b new (g.met.F.StoreFile.sound c.loop-k.object.tree.file) step.rests) before.read given;
       asked = asks_then (k - first_block r) 1 (k + 1 - first_block r) a b new (omega (arith, c.first_block-k.ensures, c.loop-k.auto.k)) before.rests.goes_on.tells_arms before.asked step.asks;
       rest = λ i behind. given.given i ∙ rest_step r k given.page (get_or c.loop-k.into i 0) i behind ∙ before.rest i behind;
     }
@@ -108,3 +108,6 @@ returns-clause-rest g c =
     let is = c.of_read-range.ensures ∙ ap (λ (n : ℕ). read_range n c.args.at (length c.args.into.now)) c.tree_length.ensures.length in
     let counted = range_count r c.args.object.now.tree.tree.head.length c.args.at (length c.args.into.now) is in
     rw (← counted) (read_rest (r.last - r.first) c.loop-k.into c.args.into.now c.loop-k.auto.into c.loop-k.invariant.rest)
+
+pub returns-in_err-read_part-clause-rests : goal.returns-in_err-read_part-clause-rests
+returns-in_err-read_part-clause-rests g c = rests_then _ _ _ c.loop-k.invariant.rests c.in_err-read_part.ensures.rests

@@ -28,6 +28,7 @@ returns-in-Ok-clause-loads g c =
           size = e.size;
           attributes = e.attributes;
           verified = e.verified;
+          seen = e.seen;
           bytes = e.bytes;
           first = e.first;
           loads = e.loaded;

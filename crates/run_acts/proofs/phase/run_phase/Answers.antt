@@ -41,6 +41,7 @@ returns-in-Ok-serve_opened-clause-runs g c =
         disarms = c.disarm_bench.ensures.disarms;
         with_memory = fed_disarmed (bench_state of_file of_port c.args.bench) (bench_state of_file of_port closed.bench) (bench_state of_file of_port c.disarm_bench.result) with_memory
             c.disarm_bench.ensures.disarms;
+        sound_left = c.disarm_bench.ensures.sound;
         past = λ file beyond. files_none of_file c.disarm_bench.result.files.items file
             (omega (arith, beyond, c.disarm_bench.ensures.whole, c.in-Ok-serve_opened.ensures.whole, c.disarm_bench.result.files.ok.0));
       },

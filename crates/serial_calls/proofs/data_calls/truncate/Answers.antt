@@ -5,6 +5,7 @@ use Rattle.call_rules.specs.Told.{IsTold}
 use Rattle.store_model.specs.Machine.{MachineState, Session}
 use Rattle.tee_types.specs.declared.call.Call.TheVariants.{Truncate}
 use Rattle.serial_calls.proofs.ChangedCalls.{changed_serves, changed_still}
+use Rattle.serial_calls.proofs.Unfailed.{changed_stays, slot_read, stays_unfailed}
 use Rattle.serial_calls.proofs.data_calls.truncate.Goals as goal
 
 pub answer-requires-clause-told : goal.answer-requires-clause-told
@@ -26,3 +27,17 @@ returns-clause-still g c =
     let done = c.truncate-2 in
     changed_still g.F.StoreFile.state g.R.RpmbPort.state g.E.Entropy.faults g.L.StoreName.store c.args.gate.now done.new.gate c.index_mut-slot.result.now done.new.slot
     c.args.session.now done.new.session (Truncate c.args.handle c.args.size) _ _ _ _ done.result done.ensures.changed
+
+pub returns-clause-passed : goal.returns-clause-passed
+returns-clause-passed g c =
+    let done = c.truncate-2 in
+    stays_unfailed c.args.slots.now.items c.place_of-place.result c.index_mut-slot.result.now done.new.slot c.requires.ready.slots_are c.place_of-place.ensures.within c.index_mut-slot.ensures.value
+    g.F.StoreFile.state g.R.RpmbPort.state g.E.Entropy.faults c.args.gate.now done.new.gate c.args.session.now done.new.session done.result
+    (changed_stays g.F.StoreFile.state g.R.RpmbPort.state _ _ _ g.L.StoreName.store c.args.gate.now done.new.gate c.index_mut-slot.result.now done.new.slot c.args.session.now done.new.session (Truncate c.args.handle c.args.size) _ _ done.result done.ensures.changed)
+    done.ensures.passed
+
+pub returns-clause-spent : goal.returns-clause-spent
+returns-clause-spent g c = λ spent.
+    let done = c.truncate-2 in
+    slot_read c.args.slots.now.items c.place_of-place.result c.index_mut-slot.result.now done.new.slot c.requires.ready.slots_are c.place_of-place.ensures.within c.index_mut-slot.ensures.value
+    c.args.gate.now done.new.gate c.args.session.now done.new.session (done.ensures.spent spent)

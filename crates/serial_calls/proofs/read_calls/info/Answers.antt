@@ -1,6 +1,7 @@
 -- The object was told of, or the rules answered.
 use Rattle.tee_types.specs.declared.call.Call.TheVariants.{Info}
 use Rattle.serial_calls.proofs.ToldCalls.{told_serves}
+use Rattle.serial_calls.proofs.Unfailed.{served_stays, stays_unfailed}
 use Rattle.serial_calls.proofs.read_calls.info.Goals as goal
 
 pub returns-clause-serves : goal.returns-clause-serves
@@ -9,3 +10,10 @@ returns-clause-serves g c =
     c.index_mut-slot.result.now c.info-2.new.slot c.args.session.now c.info-2.new.session c.requires.ready.slots_are c.place_of-place.ensures.within c.index_mut-slot.ensures.value
     c.info-2.ensures.number (Info c.args.handle) _ c.info-2.result c.info-2.ensures.served c.requires.ready.calm.caller c.info-2.ensures.rests.goes_on c.info-2.ensures.cause
     c.info-2.ensures.entropy
+
+pub returns-clause-passed : goal.returns-clause-passed
+returns-clause-passed g c =
+    let done = c.info-2 in
+    stays_unfailed c.args.slots.now.items c.place_of-place.result c.index_mut-slot.result.now done.new.slot c.requires.ready.slots_are c.place_of-place.ensures.within c.index_mut-slot.ensures.value
+    g.F.StoreFile.state g.R.RpmbPort.state g.E.Entropy.faults c.args.gate.now done.new.gate c.args.session.now done.new.session done.result
+    (served_stays g.L.StoreName.store c.args.gate.now done.new.gate c.args.session.now done.new.session _ (Info c.args.handle) done.result done.ensures.served) done.ensures.passed

@@ -3,6 +3,7 @@ use Rattle.std.proofs.Common.{subst}
 use Rattle.serial_calls.proofs.CommittableChanges.{truncate_committable}
 use Rattle.serial_calls.proofs.Failures.{truncate_served}
 use Rattle.serial_calls.proofs.MovedSessions.{truncate_moves}
+use Rattle.serial_calls.proofs.Checked.{failure_counter}
 use Rattle.serial_calls.proofs.Replies.{failure_undone}
 use Rattle.serial_calls.proofs.truncate_call.answer_truncate.Goals as goal
 use Rattle.serial_calls.specs.ChangeStaging.{StagesEntry, resizing}
@@ -38,5 +39,5 @@ tell_failure-requires-clause-may g c =
     let reply = c.in-Unstaged.reply in
     let entry : StagesEntry store knows slot found.held.entry (resizing c.args.size) (Unstaged reply) =
     subst (λ (x : Staged). StagesEntry store knows slot found.held.entry (resizing c.args.size) x) c.in-Unstaged.is c.requires.stages in
-    truncate_served store gate.gate knows slot c.args.session.now c.requires.idle c.requires.calm c.args.handle found c.requires.found entry.version entry.at reply (failure_undone reply entry.stages.failure)
+    truncate_served store gate.gate knows slot c.args.session.now c.requires.idle c.requires.calm c.args.handle found c.requires.found entry.version entry.at reply (failure_undone reply entry.stages.failure) (failure_counter gate.gate.counter reply entry.stages.failure)
     c.args.size c.requires.other c.requires.fits (entry.stages.answers c.args.handle)

@@ -1,6 +1,7 @@
 -- What the stage gave, by its result.
 use Rattle.std.proofs.Common.{ap, sym, ℕ, ◌∙◌, ◌≡◌}
 use Rattle.serial_calls.proofs.Slots.{stage_goes}
+use Rattle.serial_calls.proofs.Checked.{unstaged_passed}
 use Rattle.serial_calls.proofs.ChangeStages.{held, staged_base, staged_changes}
 use Rattle.serial_calls.proofs.Unstaged.{truncate_by}
 use Rattle.serial_calls.proofs.truncate_call.truncate_loaded.Goals as goal
@@ -39,3 +40,7 @@ returns-clause-stages g c = λ v gives.
     (λ handle. truncate_by store old new v (held store old new asked v c.requires.guarded c.requires.live gives goes.honest) goes.honest handle c.args.size)
     c.number.ensures.holding c.stage_truncate-given.result (c.stage_truncate-given.ensures.version v gives) c.in-Some.staged
     (sym c.in-Some.is ∙ c.staged_by.ensures ∙ ap (λ (n : ℕ). staged_of n c.stage_truncate-given.result) c.number.ensures.number)
+
+pub returns-in_default-clause-passed : goal.returns-in_default-clause-passed
+returns-in_default-clause-passed g c =
+    unstaged_passed c.args.slot.now.file c.stage_truncate-given.new.slot.file c.number.result c.stage_truncate-given.result (sym c.in_default.is ∙ c.staged_by.ensures) c.stage_truncate-given.ensures.causes.file

@@ -3,6 +3,7 @@ use Rattle.std.proofs.Common.{ap, max, subst, sym, ℕ, ◌+◌, ◌∙◌}
 use Rattle.serial_calls.proofs.CommittableChanges.{write_committable}
 use Rattle.serial_calls.proofs.Failures.{write_served}
 use Rattle.serial_calls.proofs.MovedSessions.{write_moves}
+use Rattle.serial_calls.proofs.Checked.{failure_counter}
 use Rattle.serial_calls.proofs.Replies.{failure_undone}
 use Rattle.serial_calls.proofs.write_call.answer_write.Goals as goal
 use Rattle.serial_calls.specs.ChangeStaging.{StagesEntry, writing}
@@ -50,5 +51,5 @@ tell_failure-requires-clause-may g c =
     let reply = c.in-Unstaged.reply in
     let entry : StagesEntry store knows slot found.held.entry (writing c.args.found.now.handle.position c.args.bytes) (Unstaged reply) =
     subst (λ (x : Staged). StagesEntry store knows slot found.held.entry (writing c.args.found.now.handle.position c.args.bytes) x) c.in-Unstaged.is c.requires.stages in
-    write_served store gate.gate knows slot c.args.session.now c.requires.idle c.requires.calm c.args.handle found c.requires.found entry.version entry.at reply (failure_undone reply entry.stages.failure)
+    write_served store gate.gate knows slot c.args.session.now c.requires.idle c.requires.calm c.args.handle found c.requires.found entry.version entry.at reply (failure_undone reply entry.stages.failure) (failure_counter gate.gate.counter reply entry.stages.failure)
     c.args.bytes c.requires.some c.requires.fits (entry.stages.answers c.args.handle)

@@ -9,6 +9,8 @@ use Rattle.block_file.proofs.StageRewrites.{AreChanges-made, blocks_forward, blo
 use Rattle.htree_file.proofs.Sizes.{sized_greatest}
 use Rattle.htree_file.specs.Opening.{load_of}
 use Rattle.disk_model.specs.Calls.{Known}
+use Rattle.disk_model.specs.Keeps.{Keeps}
+use Rattle.htree_file.specs.Selected.{Lies}
 use Rattle.page_bytes.specs.declared.range.ByteRange.{ByteRange}
 use Rattle.page_bytes.specs.Ranges.{end_block}
 use Rattle.block_file.proofs.StageAfterReads.{causes_then, device_widths, no_stage, stage_then}
@@ -77,7 +79,7 @@ returns-clause-blocks g c =
     let r = c.args.range in
     let ends : c.min-upto.result ≡ min (end_block r) (greatest_of c.args.size) = upto_is c.min-upto.result c.end_block-end.result c.greatest_node.result r c.args.size c.min-upto.ensures c.end_block-end.ensures.value c.greatest_node.ensures.value in
     blocks_read t.key t.tree r c.args.at c.args.bytes.now c.args.size c.first_block-first.result c.min-upto.result a b c.in_ok-changes.changes.items
-    c.requires.reaches c.requires.fits.within c.first_block-first.ensures ends c.in_ok-changes.ensures.answer new (Unit {0}) c.stage_pages.result c.stage_pages.ensures.staged.keeps.goes_on
+    c.requires.reaches c.requires.fits.within c.first_block-first.ensures ends c.in_ok-changes.ensures.answer new (Unit {0}) c.stage_pages.result (subst (λ old. Keeps (Lies old.tree.nodes old.root.version) b new) c.in_ok-changes.ensures.same c.stage_pages.ensures.staged.keeps)
     c.stage_pages.ensures.causes.kind
 
 pub returns-clause-budget : goal.returns-clause-budget
@@ -102,7 +104,7 @@ returns-clause-seals g c =
     let given = subst (λ old. OnOk c.stage_pages.result (IfSome c.stage_pages.new.self.stage (λ s. SealsChanges old.key old.tree s.tree c.deref.result.now))) c.in_ok-changes.ensures.same c.stage_pages.ensures.seals in
     let seals = subst (λ (l : List BlockChange). OnOk c.stage_pages.result (IfSome c.stage_pages.new.self.stage (λ s. SealsChanges t.key t.tree s.tree l))) c.deref.ensures.value given in
     seals_range t.key t.tree r c.args.at c.args.bytes.now c.args.size c.first_block-first.result c.min-upto.result a b new c.in_ok-changes.changes.items c.first_block-first.ensures ends
-    (rw (c.first_block-first.ensures, ends) (blocks_forward r c.args.size c.requires.reaches)) c.in_ok-changes.ensures.answer c.stage_pages.ensures.staged.keeps.goes_on (Unit {0})
+    (rw (c.first_block-first.ensures, ends) (blocks_forward r c.args.size c.requires.reaches)) c.in_ok-changes.ensures.answer (subst (λ old. Keeps (Lies old.tree.nodes old.root.version) b new) c.in_ok-changes.ensures.same c.stage_pages.ensures.staged.keeps) (Unit {0})
     c.stage_pages.result c.stage_pages.new.self.stage seals
 
 pub returns-clause-causes : goal.returns-clause-causes

@@ -1,4 +1,5 @@
 use Rattle.std.proofs.Common.{Ok}
+use Rattle.disk_model.proofs.Goings.{rests_then}
 use Rattle.dir_file.proofs.Loading.{entries_differ, entries_kind, tree_kind, load_refused, loaded_directory, loaded_pages, refused_directory, tree_differs}
 use Rattle.dir_file.proofs.PagesRead.{once_loaded}
 use Rattle.dir_file.proofs.file.DirFile.load.Goals as goal
@@ -47,3 +48,9 @@ returns-in-Err-clause-kind g c = tree_kind c.in-Err.field-0.fault c.in-Err.ensur
 pub returns-in-Err-read_directory-clause-kind : goal.returns-in-Err-read_directory-clause-kind
 returns-in-Err-read_directory-clause-kind g c =
     entries_kind c.in-Ok.tree.key c.in-Ok.tree.tree (g.F.StoreFile.state c.read_directory.new.tree.file) c.in-Err-read_directory.fault c.in-Err-read_directory.ensures.differs
+
+pub returns-in-Ok-read_directory-clause-rests : goal.returns-in-Ok-read_directory-clause-rests
+returns-in-Ok-read_directory-clause-rests g c = rests_then _ _ _ c.in-Ok.ensures.rests c.in-Ok-read_directory.ensures.rests
+
+pub returns-in-Err-read_directory-clause-rests_err : goal.returns-in-Err-read_directory-clause-rests_err
+returns-in-Err-read_directory-clause-rests_err g c = rw (c.into_file-file.ensures) (rests_then _ _ _ c.in-Ok.ensures.rests c.in-Err-read_directory.ensures.rests)

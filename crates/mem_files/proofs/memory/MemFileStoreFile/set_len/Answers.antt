@@ -1,5 +1,5 @@
 use Rattle.mem_files.specs.Memory.{file_state, file_armed}
-use Rattle.mem_files.proofs.Steps.{fails_changes, fails_others, starved_fails, resized_changes, resized_reads, resized_others}
+use Rattle.mem_files.proofs.Steps.{fails_changes, fails_others, fails_others_struck, starved_fails, resized_changes, resized_reads, resized_others, resized_others_struck}
 use Rattle.mem_files.proofs.memory.MemFileStoreFile.set_len.Goals as goal
 
 pub returns-in_err-begin-clause-changes : goal.returns-in_err-begin-clause-changes
@@ -30,3 +30,16 @@ pub returns-in-Err-clause-others : goal.returns-in-Err-clause-others
 returns-in-Err-clause-others c = λ known place byte out has.
     let fails = starved_fails (file_state c.args.self.now) (file_state c.begin.new.self) (file_state c.try_resize.new.self) (file_state c.starve.new.self) c.in_ok-begin.ensures.passed c.in-Err.ensures.err c.starve.ensures.counted c.starve.ensures.rises in
     fails_others (file_state c.args.self.now) (file_armed c.args.self.now) (file_state c.starve.new.self) _ fails known place byte has
+
+pub returns-in_err-begin-clause-others_struck : goal.returns-in_err-begin-clause-others_struck
+returns-in_err-begin-clause-others_struck c = λ tells place byte out has.
+    fails_others_struck (file_state c.args.self.now) (file_armed c.args.self.now) (file_state c.begin.new.self) _ c.in_err-begin.ensures.failed place byte has
+
+pub returns-in-Ok-clause-others_struck : goal.returns-in-Ok-clause-others_struck
+returns-in-Ok-clause-others_struck c = λ tells.
+    resized_others_struck (file_state c.args.self.now) (file_armed c.args.self.now) (file_state c.begin.new.self) (file_state c.try_resize.new.self) c.args.size c.in_ok-begin.ensures.passed.0 c.in-Ok.ensures.ok
+
+pub returns-in-Err-clause-others_struck : goal.returns-in-Err-clause-others_struck
+returns-in-Err-clause-others_struck c = λ tells place byte out has.
+    let fails = starved_fails (file_state c.args.self.now) (file_state c.begin.new.self) (file_state c.try_resize.new.self) (file_state c.starve.new.self) c.in_ok-begin.ensures.passed c.in-Err.ensures.err c.starve.ensures.counted c.starve.ensures.rises in
+    fails_others_struck (file_state c.args.self.now) (file_armed c.args.self.now) (file_state c.starve.new.self) _ fails place byte has

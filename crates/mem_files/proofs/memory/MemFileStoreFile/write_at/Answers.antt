@@ -1,5 +1,5 @@
 use Rattle.mem_files.specs.Memory.{file_state, file_armed}
-use Rattle.mem_files.proofs.Steps.{fails_changes, fails_others, starved_fails, stopped_changes, stopped_others, wrote_changes, wrote_reads, wrote_others}
+use Rattle.mem_files.proofs.Steps.{fails_changes, fails_others, fails_others_struck, starved_fails, stopped_changes, stopped_others, stopped_others_struck, wrote_changes, wrote_reads, wrote_others, wrote_others_struck}
 use Rattle.mem_files.proofs.memory.MemFileStoreFile.write_at.Goals as goal
 
 pub returns-in_err-begin-clause-changes : goal.returns-in_err-begin-clause-changes
@@ -36,3 +36,19 @@ returns-then-stops_next-clause-changes c = stopped_changes (file_state c.args.se
 
 pub returns-then-stops_next-clause-others : goal.returns-then-stops_next-clause-others
 returns-then-stops_next-clause-others c = stopped_others (file_state c.args.self.now) (file_armed c.args.self.now) (file_state c.stop_within.new.self) c.args.at c.args.from.now _ c.stop_within.ensures
+
+pub returns-in_err-begin-clause-others_struck : goal.returns-in_err-begin-clause-others_struck
+returns-in_err-begin-clause-others_struck c = λ tells place byte out has.
+    fails_others_struck (file_state c.args.self.now) (file_armed c.args.self.now) (file_state c.begin.new.self) _ c.in_err-begin.ensures.failed place byte has
+
+pub returns-in-Ok-clause-others_struck : goal.returns-in-Ok-clause-others_struck
+returns-in-Ok-clause-others_struck c = λ tells.
+    wrote_others_struck (file_state c.args.self.now) (file_armed c.args.self.now) (file_state c.begin.new.self) (file_state c.try_write.new.self) c.args.at c.args.from.now c.in_ok-begin.ensures.passed.0 c.in-Ok.ensures.ok
+
+pub returns-in-Err-clause-others_struck : goal.returns-in-Err-clause-others_struck
+returns-in-Err-clause-others_struck c = λ tells place byte out has.
+    let fails = starved_fails (file_state c.args.self.now) (file_state c.begin.new.self) (file_state c.try_write.new.self) (file_state c.starve.new.self) c.in_ok-begin.ensures.passed c.in-Err.ensures.err c.starve.ensures.counted c.starve.ensures.rises in
+    fails_others_struck (file_state c.args.self.now) (file_armed c.args.self.now) (file_state c.starve.new.self) _ fails place byte has
+
+pub returns-then-stops_next-clause-others_struck : goal.returns-then-stops_next-clause-others_struck
+returns-then-stops_next-clause-others_struck c = λ tells. stopped_others_struck (file_state c.args.self.now) (file_armed c.args.self.now) (file_state c.stop_within.new.self) c.args.at c.args.from.now _ c.stop_within.ensures

@@ -1,5 +1,11 @@
 -- What the call leaves keeps the service whole, and is its answer.
-use Rattle.std.proofs.Common.{ℕ, Option, refl, sym, subst}
+use Rattle.std.proofs.Common.{◌≡◌, ℕ, None, Option, refl, sym, subst, true≢false}
+use Rattle.std.specs.Prelude.{IsNone}
+use Rattle.core_laws.specs.Shown.{IsPartial}
+use Rattle.rpmb_card.specs.Protocol.{last_counter}
+use Rattle.serial_calls.specs.ChangeChecks.{AreOnlyRead}
+use Rattle.serial_calls.specs.Rising.{devices_in}
+use Rattle.serial_calls.specs.Unfailed.{NoneFailed}
 use Rattle.tee_types.specs.declared.reply.Reply.{Reply}
 use Rattle.serial_calls.specs.GateServed.{IsMisused}
 use Rattle.serial_calls.specs.SessionViews.{shown}
@@ -52,3 +58,28 @@ returns-clause-at_once g c =
           subst (λ (p : Option ℕ × Reply). AnswersAtOnceAt (serving was c.args.session.now) (serving now c.serve.new.session) c.args.call.now p.0 p.1)
           (λ j. ((sym w.result-is j).place, (sym w.result-is j).reply)) (w.in-Err.ensures.at_once misused)
     ])
+
+pub returns-clause-passed : goal.returns-clause-passed
+returns-clause-passed g c =
+    let i = c.self.inside in
+    let of_file = g.F.StoreFile.state in
+    let of_port = g.R.RpmbPort.state in
+    let faults = g.E.Entropy.faults in
+    let was : ServiceValue g.row.F.Denot g.row.R.Denot = record { gate = i.gate; slots = i.slots.items; storage_key = i.storage_key } in
+    let now : ServiceValue g.row.F.Denot g.row.R.Denot = record { gate = c.serve.new.gate; slots = c.serve.new.slots.items; storage_key = i.storage_key } in
+    subst
+    (λ (s : ServiceValue g.row.F.Denot g.row.R.Denot). IsNone c.match-serve.result.place
+    → NoneFailed (devices_in of_file of_port faults (serving s c.args.session.now)) (devices_in of_file of_port faults (serving now c.serve.new.session)))
+    c.self.view_is (λ none. elim c.match-serve.branch [
+      | in-Ok w ↦ absurd (true≢false (subst (λ (o : Option ℕ). IsNone o) (λ j. (w.result-is j).place) none))
+      | in-Err w ↦ w.in-Err.ensures.passed
+    ])
+
+pub returns-clause-spent : goal.returns-clause-spent
+returns-clause-spent g c =
+    let i = c.self.inside in
+    let now : ServiceValue g.row.F.Denot g.row.R.Denot = record { gate = c.serve.new.gate; slots = c.serve.new.slots.items; storage_key = i.storage_key } in
+    subst
+    (λ (s : ServiceValue g.row.F.Denot g.row.R.Denot). IsPartial c.args.call.now → s.gate.gate.doubt ≡ None → s.gate.gate.counter ≡ last_counter
+    → AreOnlyRead (serving s c.args.session.now) (serving now c.serve.new.session))
+    c.self.view_is c.serve.ensures.spent

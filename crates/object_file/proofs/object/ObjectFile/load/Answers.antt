@@ -1,7 +1,14 @@
 use Rattle.std.proofs.Common.{◌≡◌, ◌+◌, Ok, subst, sym}
+use Rattle.disk_model.specs.State.{FileState}
 use Rattle.disk_model.specs.Calls.{Rests}
+use Rattle.disk_model.specs.Keeps.{rest}
+use Rattle.disk_model.specs.Seen.{WasSeen}
+use Rattle.disk_model.proofs.Goings.{rests_then}
+use Rattle.disk_model.proofs.Seen.{runs_one, seen_later}
+use Rattle.node_image.specs.declared.node.RootRef.{RootRef}
 use Rattle.aes_block.specs.WrappedKey.{unwrapped_of}
-use Rattle.htree_file.specs.Opening.{IsVerified, load_of}
+use Rattle.htree_file.specs.Opening.{IsVerified, Loaded, load_of, table_of}
+use Rattle.htree_file.specs.Selected.{Lies}
 use Rattle.htree_file.specs.Standing.{Told}
 use Rattle.htree_file.specs.Value.{TreeValue}
 use Rattle.block_file.specs.Reads.{AreReadBytes}
@@ -12,6 +19,10 @@ use Rattle.object_file.proofs.Mounting.{mounted_held, part_damaged, sound_faultl
 use Rattle.object_file.specs.Held.{held_in}
 use Rattle.object_file.specs.Value.{ObjectValue}
 use Rattle.object_file.proofs.object.ObjectFile.load.Goals as goal
+
+-- the tree was seen under the reference
+abbrev SeenAs : (old new : FileState) → RootRef → Loaded → Type 0
+SeenAs old new root tree = WasSeen (Lies tree.nodes root.version) old new (λ image. table_of image root ≡ Ok tree)
 
 pub returns-in-Ok-read_attributes-clause-object : goal.returns-in-Ok-read_attributes-clause-object
 returns-in-Ok-read_attributes-clause-object g c =
@@ -86,3 +97,29 @@ returns-in-Ok-read_attributes-clause-first g c =
     sym (subst (λ (t : TreeValue g.row.F.Denot). c.read_attributes.new.file ≡ record t { file = c.read_attributes.new.file.file }) c.new-file.ensures c.read_attributes.ensures.same) in
     subst (λ (t : TreeValue g.row.F.Denot). IsFirstRead t.key t.tree a d attributes count) same
     (first_then c.in-Ok.tree.key c.in-Ok.tree.tree a b d attributes count c.in-Ok.ensures.rests rests.goes_on read)
+
+pub returns-in-Ok-read_attributes-clause-seen : goal.returns-in-Ok-read_attributes-clause-seen
+returns-in-Ok-read_attributes-clause-seen g c =
+    let a = g.F.StoreFile.state c.args.file in
+    let b = g.F.StoreFile.state c.in-Ok.tree.file in
+    let d = g.F.StoreFile.state c.read_attributes.new.file.file in
+    let root = root_of c.args.entry.now in
+    let tree = c.in-Ok.tree in
+    let rests : Rests b d = subst (λ (t : TreeValue g.row.F.Denot). Rests (g.F.StoreFile.state t.file) d) c.new-file.ensures c.read_attributes.ensures.rests in
+    let same : record tree { file = c.read_attributes.new.file.file } ≡ c.read_attributes.new.file =
+    sym (subst (λ (t : TreeValue g.row.F.Denot). c.read_attributes.new.file ≡ record t { file = c.read_attributes.new.file.file }) c.new-file.ensures c.read_attributes.ensures.same) in
+    let seen : SeenAs a d root tree.tree = seen_later (Lies tree.tree.nodes root.version) a b d (λ image. table_of image root ≡ Ok tree.tree)
+    (runs_one (Lies tree.tree.nodes root.version) rest b d (g.met.F.StoreFile.sound tree.file) rests tt) c.in-Ok.ensures.seen in
+    let by_root : SeenAs a d tree.root tree.tree = subst (λ (r : RootRef). SeenAs a d r tree.tree) (sym c.in-Ok.ensures.root) seen in
+    subst (λ (t : TreeValue g.row.F.Denot). SeenAs a d t.root t.tree) same by_root
+
+pub returns-in-Ok-read_attributes-clause-rests : goal.returns-in-Ok-read_attributes-clause-rests
+returns-in-Ok-read_attributes-clause-rests g c =
+    let d = g.F.StoreFile.state c.read_attributes.new.file.file in
+    rests_then _ _ d c.in-Ok.ensures.rests (subst (λ (t : TreeValue g.row.F.Denot). Rests (g.F.StoreFile.state t.file) d) c.new-file.ensures c.read_attributes.ensures.rests)
+
+pub returns-in-Err-read_attributes-clause-rests_err : goal.returns-in-Err-read_attributes-clause-rests_err
+returns-in-Err-read_attributes-clause-rests_err g c =
+    let d = g.F.StoreFile.state c.read_attributes.new.file.file in
+    rw (c.into_file-file.ensures)
+    (rests_then _ _ d c.in-Ok.ensures.rests (subst (λ (t : TreeValue g.row.F.Denot). Rests (g.F.StoreFile.state t.file) d) c.new-file.ensures c.read_attributes.ensures.rests))

@@ -1,4 +1,4 @@
-use Rattle.std.proofs.Common.{◌≡◌, ℕ, List, subst}
+use Rattle.std.proofs.Common.{ℕ, List, subst}
 use Rattle.std.specs.Prelude.{Contains}
 use Rattle.object_slots.proofs.CacheEntries.{kept_some}
 use Rattle.object_slots.proofs.page_cache.PageCache.copy_out.Goals as goal

@@ -1,6 +1,6 @@
-use Rattle.std.proofs.Common.{◌≡◌, Option, None, Some, ap, sym, subst, arith, ℕ}
+use Rattle.std.proofs.Common.{◌≡◌, None, Some, sym, subst, ℕ}
 use Rattle.store_commit.specs.Gates.{file_in_doubt}
-use Rattle.store_commit.specs.Holds.{AreApart, IsLeastFreeFile, file_held}
+use Rattle.store_commit.specs.Holds.{IsLeastFreeFile, file_held}
 use Rattle.store_commit.proofs.HoldLists.{free_apart, reserved, taken_more}
 use Rattle.store_commit.proofs.gate.Gate.reserve_file.Goals as goal
 

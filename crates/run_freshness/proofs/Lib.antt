@@ -1,0 +1,5 @@
+pub mod Sealed
+pub mod Mounts
+pub mod Shown
+pub mod Lists
+pub mod Course

@@ -1,0 +1,56 @@
+-- Freshness over the course of a run: each mount and each list beside the bench that was closed last.
+use Rattle.std.specs.Prelude.{◌≡◌, ℕ, List, [], ◌∷◌, ◌++◌, Option, Some, None}
+use Rattle.disk_model.specs.State.{FileState}
+use Rattle.hmac_keys.specs.declared.Keys.{Keys}
+use Rattle.hmac_keys.specs.KeyTable.{rpmb_key}
+use Rattle.rpmb_card.specs.Card.{CardState}
+use Rattle.rpmb_card.specs.Port.{PortState}
+use Rattle.rpmb_host.specs.Honest.{HasCard}
+use Rattle.script_text.specs.declared.script.Arm.{Arm}
+use Rattle.script_text.specs.declared.script.Control.TheVariants.{Mode as ModeControl, Phase, Arm as ArmControl, Crash, List as ListControl}
+use Rattle.object_calls.specs.Opening.{OpeningValue}
+use Rattle.run_acts.specs.Benches.{BenchState}
+use Rattle.run_acts.specs.Between.{AreSound}
+use Rattle.run_acts.specs.ListedObjects.{ShownStep}
+use Rattle.script_runner.specs.Course.{Goes}
+use Rattle.script_runner.specs.Text.{Act, Controlled, Do, Listed, Ran, RunRecord, Serve}
+use Rattle.run_freshness.specs.Seen.{IsFreshMount}
+use Rattle.run_freshness.specs.Shown.{IsFreshList}
+use Rattle.run_freshness.specs.Laws.{KeepsCard}
+
+-- the card is that of the bench that was closed last, if one was, whose files are sound
+abbrev pub HasItsCard : (closed : Option BenchState) → BenchState → Type 0
+HasItsCard None bench = Unit {0}
+HasItsCard (Some closed) bench = KeepsCard closed bench × AreSound closed.files
+
+module _ {F R : Type 0} (of_file : F → FileState) (of_port : R → PortState) where
+  -- a mount is fresh beside the bench that was closed last, if one was, over a card that has the key
+  abbrev pub IsFreshSince : Keys → (closed : Option BenchState) → (dir : FileState) → OpeningValue F R → Type 0
+  IsFreshSince keys None dir o = Unit {0}
+  IsFreshSince keys (Some closed) dir o = (card : CardState) → HasCard closed.card (rpmb_key keys.huk) card → IsFreshMount of_file of_port keys closed card dir o
+
+  -- so is what a list shows
+  abbrev pub IsListedSince : Keys → (closed : Option BenchState) → (dir : FileState) → OpeningValue F R → List ShownStep → Type 0
+  IsListedSince keys None dir o steps = Unit {0}
+  IsListedSince keys (Some closed) dir o steps = (card : CardState) → HasCard closed.card (rpmb_key keys.huk) card → IsFreshList of_file of_port keys closed card dir o steps
+
+  module _ (image : FileState → ℕ → ℕ → List ℕ) (Reliable : Type 0) where
+    -- Each phase opens fresh, and each list shows what is fresh. A phase closes a bench, and a list closes none.
+    abbrev pub AreFresh : (keys : Keys) (applications : List (List ℕ)) (closed : Option BenchState) (arms : List Arm) (acts : List Act) (records : List RunRecord) (old new : BenchState)
+        → Goes of_file of_port image Reliable keys applications arms acts records old new → Type 0
+    AreFresh keys applications closed arms (Serve mode calls ∷ acts) (Ran phase ∷ records) old new goes =
+        IsFreshSince keys closed (old.files 0) (goes.1).opened × AreFresh keys applications (Some goes.0) [] acts records goes.0 new goes.2
+    AreFresh keys applications closed arms (Do (ModeControl mode) ∷ acts) (Controlled ∷ records) old new goes = AreFresh keys applications closed arms acts records old new goes
+    AreFresh keys applications closed arms (Do Phase ∷ acts) (Controlled ∷ records) old new goes = AreFresh keys applications closed arms acts records old new goes
+    AreFresh keys applications closed arms (Do (ArmControl arm) ∷ acts) (Controlled ∷ records) old new goes = AreFresh keys applications closed (arms ++ arm ∷ []) acts records old new goes
+    AreFresh keys applications closed arms (Do (Crash seed) ∷ acts) (Controlled ∷ records) old new goes = AreFresh keys applications closed arms acts records goes.0 new goes.2
+    AreFresh keys applications closed arms (Do ListControl ∷ acts) (Listed objects ∷ records) old new goes =
+        IsListedSince keys closed (old.files 0) (goes.1).opened (((goes.1).shows).listed).steps × AreFresh keys applications closed arms acts records goes.0 new goes.2
+    AreFresh keys applications closed arms acts records old new goes = Unit {0}
+
+    -- Whatever a bench goes through.
+    abbrev pub CoursesAreFresh : Type 0
+    CoursesAreFresh =
+        (keys : Keys) (applications : List (List ℕ)) (closed : Option BenchState) (arms : List Arm) (acts : List Act) (records : List RunRecord) (old new : BenchState)
+        → HasItsCard closed old → (goes : Goes of_file of_port image Reliable keys applications arms acts records old new)
+        → AreFresh keys applications closed arms acts records old new goes

@@ -1,0 +1,4 @@
+pub mod Seen
+pub mod Shown
+pub mod Laws
+pub mod Course

@@ -1,0 +1,24 @@
+-- The blocks were read, or why not.
+use Rattle.std.proofs.Common.{IsTrue, ap, sym, ℕ, ◌∙◌}
+use Rattle.serial_calls.proofs.ChangeStages.{held}
+use Rattle.serial_calls.proofs.Checked.{checked_change, unchecked_passed}
+use Rattle.serial_calls.proofs.Unstaged.{truncate_by}
+use Rattle.serial_calls.specs.ChangeReplies.{reply_of_check}
+use Rattle.serial_calls.specs.ChangeStaging.{DataCall, resizing}
+use Rattle.serial_calls.proofs.change_check.check_resized.Goals as goal
+
+pub returns-in_default-clause-passed : goal.returns-in_default-clause-passed
+returns-in_default-clause-passed g c =
+    unchecked_passed c.args.slot.now.file c.check_truncate-given.new.slot.file c.number.result c.check_truncate-given.result (sym c.in_default.is ∙ c.check_reply.ensures) c.check_truncate-given.ensures.cause
+
+pub returns-clause-checks : goal.returns-clause-checks
+returns-clause-checks g c = λ v gives.
+    let store = g.L.StoreName.store in
+    let old = c.args.slot.now in
+    let new = c.check_truncate-given.new.slot in
+    let asked : DataCall = resizing c.args.size in
+    let honest : IsTrue new.file.honest → IsTrue old.file.honest = c.check_truncate-given.ensures.rests.goes_on.honest in
+    checked_change store old new asked v c.requires.guarded c.requires.live gives honest c.check_truncate-given.result c.in-Some.reply
+    (sym c.in-Some.is ∙ c.check_reply.ensures ∙ ap (λ (n : ℕ). reply_of_check n c.check_truncate-given.result) c.number.ensures.number)
+    (c.check_truncate-given.ensures.version v gives) c.check_truncate-given.ensures.cause
+    (λ handle. truncate_by store old new v (held store old new asked v c.requires.guarded c.requires.live gives honest) honest handle c.args.size)
