@@ -44,7 +44,8 @@ module _ {F R : Type 0} (of_file : F → FileState) (of_port : R → PortState) 
         goes_fresh closed arms acts records goes.0 new (card_then closed old goes.0 (ap (λ (p : PortState). p.card) (goes.1).card) has) goes.2
     goes_fresh closed arms (Do ListControl ∷ acts) (Listed objects ∷ records) old new has goes =
         (list_since closed old goes.0 objects _ has goes.1, goes_fresh closed arms acts records goes.0 new (card_then closed old goes.0 ((goes.1).keeps).card has) goes.2)
-    goes_fresh closed arms acts records old new has goes = tt
+    goes_fresh closed arms [] [] old new has goes = tt
+    goes_fresh closed arms acts records old new has goes = goes
 
 pub courses_fresh : {F R : Type 0} (of_file : F → FileState) (of_port : R → PortState) (image : FileState → ℕ → ℕ → List ℕ) (Reliable : Type 0) → ((file : F) → Sound (of_file file))
     → CoursesAreFresh of_file of_port image Reliable

@@ -46,7 +46,8 @@ module _ {F R : Type 0} (of_file : F → FileState) (of_port : R → PortState) 
     AreFresh keys applications closed arms (Do (Crash seed) ∷ acts) (Controlled ∷ records) old new goes = AreFresh keys applications closed arms acts records goes.0 new goes.2
     AreFresh keys applications closed arms (Do ListControl ∷ acts) (Listed objects ∷ records) old new goes =
         IsListedSince keys closed (old.files 0) (goes.1).opened (((goes.1).shows).listed).steps × AreFresh keys applications closed arms acts records goes.0 new goes.2
-    AreFresh keys applications closed arms acts records old new goes = Unit {0}
+    AreFresh keys applications closed arms [] [] old new goes = Unit {0}
+    AreFresh keys applications closed arms acts records old new goes = ⊥
 
     -- Whatever a bench goes through.
     abbrev pub CoursesAreFresh : Type 0
