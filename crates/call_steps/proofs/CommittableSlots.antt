@@ -80,7 +80,6 @@ shown_see knows seat pass agrees =
       fits = record {
         sees = seen-whole (concerns_file seat.knows.file) knows agrees.gate.decided_within agrees.gate.decided_below;
         mounted = fits.mounted;
-        served = fits.served;
       };
       whole = refl;
     }

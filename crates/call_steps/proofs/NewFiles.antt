@@ -14,7 +14,7 @@ use Rattle.history_seats.proofs.Places.{any-past, any_settles, open-less}
 use Rattle.history_seats.specs.Changes.{without_slot}
 use Rattle.history_seats.specs.Directory.{directory_of, given_version, has_entry}
 use Rattle.history_seats.specs.Known.{IsKnown, version_from}
-use Rattle.history_seats.specs.Mounts.{Entry, Mounted, Served}
+use Rattle.history_seats.specs.Mounts.{Entry, Mounted}
 use Rattle.history_seats.specs.Records.{HistoryRecord, IsUpToDate, Version}
 use Rattle.history_seats.specs.Rule.{SlotFits}
 use Rattle.history_seats.specs.Settling.{IsOpenDoubt, Pending, calm, dropped}
@@ -92,9 +92,6 @@ no_doubt store knows entries counter tied file generation = by_left (version_fro
 told_mounted : (o : Option Mounted) (m : Mounted) → o ≡ Some m → unwrap_or o m ≡ m
 told_mounted o m is = ap (λ (x : Option Mounted). unwrap_or x m) is
 
-told_served : (o : Option Served) (d : Served) → o ≡ Some d → unwrap_or o d ≡ d
-told_served o d is = ap (λ (x : Option Served). unwrap_or x d) is
-
 -- a free slot holds what is of any version
 free_holds : (keys : Keys) (file : FileState) (holds : Holding) (version : Option Version) → IsFree holds → IsOfVersion keys file holds version
 free_holds keys file free version is = tt
@@ -123,7 +120,6 @@ module _ (store : Store) (knows : GateView) (entries : List (Option DirEntry)) (
   own_new = record {
     table = refl;
     mounted = mounted;
-    served = told_served knows.served store.served kept.served;
     own = refl;
     holds = λ stage. record { sound = (own.holds None).sound; stands = λ honest v known. absurd (nothing v known) };
     real = λ v known. absurd (nothing v known);

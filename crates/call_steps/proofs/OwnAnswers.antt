@@ -48,7 +48,6 @@ whole-fits store gate number slot sees own journal sound =
         decided_below = sound.decided_below;
       };
       mounted = journal.mounted ∙ ap Some (sym own.mounted);
-      served = journal.served ∙ ap Some (sym own.served);
     })
 
 -- a seat once the answer is appended

@@ -1,6 +1,5 @@
 -- A create may be brought to the gate, in a file that no entry names and whose seat is new.
 use Rattle.std.specs.Prelude.{List, None, Option, Some, length, ℕ, ◌+◌, ◌<◌, ◌≡◌, ◌≤◌}
-use Rattle.commit_gate.specs.Journals.{told_of}
 use Rattle.commit_gate.specs.CallerSessions.{CallerSession}
 use Rattle.call_rules.specs.Matches.{Matches}
 use Rattle.call_rules.specs.Places.{IsNewPlace}
@@ -85,7 +84,7 @@ CreatesMayCommit F R E =
 
 -- the new seat of a file, of that generation
 abbrev pub new_seat : Store → GateView → (file generation : ℕ) → Sight SlotView
-new_seat store knows file generation = record { table = store.table; knows = new_slot (told_of store) file generation knows }
+new_seat store knows file generation = record { table = store.table; knows = new_slot store.mounted file generation knows }
 
 -- A free slot of a file that no entry names may stand behind its lock with a new seat, which knows no version.
 pub record IsReseated (store : Store) (slot : SlotValue) (seat : Sight SlotView) : Type 0 where

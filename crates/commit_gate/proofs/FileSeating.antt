@@ -1,7 +1,7 @@
 -- A gate behind its lock, whose journal gave other seats out.
 use Rattle.std.proofs.Common.{List, ℕ, Option, Some, None}
 use Rattle.dir_records.specs.declared.entry.DirEntry.{DirEntry}
-use Rattle.history_seats.specs.Mounts.{Mounted, Served}
+use Rattle.history_seats.specs.Mounts.{Mounted}
 use Rattle.history_seats.specs.Views.{GateView}
 use Rattle.core_laws.specs.Stores.{Store}
 use Rattle.commit_gate.specs.Journals.{IsJournal}
@@ -11,9 +11,9 @@ use Rattle.store_commit.specs.Gates.{GateValue}
 use Rattle.commit_gate.specs.declared.guarded_gate.Closing.{Closing}
 use Rattle.commit_gate.specs.GuardedGates.{IsClosingTied, GateInvariant, change_in_doubt}
 
-module _ (store : Store) (old : GateView) (mounted : Option Mounted) (served : Option Served) (files : List ℕ) where
+module _ (store : Store) (old : GateView) (mounted : Option Mounted) (files : List ℕ) where
   abbrev seated : GateView
-  seated = record old { mounted = mounted; served = served; files = files }
+  seated = record old { mounted = mounted; files = files }
 
   seated-doubt : (entries : List (Option DirEntry)) (d : Option DoubtedChange) → IsDoubtTied store old entries d → IsDoubtTied store seated entries d
   seated-doubt entries None tied = tied

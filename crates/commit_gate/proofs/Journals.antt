@@ -19,7 +19,7 @@ use Rattle.core_laws.proofs.Answers.{answered-front, answered-last, fair-snoc, n
 use Rattle.core_laws.proofs.MapSteps.{dropped-both, landing-both}
 use Rattle.core_laws.proofs.Openings.{opening_both}
 use Rattle.core_laws.proofs.QuietEvents.{unchanged_keeps}
-use Rattle.commit_gate.specs.Journals.{IsDoubtOf, IsJournal, IsJournalOf, told_of}
+use Rattle.commit_gate.specs.Journals.{IsDoubtOf, IsJournal, IsJournalOf}
 use Rattle.commit_gate.specs.Openings.{OpeningsAreJournals}
 
 some_is : {A : Type 0} (o : Option A) (a b : A) → o ≡ Some a → unwrap_or o b ≡ a
@@ -38,25 +38,23 @@ calls_next pass (CallEvent session number call reply mark) next = refl
 calls_next pass (Landed commit) next = absurd next
 
 module _ (store : Store) (gate : GateView) (journal : IsJournal store gate) where
-  pub slot_out-journal : (file : ℕ) → IsJournal store (with_slot_out (told_of store) file gate)
+  pub slot_out-journal : (file : ℕ) → IsJournal store (with_slot_out store.mounted file gate)
   slot_out-journal file = record {
     mounted = ap Some (some_is gate.mounted store.mounted store.mounted journal.mounted);
-    served = ap Some (some_is gate.served store.served store.served journal.served);
     fair = journal.fair;
     in_step = journal.in_step;
   }
 
   pub without_slot-journal : (slot : SlotView) → IsJournal store (without_slot slot gate)
-  without_slot-journal slot = record { mounted = journal.mounted; served = journal.served; fair = journal.fair; in_step = journal.in_step }
+  without_slot-journal slot = record { mounted = journal.mounted; fair = journal.fair; in_step = journal.in_step }
 
   pub without_pass-journal : (pass : PassView) → IsJournal store (without_pass pass gate)
-  without_pass-journal pass = record { mounted = journal.mounted; served = journal.served; fair = journal.fair; in_step = journal.in_step }
+  without_pass-journal pass = record { mounted = journal.mounted; fair = journal.fair; in_step = journal.in_step }
 
   -- no doubt stands behind the last event
   pub dropped-journal : IsJournal store (doubt_dropped gate)
   dropped-journal = record {
     mounted = journal.mounted;
-    served = journal.served;
     fair = journal.fair;
     in_step = λ scenario answered.
         let both : IsMappedBoth store scenario gate.decided gate.all = journal.in_step scenario answered in
@@ -87,7 +85,6 @@ module _ (store : Store) (gate : GateView) (journal : IsJournal store gate) wher
     pub next-journal : is_landing r.event ≡ false → IsFitting gate r → ((scenario : TamperScenario) → IsFairAt store scenario gate.all r) → IsJournal store (with_record r gate)
     next-journal call fitting fair = record {
       mounted = journal.mounted;
-      served = journal.served;
       fair = fair-snoc store gate.all r journal.fair fair;
       in_step = λ scenario answered.
           let before : AreAnswered store scenario gate.all = answered-front store scenario gate.all (r ∷ []) answered in
@@ -106,7 +103,6 @@ module _ (store : Store) (gate : GateView) (journal : IsJournal store gate) wher
     pub landed-journal : IsJournal store (with_record (landing_of commit) gate)
     landed-journal = record {
       mounted = journal.mounted;
-      served = journal.served;
       fair = fair-snoc store gate.all (landing_of commit) journal.fair fair-landing;
       in_step = λ scenario answered.
           let before : AreAnswered store scenario gate.all = answered-front store scenario gate.all (landing_of commit ∷ []) answered in
@@ -133,9 +129,8 @@ more-events records r event events events_after were is after =
 
 -- without events
 pub openings : OpeningsAreJournals
-openings store gate mounted served none opens apart = record {
+openings store gate mounted none opens apart = record {
   mounted = mounted;
-  served = served;
   fair = subst (IsFairHistory store) (sym none) (nothing-fair store);
   in_step = λ scenario answered. subst (IsMappedBoth store scenario gate.decided) (sym none) (opening_both store scenario opens apart gate.decided);
 }

@@ -13,7 +13,7 @@ use Rattle.history_seats.specs.Mounts.{Entry}
 use Rattle.history_seats.specs.Records.{HistoryRecord}
 use Rattle.history_seats.specs.Settling.{as_landed}
 use Rattle.history_seats.specs.Rule.{SlotFits}
-use Rattle.history_seats.specs.Views.{GateView, no_devices, no_mount}
+use Rattle.history_seats.specs.Views.{GateView, no_mount}
 use Rattle.crash_core.specs.Pictures.{IsPictureOf, Picture}
 use Rattle.crash_core.specs.CoreState.{IsTrusted, Phase}
 use Rattle.crash_core.specs.Mounting.{mounted}
@@ -53,7 +53,7 @@ no_file = record {
 abbrev pub no_slot : (file : ℕ) → SlotPart
 no_slot file = record {
   file = no_file;
-  view = record { mounted = no_mount; served = no_devices; seen = []; decided = 0; file = file; generation = 0 };
+  view = record { mounted = no_mount; seen = []; decided = 0; file = file; generation = 0 };
   stage = None;
 }
 

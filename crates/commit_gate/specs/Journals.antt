@@ -5,7 +5,7 @@ use Rattle.store_model.specs.declared.event.Event.{Event}
 use Rattle.store_model.specs.Record.{events_of}
 use Rattle.store_model.specs.Doubt.{Doubt}
 use Rattle.history_seats.specs.Settling.{IsOpenDoubt}
-use Rattle.history_seats.specs.Changes.{TagVersions, Told}
+use Rattle.history_seats.specs.Changes.{TagVersions}
 use Rattle.history_seats.specs.Views.{GateView, Sight}
 use Rattle.core_laws.specs.TamperScenarios.{TamperScenario}
 use Rattle.core_laws.specs.Stores.{Store, replay_at}
@@ -20,7 +20,6 @@ pub record JournalValue : Type 0 where
 -- The history is the store's: it is fair, and wherever all its events are answered the map of objects is in step with it.
 pub record IsJournal (store : Store) (gate : GateView) : Type 0 where
   pub mounted : gate.mounted ≡ Some store.mounted
-  pub served : gate.served ≡ Some store.served
   pub fair : IsFairHistory store gate.all
   pub in_step : (scenario : TamperScenario) → AreAnswered store scenario gate.all → IsMappedBoth store scenario gate.decided gate.all
 
@@ -31,10 +30,6 @@ pub record IsJournalOf (store : Store) (table : TableId) (seat : Sight GateView)
   pub events_are : events ≡ events_of seat.knows.all
   pub decided_is : decided ≡ seat.knows.decided
   pub kept : IsJournal store seat.knows
-
--- what a first seat is told
-abbrev pub told_of : Store → Told
-told_of store = record { mounted = store.mounted; served = store.served }
 
 -- a tag that names no version
 abbrev pub no_versions : TagVersions

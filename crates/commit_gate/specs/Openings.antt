@@ -5,9 +5,9 @@ use Rattle.core_laws.specs.Stores.{OpensMounted, Store}
 use Rattle.core_laws.specs.MapLaws.{AreMountedApart}
 use Rattle.commit_gate.specs.Journals.{IsJournal}
 
--- A phase opens with a journal: where the mount and the devices are told, and its objects are those of the mount's versions, whose files
--- and generations are apart.
+-- A phase opens with a journal: where the mount is told, and its objects are those of the mount's versions, whose files and generations
+-- are apart.
 abbrev pub OpeningsAreJournals : Type 0
 OpeningsAreJournals =
-    (store : Store) (gate : GateView) → gate.mounted ≡ Some store.mounted → gate.served ≡ Some store.served → gate.all ≡ [] → OpensMounted store
+    (store : Store) (gate : GateView) → gate.mounted ≡ Some store.mounted → gate.all ≡ [] → OpensMounted store
     → AreMountedApart store.mounted.entries → IsJournal store gate

@@ -6,7 +6,6 @@ ghost use Rattle.history_seats.specs.Rule.{Agrees};
 ghost use Rattle.history_seats.specs.Changes.{together};
 ghost use Rattle.store_commit.specs.Gates.{file_in_doubt};
 ghost use Rattle.store_commit.specs.Holds.{AreApart, IsLeastFreeFile, file_held};
-ghost use Rattle.commit_gate.specs.Journals.{told_of};
 ghost use Rattle.commit_gate.specs.Outcomes.{outcome_at};
 
 use crate::Settled;
@@ -29,11 +28,11 @@ impl<F: StoreFile + Drop, R: RpmbPort + Drop, L: StoreName> GuardedGate<F, R, L>
     pub fn reseat(&mut self, slot: SlotSeat, generation: u32) -> SlotSeat
         requires { slot.table ≡ L.store.table }
         ensures knows { self.new.journal.knows
-            ≡ with_slot_out (told_of L.store) slot.knows.file (without_slot slot.knows self.old.journal.knows) }
+            ≡ with_slot_out L.store.mounted slot.knows.file (without_slot slot.knows self.old.journal.knows) }
         ensures gate { self.new ≡ record self.old { journal = record self.old.journal { knows = self.new.journal.knows } } }
         ensures seat { result ≡ record {
           table = L.store.table;
-          knows = new_slot (told_of L.store) slot.knows.file generation (without_slot slot.knows self.old.journal.knows);
+          knows = new_slot L.store.mounted slot.knows.file generation (without_slot slot.knows self.old.journal.knows);
         } }
         // What the seat knew agreed with the journal.
         ensures agreed { Agrees (together self.old.journal.knows (Some slot.knows) None) }

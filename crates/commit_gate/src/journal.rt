@@ -8,7 +8,7 @@ ghost use Rattle.history_seats.specs.Rule.{Agrees};
 ghost use Rattle.history_seats.specs.Changes.{IsFitting, IsNextOf, IsOf, doubt_dropped, landing_of, new_slot, pass_renewed, record_of, seat_renewed, together, view_in, with_record, with_slot_out, without_pass, without_slot};
 ghost use Rattle.core_laws.specs.TamperScenarios.{TamperScenario};
 ghost use Rattle.core_laws.specs.Answered.{IsFairAt};
-ghost use Rattle.commit_gate.specs.Journals.{IsDoubtOf, IsJournal, IsJournalOf, told_of};
+ghost use Rattle.commit_gate.specs.Journals.{IsDoubtOf, IsJournal, IsJournalOf};
 ghost use Rattle.commit_gate.specs.Outcomes.{outcome_at};
 
 use crate::doubt_outcome::{Settled, first_landing, settled_by};
@@ -95,8 +95,8 @@ impl<L: StoreName> Journal<L> {
     /// Splits the seat of a file that has none out.
     pub fn split_slot(&mut self, file: u16, generation: u32) -> SlotSeat
         requires { is_in file self.old.knows.files ≡ false }
-        ensures journal { self.new ≡ record self.old { knows = with_slot_out (told_of L.store) file self.old.knows } }
-        ensures slot { result ≡ record { table = L.store.table; knows = new_slot (told_of L.store) file generation self.old.knows } }
+        ensures journal { self.new ≡ record self.old { knows = with_slot_out L.store.mounted file self.old.knows } }
+        ensures slot { result ≡ record { table = L.store.table; knows = new_slot L.store.mounted file generation self.old.knows } }
         ensures kept { IsJournal L.store self.new.knows }
     {
         self.seat.split_slot(&self.table, file, generation)

@@ -9,7 +9,7 @@ use Rattle.hmac_keys.specs.declared.Keys.{Keys}
 use Rattle.rpmb_card.specs.Card.{CardState}
 use Rattle.dir_records.specs.declared.entry.DirEntry.{DirEntry}
 use Rattle.history_seats.specs.Records.{Version}
-use Rattle.history_seats.specs.Mounts.{Entry, Mounted, MountedEntry, Served}
+use Rattle.history_seats.specs.Mounts.{Entry, Mounted, MountedEntry}
 use Rattle.history_seats.specs.Versions.{is_entry_of, version_among}
 use Rattle.history_seats.specs.Directory.{given_version, has_entry}
 use Rattle.crash_core.specs.MountedObject.{mounted_object, object_in}
@@ -115,12 +115,12 @@ mounted_is : (keys : Keys) (image : List ℕ) (e : DirEntry) (v : Version) → I
 mounted_is keys image e v own shown =
     sym shown.object ∙ (λ j. object_in (object_key keys (own.app j)) image (own.root j) (own.size j) (own.attributes j))
 
-module _ (phase : Phase) (files : ℕ → FileState) (card : CardState) (root : RootRef) (entries : List (Option DirEntry)) (mounted : Mounted) (served : Served) (outs sessions : List ℕ) (generations : ℕ → ℕ)
+module _ (phase : Phase) (files : ℕ → FileState) (card : CardState) (root : RootRef) (entries : List (Option DirEntry)) (mounted : Mounted) (outs sessions : List ℕ) (generations : ℕ → ℕ)
     (o : IsOpened phase files card root entries) (t : IsMountOf phase.keys files entries mounted) where
   abbrev p : Parts
-  p = first_parts files card root entries mounted served outs sessions generations
+  p = first_parts files card root entries mounted outs sessions generations
 
-  slot_known : (file : ℕ) (v : Version) → IsTrue (files file).honest → Knows (first_view mounted served file (generations file)) v → VersionStands phase.keys (files file) v
+  slot_known : (file : ℕ) (v : Version) → IsTrue (files file).honest → Knows (first_view mounted file (generations file)) v → VersionStands phase.keys (files file) v
   slot_known file v honest (inl given) =
       let generation : ℕ = given.0 in
       let has : Bool = has_entry file generation (map (λ x. x.entry) mounted.entries) in
@@ -166,7 +166,6 @@ module _ (phase : Phase) (files : ℕ → FileState) (card : CardState) (root : 
     fits = λ file own. record {
       sees = record { begins = record { rest = []; is = refl; lacks = refl }; decided_before = omega arith; decided_within = omega arith; decided_below = tt };
       mounted = refl;
-      served = refl;
     };
     putting = λ h puts. absurd (cc (puts));
   }
@@ -180,7 +179,7 @@ module _ (phase : Phase) (files : ℕ → FileState) (card : CardState) (root : 
     ]
   ]
 
-  pub first_hold : PartsHold phase (first_parts files card root entries mounted served outs sessions generations)
+  pub first_hold : PartsHold phase (first_parts files card root entries mounted outs sessions generations)
   first_hold = record {
     gate = gate_holds;
     slots = λ file least. record { sound = o.sound file; stands = λ honest v known. slot_known file v honest known };
@@ -189,4 +188,4 @@ module _ (phase : Phase) (files : ℕ → FileState) (card : CardState) (root : 
   }
 
 pub openings_hold : OpeningsHold
-openings_hold phase files card root entries mounted served outs sessions generations o t = first_hold phase files card root entries mounted served outs sessions generations o t
+openings_hold phase files card root entries mounted outs sessions generations o t = first_hold phase files card root entries mounted outs sessions generations o t

@@ -5,7 +5,7 @@ use Rattle.node_image.specs.declared.node.RootRef.{RootRef}
 use Rattle.hmac_keys.specs.declared.Keys.{Keys}
 use Rattle.rpmb_card.specs.Card.{CardState}
 use Rattle.dir_records.specs.declared.entry.DirEntry.{DirEntry}
-use Rattle.history_seats.specs.Mounts.{Mounted, MountedEntry, Served}
+use Rattle.history_seats.specs.Mounts.{Mounted, MountedEntry}
 use Rattle.history_seats.specs.Views.{GateView, SlotView}
 use Rattle.crash_core.specs.EntryLists.{entry_at}
 use Rattle.crash_core.specs.DirectoryLaws.{AreEntries}
@@ -37,8 +37,8 @@ pub record IsMountOf (keys : Keys) (files : ℕ → FileState) (entries : List (
   pub settled : (index : ℕ) (e : DirEntry) → entry_at entries index ≡ Some e → IsTrue (files e.file).honest → pending (files e.file) ≡ []
 
 -- the view of a slot's seat as it is split, before the first event
-abbrev pub first_view : Mounted → Served → (file generation : ℕ) → SlotView
-first_view mounted served file generation = record { mounted = mounted; served = served; seen = []; decided = 0; file = file; generation = generation }
+abbrev pub first_view : Mounted → (file generation : ℕ) → SlotView
+first_view mounted file generation = record { mounted = mounted; seen = []; decided = 0; file = file; generation = generation }
 
 abbrev pub first_gate : (files : ℕ → FileState) → CardState → RootRef → List (Option DirEntry) → GateView → GatePart
 first_gate files card root entries view = record {
@@ -53,15 +53,15 @@ first_gate files card root entries view = record {
 }
 
 -- The gate and the slots before the first event: nothing is taken, staged or pending.
-abbrev pub first_parts : (files : ℕ → FileState) → CardState → RootRef → List (Option DirEntry) → Mounted → Served → (outs sessions : List ℕ) → (generations : ℕ → ℕ) → Parts
-first_parts files card root entries mounted served outs sessions generations = record {
-  gate = first_gate files card root entries (record { mounted = Some mounted; served = Some served; all = []; decided = 0; files = outs; sessions = sessions });
-  slots = λ file. record { file = files file; view = first_view mounted served file (generations file); stage = None };
+abbrev pub first_parts : (files : ℕ → FileState) → CardState → RootRef → List (Option DirEntry) → Mounted → (outs sessions : List ℕ) → (generations : ℕ → ℕ) → Parts
+first_parts files card root entries mounted outs sessions generations = record {
+  gate = first_gate files card root entries (record { mounted = Some mounted; all = []; decided = 0; files = outs; sessions = sessions });
+  slots = λ file. record { file = files file; view = first_view mounted file (generations file); stage = None };
 }
 
 -- So each part of a store that is mounted and synced has its fact.
 abbrev pub OpeningsHold : Type 0
 OpeningsHold =
-    (phase : Phase) (files : ℕ → FileState) (card : CardState) (root : RootRef) (entries : List (Option DirEntry)) (mounted : Mounted) (served : Served) (outs sessions : List ℕ) (generations : ℕ → ℕ)
+    (phase : Phase) (files : ℕ → FileState) (card : CardState) (root : RootRef) (entries : List (Option DirEntry)) (mounted : Mounted) (outs sessions : List ℕ) (generations : ℕ → ℕ)
     → IsOpened phase files card root entries → IsMountOf phase.keys files entries mounted
-    → PartsHold phase (first_parts files card root entries mounted served outs sessions generations)
+    → PartsHold phase (first_parts files card root entries mounted outs sessions generations)

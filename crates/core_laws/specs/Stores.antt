@@ -11,19 +11,18 @@ use Rattle.store_model.specs.Files.{FileMap}
 use Rattle.store_model.specs.ReplayState.{PhaseOpening, ReplayState, replay}
 use Rattle.store_model.specs.LegalHistory.{opening_with}
 use Rattle.history_seats.specs.Records.{HistoryRecord}
-use Rattle.history_seats.specs.Mounts.{Entry, Mounted, MountedEntry, Served}
+use Rattle.history_seats.specs.Mounts.{Entry, Mounted, MountedEntry}
 use Rattle.history_seats.specs.Settling.{Pending}
 use Rattle.history_seats.specs.Directory.{directory_of}
-use Rattle.history_seats.specs.Views.{no_mount, no_devices}
+use Rattle.history_seats.specs.Views.{no_mount}
 use Rattle.core_laws.specs.TamperScenarios.{TamperScenario, object_under}
 
--- What one phase is fixed by: the table of its history, the device's keys, the mount, the devices as they are served, the objects that it
--- opens with, the card's write counter, and the masks that are armed on each file that tells its bytes and its arms.
+-- What one phase is fixed by: the table of its history, the device's keys, the mount, the objects that it opens with, the card's write
+-- counter, and the masks that are armed on each file that tells its bytes and its arms.
 pub record Store : Type 0 where
   pub table : TableId
   pub keys : Keys
   pub mounted : Mounted
-  pub served : Served
   pub objects : ObjectMap
   pub counter : ℕ
   pub taints : (file : ℕ) → Option (List Taint)
@@ -34,7 +33,6 @@ no_store = record {
   table = record { words = 0; slots = 0; views_name = 0; atom = 0; block = 0; offset = 0; slot_names = [] };
   keys = record { huk = []; chip = [] };
   mounted = no_mount;
-  served = no_devices;
   objects = [];
   counter = 0;
   taints = λ file. None;

@@ -4,6 +4,7 @@ pub mod ChangedEntry
 pub mod Settling
 pub mod Parsing
 pub mod EntriesRead
+pub mod Seen
 pub mod PagesRead
 pub mod Loading
 pub mod MadeDirectory

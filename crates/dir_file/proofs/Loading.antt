@@ -3,7 +3,7 @@ use Rattle.std.proofs.Common.{◌≡◌, ◌≢◌, ◌⊎◌, ◌∙◌, ◌+�
 use Rattle.std.specs.Prelude.{IsTrue, IfOk, IfErr}
 use Rattle.std.proofs.lemmas.Bool.{cond-true, cond-false, eq-eqb, ne_eqb}
 use Rattle.std.proofs.lemmas.List.{get_or-map, length-map}
-use Rattle.disk_model.specs.State.{FileState}
+use Rattle.disk_model.specs.State.{FileState, Sound}
 use Rattle.disk_model.specs.Calls.{Rests}
 use Rattle.disk_model.proofs.Goings.{first_known}
 use Rattle.aes_block.specs.WrappedKey.{unwrapped_of}
@@ -31,9 +31,11 @@ use Rattle.dir_file.specs.EntryForms.{AreEntriesOf}
 use Rattle.dir_file.specs.Pages.{ArePages, ReadsEntries}
 use Rattle.dir_file.specs.Loading.{DirCause, IsOutsideDir}
 use Rattle.dir_file.proofs.Entries.{bad_none, pages_read}
-use Rattle.dir_file.specs.Loading.{HasDirWidths, HasPages, IsDirFault, IsReadDirectory}
+use Rattle.dir_file.specs.Loading.{HasDirWidths, IsDirFault, SeesDirectory, SeesPages}
 use Rattle.dir_file.specs.Refusals.{DirDiffers, EntriesDiffer}
-use Rattle.dir_file.specs.Pages.{AreSealed}
+use Rattle.dir_file.specs.Pages.{AreSeen}
+use Rattle.dir_file.specs.Seen.{SeesTree}
+use Rattle.dir_file.proofs.Seen.{directory_seen}
 
 pages_same : (image key : List ℕ) (tree : Loaded) (items : List (List ℕ)) → length tree.nodes ≡ 8 → length items ≡ 8 → ArePages image key tree items 8 → pages_of image key tree ≡ some_pages items
 pages_same image key tree items many long are =
@@ -148,36 +150,37 @@ pub load_refused : (a b d : FileState) (tsk key : List ℕ) (root : RootRef) (tr
 load_refused a b d tsk key root tree fault first second loads keyed (inl outside) = inl outside
 load_refused a b d tsk key root tree fault first second loads keyed (inr refused) = inr (loaded_directory a b d tsk key root tree (Err fault) first second loads keyed refused)
 
--- the pages of entries that were read, whatever the file is
-pub ok_pages : (key : List ℕ) (tree : Loaded) (items read : List (List ℕ)) (V : Type 0) (vs : V → List (Option DirEntry)) (result : Result V DirFault)
-    → length items ≡ min 8 (blocks_of tree.head.length) → tree.head.length ≡ 32768 → read ≡ items → AreSealed key tree items → ReadsEntries read vs result
-    → IfOk result (λ v. HasPages key tree (Ok (vs v)))
-ok_pages key tree items read V vs (Err fault) long is same sealed reads = tt
-ok_pages key tree items read V vs (Ok v) long is same sealed reads = record {
-  items = items;
-  long = omega (arith, long, is);
-  sealed = sealed;
-  reads = pages_read tree.head.length items is (omega (arith, long, is)) ∙ ap (λ (l : List (List ℕ)). distinct (entries_of (some_pages l) 256)) (sym same) ∙ reads.0;
+-- pages that were seen, whatever the file is, and what they hold
+pages_seen : (a d : FileState) (key : List ℕ) (tree : Loaded) (items read : List (List ℕ)) (answer : Result (List (Option DirEntry)) DirFault)
+    → length items ≡ min 8 (blocks_of tree.head.length) → tree.head.length ≡ 32768 → read ≡ items → AreSeen a d key tree items
+    → distinct (entries_of (some_pages read) 256) ≡ answer → SeesPages a d key tree answer
+pages_seen a d key tree items read answer long is same seen reads = record {
+  pages = record {
+    items = items;
+    long = omega (arith, long, is);
+    sealed = λ k lt. (seen k lt).0;
+    reads = pages_read tree.head.length items is (omega (arith, long, is)) ∙ ap (λ (l : List (List ℕ)). distinct (entries_of (some_pages l) 256)) (sym same) ∙ reads;
+  };
+  blocks = λ k lt. (seen k lt).1;
 }
 
+pub ok_pages : (a d : FileState) (key : List ℕ) (tree : Loaded) (items read : List (List ℕ)) (V : Type 0) (vs : V → List (Option DirEntry)) (result : Result V DirFault)
+    → length items ≡ min 8 (blocks_of tree.head.length) → tree.head.length ≡ 32768 → read ≡ items → AreSeen a d key tree items
+    → ReadsEntries read vs result → IfOk result (λ v. SeesPages a d key tree (Ok (vs v)))
+ok_pages a d key tree items read V vs (Err fault) long is same seen reads = tt
+ok_pages a d key tree items read V vs (Ok v) long is same seen reads =
+    pages_seen a d key tree items read (Ok (vs v)) long is same seen reads.0
+
 pub err_differs : (d : FileState) (key : List ℕ) (tree : Loaded) (items read : List (List ℕ)) (V : Type 0) (vs : V → List (Option DirEntry)) (result : Result V DirFault)
-    → length items ≡ min 8 (blocks_of tree.head.length) → tree.head.length ≡ 32768 → read ≡ items → AreSealed key tree items → ReadsEntries read vs result
+    → length items ≡ min 8 (blocks_of tree.head.length) → tree.head.length ≡ 32768 → read ≡ items → AreSeen d d key tree items → ReadsEntries read vs result
     → IfErr result (EntriesDiffer key tree d)
-err_differs d key tree items read V vs (Ok v) long is same sealed reads = tt
-err_differs d key tree items read V vs (Err (Tree fault)) long is same sealed reads = subst (λ (f : TreeFault). EntriesDiffer key tree d (Tree f)) (sym reads) tt
-err_differs d key tree items read V vs (Err (WrongLength bytes)) long is same sealed reads = absurd reads
-err_differs d key tree items read V vs (Err (Record index offset)) long is same sealed reads = record {
-  items = items;
-  long = omega (arith, long, is);
-  sealed = sealed;
-  reads = pages_read tree.head.length items is (omega (arith, long, is)) ∙ ap (λ (l : List (List ℕ)). distinct (entries_of (some_pages l) 256)) (sym same) ∙ reads;
-}
-err_differs d key tree items read V vs (Err (Double index first)) long is same sealed reads = record {
-  items = items;
-  long = omega (arith, long, is);
-  sealed = sealed;
-  reads = pages_read tree.head.length items is (omega (arith, long, is)) ∙ ap (λ (l : List (List ℕ)). distinct (entries_of (some_pages l) 256)) (sym same) ∙ reads;
-}
+err_differs d key tree items read V vs (Ok v) long is same seen reads = tt
+err_differs d key tree items read V vs (Err (Tree fault)) long is same seen reads = subst (λ (f : TreeFault). EntriesDiffer key tree d (Tree f)) (sym reads) tt
+err_differs d key tree items read V vs (Err (WrongLength bytes)) long is same seen reads = absurd reads
+err_differs d key tree items read V vs (Err (Record index offset)) long is same seen reads =
+    pages_seen d d key tree items read (Err (Record index offset)) long is same seen reads
+err_differs d key tree items read V vs (Err (Double index first)) long is same seen reads =
+    pages_seen d d key tree items read (Err (Double index first)) long is same seen reads
 
 pub entries_widths : (items : List (List ℕ)) (V : Type 0) (vs : V → List (Option DirEntry)) (result : Result V DirFault) → ReadsEntries items vs result → IfErr result HasDirWidths
 entries_widths items V vs (Ok v) reads = tt
@@ -198,20 +201,20 @@ tree_differs tsk d root NoMemory kind differs = differs
 
 -- and what the entries of one that loaded say
 pub entries_differ : (tsk key : List ℕ) (d : FileState) (root : RootRef) (tree : Loaded) (fault : DirFault) → IsVerified root tree → key ≡ unwrapped_of tsk tree.head.wrapped
-    → EntriesDiffer key tree d fault → DirDiffers tsk d root fault
-entries_differ tsk key d root tree fault verified keyed differs = by_fault fault (subst (λ (k : List ℕ). EntriesDiffer k tree d fault) keyed differs)
+    → SeesTree d d root tree → EntriesDiffer key tree d fault → DirDiffers tsk d root fault
+entries_differ tsk key d root tree fault verified keyed seen differs = by_fault fault (subst (λ (k : List ℕ). EntriesDiffer k tree d fault) keyed differs)
   where
     by_fault : (fault : DirFault) → EntriesDiffer (unwrapped_of tsk tree.head.wrapped) tree d fault → DirDiffers tsk d root fault
-    by_fault (Tree (BadTag k want found)) at = record { tree = tree; verified = verified; differs = at }
+    by_fault (Tree (BadTag k want found)) at = record { tree = tree; verified = verified; seen = seen; differs = at }
     by_fault (Tree (Failed count)) at = λ told. tt
     by_fault (Tree (BadHead long greatest)) at = absurd at
     by_fault (Tree (Short end need)) at = absurd at
     by_fault (Tree (Damaged n want found)) at = absurd at
     by_fault (Tree (NoEntropy count)) at = absurd at
     by_fault (Tree NoMemory) at = λ told. tt
-    by_fault (WrongLength bytes) at = record { tree = tree; verified = verified; differs = at }
-    by_fault (Record index offset) at = record { tree = tree; verified = verified; differs = at }
-    by_fault (Double index first) at = record { tree = tree; verified = verified; differs = at }
+    by_fault (WrongLength bytes) at = record { tree = tree; verified = verified; seen = seen; differs = at }
+    by_fault (Record index offset) at = record { tree = tree; verified = verified; seen = seen; differs = at }
+    by_fault (Double index first) at = record { tree = tree; verified = verified; seen = seen; differs = at }
 
 -- no vector is drawn
 pub tree_kind : (fault : TreeFault) → IsLoadFault fault → IsDirFault (Tree fault)
@@ -247,8 +250,9 @@ loaded_inside {F = F} t u tsk root entries same is_root idle keyed verified byte
       staged = subst (λ (o : Option Staged). NextFits t.tree.head.wrapped o None) (sym idle) refl;
     })
 
--- and its pages, under the directory's key
-pub loaded_pages : {F : Type 0} (t u : TreeValue F) (tsk : List ℕ) (answer : Result (List (Option DirEntry)) DirFault) → u ≡ record t { file = u.file } → t.key ≡ unwrapped_of tsk t.tree.head.wrapped
-    → HasPages t.key t.tree answer → IsReadDirectory tsk u.tree answer
-loaded_pages t u tsk answer same keyed pages =
-    subst (λ (tree : Loaded). IsReadDirectory tsk tree answer) (sym (ap (λ v. v.tree) same)) (subst (λ (k : List ℕ). HasPages k t.tree answer) keyed pages)
+-- and what was seen of it, under the directory's key
+pub loaded_seen : {F : Type 0} (t u : TreeValue F) (a b d : FileState) (tsk : List ℕ) (root : RootRef) (answer : Result (List (Option DirEntry)) DirFault) → u ≡ record t { file = u.file }
+    → t.key ≡ unwrapped_of tsk t.tree.head.wrapped → Sound b → Rests a b → Rests b d → SeesTree a b root t.tree → SeesPages b d t.key t.tree answer → SeesDirectory a d tsk root u.tree answer
+loaded_seen t u a b d tsk root answer same keyed sound first second table seen =
+    subst (λ (tree : Loaded). SeesDirectory a d tsk root tree answer) (sym (ap (λ v. v.tree) same))
+    (directory_seen a b d tsk t.key root t.tree answer sound first second keyed table seen)

@@ -3,9 +3,10 @@ use Rattle.std.proofs.Common.{◌≡◌, ◌⊎◌, ◌∙◌, ◌+◌, ◌<◌,
 use Rattle.std.specs.Prelude.{IsTrue}
 use Rattle.std.proofs.lemmas.Bool.{cases_eq, cases_lt, cond-true, cond-false, lt-ltb, le-ltb}
 use Rattle.std.proofs.lemmas.List.{get_or_append_left, get_or_push}
-use Rattle.disk_model.specs.State.{FileState}
+use Rattle.disk_model.specs.State.{FileState, Sound}
 use Rattle.disk_model.specs.Calls.{Rests}
 use Rattle.disk_model.proofs.Goings.{first_known}
+use Rattle.disk_model.proofs.Seen.{seen_now}
 use Rattle.node_image.specs.Tables.{at_node}
 use Rattle.node_image.proofs.Matching.{row_at}
 use Rattle.htree_file.specs.declared.fault.TreeFault.{TreeFault}
@@ -20,9 +21,9 @@ use Rattle.crash_core.specs.declared.fault.DirFault.{DirFault}
 use Rattle.crash_core.specs.declared.fault.DirFault.TheVariants.{Tree}
 use Rattle.crash_core.specs.Directory.{blocks_of, first_bad, or_bad, pages_of, tree_directory}
 use Rattle.dir_file.specs.Pages.{ArePages, kept}
-use Rattle.htree_file.specs.Changes.{Seals}
 use Rattle.dir_file.specs.Refusals.{EntriesDiffer}
-use Rattle.dir_file.specs.Pages.{AreSealed}
+use Rattle.dir_file.specs.Pages.{AreSeen, SeesPage}
+use Rattle.dir_file.proofs.Seen.{seen_all}
 use Rattle.dir_file.specs.Calls.{ReadsBlocks, calls_counted}
 use Rattle.disk_model.specs.Arms.{count_call}
 
@@ -132,20 +133,28 @@ refused_block a b d key tree items k page (BadTag bad want found) first second f
     directory_bad a.reads key tree items k page few lt (are before) is answer.1
     ∙ (λ i. let r : Result (List (Option DirEntry)) DirFault = Err (Tree (BadTag (sym answer.2 i) (sym answer.3 i) (sym answer.4 i))) in r))
 
--- the pages that are kept are sealed
-pub sealed_begin : (key : List ℕ) (tree : Loaded) (items : List (List ℕ)) → items ≡ [] → AreSealed key tree items
-sealed_begin key tree items none j lt = absurd (omega (arith, ap length none))
+-- the pages that are kept were seen
+pub seen_begin : (a b : FileState) (key : List ℕ) (tree : Loaded) (items : List (List ℕ)) → items ≡ [] → AreSeen a b key tree items
+seen_begin a b key tree items none j lt = absurd (omega (arith, ap length none))
 
-pub sealed_step : (key : List ℕ) (tree : Loaded) (items : List (List ℕ)) (k : ℕ) (page : List ℕ) → length items ≡ min 8 k → AreSealed key tree items → Seals key tree k page
-    → AreSealed key tree (kept items k page)
-sealed_step key tree items k page long are seals j lt = elim (cases_lt j (length items)) [
-  | inl low ↦ subst (Seals key tree j) (sym (kept_before items k j page long (omega (arith, long, low)) (omega (arith, long, low)))) (are j low)
+seen_kept : (a d : FileState) (key : List ℕ) (tree : Loaded) (items : List (List ℕ)) (k : ℕ) (page : List ℕ) → length items ≡ min 8 k → AreSeen a d key tree items
+    → SeesPage a d key tree k page → AreSeen a d key tree (kept items k page)
+seen_kept a d key tree items k page long are seen j lt = elim (cases_lt j (length items)) [
+  | inl low ↦ subst (SeesPage a d key tree j) (sym (kept_before items k j page long (omega (arith, long, low)) (omega (arith, long, low)))) (are j low)
   | inr high ↦
       let n : length (kept items k page) ≡ min 8 (k + 1) = kept_length items k page long in
       let e : j ≡ k = omega (arith, n, long, lt, high) in
       let few : k < 8 = omega (arith, n, long, lt, high) in
-      subst (λ (m : ℕ). Seals key tree m (get_or (kept items k page) m [])) (sym e) (subst (Seals key tree k) (sym (kept_here items k page long few)) seals)
+      subst (λ (m : ℕ). SeesPage a d key tree m (get_or (kept items k page) m [])) (sym e) (subst (SeesPage a d key tree k) (sym (kept_here items k page long few)) seen)
 ]
+
+pub seen_step : (a b d : FileState) (key : List ℕ) (tree : Loaded) (items : List (List ℕ)) (k : ℕ) (page : List ℕ) → Sound b → Rests a b → Rests b d → length items ≡ min 8 k
+    → AreSeen a b key tree items
+    → BlockAnswer key tree.head (at_node tree.nodes (k + 1)) k (λ c. IsTrue d.tells → c ≡ block_in d.reads tree k) (let r : Result (Unit {0}) TreeFault = Ok tt in r) page
+    → AreSeen a d key tree (kept items k page)
+seen_step a b d key tree items k page sound first second long are answer =
+    seen_kept a d key tree items k page long (seen_all a b d key tree items sound second are)
+    ((answer.0, answer.2), seen_now _ a d (λ image. answer.0 ≡ block_in image tree k) (rests_then a b d first second) answer.1)
 
 -- what a block that was refused says of any file
 pub refused_differs : (d : FileState) (key : List ℕ) (tree : Loaded) (k : ℕ) (page : List ℕ) (fault : TreeFault)

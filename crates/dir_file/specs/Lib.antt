@@ -3,6 +3,7 @@ pub mod EntryForms
 pub mod Inside
 pub mod Held
 pub mod Stages
+pub mod Seen
 pub mod Pages
 pub mod Loading
 pub mod Refusals

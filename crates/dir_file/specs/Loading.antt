@@ -1,7 +1,8 @@
 -- What loading a directory answers, of any file.
-use Rattle.std.specs.Prelude.{◌≡◌, ℕ, List, length, Option, Result, Ok, Err}
+use Rattle.std.specs.Prelude.{◌≡◌, ℕ, ◌<◌, List, length, Option, Result, Ok, Err}
 use Rattle.disk_model.specs.State.{FileState}
 use Rattle.aes_block.specs.WrappedKey.{unwrapped_of}
+use Rattle.node_image.specs.declared.node.RootRef.{RootRef}
 use Rattle.htree_file.specs.declared.fault.TreeFault.TheVariants.{NoEntropy}
 use Rattle.htree_file.specs.Answers.{FaultCause, FilePassed, HasFaultWidths, IsOutside}
 use Rattle.htree_file.specs.Opening.{Loaded}
@@ -10,6 +11,7 @@ use Rattle.crash_core.specs.declared.fault.DirFault.{DirFault}
 use Rattle.crash_core.specs.declared.fault.DirFault.TheVariants.{Tree}
 use Rattle.crash_core.specs.Directory.{directory_from}
 use Rattle.dir_file.specs.Pages.{AreSealed, some_pages}
+use Rattle.dir_file.specs.Seen.{SeesBlock, SeesTree}
 
 -- a fault that comes from outside: of the file, or of memory
 abbrev pub IsOutsideDir : DirFault → Type 0
@@ -45,3 +47,13 @@ pub record HasPages (key : List ℕ) (tree : Loaded) (answer : Result (List (Opt
 -- the same under the directory's key
 abbrev pub IsReadDirectory : (tsk : List ℕ) → Loaded → (answer : Result (List (Option DirEntry)) DirFault) → Type 0
 IsReadDirectory tsk tree answer = HasPages (unwrapped_of tsk tree.head.wrapped) tree answer
+
+-- Such pages, where the ciphertext of each was seen in its block.
+pub record SeesPages (old new : FileState) (key : List ℕ) (tree : Loaded) (answer : Result (List (Option DirEntry)) DirFault) : Type 0 where
+  pub pages : HasPages key tree answer
+  pub blocks : (k : ℕ) (among : k < length pages.items) → SeesBlock old new tree k (pages.sealed k among).0
+
+-- A directory as its file was seen to read, under the directory's key: the tree that the reference names, and each of its blocks.
+pub record SeesDirectory (old new : FileState) (tsk : List ℕ) (root : RootRef) (tree : Loaded) (answer : Result (List (Option DirEntry)) DirFault) : Type 0 where
+  pub table : SeesTree old new root tree
+  pub entries : SeesPages old new (unwrapped_of tsk tree.head.wrapped) tree answer

@@ -1,5 +1,6 @@
 -- Pages of a directory's tree that were read, and the entries in them.
 use Rattle.std.specs.Prelude.{◌≡◌, ℕ, ◌<◌, List, [], ◌∷◌, ◌++◌, length, get_or, map, is_none, false, nat_lt, if◌then◌else◌, Option, Some, Result, Ok, Err}
+use Rattle.disk_model.specs.State.{FileState}
 use Rattle.htree_file.specs.declared.fault.TreeFault.TheVariants.{NoMemory}
 use Rattle.htree_file.specs.Changes.{Seals}
 use Rattle.htree_file.specs.Opening.{Loaded}
@@ -9,6 +10,7 @@ use Rattle.crash_core.specs.declared.fault.DirFault.{DirFault}
 use Rattle.crash_core.specs.declared.fault.DirFault.TheVariants.{Tree, WrongLength, Record, Double}
 use Rattle.crash_core.specs.Entries.{distinct, entries_of}
 use Rattle.dir_file.specs.EntryForms.{AreEntriesOf}
+use Rattle.dir_file.specs.Seen.{SeesBlock}
 
 abbrev pub some_pages : List (List ℕ) → List (Option (List ℕ))
 some_pages pages = map (λ page. Some page) pages
@@ -21,6 +23,13 @@ pub record ArePages (image key : List ℕ) (tree : Loaded) (items : List (List �
 -- each page is the deciphering of a ciphertext with the tag of its block's node
 abbrev pub AreSealed : (key : List ℕ) → Loaded → (items : List (List ℕ)) → Type 0
 AreSealed key tree items = (k : ℕ) → k < length items → Seals key tree k (get_or items k [])
+
+-- and that ciphertext was seen in the block
+abbrev pub SeesPage : (old new : FileState) → (key : List ℕ) → Loaded → (k : ℕ) → (page : List ℕ) → Type 0
+SeesPage old new key tree k page = (seals : Seals key tree k page) × SeesBlock old new tree k seals.0
+
+abbrev pub AreSeen : (old new : FileState) → (key : List ℕ) → Loaded → (items : List (List ℕ)) → Type 0
+AreSeen old new key tree items = (k : ℕ) → k < length items → SeesPage old new key tree k (get_or items k [])
 
 -- the pages that are kept, with that of block k where it is one of the first eight
 abbrev pub kept : List (List ℕ) → (k : ℕ) → List ℕ → List (List ℕ)

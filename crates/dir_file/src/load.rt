@@ -7,7 +7,7 @@ ghost use Rattle.htree_file.specs.Standing.{Told};
 ghost use Rattle.crash_core.specs.Directory.{directory_of, tree_directory};
 ghost use Rattle.dir_file.specs.Calls.{ReadsBlocks};
 ghost use Rattle.dir_file.specs.EntryForms.{AreEntriesOf};
-ghost use Rattle.dir_file.specs.Loading.{DirCause, HasDirCause, HasDirWidths, HasPages, IsDirFault, IsOutsideDir, IsReadDirectory};
+ghost use Rattle.dir_file.specs.Loading.{DirCause, HasDirCause, HasDirWidths, IsDirFault, IsOutsideDir, SeesDirectory, SeesPages};
 ghost use Rattle.dir_file.specs.Pages.{ReadsEntries};
 ghost use Rattle.dir_file.specs.Refusals.{DirDiffers, EntriesDiffer};
 
@@ -48,7 +48,7 @@ fn read_directory<F: StoreFile>(
     ensures directory { IfOk result (λ v. Told (F.state tree.old.file) (F.state tree.new.file) →
         tree_directory (F.state tree.old.file).reads tree.old.key tree.old.tree ≡ Result.Ok v.items) }
     ensures entries { IfOk result (λ v. AreEntriesOf v.items) }
-    ensures pages { IfOk result (λ v. HasPages tree.old.key tree.old.tree (Result.Ok v.items)) }
+    ensures seen { IfOk result (λ v. SeesPages (F.state tree.old.file) (F.state tree.new.file) tree.old.key tree.old.tree (Result.Ok v.items)) }
     ensures bytes { OnOk result (tree.old.tree.head.length ≡ 32768) }
     ensures once { OnOk result (ReadsBlocks (F.state tree.old.file) (F.state tree.new.file) 8) }
     ensures fault { IfErr result (λ f. IsOutsideDir f ⊎ (Told (F.state tree.old.file) (F.state tree.new.file) →
@@ -78,8 +78,8 @@ impl<F: StoreFile> DirFile<F> {
     /// The first that holds: the tree's fault, where it does not load or a block of it is bad; `WrongLength` where it has not
     /// 32,768 bytes; `Record` names the first entry that is outside its form; `Double` the first entry that has the name or the file of
     /// an earlier one, and the first such. On a file that is neither honest nor steady, each of these says what the file reads as when
-    /// the call ends, or what a tree holds that is verified under the reference. Besides `Failed`, where a call of the file failed, and
-    /// `NoMemory`.
+    /// the call ends, or what a tree holds that was read from it and is verified under the reference. Besides `Failed`, where a call
+    /// of the file failed, and `NoMemory`.
     pub fn load(
         alloc: Global,
         file: F,
@@ -100,7 +100,8 @@ impl<F: StoreFile> DirFile<F> {
         ensures kind { IfErr result (λ b. IsDirFault b.fault) }
         ensures verified { IfOk result (λ d. IsVerified root d.dir.tree) }
         ensures entries { IfOk result (λ d. AreEntriesOf d.dir.entries) }
-        ensures pages { IfOk result (λ d. IsReadDirectory tsk.now d.dir.tree (Result.Ok d.dir.entries)) }
+        // The tree and each of its blocks are what the file read as, each at one moment of the call.
+        ensures seen { IfOk result (λ d. SeesDirectory (F.state file) (F.state d.file) tsk.now root d.dir.tree (Result.Ok d.dir.entries)) }
         ensures differs { IfErr result (λ b. DirDiffers tsk.now (F.state b.file) root b.fault) }
         ensures widths { IfErr result (λ b. HasDirWidths b.fault) }
         ensures rests { IfOk result (λ d. Rests (F.state file) (F.state d.file)) }

@@ -7,7 +7,7 @@ ghost use Rattle.htree_file.specs.Standing.{Told};
 ghost use Rattle.crash_core.specs.declared.fault.DirFault.TheVariants.{Tree as TreeRefusal};
 ghost use Rattle.crash_core.specs.Directory.{blocks_of, tree_directory};
 ghost use Rattle.dir_file.specs.Calls.{ReadsBlocks};
-ghost use Rattle.dir_file.specs.Pages.{ArePages, AreSealed, kept};
+ghost use Rattle.dir_file.specs.Pages.{ArePages, AreSeen, kept};
 ghost use Rattle.dir_file.specs.Refusals.{EntriesDiffer};
 
 use htree_file::{Page, Tree, TreeFault};
@@ -40,7 +40,7 @@ pub(crate) fn read_pages<F: StoreFile>(
     ensures count { IfOk result (λ v. length v.items ≡ min 8 (blocks_of tree.old.tree.head.length)) }
     ensures pages { IfOk result (λ v. Told (F.state tree.old.file) (F.state tree.new.file) →
         ArePages (F.state tree.old.file).reads tree.old.key tree.old.tree v.items (blocks_of tree.old.tree.head.length)) }
-    ensures sealed { IfOk result (λ v. AreSealed tree.old.key tree.old.tree v.items) }
+    ensures seen { IfOk result (λ v. AreSeen (F.state tree.old.file) (F.state tree.new.file) tree.old.key tree.old.tree v.items) }
     ensures once { OnOk result (ReadsBlocks (F.state tree.old.file) (F.state tree.new.file) (blocks_of tree.old.tree.head.length)) }
     ensures fault { IfErr result (λ f. IsOutside f ⊎ (Told (F.state tree.old.file) (F.state tree.new.file) →
         tree_directory (F.state tree.old.file).reads tree.old.key tree.old.tree ≡ Result.Err (TreeRefusal f))) }

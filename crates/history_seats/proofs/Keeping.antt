@@ -75,7 +75,7 @@ and_new j k id w sa sb pa pb words views h slots passes mine =
     (refl, refl))
     (subst (λ (n : ℕ). Fits k id sb pb n w) (sym (length-set views id (Gate k))) mine)
 
--- a seat fits a gate with the same records, devices and place
+-- a seat fits a gate with the same records and place
 keep_seen : (those : HistoryRecord → Bool) (z : ℕ) (seen : List HistoryRecord) (g h : GateView) → h.all ≡ g.all → h.decided ≡ g.decided → HasSeen those z seen g → HasSeen those z seen h
 keep_seen those z seen g h all decided f = record {
   begins = subst (λ (l : List HistoryRecord). IsUpToDate those seen l) (sym all) f.begins;
@@ -84,11 +84,10 @@ keep_seen those z seen g h all decided f = record {
   decided_below = subst (λ (l : List HistoryRecord). IsDecidedBelow z 0 l) (sym all) f.decided_below;
 }
 
-pub keep_slot : (g h : GateView) (s : SlotView) → h.all ≡ g.all → (g.mounted ≡ Some s.mounted → h.mounted ≡ Some s.mounted) → (g.served ≡ Some s.served → h.served ≡ Some s.served) → h.decided ≡ g.decided → SlotFits g s → SlotFits h s
-keep_slot g h s all mounted served decided f = record {
+pub keep_slot : (g h : GateView) (s : SlotView) → h.all ≡ g.all → (g.mounted ≡ Some s.mounted → h.mounted ≡ Some s.mounted) → h.decided ≡ g.decided → SlotFits g s → SlotFits h s
+keep_slot g h s all mounted decided f = record {
   sees = keep_seen (concerns_file s.file) s.decided s.seen g h all decided f.sees;
   mounted = mounted f.mounted;
-  served = served f.served;
 }
 
 pub keep_pass : (g h : GateView) (p : PassView) → h.all ≡ g.all → (g.mounted ≡ Some p.mounted → h.mounted ≡ Some p.mounted) → h.decided ≡ g.decided → PassFits g p → PassFits h p
@@ -101,7 +100,7 @@ keep_pass g h p all mounted decided f = record {
 pub seen-whole : (those : HistoryRecord → Bool) (h : GateView) → h.decided ≤ length h.all → IsDecidedBelow h.decided 0 h.all → HasSeen those h.decided h.all h
 seen-whole those h within below = record { begins = begins-whole those h.all; decided_before = omega arith; decided_within = within; decided_below = below }
 
--- what was told stays
+-- the mount that was told stays
 pub still_told : {A : Type 0} (o : Option A) (d x : A) → o ≡ Some x → Some (unwrap_or o d) ≡ Some x
 still_told None d x e = absurd (no_some x e)
 still_told (Some y) d x e = e

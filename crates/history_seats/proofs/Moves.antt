@@ -9,7 +9,7 @@ use Rattle.history_seats.specs.Views.{SlotView, PassView, Joined, SeatView}
 use Rattle.history_seats.specs.Views.SeatView.{Gate, Slot, Pass, Spent}
 use Rattle.history_seats.specs.Numbers.{is_in}
 use Rattle.history_seats.specs.Rule.{SeatRule}
-use Rattle.history_seats.specs.Changes.{Told, with_slot_out, new_slot, with_pass_out, new_pass}
+use Rattle.history_seats.specs.Changes.{with_slot_out, new_slot, with_pass_out, new_pass}
 use Rattle.history_seats.specs.Steps.{on_gate, slot_from, pass_from, slot_taken_in, pass_taken_in, slot_let_out, slot_inside, pass_let_out, pass_inside, Moved}
 use Rattle.history_seats.proofs.Keeping.{at_gate}
 use Rattle.history_seats.proofs.WordSteps.{Keeps}
@@ -18,10 +18,10 @@ use Rattle.history_seats.proofs.SeatSteps.{slot_split, pass_split, slot_leave, p
 abbrev pub InRule : State (Unit {0}) SeatView → Type 0
 InRule s = SeatRule s.words s.views
 
-pub splits_slot : (told : Told) (file generation id : ℕ) (v : SeatView) (j : Joined) → v ≡ Gate j → is_in file j.gate.files ≡ false → Splits InRule id v (on_gate (with_slot_out told file) v) (slot_from (new_slot told file generation) v)
-splits_slot told file generation id v j is new =
-    subst (λ (x : SeatView). Splits InRule id x (on_gate (with_slot_out told file) x) (slot_from (new_slot told file generation) x)) (sym is)
-    (λ s h at. slot_split told file generation id j new s.words s.views h at)
+pub splits_slot : (mounted : Mounted) (file generation id : ℕ) (v : SeatView) (j : Joined) → v ≡ Gate j → is_in file j.gate.files ≡ false → Splits InRule id v (on_gate (with_slot_out mounted file) v) (slot_from (new_slot mounted file generation) v)
+splits_slot mounted file generation id v j is new =
+    subst (λ (x : SeatView). Splits InRule id x (on_gate (with_slot_out mounted file) x) (slot_from (new_slot mounted file generation) x)) (sym is)
+    (λ s h at. slot_split mounted file generation id j new s.words s.views h at)
 
 pub splits_pass : (mounted : Mounted) (session id : ℕ) (v : SeatView) (j : Joined) → v ≡ Gate j → is_in session j.gate.sessions ≡ false → Splits InRule id v (on_gate (with_pass_out mounted session) v) (pass_from (new_pass mounted session) v)
 splits_pass mounted session id v j is new =

@@ -12,7 +12,7 @@ use Rattle.history_seats.specs.Views.{SlotView, PassView, Joined, SeatView}
 use Rattle.history_seats.specs.Views.SeatView.{Gate, Slot, Pass, Spent}
 use Rattle.history_seats.specs.Numbers.{is_in}
 use Rattle.history_seats.specs.Rule.{SlotFits, PassFits, Fits, slot_file, pass_session, file_taken, session_taken, AreHeld, SeatRule}
-use Rattle.history_seats.specs.Changes.{Told, with_slot_out, new_slot, with_pass_out, new_pass}
+use Rattle.history_seats.specs.Changes.{with_slot_out, new_slot, with_pass_out, new_pass}
 use Rattle.history_seats.proofs.Lists.{at_front, at_set_here, no_some, or_right, put, put_here, put_else}
 use Rattle.history_seats.proofs.Numbers.{distinct-more}
 use Rattle.history_seats.proofs.Outs.{other_than, not_the_same, out-more, out-again, out-less}
@@ -29,34 +29,34 @@ never_none : {A : Type 0} {X : Type 0} (x : A) → Some x ≡ None → X
 never_none x e = absurd (no_some x (sym e))
 
 -- a new slot's seat
-pub slot_split : (told : Told) (file generation id : ℕ) (j : Joined) → is_in file j.gate.files ≡ false → (words : List ℕ) (views : List SeatView) → SeatRule words views → get_elem? views id ≡ some (Gate j)
-    → SeatRule words (set views id (Gate (record j { gate = with_slot_out told file j.gate })) ++ Slot (new_slot told file generation j.gate) ∷ [])
-slot_split told file generation id j new words views kept at =
+pub slot_split : (mounted : Mounted) (file generation id : ℕ) (j : Joined) → is_in file j.gate.files ≡ false → (words : List ℕ) (views : List SeatView) → SeatRule words views → get_elem? views id ≡ some (Gate j)
+    → SeatRule words (set views id (Gate (record j { gate = with_slot_out mounted file j.gate })) ++ Slot (new_slot mounted file generation j.gate) ∷ [])
+slot_split mounted file generation id j new words views kept at =
     let o = at_gate words views id j kept at in
     let sa = o.0 in
     let pa = o.1 in
     let h = o.2 in
     let g = j.gate in
-    let k : Joined = record j { gate = with_slot_out told file g } in
+    let k : Joined = record j { gate = with_slot_out mounted file g } in
     let sb = put sa file (Some (length views)) in
     let s = h.agrees.gate in
-    let slot_stays : (t : SlotView) → SlotFits g t → SlotFits k.gate t = λ t f. keep_slot g k.gate t refl (still_told g.mounted told.mounted t.mounted) (still_told g.served told.served t.served) refl f in
-    let pass_stays : (p : PassView) → PassFits g p → PassFits k.gate p = λ p f. keep_pass g k.gate p refl (still_told g.mounted told.mounted p.mounted) refl f in (
+    let slot_stays : (t : SlotView) → SlotFits g t → SlotFits k.gate t = λ t f. keep_slot g k.gate t refl (still_told g.mounted mounted t.mounted) refl f in
+    let pass_stays : (p : PassView) → PassFits g p → PassFits k.gate p = λ p f. keep_pass g k.gate p refl (still_told g.mounted mounted p.mounted) refl f in (
       k,
       id,
       sb,
       pa,
       record {
         word = h.word;
-        gate_stands = at_front (set views id (Gate k)) (Slot (new_slot told file generation g)) (Gate k) id (at_set_here views id (Gate j) (Gate k) at);
-        fit = and_new j k id (Slot (new_slot told file generation g)) sa sb pa pa words views h
+        gate_stands = at_front (set views id (Gate k)) (Slot (new_slot mounted file generation g)) (Gate k) id (at_set_here views id (Gate j) (Gate k) at);
+        fit = and_new j k id (Slot (new_slot mounted file generation g)) sa sb pa pa words views h
             (λ t seat out f. (put_else sa file (Some (length views)) t.file (other_than sa g.files file t.file seat h.files_out new out) ∙ out, slot_stays t f))
             (λ p seat out f. (out, pass_stays p f)) (
               put_here sa file (Some (length views)) file refl,
-              record { sees = seen-whole (concerns_file file) k.gate s.decided_within s.decided_below; mounted = refl; served = refl },
+              record { sees = seen-whole (concerns_file file) k.gate s.decided_within s.decided_below; mounted = refl },
             );
-        files_held = subst (λ (n : ℕ). AreHeld slot_file (file_taken j.slot) (put sa file (Some n)) (file ∷ g.files) ((set views id (Gate k)) ++ Slot (new_slot told file generation g) ∷ [])) (length-set views id (Gate k)) (held-more slot_file (file_taken j.slot) sa g.files (set views id (Gate k)) (Slot (new_slot told file generation g)) file refl (held-set slot_file (file_taken j.slot) sa j.gate.files views id (Gate j) (Gate k) at refl h.files_held));
-        sessions_held = held-snoc pass_session (session_taken j.pass) pa g.sessions (set views id (Gate k)) (Slot (new_slot told file generation g)) (held-set pass_session (session_taken j.pass) pa j.gate.sessions views id (Gate j) (Gate k) at refl h.sessions_held);
+        files_held = subst (λ (n : ℕ). AreHeld slot_file (file_taken j.slot) (put sa file (Some n)) (file ∷ g.files) ((set views id (Gate k)) ++ Slot (new_slot mounted file generation g) ∷ [])) (length-set views id (Gate k)) (held-more slot_file (file_taken j.slot) sa g.files (set views id (Gate k)) (Slot (new_slot mounted file generation g)) file refl (held-set slot_file (file_taken j.slot) sa j.gate.files views id (Gate j) (Gate k) at refl h.files_held));
+        sessions_held = held-snoc pass_session (session_taken j.pass) pa g.sessions (set views id (Gate k)) (Slot (new_slot mounted file generation g)) (held-set pass_session (session_taken j.pass) pa j.gate.sessions views id (Gate j) (Gate k) at refl h.sessions_held);
         files_out = out-more sa g.files file (length views) h.files_out;
         sessions_out = h.sessions_out;
         slot_in = λ t e. put_else sa file (Some (length views)) t.file (λ q. true≢false (sym (h.agrees.slot t e).1 ∙ ap (λ (m : ℕ). is_in m g.files) q ∙ new)) ∙ h.slot_in t e;
@@ -65,7 +65,7 @@ slot_split told file generation id j new words views kept at =
           gate = record {
             decided_within = s.decided_within;
             decided_below = s.decided_below;
-            tags_right = told_tags g.mounted told.mounted g.all h.unmounted s.tags_right;
+            tags_right = told_tags g.mounted mounted g.all h.unmounted s.tags_right;
             tagged = s.tagged;
             numbered = s.numbered;
             files_distinct = distinct-more file g.files new s.files_distinct;
@@ -74,7 +74,7 @@ slot_split told file generation id j new words views kept at =
           slot = λ t e. let w = h.agrees.slot t e in (slot_stays t w.0, or_right (file == t.file) (is_in t.file g.files) w.1);
           pass = λ p e. let w = h.agrees.pass p e in (pass_stays p w.0, w.1);
         };
-        unmounted = λ e. never_none (unwrap_or g.mounted told.mounted) e;
+        unmounted = λ e. never_none (unwrap_or g.mounted mounted) e;
       },
     )
 
@@ -90,7 +90,7 @@ pass_split mounted session id j new words views kept at =
     let k : Joined = record j { gate = with_pass_out mounted session g } in
     let pb = put pa session (Some (length views)) in
     let s = h.agrees.gate in
-    let slot_stays : (t : SlotView) → SlotFits g t → SlotFits k.gate t = λ t f. keep_slot g k.gate t refl (still_told g.mounted mounted t.mounted) (λ e. e) refl f in
+    let slot_stays : (t : SlotView) → SlotFits g t → SlotFits k.gate t = λ t f. keep_slot g k.gate t refl (still_told g.mounted mounted t.mounted) refl f in
     let pass_stays : (p : PassView) → PassFits g p → PassFits k.gate p = λ p f. keep_pass g k.gate p refl (still_told g.mounted mounted p.mounted) refl f in (
       k,
       id,

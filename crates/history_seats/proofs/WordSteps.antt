@@ -32,13 +32,13 @@ Keeps change n id j =
 
 -- what was taken in, once it sees all
 slot_taken : (h : GateView) (P : ℕ → Type 0) (o : Option SlotView) → h.decided ≤ length h.all → IsDecidedBelow h.decided 0 h.all
-    → ((t : SlotView) → o ≡ Some t → (h.mounted ≡ Some t.mounted) × (h.served ≡ Some t.served) × P t.file)
+    → ((t : SlotView) → o ≡ Some t → (h.mounted ≡ Some t.mounted) × P t.file)
     → (s : SlotView) → slots_renewed h o ≡ Some s → SlotFits h s × P s.file
 slot_taken h P None within below was s e = absurd (no_some s e)
 slot_taken h P (Some t) within below was s e =
     let w = was t refl in
     let same : slot_renewed h t ≡ s = cc (e) in
-    subst (λ (x : SlotView). SlotFits h x × P x.file) same (record { sees = seen-whole (concerns_file t.file) h within below; mounted = w.0; served = w.1 }, w.2)
+    subst (λ (x : SlotView). SlotFits h x × P x.file) same (record { sees = seen-whole (concerns_file t.file) h within below; mounted = w.0 }, w.1)
 
 pass_taken : (h : GateView) (P : ℕ → Type 0) (o : Option PassView) → h.decided ≤ length h.all → IsDecidedBelow h.decided 0 h.all
     → ((t : PassView) → o ≡ Some t → (h.mounted ≡ Some t.mounted) × P t.session)
@@ -115,7 +115,7 @@ append_keeps r id j room tag event fits words views kept at =
     let seen_more : (those : HistoryRecord → Bool) (z : ℕ) (seen : List HistoryRecord) → HasSeen those z seen g → those r ≡ false → HasSeen those z seen k.gate = λ those z seen f off. seen-snoc those z seen r g f off (below z f.decided_below) in
     let sound : IsSound k.gate = sound-more r g h.agrees.gate (below g.decided h.agrees.gate.decided_below) next fits in
     let slots = slot_taken k.gate (λ f. (sa f ≡ None) × (is_in f g.files ≡ true)) j.slot sound.decided_within sound.decided_below
-    (λ t e. let w = h.agrees.slot t e in (w.0.mounted, w.0.served, (h.slot_in t e, w.1))) in
+    (λ t e. let w = h.agrees.slot t e in (w.0.mounted, (h.slot_in t e, w.1))) in
     let passes = pass_taken k.gate (λ s. (pa s ≡ None) × (is_in s g.sessions ≡ true)) j.pass sound.decided_within sound.decided_below
     (λ t e. let w = h.agrees.pass t e in (w.0.mounted, (h.pass_in t e, w.1))) in (
       (
@@ -131,7 +131,6 @@ append_keeps r id j room tag event fits words views kept at =
                 sees = seen_more (concerns_file s.file) s.decided s.seen f.sees
                     (⊎_elim (λ (y : concerns_file s.file r ≡ true). absurd (not_out s.file seat y out)) (λ (y : concerns_file s.file r ≡ false). y) (either_bool (concerns_file s.file r)));
                 mounted = f.mounted;
-                served = f.served;
               })
               (λ q seat out f. record {
                 sees = seen_more (is_of_session q.session) q.decided q.seen f.sees (call.own q.session (λ y. none_or_some seat (pa q.session) (ap pa y ∙ h.pass_in p event.1) out));
@@ -181,7 +180,7 @@ landing_keeps commit id j room no_slot no_pass doubt words views kept at =
           word = counted words g.all r h.word room;
           gate_stands = at_set_here views id (Gate j) (Gate k) at;
           fit = in_place j k id o.0 o.1 words views h
-              (λ s seat out f. record { sees = seen-snoc (concerns_file s.file) s.decided s.seen r g f.sees refl (below s.decided f.sees.decided_before f.sees.decided_below); mounted = f.mounted; served = f.served })
+              (λ s seat out f. record { sees = seen-snoc (concerns_file s.file) s.decided s.seen r g f.sees refl (below s.decided f.sees.decided_before f.sees.decided_below); mounted = f.mounted })
               (λ q seat out f. record { sees = seen-snoc (is_of_session q.session) q.decided q.seen r g f.sees refl (below q.decided f.sees.decided_before f.sees.decided_below); mounted = f.mounted });
           files_held = held-set slot_file (file_taken j.slot) o.0 g.files views id (Gate j) (Gate k) at refl h.files_held;
           sessions_held = held-set pass_session (session_taken j.pass) o.1 g.sessions views id (Gate j) (Gate k) at refl h.sessions_held;
@@ -220,7 +219,7 @@ drop_keeps id j no_slot no_pass words views kept at =
           word = same_word words (length g.all) h.word;
           gate_stands = at_set_here views id (Gate j) (Gate k) at;
           fit = in_place j k id o.0 o.1 words views h
-              (λ t seat out f. record { sees = seen_still (concerns_file t.file) t.decided t.seen f.sees; mounted = f.mounted; served = f.served })
+              (λ t seat out f. record { sees = seen_still (concerns_file t.file) t.decided t.seen f.sees; mounted = f.mounted })
               (λ q seat out f. record { sees = seen_still (is_of_session q.session) q.decided q.seen f.sees; mounted = f.mounted });
           files_held = held-set slot_file (file_taken j.slot) o.0 g.files views id (Gate j) (Gate k) at refl h.files_held;
           sessions_held = held-set pass_session (session_taken j.pass) o.1 g.sessions views id (Gate j) (Gate k) at refl h.sessions_held;
@@ -290,7 +289,7 @@ retire_keeps id j words views kept at =
         record {
           word = same_word words (length g.all) h.word;
           gate_stands = at_set_here views id (Gate j) (Gate k) at;
-          fit = in_place j k id sa pa words views h (λ t seat out f. keep_slot g k.gate t refl (λ e. e) (λ e. e) refl f) (λ q seat out f. keep_pass g k.gate q refl (λ e. e) refl f);
+          fit = in_place j k id sa pa words views h (λ t seat out f. keep_slot g k.gate t refl (λ e. e) refl f) (λ q seat out f. keep_pass g k.gate q refl (λ e. e) refl f);
           files_held = files_still_held sa g.files (set views id (Gate k)) j.slot s.files_distinct (held-set slot_file (file_taken j.slot) sa g.files views id (Gate j) (Gate k) at refl h.files_held);
           sessions_held = sessions_still_held pa g.sessions (set views id (Gate k)) j.pass s.sessions_distinct (held-set pass_session (session_taken j.pass) pa g.sessions views id (Gate j) (Gate k) at refl h.sessions_held);
           files_out = files_still_out sa g.files j.slot h.slot_in h.files_out;
@@ -328,7 +327,7 @@ look_keeps id j words views kept at =
     let k = renewed j in
     let s = h.agrees.gate in
     let slots = slot_taken g (λ f. (sa f ≡ None) × (is_in f g.files ≡ true)) j.slot s.decided_within s.decided_below
-    (λ t e. let w = h.agrees.slot t e in (w.0.mounted, w.0.served, (h.slot_in t e, w.1))) in
+    (λ t e. let w = h.agrees.slot t e in (w.0.mounted, (h.slot_in t e, w.1))) in
     let passes = pass_taken g (λ n. (pa n ≡ None) × (is_in n g.sessions ≡ true)) j.pass s.decided_within s.decided_below
     (λ t e. let w = h.agrees.pass t e in (w.0.mounted, (h.pass_in t e, w.1))) in (
       (

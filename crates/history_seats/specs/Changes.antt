@@ -6,15 +6,10 @@ use Rattle.atomic_table.specs.Seated.{TableId}
 use Rattle.store_model.specs.Record.{events_of}
 use Rattle.store_model.specs.History.{count_of}
 use Rattle.history_seats.specs.Records.{Version, HistoryRecord}
-use Rattle.history_seats.specs.Mounts.{Mounted, Served}
+use Rattle.history_seats.specs.Mounts.{Mounted}
 use Rattle.history_seats.specs.Tags.{HasRightTag, HasDueTag}
-use Rattle.history_seats.specs.Views.{GateView, SlotView, PassView, Joined, Sight, no_mount, no_devices}
+use Rattle.history_seats.specs.Views.{GateView, SlotView, PassView, Joined, Sight}
 use Rattle.history_seats.specs.Numbers.{without}
-
--- The caller's values that a first split tells: the mount, and the devices as they are served.
-pub record Told : Type 0 where
-  pub mounted : Mounted
-  pub served : Served
 
 -- The caller's values that a tag takes: the version that is committed in the slot's file after the event, and the one that the event's
 -- doubt leaves there.
@@ -41,18 +36,13 @@ IsNextOf pass (Landed commit) = ⊥
 abbrev pub with_record : HistoryRecord → GateView → GateView
 with_record r gate = record gate { all = gate.all ++ r ∷ [] }
 
-abbrev pub nothing_told : Told
-nothing_told = record { mounted = no_mount; served = no_devices }
+-- the gate with one more file out, and the new seat; the mount that was told before stays
+abbrev pub with_slot_out : Mounted → ℕ → GateView → GateView
+with_slot_out mounted file gate = record gate { mounted = Some (unwrap_or gate.mounted mounted); files = file ∷ gate.files }
 
--- the gate with one more file out, and the new seat; what was told before stays
-abbrev pub with_slot_out : Told → ℕ → GateView → GateView
-with_slot_out told file gate =
-    record gate { mounted = Some (unwrap_or gate.mounted told.mounted); served = Some (unwrap_or gate.served told.served); files = file ∷ gate.files }
-
-abbrev pub new_slot : Told → (file generation : ℕ) → GateView → SlotView
-new_slot told file generation gate = record {
-  mounted = unwrap_or gate.mounted told.mounted;
-  served = unwrap_or gate.served told.served;
+abbrev pub new_slot : Mounted → (file generation : ℕ) → GateView → SlotView
+new_slot mounted file generation gate = record {
+  mounted = unwrap_or gate.mounted mounted;
   seen = gate.all;
   decided = gate.decided;
   file = file;

@@ -35,7 +35,6 @@ pub record HasSeen (those : HistoryRecord → Bool) (decided : ℕ) (seen : List
 pub record SlotFits (gate : GateView) (slot : SlotView) : Type 0 where
   pub sees : HasSeen (concerns_file slot.file) slot.decided slot.seen gate
   pub mounted : gate.mounted ≡ Some slot.mounted
-  pub served : gate.served ≡ Some slot.served
 
 -- A pass's view fits the gate's: past what it has seen no event is of its session.
 pub record PassFits (gate : GateView) (pass : PassView) : Type 0 where

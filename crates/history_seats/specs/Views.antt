@@ -1,14 +1,13 @@
 -- What each seat knows.
-use Rattle.std.specs.Prelude.{ℕ, false, List, [], Option, None}
+use Rattle.std.specs.Prelude.{ℕ, List, [], Option, None}
 use Rattle.atomic_table.specs.Seated.{TableId}
 use Rattle.history_seats.specs.Records.{HistoryRecord}
-use Rattle.history_seats.specs.Mounts.{Mounted, Served}
+use Rattle.history_seats.specs.Mounts.{Mounted}
 
 -- The gate's: the whole history; a place below which each doubt is decided, since it landed before that place or never will; and the
--- files and sessions whose seats are out. The mount is told with the first seat that is split, the devices with the first of a slot.
+-- files and sessions whose seats are out. The mount is told with the first seat that is split.
 pub record GateView : Type 0 where
   pub mounted : Option Mounted
-  pub served : Option Served
   pub all : List HistoryRecord
   pub decided : ℕ
   pub files : List ℕ
@@ -17,7 +16,6 @@ pub record GateView : Type 0 where
 -- a file's: a beginning of the history that lacks no record of the file
 pub record SlotView : Type 0 where
   pub mounted : Mounted
-  pub served : Served
   pub seen : List HistoryRecord
   pub decided : ℕ
   pub file : ℕ
@@ -53,13 +51,10 @@ abbrev pub alone : GateView → Joined
 alone gate = record { gate = gate; slot = None; pass = None }
 
 abbrev pub new_gate : GateView
-new_gate = record { mounted = None; served = None; all = []; decided = 0; files = []; sessions = [] }
+new_gate = record { mounted = None; all = []; decided = 0; files = []; sessions = [] }
 
 abbrev pub no_mount : Mounted
-no_mount = record { applications = []; entries = []; file_faults = []; card_faults = 0 }
-
-abbrev pub no_devices : Served
-no_devices = record { files = []; card = record { faults = 0; starved = 0; is_calm = false } }
+no_mount = record { applications = []; entries = [] }
 
 -- what a view is, where it is of that kind
 abbrev pub gate_of : SeatView → Joined
@@ -68,7 +63,7 @@ gate_of _ = alone new_gate
 
 abbrev pub slot_of : SeatView → SlotView
 slot_of (Slot slot) = slot
-slot_of _ = record { mounted = no_mount; served = no_devices; seen = []; decided = 0; file = 0; generation = 0 }
+slot_of _ = record { mounted = no_mount; seen = []; decided = 0; file = 0; generation = 0 }
 
 abbrev pub pass_of : SeatView → PassView
 pass_of (Pass pass) = pass

@@ -6,7 +6,7 @@ ghost use Rattle.history_seats.specs.Settling.{IsOpenDoubt};
 ghost use Rattle.history_seats.specs.Mounts.{Mounted};
 ghost use Rattle.history_seats.specs.Numbers.{is_in};
 ghost use Rattle.history_seats.specs.Rule.{Agrees};
-ghost use Rattle.history_seats.specs.Changes.{Told, TagVersions, record_of, landing_of, IsNextOf, IsFitting, with_record, with_slot_out, new_slot, with_pass_out, new_pass, pass_renewed, doubt_dropped, without_slot, without_pass, view_in, IsOf, seat_renewed, together};
+ghost use Rattle.history_seats.specs.Changes.{TagVersions, record_of, landing_of, IsNextOf, IsFitting, with_record, with_slot_out, new_slot, with_pass_out, new_pass, pass_renewed, doubt_dropped, without_slot, without_pass, view_in, IsOf, seat_renewed, together};
 ghost use Rattle.history_seats.specs.Steps.{IsTagIn};
 
 use crate::rule::{NewPass, NewSlot, PassName, RecordName, SlotName};
@@ -36,13 +36,13 @@ pub struct Refreshed {
 }
 
 impl GateSeat {
-    /// Splits the seat of a file that has none out. The first split tells the mount, the first of a slot the devices.
+    /// Splits the seat of a file that has none out. The first split tells the mount.
     pub fn split_slot(&mut self, table: &HistoryTable, file: u16, generation: u32) -> SlotSeat
-        ghost told: { Told }
+        ghost mounted: { Mounted }
         requires table { self.old.table ≡ table.now }
         requires new { is_in file self.old.knows.files ≡ false }
-        ensures gate { self.new ≡ record self.old { knows = with_slot_out told file self.old.knows } }
-        ensures slot { result ≡ record { table = table.now; knows = new_slot told file generation self.old.knows } }
+        ensures gate { self.new ≡ record self.old { knows = with_slot_out mounted file self.old.knows } }
+        ensures slot { result ≡ record { table = table.now; knows = new_slot mounted file generation self.old.knows } }
     {
         self.split_slot_as::<Brand>(table, file, generation)
     }
@@ -56,8 +56,8 @@ impl GateSeat {
         requires name { (N.file ≡ file) × (N.generation ≡ generation) }
         requires table { self.old.table ≡ table.now }
         requires new { is_in file self.old.knows.files ≡ false }
-        ensures gate { self.new ≡ record self.old { knows = with_slot_out N.told file self.old.knows } }
-        ensures slot { result ≡ record { table = table.now; knows = new_slot N.told file generation self.old.knows } }
+        ensures gate { self.new ≡ record self.old { knows = with_slot_out N.mounted file self.old.knows } }
+        ensures slot { result ≡ record { table = table.now; knows = new_slot N.mounted file generation self.old.knows } }
     {
         let seat = table.table.shared.split_seat::<NewSlot<N>>(&mut self.seat);
         SlotSeat {

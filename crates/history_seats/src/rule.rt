@@ -30,12 +30,12 @@ impl TableRule<(), View, ()> for Law {
     ghost first = { λ _. Gate (alone new_gate) };
 }
 
-/// Names the file, the generation and what is told where a slot's seat is split.
+/// Names the file, the generation and the mount where a slot's seat is split.
 pub trait SlotName {
     ghost use Rattle.std.specs.Prelude.{ℕ};
-    ghost use Rattle.history_seats.specs.Changes.{Told};
+    ghost use Rattle.history_seats.specs.Mounts.{Mounted};
 
-    ghost told: { Told };
+    ghost mounted: { Mounted };
 
     ghost file: { ℕ };
 
@@ -43,9 +43,9 @@ pub trait SlotName {
 }
 
 impl SlotName for Brand {
-    ghost use Rattle.history_seats.specs.Changes.{nothing_told};
+    ghost use Rattle.history_seats.specs.Views.{no_mount};
 
-    ghost told = { nothing_told };
+    ghost mounted = { no_mount };
 
     ghost file = { 0 };
 
@@ -92,9 +92,9 @@ impl<N: SlotName> Split<View> for NewSlot<N> {
     ghost use Rattle.history_seats.specs.Changes.{with_slot_out, new_slot};
     ghost use Rattle.history_seats.specs.Steps.{on_gate, slot_from};
 
-    ghost left = { on_gate (with_slot_out N.told N.file) };
+    ghost left = { on_gate (with_slot_out N.mounted N.file) };
 
-    ghost right = { slot_from (new_slot N.told N.file N.generation) };
+    ghost right = { slot_from (new_slot N.mounted N.file N.generation) };
 }
 
 /// A new pass is split from the gate's seat.

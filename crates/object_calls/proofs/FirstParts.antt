@@ -4,11 +4,10 @@ use Rattle.std.specs.Prelude.{Contains}
 use Rattle.disk_model.specs.State.{FileState, Sound}
 use Rattle.atomic_table.specs.Seated.{TableId}
 use Rattle.hmac_keys.specs.KeyTable.{dir_tsk}
-use Rattle.rpmb_card.specs.Port.{PortState}
 use Rattle.dir_records.specs.declared.entry.DirEntry.{DirEntry}
 use Rattle.store_model.specs.Record.{events_of}
 use Rattle.history_seats.specs.Changes.{new_pass, new_slot, with_pass_out, with_slot_out}
-use Rattle.history_seats.specs.Mounts.{Mounted, Served}
+use Rattle.history_seats.specs.Mounts.{Mounted}
 use Rattle.history_seats.specs.Numbers.{is_in}
 use Rattle.history_seats.specs.Records.{HistoryRecord}
 use Rattle.history_seats.specs.Views.{GateView, Sight, SlotView, new_gate}
@@ -16,7 +15,7 @@ use Rattle.core_laws.specs.Opened.{first_view}
 use Rattle.core_laws.proofs.Contained.{contains_none}
 use Rattle.core_laws.specs.Stores.{Store}
 use Rattle.store_commit.specs.declared.gate.Doubted.{Doubted}
-use Rattle.serial_calls.specs.Journals.{IsJournalOf, told_of}
+use Rattle.serial_calls.specs.Journals.{IsJournalOf}
 use Rattle.core_laws.specs.Ties.{IsTied}
 use Rattle.serial_calls.specs.GuardedGates.{IsClosingTied, GateInvariant, change_in_doubt}
 use Rattle.serial_calls.proofs.Knowing.{directory-entries}
@@ -39,8 +38,8 @@ use Rattle.object_calls.proofs.ObjectMaps.{opening_sound}
 use Rattle.store_model.specs.Sound.{IsObjectMap}
 
 -- THE OPENING
-module _ {F R : Type 0} (state : F → FileState) (port : R → PortState) (sound : (f : F) → Sound (state f)) (store : Store) (o : OpeningValue F R)
-    (opening : IsOpening state o.gate o.files o.storage_key) (of : IsStoreOf state port store o) where
+module _ {F R : Type 0} (state : F → FileState) (sound : (f : F) → Sound (state f)) (store : Store) (o : OpeningValue F R)
+    (opening : IsOpening state o.gate o.files o.storage_key) (of : IsStoreOf state store o) where
   pub mounted_store : IsMountedStore store (bench_files state o) (entries_in o)
   mounted_store = record {
     forms = directory-entries (entries_in o) opening.entries;
@@ -92,14 +91,13 @@ none_tagged view empty r file there tag = absurd (contains_none r (subst (λ (l 
 
 -- THE SEATS
 pub new-splitting : (store : Store) → IsSplitting store new_gate 1
-new-splitting store = record { mounted = refl; served = refl; empty = refl; undecided = refl; free = λ n least. refl; alone = refl }
+new-splitting store = record { mounted = refl; empty = refl; undecided = refl; free = λ n least. refl; alone = refl }
 
 module _ (store : Store) (view : GateView) (number generation : ℕ) (s : IsSplitting store view number) where
   -- a slot that is split knows what the mount tells
-  pub split_view : new_slot (told_of store) number generation view ≡ first_view store.mounted store.served number generation
+  pub split_view : new_slot store.mounted number generation view ≡ first_view store.mounted number generation
   split_view = λ i. record {
     mounted = s.mounted i;
-    served = s.served i;
     seen = s.empty i;
     decided = s.undecided i;
     file = number;
@@ -110,25 +108,23 @@ module _ (store : Store) (view : GateView) (number generation : ℕ) (s : IsSpli
   slot_with file seat = record { number = number; seat = Some seat; file = file; holds = free; doubt = None }
 
   pub split_slot : (table : TableId) (seat : Sight SlotView) (file : FileState) → table ≡ store.table
-      → seat ≡ record { table = table; knows = new_slot (told_of store) number generation view } → slot_with file seat ≡ first_slot store number generation file
+      → seat ≡ record { table = table; knows = new_slot store.mounted number generation view } → slot_with file seat ≡ first_slot store number generation file
   split_slot table seat file own is =
-      let both : Sight SlotView = record { table = table; knows = new_slot (told_of store) number generation view } in
-      let first : both ≡ record { table = store.table; knows = first_view store.mounted store.served number generation } = λ i. record { table = own i; knows = split_view i } in
+      let both : Sight SlotView = record { table = table; knows = new_slot store.mounted number generation view } in
+      let first : both ≡ record { table = store.table; knows = first_view store.mounted number generation } = λ i. record { table = own i; knows = split_view i } in
       ap (slot_with file) (is ∙ first)
 
-  pub split_told : HasTold store (with_slot_out (told_of store) number view) 0
+  pub split_told : HasTold store (with_slot_out store.mounted number view) 0
   split_told = record {
     mounted = ap (λ (m : Mounted). Some m) s.mounted;
-    served = ap (λ (d : Served). Some d) s.served;
     empty = s.empty;
     undecided = s.undecided;
     free = λ n least. ap (is_in n) s.alone;
   }
 
-  pub split_next : IsSplitting store (with_slot_out (told_of store) number view) (number + 1)
+  pub split_next : IsSplitting store (with_slot_out store.mounted number view) (number + 1)
   split_next = record {
     mounted = s.mounted;
-    served = s.served;
     empty = s.empty;
     undecided = s.undecided;
     free = λ n past. ap (λ (b : Bool). b || is_in n view.files) (ne_eqb number n (λ same. omega (arith, past, same))) ∙ s.free n (omega (arith, past));
@@ -147,14 +143,13 @@ module _ (store : Store) (view : GateView) (number : ℕ) (t : HasTold store vie
   pub pass_told : HasTold store (with_pass_out store.mounted number view) (number + 1)
   pass_told = record {
     mounted = ap (λ (m : Option Mounted). Some (unwrap_or m store.mounted)) t.mounted;
-    served = t.served;
     empty = t.empty;
     undecided = t.undecided;
     free = λ n past. ap (λ (b : Bool). b || is_in n view.sessions) (ne_eqb number n (λ same. omega (arith, past, same))) ∙ t.free n (omega (arith, past));
   }
 
 pub told_first : (store : Store) (view : GateView) (next : ℕ) → HasTold store view next → IsFirstView store view
-told_first store view next t = record { mounted = t.mounted; served = t.served; empty = t.empty }
+told_first store view next t = record { mounted = t.mounted; empty = t.empty }
 
 -- the slots that were split are in order
 pub first_numbered : {F : Type 0} (store : Store) (entries : List (Option DirEntry)) (state : F → FileState) (files : List F) (slots : List SlotValue)

@@ -31,7 +31,7 @@ pub mounts_begin_gates : MountsBeginGates
 mounts_begin_gates store files entries table view o none first =
     let t = tells store files entries o in
     record {
-      journal = openings store view first.mounted first.served first.empty t.objects t.apart;
+      journal = openings store view first.mounted first.empty t.objects t.apart;
       tied = openings_tied store view files entries first.empty t.mount t.apart t.real t.rising;
       handles = λ scenario.
           subst (λ (l : List HistoryRecord). AreOpen entries table (replay_at store scenario l).state.sessions) (sym first.empty)

@@ -173,7 +173,7 @@ module _ {F R : Type 0} (state : F → FileState) (port : R → PortState) (old 
     whole = whole;
     keyed = opens.tsk_is ∙ ap dir_tsk (sym key);
     entries = opens.settled.entries;
-    identified = directory_identified _ g.dir.dir.entries opens.pages.reads;
+    identified = directory_identified _ g.dir.dir.entries (opens.seen).entries.pages.reads;
     settled = opens.unwritten;
     synced = λ index e at.
         let within : index < 256 = omega (arith, opens.settled.entries.whole, below g.dir.dir.entries index e at) in

@@ -22,15 +22,14 @@ use Rattle.object_calls.proofs.Stacks.{last_of_all, rest_of_all}
 -- The views have the same history: they differ at most in which seats are out.
 pub record IsSameHistory (old new : GateView) : Type 0 where
   pub mounted : new.mounted ≡ old.mounted
-  pub served : new.served ≡ old.served
   pub all : new.all ≡ old.all
   pub decided : new.decided ≡ old.decided
 
 pub same_itself : (view : GateView) → IsSameHistory view view
-same_itself view = record { mounted = refl; served = refl; all = refl; decided = refl }
+same_itself view = record { mounted = refl; all = refl; decided = refl }
 
 pub same_then : (a b c : GateView) → IsSameHistory a b → IsSameHistory b c → IsSameHistory a c
-same_then a b c x y = record { mounted = y.mounted ∙ x.mounted; served = y.served ∙ x.served; all = y.all ∙ x.all; decided = y.decided ∙ x.decided }
+same_then a b c x y = record { mounted = y.mounted ∙ x.mounted; all = y.all ∙ x.all; decided = y.decided ∙ x.decided }
 
 -- the journal, but for the sessions whose seats are out
 abbrev pub with_sessions : JournalValue → List ℕ → JournalValue
@@ -43,7 +42,6 @@ sessions_then a b c sessions first second =
 pub sessions_same : (a b : JournalValue) (sessions : List ℕ) → b ≡ with_sessions a sessions → IsSameHistory a.knows b.knows
 sessions_same a b sessions is = record {
   mounted = ap (λ (j : JournalValue). j.knows.mounted) is;
-  served = ap (λ (j : JournalValue). j.knows.served) is;
   all = ap (λ (j : JournalValue). j.knows.all) is;
   decided = ap (λ (j : JournalValue). j.knows.decided) is;
 }
@@ -59,14 +57,13 @@ files_then a b c files first second =
 pub files_same : (a b : JournalValue) (files : List ℕ) → b ≡ with_files a files → IsSameHistory a.knows b.knows
 files_same a b files is = record {
   mounted = ap (λ (j : JournalValue). j.knows.mounted) is;
-  served = ap (λ (j : JournalValue). j.knows.served) is;
   all = ap (λ (j : JournalValue). j.knows.all) is;
   decided = ap (λ (j : JournalValue). j.knows.decided) is;
 }
 
 module _ (old new : GateView) (same : IsSameHistory old new) where
   slot_back : (s : SlotView) → SlotFits new s → SlotFits old s
-  slot_back s fits = keep_slot new old s (sym same.all) (λ is. sym same.mounted ∙ is) (λ is. sym same.served ∙ is) (sym same.decided) fits
+  slot_back s fits = keep_slot new old s (sym same.all) (λ is. sym same.mounted ∙ is) (sym same.decided) fits
 
   pass_back : (p : PassView) → PassFits new p → PassFits old p
   pass_back p fits = keep_pass new old p (sym same.all) (λ is. sym same.mounted ∙ is) (sym same.decided) fits

@@ -33,7 +33,6 @@ MountsTellEntries = (store : Store) (files : ℕ → FileState) (entries : List 
 -- The view of a gate before the first event, once a slot's seat was split.
 pub record IsFirstView (store : Store) (view : GateView) : Type 0 where
   pub mounted : view.mounted ≡ Some store.mounted
-  pub served : view.served ≡ Some store.served
   pub empty : view.all ≡ []
 
 -- What stands behind the gate's lock before the first event, of a table without open handles: the journal, the ties of the entries to it, and

@@ -10,19 +10,17 @@ pub record IsUnused (table : TableId) (seat : Sight GateView) : Type 0 where
   pub table_is : seat.table ≡ table
   pub knows : seat.knows ≡ new_gate
 
--- No event was appended; if anything was told, it is the store's. The files from that number on have no seat out, nor has any session.
+-- No event was appended; if the mount was told, it is the store's. The files from that number on have no seat out, nor has any session.
 pub record IsSplitting (store : Store) (view : GateView) (next : ℕ) : Type 0 where
   pub mounted : unwrap_or view.mounted store.mounted ≡ store.mounted
-  pub served : unwrap_or view.served store.served ≡ store.served
   pub empty : view.all ≡ []
   pub undecided : view.decided ≡ 0
   pub free : (n : ℕ) → next ≤ n → is_in n view.files ≡ false
   pub alone : view.sessions ≡ []
 
--- The mount and the devices are told, and no event was appended. The sessions from that number on have no seat out.
+-- The mount is told, and no event was appended. The sessions from that number on have no seat out.
 pub record HasTold (store : Store) (view : GateView) (next : ℕ) : Type 0 where
   pub mounted : view.mounted ≡ Some store.mounted
-  pub served : view.served ≡ Some store.served
   pub empty : view.all ≡ []
   pub undecided : view.decided ≡ 0
   pub free : (n : ℕ) → next ≤ n → is_in n view.sessions ≡ false

@@ -58,7 +58,7 @@ impl<F: StoreFile + Drop, R: RpmbPort + Drop> Opening<F, R> {
         self,
         sessions: &mut [Session<E>],
     ) -> Result<Service<F, R, L>, Opening<F, R>>
-        requires store { IsStoreOf F.state R.state L.store self }
+        requires store { IsStoreOf F.state L.store self }
         requires sessions { AreUnseated self.applications sessions.old }
         ensures served { IfOk result (ServesOpening F.state L.store self) }
         ensures seated { OnOk result (AreSeated L.store sessions.new) }

@@ -25,7 +25,7 @@ pub fn close_unserved<F: StoreFile + Drop, R: RpmbPort + Drop, E: Entropy + Drop
     opening: Opening<F, R>,
     sessions: Vec<Session<E>>,
 ) -> Result<Closed<F, R>, Opening<F, R>>
-    requires store { IsStoreOf F.state R.state L.store opening }
+    requires store { IsStoreOf F.state L.store opening }
     requires sessions { AreUnseated opening.applications sessions.items }
     ensures closed { IfOk result (λ c. ClosesUnserved L.store (files_of F.state c.bench.files.items) (R.state c.bench.card) c.doubt c.history.events) }
     ensures refused { IfErr result (λ o. o ≡ opening) }
@@ -49,7 +49,7 @@ pub fn close_at_once<F: StoreFile + Drop, R: RpmbPort + Drop, E: Entropy + Drop>
     ghost keys: { Keys }
     requires keyed { IsKeyed keys opening }
     requires sessions { AreUnseated opening.applications sessions.items }
-    ensures closed { IfOk result (λ c. ClosesUnserved (store_in keys F.state R.state opening) (files_of F.state c.bench.files.items) (R.state c.bench.card) c.doubt
+    ensures closed { IfOk result (λ c. ClosesUnserved (store_in keys F.state opening) (files_of F.state c.bench.files.items) (R.state c.bench.card) c.doubt
         c.history.events) }
     ensures refused { IfErr result (λ o. o ≡ opening) }
 {

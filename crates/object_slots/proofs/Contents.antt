@@ -29,7 +29,6 @@ pub file_moves : (store : Store) (number : ℕ) (old new : FileState) (seat : Si
 file_moves store number old new seat goes holds masked own = record {
   table = own.table;
   mounted = own.mounted;
-  served = own.served;
   own = own.own;
   holds = holds;
   real = own.real;

@@ -35,7 +35,6 @@ pub own_renewed : (store : Store) (gate : GateView) (number : ℕ) (file : FileS
 own_renewed store gate number file seat fits own = record {
   table = own.table;
   mounted = own.mounted;
-  served = own.served;
   own = own.own;
   holds = λ stage. renewed_holds store.keys gate (part file seat.knows stage) fits (own.holds stage);
   real = λ v known. own.real v (entry_known gate seat.knows fits v known);

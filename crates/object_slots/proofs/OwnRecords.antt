@@ -66,7 +66,6 @@ module _ (store : Store) (gate : GateView) (number : ℕ) (file : FileState) (se
   own_after was = record {
     table = was.table;
     mounted = was.mounted;
-    served = was.served;
     own = was.own;
     holds = λ stage. own_events_keep store.keys gate (part file view stage) event versions own.sound own.fits own.on_a_call own.right own.stands (was.holds stage);
     real = λ v known. elim (known_after view.mounted gate.all gate.decided within view.file view.generation versions event own.on_a_call own.right v known) [

@@ -22,7 +22,7 @@ no_front (x ∷ xs) a ys e = cc
 
 module _ (store : Store) (number generation : ℕ) (file : FileState) (m : IsMountedFile store number generation file) where
   abbrev view : SlotView
-  view = first_view store.mounted store.served number generation
+  view = first_view store.mounted number generation
 
   -- what is known before the first event is what the mount tells
   told : (other : ℕ) (v : Version) → KnowsFor view other v → version_among number other store.mounted.entries ≡ Some v
@@ -47,7 +47,6 @@ module _ (store : Store) (number generation : ℕ) (file : FileState) (m : IsMou
     own = record {
       table = refl;
       mounted = refl;
-      served = refl;
       own = refl;
       holds = λ stage. record { sound = m.sound; stands = λ honest v known. m.stands honest v (of_own v known) };
       real = λ v known. m.real v (of_own v known);

@@ -24,7 +24,7 @@ pub record IsMountedFile (store : Store) (number generation : ℕ) (file : FileS
 abbrev pub first_slot : Store → (number generation : ℕ) → FileState → SlotValue
 first_slot store number generation file = record {
   number = number;
-  seat = Some (record { table = store.table; knows = first_view store.mounted store.served number generation });
+  seat = Some (record { table = store.table; knows = first_view store.mounted number generation });
   file = file;
   holds = free;
   doubt = None;

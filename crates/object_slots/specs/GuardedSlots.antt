@@ -21,7 +21,6 @@ use Rattle.object_slots.specs.KnownFor.{KnowsItsOwn, own_version}
 pub record IsSlotOf (store : Store) (number : ℕ) (file : FileState) (seat : Sight SlotView) : Type 0 where
   pub table : seat.table ≡ store.table
   pub mounted : seat.knows.mounted ≡ store.mounted
-  pub served : seat.knows.served ≡ store.served
   pub own : seat.knows.file ≡ number
   -- each version that the view knows is real, stands in the file while that is honest, and is of the view's generation
   pub holds : (stage : Option ℕ) → SlotHolds store.keys (part file seat.knows stage)

@@ -9,8 +9,8 @@ use Rattle.dir_records.specs.declared.entry.DirEntry.{DirEntry}
 use Rattle.crash_core.specs.Mounting.{all_held_in, map_of}
 use Rattle.crash_core.specs.Opening.{opening_map}
 use Rattle.script_text.specs.declared.script.Arm.{Arm}
-use Rattle.script_text.specs.Laws.{IsArmable}
-use Rattle.object_calls.specs.OpeningArms.{IsOnBench}
+use Rattle.script_text.specs.Laws.{IsArmable, IsFileDevice}
+use Rattle.object_calls.specs.OpeningArms.{IsFileOnBench, IsOnBench}
 use Rattle.object_calls.specs.Opening.{OpeningValue}
 use Rattle.run_acts.specs.Benches.{BenchState, opening_state}
 use Rattle.run_acts.specs.PhaseArms.{ArmsAll, ArmsOneOf, OnlyDevices}
@@ -22,6 +22,13 @@ armable-on_bench Dir is = tt
 armable-on_bench (File number) is = is
 armable-on_bench Card is = tt
 armable-on_bench Entropy is = is
+
+-- a file that masks can be armed for is of the bench
+pub file-on_bench : (device : Device) → IsFileDevice device → IsFileOnBench device
+file-on_bench Dir is = tt
+file-on_bench (File number) is = is
+file-on_bench Card is = is
+file-on_bench Entropy is = is
 
 -- nothing was armed
 pub arms-none : (old : BenchState) → ArmsAll [] old old
@@ -44,7 +51,7 @@ abbrev pub ReadTheSame : (old new : BenchState) → Type 0
 ReadTheSame old new = (file : ℕ) → (new.files file).reads ≡ (old.files file).reads
 
 pub arms_read : (arms : List Arm) (old new : BenchState) → ArmsAll arms old new → ReadTheSame old new
-arms_read arms old new s k = arms_keep (λ f. f.reads ≡ (old.files k).reads) (λ f calls same. same) (λ f call same. same) arms old new s k refl
+arms_read arms old new s k = arms_keep (λ f. f.reads ≡ (old.files k).reads) (λ f calls same. same) (λ f call same. same) (λ f taint same. same) arms old new s k refl
 
 -- so the objects are the same
 pub armed-map : (keys : Keys) (old new : ℕ → FileState) (entries : List (Option DirEntry)) → ((file : ℕ) → (new file).reads ≡ (old file).reads)

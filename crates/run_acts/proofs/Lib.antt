@@ -4,6 +4,7 @@ pub mod Unseated
 pub mod Draws
 pub mod Closings
 pub mod Ready
+pub mod SavedImages
 pub mod Starved
 pub mod MemoryPhases
 pub mod SharedClosings

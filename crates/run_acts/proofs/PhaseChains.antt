@@ -1,7 +1,9 @@
 -- From one phase to the next: its files stay honest backward, and its card is told on.
 use Rattle.std.proofs.Common.{◌≡◌, ◌∙◌, ◌<◌, ◌≤◌, ℕ, zero, suc, List, [], ◌∷◌, length, IsTrue, inl, inr, refl, sym, ap, subst, arith}
 use Rattle.std.proofs.lemmas.Bool.{cases_lt}
+use Rattle.disk_model.specs.Arms.{Taint}
 use Rattle.disk_model.specs.State.{FileState}
+use Rattle.object_calls.specs.OpeningArms.{TaintsOnBench}
 use Rattle.hmac_keys.specs.declared.Keys.{Keys}
 use Rattle.hmac_keys.specs.KeyTable.{rpmb_key}
 use Rattle.rpmb_card.specs.Card.{CardState}
@@ -13,7 +15,7 @@ use Rattle.store_model.specs.declared.event.Event.{Event}
 use Rattle.store_model.specs.Object.{ObjectMap}
 use Rattle.store_model.specs.ReplayState.{ReplayState}
 use Rattle.script_text.specs.declared.script.Arm.{Arm}
-use Rattle.script_text.specs.declared.script.Arm.TheVariants.{Fail, Lose, Stop}
+use Rattle.script_text.specs.declared.script.Arm.TheVariants.{Fail, Lose, Stop, Taint as TaintArm}
 use Rattle.script_text.specs.declared.script.Mode.{Mode}
 use Rattle.script_text.specs.declared.script.Step.{Step}
 use Rattle.object_calls.specs.FinishedPhase.{AreAllHonest}
@@ -36,7 +38,7 @@ files_none of_file (f ∷ files) (suc k) past = files_none of_file files k (omeg
 
 -- Files that are honest were honest before they were armed.
 all_honest : (arms : List Arm) (old new : BenchState) → ArmsAll arms old new → (k : ℕ) → (new.files k).honest ≡ (old.files k).honest
-all_honest arms old new s k = arms_keep (λ f. f.honest ≡ (old.files k).honest) (λ f calls same. same) (λ f call same. same) arms old new s k refl
+all_honest arms old new s k = arms_keep (λ f. f.honest ≡ (old.files k).honest) (λ f calls same. same) (λ f call same. same) (λ f taint same. same) arms old new s k refl
 
 -- An arming leaves the card as it is.
 stops_card : (device : Device) (calls : ℕ) (old new : BenchState) → ArmsOneOf (Stop device calls) old new → (new.card).card ≡ (old.card).card
@@ -51,10 +53,17 @@ fails_card (File n) call old new s = ap (λ (p : PortState). p.card) s.port
 fails_card Card call old new s = ap (λ (p : PortState). p.card) (s.1).others
 fails_card Entropy call old new s = ap (λ (p : PortState). p.card) s.port
 
+taints_card : (file : Device) (taint : Taint) (old new : BenchState) → TaintsOnBench file taint old.files new.files old.card new.card → (new.card).card ≡ (old.card).card
+taints_card Dir taint old new s = ap (λ (p : PortState). p.card) s.port
+taints_card (File n) taint old new s = ap (λ (p : PortState). p.card) s.port
+taints_card Card taint old new s = ap (λ (p : PortState). p.card) s.port
+taints_card Entropy taint old new s = ap (λ (p : PortState). p.card) s.port
+
 one_card : (arm : Arm) (old new : BenchState) → ArmsOneOf arm old new → (new.card).card ≡ (old.card).card
 one_card (Stop device calls) old new s = stops_card device calls old new s
 one_card (Fail device call) old new s = fails_card device call old new s
 one_card (Lose call) old new s = ap (λ (p : PortState). p.card) (s.1).others
+one_card (TaintArm file call at mask) old new s = taints_card file (record { call = call; at = at; mask = mask }) old new s
 
 all_card : (arms : List Arm) (old new : BenchState) → ArmsAll arms old new → (new.card).card ≡ (old.card).card
 all_card [] old new s = ap (λ (p : PortState). p.card) s.1

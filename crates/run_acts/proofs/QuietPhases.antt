@@ -1,7 +1,10 @@
 -- A phase on devices that do not fail.
 use Rattle.std.proofs.Common.{◌≡◌, ◌∙◌, ◌<◌, ◌-◌, ◌^◌, ◌||◌, ℕ, List, [], Bool, true, false, length, refl, sym, ap, subst, inl, inr, arith}
 use Rattle.std.specs.Prelude.{IsTrue}
+use Rattle.std.proofs.lemmas.Bool.{cases_eq}
 use Rattle.std.proofs.lemmas.List.{length-map}
+use Rattle.disk_model.specs.Bytes.{after_mask}
+use Rattle.disk_model.specs.Controls.{renamed_as, settled_as}
 use Rattle.disk_model.specs.Faults.{Rose}
 use Rattle.disk_model.specs.State.{FileState}
 use Rattle.hmac_keys.specs.declared.Keys.{Keys}
@@ -21,6 +24,7 @@ use Rattle.shared_store.specs.DeviceCounts.{Rise, counts_of}
 use Rattle.shared_store.proofs.Rises.{Rise-still}
 use Rattle.object_calls.specs.OpeningArms.{IsOnBench}
 use Rattle.object_calls.specs.FinishedPhase.{AreAllHonest}
+use Rattle.run_acts.specs.Alterations.{AltersFile, FlipsFile, RestoresFile}
 use Rattle.run_acts.specs.Benches.{BenchState, opening_state}
 use Rattle.run_acts.specs.Closing.{faults_on}
 use Rattle.run_acts.specs.Crashes.{Crashes}
@@ -187,6 +191,27 @@ quiet_crash image seed keys old new crashes quiet = record {
   faults = subst (λ (p : PortState). p.faults < 2 ^ 64 - 1) (sym crashes.card) quiet.faults;
   card = subst (λ (p : PortState). HadCard p (rpmb_key keys.huk)) (sym crashes.card) quiet.card;
 }
+
+-- A FILE THAT WAS ALTERED
+quiet_altered : (keys : Keys) (n : ℕ) (altered : FileState) (old new : BenchState) → AltersFile n altered old new → (IsQuietFile (old.files n) → IsQuietFile altered) → IsQuiet keys old → IsQuiet keys new
+quiet_altered keys n altered old new a stays quiet = record {
+  files = λ file within. elim (cases_eq file n) [
+    | inl same ↦ subst (λ (k : ℕ). IsQuietFile (new.files k)) (sym same) (subst IsQuietFile (sym a.here) (stays (quiet.files n a.within)))
+    | inr other ↦ subst IsQuietFile (sym (a.others file other)) (quiet.files file within)
+  ];
+  calm = subst (λ (p : PortState). IsTrue p.calm) (sym a.card) quiet.calm;
+  faults = subst (λ (p : PortState). p.faults < 2 ^ 64 - 1) (sym a.card) quiet.faults;
+  card = subst (λ (p : PortState). HadCard p (rpmb_key keys.huk)) (sym a.card) quiet.card;
+}
+
+pub quiet_restored : (keys : Keys) (file : ℕ) (bytes : List ℕ) (old new : BenchState) → RestoresFile file bytes old new → IsQuiet keys old → IsQuiet keys new
+quiet_restored keys file bytes old new a =
+    quiet_altered keys file (renamed_as (old.files file) bytes) old new a (λ (f : IsQuietFile (old.files file)). record { calm = f.calm; faults = f.faults; starved = f.starved })
+
+pub quiet_flipped : (keys : Keys) (file at : ℕ) (mask : List ℕ) (old new : BenchState) → FlipsFile file at mask old new → IsQuiet keys old → IsQuiet keys new
+quiet_flipped keys file at mask old new a =
+    quiet_altered keys file (settled_as (old.files file) (after_mask (old.files file).reads at mask)) old new a
+    (λ (f : IsQuietFile (old.files file)). record { calm = f.calm; faults = f.faults; starved = f.starved })
 
 -- A BENCH THAT IS OPENED
 quiet_read : (keys : Keys) (old new : BenchState) (block : List ℕ) → ReadsBlock keys old new block → IsQuiet keys old → IsQuiet keys new

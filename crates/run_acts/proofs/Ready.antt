@@ -41,12 +41,12 @@ module _ {F R : Type 0} (of_file : F → FileState) (of_port : R → PortState) 
       (arms_read arms (opening_state of_file of_port opened) (opening_state of_file of_port armed) ready.arms_are)
 
   pub serves_opened : (Reliable : Type 0) (keys : Keys) (mode : Mode) (calls : List Step) (closed : BenchState) (events : List Event) → IsKeyed keys opened
-      → ClosesStore Reliable (store_in keys of_file of_port armed) (opening_state of_file of_port armed) mode calls closed events
+      → ClosesStore Reliable (store_in keys of_file armed) (opening_state of_file of_port armed) mode calls closed events
       → ServesOpened of_file of_port Reliable keys applications arms mode calls opened closed events
   serves_opened Reliable keys mode calls closed events keyed closes = record {
     armed = armed;
     ready = ready;
-    store = store_in keys of_file of_port armed;
+    store = store_in keys of_file armed;
     is_store = record { keyed = ready-keyed keys keyed; is = refl };
     keys_are = refl;
     opens = ready-map keys;

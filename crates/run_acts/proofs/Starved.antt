@@ -25,11 +25,11 @@ use Rattle.run_acts.proofs.ServedSteps.{serves_all}
 module _ {F R : Type 0} (of_file : F → FileState) (of_port : R → PortState) (keys : Keys) (applications : List (List ℕ)) (arms : List Arm) (mode : Mode) (calls : List Step) where
   -- a store that was ready, and closed early
   pub early_opened : (opened armed : OpeningValue F R) (closed : BenchState) → IsReady of_file of_port applications arms opened armed → IsKeyed keys opened
-      → ClosesEarly (store_in keys of_file of_port armed) (opening_state of_file of_port armed) mode calls closed → ClosesOpened of_file of_port keys applications arms mode calls opened closed
+      → ClosesEarly (store_in keys of_file armed) (opening_state of_file of_port armed) mode calls closed → ClosesOpened of_file of_port keys applications arms mode calls opened closed
   early_opened opened armed closed ready keyed closes = in_part (record {
     armed = armed;
     ready = ready;
-    store = store_in keys of_file of_port armed;
+    store = store_in keys of_file armed;
     is_store = record { keyed = ready-keyed of_file of_port applications arms opened armed ready keys keyed; is = refl };
     keys_are = refl;
     opens = ready-map of_file of_port applications arms opened armed ready keys;

@@ -1,8 +1,9 @@
 -- Files stay untainted.
 use Rattle.std.proofs.Common.{◌≡◌, ◌⊎◌, ◌∙◌, ◌<◌, ◌≤◌, ℕ, zero, suc, List, Bool, IsTrue, inl, inr, refl, sym, ap, subst, arith}
-use Rattle.std.proofs.lemmas.Bool.{cases_lt}
+use Rattle.std.proofs.lemmas.Bool.{cases_eq, cases_lt}
+use Rattle.disk_model.specs.Bytes.{after_mask}
 use Rattle.disk_model.specs.Calls.{GoesOn}
-use Rattle.disk_model.specs.Controls.{disarmed, failure_armed, renamed_as, stop_armed}
+use Rattle.disk_model.specs.Controls.{disarmed, failure_armed, renamed_as, settled_as, stop_armed}
 use Rattle.disk_model.specs.State.{FileState, LeftNow}
 use Rattle.hmac_keys.specs.declared.Keys.{Keys}
 use Rattle.hmac_keys.specs.KeyTable.{rpmb_key}
@@ -15,6 +16,7 @@ use Rattle.store_model.specs.declared.event.Event.{Event}
 use Rattle.store_model.specs.Object.{ObjectMap}
 use Rattle.object_calls.specs.Opening.{OpeningValue, bench_files}
 use Rattle.object_calls.specs.OpeningFiles.{no_file}
+use Rattle.run_acts.specs.Alterations.{AltersFile}
 use Rattle.run_acts.specs.Benches.{BenchState, opening_state}
 use Rattle.run_acts.specs.Between.{AreReadable, TakesImage}
 use Rattle.run_acts.specs.DeviceLaws.{NextOpeningsAreLeft, NextPhasesOpenWithLeft}
@@ -22,8 +24,8 @@ use Rattle.run_acts.specs.Left.{AreLeft, HoldsLeft, replay_left}
 use Rattle.run_acts.specs.MountedDevices.{IsMounted}
 use Rattle.run_acts.specs.Opens.{FormsBench, found, made}
 use Rattle.run_acts.specs.Phases.{RunsPhase}
-use Rattle.run_acts.specs.Untainted.{AreUntainted, CrashesStayUntainted, IsUntainted, ListsStayUntainted, OpeningsStayUntainted, PhasesStayUntainted, RefusalsStayHonest, UntaintedFilesAreHonest}
-use Rattle.run_acts.proofs.ArmedFiles.{arms_keep}
+use Rattle.run_acts.specs.Untainted.{AreUntainted, ArmNoMask, CrashesStayUntainted, FlipsStayUntainted, RestoresStayUntainted, IsUntainted, ListsStayUntainted, OpeningsStayUntainted, PhasesStayUntainted, RefusalsStayHonest, UntaintedFilesAreHonest}
+use Rattle.run_acts.proofs.ArmedFiles.{unmasked_keep}
 use Rattle.run_acts.proofs.CrashedLaws.{card_of, crashes_keep}
 use Rattle.run_acts.proofs.Mounted.{mount_goes_on, mounts_open_with_left}
 use Rattle.run_acts.proofs.PhasesLeft.{phases_leave}
@@ -70,6 +72,26 @@ crashes_stay_untainted old new u may = record {
   past = λ file beyond. crashed_past (old.files file) (new.files file) (may.files file) (u.past file beyond);
 }
 
+altered_untainted : (file : ℕ) (altered : FileState) (old new : BenchState) → (IsUntainted (old.files file) → IsUntainted altered) → AltersFile file altered old new → AreUntainted old.files → AreUntainted new.files
+altered_untainted file altered old new stays a u = record { each = each; past = past }
+  where
+    each : (k : ℕ) → k < 273 → IsUntainted (new.files k)
+    each k below = elim (cases_eq k file) [
+      | inl same ↦ subst (λ (n : ℕ). IsUntainted (new.files n)) (sym same) (subst IsUntainted (sym a.here) (stays (u.each file a.within)))
+      | inr other ↦ subst IsUntainted (sym (a.others k other)) (u.each k below)
+    ]
+
+    past : (k : ℕ) → 273 ≤ k → new.files k ≡ no_file
+    past k beyond = a.others k (λ same. omega (arith, same, a.within, beyond)) ∙ u.past k beyond
+
+pub restores_stay_untainted : RestoresStayUntainted
+restores_stay_untainted file bytes old new is u = altered_untainted file (renamed_as (old.files file) bytes) old new (untainted_renamed (old.files file) bytes) is u
+
+pub flips_stay_untainted : FlipsStayUntainted
+flips_stay_untainted file at mask old new is u =
+    altered_untainted file (settled_as (old.files file) (after_mask (old.files file).reads at mask)) old new
+    (λ (f : IsUntainted (old.files file)). record { honest = f.honest; tells_arms = f.tells_arms; none = f.none }) is u
+
 same_untainted : (old new : ℕ → FileState) → ((file : ℕ) → new file ≡ old file) → AreUntainted old → AreUntainted new
 same_untainted old new same u = record {
   each = λ file within. subst IsUntainted (sym (same file)) (u.each file within);
@@ -106,7 +128,7 @@ untainted_readable of_file of_port keys old o m u file = elim (cases_lt file 273
 ]
 
 module _ {F R : Type 0} (of_file : F → FileState) (of_port : R → PortState) (Reliable : Type 0) (keys : Keys) (applications : List (List ℕ)) (arms : List Arm) (mode : Mode) (calls : List Step) (old new : BenchState)
-    (opening : ObjectMap) (events : List Event) (r : RunsPhase of_file of_port Reliable keys applications arms mode calls old new opening events) (u : AreUntainted old.files) where
+    (opening : ObjectMap) (events : List Event) (r : RunsPhase of_file of_port Reliable keys applications arms mode calls old new opening events) (unmasked : ArmNoMask arms) (u : AreUntainted old.files) where
   open r use {closed, disarms}
 
   abbrev opened : BenchState
@@ -118,7 +140,7 @@ module _ {F R : Type 0} (of_file : F → FileState) (of_port : R → PortState) 
   left_untainted : (file : ℕ) → file < 273 → IsUntainted (new.files file)
   left_untainted file within =
       let mounted = untainted_then (old.files file) (opened.files file) (((r.keeps).files file).keeps).goes_on (u.each file within) in
-      let ready = arms_keep IsUntainted untainted_stop untainted_failure arms opened armed ((r.serves).ready).arms_are file mounted in
+      let ready = unmasked_keep IsUntainted untainted_stop untainted_failure arms opened armed unmasked ((r.serves).ready).arms_are file mounted in
       let served = untainted_then (armed.files file) (closed.files file) (((((r.serves).closes).devices).files) file within) ready in
       subst IsUntainted (sym (disarms.files file)) (untainted_disarmed (closed.files file) served)
 
@@ -126,13 +148,13 @@ module _ {F R : Type 0} (of_file : F → FileState) (of_port : R → PortState) 
   phase_untainted = record { each = left_untainted; past = r.past }
 
 pub phases_stay_untainted : {F R : Type 0} (of_file : F → FileState) (of_port : R → PortState) (Reliable : Type 0) → PhasesStayUntainted of_file of_port Reliable
-phases_stay_untainted of_file of_port Reliable keys applications arms mode calls old new opening events r u =
-    phase_untainted of_file of_port Reliable keys applications arms mode calls old new opening events r u
+phases_stay_untainted of_file of_port Reliable keys applications arms mode calls old new opening events r unmasked u =
+    phase_untainted of_file of_port Reliable keys applications arms mode calls old new opening events r unmasked u
 
 pub next_openings_are_left : {F R : Type 0} (of_file : F → FileState) (of_port : R → PortState) (Reliable : Type 0) → NextOpeningsAreLeft of_file of_port Reliable
-next_openings_are_left of_file of_port Reliable keys applications arms mode calls old new opening events between o card r u may sound m has =
+next_openings_are_left of_file of_port Reliable keys applications arms mode calls old new opening events between o card r unmasked u may sound m has =
     let left = replay_left opening applications events in
-    let after = phase_untainted of_file of_port Reliable keys applications arms mode calls old new opening events r u in
+    let after = phase_untainted of_file of_port Reliable keys applications arms mode calls old new opening events r unmasked u in
     let honest = untainted_files_are_honest new.files after in
     let holds : HoldsLeft keys between left = crashes_keep keys left new between (phases_leave of_file of_port Reliable keys applications arms mode calls old new opening events r honest) may in
     let there : HasCard between.card (rpmb_key keys.huk) card =
@@ -140,6 +162,6 @@ next_openings_are_left of_file of_port Reliable keys applications arms mode call
     mounts_open_with_left of_file of_port keys left between o card holds sound m (untainted_readable of_file of_port keys between o m (crashes_stay_untainted new between after may)) there
 
 pub next_phases_open_with_left : {F R : Type 0} (of_file : F → FileState) (of_port : R → PortState) (Reliable : Type 0) → NextPhasesOpenWithLeft of_file of_port Reliable
-next_phases_open_with_left of_file of_port Reliable keys applications later arms more mode next calls others old new between last opening objects events after card r u may second has =
+next_phases_open_with_left of_file of_port Reliable keys applications later arms more mode next calls others old new between last opening objects events after card r unmasked u may second has =
     subst (AreLeft (replay_left opening applications events)) (sym second.objects)
-    (next_openings_are_left of_file of_port Reliable keys applications arms mode calls old new opening events between second.opened card r u may second.sound second.mounts has)
+    (next_openings_are_left of_file of_port Reliable keys applications arms mode calls old new opening events between second.opened card r unmasked u may second.sound second.mounts has)

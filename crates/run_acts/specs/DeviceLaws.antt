@@ -23,7 +23,7 @@ use Rattle.run_acts.specs.Opens.{FormsBench, ReadsBlock}
 use Rattle.run_acts.specs.Disarming.{Disarms}
 use Rattle.run_acts.specs.Phases.{RunsPhase}
 use Rattle.run_acts.specs.Between.{AreReadable, AreSound, AreSteady, MayCrash}
-use Rattle.run_acts.specs.Untainted.{AreUntainted}
+use Rattle.run_acts.specs.Untainted.{AreUntainted, ArmNoMask}
 use Rattle.run_acts.specs.Left.{AreLeft, HoldsLeft, replay_left}
 
 -- a crash of all files, whatever image each takes
@@ -88,13 +88,13 @@ module _ {F R : Type 0} (of_file : F → FileState) (of_port : R → PortState) 
       → IsMounted of_file of_port keys old o → AreReadable old.files (bench_files of_file o) → HasCard old.card (rpmb_key keys.huk) card
       → AreLeft s (objects_in of_file of_port keys o)
 
-  -- THE NEXT OPENING: a phase was run, the bench crashed or not, and it was mounted. Where no file was tainted as the phase began, the
-  -- objects are those that the phase's history leaves, or those with its commit in doubt.
+  -- THE NEXT OPENING: a phase was run that armed no mask, the bench crashed or not, and it was mounted. Where no file was tainted as the
+  -- phase began, the objects are those that the phase's history leaves, or those with its commit in doubt.
   abbrev pub NextOpeningsAreLeft : (Reliable : Type 0) → Type 0
   NextOpeningsAreLeft Reliable =
       (keys : Keys) (applications : List (List ℕ)) (arms : List Arm) (mode : Mode) (calls : List Step) (old new : BenchState) (opening : ObjectMap) (events : List Event)
       (between : BenchState) (o : OpeningValue F R) (card : CardState)
-      → RunsPhase of_file of_port Reliable keys applications arms mode calls old new opening events → AreUntainted old.files → MayCrash new between
+      → RunsPhase of_file of_port Reliable keys applications arms mode calls old new opening events → ArmNoMask arms → AreUntainted old.files → MayCrash new between
       → AreSound between.files → IsMounted of_file of_port keys between o → HasCard new.card (rpmb_key keys.huk) card
       → AreLeft (replay_left opening applications events) (objects_in of_file of_port keys o)
 
@@ -103,7 +103,7 @@ module _ {F R : Type 0} (of_file : F → FileState) (of_port : R → PortState) 
   NextPhasesOpenWithLeft Reliable =
       (keys : Keys) (applications later : List (List ℕ)) (arms more : List Arm) (mode next : Mode) (calls others : List Step) (old new between last : BenchState)
       (opening objects : ObjectMap) (events after : List Event) (card : CardState)
-      → RunsPhase of_file of_port Reliable keys applications arms mode calls old new opening events → AreUntainted old.files → MayCrash new between
+      → RunsPhase of_file of_port Reliable keys applications arms mode calls old new opening events → ArmNoMask arms → AreUntainted old.files → MayCrash new between
       → RunsPhase of_file of_port Reliable keys later more next others between last objects after → HasCard new.card (rpmb_key keys.huk) card
       → AreLeft (replay_left opening applications events) objects
 

@@ -4,6 +4,7 @@ pub mod PhaseServing
 pub mod Closing
 pub mod Phases
 pub mod PhaseRefusals
+pub mod Alterations
 pub mod Benches
 pub mod Crashes
 pub mod ListedBenches

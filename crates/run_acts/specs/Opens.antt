@@ -18,6 +18,7 @@ use Rattle.store_commit.specs.Leaving.{KeepsPort}
 use Rattle.store_commit.specs.Mounts.{CardRefused}
 use Rattle.store_commit.specs.Reads.{AsksBlock, IsBlockRead, OfHost}
 use Rattle.run_acts.specs.Benches.{BenchState, HadMemory, IsStarved, KeepsObjectFiles}
+use Rattle.run_acts.specs.Between.{AreSound}
 
 -- all bytes are zero
 abbrev pub is_blank : List ℕ → Bool
@@ -56,6 +57,8 @@ pub record FormsBench (keys : Keys) (old new : BenchState) : Type 0 where
   pub others : KeepsObjectFiles old new
   pub dir_passed : FilePassed (old.files 0) (new.files 0)
   pub card_passed : new.card.faults ≡ old.card.faults
+  -- what holds of every file
+  pub sound : AreSound new.files
 
 -- It could not be.
 pub record IsNotFormed (keys : Keys) (old new : BenchState) (drew draws : ℕ) (fault : MountFault) : Type 0 where

@@ -4,8 +4,8 @@ use Rattle.disk_model.specs.State.{FileState}
 use Rattle.rpmb_card.specs.Arms.{arm_loss}
 use Rattle.rpmb_card.specs.Port.{PortState, Rearmed}
 use Rattle.script_text.specs.declared.script.Arm.{Arm}
-use Rattle.script_text.specs.declared.script.Arm.TheVariants.{Fail, Lose, Stop}
-use Rattle.object_calls.specs.OpeningArms.{FailsOnBench, StopsOnBench}
+use Rattle.script_text.specs.declared.script.Arm.TheVariants.{Fail, Lose, Stop, Taint}
+use Rattle.object_calls.specs.OpeningArms.{FailsOnBench, StopsOnBench, TaintsOnBench}
 use Rattle.object_calls.specs.Opening.{OpeningValue}
 use Rattle.run_acts.specs.Benches.{BenchState, opening_state}
 
@@ -14,6 +14,7 @@ abbrev pub ArmsOneOf : Arm → (old new : BenchState) → Type 0
 ArmsOneOf (Stop device calls) old new = StopsOnBench device calls old.files new.files old.card new.card
 ArmsOneOf (Fail device call) old new = FailsOnBench device call old.files new.files old.card new.card
 ArmsOneOf (Lose call) old new = ((file : ℕ) → new.files file ≡ old.files file) × Rearmed old.card new.card (arm_loss old.card.arms call)
+ArmsOneOf (Taint file call at mask) old new = TaintsOnBench file (record { call = call; at = at; mask = mask }) old.files new.files old.card new.card
 
 -- what these arms do, one after another
 abbrev pub ArmsAll : List Arm → (old new : BenchState) → Type 0

@@ -27,7 +27,7 @@ module _ {F R : Type 0} (of_file : F → FileState) (of_port : R → PortState) 
     pub armed : OpeningValue F R
     pub ready : IsReady of_file of_port applications arms opened armed
     pub store : Store
-    pub is_store : IsStoreOf of_file of_port store armed
+    pub is_store : IsStoreOf of_file store armed
     pub keys_are : store.keys ≡ keys
     pub opens : store.objects ≡ objects_in of_file of_port keys opened
     pub closes : ClosesStore Reliable store (opening_state of_file of_port armed) mode calls closed events

@@ -14,20 +14,26 @@ use tee_types::NoMemory;
 // Arms one device.
 fn arm_device<F: FileRig + Drop, R: CardRig + Drop>(
     opening: &mut Opening<F, R>,
-    arm: Arm,
+    arm: &Arm,
 ) -> Result<(), NoMemory>
-    requires { IsArm arm }
-    ensures arms { OnOk result (ArmsOneOf arm (opening_state F.state R.state opening.old) (opening_state F.state R.state opening.new)) }
+    requires { IsArm arm.now }
+    ensures arms { OnOk result (ArmsOneOf arm.now (opening_state F.state R.state opening.old) (opening_state F.state R.state opening.new)) }
     ensures unarmed { OnErr result (ArmsAll [] (opening_state F.state R.state opening.old) (opening_state F.state R.state opening.new)) }
     ensures others { OnlyDevices opening.old opening.new }
 {
     match arm {
         Arm::Stop { device, calls } => {
-            opening.stop_after(device, u64::from(calls));
+            opening.stop_after(*device, u64::from(*calls));
             Ok(())
         }
-        Arm::Fail { device, call } => opening.fail_call(device, u64::from(call)),
-        Arm::Lose { call } => opening.lose_call(u64::from(call)),
+        Arm::Fail { device, call } => opening.fail_call(*device, u64::from(*call)),
+        Arm::Lose { call } => opening.lose_call(u64::from(*call)),
+        Arm::Taint {
+            file,
+            call,
+            at,
+            mask,
+        } => opening.taint_call(*file, u64::from(*call), u64::from(*at), mask.as_slice()),
     }
 }
 
@@ -46,7 +52,7 @@ pub(crate) fn arm_devices<F: FileRig + Drop, R: CardRig + Drop>(
     ensures others { OnlyDevices opening.old opening.new }
 {
     for arm in arms {
-        arm_device(opening, *arm)?;
+        arm_device(opening, arm)?;
     }
     Ok(())
 }

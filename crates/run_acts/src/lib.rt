@@ -1,4 +1,5 @@
-//! What a run does to its devices, act by act: a store is formatted or found, phases are served, files crash, and objects are listed.
+//! What a run does to its devices, act by act: a store is formatted or found, phases are served, files crash or are
+//! altered, and objects are listed.
 //!
 //! A phase mounts the devices, opens a session for each application, arms the devices, serves the calls as its mode says, closes the store
 //! and disarms. In a serial phase the calls are made one after another (`make_calls`); in a phase on threads each application's on a thread
@@ -9,6 +10,7 @@
 //! printed here too (`print_object`, `print_refusal`).
 #![tactic(auto)]
 
+mod alterations;
 mod arming;
 mod crash;
 pub mod device_laws;
@@ -31,6 +33,7 @@ mod shared_slots;
 mod threads_phase;
 pub mod untainted_laws;
 
+pub use alterations::{file_number, flip_file, restore_file, save_files};
 pub use crash::crash_files;
 pub use first_opening::open_bench;
 pub use line_laws::shown_lines_are_of_objects;

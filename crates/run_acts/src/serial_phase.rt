@@ -60,7 +60,7 @@ fn serve_calls<F: StoreFile + Drop, R: RpmbPort + Drop, E: Entropy + Drop, L: St
     _keys: &Keys,
     calls: &[Step],
 ) -> Result<Closed<F, R>, Bench<F, R>>
-    requires store { IsStoreOf F.state R.state L.store opening }
+    requires store { IsStoreOf F.state L.store opening }
     requires sessions { AreUnseated opening.applications sessions.items }
     requires calls { AreCalls (length opening.applications) calls.now }
     requires fresh { AreFresh E.faults sessions.items }
@@ -99,9 +99,9 @@ pub(crate) fn serve_once<
     requires sessions { AreUnseated opening.applications sessions.items }
     requires calls { AreCalls (length opening.applications) calls.now }
     requires fresh { AreFresh E.faults sessions.items }
-    ensures closed { IfOk result (λ c. ClosesStore (AreReliable E.is_reliable sessions.items) (store_in keys.now F.state R.state opening) (opening_state F.state R.state opening) mode calls.now
+    ensures closed { IfOk result (λ c. ClosesStore (AreReliable E.is_reliable sessions.items) (store_in keys.now F.state opening) (opening_state F.state R.state opening) mode calls.now
         (bench_state F.state R.state c.bench) c.history.events) }
-    ensures early { IfErr result (λ b. ClosesEarly (store_in keys.now F.state R.state opening) (opening_state F.state R.state opening) mode calls.now (bench_state F.state R.state b)) }
+    ensures early { IfErr result (λ b. ClosesEarly (store_in keys.now F.state opening) (opening_state F.state R.state opening) mode calls.now (bench_state F.state R.state b)) }
     ensures whole { MatchResult result (λ c. vec_len c.bench.files ≡ 273) (λ b. vec_len b.files ≡ 273) }
 {
     match mode {

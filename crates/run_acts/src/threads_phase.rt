@@ -122,7 +122,7 @@ pub fn serve_shared<
     _keys: &Keys,
     calls: &[Step],
 ) -> Result<Closed<F, R>, Bench<F, R>>
-    requires store { IsStoreOf F.state R.state L.store opening }
+    requires store { IsStoreOf F.state L.store opening }
     requires devices { L.devices ≡ opening_devices F.state R.state opening }
     requires sessions { AreUnseated opening.applications sessions.items }
     requires calls { AreCalls (length opening.applications) calls.now }
@@ -163,9 +163,9 @@ pub fn serve_shared_once<
     requires sessions { AreUnseated opening.applications sessions.items }
     requires calls { AreCalls (length opening.applications) calls.now }
     requires fresh { AreFresh E.faults sessions.items }
-    ensures closed { IfOk result (λ c. ClosesShared (AreReliable E.is_reliable sessions.items) (store_in keys.now F.state R.state opening) (opening_devices F.state R.state opening) calls.now
+    ensures closed { IfOk result (λ c. ClosesShared (AreReliable E.is_reliable sessions.items) (store_in keys.now F.state opening) (opening_devices F.state R.state opening) calls.now
         (files_of F.state c.bench.files.items) (R.state c.bench.card) c.history.events) }
-    ensures early { IfErr result (λ b. ClosesEarly (store_in keys.now F.state R.state opening) (opening_state F.state R.state opening) Threads calls.now (bench_state F.state R.state b)) }
+    ensures early { IfErr result (λ b. ClosesEarly (store_in keys.now F.state opening) (opening_state F.state R.state opening) Threads calls.now (bench_state F.state R.state b)) }
     ensures whole { MatchResult result (λ c. vec_len c.bench.files ≡ 273) (λ b. vec_len b.files ≡ 273) }
 {
     serve_shared::<W, F, R, E, Brand>(rt, alloc, opening, sessions, keys, calls)

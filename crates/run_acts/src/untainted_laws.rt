@@ -3,7 +3,7 @@
 ghost use Rattle.std.specs.Prelude.{◌≡◌, ◌≤◌, ℕ, vec_len};
 ghost use Rattle.object_calls.specs.OpeningFiles.{no_file};
 ghost use Rattle.run_acts.specs.Benches.{bench_state};
-ghost use Rattle.run_acts.specs.Untainted.{CrashesStayUntainted, ListsStayUntainted, OpeningsStayUntainted, PhasesStayUntainted, RefusalsStayHonest, UntaintedFilesAreHonest};
+ghost use Rattle.run_acts.specs.Untainted.{CrashesStayUntainted, FlipsStayUntainted, ListsStayUntainted, OpeningsStayUntainted, PhasesStayUntainted, RefusalsStayHonest, RestoresStayUntainted, UntaintedFilesAreHonest};
 
 use object_calls::Bench;
 use rpmb_card::RpmbPort;
@@ -27,7 +27,19 @@ pub fn crashes_stay_untainted()
     ensures { CrashesStayUntainted }
 {}
 
-/// In a phase, whatever it arms.
+/// Where one of them is put back.
+#[tactic(auto, using(crate::proofs::Untainted::restores_stay_untainted))]
+pub fn restores_stay_untainted()
+    ensures { RestoresStayUntainted }
+{}
+
+/// Where a mask is laid over one of them between two phases.
+#[tactic(auto, using(crate::proofs::Untainted::flips_stay_untainted))]
+pub fn flips_stay_untainted()
+    ensures { FlipsStayUntainted }
+{}
+
+/// In a phase that arms no mask.
 pub fn phases_stay_untainted<F: StoreFile, R: RpmbPort, E: Entropy>(entropy: &E)
     ensures { PhasesStayUntainted F.state R.state (E.is_reliable entropy.now) }
 {}

@@ -28,7 +28,7 @@ use Rattle.freshness_laws.proofs.Pictures.{map_same, mounts_by, pictures_hold, t
 use Rattle.freshness_laws.proofs.Stores.{directories_or, stores_or}
 use Rattle.run_freshness.specs.Seen.{HasSameEntries, IsFreshMount, MountClash, MountSees, MountedDirectoryClash, picture_read}
 use Rattle.run_freshness.specs.Laws.{KeepsCard, MountsAreFresh, MountsHaveSameEntries}
-use Rattle.run_freshness.proofs.Sealed.{sealed_reads, sealed_tree}
+use Rattle.run_freshness.proofs.Sealed.{sealed_reads, sealed_seen, sealed_tree}
 
 -- whether what a file reads as can be followed, and is told, is known by its flags
 by_flags : (old new : FileState) → Told old new ⊎ (Told old new → ⊥)
@@ -84,12 +84,12 @@ module _ {F R : Type 0} (of_file : F → FileState) (of_port : R → PortState) 
       seen = record {
         root = o.gate.dir.dir.root;
         named = named;
-        dir = sealed_tree (directory_key keys) o.gate.dir.dir.root o.gate.dir.dir.tree (mounts.gate).verified (Ok (entries_in o)) (mounts.gate).pages;
+        dir = sealed_tree (directory_key keys) o.gate.dir.dir.root o.gate.dir.dir.tree (mounts.gate).verified (Ok (entries_in o)) ((mounts.gate).seen).entries.pages;
         entries = entries_in o;
-        reads = sealed_reads (directory_key keys) o.gate.dir.dir.root o.gate.dir.dir.tree (mounts.gate).verified (entries_in o) (mounts.gate).pages;
+        reads = sealed_reads (directory_key keys) o.gate.dir.dir.root o.gate.dir.dir.tree (mounts.gate).verified (entries_in o) ((mounts.gate).seen).entries.pages;
         trees = trees_in keys reads bytes;
       };
-      directory = inr (untold, refl);
+      directory = inr (untold, refl, sealed_seen (directory_key keys) o.gate.dir.dir.root o.gate.dir.dir.tree (mounts.gate).verified (entries_in o) (old.files 0) (bench_files of_file o 0) (mounts.gate).seen);
       entries = refl;
       trees = trees_are keys reads bytes;
       objects_are = map_same keys reads bytes (entries_in o);

@@ -2,6 +2,7 @@
 use Rattle.std.proofs.Common.{◌≡◌, ◌⊎◌, inl, inr, ℕ, zero, suc, ◌+◌, ◌<◌, ◌≤◌, List, [], ◌∷◌, length, get_or, map, Option, Some, None, Result, Ok, refl, sym, ap, ◌∙◌, arith}
 use Rattle.std.proofs.lemmas.Bool.{cases_lt}
 use Rattle.std.proofs.lemmas.List.{ext_get_or}
+use Rattle.disk_model.specs.State.{FileState}
 use Rattle.aes_block.specs.WrappedKey.{unwrapped_of}
 use Rattle.node_image.specs.declared.node.RootRef.{RootRef}
 use Rattle.node_image.specs.Layout.{greatest_of}
@@ -13,11 +14,13 @@ use Rattle.htree_file.proofs.Sizes.{sized_greatest}
 use Rattle.dir_records.specs.declared.entry.DirEntry.{DirEntry}
 use Rattle.crash_core.specs.declared.fault.DirFault.{DirFault}
 use Rattle.crash_core.specs.Directory.{directory_from}
-use Rattle.dir_file.specs.Loading.{IsReadDirectory}
+use Rattle.dir_file.specs.Loading.{IsReadDirectory, SeesDirectory}
 use Rattle.dir_file.specs.Pages.{some_pages}
+use Rattle.dir_file.specs.Seen.{SeesBlock}
 use Rattle.core_laws.specs.Decodings.{opened_decoded, page_decoded, pages_decoded}
 use Rattle.freshness_laws.specs.Readings.{ReadTree, decoding_read}
 use Rattle.freshness_laws.proofs.Objects.{whole_of}
+use Rattle.run_freshness.specs.Seen.{SeesRead}
 
 pub some_at : (items : List (List ℕ)) (k : ℕ) → k < length items → get_or (some_pages items) k None ≡ Some (get_or items k [])
 some_at [] k lt = absurd (omega (arith, lt))
@@ -57,8 +60,25 @@ module _ (wrap : List ℕ) (root : RootRef) (tree : Loaded) (verified : IsVerifi
       ap (λ (l : List (Option (List ℕ))). let r : Result (List (Option DirEntry)) DirFault = directory_from (Ok (record { bytes = tree.head.length; pages = l })) in r) (pages_are many) ∙ read.reads
 
 -- a directory that is read has eight blocks
+eight_nodes : (wrap : List ℕ) (root : RootRef) (tree : Loaded) → IsVerified root tree → (entries : List (Option DirEntry)) → IsReadDirectory wrap tree (Ok entries) → length tree.nodes ≡ 8
+eight_nodes wrap root tree verified entries read =
+    verified.hashed.all ∙ sized_greatest tree.head verified.hashed.sized ∙ ap greatest_of (whole_of (record { bytes = tree.head.length; pages = some_pages read.items }) entries read.reads).long
+
 pub sealed_reads : (wrap : List ℕ) (root : RootRef) (tree : Loaded) (verified : IsVerified root tree) (entries : List (Option DirEntry)) (read : IsReadDirectory wrap tree (Ok entries))
     → directory_from (Ok (opened_decoded (decoding_read wrap (sealed_tree wrap root tree verified (Ok entries) read)))) ≡ Ok entries
-sealed_reads wrap root tree verified entries read =
-    sealed_answer wrap root tree verified (Ok entries) read
-    (verified.hashed.all ∙ sized_greatest tree.head verified.hashed.sized ∙ ap greatest_of (whole_of (record { bytes = tree.head.length; pages = some_pages read.items }) entries read.reads).long)
+sealed_reads wrap root tree verified entries read = sealed_answer wrap root tree verified (Ok entries) read (eight_nodes wrap root tree verified entries read)
+
+-- it is what was seen of it
+pub sealed_seen : (wrap : List ℕ) (root : RootRef) (tree : Loaded) (verified : IsVerified root tree) (entries : List (Option DirEntry)) (old new : FileState)
+    (seen : SeesDirectory old new wrap root tree (Ok entries)) → SeesRead old new (sealed_tree wrap root tree verified (Ok entries) (seen.entries).pages)
+sealed_seen wrap root tree verified entries old new seen = record {
+  table = seen.table;
+  blocks = λ k lt.
+      let read : IsReadDirectory wrap tree (Ok entries) = (seen.entries).pages in
+      seen_by k (cases_lt k (length ((seen.entries).pages).items)) (omega (arith, lt, read.long, eight_nodes wrap root tree verified entries read));
+}
+  where
+    seen_by : (k : ℕ) (c : (k < length ((seen.entries).pages).items) ⊎ (length ((seen.entries).pages).items ≤ k)) → k < length ((seen.entries).pages).items
+        → SeesBlock old new tree k (text_by wrap root tree verified (Ok entries) (seen.entries).pages k c)
+    seen_by k (inl lt) low = (seen.entries).blocks k lt
+    seen_by k (inr past) low = absurd (omega (arith, past, low))

@@ -1,6 +1,7 @@
 -- What a mount of a bench read, beside a bench that was closed before it.
-use Rattle.std.specs.Prelude.{◌≡◌, ◌⊎◌, ℕ, List, Option, Ok}
+use Rattle.std.specs.Prelude.{◌≡◌, ◌⊎◌, ◌<◌, ℕ, List, length, Option, Ok}
 use Rattle.disk_model.specs.State.{FileState}
+use Rattle.node_image.specs.declared.node.RootRef.{RootRef}
 use Rattle.hmac_keys.specs.declared.Keys.{Keys}
 use Rattle.rpmb_card.specs.Card.{CardState}
 use Rattle.rpmb_card.specs.Port.{PortState}
@@ -11,10 +12,12 @@ use Rattle.crash_core.specs.MountedObject.{root_of}
 use Rattle.crash_core.specs.Mounting.{mounted, mounted_directory}
 use Rattle.crash_core.specs.Opening.{reads_of}
 use Rattle.crash_core.specs.Pictures.{Picture, block_zero}
+use Rattle.dir_file.specs.Seen.{SeesBlock, SeesTree}
 use Rattle.object_calls.specs.Opening.{OpeningValue, bench_files, entries_in}
 use Rattle.run_acts.specs.Benches.{BenchState}
 use Rattle.run_acts.specs.MountedDevices.{objects_in}
 use Rattle.freshness_laws.specs.Agreement.{MapsAgree}
+use Rattle.freshness_laws.specs.Readings.{ReadTree}
 use Rattle.freshness_laws.specs.SeenStores.{DirectoryClash, SeenStore, StoreClash, map_seen}
 use Rattle.freshness_laws.specs.Pictures.{IsReadIn, IsReadOrNone, IsSeenIn}
 
@@ -27,12 +30,17 @@ pub record ClosedStore (keys : Keys) (closed : BenchState) (card : CardState) : 
   pub seen : SeenStore keys (block_zero card)
   pub held : IsSeenIn (reads_of closed.files) seen
 
+-- the tree, and the ciphertext of each of its blocks, were seen in the file, each at a moment since which no call wrote there
+pub record SeesRead {root : RootRef} (old new : FileState) (read : ReadTree root) : Type 0 where
+  pub table : SeesTree old new root read.tree
+  pub blocks : (k : ℕ) → k < length (read.tree).nodes → SeesBlock old new read.tree k (read.block k)
+
 module _ {F R : Type 0} (of_file : F → FileState) (of_port : R → PortState) where
-  -- The directory is what its file reads as; or, where that cannot be followed, its tree is the one that the gate has.
+  -- The directory is what its file reads as; or, where that cannot be followed, what it was seen to read: its tree is the gate's.
   abbrev pub IsDirectoryOf : {keys : Keys} {block : List ℕ} → (dir : FileState) → OpeningValue F R → SeenStore keys block → Type 0
   IsDirectoryOf dir o seen =
       IsReadIn (bench_files of_file o 0).reads seen.root seen.dir
-      ⊎ ((Told dir (bench_files of_file o 0) → ⊥) × ((seen.dir).tree ≡ o.gate.dir.dir.tree))
+      ⊎ ((Told dir (bench_files of_file o 0) → ⊥) × ((seen.dir).tree ≡ o.gate.dir.dir.tree) × SeesRead dir (bench_files of_file o 0) seen.dir)
 
   -- What a mount read: its directory, and of each file what it then reads as. `dir` is the directory's file before the mount.
   pub record MountSees (keys : Keys) (block : List ℕ) (dir : FileState) (o : OpeningValue F R) : Type 0 where

@@ -4,4 +4,7 @@
 
 mod laws;
 
-pub use laws::{courses_are_fresh, lists_are_fresh, mounts_are_fresh, mounts_have_same_entries};
+pub use laws::{
+    courses_are_fresh, lists_are_fresh, mounts_are_fresh, mounts_have_same_entries,
+    phases_begin_beside, runs_are_fresh,
+};

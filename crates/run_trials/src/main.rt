@@ -25,13 +25,18 @@
 //!
 //! The line behind it is of soaks: each is run twice, and its calls are made on the machine of the model, which must leave the same objects.
 //!
-//! The last table is of power cuts behind phases on threads. Four sessions make, write, rename and delete objects, while the directory's file or
+//! The table behind it is of power cuts behind phases on threads. Four sessions make, write, rename and delete objects, while the directory's file or
 //! the card stops or fails at one of its first calls. Then the power fails, and a list must show the objects that the calls of the history leave,
 //! run once more as a serial script over new devices, but for those that a device kept from being done; or these with the one call that the
 //! card did not confirm. A list that shows neither has lost an object, or invented one.
+//!
+//! The last table is of files that are altered: the directory's, those of two objects, and the one that a create takes. They are put back as they
+//! were at each of five moments, and a byte of each field of their heads, nodes and blocks is changed, before a phase or before one of the first twenty
+//! calls in it. Each answer behind that is the one of the file that was not altered, or tells of damage.
 #![tactic(auto)]
 
 use acts::ACTS;
+use altered::altered_lines;
 use draws::draw_lines;
 use meetings::meeting_line;
 use mishaps::{Device, Mishap};
@@ -47,6 +52,7 @@ use table::{head_line, row_line};
 use texts::Texts;
 
 mod acts;
+mod altered;
 mod busy;
 mod devices;
 mod draws;
@@ -127,5 +133,6 @@ fn main(rt: HostRuntime) -> anyhow::Result<()> {
     print_line(&rt, replay_line(&rt, rt.alloc())?.as_str())?;
     print_line(&rt, meeting_line(&rt, rt.alloc())?.as_str())?;
     print_line(&rt, soak_line(&rt, rt.alloc())?.as_str())?;
-    print_line(&rt, cut_lines(&rt, rt.alloc())?.trim_end())
+    print_line(&rt, cut_lines(&rt, rt.alloc())?.trim_end())?;
+    print_line(&rt, altered_lines(&rt, rt.alloc())?.as_str())
 }

@@ -1,5 +1,6 @@
 // The lines of the tables.
 
+use crate::altered::{Alteration, Answers};
 use crate::mishaps::{Device, Mishap};
 use crate::power_cuts::Cuts;
 use crate::tally::Tally;
@@ -13,6 +14,9 @@ const DEVICE: usize = 8;
 const MISHAP: usize = 14;
 
 const NUMBERS: [usize; 6] = [6, 7, 8, 7, 6, 9];
+
+/// How wide those of the alterations are.
+const ANSWERS: [usize; 5] = [6, 7, 9, 9, 9];
 
 // Pushes so many spaces.
 fn push_spaces(line: &mut String, count: usize) -> Result<(), AllocError> {
@@ -43,17 +47,22 @@ fn words_line(alloc: Global, act: &str, device: &str, mishap: &str) -> Result<St
     Ok(line)
 }
 
-// Pushes words, or numbers, each at the right of its column.
-fn push_columns(line: &mut String, columns: &[&str]) -> Result<(), AllocError> {
-    for (column, width) in columns.iter().zip(NUMBERS.iter()) {
+// Pushes words, each at the right of its column.
+fn push_columns(line: &mut String, columns: &[&str], widths: &[usize]) -> Result<(), AllocError> {
+    for (column, width) in columns.iter().zip(widths.iter()) {
         push_number(line, column, *width)?;
     }
     Ok(())
 }
 
 // Pushes counts.
-fn push_counts(alloc: Global, line: &mut String, counts: &[u64]) -> Result<(), AllocError> {
-    for (count, width) in counts.iter().zip(NUMBERS.iter()) {
+fn push_counts(
+    alloc: Global,
+    line: &mut String,
+    counts: &[u64],
+    widths: &[usize],
+) -> Result<(), AllocError> {
+    for (count, width) in counts.iter().zip(widths.iter()) {
         push_number(line, format!(in alloc; "{count}")?.as_str(), *width)?;
     }
     Ok(())
@@ -62,7 +71,11 @@ fn push_counts(alloc: Global, line: &mut String, counts: &[u64]) -> Result<(), A
 /// The head of the table.
 pub fn head_line(alloc: Global) -> Result<String, AllocError> {
     let mut line = words_line(alloc, "act", "device", "mishap")?;
-    push_columns(&mut line, &["calls", "tries", "before", "after", "lost"])?;
+    push_columns(
+        &mut line,
+        &["calls", "tries", "before", "after", "lost"],
+        &NUMBERS,
+    )?;
     Ok(line)
 }
 
@@ -75,7 +88,7 @@ pub fn row_line(
     tally: &Tally,
 ) -> Result<String, AllocError> {
     let mut line = words_line(alloc, act, device.name(), mishap.name())?;
-    push_counts(alloc, &mut line, &tally.counts())?;
+    push_counts(alloc, &mut line, &tally.counts(), &NUMBERS)?;
     Ok(line)
 }
 
@@ -85,6 +98,7 @@ pub fn cut_head_line(alloc: Global) -> Result<String, AllocError> {
     push_columns(
         &mut line,
         &["calls", "cuts", "told", "landed", "lost", "invented"],
+        &NUMBERS,
     )?;
     Ok(line)
 }
@@ -106,6 +120,36 @@ pub fn cut_line(
         cuts.lost,
         cuts.invented,
     ];
-    push_counts(alloc, &mut line, &counts)?;
+    push_counts(alloc, &mut line, &counts, &NUMBERS)?;
+    Ok(line)
+}
+
+/// The head of the table of alterations.
+pub fn altered_head_line(alloc: Global) -> Result<String, AllocError> {
+    let mut line = words_line(alloc, "altered files", "file", "")?;
+    push_columns(
+        &mut line,
+        &["tries", "same", "damaged", "refused", "altered"],
+        &ANSWERS,
+    )?;
+    Ok(line)
+}
+
+/// A line of the table of alterations.
+pub fn altered_line(
+    alloc: Global,
+    file: &str,
+    alteration: Alteration,
+    answers: &Answers,
+) -> Result<String, AllocError> {
+    let mut line = words_line(alloc, "four files", file, alteration.name())?;
+    let counts = [
+        answers.tries,
+        answers.same,
+        answers.damaged,
+        answers.refused,
+        answers.altered,
+    ];
+    push_counts(alloc, &mut line, &counts, &ANSWERS)?;
     Ok(line)
 }

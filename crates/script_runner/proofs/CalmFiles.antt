@@ -1,25 +1,28 @@
 -- A file that is calm counts a fault only for want of memory, as long as it is not armed.
-use Rattle.std.proofs.Common.{◌≡◌, ◌⊎◌, ◌∙◌, ◌<◌, ◌≤◌, ◌++◌, ℕ, List, [], ◌∷◌, IsTrue, Some, inl, inr, refl, sym, ap, subst, arith}
-use Rattle.std.proofs.lemmas.Bool.{cases_lt}
+use Rattle.std.proofs.Common.{◌≡◌, ◌≢◌, ◌⊎◌, ◌∙◌, ◌<◌, ◌≤◌, ◌++◌, ℕ, List, [], ◌∷◌, IsTrue, None, Option, Some, inl, inr, refl, sym, ap, subst, arith}
+use Rattle.std.proofs.lemmas.Bool.{cases_eq, cases_lt}
+use Rattle.disk_model.specs.Arms.{Taint as FileTaint}
 use Rattle.disk_model.proofs.Goings.{goes_on_none, goes_on_then}
+use Rattle.disk_model.specs.Bytes.{after_mask}
 use Rattle.disk_model.specs.Calls.{GoesOn}
-use Rattle.disk_model.specs.Controls.{disarmed, renamed_as}
+use Rattle.disk_model.specs.Controls.{disarmed, renamed_as, settled_as, taint_armed}
 use Rattle.disk_model.specs.Faults.{Rose}
 use Rattle.disk_model.specs.State.{FileState}
 use Rattle.hmac_keys.specs.declared.Keys.{Keys}
 use Rattle.rpmb_card.specs.Port.{PortState}
 use Rattle.tee_types.specs.declared.reply.Device.TheVariants.{Card, Dir, Entropy, File}
-use Rattle.crash_core.proofs.Lists.{put_else}
+use Rattle.crash_core.proofs.Lists.{put_else, put_here}
 use Rattle.crash_core.specs.CoreState.{put}
 use Rattle.core_laws.specs.Stores.{Store}
 use Rattle.script_text.specs.declared.script.Arm.{Arm}
-use Rattle.script_text.specs.declared.script.Arm.TheVariants.{Fail, Lose, Stop}
+use Rattle.script_text.specs.declared.script.Arm.TheVariants.{Fail, Lose, Stop, Taint}
 use Rattle.script_text.specs.declared.script.Mode.{Mode}
 use Rattle.script_text.specs.declared.script.Step.{Step}
 use Rattle.store_commit.specs.declared.fault.MountFault.{MountFault}
 use Rattle.store_model.specs.declared.event.Event.{Event}
 use Rattle.store_model.specs.Object.{ObjectMap}
 use Rattle.object_calls.specs.Opening.{OpeningValue}
+use Rattle.run_acts.specs.Alterations.{AltersFile, FlipsFile}
 use Rattle.run_acts.specs.Benches.{BenchState, opening_state}
 use Rattle.run_acts.specs.Closing.{ClosesEarly, served, unserved}
 use Rattle.run_acts.specs.Crashes.{Crashes, CrashesBelow, CrashesInPart}
@@ -31,6 +34,7 @@ use Rattle.run_acts.specs.Phases.{RunsPhase}
 use Rattle.run_acts.proofs.Mounted.{mount_goes_on}
 use Rattle.run_acts.proofs.MountedBenches.{each_file, refused_keeps}
 use Rattle.script_runner.specs.CountLaws.{ArmsCard, ArmsFile}
+use Rattle.script_runner.specs.SavedFiles.{PutsBack}
 use Rattle.script_runner.proofs.CalmPorts.{CalmStep, calm_disarmed, calm_mounted, calm_refused, calm_same, calm_then, or_true}
 
 -- none of these arms is so
@@ -46,21 +50,6 @@ pub none_of-then : (Arms : Arm → Type 0) (arms : List Arm) (arm : Arm) → Non
 none_of-then Arms [] arm none last = (last, tt)
 none_of-then Arms (first ∷ arms) arm none last = (none.0, none_of-then Arms arms arm none.1 last)
 
--- what is not armed is as it was
-not_put : (old new : ℕ → FileState) (n : ℕ) (s : FileState) (file : ℕ) → ((k : ℕ) → new k ≡ put old n s k) → (Some n ≡ Some file → ⊥) → new file ≡ old file
-not_put old new n s file is other = is file ∙ put_else old n s file (λ same. other (ap Some (sym same)))
-
-file_of_arm : (arm : Arm) (old new : BenchState) (file : ℕ) → ArmsOneOf arm old new → (ArmsFile file arm → ⊥) → new.files file ≡ old.files file
-file_of_arm (Stop Dir calls) old new file s other = not_put old.files new.files 0 _ file s.files other
-file_of_arm (Stop (File n) calls) old new file s other = not_put old.files new.files n _ file s.files other
-file_of_arm (Stop Card calls) old new file s other = s.0 file
-file_of_arm (Stop Entropy calls) old new file s other = s.files file
-file_of_arm (Fail Dir call) old new file s other = not_put old.files new.files 0 _ file s.files other
-file_of_arm (Fail (File n) call) old new file s other = not_put old.files new.files n _ file s.files other
-file_of_arm (Fail Card call) old new file s other = s.0 file
-file_of_arm (Fail Entropy call) old new file s other = s.files file
-file_of_arm (Lose call) old new file s other = s.0 file
-
 card_of_arm : (arm : Arm) (old new : BenchState) → ArmsOneOf arm old new → (ArmsCard arm → ⊥) → new.card ≡ old.card
 card_of_arm (Stop Dir calls) old new s other = s.port
 card_of_arm (Stop (File n) calls) old new s other = s.port
@@ -71,10 +60,10 @@ card_of_arm (Fail (File n) call) old new s other = s.port
 card_of_arm (Fail Card call) old new s other = absurd (other refl)
 card_of_arm (Fail Entropy call) old new s other = s.port
 card_of_arm (Lose call) old new s other = absurd (other refl)
-
-file_of_arms : (arms : List Arm) (old new : BenchState) (file : ℕ) → ArmsAll arms old new → NoneOf (ArmsFile file) arms → new.files file ≡ old.files file
-file_of_arms [] old new file s none = s.0 file
-file_of_arms (arm ∷ arms) old new file (between, its, others) none = file_of_arms arms between new file others none.1 ∙ file_of_arm arm old between file its none.0
+card_of_arm (Taint Dir call at mask) old new s other = s.port
+card_of_arm (Taint (File n) call at mask) old new s other = s.port
+card_of_arm (Taint Card call at mask) old new s other = s.port
+card_of_arm (Taint Entropy call at mask) old new s other = s.port
 
 card_of_arms : (arms : List Arm) (old new : BenchState) → ArmsAll arms old new → NoneOf ArmsCard arms → new.card ≡ old.card
 card_of_arms [] old new s none = s.1
@@ -142,6 +131,32 @@ stands_disarmed a s stands = record { calm = or_true s.tells_arms s.calm stands.
 stands_renamed : (a s : FileState) (image : List ℕ) → StandsCalm a s → StandsCalm a (renamed_as s image)
 stands_renamed a s image stands = record { calm = stands.calm; starved = stands.starved; quiet = stands.quiet }
 
+-- A FILE THAT WAS ALTERED
+stands_changed : (n : ℕ) (altered : FileState) (old new : ℕ → FileState) → new n ≡ altered → ((k : ℕ) → k ≢ n → new k ≡ old k) → (a : FileState) → (StandsCalm a (old n) → StandsCalm a altered)
+    → (file : ℕ) → StandsCalm a (old file) → StandsCalm a (new file)
+stands_changed n altered old new here others a stays file stands = elim (cases_eq file n) [
+  | inl same ↦ subst (λ (k : ℕ). StandsCalm a (new k)) (sym same) (subst (StandsCalm a) (sym here) (stays (subst (λ (k : ℕ). StandsCalm a (old k)) same stands)))
+  | inr other ↦ subst (StandsCalm a) (sym (others file other)) stands
+]
+
+stands_altered : (n : ℕ) (altered : FileState) (old new : BenchState) → AltersFile n altered old new → (a : FileState) → (StandsCalm a (old.files n) → StandsCalm a altered)
+    → (file : ℕ) → StandsCalm a (old.files file) → StandsCalm a (new.files file)
+stands_altered n altered old new alters = stands_changed n altered old.files new.files alters.here alters.others
+
+pub stands_put_back : (n : ℕ) (kept : Option (List ℕ)) (old new : BenchState) → PutsBack n kept old new → (a : FileState) (file : ℕ) → StandsCalm a (old.files file) → StandsCalm a (new.files file)
+stands_put_back n None old new same a file stands = subst (λ (b : BenchState). StandsCalm a (b.files file)) (sym same) stands
+stands_put_back n (Some bytes) old new alters a file stands =
+    stands_altered n (renamed_as (old.files n) bytes) old new alters a (stands_renamed a (old.files n) bytes) file stands
+
+pub card_put_back : (n : ℕ) (kept : Option (List ℕ)) (old new : BenchState) → PutsBack n kept old new → new.card ≡ old.card
+card_put_back n None old new same = ap (λ (b : BenchState). b.card) same
+card_put_back n (Some bytes) old new alters = alters.card
+
+pub stands_flipped : (n at : ℕ) (mask : List ℕ) (old new : BenchState) → FlipsFile n at mask old new → (a : FileState) (file : ℕ) → StandsCalm a (old.files file) → StandsCalm a (new.files file)
+stands_flipped n at mask old new alters a file stands =
+    stands_altered n (settled_as (old.files n) (after_mask (old.files n).reads at mask)) old new alters a
+    (λ (s : StandsCalm a (old.files n)). record { calm = s.calm; starved = s.starved; quiet = s.quiet }) file stands
+
 stands_crashed : (image : FileState → ℕ → ℕ → List ℕ) (seed count : ℕ) (old new : ℕ → FileState) → CrashesBelow image seed count old new → (a : FileState) (file : ℕ) → StandsCalm a (old file) → StandsCalm a (new file)
 stands_crashed image seed count old new c a file stands = elim (cases_lt file count) [
   | inl below ↦ subst (StandsCalm a) (sym (c.each file below)) (stands_renamed a (old file) (image (old file) seed file) stands)
@@ -153,6 +168,39 @@ stands_crash image seed old new c = stands_crashed image seed 273 old.files new.
 
 pub stands_part : (image : FileState → ℕ → ℕ → List ℕ) (seed : ℕ) (old new : BenchState) → CrashesInPart image seed old new → (a : FileState) (file : ℕ) → StandsCalm a (old.files file) → StandsCalm a (new.files file)
 stands_part image seed old new c = stands_crashed image seed c.count old.files new.files c.files
+
+-- A FILE AS ARMS LEAVE IT
+-- another file was armed
+stands_beside : (old new : ℕ → FileState) (n : ℕ) (armed : FileState) → ((k : ℕ) → new k ≡ put old n armed k) → (a : FileState) (file : ℕ) → (Some n ≡ Some file → ⊥) → StandsCalm a (old file) → StandsCalm a (new file)
+stands_beside old new n armed is a file other = subst (StandsCalm a) (sym (is file ∙ put_else old n armed file (λ same. other (ap Some (sym same)))))
+
+-- a mask is armed
+stands_tainted : (old new : ℕ → FileState) (n : ℕ) (taint : FileTaint) → ((k : ℕ) → new k ≡ put old n (taint_armed (old n) taint) k) → (a : FileState) (file : ℕ) → StandsCalm a (old file) → StandsCalm a (new file)
+stands_tainted old new n taint is a =
+    stands_changed n (taint_armed (old n) taint) old new (is n ∙ put_here old n (taint_armed (old n) taint) n refl) (λ k other. is k ∙ put_else old n (taint_armed (old n) taint) k other) a
+    (λ (s : StandsCalm a (old n)). record { calm = s.calm; starved = s.starved; quiet = s.quiet })
+
+stands_same : (old new : BenchState) → ((file : ℕ) → new.files file ≡ old.files file) → (a : FileState) (file : ℕ) → StandsCalm a (old.files file) → StandsCalm a (new.files file)
+stands_same old new same a file = subst (StandsCalm a) (sym (same file))
+
+stands_armed : (arm : Arm) (old new : BenchState) → ArmsOneOf arm old new → (a : FileState) (file : ℕ) → (ArmsFile file arm → ⊥) → StandsCalm a (old.files file) → StandsCalm a (new.files file)
+stands_armed (Stop Dir calls) old new s a file other = stands_beside old.files new.files 0 _ s.files a file other
+stands_armed (Stop (File n) calls) old new s a file other = stands_beside old.files new.files n _ s.files a file other
+stands_armed (Stop Card calls) old new s a file other = stands_same old new s.0 a file
+stands_armed (Stop Entropy calls) old new s a file other = stands_same old new s.files a file
+stands_armed (Fail Dir call) old new s a file other = stands_beside old.files new.files 0 _ s.files a file other
+stands_armed (Fail (File n) call) old new s a file other = stands_beside old.files new.files n _ s.files a file other
+stands_armed (Fail Card call) old new s a file other = stands_same old new s.0 a file
+stands_armed (Fail Entropy call) old new s a file other = stands_same old new s.files a file
+stands_armed (Lose call) old new s a file other = stands_same old new s.0 a file
+stands_armed (Taint Dir call at mask) old new s a file other = stands_tainted old.files new.files 0 _ s.files a file
+stands_armed (Taint (File n) call at mask) old new s a file other = stands_tainted old.files new.files n _ s.files a file
+stands_armed (Taint Card call at mask) old new s a file other = stands_same old new s.files a file
+stands_armed (Taint Entropy call at mask) old new s a file other = stands_same old new s.files a file
+
+stands_all_armed : (arms : List Arm) (old new : BenchState) → ArmsAll arms old new → (a : FileState) (file : ℕ) → NoneOf (ArmsFile file) arms → StandsCalm a (old.files file) → StandsCalm a (new.files file)
+stands_all_armed [] old new s a file none stands = stands_same old new s.0 a file stands
+stands_all_armed (arm ∷ arms) old new (between, its, others) a file none stands = stands_all_armed arms between new others a file none.1 (stands_armed arm old between its a file none.0 stands)
 
 -- A PHASE
 module _ {F R : Type 0} (of_file : F → FileState) (of_port : R → PortState) (keys : Keys) (applications : List (List ℕ)) (arms : List Arm) (mode : Mode) (calls : List Step) where
@@ -168,7 +216,7 @@ module _ {F R : Type 0} (of_file : F → FileState) (of_port : R → PortState) 
     pub phase_stands : (a : FileState) (file : ℕ) → file < 273 → NoneOf (ArmsFile file) arms → StandsCalm a (old.files file) → StandsCalm a (new.files file)
     phase_stands a file within none stands =
         let first = stands_then a (old.files file) (opened.files file) stands (mount_goes_on of_file of_port keys old r.opened r.mounts file) in
-        let second = subst (StandsCalm a) (sym (file_of_arms arms opened armed file ((r.serves).ready).arms_are none)) first in
+        let second = stands_all_armed arms opened armed ((r.serves).ready).arms_are a file none first in
         let third = stands_then a (armed.files file) (closed.files file) second ((((r.serves).closes).devices).files file within) in
         subst (StandsCalm a) (sym (disarms.files file)) (stands_disarmed a (closed.files file) third)
 
@@ -182,7 +230,7 @@ module _ {F R : Type 0} (of_file : F → FileState) (of_port : R → PortState) 
   module _ (opened closed : BenchState) where
     unready_stands : ArmsFront arms opened closed → (a : FileState) (file : ℕ) → NoneOf (ArmsFile file) arms → StandsCalm a (opened.files file) → StandsCalm a (closed.files file)
     unready_stands (front, rest, is, all) a file none stands =
-        subst (StandsCalm a) (sym (file_of_arms front opened closed file all (none_of-front (ArmsFile file) front rest (subst (NoneOf (ArmsFile file)) is none)))) stands
+        stands_all_armed front opened closed all a file (none_of-front (ArmsFile file) front rest (subst (NoneOf (ArmsFile file)) is none)) stands
 
     unready_calm : ArmsFront arms opened closed → NoneOf ArmsCard arms → CalmStep opened.card closed.card
     unready_calm (front, rest, is, all) none = calm_same opened.card closed.card (card_of_arms front opened closed all (none_of-front ArmsCard front rest (subst (NoneOf ArmsCard) is none)))
@@ -203,7 +251,7 @@ module _ {F R : Type 0} (of_file : F → FileState) (of_port : R → PortState) 
     closes_stands (unready front) a file within none stands = unready_stands was closed front a file none stands
     closes_stands (in_part p) a file within none stands =
         let armed = opening_state of_file of_port p.armed in
-        early_stands armed closed p.store p.closes a file within (subst (StandsCalm a) (sym (file_of_arms arms was armed file (p.ready).arms_are none)) stands)
+        early_stands armed closed p.store p.closes a file within (stands_all_armed arms was armed (p.ready).arms_are a file none stands)
 
     closes_calm : ClosesOpened of_file of_port keys applications arms mode calls o closed → NoneOf ArmsCard arms → CalmStep was.card closed.card
     closes_calm (unready front) none = unready_calm was closed front none

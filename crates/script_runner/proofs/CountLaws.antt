@@ -4,7 +4,7 @@ use Rattle.disk_model.specs.State.{FileState}
 use Rattle.hmac_keys.specs.declared.Keys.{Keys}
 use Rattle.rpmb_card.specs.Port.{PortState}
 use Rattle.script_text.specs.declared.script.Arm.{Arm}
-use Rattle.script_text.specs.declared.script.Control.TheVariants.{Arm as ArmControl, Crash, List as ListControl, Mode as ModeControl, Phase}
+use Rattle.script_text.specs.declared.script.Control.TheVariants.{Arm as ArmControl, Crash, Flip, List as ListControl, Mode as ModeControl, Phase, Restore, Save}
 use Rattle.store_commit.specs.Causes.{StaysCalm}
 use Rattle.run_acts.specs.Benches.{BenchState}
 use Rattle.run_acts.specs.declared.MountFault.{MountFault}
@@ -15,7 +15,8 @@ use Rattle.script_runner.specs.RunBenches.{next_act}
 use Rattle.script_runner.specs.RunCauses.{World}
 use Rattle.script_runner.specs.Text.{Act, Do, RunRecord, Serve}
 use Rattle.script_runner.specs.Trace.{Trace, applications_of}
-use Rattle.script_runner.proofs.CalmFiles.{NoneOf, StandsCalm, given_up_calm, given_up_stands, goes_opened, goes_shut, none_of-then, phase_calm, phase_stands, stands_crash, stands_first, stands_part, stands_then}
+use Rattle.run_acts.specs.Alterations.{file_number}
+use Rattle.script_runner.proofs.CalmFiles.{NoneOf, StandsCalm, given_up_calm, given_up_stands, goes_opened, goes_shut, none_of-then, phase_calm, phase_stands, card_put_back, stands_crash, stands_first, stands_flipped, stands_part, stands_put_back, stands_then}
 use Rattle.script_runner.proofs.CalmPorts.{CalmStep, calm_listed, calm_opened, calm_same, calm_shut, calm_unlisted}
 use Rattle.script_runner.proofs.RunBenches.{WalksOf, hold_source}
 
@@ -27,6 +28,9 @@ none_front Arms (Do (ModeControl mode) ∷ before) act none = none_front Arms be
 none_front Arms (Do Phase ∷ before) act none = none_front Arms before act none
 none_front Arms (Do (ArmControl arm) ∷ before) act none = (none.0, none_front Arms before act none.1)
 none_front Arms (Do (Crash seed) ∷ before) act none = none_front Arms before act none
+none_front Arms (Do (Save mark) ∷ before) act none = none_front Arms before act none
+none_front Arms (Do (Restore file mark) ∷ before) act none = none_front Arms before act none
+none_front Arms (Do (Flip file at mask) ∷ before) act none = none_front Arms before act none
 none_front Arms (Do ListControl ∷ before) act none = none_front Arms before act none
 
 -- and not the last
@@ -37,6 +41,9 @@ none_last Arms (Do (ModeControl mode) ∷ before) arm none = none_last Arms befo
 none_last Arms (Do Phase ∷ before) arm none = none_last Arms before arm none
 none_last Arms (Do (ArmControl first) ∷ before) arm none = none_last Arms before arm none.1
 none_last Arms (Do (Crash seed) ∷ before) arm none = none_last Arms before arm none
+none_last Arms (Do (Save mark) ∷ before) arm none = none_last Arms before arm none
+none_last Arms (Do (Restore file mark) ∷ before) arm none = none_last Arms before arm none
+none_last Arms (Do (Flip file at mask) ∷ before) arm none = none_last Arms before arm none
 none_last Arms (Do ListControl ∷ before) arm none = none_last Arms before arm none
 
 module _ (handed : BenchState) where
@@ -87,6 +94,9 @@ module _ (handed : BenchState) where
     refused_counts before told arms (Do Phase ∷ left) fault old refuses s = absurd refuses
     refused_counts before told arms (Do (ArmControl arm) ∷ left) fault old refuses s = absurd refuses
     refused_counts before told arms (Do (Crash seed) ∷ left) fault old refuses s = absurd refuses
+    refused_counts before told arms (Do (Save mark) ∷ left) fault old refuses s = absurd refuses
+    refused_counts before told arms (Do (Restore file mark) ∷ left) fault old refuses s = absurd refuses
+    refused_counts before told arms (Do (Flip file at mask) ∷ left) fault old refuses s = absurd refuses
     refused_counts before told arms (Do ListControl ∷ left) fault old refuses s =
         counts_of (before ++ Do ListControl ∷ []) arms given
         (acted before (Do ListControl) arms arms old given s (λ Arms none waits. waits)
@@ -113,6 +123,13 @@ module _ (handed : BenchState) where
           (λ a file within none stands. stands) (λ none. calm_same bench.card bench.card refl);
       crash = λ before told arms seed old new c s.
           acted before (Do (Crash seed)) arms arms old new s (λ Arms none waits. waits) (λ a file within none stands. stands_crash image seed old new c a file stands) (λ none. calm_same old.card new.card c.card);
+      save = λ before told arms mark bench s. same_acted before (Do (Save mark)) arms bench s;
+      restore = λ before told arms file mark kept old new puts s.
+          acted before (Do (Restore file mark)) arms arms old new s (λ Arms none waits. waits) (λ a k within none stands. stands_put_back (file_number file) kept old new puts a k stands)
+          (λ none. calm_same old.card new.card (card_put_back (file_number file) kept old new puts));
+      flip = λ before told arms file at mask old new flips s.
+          acted before (Do (Flip file at mask)) arms arms old new s (λ Arms none waits. waits) (λ a k within none stands. stands_flipped (file_number file) at mask old new flips a k stands)
+          (λ none. calm_same old.card new.card flips.card);
       list = λ before told arms objects old new l s.
           acted before (Do ListControl) arms arms old new s (λ Arms none waits. waits)
           (λ a file within none stands. stands_then a (old.files file) (new.files file) stands ((((l.keeps).files file).keeps).goes_on))

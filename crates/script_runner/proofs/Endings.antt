@@ -20,9 +20,10 @@ use Rattle.script_runner.proofs.Sent.{Sends-append, Stops-longer}
 use Rattle.script_runner.specs.Text.{Act, Do, Refused, RunRecord, Serve, acts_of, acts_text}
 use Rattle.script_runner.specs.Trace.{applications_of}
 use Rattle.script_runner.specs.Course.{Goes, GoesUntil, GoesUntilCrashed, GoesUntilRefused, RefusesFirst}
+use Rattle.script_runner.specs.SavedFiles.{Standing}
 use Rattle.script_runner.specs.Ending.{EndsActs, EndsForMemory, RecordsRefusal}
 use Rattle.script_runner.specs.RunRefusals.{IsDeviceFault, IsRefusal}
-use Rattle.script_runner.specs.Points.{Point, arms_behind, phases_in}
+use Rattle.script_runner.specs.Points.{Point, arms_behind, phases_in, standing_at}
 use Rattle.script_runner.specs.Running.{Advances, EndsFrom}
 use Rattle.script_runner.specs.Prints.{HasActCause, PrintsRefusal}
 use Rattle.script_runner.proofs.Goings.{Goes-append, acts_text-append, arms_behind-append, phases_in-append}
@@ -71,15 +72,15 @@ module _ {F R : Type 0} (of_file : F → FileState) (of_port : R → PortState) 
   pub Advances-append : (script : ScriptValue) (old mid new : Point) → Advances of_file of_port image Reliable keys script old mid → Advances of_file of_port image Reliable keys script mid new → Advances of_file of_port image Reliable keys script old new
   Advances-append script old mid new a b =
       let apps = applications_of script in
-      let next = subst (λ (w : List Arm). Goes of_file of_port image Reliable keys apps w b.done b.records mid.bench new.bench) a.arms_are b.goes in
+      let next = subst (λ (w : List Arm). Goes of_file of_port image Reliable keys apps w b.done b.records (standing_at mid) (standing_at new)) a.arms_are b.goes in
       let front = acts_text script old.number a.done a.records in
       let more : acts_text script mid.number b.done b.records ≡ acts_text script (old.number + phases_in a.done) b.done b.records =
       ap (λ n. acts_text script n b.done b.records) a.number_is in
-      let text = acts_text-append of_file of_port image Reliable keys apps script old.number old.arms a.done b.done a.records b.records old.bench mid.bench a.goes in record {
+      let text = acts_text-append of_file of_port image Reliable keys apps script old.number old.arms a.done b.done a.records b.records (standing_at old) (standing_at mid) a.goes in record {
         done = a.done ++ b.done;
         records = a.records ++ b.records;
         acts = a.acts ∙ ap (λ x. a.done ++ x) b.acts ∙ sym (append_assoc a.done b.done (acts_of new.mode new.steps));
-        goes = Goes-append of_file of_port image Reliable keys apps old.arms a.done b.done a.records b.records old.bench mid.bench new.bench a.goes next;
+        goes = Goes-append of_file of_port image Reliable keys apps old.arms a.done b.done a.records b.records (standing_at old) (standing_at mid) (standing_at new) a.goes next;
         arms_are = b.arms_are ∙ ap (λ w. arms_behind w b.done) a.arms_are ∙ sym (arms_behind-append old.arms a.done b.done);
         number_is = omega (arith, b.number_is, a.number_is, phases_in-append a.done b.done);
         sent = subst (Sends old.held new.held old.kept new.kept) (ap (λ t. front ++ t) more ∙ sym text)
@@ -87,17 +88,18 @@ module _ {F R : Type 0} (of_file : F → FileState) (of_port : R → PortState) 
       }
 
 module _ {F R : Type 0} (of_file : F → FileState) (of_port : R → PortState) (image : FileState → ℕ → ℕ → List ℕ) (Reliable : Type 0) (drew draws : ℕ) (keys : Keys) where
-  abbrev GoesThere : List (List ℕ) → (arms : List Arm) → List Act → List RunRecord → (old new : BenchState) → Type 0
+  abbrev GoesThere : List (List ℕ) → (arms : List Arm) → List Act → List RunRecord → (old new : Standing) → Type 0
   GoesThere apps arms acts records old new = Goes of_file of_port image Reliable keys apps arms acts records old new
 
-  until-behind : (apps : List (List ℕ)) (arms : List Arm) (done acts : List Act) (records more : List RunRecord) (left : List Act) (old mid new : BenchState) → GoesThere apps arms done records old mid → GoesUntil of_file of_port image Reliable keys apps (arms_behind arms done) acts more left mid new → GoesUntil of_file of_port image Reliable keys apps arms (done ++ acts) (records ++ more) left old new
+  until-behind : (apps : List (List ℕ)) (arms : List Arm) (done acts : List Act) (records more : List RunRecord) (left : List Act) (old mid : Standing) (new : BenchState) → GoesThere apps arms done records old mid → GoesUntil of_file of_port image Reliable keys apps (arms_behind arms done) acts more left mid new → GoesUntil of_file of_port image Reliable keys apps arms (done ++ acts) (records ++ more) left old new
   until-behind apps arms done acts records more left old mid new h g = record {
     done = done ++ g.done;
     front = ap (λ a. done ++ a) g.front ∙ sym (append_assoc done g.done left);
-    goes = Goes-append of_file of_port image Reliable keys apps arms done g.done records more old mid new h g.goes;
+    saved = g.saved;
+    goes = Goes-append of_file of_port image Reliable keys apps arms done g.done records more old mid (record { bench = new; saved = g.saved }) h g.goes;
   }
 
-  until_refused-behind : (apps : List (List ℕ)) (arms : List Arm) (done acts : List Act) (records more : List RunRecord) (old mid new : BenchState) (fault : MountFault) → GoesThere apps arms done records old mid → GoesUntilRefused of_file of_port image Reliable drew draws keys apps (arms_behind arms done) acts more mid new fault → GoesUntilRefused of_file of_port image Reliable drew draws keys apps arms (done ++ acts) (records ++ more) old new fault
+  until_refused-behind : (apps : List (List ℕ)) (arms : List Arm) (done acts : List Act) (records more : List RunRecord) (old mid : Standing) (new : BenchState) (fault : MountFault) → GoesThere apps arms done records old mid → GoesUntilRefused of_file of_port image Reliable drew draws keys apps (arms_behind arms done) acts more mid new fault → GoesUntilRefused of_file of_port image Reliable drew draws keys apps arms (done ++ acts) (records ++ more) old new fault
   unfolding until-behind
   until_refused-behind apps arms done acts records more old mid new fault h g = record {
     left = g.left;
@@ -106,7 +108,7 @@ module _ {F R : Type 0} (of_file : F → FileState) (of_port : R → PortState) 
     refused = subst (λ (w : List Arm). RefusesFirst of_file of_port image Reliable drew draws keys apps w g.left g.between new fault) (sym (arms_behind-append arms done g.goes.done)) g.refused;
   }
 
-  until_crashed-behind : (apps : List (List ℕ)) (arms : List Arm) (done acts : List Act) (records more : List RunRecord) (old mid new : BenchState) → GoesThere apps arms done records old mid → GoesUntilCrashed of_file of_port image Reliable keys apps (arms_behind arms done) acts more mid new → GoesUntilCrashed of_file of_port image Reliable keys apps arms (done ++ acts) (records ++ more) old new
+  until_crashed-behind : (apps : List (List ℕ)) (arms : List Arm) (done acts : List Act) (records more : List RunRecord) (old mid : Standing) (new : BenchState) → GoesThere apps arms done records old mid → GoesUntilCrashed of_file of_port image Reliable keys apps (arms_behind arms done) acts more mid new → GoesUntilCrashed of_file of_port image Reliable keys apps arms (done ++ acts) (records ++ more) old new
   until_crashed-behind apps arms done acts records more old mid new h g = record {
     seed = g.seed;
     left = g.left;
@@ -115,7 +117,7 @@ module _ {F R : Type 0} (of_file : F → FileState) (of_port : R → PortState) 
     crashes = g.crashes;
   }
 
-  refusal-behind : (apps : List (List ℕ)) (arms : List Arm) (done acts : List Act) (records more : List RunRecord) (old mid new : BenchState) (fault : MountFault) → GoesThere apps arms done records old mid → RecordsRefusal of_file of_port image Reliable drew draws keys apps (arms_behind arms done) acts more mid new fault → RecordsRefusal of_file of_port image Reliable drew draws keys apps arms (done ++ acts) (records ++ more) old new fault
+  refusal-behind : (apps : List (List ℕ)) (arms : List Arm) (done acts : List Act) (records more : List RunRecord) (old mid : Standing) (new : BenchState) (fault : MountFault) → GoesThere apps arms done records old mid → RecordsRefusal of_file of_port image Reliable drew draws keys apps (arms_behind arms done) acts more mid new fault → RecordsRefusal of_file of_port image Reliable drew draws keys apps arms (done ++ acts) (records ++ more) old new fault
   refusal-behind apps arms done acts records more old mid new fault h g = (
     records ++ g.0,
     ap (λ r. records ++ r) g.1 ∙ sym (append_assoc records g.0 (Refused fault ∷ [])),
@@ -123,7 +125,7 @@ module _ {F R : Type 0} (of_file : F → FileState) (of_port : R → PortState) 
   )
 
   -- how acts end behind others that were done
-  EndsActs-behind : (apps : List (List ℕ)) (arms : List Arm) (done acts : List Act) (records more : List RunRecord) (old mid new : BenchState) (status : Status) → GoesThere apps arms done records old mid → EndsActs of_file of_port image Reliable drew draws keys apps (arms_behind arms done) acts more mid new status → EndsActs of_file of_port image Reliable drew draws keys apps arms (done ++ acts) (records ++ more) old new status
+  EndsActs-behind : (apps : List (List ℕ)) (arms : List Arm) (done acts : List Act) (records more : List RunRecord) (old mid : Standing) (new : BenchState) (status : Status) → GoesThere apps arms done records old mid → EndsActs of_file of_port image Reliable drew draws keys apps (arms_behind arms done) acts more mid new status → EndsActs of_file of_port image Reliable drew draws keys apps arms (done ++ acts) (records ++ more) old new status
   EndsActs-behind apps arms done acts records more old mid new Done h g = until-behind apps arms done acts records more [] old mid new h g
   EndsActs-behind apps arms done acts records more old mid new Usage h g = g
   EndsActs-behind apps arms done acts records more old mid new (BadLine line) h g = g
@@ -153,7 +155,7 @@ module _ {F R : Type 0} (of_file : F → FileState) (of_port : R → PortState) 
       let rest = acts_text script mid.number left e.records in
       let text : acts_text script old.number (acts_of old.mode old.steps) (a.records ++ e.records) ≡ front ++ rest =
       ap (λ acts. acts_text script old.number acts (a.records ++ e.records)) a.acts
-      ∙ acts_text-append of_file of_port image Reliable keys apps script old.number old.arms a.done left a.records e.records old.bench mid.bench a.goes
+      ∙ acts_text-append of_file of_port image Reliable keys apps script old.number old.arms a.done left a.records e.records (standing_at old) (standing_at mid) a.goes
       ∙ ap (λ n. front ++ acts_text script n left e.records) (sym a.number_is) in
       let all : old.kept ++ (front ++ rest) ≡ a.sent.0 ++ (mid.kept ++ rest) =
       sym (append_assoc old.kept front rest) ∙ ap (λ t. t ++ rest) a.sent.2 ∙ append_assoc a.sent.0 mid.kept rest in record {
@@ -164,9 +166,9 @@ module _ {F R : Type 0} (of_file : F → FileState) (of_port : R → PortState) 
           e.begins.0,
           ap (λ t. old.kept ++ t) text ∙ all ∙ ap (λ t. a.sent.0 ++ t) e.begins.1 ∙ sym (append_assoc a.sent.0 e.put e.begins.0),
         );
-        ends = subst (λ (acts : List Act). EndsActs of_file of_port image Reliable drew draws keys apps old.arms acts (a.records ++ e.records) old.bench given status) (sym a.acts)
-            (EndsActs-behind apps old.arms a.done left a.records e.records old.bench mid.bench given status a.goes
-            (subst (λ (w : List Arm). EndsActs of_file of_port image Reliable drew draws keys apps w left e.records mid.bench given status) a.arms_are e.ends));
+        ends = subst (λ (acts : List Act). EndsActs of_file of_port image Reliable drew draws keys apps old.arms acts (a.records ++ e.records) (standing_at old) given status) (sym a.acts)
+            (EndsActs-behind apps old.arms a.done left a.records e.records (standing_at old) (standing_at mid) given status a.goes
+            (subst (λ (w : List Arm). EndsActs of_file of_port image Reliable drew draws keys apps w left e.records (standing_at mid) given status) a.arms_are e.ends));
         cause = subst (λ t. HasActCause failed (a.sent.0 ++ e.put) (old.kept ++ t) status) (sym text)
             (HasActCause-behind failed a.sent.0 e.put (mid.kept ++ rest) (old.kept ++ (front ++ rest)) status all e.cause);
       }
@@ -178,7 +180,7 @@ module _ {F R : Type 0} (of_file : F → FileState) (of_port : R → PortState) 
     records = [];
     appended = Appends-none old.held;
     begins = (_, refl);
-    ends = inl (acts_of old.mode old.steps, record { done = []; front = refl; goes = refl });
+    ends = inl (acts_of old.mode old.steps, record { done = []; front = refl; saved = old.saved; goes = refl });
     cause = tt;
   }
 
@@ -189,7 +191,7 @@ module _ {F R : Type 0} (of_file : F → FileState) (of_port : R → PortState) 
     records = [];
     appended = Appends-none old.held;
     begins = (_, refl);
-    ends = inr (inr (record { seed = seed; left = left; between = old.bench; goes = record { done = []; front = next; goes = refl }; crashes = crashes }));
+    ends = inr (inr (record { seed = seed; left = left; between = old.bench; goes = record { done = []; front = next; saved = old.saved; goes = refl }; crashes = crashes }));
     cause = tt;
   }
 
@@ -202,7 +204,7 @@ module _ {F R : Type 0} (of_file : F → FileState) (of_port : R → PortState) 
         records = [];
         appended = put;
         begins = ([], text ∙ sym (append-nil old.kept));
-        ends = record { done = []; front = acts; goes = refl };
+        ends = record { done = []; front = acts; saved = old.saved; goes = refl };
         cause = sym text;
       }
 
@@ -213,8 +215,8 @@ module _ {F R : Type 0} (of_file : F → FileState) (of_port : R → PortState) 
   refusal_text script number apps arms (Do ListControl ∷ acts) old new fault h = refl
   refusal_text script number apps arms (Do control ∷ acts) old new fault h = absurd h
 
-  until_refused-now : (apps : List (List ℕ)) (arms : List Arm) (acts : List Act) (old new : BenchState) (fault : MountFault) → RefusesFirst of_file of_port image Reliable drew draws keys apps arms acts old new fault → GoesUntilRefused of_file of_port image Reliable drew draws keys apps arms acts [] old new fault
-  until_refused-now apps arms acts old new fault h = record { left = acts; between = old; goes = record { done = []; front = refl; goes = refl }; refused = h }
+  until_refused-now : (apps : List (List ℕ)) (arms : List Arm) (acts : List Act) (old : Standing) (new : BenchState) (fault : MountFault) → RefusesFirst of_file of_port image Reliable drew draws keys apps arms acts old.bench new fault → GoesUntilRefused of_file of_port image Reliable drew draws keys apps arms acts [] old new fault
+  until_refused-now apps arms acts old new fault h = record { left = acts; between = old.bench; goes = record { done = []; front = refl; saved = old.saved; goes = refl }; refused = h }
 
   -- the next act was refused
   pub EndsFrom-refused : (script : ScriptValue) (failed : Type 0) (old : Point) (held : Option (List ℕ)) (given : BenchState) (fault : MountFault) (status : Status) → RefusesFirst of_file of_port image Reliable drew draws keys (applications_of script) old.arms (acts_of old.mode old.steps) old.bench given fault → PrintsRefusal failed old.held held old.kept fault status → EndsFrom of_file of_port image Reliable drew draws keys script failed old held given status
@@ -228,7 +230,7 @@ module _ {F R : Type 0} (of_file : F → FileState) (of_port : R → PortState) 
         records = Refused fault ∷ [];
         appended = t.2.1;
         begins = subst (λ x. Begins t.2.0 (old.kept ++ x)) (sym text) t.2.2;
-        ends = inr (fault, t.0, ([], refl, until_refused-now (applications_of script) old.arms (acts_of old.mode old.steps) old.bench given fault h));
+        ends = inr (fault, t.0, ([], refl, until_refused-now (applications_of script) old.arms (acts_of old.mode old.steps) (standing_at old) given fault h));
         cause = t.1;
       }
   EndsFrom-refused script failed old held given fault (TooLong excess) h t = absurd t
@@ -238,19 +240,19 @@ module _ {F R : Type 0} (of_file : F → FileState) (of_port : R → PortState) 
         records = Refused fault ∷ [];
         appended = t.1.1;
         begins = subst (λ x. Begins t.1.0 (old.kept ++ x)) (sym text) t.1.2;
-        ends = inr (inl (fault, t.0, ([], refl, until_refused-now (applications_of script) old.arms (acts_of old.mode old.steps) old.bench given fault h)));
+        ends = inr (inl (fault, t.0, ([], refl, until_refused-now (applications_of script) old.arms (acts_of old.mode old.steps) (standing_at old) given fault h)));
         cause = tt;
       }
   EndsFrom-refused script failed old held given fault (MountRefused printed) h t =
       let text : old.kept ++ acts_text script old.number (acts_of old.mode old.steps) (Refused fault ∷ []) ≡ old.kept ++ refusal_line fault =
       ap (λ x. old.kept ++ x) (refusal_text script old.number (applications_of script) old.arms (acts_of old.mode old.steps) old.bench given fault h) in
-      let ends : RecordsRefusal of_file of_port image Reliable drew draws keys (applications_of script) old.arms (acts_of old.mode old.steps) (Refused fault ∷ []) old.bench given fault =
-      ([], refl, until_refused-now (applications_of script) old.arms (acts_of old.mode old.steps) old.bench given fault h) in record {
+      let ends : RecordsRefusal of_file of_port image Reliable drew draws keys (applications_of script) old.arms (acts_of old.mode old.steps) (Refused fault ∷ []) (standing_at old) given fault =
+      ([], refl, until_refused-now (applications_of script) old.arms (acts_of old.mode old.steps) (standing_at old) given fault h) in record {
         put = old.kept ++ refusal_line fault;
         records = Refused fault ∷ [];
         appended = t.2;
         begins = ([], text ∙ sym (append-nil _));
-        ends = subst (λ (f : MountFault). RecordsRefusal of_file of_port image Reliable drew draws keys (applications_of script) old.arms (acts_of old.mode old.steps) (Refused fault ∷ []) old.bench given f) (sym t.0) ends;
+        ends = subst (λ (f : MountFault). RecordsRefusal of_file of_port image Reliable drew draws keys (applications_of script) old.arms (acts_of old.mode old.steps) (Refused fault ∷ []) (standing_at old) given f) (sym t.0) ends;
         cause = (subst IsRefusal (sym t.0) t.1, sym text);
       }
   EndsFrom-refused script failed old held given fault (DeviceFault printed) h t = one t.2
@@ -261,9 +263,9 @@ module _ {F R : Type 0} (of_file : F → FileState) (of_port : R → PortState) 
       text : old.kept ++ acts_text script old.number acts (Refused fault ∷ []) ≡ old.kept
       text = ap (λ x. old.kept ++ x) (refusal_text script old.number (applications_of script) old.arms acts old.bench given fault h ∙ refusal_line-none fault t.1) ∙ append-nil old.kept
 
-      ends : RecordsRefusal of_file of_port image Reliable drew draws keys (applications_of script) old.arms acts (Refused fault ∷ []) old.bench given printed
-      ends = subst (λ (f : MountFault). RecordsRefusal of_file of_port image Reliable drew draws keys (applications_of script) old.arms acts (Refused fault ∷ []) old.bench given f) (sym t.0)
-          ([], refl, until_refused-now (applications_of script) old.arms acts old.bench given fault h)
+      ends : RecordsRefusal of_file of_port image Reliable drew draws keys (applications_of script) old.arms acts (Refused fault ∷ []) (standing_at old) given printed
+      ends = subst (λ (f : MountFault). RecordsRefusal of_file of_port image Reliable drew draws keys (applications_of script) old.arms acts (Refused fault ∷ []) (standing_at old) given f) (sym t.0)
+          ([], refl, until_refused-now (applications_of script) old.arms acts (standing_at old) given fault h)
 
       one : Appends old.held held old.kept ⊎ (failed × Stops old.held held old.kept []) → EndsFrom of_file of_port image Reliable drew draws keys script failed old held given (DeviceFault printed)
       one (inl put) = record {
@@ -284,24 +286,24 @@ module _ {F R : Type 0} (of_file : F → FileState) (of_port : R → PortState) 
       }
 
   -- the text of acts that were done could not be put
-  pub EndsFrom-text : (script : ScriptValue) (failed : Type 0) (old : Point) (held : Option (List ℕ)) (given : BenchState) (done left : List Act) (records : List RunRecord) (status : Status) → acts_of old.mode old.steps ≡ done ++ left → Goes of_file of_port image Reliable keys (applications_of script) old.arms done records old.bench given
-      → Stops old.held held old.kept (acts_text script old.number done records) → IsWriteError failed status → EndsFrom of_file of_port image Reliable drew draws keys script failed old held given status
+  pub EndsFrom-text : (script : ScriptValue) (failed : Type 0) (old : Point) (held : Option (List ℕ)) (given : Standing) (done left : List Act) (records : List RunRecord) (status : Status) → acts_of old.mode old.steps ≡ done ++ left → Goes of_file of_port image Reliable keys (applications_of script) old.arms done records (standing_at old) given
+      → Stops old.held held old.kept (acts_text script old.number done records) → IsWriteError failed status → EndsFrom of_file of_port image Reliable drew draws keys script failed old held given.bench status
   EndsFrom-text script failed old held given done left records status front goes stops error = one status error
     where
       text : acts_text script old.number (acts_of old.mode old.steps) records ≡ acts_text script old.number done records ++ acts_text script (old.number + phases_in done) left []
       text = ap (λ acts. acts_text script old.number acts records) front ∙ ap (acts_text script old.number (done ++ left)) (sym (append-nil records))
-          ∙ acts_text-append of_file of_port image Reliable keys (applications_of script) script old.number old.arms done left records [] old.bench given goes
+          ∙ acts_text-append of_file of_port image Reliable keys (applications_of script) script old.number old.arms done left records [] (standing_at old) given goes
 
       longer : Stops old.held held old.kept (acts_text script old.number (acts_of old.mode old.steps) records)
       longer = subst (Stops old.held held old.kept) (sym text) (Stops-longer old.held held old.kept _ _ stops)
 
-      one : (s : Status) → IsWriteError failed s → EndsFrom of_file of_port image Reliable drew draws keys script failed old held given s
+      one : (s : Status) → IsWriteError failed s → EndsFrom of_file of_port image Reliable drew draws keys script failed old held given.bench s
       one WriteFault x = record {
         put = longer.0;
         records = records;
         appended = longer.1;
         begins = longer.2;
-        ends = inl (left, record { done = done; front = front; goes = goes });
+        ends = inl (left, record { done = done; front = front; saved = given.saved; goes = goes });
         cause = x;
       }
       one NoMemory x = record {
@@ -309,7 +311,7 @@ module _ {F R : Type 0} (of_file : F → FileState) (of_port : R → PortState) 
         records = records;
         appended = longer.1;
         begins = longer.2;
-        ends = inl (left, record { done = done; front = front; goes = goes });
+        ends = inl (left, record { done = done; front = front; saved = given.saved; goes = goes });
         cause = tt;
       }
       one Done x = absurd x

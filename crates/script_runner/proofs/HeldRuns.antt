@@ -10,7 +10,7 @@ use Rattle.rpmb_host.specs.Honest.{HasCard}
 use Rattle.script_text.specs.declared.reading.ScriptFault.{ScriptFault}
 use Rattle.script_text.specs.declared.reading.ScriptFault.TheVariants.{BadLine as BadLineFault, TooManyApps}
 use Rattle.script_text.specs.declared.script.Arm.{Arm}
-use Rattle.script_text.specs.declared.script.Control.TheVariants.{Arm as ArmControl, Crash, List as ListControl, Mode as ModeControl, Phase}
+use Rattle.script_text.specs.declared.script.Control.TheVariants.{Arm as ArmControl, Crash, Flip, List as ListControl, Mode as ModeControl, Phase, Restore, Save}
 use Rattle.script_text.specs.declared.script.Mode.TheVariants.{Serial}
 use Rattle.script_text.specs.Grammar.{script_of}
 use Rattle.script_text.specs.Script.{ScriptValue}
@@ -22,7 +22,7 @@ use Rattle.run_acts.specs.declared.MountFault.{MountFault}
 use Rattle.run_acts.specs.declared.MountFault.TheVariants.{CardBlock, CardResult, Directory, Failed, Frame, NoMemory as NoMemoryFault, NoStore, Spent}
 use Rattle.run_acts.specs.Left.{replay_left}
 use Rattle.run_acts.specs.Opens.{IsOpenRefused, OpensBench, StopsOpening, found, is_blank, made, starved, stopped, unasked, unformed, unread}
-use Rattle.run_acts.specs.Untainted.{AreUntainted}
+use Rattle.run_acts.specs.Untainted.{ArmNoMask, AreUntainted}
 use Rattle.run_acts.proofs.CrashedLaws.{card_of, crashes_keep, kept_devices_hold, part_may_be}
 use Rattle.run_acts.proofs.HeldOpenings.{opens_same}
 use Rattle.run_acts.proofs.MountedBenches.{refused_mounts_keep}
@@ -34,13 +34,15 @@ use Rattle.script_runner.specs.declared.status.Status.TheVariants.{BadLine, Devi
 use Rattle.script_runner.specs.Course.{RefusesFirst}
 use Rattle.script_runner.specs.Ending.{EndsBench, EndsRun, EndsScript, NotOpened, Shut}
 use Rattle.script_runner.specs.HeldRuns.{BeginsWith, FormattedRunsStand, HoldsBehind, IsBlankBench, IsWhole, NoneStarved, RunsHoldLeft}
-use Rattle.script_runner.specs.RecordLaws.{HoldsUntainted, left_behind}
+use Rattle.script_runner.specs.RecordLaws.{AlterNothing, AltersNothing, HoldsUntainted, left_behind}
 use Rattle.script_runner.specs.RunBenches.{next_act}
 use Rattle.script_runner.specs.RunCauses.{HasCause, World}
 use Rattle.script_runner.specs.RunLaws.{RecordsStand}
 use Rattle.script_runner.specs.RunRefusals.{IsDeviceFault, IsRefusal}
 use Rattle.script_runner.specs.Text.{Act, Controlled, Do, Listed, Ran, Refused, RunRecord, Serve, acts_of}
 use Rattle.script_runner.specs.Trace.{IsSilent, OfScript, Trace, applications_of}
+use Rattle.script_runner.specs.SavedFiles.{Standing, begins_with}
+use Rattle.script_runner.proofs.Alterings.{alter_front, alter_last, mask_none}
 use Rattle.script_runner.proofs.CalmFiles.{goes_refused}
 use Rattle.script_runner.proofs.GoingFold.{GoesAll}
 use Rattle.script_runner.proofs.RecordLaws.{records_find_left}
@@ -95,10 +97,23 @@ module _ (keys : Keys) where
     abbrev Held : (told : List RunRecord) → BenchState → Type 0
     Held told bench = HoldsUntainted keys bench (left_behind apps s told)
 
-    one_more : (told : List RunRecord) (arms : List Arm) (act : Act) (one : RunRecord) (old new : BenchState) → GoesAll of_file of_port image Reliable keys apps arms (act ∷ []) (one ∷ []) old new → Held told old → Held (told ++ one ∷ []) new
-    one_more told arms act one old new goes held =
-        let found = records_find_left of_file of_port image Reliable keys apps arms (act ∷ []) (one ∷ []) old new (left_behind apps s told) goes held in
-        subst (HoldsUntainted keys new) (sym (left_behind-then apps s told (one ∷ []))) found.1
+    one_more : (told : List RunRecord) (arms : List Arm) (act : Act) (one : RunRecord) (old new : Standing) → ArmNoMask arms → AltersNothing act → GoesAll of_file of_port image Reliable keys apps arms (act ∷ []) (one ∷ []) old new → Held told old.bench → Held (told ++ one ∷ []) new.bench
+    one_more told arms act one old new unmasked none goes held =
+        let found = records_find_left of_file of_port image Reliable keys apps arms (act ∷ []) (one ∷ []) old new (left_behind apps s told) unmasked (none, tt) goes held in
+        subst (HoldsUntainted keys new.bench) (sym (left_behind-then apps s told (one ∷ []))) found.1
+
+    -- behind acts that alter no file
+    abbrev HeldBehind : (before : List Act) (told : List RunRecord) (arms : List Arm) → BenchState → Type 0
+    HeldBehind before told arms bench = AlterNothing before → ArmNoMask arms × Held told bench
+
+    -- and one more
+    more_held : (before : List Act) (told : List RunRecord) (arms later : List Arm) (act : Act) (one : RunRecord) (old new : BenchState)
+        → (ArmNoMask arms → AltersNothing act → ArmNoMask later) → (AltersNothing act → GoesAll of_file of_port image Reliable keys apps arms (act ∷ []) (one ∷ []) (begins_with old) (begins_with new))
+        → HeldBehind before told arms old → HeldBehind (before ++ act ∷ []) (told ++ one ∷ []) later new
+    more_held before told arms later act one old new waits goes held none =
+        let last = alter_last before act none in
+        let was = held (alter_front before (act ∷ []) none) in
+        (waits was.0 last, one_more told arms act one (begins_with old) (begins_with new) was.0 last (goes last) was.1)
 
     -- what was only read and synced
     goes_untainted : (old new : BenchState) → ((file : ℕ) → GoesOn (old.files file) (new.files file)) → IsWhole new → AreUntainted old.files → AreUntainted new.files
@@ -106,7 +121,7 @@ module _ (keys : Keys) where
 
     module _ (drew draws : ℕ) (given : BenchState) (whole : IsWhole given) where
       abbrev Behind : List Act → List RunRecord → BenchState → Type 0
-      Behind done records bench = NoneStarved records → HoldsBehind keys apps done bench (left_behind apps s records)
+      Behind done records bench = AlterNothing done → NoneStarved records → HoldsBehind keys apps done bench (left_behind apps s records)
 
       refused_held : (told : List RunRecord) (arms : List Arm) (left : List Act) (fault : MountFault) (old : BenchState)
           → RefusesFirst of_file of_port image Reliable drew draws keys apps arms left old given fault → Held told old → (fault ≡ NoMemoryFault → ⊥) → HoldsUntainted keys given (left_behind apps s told)
@@ -124,6 +139,9 @@ module _ (keys : Keys) where
       refused_held told arms (Do Phase ∷ left) fault old refuses held some = absurd refuses
       refused_held told arms (Do (ArmControl arm) ∷ left) fault old refuses held some = absurd refuses
       refused_held told arms (Do (Crash seed) ∷ left) fault old refuses held some = absurd refuses
+      refused_held told arms (Do (Save mark) ∷ left) fault old refuses held some = absurd refuses
+      refused_held told arms (Do (Restore file mark) ∷ left) fault old refuses held some = absurd refuses
+      refused_held told arms (Do (Flip file at mask) ∷ left) fault old refuses held some = absurd refuses
       refused_held told arms (Do ListControl ∷ left) fault old refuses held some =
           let keeps = refuses.keeps in
           let files : AreUntainted given.files = goes_untainted old given (λ file. ((keeps.files file).keeps).goes_on) whole held.files in
@@ -135,26 +153,33 @@ module _ (keys : Keys) where
           }
 
       refused_behind : (before : List Act) (told : List RunRecord) (arms : List Arm) (left : List Act) (fault : MountFault) (old : BenchState)
-          → RefusesFirst of_file of_port image Reliable drew draws keys apps arms left old given fault → Held told old → Behind (before ++ next_act left) (told ++ Refused fault ∷ []) given
-      refused_behind before told arms [] fault old refuses held none = absurd refuses
-      refused_behind before told arms (act ∷ left) fault old refuses held none =
+          → RefusesFirst of_file of_port image Reliable drew draws keys apps arms left old given fault → HeldBehind before told arms old → Behind (before ++ next_act left) (told ++ Refused fault ∷ []) given
+      refused_behind before told arms [] fault old refuses held unaltered none = absurd refuses
+      refused_behind before told arms (act ∷ left) fault old refuses held unaltered none =
           behind_some apps before act given (left_behind apps s (told ++ Refused fault ∷ []))
-          (subst (HoldsUntainted keys given) (sym (left_behind-then apps s told (Refused fault ∷ []))) (refused_held told arms (act ∷ left) fault old refuses held (none_starved-last told fault none)))
+          (subst (HoldsUntainted keys given) (sym (left_behind-then apps s told (Refused fault ∷ []))) (refused_held told arms (act ∷ left) fault old refuses (held (alter_front before (act ∷ []) unaltered)).1 (none_starved-last told fault none)))
 
       module _ (t : Trace) (started : t.start ≡ None) (handed : BenchState) (begins : BeginsWith keys apps handed s) where
-        held_walk : WalksOf of_file of_port image Reliable keys Behind (λ before told arms bench. Held told bench) drew draws t handed given apps
+        held_walk : WalksOf of_file of_port image Reliable keys Behind HeldBehind drew draws t handed given apps
         held_walk = record {
-          gives = λ before told arms bench held none. behind_any apps before bench (left_behind apps s told) held;
-          phase = λ before told arms mode calls phase old new r held. one_more told arms (Serve mode calls) (Ran phase) old new (new, r, refl) held;
-          mode = λ before told arms mode bench held. one_more told arms (Do (ModeControl mode)) Controlled bench bench refl held;
-          mark = λ before told arms bench held. one_more told arms (Do Phase) Controlled bench bench refl held;
-          arm = λ before told arms arm bench held. one_more told arms (Do (ArmControl arm)) Controlled bench bench refl held;
-          crash = λ before told arms seed old new c held. one_more told arms (Do (Crash seed)) Controlled old new (new, c, refl) held;
-          list = λ before told arms objects old new l held. one_more told arms (Do ListControl) (Listed objects) old new (new, l, refl) held;
-          opened = λ between opens. begun_opened handed between begins opens;
+          gives = λ before told arms bench held unaltered none. behind_any apps before bench (left_behind apps s told) (held unaltered).1;
+          phase = λ before told arms mode calls phase old new r. more_held before told arms [] (Serve mode calls) (Ran phase) old new (λ unmasked last. tt) (λ last. (new, r, refl));
+          mode = λ before told arms mode bench. more_held before told arms arms (Do (ModeControl mode)) Controlled bench bench (λ unmasked last. unmasked) (λ last. refl);
+          mark = λ before told arms bench. more_held before told arms arms (Do Phase) Controlled bench bench (λ unmasked last. unmasked) (λ last. refl);
+          arm = λ before told arms arm bench. more_held before told arms (arms ++ arm ∷ []) (Do (ArmControl arm)) Controlled bench bench (mask_none arms arm) (λ last. refl);
+          crash = λ before told arms seed old new c. more_held before told arms arms (Do (Crash seed)) Controlled old new (λ unmasked last. unmasked) (λ last. (new, c, refl));
+          save = λ before told arms mark bench held none. (
+            (held (alter_front before (Do (Save mark) ∷ []) none)).0,
+            subst (HoldsUntainted keys bench) (sym (left_behind-then apps s told (Controlled ∷ []))) (held (alter_front before (Do (Save mark) ∷ []) none)).1,
+          );
+          restore = λ before told arms file mark kept old new puts held none. absurd (alter_last before (Do (Restore file mark)) none);
+          flip = λ before told arms file at mask old new flips held none. absurd (alter_last before (Do (Flip file at mask)) none);
+          list = λ before told arms objects old new l. more_held before told arms arms (Do ListControl) (Listed objects) old new (λ unmasked last. unmasked) (λ last. (new, l, refl));
+          opened = λ between opens none. (tt, begun_opened handed between begins opens);
           shut = λ fault is refused. let no : ◌≡◌ {A = Option MountFault} None (Some fault) = sym started ∙ is in absurd cc;
           refused = refused_behind;
-          crashed = λ before told arms seed old c held none.
+          crashed = λ before told arms seed old c behind unaltered none.
+              let held = (behind (alter_front before (Do (Crash seed) ∷ []) unaltered)).1 in
               let may = part_may_be image seed old given c in
               let card = held.card in
               behind_some apps before (Do (Crash seed)) given (left_behind apps s told) (record {
@@ -165,13 +190,13 @@ module _ (keys : Keys) where
         }
 
         unrun_held : given ≡ handed → Behind [] [] given
-        unrun_held same none = subst (λ (b : BenchState). BeginsWith keys apps b s) (sym same) begins
+        unrun_held same unaltered none = subst (λ (b : BenchState). BeginsWith keys apps b s) (sym same) begins
 
 pub runs_hold_left : {F R : Type 0} (of_file : F → FileState) (of_port : R → PortState) (image : FileState → ℕ → ℕ → List ℕ) (Reliable : Type 0) (w : World) → RunsHoldLeft of_file of_port image Reliable w
 runs_hold_left of_file of_port image Reliable w left_old left_new held_old held_new drew draws keys handed given status s script r begins is started whole =
     let apps = applications_of script in
-    let P : List Act → List RunRecord → BenchState → Type 0 = λ done records bench. NoneStarved records → HoldsBehind keys apps done bench (left_behind apps s records) in
-    let Inv : List Act → List RunRecord → List Arm → BenchState → Type 0 = λ before told arms bench. HoldsUntainted keys bench (left_behind apps s told) in
+    let P : List Act → List RunRecord → BenchState → Type 0 = λ done records bench. AlterNothing done → NoneStarved records → HoldsBehind keys apps done bench (left_behind apps s records) in
+    let Inv : List Act → List RunRecord → List Arm → BenchState → Type 0 = λ before told arms bench. AlterNothing before → ArmNoMask arms × HoldsUntainted keys bench (left_behind apps s told) in
     hold_source of_file of_port image Reliable keys P Inv drew draws r.0 handed given
     (λ other read.
     let e : ◌≡◌ {A = Result ScriptValue ScriptFault} (Ok script) (Ok other) = sym is ∙ read in
@@ -227,7 +252,7 @@ module _ (keys : Keys) where
   no_refusal fault (inr is) refusal = subst IsRefusal is refusal
 
   module _ {F R : Type 0} (of_file : F → FileState) (of_port : R → PortState) (image : FileState → ℕ → ℕ → List ℕ) (Reliable : Type 0) (w : World) (drew draws : ℕ) (t : Trace) (script : ScriptValue)
-      (is : script_of t.taken ≡ Ok script) (handed given : BenchState) (b : IsBlankBench keys handed) where
+      (is : script_of t.taken ≡ Ok script) (handed given : BenchState) (b : IsBlankBench keys handed) (unaltered : AlterNothing (acts_of Serial script.steps)) where
     abbrev apps : List (List ℕ)
     apps = applications_of script
 
@@ -260,13 +285,13 @@ module _ (keys : Keys) where
     stands_shut ReadFault cause ends = absurd ends
     stands_shut (TooLong excess) cause ends = absurd ends
 
-    stands_run : (acts : List Act) (status : Status) → ((fault : MountFault) → status ≡ MountRefused fault → IsRefusal fault) → EndsRun of_file of_port image Reliable drew draws keys apps acts t.start t.records handed given status → Stands status
-    stands_run acts status cause (inl o) =
+    stands_run : (acts : List Act) (status : Status) → AlterNothing acts → ((fault : MountFault) → status ≡ MountRefused fault → IsRefusal fault) → EndsRun of_file of_port image Reliable drew draws keys apps acts t.start t.records handed given status → Stands status
+    stands_run acts status none cause (inl o) =
         let held = blank_opened keys apps handed o.between b o.opens in (
-          (stands_acts of_file of_port image Reliable keys apps none_left drew draws [] acts t.start o.shown t.records o.between given held status cause o.ends).stands,
+          (stands_acts of_file of_port image Reliable keys apps none_left drew draws [] acts t.start o.shown t.records (begins_with o.between) given tt none held status cause o.ends).stands,
           λ fault some. let e : ◌≡◌ {A = Option MountFault} None (Some fault) = sym o.shown ∙ some in absurd cc,
         )
-    stands_run acts status cause (inr shut) = stands_shut status cause shut
+    stands_run acts status none cause (inr shut) = stands_shut status cause shut
 
     abbrev Ends : Status → ScriptValue → Type 0
     Ends status other = EndsScript of_file of_port image Reliable drew draws keys other t.start t.records handed given status
@@ -275,7 +300,7 @@ module _ (keys : Keys) where
     stands_script status cause (other, read, ends) =
         let e : ◌≡◌ {A = Result ScriptValue ScriptFault} (Ok other) (Ok script) = sym read ∙ is in
         let same : other ≡ script = cc in
-        stands_run (acts_of Serial script.steps) status cause (subst (Ends status) same ends)
+        stands_run (acts_of Serial script.steps) status unaltered cause (subst (Ends status) same ends)
 
     stands_silent : (status : Status) → (status ≡ Done → ⊥) → ((fault : MountFault) → status ≡ MountRefused fault → ⊥) → IsSilent t → Stands status
     stands_silent status undone stored silent =
@@ -298,5 +323,5 @@ module _ (keys : Keys) where
     formatted_stands (TooLong (Apps n)) cause ends = absurd (no_fault (TooManyApps n) cause.1)
 
 pub formatted_runs_stand : {F R : Type 0} (of_file : F → FileState) (of_port : R → PortState) (image : FileState → ℕ → ℕ → List ℕ) (Reliable : Type 0) (w : World) → FormattedRunsStand of_file of_port image Reliable w
-formatted_runs_stand of_file of_port image Reliable w left_old left_new held_old held_new drew draws keys handed given status script r b is =
-    formatted_stands keys of_file of_port image Reliable w drew draws r.0 script is handed given b status (r.1).cause r.2
+formatted_runs_stand of_file of_port image Reliable w left_old left_new held_old held_new drew draws keys handed given status script r b is unaltered =
+    formatted_stands keys of_file of_port image Reliable w drew draws r.0 script is handed given b unaltered status (r.1).cause r.2

@@ -1,5 +1,6 @@
 pub mod Steps
 pub mod Sounds
+pub mod SavedMaps
 pub mod Goings
 pub mod Endings
 pub mod Once
@@ -11,6 +12,7 @@ pub mod Wholes
 pub mod Soaks
 pub mod Sent
 pub mod GoingFold
+pub mod Alterings
 pub mod RecordLaws
 pub mod QuietRuns
 pub mod RunLaws

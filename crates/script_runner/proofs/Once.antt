@@ -5,7 +5,7 @@ use Rattle.hmac_keys.specs.declared.Keys.{Keys}
 use Rattle.rpmb_card.specs.Port.{PortState}
 use Rattle.run_acts.specs.declared.MountFault.{MountFault}
 use Rattle.script_text.specs.declared.script.Control.{Control}
-use Rattle.script_text.specs.declared.script.Control.TheVariants.{Arm as ArmControl, Crash, List as ListControl, Mode as ModeControl, Phase}
+use Rattle.script_text.specs.declared.script.Control.TheVariants.{Arm as ArmControl, Crash, Flip, List as ListControl, Mode as ModeControl, Phase, Restore, Save}
 use Rattle.script_text.specs.declared.script.Mode.{Mode}
 use Rattle.script_text.specs.declared.script.Step.{Step}
 use Rattle.script_text.specs.declared.script.Step.TheVariants.{Control as ControlStep}
@@ -15,17 +15,18 @@ use Rattle.script_text.specs.Text.{control_line, events_text, phase_line}
 use Rattle.run_acts.specs.Lines.{objects_text}
 use Rattle.store_model.specs.Object.{ObjectMap}
 use Rattle.script_runner.proofs.Steps.{place-lt}
-use Rattle.run_acts.specs.Benches.{bench_state}
+use Rattle.run_acts.specs.Benches.{BenchState, bench_state}
 use Rattle.script_runner.specs.Sending.{Sends, Stops}
+use Rattle.script_runner.specs.declared.status.Status.{Status}
 use Rattle.script_runner.specs.declared.status.Status.TheVariants.{NoMemory}
 use Rattle.script_runner.specs.declared.run_state.Run.{Run}
 use Rattle.script_runner.specs.declared.run_state.RunEnd.{RunEnd}
 use Rattle.script_runner.specs.Text.{Act, Controlled, Do, Listed, PhaseRecord, Ran, RunRecord, Serve, acts_of, acts_text, mode_behind, phase_text}
 use Rattle.script_runner.specs.Trace.{applications_of}
 use Rattle.script_runner.specs.Course.{Goes, RefusesFirst}
-use Rattle.script_runner.specs.Points.{arms_behind, phases_in, point_of}
+use Rattle.script_runner.specs.Points.{arms_behind, phases_in, point_of, standing_of}
 use Rattle.script_runner.specs.RunReady.{IsNext, IsReady}
-use Rattle.script_runner.specs.Running.{EndsAt, GoesOn}
+use Rattle.script_runner.specs.Running.{EndsAt, EndsFrom, GoesOn}
 use Rattle.script_runner.specs.Prints.{IsCutOff, IsSent, PrintsRefusal}
 use Rattle.run_acts.specs.Crashes.{CrashesInPart}
 use Rattle.script_runner.proofs.Endings.{EndsFrom-crashed, EndsFrom-no_memory, EndsFrom-refused, EndsFrom-text}
@@ -36,6 +37,9 @@ control_text script number (ModeControl mode) h = append-nil _
 control_text script number Phase h = append-nil _
 control_text script number (ArmControl arm) h = append-nil _
 control_text script number (Crash seed) h = append-nil _
+control_text script number (Save mark) h = append-nil _
+control_text script number (Restore file mark) h = append-nil _
+control_text script number (Flip file at mask) h = append-nil _
 control_text script number ListControl h = absurd (h refl)
 
 -- the text of a list
@@ -50,7 +54,7 @@ module _ {F R : Type 0} (of_file : F → FileState) (of_port : R → PortState) 
   -- What an act did to a run, but for its text: `behind` is the run with the bench, the arms, the mode and the place as they are then.
   pub record HasDone (act : Act) (records : List RunRecord) (run behind : Run F R) : Type 0 where
     pub acts : acts_of run.mode (drop run.at script.steps) ≡ act ∷ acts_of behind.mode (drop behind.at script.steps)
-    pub goes : Goes of_file of_port image Reliable keys (applications_of script) run.arms.items (act ∷ []) records (bench_state of_file of_port run.bench) (bench_state of_file of_port behind.bench)
+    pub goes : Goes of_file of_port image Reliable keys (applications_of script) run.arms.items (act ∷ []) records (standing_of of_file of_port run) (standing_of of_file of_port behind)
     pub arms_are : behind.arms.items ≡ arms_behind run.arms.items (act ∷ [])
     pub number_is : behind.number ≡ run.number + phases_in (act ∷ [])
     pub kept_is : behind.kept.items ≡ run.kept.items
@@ -59,7 +63,7 @@ module _ {F R : Type 0} (of_file : F → FileState) (of_port : R → PortState) 
 
   -- a control was done: the place is the next one, and the bench, the arms and the mode are as the control says
   pub HasDone-control : (control : Control) (records : List RunRecord) (run behind : Run F R) → IsReady script run → IsNext script run (ControlStep control)
-      → Goes of_file of_port image Reliable keys (applications_of script) run.arms.items (Do control ∷ []) records (bench_state of_file of_port run.bench) (bench_state of_file of_port behind.bench)
+      → Goes of_file of_port image Reliable keys (applications_of script) run.arms.items (Do control ∷ []) records (standing_of of_file of_port run) (standing_of of_file of_port behind)
       → behind.arms.items ≡ arms_behind run.arms.items (Do control ∷ []) → All IsArm behind.arms.items → vec_len behind.bench.files ≡ 273
       → behind.number ≡ run.number → behind.mode ≡ mode_behind run.mode control → behind.kept.items ≡ run.kept.items → behind.at ≡ run.at + 1 → HasDone (Do control) records run behind
   HasDone-control control records run behind ready next goes arms_are arms whole number mode kept at =
@@ -88,7 +92,7 @@ module _ {F R : Type 0} (of_file : F → FileState) (of_port : R → PortState) 
       done = act ∷ [];
       records = records;
       acts = rw (s.at, s.mode) d.acts;
-      goes = rw s.bench d.goes;
+      goes = rw (s.bench, s.saved) d.goes;
       arms_are = rw s.arms d.arms_are;
       number_is = s.number ∙ d.number_is;
       sent = subst (λ k. Sends held_old held_new k next.kept.items (acts_text script run.number (act ∷ []) records)) d.kept_is s.sends;
@@ -101,7 +105,7 @@ module _ {F R : Type 0} (of_file : F → FileState) (of_port : R → PortState) 
   pub EndsAt-act : (failed : Type 0) (held_old held_new : Option (List ℕ)) (act : Act) (records : List RunRecord) (run behind : Run F R) (end : RunEnd F R) → HasDone of_file of_port image Reliable keys script act records run behind → IsCutOff failed held_old held_new (acts_text script run.number (act ∷ []) records) behind end → EndsAt of_file of_port image Reliable drew draws keys script failed held_old held_new run end
   EndsAt-act failed held_old held_new act records run behind end d s = record {
     ends = rw s.bench
-        (EndsFrom-text of_file of_port image Reliable drew draws keys script failed (point_of of_file of_port script held_old run) held_new (bench_state of_file of_port behind.bench) (act ∷ []) (acts_of behind.mode (drop behind.at script.steps)) records end.status
+        (EndsFrom-text of_file of_port image Reliable drew draws keys script failed (point_of of_file of_port script held_old run) held_new (standing_of of_file of_port behind) (act ∷ []) (acts_of behind.mode (drop behind.at script.steps)) records end.status
         d.acts d.goes (subst (λ k. Stops held_old held_new k (acts_text script run.number (act ∷ []) records)) d.kept_is s.stops) s.error);
     whole = rw s.bench d.ready.whole;
   }
@@ -113,14 +117,16 @@ module _ {F R : Type 0} (of_file : F → FileState) (of_port : R → PortState) 
   }
 
   -- there is no memory, and nothing was done
-  pub EndsAt-no_memory : (failed : Type 0) (held : Option (List ℕ)) (run : Run F R) (end : RunEnd F R) → end ≡ record { status = NoMemory; bench = run.bench } → vec_len run.bench.files ≡ 273 → EndsAt of_file of_port image Reliable drew draws keys script failed held held run end
-  EndsAt-no_memory failed held run end is whole =
-      let here : RunEnd F R = record { status = NoMemory; bench = run.bench } in
-      let ends : EndsAt of_file of_port image Reliable drew draws keys script failed held held run here = record {
-        ends = EndsFrom-no_memory of_file of_port image Reliable drew draws keys script failed (point_of of_file of_port script held run);
+  pub EndsAt-no_memory : (failed : Type 0) (held : Option (List ℕ)) (run : Run F R) (end : RunEnd F R) → end.status ≡ NoMemory → bench_state of_file of_port end.bench ≡ bench_state of_file of_port run.bench → vec_len end.bench.files ≡ 273
+      → EndsAt of_file of_port image Reliable drew draws keys script failed held held run end
+  EndsAt-no_memory failed held run end is same whole =
+      let here = point_of of_file of_port script held run in
+      record {
+        ends = subst (λ (b : BenchState). EndsFrom of_file of_port image Reliable drew draws keys script failed here held b end.status) (sym same)
+            (subst (λ (s : Status). EndsFrom of_file of_port image Reliable drew draws keys script failed here held (bench_state of_file of_port run.bench) s) (sym is)
+            (EndsFrom-no_memory of_file of_port image Reliable drew draws keys script failed here));
         whole = whole;
-      } in
-      subst (λ (e : RunEnd F R). EndsAt of_file of_port image Reliable drew draws keys script failed held held run e) (sym is) ends
+      }
 
   -- there is no memory for all of a crash
   pub EndsAt-crashed : (failed : Type 0) (held : Option (List ℕ)) (run : Run F R) (end : RunEnd F R) (seed : ℕ) → IsNext script run (ControlStep (Crash seed)) → end.status ≡ NoMemory

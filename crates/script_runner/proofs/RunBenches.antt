@@ -4,13 +4,15 @@ use Rattle.disk_model.specs.State.{FileState}
 use Rattle.hmac_keys.specs.declared.Keys.{Keys}
 use Rattle.rpmb_card.specs.Port.{PortState}
 use Rattle.script_text.specs.declared.script.Arm.{Arm}
-use Rattle.script_text.specs.declared.script.Control.TheVariants.{Arm as ArmControl, Crash, List as ListControl, Mode as ModeControl, Phase}
+use Rattle.script_text.specs.declared.script.Control.TheVariants.{Arm as ArmControl, Crash, Flip, List as ListControl, Mode as ModeControl, Phase, Restore, Save}
 use Rattle.script_text.specs.declared.script.Mode.{Mode}
 use Rattle.script_text.specs.declared.script.Mode.TheVariants.{Serial}
 use Rattle.script_text.specs.declared.script.Step.{Step}
 use Rattle.script_text.specs.Grammar.{script_of}
 use Rattle.script_text.specs.Script.{ScriptValue}
 use Rattle.store_model.specs.Object.{ObjectMap}
+use Rattle.tee_types.specs.declared.reply.Device.{Device}
+use Rattle.run_acts.specs.Alterations.{FlipsFile, file_number}
 use Rattle.run_acts.specs.Benches.{BenchState}
 use Rattle.run_acts.specs.Crashes.{Crashes, CrashesInPart}
 use Rattle.run_acts.specs.declared.MountFault.{MountFault}
@@ -26,6 +28,7 @@ use Rattle.script_runner.specs.Points.{arms_behind}
 use Rattle.script_runner.specs.RunBenches.{HoldsAlong, HoldsOfActs, HoldsOfRun, HoldsOfSource, HoldsRefused, HoldsStarved, HoldsUntil, next_act}
 use Rattle.script_runner.specs.Text.{Act, Controlled, Do, Listed, PhaseRecord, Ran, Refused, RunRecord, Serve, acts_of}
 use Rattle.script_runner.specs.Trace.{Trace, applications_of}
+use Rattle.script_runner.specs.SavedFiles.{PutsBack, Standing, begins_with}
 use Rattle.script_runner.proofs.GoingFold.{GoesAll, Steps, fold_going}
 
 module _ {F R : Type 0} (of_file : F → FileState) (of_port : R → PortState) (image : FileState → ℕ → ℕ → List ℕ) (Reliable : Type 0) (keys : Keys) (P : List Act → List RunRecord → BenchState → Type 0)
@@ -43,6 +46,12 @@ module _ {F R : Type 0} (of_file : F → FileState) (of_port : R → PortState) 
         → Inv (before ++ Do (ArmControl arm) ∷ []) (told ++ Controlled ∷ []) (arms ++ arm ∷ []) bench
     pub crash : (before : List Act) (told : List RunRecord) (arms : List Arm) (seed : ℕ) (old new : BenchState) → Crashes image seed old new → Inv before told arms old
         → Inv (before ++ Do (Crash seed) ∷ []) (told ++ Controlled ∷ []) arms new
+    pub save : (before : List Act) (told : List RunRecord) (arms : List Arm) (mark : List ℕ) (bench : BenchState) → Inv before told arms bench
+        → Inv (before ++ Do (Save mark) ∷ []) (told ++ Controlled ∷ []) arms bench
+    pub restore : (before : List Act) (told : List RunRecord) (arms : List Arm) (file : Device) (mark : List ℕ) (kept : Option (List ℕ)) (old new : BenchState)
+        → PutsBack (file_number file) kept old new → Inv before told arms old → Inv (before ++ Do (Restore file mark) ∷ []) (told ++ Controlled ∷ []) arms new
+    pub flip : (before : List Act) (told : List RunRecord) (arms : List Arm) (file : Device) (at : ℕ) (mask : List ℕ) (old new : BenchState)
+        → FlipsFile (file_number file) at mask old new → Inv before told arms old → Inv (before ++ Do (Flip file at mask) ∷ []) (told ++ Controlled ∷ []) arms new
     pub list : (before : List Act) (told : List RunRecord) (arms : List Arm) (objects : ObjectMap) (old new : BenchState)
         → ListsBench of_file of_port keys old new objects (objects_text objects) → Inv before told arms old → Inv (before ++ Do ListControl ∷ []) (told ++ Listed objects ∷ []) arms new
     pub opened : (between : BenchState) → OpensBench keys handed between → Inv [] [] [] between
@@ -53,10 +62,10 @@ module _ {F R : Type 0} (of_file : F → FileState) (of_port : R → PortState) 
         → P (before ++ Do (Crash seed) ∷ []) told given
 
   module _ (apps : List (List ℕ)) (w : Walks apps) where
-    abbrev Along : (arms : List Arm) (acts : List Act) (records : List RunRecord) (old new : BenchState) → GoesAll of_file of_port image Reliable keys apps arms acts records old new → Type 0
+    abbrev Along : (arms : List Arm) (acts : List Act) (records : List RunRecord) (old new : Standing) → GoesAll of_file of_port image Reliable keys apps arms acts records old new → Type 0
     Along arms acts records old new goes =
-        (before : List Act) (told : List RunRecord) → Inv before told arms old
-        → HoldsAlong of_file of_port image Reliable keys P before told apps arms acts records old new goes × Inv (before ++ acts) (told ++ records) (arms_behind arms acts) new
+        (before : List Act) (told : List RunRecord) → Inv before told arms old.bench
+        → HoldsAlong of_file of_port image Reliable keys P before told apps arms acts records old new goes × Inv (before ++ acts) (told ++ records) (arms_behind arms acts) new.bench
 
     -- an act that stood behind others stands before the rest
     moved : (before : List Act) (told : List RunRecord) (act : Act) (one : RunRecord) (acts : List Act) (records : List RunRecord) (arms : List Arm) (bench : BenchState)
@@ -68,44 +77,53 @@ module _ {F R : Type 0} (of_file : F → FileState) (of_port : R → PortState) 
     along_steps : Steps of_file of_port image Reliable keys apps Along
     along_steps = record {
       none = λ arms old new goes before told inv.
-          let there : Inv before told arms new = subst (Inv before told arms) (sym goes) inv in
-          let first = subst (λ (l : List Act). Inv l told arms new) (sym (append-nil before)) there in
-          (w.gives before told arms new there, subst (λ (l : List RunRecord). Inv (before ++ []) l arms new) (sym (append-nil told)) first);
+          let there : Inv before told arms new.bench = subst (λ (b : Standing). Inv before told arms b.bench) (sym goes) inv in
+          let first = subst (λ (l : List Act). Inv l told arms new.bench) (sym (append-nil before)) there in
+          (w.gives before told arms new.bench there, subst (λ (l : List RunRecord). Inv (before ++ []) l arms new.bench) (sym (append-nil told)) first);
       phase = λ arms mode calls acts phase records old new goes rest before told inv.
-          let found = rest (before ++ Serve mode calls ∷ []) (told ++ Ran phase ∷ []) (w.phase before told arms mode calls phase old goes.0 goes.1 inv) in
-          ((w.gives before told arms old inv, found.0), moved before told (Serve mode calls) (Ran phase) acts records (arms_behind [] acts) new found.1);
+          let found = rest (before ++ Serve mode calls ∷ []) (told ++ Ran phase ∷ []) (w.phase before told arms mode calls phase old.bench goes.0 goes.1 inv) in
+          ((w.gives before told arms old.bench inv, found.0), moved before told (Serve mode calls) (Ran phase) acts records (arms_behind [] acts) new.bench found.1);
       mode = λ arms mode acts records old new goes rest before told inv.
-          let found = rest (before ++ Do (ModeControl mode) ∷ []) (told ++ Controlled ∷ []) (w.mode before told arms mode old inv) in
-          ((w.gives before told arms old inv, found.0), moved before told (Do (ModeControl mode)) Controlled acts records (arms_behind arms acts) new found.1);
+          let found = rest (before ++ Do (ModeControl mode) ∷ []) (told ++ Controlled ∷ []) (w.mode before told arms mode old.bench inv) in
+          ((w.gives before told arms old.bench inv, found.0), moved before told (Do (ModeControl mode)) Controlled acts records (arms_behind arms acts) new.bench found.1);
       mark = λ arms acts records old new goes rest before told inv.
-          let found = rest (before ++ Do Phase ∷ []) (told ++ Controlled ∷ []) (w.mark before told arms old inv) in
-          ((w.gives before told arms old inv, found.0), moved before told (Do Phase) Controlled acts records (arms_behind arms acts) new found.1);
+          let found = rest (before ++ Do Phase ∷ []) (told ++ Controlled ∷ []) (w.mark before told arms old.bench inv) in
+          ((w.gives before told arms old.bench inv, found.0), moved before told (Do Phase) Controlled acts records (arms_behind arms acts) new.bench found.1);
       arm = λ arms arm acts records old new goes rest before told inv.
-          let found = rest (before ++ Do (ArmControl arm) ∷ []) (told ++ Controlled ∷ []) (w.arm before told arms arm old inv) in
-          ((w.gives before told arms old inv, found.0), moved before told (Do (ArmControl arm)) Controlled acts records (arms_behind (arms ++ arm ∷ []) acts) new found.1);
+          let found = rest (before ++ Do (ArmControl arm) ∷ []) (told ++ Controlled ∷ []) (w.arm before told arms arm old.bench inv) in
+          ((w.gives before told arms old.bench inv, found.0), moved before told (Do (ArmControl arm)) Controlled acts records (arms_behind (arms ++ arm ∷ []) acts) new.bench found.1);
       crash = λ arms seed acts records old new goes rest before told inv.
-          let found = rest (before ++ Do (Crash seed) ∷ []) (told ++ Controlled ∷ []) (w.crash before told arms seed old goes.0 goes.1 inv) in
-          ((w.gives before told arms old inv, found.0), moved before told (Do (Crash seed)) Controlled acts records (arms_behind arms acts) new found.1);
+          let found = rest (before ++ Do (Crash seed) ∷ []) (told ++ Controlled ∷ []) (w.crash before told arms seed old.bench goes.0 goes.1 inv) in
+          ((w.gives before told arms old.bench inv, found.0), moved before told (Do (Crash seed)) Controlled acts records (arms_behind arms acts) new.bench found.1);
+      save = λ arms mark acts records old new goes rest before told inv.
+          let found = rest (before ++ Do (Save mark) ∷ []) (told ++ Controlled ∷ []) (w.save before told arms mark old.bench inv) in
+          ((w.gives before told arms old.bench inv, found.0), moved before told (Do (Save mark)) Controlled acts records (arms_behind arms acts) new.bench found.1);
+      restore = λ arms file mark acts records old new goes rest before told inv.
+          let found = rest (before ++ Do (Restore file mark) ∷ []) (told ++ Controlled ∷ []) (w.restore before told arms file mark (old.saved mark (file_number file)) old.bench goes.0 goes.1 inv) in
+          ((w.gives before told arms old.bench inv, found.0), moved before told (Do (Restore file mark)) Controlled acts records (arms_behind arms acts) new.bench found.1);
+      flip = λ arms file at mask acts records old new goes rest before told inv.
+          let found = rest (before ++ Do (Flip file at mask) ∷ []) (told ++ Controlled ∷ []) (w.flip before told arms file at mask old.bench goes.0 goes.1 inv) in
+          ((w.gives before told arms old.bench inv, found.0), moved before told (Do (Flip file at mask)) Controlled acts records (arms_behind arms acts) new.bench found.1);
       list = λ arms acts objects records old new goes rest before told inv.
-          let found = rest (before ++ Do ListControl ∷ []) (told ++ Listed objects ∷ []) (w.list before told arms objects old goes.0 goes.1 inv) in
-          ((w.gives before told arms old inv, found.0), moved before told (Do ListControl) (Listed objects) acts records (arms_behind arms acts) new found.1);
+          let found = rest (before ++ Do ListControl ∷ []) (told ++ Listed objects ∷ []) (w.list before told arms objects old.bench goes.0 goes.1 inv) in
+          ((w.gives before told arms old.bench inv, found.0), moved before told (Do ListControl) (Listed objects) acts records (arms_behind arms acts) new.bench found.1);
     }
 
-    along : (arms : List Arm) (acts : List Act) (records : List RunRecord) (old new : BenchState) (goes : GoesAll of_file of_port image Reliable keys apps arms acts records old new) → Along arms acts records old new goes
+    along : (arms : List Arm) (acts : List Act) (records : List RunRecord) (old new : Standing) (goes : GoesAll of_file of_port image Reliable keys apps arms acts records old new) → Along arms acts records old new goes
     along = fold_going of_file of_port image Reliable keys apps Along along_steps
 
-    module _ (acts : List Act) (records : List RunRecord) (old : BenchState) (inv : Inv [] [] [] old) where
+    module _ (acts : List Act) (records : List RunRecord) (old : Standing) (inv : Inv [] [] [] old.bench) where
       abbrev Refusal : MountFault → Type 0
       Refusal fault = RecordsRefusal of_file of_port image Reliable drew draws keys apps [] acts records old given fault
 
       hold_until : (left : List Act) (g : GoesUntil of_file of_port image Reliable keys apps [] acts records left old given)
           → HoldsUntil of_file of_port image Reliable keys P apps [] acts records old given left g
-      hold_until left g = (along [] g.done records old given g.goes [] [] inv).0
+      hold_until left g = (along [] g.done records old (record { bench = given; saved = g.saved }) g.goes [] [] inv).0
 
       hold_refused : (fault : MountFault) (r : Refusal fault) → HoldsRefused of_file of_port image Reliable keys P apps [] acts records old given drew draws fault r
       hold_refused fault (front, is, g) =
           let done = (g.goes).done in
-          let found = along [] done front old g.between (g.goes).goes [] [] inv in
+          let found = along [] done front old (record { bench = g.between; saved = (g.goes).saved }) (g.goes).goes [] [] inv in
           (found.0, subst (λ (l : List RunRecord). P (done ++ next_act g.left) l given) (sym is) (w.refused done front (arms_behind [] done) g.left fault g.between g.refused found.1))
 
       hold_starved : (ends : EndsForMemory of_file of_port image Reliable drew draws keys apps [] acts records old given)
@@ -114,7 +132,7 @@ module _ {F R : Type 0} (of_file : F → FileState) (of_port : R → PortState) 
       hold_starved (inr (inl (fault, may, r))) = hold_refused fault r
       hold_starved (inr (inr g)) =
           let done = (g.goes).done in
-          let found = along [] done records old g.between (g.goes).goes [] [] inv in
+          let found = along [] done records old (record { bench = g.between; saved = (g.goes).saved }) (g.goes).goes [] [] inv in
           (found.0, w.crashed done records (arms_behind [] done) g.seed g.between g.crashes found.1)
 
       hold_acts : (status : Status) (ends : EndsActs of_file of_port image Reliable drew draws keys apps [] acts records old given status)
@@ -149,7 +167,7 @@ module _ {F R : Type 0} (of_file : F → FileState) (of_port : R → PortState) 
   hold_run : (apps : List (List ℕ)) (acts : List Act) → WalksOf apps → (status : Status) (ends : EndsRun of_file of_port image Reliable drew draws keys apps acts t.start t.records handed given status)
       → HoldsOfRun of_file of_port image Reliable keys P apps acts drew draws t handed given status ends
   hold_run apps acts w status (inl o) =
-      hold_acts of_file of_port image Reliable keys P Inv drew draws t.start handed given apps w acts t.records o.between (w.opened o.between o.opens) status o.ends
+      hold_acts of_file of_port image Reliable keys P Inv drew draws t.start handed given apps w acts t.records (begins_with o.between) (w.opened o.between o.opens) status o.ends
   hold_run apps acts w status (inr shut) = hold_shut of_file of_port image Reliable keys P Inv drew draws t.start handed given apps w t.records status shut
 
   -- what was run, was a script that was read

@@ -26,12 +26,16 @@ use Rattle.script_runner.specs.declared.status.Excess.TheVariants.{Apps, Bytes}
 use Rattle.script_runner.specs.Course.{GoesUntil, GoesUntilCrashed}
 use Rattle.script_runner.specs.Ending.{EndsActs, EndsBench, EndsRun, EndsScript, NotOpened, RecordsRefusal, Shut}
 use Rattle.script_runner.specs.Points.{arms_behind}
-use Rattle.script_runner.specs.RecordLaws.{FindLeft, HoldsUntainted, left_behind}
+use Rattle.script_runner.specs.RecordLaws.{AlterNothing, FindLeft, HoldsUntainted, left_behind}
 use Rattle.script_runner.specs.RunCauses.{HasCause, World}
 use Rattle.script_runner.specs.RunLaws.{NoneRefused, RefusedByDevices, RunsStandBehind, StandsBehind}
 use Rattle.script_runner.specs.RunRefusals.{IsRefusal}
-use Rattle.script_runner.specs.Text.{Act, Controlled, Listed, Ran, Refused, RunRecord, acts_of}
+use Rattle.script_runner.specs.Text.{Act, Controlled, Do, Listed, Ran, Refused, RunRecord, acts_of}
 use Rattle.script_runner.specs.Trace.{IsSilent, OfScript, Trace, applications_of}
+use Rattle.script_runner.specs.SavedFiles.{Standing, begins_with}
+use Rattle.script_text.specs.declared.script.Control.TheVariants.{Crash}
+use Rattle.run_acts.specs.Untainted.{ArmNoMask}
+use Rattle.script_runner.proofs.Alterings.{alter_front}
 use Rattle.script_runner.proofs.GoingFold.{GoesAll, Steps, fold_going}
 use Rattle.script_runner.proofs.RecordLaws.{first_refusal, records_find_left}
 
@@ -85,10 +89,13 @@ module _ {F R : Type 0} (of_file : F → FileState) (of_port : R → PortState) 
     mark = λ arms acts records old new goes rest. rest;
     arm = λ arms arm acts records old new goes rest. rest;
     crash = λ arms seed acts records old new goes rest. rest;
+    save = λ arms mark acts records old new goes rest. rest;
+    restore = λ arms file mark acts records old new goes rest. rest;
+    flip = λ arms file at mask acts records old new goes rest. rest;
     list = λ arms acts objects records old new goes rest. rest;
   }
 
-  goes_unrefused : (apps : List (List ℕ)) (arms : List Arm) (acts : List Act) (records : List RunRecord) (old new : BenchState) → GoesAll of_file of_port image Reliable keys apps arms acts records old new → NoneRefused records
+  goes_unrefused : (apps : List (List ℕ)) (arms : List Arm) (acts : List Act) (records : List RunRecord) (old new : Standing) → GoesAll of_file of_port image Reliable keys apps arms acts records old new → NoneRefused records
   goes_unrefused apps = fold_going of_file of_port image Reliable keys apps (λ arms acts records old new goes. NoneRefused records) (refuse_none apps)
 
   -- the same files and the same card
@@ -118,12 +125,18 @@ module _ {F R : Type 0} (of_file : F → FileState) (of_port : R → PortState) 
     not_opened : (start : Option MountFault) → start ≡ None → (fault : MountFault) → start ≡ Some fault → IsOfDevice fault
     not_opened start none fault some = let e : ◌≡◌ {A = Option MountFault} None (Some fault) = sym none ∙ some in absurd cc
 
-    module _ (arms : List Arm) (acts : List Act) (start : Option MountFault) (none : start ≡ None) (records : List RunRecord) (between given : BenchState) (held : HoldsUntainted keys between s) where
+    module _ (arms : List Arm) (acts : List Act) (start : Option MountFault) (none : start ≡ None) (records : List RunRecord) (between : Standing) (given : BenchState) (unmasked : ArmNoMask arms) (unaltered : AlterNothing acts)
+        (held : HoldsUntainted keys between.bench s) where
+      -- those that were done alter nothing either
+      done_none : (done left : List Act) → acts ≡ done ++ left → AlterNothing done
+      done_none done left front = alter_front done left (subst AlterNothing front unaltered)
+
       stands_until : (status : Status) (left : List Act) → ((fault : MountFault) → status ≡ MountRefused fault → ⊥) → GoesUntil of_file of_port image Reliable keys apps arms acts records left between given
           → Stands start records given status
       stands_until status left stored g =
-          let found = records_find_left of_file of_port image Reliable keys apps arms g.done records between given s g.goes held in
-          let free = goes_unrefused apps arms g.done records between given g.goes in
+          let there : Standing = record { bench = given; saved = g.saved } in
+          let found = records_find_left of_file of_port image Reliable keys apps arms g.done records between there s unmasked (done_none g.done left g.front) g.goes held in
+          let free = goes_unrefused apps arms g.done records between there g.goes in
           record {
             stands = record { finds = found.0; done = λ is. free; refused = by_devices-none records free; stored = stored };
             leaves = λ unrefused. found.1;
@@ -132,14 +145,16 @@ module _ {F R : Type 0} (of_file : F → FileState) (of_port : R → PortState) 
 
       pub refusal_of_device : (fault : MountFault) → RecordsRefusal of_file of_port image Reliable drew draws keys apps arms acts records between given fault → IsOfDevice fault
       refusal_of_device fault (front, is, g) =
-          let found = records_find_left of_file of_port image Reliable keys apps arms (g.goes).done front between g.between s (g.goes).goes held in
+          let there : Standing = record { bench = g.between; saved = (g.goes).saved } in
+          let found = records_find_left of_file of_port image Reliable keys apps arms (g.goes).done front between there s unmasked (done_none (g.goes).done g.left (g.goes).front) (g.goes).goes held in
           first_refusal of_file of_port image Reliable drew draws keys apps (arms_behind arms (g.goes).done) g.left g.between given (left_behind apps s front) fault found.1 g.refused
 
       stands_refused : (status : Status) (fault : MountFault) → (status ≡ Done → ⊥) → ((other : MountFault) → status ≡ MountRefused other → ⊥)
           → RecordsRefusal of_file of_port image Reliable drew draws keys apps arms acts records between given fault → Stands start records given status
       stands_refused status fault undone stored (front, is, g) =
-          let found = records_find_left of_file of_port image Reliable keys apps arms (g.goes).done front between g.between s (g.goes).goes held in
-          let free = goes_unrefused apps arms (g.goes).done front between g.between (g.goes).goes in
+          let there : Standing = record { bench = g.between; saved = (g.goes).saved } in
+          let found = records_find_left of_file of_port image Reliable keys apps arms (g.goes).done front between there s unmasked (done_none (g.goes).done g.left (g.goes).front) (g.goes).goes held in
+          let free = goes_unrefused apps arms (g.goes).done front between there (g.goes).goes in
           subst (λ (l : List RunRecord). Stands start l given status) (sym is) (record {
             stands = record {
               finds = find_left-refused apps s front fault found.0;
@@ -153,8 +168,9 @@ module _ {F R : Type 0} (of_file : F → FileState) (of_port : R → PortState) 
 
       stands_crashed : (status : Status) → ((fault : MountFault) → status ≡ MountRefused fault → ⊥) → GoesUntilCrashed of_file of_port image Reliable keys apps arms acts records between given → Stands start records given status
       stands_crashed status stored g =
-          let found = records_find_left of_file of_port image Reliable keys apps arms (g.goes).done records between g.between s (g.goes).goes held in
-          let free = goes_unrefused apps arms (g.goes).done records between g.between (g.goes).goes in
+          let there : Standing = record { bench = g.between; saved = (g.goes).saved } in
+          let found = records_find_left of_file of_port image Reliable keys apps arms (g.goes).done records between there s unmasked (done_none (g.goes).done (Do (Crash g.seed) ∷ g.left) (g.goes).front) (g.goes).goes held in
+          let free = goes_unrefused apps arms (g.goes).done records between there (g.goes).goes in
           let may = part_may_be image g.seed g.between given g.crashes in
           let before = found.1 in
           let card = before.card in
@@ -207,15 +223,16 @@ module _ {F R : Type 0} (of_file : F → FileState) (of_port : R → PortState) 
       stands_shut ReadFault cause ends = absurd ends
       stands_shut (TooLong excess) cause ends = absurd ends
 
-      stands_run : (acts : List Act) (status : Status) → ((fault : MountFault) → status ≡ MountRefused fault → IsRefusal fault) → EndsRun of_file of_port image Reliable drew draws keys apps acts start records handed given status
+      stands_run : (acts : List Act) (status : Status) → AlterNothing acts → ((fault : MountFault) → status ≡ MountRefused fault → IsRefusal fault) → EndsRun of_file of_port image Reliable drew draws keys apps acts start records handed given status
           → Stands start records given status
-      stands_run acts status cause (inl o) =
+      stands_run acts status unaltered cause (inl o) =
           let card = held.card in
-          stands_acts [] acts start o.shown records o.between given (same_untainted s handed o.between (opens_same keys s handed card.0 held.holds card.1 o.between o.opens) held) status cause o.ends
-      stands_run acts status cause (inr shut) = stands_shut status cause shut
+          stands_acts [] acts start o.shown records (begins_with o.between) given tt unaltered (same_untainted s handed o.between (opens_same keys s handed card.0 held.holds card.1 o.between o.opens) held) status cause o.ends
+      stands_run acts status unaltered cause (inr shut) = stands_shut status cause shut
 
   -- the run of a source
-  module _ (w : World) (drew draws : ℕ) (s : ReplayState) (t : Trace) (script : ScriptValue) (is : script_of t.taken ≡ Ok script) (handed given : BenchState) (held : HoldsUntainted keys handed s) where
+  module _ (w : World) (drew draws : ℕ) (s : ReplayState) (t : Trace) (script : ScriptValue) (is : script_of t.taken ≡ Ok script) (handed given : BenchState) (held : HoldsUntainted keys handed s)
+      (unaltered : AlterNothing (acts_of Serial script.steps)) where
     abbrev Behind : Status → Type 0
     Behind status = StandsBehind keys (applications_of script) s t.start t.records given status
 
@@ -227,7 +244,7 @@ module _ {F R : Type 0} (of_file : F → FileState) (of_port : R → PortState) 
     behind_script status cause (other, read, ends) =
         let e : ◌≡◌ {A = Result ScriptValue ScriptFault} (Ok other) (Ok script) = sym read ∙ is in
         let same : other ≡ script = cc in
-        stands_run (applications_of script) s drew draws t.start t.records handed given held (acts_of Serial script.steps) status cause (subst (Ends status) same ends)
+        stands_run (applications_of script) s drew draws t.start t.records handed given held (acts_of Serial script.steps) status unaltered cause (subst (Ends status) same ends)
 
     behind_silent : (status : Status) → ((fault : MountFault) → status ≡ MountRefused fault → ⊥) → given ≡ handed → IsSilent t → Behind status
     behind_silent status stored same silent =
@@ -252,5 +269,5 @@ module _ {F R : Type 0} (of_file : F → FileState) (of_port : R → PortState) 
     stands_source (TooLong (Apps n)) cause ends = absurd (no_fault (TooManyApps n) cause.1)
 
 pub runs_stand_behind : {F R : Type 0} (of_file : F → FileState) (of_port : R → PortState) (image : FileState → ℕ → ℕ → List ℕ) (Reliable : Type 0) (w : World) → RunsStandBehind of_file of_port image Reliable w
-runs_stand_behind of_file of_port image Reliable w left_old left_new held_old held_new drew draws keys handed given status s script r held is =
-    stands_source of_file of_port image Reliable keys w drew draws s r.0 script is handed given held status (r.1).cause r.2
+runs_stand_behind of_file of_port image Reliable w left_old left_new held_old held_new drew draws keys handed given status s script r held is unaltered =
+    stands_source of_file of_port image Reliable keys w drew draws s r.0 script is handed given held unaltered status (r.1).cause r.2

@@ -20,11 +20,12 @@ use Rattle.script_runner.specs.Ending.{EndsRun, NotOpened, Shut}
 use Rattle.script_runner.specs.Points.{Point}
 use Rattle.script_runner.specs.Running.{EndsFrom, RunsActs, RunsScript}
 use Rattle.script_runner.specs.Prints.{PrintsRefusal}
+use Rattle.script_runner.specs.SavedFiles.{nothing_saved}
 use Rattle.script_runner.proofs.Endings.{refusal_line-none}
 
 -- a run that has done nothing yet, on this bench
 abbrev pub first_point : Option (List ℕ) → BenchState → ScriptValue → Point
-first_point held bench script = record { held = held; kept = []; bench = bench; steps = script.steps; arms = []; number = 0; mode = Serial }
+first_point held bench script = record { held = held; kept = []; bench = bench; saved = nothing_saved; steps = script.steps; arms = []; number = 0; mode = Serial }
 
 module _ {F R : Type 0} (of_file : F → FileState) (of_port : R → PortState) (image : FileState → ℕ → ℕ → List ℕ) (Reliable : Type 0) (drew draws : ℕ) (keys : Keys) (failed : Type 0) (held_old held_new : Option (List ℕ)) (handed : BenchState) where
   -- a front of nothing is nothing

@@ -30,6 +30,7 @@ use Rattle.script_runner.specs.Trace.{applications_of}
 use Rattle.script_runner.specs.RunRefusals.{IsDeviceFault, IsRefusal}
 use Rattle.script_runner.specs.Text.{Do, Listed, PhaseRecord, Ran, Refused, RunRecord, Serve}
 use Rattle.script_runner.specs.Ending.{EndsActs, EndsForMemory, EndsRun, RecordsRefusal}
+use Rattle.script_runner.specs.SavedFiles.{begins_with, nothing_saved}
 use Rattle.script_runner.specs.Soaks.{GoesThrough, IsBroken, RunsSoak, PrintsObjects, broken, soak_acts, soak_applications, soak_output, starved}
 use Rattle.script_runner.specs.Prints.{PrintsLines, PrintsRefusal}
 use Rattle.script_runner.proofs.Scripts.{RunsActs-refused}
@@ -102,7 +103,7 @@ module _ {F R : Type 0} (of_file : F → FileState) (of_port : R → PortState) 
     -- the phase was given up
     pub IsBroken-phase : (old new : BenchState) (fault : MountFault) → IsGivenUp of_file of_port keys (soak_applications number) [] Threads (soak_calls number) old new drew draws fault → IsBroken of_file of_port image Reliable keys number drew draws old new fault
     IsBroken-phase old new fault given_up =
-        broken (Refused fault ∷ []) ([], refl, record { left = soak_acts number; between = old; goes = record { done = []; front = refl; goes = refl }; refused = given_up }) refl
+        broken (Refused fault ∷ []) ([], refl, record { left = soak_acts number; between = old; goes = record { done = []; front = refl; saved = nothing_saved; goes = refl }; refused = given_up }) refl
 
     -- the list was refused
     IsBroken-list : (old between new : BenchState) (opening : ObjectMap) (events : List Event) (fault : MountFault)
@@ -112,12 +113,12 @@ module _ {F R : Type 0} (of_file : F → FileState) (of_port : R → PortState) 
         broken (Ran phase ∷ Refused fault ∷ []) (
           Ran phase ∷ [],
           refl,
-          record { left = Do ListControl ∷ []; between = between; goes = record { done = Serve Threads (soak_calls number) ∷ []; front = refl; goes = (between, runs, refl) }; refused = refused },
+          record { left = Do ListControl ∷ []; between = between; goes = record { done = Serve Threads (soak_calls number) ∷ []; front = refl; saved = nothing_saved; goes = (between, runs, refl) }; refused = refused },
         ) refl
 
     -- there was no memory for the script, and nothing was done
     pub IsBroken-undone : (old : BenchState) → IsBroken of_file of_port image Reliable keys number drew draws old old NoMemoryFault
-    IsBroken-undone old = starved [] refl (inl (soak_acts number, record { done = []; front = refl; goes = refl }))
+    IsBroken-undone old = starved [] refl (inl (soak_acts number, record { done = []; front = refl; saved = nothing_saved; goes = refl }))
 
     -- what was printed of the list says that it was refused, or that there was no memory for the lines of all that was done; no draw failed in
     -- the phase
@@ -128,12 +129,12 @@ module _ {F R : Type 0} (of_file : F → FileState) (of_port : R → PortState) 
     IsBroken-printed old between new opening events fault runs mid same (inl none) =
         let objects = none.1.0 in
         let lists = subst (λ (t : List ℕ). ListsBench of_file of_port keys between new objects t) (none.1.2).lines_are none.1.2 in
-        starved (Ran (record { opening = opening; events = events }) ∷ Listed objects ∷ []) none.0 (inl ([], record { done = soak_acts number; front = refl; goes = (between, runs, (new, lists, refl)) }))
+        starved (Ran (record { opening = opening; events = events }) ∷ Listed objects ∷ []) none.0 (inl ([], record { done = soak_acts number; front = refl; saved = nothing_saved; goes = (between, runs, (new, lists, refl)) }))
     IsBroken-printed old between new opening events fault runs mid same (inr refused) =
         IsBroken-list old between new opening events fault runs (subst (λ n. IsListRefused of_file of_port keys between new n draws fault) same refused)
 
     module _ (failed : Type 0) (held_old held_new : Option (List ℕ)) (handed between given : BenchState) (opens : OpensBench keys handed between) where
-      opened : (records : List RunRecord) (status : Status) → EndsActs of_file of_port image Reliable drew draws keys (soak_applications number) [] (soak_acts number) records between given status
+      opened : (records : List RunRecord) (status : Status) → EndsActs of_file of_port image Reliable drew draws keys (soak_applications number) [] (soak_acts number) records (begins_with between) given status
           → EndsRun of_file of_port image Reliable drew draws keys (soak_applications number) (soak_acts number) None records handed given status
       opened records status ends = inl (record { shown = refl; between = between; opens = opens; ends = ends })
 
@@ -146,7 +147,7 @@ module _ {F R : Type 0} (of_file : F → FileState) (of_port : R → PortState) 
         records = through.records;
         appended = t;
         begins = ([], sym through.lines_are ∙ sym (append-nil lines));
-        ends = opened through.records Done (record { done = soak_acts number; front = refl; goes = through.goes });
+        ends = opened through.records Done (record { done = soak_acts number; front = refl; saved = nothing_saved; goes = through.goes });
         cause = through.lines_are;
       }
       RunsSoak-through lines through WriteFault t = record {
@@ -155,7 +156,7 @@ module _ {F R : Type 0} (of_file : F → FileState) (of_port : R → PortState) 
         records = through.records;
         appended = t.1.1;
         begins = (t.1.2.0, sym through.lines_are ∙ sym (append-nil lines) ∙ t.1.2.1);
-        ends = opened through.records WriteFault (inl ([], record { done = soak_acts number; front = refl; goes = through.goes }));
+        ends = opened through.records WriteFault (inl ([], record { done = soak_acts number; front = refl; saved = nothing_saved; goes = through.goes }));
         cause = t.0;
       }
       RunsSoak-through lines through Usage t = absurd t
@@ -167,13 +168,13 @@ module _ {F R : Type 0} (of_file : F → FileState) (of_port : R → PortState) 
       RunsSoak-through lines through (DeviceFault fault) t = absurd t
 
       module _ (fault : MountFault) where
-        printed : (records : List RunRecord) (other : MountFault) → other ≡ fault → RecordsRefusal of_file of_port image Reliable drew draws keys (soak_applications number) [] (soak_acts number) records between given fault
-            → RecordsRefusal of_file of_port image Reliable drew draws keys (soak_applications number) [] (soak_acts number) records between given other
-        printed records other same = subst (λ (f : MountFault). RecordsRefusal of_file of_port image Reliable drew draws keys (soak_applications number) [] (soak_acts number) records between given f) (sym same)
+        printed : (records : List RunRecord) (other : MountFault) → other ≡ fault → RecordsRefusal of_file of_port image Reliable drew draws keys (soak_applications number) [] (soak_acts number) records (begins_with between) given fault
+            → RecordsRefusal of_file of_port image Reliable drew draws keys (soak_applications number) [] (soak_acts number) records (begins_with between) given other
+        printed records other same = subst (λ (f : MountFault). RecordsRefusal of_file of_port image Reliable drew draws keys (soak_applications number) [] (soak_acts number) records (begins_with between) given f) (sym same)
 
-        ends : (records : List RunRecord) → RecordsRefusal of_file of_port image Reliable drew draws keys (soak_applications number) [] (soak_acts number) records between given fault
+        ends : (records : List RunRecord) → RecordsRefusal of_file of_port image Reliable drew draws keys (soak_applications number) [] (soak_acts number) records (begins_with between) given fault
             → (status : Status) → PrintsRefusal failed held_old held_new [] fault status
-            → EndsActs of_file of_port image Reliable drew draws keys (soak_applications number) [] (soak_acts number) records between given status
+            → EndsActs of_file of_port image Reliable drew draws keys (soak_applications number) [] (soak_acts number) records (begins_with between) given status
         ends records refused Done t = absurd t
         ends records refused Usage t = absurd t
         ends records refused (BadLine n) t = absurd t
@@ -185,7 +186,7 @@ module _ {F R : Type 0} (of_file : F → FileState) (of_port : R → PortState) 
         ends records refused (DeviceFault other) t = printed records other t.0 refused
 
         -- memory ran out, and nothing was put
-        unprinted : (records : List RunRecord) → fault ≡ NoMemoryFault → EndsForMemory of_file of_port image Reliable drew draws keys (soak_applications number) [] (soak_acts number) records between given
+        unprinted : (records : List RunRecord) → fault ≡ NoMemoryFault → EndsForMemory of_file of_port image Reliable drew draws keys (soak_applications number) [] (soak_acts number) records (begins_with between) given
             → (status : Status) → PrintsRefusal failed held_old held_new [] fault status → RunsSoak of_file of_port image Reliable keys number drew draws failed held_old held_new handed given status
         unprinted records is memory Done t = absurd t
         unprinted records is memory Usage t = absurd t

@@ -8,24 +8,30 @@ use Rattle.disk_model.specs.State.{FileState}
 use Rattle.hmac_keys.specs.declared.Keys.{Keys}
 use Rattle.rpmb_card.specs.Port.{PortState}
 use Rattle.script_text.specs.declared.script.Arm.{Arm}
-use Rattle.script_text.specs.declared.script.Control.TheVariants.{Arm as ArmControl, Crash, List as ListControl, Mode as ModeControl, Phase}
+use Rattle.script_text.specs.declared.script.Control.TheVariants.{Arm as ArmControl, Crash, Flip, List as ListControl, Mode as ModeControl, Phase, Restore, Save}
 use Rattle.script_text.specs.declared.script.Mode.{Mode}
 use Rattle.script_text.specs.declared.script.Step.{Step}
 use Rattle.script_text.specs.declared.script.Step.TheVariants.{Control as ControlStep}
 use Rattle.script_text.specs.Laws.{IsArm, IsFormed}
 use Rattle.script_text.specs.Script.{ScriptValue, is_call}
 use Rattle.store_model.specs.Object.{ObjectMap}
+use Rattle.tee_types.specs.declared.reply.Device.{Device}
+use Rattle.run_acts.specs.Alterations.{FlipsFile, file_number}
 use Rattle.run_acts.specs.Benches.{bench_state}
 use Rattle.run_acts.specs.Crashes.{Crashes}
 use Rattle.run_acts.specs.ListedBenches.{IsListRefused, ListsBench}
 use Rattle.run_acts.specs.Phases.{RunsPhase}
 use Rattle.script_runner.specs.declared.run_state.Run.{Run}
+use Rattle.script_runner.specs.declared.saved_files.SavedFiles.{SavedFiles}
 use Rattle.script_runner.specs.declared.run_state.RunEnd.{RunEnd}
-use Rattle.script_runner.specs.Text.{Act, Controlled, Do, Listed, PhaseRecord, Ran, RunRecord, Serve, acts_of, acts_text}
+use Rattle.script_runner.specs.Text.{Act, Controlled, Do, Listed, PhaseRecord, Ran, RunRecord, Serve, acts_of, acts_text, mode_behind}
 use Rattle.script_runner.specs.Trace.{applications_of}
 use Rattle.run_acts.specs.declared.MountFault.{MountFault}
 use Rattle.run_acts.specs.PhaseRefusals.{IsGivenUp}
-use Rattle.script_runner.specs.Course.{RefusesFirst}
+use Rattle.script_text.specs.declared.script.Control.{Control}
+use Rattle.script_runner.specs.Course.{Goes, RefusesFirst}
+use Rattle.script_runner.specs.Points.{arms_behind, standing_of}
+use Rattle.script_runner.specs.SavedFiles.{PutsBack, reads_saved, saved_of, with_bench, with_saved}
 use Rattle.script_runner.specs.RunReady.{IsCallFirst, IsNext, IsReady, IsSound}
 use Rattle.script_runner.specs.Running.{EndsAt, GoesOn}
 use Rattle.script_runner.specs.Prints.{IsCutOff, IsSent, PrintsRefusal}
@@ -41,6 +47,10 @@ module _ {F R : Type 0} (of_file : F → FileState) (of_port : R → PortState) 
   abbrev pub next_place : Run F R → Run F R
   next_place run = record run { at = run.at + 1 }
 
+  -- another bench, and the same that is saved
+  standing_with : (run other : Run F R) → other.saved ≡ run.saved → standing_of of_file of_port other ≡ with_bench (standing_of of_file of_port run) (bench_state of_file of_port other.bench)
+  standing_with run other same = ap (λ (saved : SavedFiles). record { bench = bench_state of_file of_port other.bench; saved = saved_of saved }) same
+
   pub HasDone-mode : (mode : Mode) (run : Run F R) → IsReady script run → IsNext script run (ControlStep (ModeControl mode))
       → HasDone of_file of_port image Reliable keys script (Do (ModeControl mode)) (Controlled ∷ []) run (next_place (record run { mode = mode }))
   HasDone-mode mode run ready next =
@@ -54,23 +64,52 @@ module _ {F R : Type 0} (of_file : F → FileState) (of_port : R → PortState) 
       let of_arm : IsArm arm = formed-next script.steps (drop (run.at + 1) script.steps) run.at (ControlStep (ArmControl arm)) sound.formed next in
       let bench = ap (λ (r : Run F R). r.bench) same in
       HasDone-control of_file of_port image Reliable keys script (ArmControl arm) (Controlled ∷ []) run (next_place waits) ready next
-      (ap (bench_state of_file of_port) bench) arms (subst (All IsArm) (sym arms) (All-push IsArm run.arms.items arm ready.arms of_arm))
+      (ap (λ (r : Run F R). standing_of of_file of_port r) same) arms (subst (All IsArm) (sym arms) (All-push IsArm run.arms.items arm ready.arms of_arm))
       (ap (λ b. vec_len b.files) bench ∙ ready.whole) (ap (λ (r : Run F R). r.number) same) (ap (λ (r : Run F R). r.mode) same) (ap (λ (r : Run F R). r.kept.items) same) (ap (λ (r : Run F R). r.at + 1) same)
+
+  -- a control that changes the bench alone
+  pub HasDone-bench : (control : Control) (run altered : Run F R) → IsReady script run → IsNext script run (ControlStep control) → altered ≡ record run { bench = altered.bench } → vec_len altered.bench.files ≡ 273
+      → Goes of_file of_port image Reliable keys (applications_of script) run.arms.items (Do control ∷ []) (Controlled ∷ []) (standing_of of_file of_port run) (standing_of of_file of_port altered)
+      → arms_behind run.arms.items (Do control ∷ []) ≡ run.arms.items → mode_behind run.mode control ≡ run.mode
+      → HasDone of_file of_port image Reliable keys script (Do control) (Controlled ∷ []) run (next_place altered)
+  HasDone-bench control run altered ready next same whole goes no_arms no_mode =
+      let arms : altered.arms.items ≡ run.arms.items = ap (λ (r : Run F R). r.arms.items) same in
+      HasDone-control of_file of_port image Reliable keys script control (Controlled ∷ []) run (next_place altered) ready next
+      goes (arms ∙ sym no_arms) (subst (All IsArm) (sym arms) ready.arms)
+      whole (ap (λ (r : Run F R). r.number) same) (ap (λ (r : Run F R). r.mode) same ∙ sym no_mode) (ap (λ (r : Run F R). r.kept.items) same) (ap (λ (r : Run F R). r.at + 1) same)
 
   pub HasDone-crash : (seed : ℕ) (run crashed : Run F R) → IsReady script run → IsNext script run (ControlStep (Crash seed)) → crashed ≡ record run { bench = crashed.bench } → vec_len crashed.bench.files ≡ 273
       → Crashes image seed (bench_state of_file of_port run.bench) (bench_state of_file of_port crashed.bench) → HasDone of_file of_port image Reliable keys script (Do (Crash seed)) (Controlled ∷ []) run (next_place crashed)
   HasDone-crash seed run crashed ready next same whole crashes =
-      let arms : crashed.arms.items ≡ run.arms.items = ap (λ (r : Run F R). r.arms.items) same in
-      HasDone-control of_file of_port image Reliable keys script (Crash seed) (Controlled ∷ []) run (next_place crashed) ready next
-      (bench_state of_file of_port crashed.bench, crashes, refl) arms (subst (All IsArm) (sym arms) ready.arms)
-      whole (ap (λ (r : Run F R). r.number) same) (ap (λ (r : Run F R). r.mode) same) (ap (λ (r : Run F R). r.kept.items) same) (ap (λ (r : Run F R). r.at + 1) same)
+      HasDone-bench (Crash seed) run crashed ready next same whole (bench_state of_file of_port crashed.bench, crashes, standing_with run crashed (ap (λ (r : Run F R). r.saved) same)) refl refl
+
+  pub HasDone-save : (mark : List ℕ) (run saved : Run F R) → IsReady script run → IsNext script run (ControlStep (Save mark))
+      → saved ≡ record run { saved = saved.saved } → saved_of saved.saved ≡ with_saved (saved_of run.saved) mark (reads_saved (bench_state of_file of_port run.bench).files)
+      → HasDone of_file of_port image Reliable keys script (Do (Save mark)) (Controlled ∷ []) run (next_place saved)
+  HasDone-save mark run saved ready next same kept =
+      let arms : saved.arms.items ≡ run.arms.items = ap (λ (r : Run F R). r.arms.items) same in
+      HasDone-control of_file of_port image Reliable keys script (Save mark) (Controlled ∷ []) run (next_place saved) ready next
+      (λ i. record { bench = ap (λ (r : Run F R). bench_state of_file of_port r.bench) same i; saved = kept i }) arms (subst (All IsArm) (sym arms) ready.arms)
+      (ap (λ (r : Run F R). vec_len r.bench.files) same ∙ ready.whole) (ap (λ (r : Run F R). r.number) same) (ap (λ (r : Run F R). r.mode) same) (ap (λ (r : Run F R). r.kept.items) same) (ap (λ (r : Run F R). r.at + 1) same)
+
+  pub HasDone-restore : (file : Device) (mark : List ℕ) (run altered : Run F R) → IsReady script run → IsNext script run (ControlStep (Restore file mark)) → altered ≡ record run { bench = altered.bench } → vec_len altered.bench.files ≡ 273
+      → PutsBack (file_number file) (saved_of run.saved mark (file_number file)) (bench_state of_file of_port run.bench) (bench_state of_file of_port altered.bench)
+      → HasDone of_file of_port image Reliable keys script (Do (Restore file mark)) (Controlled ∷ []) run (next_place altered)
+  HasDone-restore file mark run altered ready next same whole puts =
+      HasDone-bench (Restore file mark) run altered ready next same whole (bench_state of_file of_port altered.bench, puts, standing_with run altered (ap (λ (r : Run F R). r.saved) same)) refl refl
+
+  pub HasDone-flip : (file : Device) (at : ℕ) (mask : List ℕ) (run altered : Run F R) → IsReady script run → IsNext script run (ControlStep (Flip file at mask)) → altered ≡ record run { bench = altered.bench } → vec_len altered.bench.files ≡ 273
+      → FlipsFile (file_number file) at mask (bench_state of_file of_port run.bench) (bench_state of_file of_port altered.bench)
+      → HasDone of_file of_port image Reliable keys script (Do (Flip file at mask)) (Controlled ∷ []) run (next_place altered)
+  HasDone-flip file at mask run altered ready next same whole flips =
+      HasDone-bench (Flip file at mask) run altered ready next same whole (bench_state of_file of_port altered.bench, flips, standing_with run altered (ap (λ (r : Run F R). r.saved) same)) refl refl
 
   pub HasDone-list : (run listed : Run F R) (objects : ObjectMap) (lines : List ℕ) → IsReady script run → IsNext script run (ControlStep ListControl) → listed ≡ record run { bench = listed.bench; at = run.at + 1 } → vec_len listed.bench.files ≡ 273
       → ListsBench of_file of_port keys (bench_state of_file of_port run.bench) (bench_state of_file of_port listed.bench) objects lines → HasDone of_file of_port image Reliable keys script (Do ListControl) (Listed objects ∷ []) run listed
   HasDone-list run listed objects lines ready next same whole lists =
       let arms : listed.arms.items ≡ run.arms.items = ap (λ (r : Run F R). r.arms.items) same in
       HasDone-control of_file of_port image Reliable keys script ListControl (Listed objects ∷ []) run listed ready next
-      (bench_state of_file of_port listed.bench, subst (λ t. ListsBench of_file of_port keys (bench_state of_file of_port run.bench) (bench_state of_file of_port listed.bench) objects t) lists.lines_are lists, refl) arms (subst (All IsArm) (sym arms) ready.arms)
+      (bench_state of_file of_port listed.bench, subst (λ t. ListsBench of_file of_port keys (bench_state of_file of_port run.bench) (bench_state of_file of_port listed.bench) objects t) lists.lines_are lists, standing_with run listed (ap (λ (r : Run F R). r.saved) same)) arms (subst (All IsArm) (sym arms) ready.arms)
       whole (ap (λ (r : Run F R). r.number) same) (ap (λ (r : Run F R). r.mode) same) (ap (λ (r : Run F R). r.kept.items) same) (ap (λ (r : Run F R). r.at) same)
 
   -- the steps behind a phase
@@ -79,9 +118,9 @@ module _ {F R : Type 0} (of_file : F → FileState) (of_port : R → PortState) 
 
   pub HasDone-calls : (run ran : Run F R) (phase : PhaseRecord) → IsReady script run → IsCallFirst (drop run.at script.steps)
       → RunsPhase of_file of_port Reliable keys (applications_of script) run.arms.items run.mode (take (calls_length run) (drop run.at script.steps)) (bench_state of_file of_port run.bench) (bench_state of_file of_port ran.bench) phase.opening phase.events
-      → ran.arms.items ≡ [] → vec_len ran.bench.files ≡ 273 → ran.number ≡ run.number + 1 → ran.mode ≡ run.mode → ran.kept.items ≡ run.kept.items → ran.at ≡ run.at + calls_length run → calls_length run ≤ length (drop run.at script.steps)
+      → ran.arms.items ≡ [] → ran.saved ≡ run.saved → vec_len ran.bench.files ≡ 273 → ran.number ≡ run.number + 1 → ran.mode ≡ run.mode → ran.kept.items ≡ run.kept.items → ran.at ≡ run.at + calls_length run → calls_length run ≤ length (drop run.at script.steps)
       → HasDone of_file of_port image Reliable keys script (Serve run.mode (take (calls_length run) (drop run.at script.steps))) (Ran phase ∷ []) run ran
-  HasDone-calls run ran phase ready first runs arms whole number mode kept at within =
+  HasDone-calls run ran phase ready first runs arms saved whole number mode kept at within =
       let count = calls_length run in
       let rest = drop run.at script.steps in
       let some = prefix_len-some rest first in
@@ -90,7 +129,7 @@ module _ {F R : Type 0} (of_file : F → FileState) (of_port : R → PortState) 
       let front : length (take run.at script.steps) ≡ run.at = length-take-le run.at script.steps ready.within in record {
         acts = acts_of-calls run.mode rest first ∙ ap (λ (m : Mode). Serve run.mode (take count rest) ∷ acts_of m (drop count rest)) (sym mode)
             ∙ ap (λ s. Serve run.mode (take count rest) ∷ acts_of ran.mode s) (sym behind);
-        goes = (bench_state of_file of_port ran.bench, runs, refl);
+        goes = (bench_state of_file of_port ran.bench, runs, standing_with run ran saved);
         arms_are = arms;
         number_is = number;
         kept_is = kept;

@@ -1,5 +1,5 @@
 -- The counts of faults over a run: they rise only where the script armed the device.
-use Rattle.std.specs.Prelude.{ℕ, ◌≡◌, ◌⊎◌, ◌<◌, List, [], ◌∷◌, None, Option, Some, IsTrue}
+use Rattle.std.specs.Prelude.{ℕ, ◌≡◌, ◌⊎◌, ◌<◌, List, [], ◌∷◌, None, Option, Some, option_and_then, IsTrue}
 use Rattle.disk_model.specs.Faults.{Rose}
 use Rattle.disk_model.specs.State.{FileState}
 use Rattle.hmac_keys.specs.declared.Keys.{Keys}
@@ -7,7 +7,7 @@ use Rattle.rpmb_card.specs.Port.{PortState}
 use Rattle.tee_types.specs.declared.reply.Device.{Device}
 use Rattle.tee_types.specs.declared.reply.Device.TheVariants.{Card, Dir, Entropy, File}
 use Rattle.script_text.specs.declared.script.Arm.{Arm}
-use Rattle.script_text.specs.declared.script.Arm.TheVariants.{Fail, Lose, Stop}
+use Rattle.script_text.specs.declared.script.Arm.TheVariants.{Fail, Lose, Stop, Taint}
 use Rattle.script_text.specs.declared.script.Control.TheVariants.{Arm as ArmControl}
 use Rattle.run_acts.specs.Benches.{BenchState}
 use Rattle.script_runner.specs.declared.status.Status.{Status}
@@ -23,17 +23,18 @@ file_number (File number) = Some number
 file_number Card = None
 file_number Entropy = None
 
--- the device that is armed
-abbrev pub armed_device : Arm → Device
-armed_device (Stop device calls) = device
-armed_device (Fail device call) = device
-armed_device (Lose call) = Card
+-- the device that is armed to fail; a mask fails no call
+abbrev pub armed_device : Arm → Option Device
+armed_device (Stop device calls) = Some device
+armed_device (Fail device call) = Some device
+armed_device (Lose call) = Some Card
+armed_device (Taint file call at mask) = None
 
 abbrev pub ArmsFile : (file : ℕ) → Arm → Type 0
-ArmsFile file arm = file_number (armed_device arm) ≡ Some file
+ArmsFile file arm = option_and_then file_number (armed_device arm) ≡ Some file
 
 abbrev pub ArmsCard : Arm → Type 0
-ArmsCard arm = armed_device arm ≡ Card
+ArmsCard arm = armed_device arm ≡ Some Card
 
 -- none of these acts arms so
 abbrev pub NoneArms : (Arms : Arm → Type 0) → List Act → Type 0

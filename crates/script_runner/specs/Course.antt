@@ -1,44 +1,52 @@
--- How a bench goes through the acts of a script.
+-- How a bench goes through the acts of a script, with what was saved of its files.
 use Rattle.std.specs.Prelude.{ℕ, ◌≡◌, List, [], ◌∷◌, ◌++◌}
 use Rattle.disk_model.specs.State.{FileState}
 use Rattle.hmac_keys.specs.declared.Keys.{Keys}
 use Rattle.rpmb_card.specs.Port.{PortState}
 use Rattle.run_acts.specs.declared.MountFault.{MountFault}
 use Rattle.script_text.specs.declared.script.Arm.{Arm}
-use Rattle.script_text.specs.declared.script.Control.TheVariants.{Arm as ArmControl, Crash, List as ListControl, Mode as ModeControl, Phase}
+use Rattle.script_text.specs.declared.script.Control.TheVariants.{Arm as ArmControl, Crash, Flip, List as ListControl, Mode as ModeControl, Phase, Restore, Save}
 use Rattle.run_acts.specs.Lines.{objects_text}
+use Rattle.run_acts.specs.Alterations.{FlipsFile, file_number}
 use Rattle.run_acts.specs.Benches.{BenchState}
 use Rattle.run_acts.specs.Crashes.{Crashes, CrashesInPart}
 use Rattle.run_acts.specs.ListedBenches.{IsListRefused, ListsBench}
 use Rattle.run_acts.specs.Phases.{RunsPhase}
 use Rattle.run_acts.specs.PhaseRefusals.{IsGivenUp}
 use Rattle.script_runner.specs.Points.{arms_behind}
+use Rattle.script_runner.specs.SavedFiles.{RestoresSaved, Saved, Standing, saves_files, with_bench}
 use Rattle.script_runner.specs.Text.{Act, Controlled, Do, Listed, Ran, RunRecord, Serve}
 
 -- `image` is what a crash leaves of a file, by the seed and the file's number; `Reliable` says that the generator of the run never fails
 module _ {F R : Type 0} (of_file : F → FileState) (of_port : R → PortState) (image : FileState → ℕ → ℕ → List ℕ) (Reliable : Type 0) where
   -- The bench goes from the old state to the new one in these acts, of which these are the records, one for each. Arms wait for the next phase that is
-  -- run: it is run with them, and none is left.
-  abbrev pub Goes : Keys → (applications : List (List ℕ)) → (arms : List Arm) → List Act → List RunRecord → (old new : BenchState) → Type 0
+  -- run: it is run with them, and none is left. What is saved of the files is kept under its mark.
+  abbrev pub Goes : Keys → (applications : List (List ℕ)) → (arms : List Arm) → List Act → List RunRecord → (old new : Standing) → Type 0
   Goes keys applications arms [] [] old new = new ≡ old
   Goes keys applications arms (Serve mode calls ∷ acts) (Ran phase ∷ records) old new =
       (between : BenchState)
-      × RunsPhase of_file of_port Reliable keys applications arms mode calls old between phase.opening phase.events
-      × Goes keys applications [] acts records between new
+      × RunsPhase of_file of_port Reliable keys applications arms mode calls old.bench between phase.opening phase.events
+      × Goes keys applications [] acts records (with_bench old between) new
   Goes keys applications arms (Do (ModeControl mode) ∷ acts) (Controlled ∷ records) old new = Goes keys applications arms acts records old new
   Goes keys applications arms (Do Phase ∷ acts) (Controlled ∷ records) old new = Goes keys applications arms acts records old new
   Goes keys applications arms (Do (ArmControl arm) ∷ acts) (Controlled ∷ records) old new = Goes keys applications (arms ++ arm ∷ []) acts records old new
   Goes keys applications arms (Do (Crash seed) ∷ acts) (Controlled ∷ records) old new =
-      (between : BenchState) × Crashes image seed old between × Goes keys applications arms acts records between new
+      (between : BenchState) × Crashes image seed old.bench between × Goes keys applications arms acts records (with_bench old between) new
+  Goes keys applications arms (Do (Save mark) ∷ acts) (Controlled ∷ records) old new = Goes keys applications arms acts records (saves_files mark old) new
+  Goes keys applications arms (Do (Restore file mark) ∷ acts) (Controlled ∷ records) old new =
+      (between : BenchState) × RestoresSaved file mark old between × Goes keys applications arms acts records (with_bench old between) new
+  Goes keys applications arms (Do (Flip file at mask) ∷ acts) (Controlled ∷ records) old new =
+      (between : BenchState) × FlipsFile (file_number file) at mask old.bench between × Goes keys applications arms acts records (with_bench old between) new
   Goes keys applications arms (Do ListControl ∷ acts) (Listed objects ∷ records) old new =
-      (between : BenchState) × ListsBench of_file of_port keys old between objects (objects_text objects) × Goes keys applications arms acts records between new
+      (between : BenchState) × ListsBench of_file of_port keys old.bench between objects (objects_text objects) × Goes keys applications arms acts records (with_bench old between) new
   Goes keys applications arms acts records old new = ⊥
 
   -- It goes so through the first of these acts; those behind them are left.
-  pub record GoesUntil (keys : Keys) (applications : List (List ℕ)) (arms : List Arm) (acts : List Act) (records : List RunRecord) (left : List Act) (old new : BenchState) : Type 0 where
+  pub record GoesUntil (keys : Keys) (applications : List (List ℕ)) (arms : List Arm) (acts : List Act) (records : List RunRecord) (left : List Act) (old : Standing) (new : BenchState) : Type 0 where
     pub done : List Act
     pub front : acts ≡ done ++ left
-    pub goes : Goes keys applications arms done records old new
+    pub saved : Saved
+    pub goes : Goes keys applications arms done records old (record { bench = new; saved = saved })
 
   -- The first of these acts, a phase with these arms or a list, is refused for that reason. The generator of nonces had counted so many
   -- faults before it, and so many then.
@@ -48,14 +56,14 @@ module _ {F R : Type 0} (of_file : F → FileState) (of_port : R → PortState) 
   RefusesFirst drew draws keys applications arms acts old new fault = ⊥
 
   -- It goes through the first of these acts, and the next one is refused.
-  pub record GoesUntilRefused (drew draws : ℕ) (keys : Keys) (applications : List (List ℕ)) (arms : List Arm) (acts : List Act) (records : List RunRecord) (old new : BenchState) (fault : MountFault) : Type 0 where
+  pub record GoesUntilRefused (drew draws : ℕ) (keys : Keys) (applications : List (List ℕ)) (arms : List Arm) (acts : List Act) (records : List RunRecord) (old : Standing) (new : BenchState) (fault : MountFault) : Type 0 where
     pub left : List Act
     pub between : BenchState
     pub goes : GoesUntil keys applications arms acts records left old between
     pub refused : RefusesFirst drew draws keys applications (arms_behind arms goes.done) left between new fault
 
   -- It goes through the first of these acts, and in the next one, a crash, memory runs out.
-  pub record GoesUntilCrashed (keys : Keys) (applications : List (List ℕ)) (arms : List Arm) (acts : List Act) (records : List RunRecord) (old new : BenchState) : Type 0 where
+  pub record GoesUntilCrashed (keys : Keys) (applications : List (List ℕ)) (arms : List Arm) (acts : List Act) (records : List RunRecord) (old : Standing) (new : BenchState) : Type 0 where
     pub seed : ℕ
     pub left : List Act
     pub between : BenchState

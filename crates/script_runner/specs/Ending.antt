@@ -15,24 +15,25 @@ use Rattle.script_runner.specs.Text.{Act, Refused, RunRecord, acts_of}
 use Rattle.script_runner.specs.RunRefusals.{IsRefusal, MayWantMemory}
 use Rattle.script_runner.specs.Trace.{IsSilent, OfScript, Trace, applications_of}
 use Rattle.script_runner.specs.Course.{GoesUntil, GoesUntilRefused, GoesUntilCrashed}
+use Rattle.script_runner.specs.SavedFiles.{Standing, begins_with}
 
 -- `drew` and `draws`: how many faults the generator of nonces counted before the run and behind it
 module _ {F R : Type 0} (of_file : F → FileState) (of_port : R → PortState) (image : FileState → ℕ → ℕ → List ℕ) (Reliable : Type 0) where
   -- An act was refused, and the last record says why.
-  abbrev pub RecordsRefusal : (drew draws : ℕ) → Keys → (applications : List (List ℕ)) → List Arm → List Act → List RunRecord → (old new : BenchState) → MountFault → Type 0
+  abbrev pub RecordsRefusal : (drew draws : ℕ) → Keys → (applications : List (List ℕ)) → List Arm → List Act → List RunRecord → (old : Standing) → (new : BenchState) → MountFault → Type 0
   RecordsRefusal drew draws keys applications arms acts records old new fault =
       (front : List RunRecord) × (records ≡ front ++ Refused fault ∷ [])
       × GoesUntilRefused of_file of_port image Reliable drew draws keys applications arms acts front old new fault
 
   -- Memory ran out: behind acts that were done, in an act, or for the line of a refusal.
-  abbrev pub EndsForMemory : (drew draws : ℕ) → Keys → (applications : List (List ℕ)) → List Arm → List Act → List RunRecord → (old new : BenchState) → Type 0
+  abbrev pub EndsForMemory : (drew draws : ℕ) → Keys → (applications : List (List ℕ)) → List Arm → List Act → List RunRecord → (old : Standing) → (new : BenchState) → Type 0
   EndsForMemory drew draws keys applications arms acts records old new =
       ((left : List Act) × GoesUntil of_file of_port image Reliable keys applications arms acts records left old new)
       ⊎ ((fault : MountFault) × MayWantMemory fault × RecordsRefusal drew draws keys applications arms acts records old new fault)
       ⊎ GoesUntilCrashed of_file of_port image Reliable keys applications arms acts records old new
 
   -- How far a bench that was opened went through the acts.
-  abbrev pub EndsActs : (drew draws : ℕ) → Keys → (applications : List (List ℕ)) → List Arm → List Act → List RunRecord → (old new : BenchState) → Status → Type 0
+  abbrev pub EndsActs : (drew draws : ℕ) → Keys → (applications : List (List ℕ)) → List Arm → List Act → List RunRecord → (old : Standing) → (new : BenchState) → Status → Type 0
   EndsActs drew draws keys applications arms acts records old new Done = GoesUntil of_file of_port image Reliable keys applications arms acts records [] old new
   EndsActs drew draws keys applications arms acts records old new WriteFault =
       ((left : List Act) × GoesUntil of_file of_port image Reliable keys applications arms acts records left old new)
@@ -47,7 +48,7 @@ module _ {F R : Type 0} (of_file : F → FileState) (of_port : R → PortState) 
     pub shown : start ≡ None
     pub between : BenchState
     pub opens : OpensBench keys handed between
-    pub ends : EndsActs drew draws keys applications [] acts records between given status
+    pub ends : EndsActs drew draws keys applications [] acts records (begins_with between) given status
 
   -- The bench was not opened, for that reason.
   pub record NotOpened (drew draws : ℕ) (keys : Keys) (start : Option MountFault) (records : List RunRecord) (handed given : BenchState) (fault : MountFault) : Type 0 where

@@ -7,6 +7,7 @@ use Rattle.rpmb_card.specs.Card.{CardState}
 use Rattle.rpmb_card.specs.Port.{PortState}
 use Rattle.rpmb_host.specs.Honest.{HasCard}
 use Rattle.crash_core.specs.Pictures.{block_zero}
+use Rattle.script_text.specs.declared.script.Mode.TheVariants.{Serial}
 use Rattle.script_text.specs.Grammar.{script_of}
 use Rattle.script_text.specs.Script.{ScriptValue}
 use Rattle.store_model.specs.ReplayState.{ReplayState}
@@ -18,13 +19,13 @@ use Rattle.run_acts.specs.Left.{replay_left}
 use Rattle.run_acts.specs.Opens.{is_blank}
 use Rattle.run_acts.specs.Untainted.{AreUntainted}
 use Rattle.script_runner.specs.declared.status.Status.{Status}
-use Rattle.script_runner.specs.RecordLaws.{HoldsUntainted, left_behind}
+use Rattle.script_runner.specs.RecordLaws.{AlterNothing, HoldsUntainted, left_behind}
 use Rattle.script_runner.specs.RunBenches.{HoldsOfSource}
 use Rattle.script_runner.specs.RunCauses.{World}
 use Rattle.script_runner.specs.RunLaws.{RecordsStand}
 use Rattle.script_runner.specs.RunRefusals.{IsDeviceFault}
 use Rattle.script_runner.specs.Runs.{RunsSource}
-use Rattle.script_runner.specs.Text.{Act, Refused, RunRecord}
+use Rattle.script_runner.specs.Text.{Act, Refused, RunRecord, acts_of}
 use Rattle.script_runner.specs.Trace.{applications_of}
 
 -- Block 0 of its card is blank, none of its files is tainted, and its port tells the card, which has the key.
@@ -54,15 +55,16 @@ abbrev pub IsWhole : BenchState → Type 0
 IsWhole bench = (file : ℕ) → 273 ≤ file → bench.files file ≡ no_file
 
 module _ {F R : Type 0} (of_file : F → FileState) (of_port : R → PortState) (image : FileState → ℕ → ℕ → List ℕ) (Reliable : Type 0) (w : World) where
-  -- Each bench of a run that was opened holds what the records down to there leave: every picture of it mounts to that, whether the store was
-  -- found or formatted, between any two acts and behind the last, also where that act was refused, but for want of memory.
+  -- Each bench of a run that was opened holds what the records down to there leave, as long as no act altered a file: every picture of it mounts to
+  -- that, whether the store was found or formatted, between any two acts and behind the last, also where that act was refused, but for want of
+  -- memory.
   abbrev pub RunsHoldLeft : Type 0
   RunsHoldLeft =
       (left_old left_new held_old held_new : Option (List ℕ)) (drew draws : ℕ) (keys : Keys) (handed given : BenchState) (status : Status) (s : ReplayState) (script : ScriptValue)
       → (r : RunsSource of_file of_port image Reliable left_old left_new held_old held_new w drew draws keys handed given status)
       → BeginsWith keys (applications_of script) handed s → script_of (r.0).taken ≡ Ok script → (r.0).start ≡ None → IsWhole given
       → HoldsOfSource of_file of_port image Reliable keys
-      (λ done records bench. NoneStarved records → HoldsBehind keys (applications_of script) done bench (left_behind (applications_of script) s records)) drew draws r.0 handed given status r.2
+      (λ done records bench. AlterNothing done → NoneStarved records → HoldsBehind keys (applications_of script) done bench (left_behind (applications_of script) s records)) drew draws r.0 handed given status r.2
 
   -- Over a blank bench the records of a run stand as over a store without objects: behind the format no store is refused. That the bench was not
   -- opened is never for what was read.
@@ -70,6 +72,6 @@ module _ {F R : Type 0} (of_file : F → FileState) (of_port : R → PortState) 
   FormattedRunsStand =
       (left_old left_new held_old held_new : Option (List ℕ)) (drew draws : ℕ) (keys : Keys) (handed given : BenchState) (status : Status) (script : ScriptValue)
       → (r : RunsSource of_file of_port image Reliable left_old left_new held_old held_new w drew draws keys handed given status)
-      → IsBlankBench keys handed → script_of (r.0).taken ≡ Ok script
+      → IsBlankBench keys handed → script_of (r.0).taken ≡ Ok script → AlterNothing (acts_of Serial script.steps)
       → RecordsStand (applications_of script) (replay_left [] (applications_of script) []) (r.0).records status
       × ((fault : MountFault) → (r.0).start ≡ Some fault → IsDeviceFault fault ⊎ (fault ≡ NoMemory))

@@ -1,6 +1,7 @@
 pub mod Text
 pub mod RunRefusals
 pub mod Trace
+pub mod SavedFiles
 pub mod Course
 pub mod RecordLaws
 pub mod QuietLaws

@@ -9,6 +9,7 @@ use Rattle.script_text.specs.declared.script.Step.{Step}
 use Rattle.script_text.specs.Script.{ScriptValue}
 use Rattle.run_acts.specs.Benches.{BenchState, bench_state}
 use Rattle.script_runner.specs.declared.run_state.Run.{Run}
+use Rattle.script_runner.specs.SavedFiles.{Saved, Standing, saved_of}
 use Rattle.script_runner.specs.Text.{Act, Do, Serve}
 
 -- a point in a run, between two acts
@@ -17,6 +18,8 @@ pub record Point : Type 0 where
   pub held : Option (List ℕ)
   pub kept : List ℕ
   pub bench : BenchState
+  -- what was saved of its files
+  pub saved : Saved
   -- the steps that are still to be done
   pub steps : List Step
   -- the arms that wait, and the number and the mode of the next phase
@@ -29,11 +32,19 @@ point_of of_file of_port script held run = record {
   held = held;
   kept = run.kept.items;
   bench = bench_state of_file of_port run.bench;
+  saved = saved_of run.saved;
   steps = drop run.at script.steps;
   arms = run.arms.items;
   number = run.number;
   mode = run.mode;
 }
+
+-- the bench, and what was saved of its files
+abbrev pub standing_at : Point → Standing
+standing_at p = record { bench = p.bench; saved = p.saved }
+
+abbrev pub standing_of : {F R : Type 0} → (F → FileState) → (R → PortState) → Run F R → Standing
+standing_of of_file of_port run = record { bench = bench_state of_file of_port run.bench; saved = saved_of run.saved }
 
 -- the arms that wait behind these acts
 abbrev pub arms_behind : List Arm → List Act → List Arm

@@ -38,6 +38,7 @@ PrintsLines failed held_old held_new lines _ = ⊥
 pub record IsSent {F R : Type 0} (held_old held_new : Option (List ℕ)) (text : List ℕ) (run next : Run F R) : Type 0 where
   pub sends : Sends held_old held_new run.kept.items next.kept.items text
   pub bench : next.bench ≡ run.bench
+  pub saved : next.saved ≡ run.saved
   pub arms : next.arms ≡ run.arms
   pub number : next.number ≡ run.number
   pub mode : next.mode ≡ run.mode

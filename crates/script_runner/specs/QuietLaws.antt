@@ -4,13 +4,14 @@ use Rattle.disk_model.specs.State.{FileState}
 use Rattle.hmac_keys.specs.declared.Keys.{Keys}
 use Rattle.rpmb_card.specs.Port.{PortState}
 use Rattle.script_text.specs.declared.script.Arm.{Arm}
-use Rattle.script_text.specs.declared.script.Control.TheVariants.{Arm as ArmControl, Crash, List as ListControl, Mode as ModeControl, Phase}
+use Rattle.script_text.specs.declared.script.Control.TheVariants.{Arm as ArmControl, Crash, Flip, List as ListControl, Mode as ModeControl, Phase, Restore, Save}
 use Rattle.run_acts.specs.Benches.{BenchState}
 use Rattle.run_acts.specs.Opens.{OpensBench}
 use Rattle.run_acts.specs.Quiet.{IsPhaseOfMachine, IsQuiet}
 use Rattle.run_acts.specs.Untainted.{AreUntainted}
 use Rattle.script_runner.specs.Text.{Act, Controlled, Do, Listed, Ran, RunRecord, Serve}
 use Rattle.script_runner.specs.Course.{Goes}
+use Rattle.script_runner.specs.SavedFiles.{Standing, begins_with, saves_files, with_bench}
 
 -- none of these acts arms a fault
 abbrev pub ArmNothing : List Act → Type 0
@@ -20,32 +21,39 @@ ArmNothing (act ∷ acts) = ArmNothing acts
 
 module _ {F R : Type 0} (of_file : F → FileState) (of_port : R → PortState) (image : FileState → ℕ → ℕ → List ℕ) (Reliable : Type 0) where
   -- each phase of these acts is the machine's
-  abbrev pub PhasesAreOfMachine : (keys : Keys) (applications : List (List ℕ)) (arms : List Arm) (acts : List Act) (records : List RunRecord) (old new : BenchState)
+  abbrev pub PhasesAreOfMachine : (keys : Keys) (applications : List (List ℕ)) (arms : List Arm) (acts : List Act) (records : List RunRecord) (old new : Standing)
       → Goes of_file of_port image Reliable keys applications arms acts records old new → Type 0
   PhasesAreOfMachine keys applications arms [] [] old new goes = Unit {0}
   PhasesAreOfMachine keys applications arms (Serve mode calls ∷ acts) (Ran phase ∷ records) old new goes =
-      IsPhaseOfMachine of_file of_port Reliable keys applications arms mode calls old goes.0 phase.opening phase.events goes.1
-      × PhasesAreOfMachine keys applications [] acts records goes.0 new goes.2
+      IsPhaseOfMachine of_file of_port Reliable keys applications arms mode calls old.bench goes.0 phase.opening phase.events goes.1
+      × PhasesAreOfMachine keys applications [] acts records (with_bench old goes.0) new goes.2
   PhasesAreOfMachine keys applications arms (Do (ModeControl mode) ∷ acts) (Controlled ∷ records) old new goes = PhasesAreOfMachine keys applications arms acts records old new goes
   PhasesAreOfMachine keys applications arms (Do Phase ∷ acts) (Controlled ∷ records) old new goes = PhasesAreOfMachine keys applications arms acts records old new goes
   PhasesAreOfMachine keys applications arms (Do (ArmControl arm) ∷ acts) (Controlled ∷ records) old new goes =
       PhasesAreOfMachine keys applications (arms ++ arm ∷ []) acts records old new goes
-  PhasesAreOfMachine keys applications arms (Do (Crash seed) ∷ acts) (Controlled ∷ records) old new goes = PhasesAreOfMachine keys applications arms acts records goes.0 new goes.2
-  PhasesAreOfMachine keys applications arms (Do ListControl ∷ acts) (Listed objects ∷ records) old new goes = PhasesAreOfMachine keys applications arms acts records goes.0 new goes.2
+  PhasesAreOfMachine keys applications arms (Do (Crash seed) ∷ acts) (Controlled ∷ records) old new goes =
+      PhasesAreOfMachine keys applications arms acts records (with_bench old goes.0) new goes.2
+  PhasesAreOfMachine keys applications arms (Do (Save mark) ∷ acts) (Controlled ∷ records) old new goes = PhasesAreOfMachine keys applications arms acts records (saves_files mark old) new goes
+  PhasesAreOfMachine keys applications arms (Do (Restore file mark) ∷ acts) (Controlled ∷ records) old new goes =
+      PhasesAreOfMachine keys applications arms acts records (with_bench old goes.0) new goes.2
+  PhasesAreOfMachine keys applications arms (Do (Flip file at mask) ∷ acts) (Controlled ∷ records) old new goes =
+      PhasesAreOfMachine keys applications arms acts records (with_bench old goes.0) new goes.2
+  PhasesAreOfMachine keys applications arms (Do ListControl ∷ acts) (Listed objects ∷ records) old new goes =
+      PhasesAreOfMachine keys applications arms acts records (with_bench old goes.0) new goes.2
   PhasesAreOfMachine keys applications arms acts records old new goes = ⊥
 
   -- Over a quiet bench of which no file is tainted, with a generator that never fails, each phase of acts that arm nothing is the machine's, and
-  -- the bench is quiet behind them.
+  -- the bench is quiet behind them; files may be put back and struck between the phases.
   abbrev pub QuietRunsAreOfMachine : Type 0
   QuietRunsAreOfMachine =
-      (keys : Keys) (applications : List (List ℕ)) (acts : List Act) (records : List RunRecord) (old new : BenchState)
-      → (goes : Goes of_file of_port image Reliable keys applications [] acts records old new) → AreUntainted old.files
-      → ArmNothing acts → IsQuiet keys old → Reliable
-      → PhasesAreOfMachine keys applications [] acts records old new goes × IsQuiet keys new
+      (keys : Keys) (applications : List (List ℕ)) (acts : List Act) (records : List RunRecord) (old new : Standing)
+      → (goes : Goes of_file of_port image Reliable keys applications [] acts records old new) → AreUntainted (old.bench).files
+      → ArmNothing acts → IsQuiet keys old.bench → Reliable
+      → PhasesAreOfMachine keys applications [] acts records old new goes × IsQuiet keys new.bench
 
   -- So of such a bench before it was opened, whether its store was found or it was formatted.
   abbrev pub OpenedRunsAreOfMachine : Type 0
   OpenedRunsAreOfMachine =
-      (keys : Keys) (applications : List (List ℕ)) (acts : List Act) (records : List RunRecord) (first old new : BenchState) → OpensBench keys first old
-      → AreUntainted first.files → IsQuiet keys first → (goes : Goes of_file of_port image Reliable keys applications [] acts records old new) → ArmNothing acts → Reliable
-      → PhasesAreOfMachine keys applications [] acts records old new goes × IsQuiet keys new
+      (keys : Keys) (applications : List (List ℕ)) (acts : List Act) (records : List RunRecord) (first old : BenchState) (new : Standing) → OpensBench keys first old
+      → AreUntainted first.files → IsQuiet keys first → (goes : Goes of_file of_port image Reliable keys applications [] acts records (begins_with old) new) → ArmNothing acts → Reliable
+      → PhasesAreOfMachine keys applications [] acts records (begins_with old) new goes × IsQuiet keys new.bench

@@ -16,7 +16,7 @@ use Rattle.script_runner.specs.Text.{Act, RunRecord, acts_of, acts_text, run_out
 use Rattle.script_runner.specs.Trace.{applications_of}
 use Rattle.script_runner.specs.Course.{Goes}
 use Rattle.script_runner.specs.Ending.{EndsActs, EndsRun}
-use Rattle.script_runner.specs.Points.{Point, arms_behind, phases_in, point_of}
+use Rattle.script_runner.specs.Points.{Point, arms_behind, phases_in, point_of, standing_at}
 use Rattle.script_runner.specs.RunReady.{IsReady}
 use Rattle.script_runner.specs.Prints.{HasActCause}
 
@@ -26,7 +26,7 @@ module _ {F R : Type 0} (of_file : F → FileState) (of_port : R → PortState) 
     pub done : List Act
     pub records : List RunRecord
     pub acts : acts_of old.mode old.steps ≡ done ++ acts_of new.mode new.steps
-    pub goes : Goes of_file of_port image Reliable keys (applications_of script) old.arms done records old.bench new.bench
+    pub goes : Goes of_file of_port image Reliable keys (applications_of script) old.arms done records (standing_at old) (standing_at new)
     pub arms_are : new.arms ≡ arms_behind old.arms done
     pub number_is : new.number ≡ old.number + phases_in done
     pub sent : Sends old.held new.held old.kept new.kept (acts_text script old.number done records)
@@ -37,7 +37,7 @@ module _ {F R : Type 0} (of_file : F → FileState) (of_port : R → PortState) 
     pub records : List RunRecord
     pub appended : Appends old.held held put
     pub begins : Begins put (old.kept ++ acts_text script old.number (acts_of old.mode old.steps) records)
-    pub ends : EndsActs of_file of_port image Reliable drew draws keys (applications_of script) old.arms (acts_of old.mode old.steps) records old.bench given status
+    pub ends : EndsActs of_file of_port image Reliable drew draws keys (applications_of script) old.arms (acts_of old.mode old.steps) records (standing_at old) given status
     pub cause : HasActCause failed put (old.kept ++ acts_text script old.number (acts_of old.mode old.steps) records) status
 
   -- One more act was done.

@@ -20,6 +20,7 @@ use Rattle.script_runner.specs.Trace.{applications_of}
 use Rattle.script_runner.specs.Course.{Goes}
 use Rattle.script_runner.specs.Ending.{EndsForMemory, RecordsRefusal}
 use Rattle.script_runner.specs.Running.{RunsActs}
+use Rattle.script_runner.specs.SavedFiles.{begins_with}
 
 -- the UUIDs of its applications
 abbrev pub soak_applications : ℕ → List (List ℕ)
@@ -47,14 +48,14 @@ module _ {F R : Type 0} (of_file : F → FileState) (of_port : R → PortState) 
   -- Both acts were done on a bench that was opened, and the lines tell what came of it.
   pub record GoesThrough (old new : BenchState) (lines : List ℕ) : Type 0 where
     pub records : List RunRecord
-    pub goes : Goes of_file of_port image Reliable keys (soak_applications number) [] (soak_acts number) records old new
+    pub goes : Goes of_file of_port image Reliable keys (soak_applications number) [] (soak_acts number) records (begins_with old) (begins_with new)
     pub lines_are : lines ≡ soak_output number None records
 
   -- An act was refused, and the last record says why; or memory ran out, in an act or behind some.
   pub data IsBroken (drew draws : ℕ) (old new : BenchState) (fault : MountFault) : Type 0 where
-    broken : (records : List RunRecord) → RecordsRefusal of_file of_port image Reliable drew draws keys (soak_applications number) [] (soak_acts number) records old new fault
+    broken : (records : List RunRecord) → RecordsRefusal of_file of_port image Reliable drew draws keys (soak_applications number) [] (soak_acts number) records (begins_with old) new fault
         → soak_output number None records ≡ refusal_line fault → IsBroken drew draws old new fault
-    starved : (records : List RunRecord) → fault ≡ NoMemory → EndsForMemory of_file of_port image Reliable drew draws keys (soak_applications number) [] (soak_acts number) records old new
+    starved : (records : List RunRecord) → fault ≡ NoMemory → EndsForMemory of_file of_port image Reliable drew draws keys (soak_applications number) [] (soak_acts number) records (begins_with old) new
         → IsBroken drew draws old new fault
 
   -- The run of the soak.

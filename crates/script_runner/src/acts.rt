@@ -11,6 +11,7 @@ use crate::controls::do_control;
 use crate::mount_refusal::print_mount_refusal;
 use crate::phase_act::do_phase;
 use crate::run_state::{Run, RunEnd};
+use crate::saved_files::SavedFiles;
 use hmac_keys::Keys;
 use rpmb_card::CardRig;
 use run_acts::{Bench, Halted, open_bench};
@@ -124,6 +125,7 @@ pub(crate) fn run_script<
         Ok(bench) => {
             let run = Run {
                 bench,
+                saved: SavedFiles::new(alloc),
                 arms: Vec::new(alloc),
                 number: 0,
                 mode: Mode::Serial,

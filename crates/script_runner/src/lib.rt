@@ -15,6 +15,7 @@ mod phase_act;
 mod phase_text;
 mod record_laws;
 mod run_state;
+mod saved_files;
 mod script_source;
 mod sim_devices;
 mod soak_run;

@@ -72,6 +72,7 @@ pub(crate) fn do_phase<
 {
     let Run {
         bench,
+        saved,
         arms,
         number,
         mode,
@@ -100,6 +101,7 @@ pub(crate) fn do_phase<
         ) => {
             let run = Run {
                 bench,
+                saved,
                 arms: Vec::new(alloc),
                 number: number + 1,
                 mode,

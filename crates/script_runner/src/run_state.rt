@@ -1,6 +1,7 @@
 //! Where a run stands between two acts, and how it ends.
 
 use crate::Status;
+use crate::saved_files::SavedFiles;
 use run_acts::Bench;
 use script_text::{Arm, Mode};
 
@@ -9,6 +10,8 @@ use script_text::{Arm, Mode};
 pub(crate) struct Run<F, R> {
     /// The bench.
     pub bench: Bench<F, R>,
+    /// What was saved of its files.
+    pub saved: SavedFiles,
     /// The arms that wait for the next phase.
     pub arms: Vec<Arm>,
     /// The number of the next phase.

@@ -16,7 +16,7 @@ use Rattle.store_model.specs.Sound.{AreBytes, IsCall}
 use Rattle.script_text.specs.declared.calls.Verb.{Verb}
 use Rattle.script_text.specs.declared.calls.Verb.TheVariants.{Create as CreateVerb, Open as OpenVerb, Close as CloseVerb, Read as ReadVerb, Write as WriteVerb, Truncate as TruncateVerb, Seek as SeekVerb, Rename as RenameVerb, Delete as DeleteVerb, Info as InfoVerb, Enumerate as EnumerateVerb, Start as StartVerb, Next as NextVerb, Reset as ResetVerb, Free as FreeVerb}
 use Rattle.script_text.specs.Calls.{◌>>=◌, create_words, open_words, write_words, seek_words, rename_words, one_number, two_numbers, no_words, verb_of, call_of, call_words}
-use Rattle.script_text.specs.Words.{same_word, id_of, bytes_of, flags_of, number_of, offset_of, whence_of}
+use Rattle.script_text.specs.Words.{same_word, id_of, bytes_of, mask_of, flags_of, number_of, offset_of, whence_of}
 
 decoded-bytes : (text bytes : List ℕ) → decode_of text ≡ Ok bytes → AreBytes bytes
 decoded-bytes text bytes is = All-from_get_or (λ b. b < 256) bytes 0 (λ i lt. (decode_of-ok text bytes is).3 i)
@@ -49,6 +49,23 @@ bytes-formed word bytes is = one (same_word word (codes "-")) is
     one false is =
         let parts = cond-some (nat_le 2 (length word)) (result_ok (decode_of word)) bytes is in
         decoded-bytes word bytes (result_ok-some (decode_of word) bytes parts.1)
+
+bytes-long : (word bytes : List ℕ) → nat_le 2 (length word) ≡ true → decode_of word ≡ Ok bytes → 1 ≤ length bytes
+bytes-long word bytes two decoded =
+    let low : 2 ≤ length word = grind (arith, nat_tests, two) in
+    let long : length word ≡ 2 * length bytes = (decode_of-ok word bytes decoded).2 in
+    omega (arith, low, long)
+
+pub mask-formed : (word mask : List ℕ) → mask_of word ≡ Some mask → (1 ≤ length mask) × AreBytes mask
+unfolding mask_of bytes_of
+mask-formed word mask is = one (same_word word (codes "-")) is
+  where
+    one : (c : Bool) → cond c None (cond c (Some []) (cond (nat_le 2 (length word)) (result_ok (decode_of word)) None)) ≡ Some mask → (1 ≤ length mask) × AreBytes mask
+    one true is = absurd (cc (is))
+    one false is =
+        let parts = cond-some (nat_le 2 (length word)) (result_ok (decode_of word)) mask is in
+        let decoded = result_ok-some (decode_of word) mask parts.1 in
+        (bytes-long word mask parts.0 decoded, decoded-bytes word mask decoded)
 
 -- what a chain of steps gave
 pub from_bind : {A B : Type 0} (o : Option A) (f : A → Option B) (y : B) → (o >>= f) ≡ Some y → (x : A) × (o ≡ Some x) × (f x ≡ Some y)

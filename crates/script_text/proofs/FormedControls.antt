@@ -1,23 +1,23 @@
 -- The controls of a script carry devices of the bench.
-use Rattle.std.proofs.Common.{◌≡◌, ◌≤◌, ◌&&◌, nat_le, ℕ, Bool, true, false, cond, List, [], ◌∷◌, length, refl, subst, Option, Some, None, arith}
+use Rattle.std.proofs.Common.{◌≡◌, ◌≤◌, ◌<◌, ◌^◌, ◌∙◌, ◌&&◌, nat_le, ℕ, Bool, true, false, cond, List, [], ◌∷◌, length, ap, refl, sym, subst, Option, Some, None, arith}
 use Rattle.std.specs.Prelude.{codes}
 use Rattle.std.specs.Option.{option_map}
 use Rattle.std.specs.Str.Parse.{digits_value}
 use Rattle.std.proofs.lemmas.Bool.{and_parts}
 use Rattle.std.proofs.lemmas.Bool.Decides.{nat_tests}
 use Rattle.tee_types.specs.declared.reply.Device.{Device}
-use Rattle.tee_types.specs.declared.reply.Device.TheVariants.{Dir, File, Card}
+use Rattle.tee_types.specs.declared.reply.Device.TheVariants.{Dir, File, Card, Entropy}
 use Rattle.script_text.specs.declared.controls.ControlVerb.{ControlVerb}
-use Rattle.script_text.specs.declared.controls.ControlVerb.TheVariants.{Serial as SerialVerb, Threads as ThreadsVerb, Phase as PhaseVerb, Stop as StopVerb, Fail as FailVerb, Lose as LoseVerb, Crash as CrashVerb, List as ListVerb}
+use Rattle.script_text.specs.declared.controls.ControlVerb.TheVariants.{Serial as SerialVerb, Threads as ThreadsVerb, Phase as PhaseVerb, Stop as StopVerb, Fail as FailVerb, Lose as LoseVerb, Taint as TaintVerb, Crash as CrashVerb, Save as SaveVerb, Restore as RestoreVerb, Flip as FlipVerb, List as ListVerb}
 use Rattle.script_text.specs.declared.script.Arm.{Arm}
-use Rattle.script_text.specs.declared.script.Arm.TheVariants.{Stop, Fail, Lose}
+use Rattle.script_text.specs.declared.script.Arm.TheVariants.{Stop, Fail, Lose, Taint}
 use Rattle.script_text.specs.declared.script.Control.{Control}
-use Rattle.script_text.specs.declared.script.Control.TheVariants.{Mode as ModeControl, Phase, Arm as ArmControl, Crash, List as ListControl}
+use Rattle.script_text.specs.declared.script.Control.TheVariants.{Mode as ModeControl, Phase, Arm as ArmControl, Crash, Save, Restore, Flip, List as ListControl}
 use Rattle.script_text.specs.declared.script.Mode.TheVariants.{Serial, Threads}
-use Rattle.script_text.specs.Words.{same_word, are_digits, numeral_of, number_of, if_positive, positive_of, place_of_call, seed_of, device_of}
-use Rattle.script_text.specs.Controls.{stop_words, fail_words, lose_words, crash_words, alone, arming, control_verb_of, control_words, control_of}
-use Rattle.script_text.specs.Laws.{IsArmable, IsArm, IsControl}
-use Rattle.script_text.proofs.FormedCalls.{from_bind, cond-some}
+use Rattle.script_text.specs.Words.{same_word, are_digits, numeral_of, number_of, if_positive, positive_of, place_of_call, seed_of, device_of, file_of, is_mark, mark_of, mask_of}
+use Rattle.script_text.specs.Controls.{stop_words, fail_words, lose_words, taint_words, crash_words, save_words, restore_words, flip_words, alone, arming, control_verb_of, control_words, control_of}
+use Rattle.script_text.specs.Laws.{IsArmable, IsFileDevice, IsMask, IsArm, IsControl}
+use Rattle.script_text.proofs.FormedCalls.{mask-formed, from_bind, cond-some}
 
 numeral-most : (base greatest : ℕ) (word : List ℕ) (n : ℕ) → numeral_of base greatest word ≡ Some n → n ≤ greatest
 unfolding numeral_of
@@ -42,18 +42,45 @@ positive-within greatest word n is =
     let least = positive-least read.0 n read.2 in
     (least.1, subst (λ v. v ≤ greatest) least.0 (numeral-most 10 greatest word read.0 read.1))
 
-file-armable : (file : Option ℕ) (device : Device) → ((n : ℕ) → file ≡ Some n → (1 ≤ n) × (n ≤ 272)) → option_map File file ≡ Some device → IsArmable device
-file-armable (Some n) device within is = let same : File n ≡ device = cc (is) in subst IsArmable same (within n refl)
-file-armable None device within is = absurd (cc (is))
+numbered-file : (file : Option ℕ) (device : Device) → ((n : ℕ) → file ≡ Some n → (1 ≤ n) × (n ≤ 272)) → option_map File file ≡ Some device → IsFileDevice device
+numbered-file (Some n) device within is = let same : File n ≡ device = cc (is) in subst IsFileDevice same (within n refl)
+numbered-file None device within is = absurd (cc (is))
+
+file-formed : (word : List ℕ) (device : Device) → file_of word ≡ Some device → IsFileDevice device
+unfolding file_of
+file-formed word device is = one (same_word word (codes "dir")) is
+  where
+    one : (a : Bool) → cond a (Some Dir) (option_map File (positive_of 272 word)) ≡ Some device → IsFileDevice device
+    one true is = let same : Dir ≡ device = cc (is) in subst IsFileDevice same tt
+    one false is = numbered-file (positive_of 272 word) device (positive-within 272 word) is
+
+-- a file can be armed
+file-armable : (device : Device) → IsFileDevice device → IsArmable device
+file-armable Dir is = tt
+file-armable (File number) is = is
+file-armable Card is = tt
+file-armable Entropy is = is
 
 device-armable : (word : List ℕ) (device : Device) → device_of word ≡ Some device → IsArmable device
 unfolding device_of
-device-armable word device is = one (same_word word (codes "dir")) (same_word word (codes "card")) is
+device-armable word device is = one (same_word word (codes "card")) is
   where
-    one : (a b : Bool) → cond a (Some Dir) (cond b (Some Card) (option_map File (positive_of 272 word))) ≡ Some device → IsArmable device
-    one true b is = let same : Dir ≡ device = cc (is) in subst IsArmable same tt
-    one false true is = let same : Card ≡ device = cc (is) in subst IsArmable same tt
-    one false false is = file-armable (positive_of 272 word) device (positive-within 272 word) is
+    one : (a : Bool) → cond a (Some Card) (file_of word) ≡ Some device → IsArmable device
+    one true is = let same : Card ≡ device = cc (is) in subst IsArmable same tt
+    one false is = file-armable device (file-formed word device is)
+
+place-formed : (word : List ℕ) (n : ℕ) → number_of word ≡ Some n → n < 2 ^ 32
+place-formed word n is = let most : n ≤ 4294967295 = numeral-most 10 4294967295 word n is in omega (arith, most)
+
+laid-formed : (place word : List ℕ) (at : ℕ) (mask : List ℕ) → number_of place ≡ Some at → mask_of word ≡ Some mask → IsMask at mask
+laid-formed place word at mask placed masked = let formed = mask-formed word mask masked in (place-formed place at placed, formed.0, formed.1)
+
+mark-formed : (word mark : List ℕ) → mark_of word ≡ Some mark → is_mark mark ≡ true
+unfolding mark_of
+mark-formed word mark is =
+    let parts = cond-some (is_mark word) (Some word) mark is in
+    let same : word ≡ mark = cc (parts.1) in
+    ap is_mark (sym same) ∙ parts.0
 
 stop-formed : (words : List (List ℕ)) (arm : Arm) → stop_words words ≡ Some arm → IsArm arm
 unfolding stop_words
@@ -88,6 +115,54 @@ lose-formed [] arm is = absurd (cc (is))
 lose-formed (card ∷ []) arm is = absurd (cc (is))
 lose-formed (card ∷ call ∷ more ∷ words) arm is = absurd (cc (is))
 
+taint-formed : (words : List (List ℕ)) (arm : Arm) → taint_words words ≡ Some arm → IsArm arm
+unfolding taint_words
+taint-formed (file ∷ call ∷ at ∷ mask ∷ []) arm is =
+    let f = from_bind (file_of file) _ arm is in
+    let n = from_bind (place_of_call call) _ arm f.2 in
+    let a = from_bind (number_of at) _ arm n.2 in
+    let m = from_bind (mask_of mask) _ arm a.2 in
+    let same : Taint f.0 n.0 a.0 m.0 ≡ arm = cc (m.2) in
+    subst IsArm same (file-formed file f.0 f.1, (positive-within 4294967295 call n.0 n.1).0, laid-formed at mask a.0 m.0 a.1 m.1)
+taint-formed [] arm is = absurd (cc (is))
+taint-formed (file ∷ []) arm is = absurd (cc (is))
+taint-formed (file ∷ call ∷ []) arm is = absurd (cc (is))
+taint-formed (file ∷ call ∷ at ∷ []) arm is = absurd (cc (is))
+taint-formed (file ∷ call ∷ at ∷ mask ∷ more ∷ words) arm is = absurd (cc (is))
+
+save-formed : (words : List (List ℕ)) (control : Control) → save_words words ≡ Some control → IsControl control
+unfolding save_words
+save-formed (mark ∷ []) control is =
+    let m = from_bind (mark_of mark) _ control is in
+    let same : Save m.0 ≡ control = cc (m.2) in
+    subst IsControl same (mark-formed mark m.0 m.1)
+save-formed [] control is = absurd (cc (is))
+save-formed (mark ∷ more ∷ words) control is = absurd (cc (is))
+
+restore-formed : (words : List (List ℕ)) (control : Control) → restore_words words ≡ Some control → IsControl control
+unfolding restore_words
+restore-formed (file ∷ mark ∷ []) control is =
+    let f = from_bind (file_of file) _ control is in
+    let m = from_bind (mark_of mark) _ control f.2 in
+    let same : Restore f.0 m.0 ≡ control = cc (m.2) in
+    subst IsControl same (file-formed file f.0 f.1, mark-formed mark m.0 m.1)
+restore-formed [] control is = absurd (cc (is))
+restore-formed (file ∷ []) control is = absurd (cc (is))
+restore-formed (file ∷ mark ∷ more ∷ words) control is = absurd (cc (is))
+
+flip-formed : (words : List (List ℕ)) (control : Control) → flip_words words ≡ Some control → IsControl control
+unfolding flip_words
+flip-formed (file ∷ at ∷ mask ∷ []) control is =
+    let f = from_bind (file_of file) _ control is in
+    let a = from_bind (number_of at) _ control f.2 in
+    let m = from_bind (mask_of mask) _ control a.2 in
+    let same : Flip f.0 a.0 m.0 ≡ control = cc (m.2) in
+    subst IsControl same (file-formed file f.0 f.1, laid-formed at mask a.0 m.0 a.1 m.1)
+flip-formed [] control is = absurd (cc (is))
+flip-formed (file ∷ []) control is = absurd (cc (is))
+flip-formed (file ∷ at ∷ []) control is = absurd (cc (is))
+flip-formed (file ∷ at ∷ mask ∷ more ∷ words) control is = absurd (cc (is))
+
 crash-formed : (words : List (List ℕ)) (control : Control) → crash_words words ≡ Some control → IsControl control
 unfolding crash_words
 crash-formed (seed ∷ []) control is =
@@ -113,7 +188,11 @@ verb-formed PhaseVerb words control is = alone-formed words Phase control tt is
 verb-formed StopVerb words control is = arming-formed (stop_words words) control (stop-formed words) is
 verb-formed FailVerb words control is = arming-formed (fail_words words) control (fail-formed words) is
 verb-formed LoseVerb words control is = arming-formed (lose_words words) control (lose-formed words) is
+verb-formed TaintVerb words control is = arming-formed (taint_words words) control (taint-formed words) is
 verb-formed CrashVerb words control is = crash-formed words control is
+verb-formed SaveVerb words control is = save-formed words control is
+verb-formed RestoreVerb words control is = restore-formed words control is
+verb-formed FlipVerb words control is = flip-formed words control is
 verb-formed ListVerb words control is = alone-formed words ListControl control tt is
 
 -- the control of a line is well formed

@@ -1,5 +1,6 @@
 pub mod Cuts
 pub mod Declared
+pub mod SavedMarks
 pub mod Options
 pub mod Digits
 pub mod OneLine

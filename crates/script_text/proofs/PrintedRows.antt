@@ -13,8 +13,8 @@ use Rattle.tee_types.specs.declared.reply.Cause.TheVariants.{Fault, CardResult}
 use Rattle.store_model.specs.declared.event.Event.{Event}
 use Rattle.store_model.specs.declared.event.Event.TheVariants.{Call as CallEvent, Landed}
 use Rattle.store_model.specs.declared.event.Mark.TheVariants.{Unchanged, Made}
-use Rattle.script_text.specs.declared.script.Arm.TheVariants.{Stop, Fail, Lose}
-use Rattle.script_text.specs.declared.script.Control.TheVariants.{Mode as ModeControl, Phase, Arm as ArmControl, Crash, List as ListControl}
+use Rattle.script_text.specs.declared.script.Arm.TheVariants.{Stop, Fail, Lose, Taint}
+use Rattle.script_text.specs.declared.script.Control.TheVariants.{Mode as ModeControl, Phase, Arm as ArmControl, Crash, Save, Restore, Flip, List as ListControl}
 use Rattle.script_text.specs.declared.script.Mode.TheVariants.{Serial, Threads}
 use Rattle.script_text.specs.Script.{ScriptValue}
 use Rattle.script_text.specs.Forms.{flags_text, call_text, reply_text}
@@ -72,8 +72,12 @@ threads_phase = refl
 
 controls : map control_line
     (ModeControl Serial ∷ ModeControl Threads ∷ Phase ∷ ArmControl (Stop Dir 5) ∷ ArmControl (Stop (File 12) 0) ∷ ArmControl (Fail Card 3) ∷ ArmControl (Fail (File 272) 4294967295)
-    ∷ ArmControl (Lose 1) ∷ Crash 7 ∷ Crash 18446744073709551615 ∷ ListControl ∷ [])
+    ∷ ArmControl (Lose 1) ∷ Crash 7 ∷ Crash 18446744073709551615 ∷ ListControl
+    ∷ ArmControl (Taint Dir 1 0 []) ∷ ArmControl (Taint (File 7) 2 53248 (1 ∷ 255 ∷ [])) ∷ Save (codes "m_1") ∷ Restore (File 272) (codes "list") ∷ Restore Dir (codes "m_1")
+    ∷ Flip (File 1) 4294967295 (0 ∷ []) ∷ Flip Dir 4096 [] ∷ [])
     ≡ codes "# serial\n" ∷ codes "# threads\n" ∷ codes "# phase\n" ∷ codes "# stop dir 5\n" ∷ codes "# stop 12 0\n" ∷ codes "# fail card 3\n" ∷ codes "# fail 272 4294967295\n"
-    ∷ codes "# lose card 1\n" ∷ codes "# crash 7\n" ∷ codes "# crash 18446744073709551615\n" ∷ codes "# list\n" ∷ []
-unfolding digits
+    ∷ codes "# lose card 1\n" ∷ codes "# crash 7\n" ∷ codes "# crash 18446744073709551615\n" ∷ codes "# list\n"
+    ∷ codes "# taint dir 1 0 -\n" ∷ codes "# taint 7 2 53248 01ff\n" ∷ codes "# save m_1\n" ∷ codes "# restore 272 list\n" ∷ codes "# restore dir m_1\n"
+    ∷ codes "# flip 1 4294967295 00\n" ∷ codes "# flip dir 4096 -\n" ∷ []
+unfolding digits encode_with
 controls = refl

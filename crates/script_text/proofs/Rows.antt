@@ -10,17 +10,17 @@ use Rattle.tee_types.specs.declared.call.Whence.TheVariants.{Set, Cur, End}
 use Rattle.tee_types.specs.declared.reply.Device.TheVariants.{Dir, File, Card}
 use Rattle.script_text.specs.declared.reading.ScriptFault.{ScriptFault}
 use Rattle.script_text.specs.declared.reading.ScriptFault.TheVariants.{BadLine, TooManyApps}
-use Rattle.script_text.specs.declared.script.Arm.TheVariants.{Stop, Fail, Lose}
-use Rattle.script_text.specs.declared.script.Control.TheVariants.{Mode as ModeControl, Phase, Arm as ArmControl, Crash, List as ListControl}
+use Rattle.script_text.specs.declared.script.Arm.TheVariants.{Stop, Fail, Lose, Taint}
+use Rattle.script_text.specs.declared.script.Control.TheVariants.{Mode as ModeControl, Phase, Arm as ArmControl, Crash, Save, Restore, Flip, List as ListControl}
 use Rattle.script_text.specs.declared.script.Mode.TheVariants.{Serial, Threads}
 use Rattle.script_text.specs.declared.script.Step.{Step}
 use Rattle.script_text.specs.declared.script.Step.TheVariants.{Call as CallStep, Control as ControlStep}
 use Rattle.script_text.specs.Lines.{words_of}
-use Rattle.script_text.specs.Words.{is_name, id_of, bytes_of, numeral_of, positive_of, device_of, offset_of, whence_of, letter_flags_of, bits_of, flags_of}
+use Rattle.script_text.specs.Words.{is_name, mark_of, mask_of, id_of, bytes_of, numeral_of, positive_of, file_of, device_of, offset_of, whence_of, letter_flags_of, bits_of, flags_of}
 use Rattle.script_text.specs.Script.{ScriptValue, no_script}
 use Rattle.script_text.specs.Calls.{create_words, open_words, write_words, seek_words, rename_words, one_number, two_numbers, verb_of, call_words}
-use Rattle.script_text.specs.Controls.{stop_words, fail_words, lose_words, crash_words, control_verb_of, control_of}
-use Rattle.script_text.specs.Grammar.{call_line, app_line, step_line, words_line, line_of, script_from, script_of}
+use Rattle.script_text.specs.Controls.{stop_words, fail_words, lose_words, taint_words, crash_words, save_words, restore_words, flip_words, control_verb_of, control_of}
+use Rattle.script_text.specs.Grammar.{call_line, app_line, control_line, step_line, words_line, line_of, script_from, script_of}
 
 abbrev app : List ℕ
 app = 0 ∷ 0 ∷ 0 ∷ 0 ∷ 0 ∷ 0 ∷ 0 ∷ 0 ∷ 0 ∷ 0 ∷ 0 ∷ 0 ∷ 0 ∷ 0 ∷ 0 ∷ 1 ∷ []
@@ -44,7 +44,7 @@ first_object : below
     ∷ codes "a create 6b r 00 -\na read 0 4\na close 0\na open 6b r"
     ∷ [])
     ≡ replicate 2 (calls (Create (0x6b ∷ []) (record { bits = 1 }) (0 ∷ []) [] ∷ Read 0 4 ∷ Close 0 ∷ Open (0x6b ∷ []) (record { bits = 1 }) ∷ []))
-unfolding words_of is_name id_of bytes_of numeral_of letter_flags_of bits_of flags_of create_words open_words one_number two_numbers verb_of call_words call_line app_line control_verb_of control_of step_line words_line line_of script_from decode_pairs by_index
+unfolding words_of is_name id_of bytes_of numeral_of letter_flags_of bits_of flags_of create_words open_words one_number two_numbers verb_of call_words call_line app_line control_verb_of control_of control_line step_line words_line line_of script_from decode_pairs by_index
 first_object = refl
 
 empty_script : script_of [] ≡ Ok no_script
@@ -59,7 +59,7 @@ each_call : below
     ∷ EnumStart 6 ∷ EnumNext 7 ∷ EnumReset 8 ∷ EnumFree 9 ∷ [])
     ∷ calls (Seek 0 (pos 4095) Set ∷ Seek 0 (negsuc 8) Cur ∷ Seek 0 (negsuc 1) End ∷ Seek 0 (pos 7) Cur ∷ Seek 0 (pos 0) Set ∷ [])
     ∷ []
-unfolding words_of is_name id_of bytes_of numeral_of offset_of whence_of write_words seek_words rename_words one_number two_numbers verb_of call_words call_line app_line control_verb_of control_of step_line words_line line_of script_from decode_pairs by_index
+unfolding words_of is_name id_of bytes_of numeral_of offset_of whence_of write_words seek_words rename_words one_number two_numbers verb_of call_words call_line app_line control_verb_of control_of control_line step_line words_line line_of script_from decode_pairs by_index
 each_call = refl
 
 -- zeros in front and capital hex digits are good, and so are 64 bytes of an identifier and the greatest number
@@ -76,7 +76,7 @@ good_words : below
     ∷ calls (Create (0x6b ∷ []) (record { bits = 0x437 }) [] (0 ∷ 255 ∷ []) ∷ [])
     ∷ calls (map (λ bits. Open (0x6b ∷ []) (record { bits = bits })) (0x8 ∷ 0x400 ∷ 0xffffffff ∷ 0 ∷ []))
     ∷ []
-unfolding words_of is_name id_of bytes_of numeral_of letter_flags_of bits_of flags_of create_words open_words one_number two_numbers verb_of call_words call_line app_line control_verb_of control_of step_line words_line line_of script_from decode_pairs by_index
+unfolding words_of is_name id_of bytes_of numeral_of letter_flags_of bits_of flags_of create_words open_words one_number two_numbers verb_of call_words call_line app_line control_verb_of control_of control_line step_line words_line line_of script_from decode_pairs by_index
 good_words = refl
 
 bad_words : below
@@ -86,7 +86,7 @@ bad_words : below
     ∷ "a seek 0 - set" ∷ "a seek 0 + set" ∷ "a seek 0 +-1 set" ∷ "a seek 0 0 SET" ∷ "a seek 0 0 begin" ∷ "a Close 0" ∷ "a write 0 f" ∷ [])
     ++ (codes "a create " ++ replicate 130 48 ++ codes " r - -") ∷ [])
     ≡ replicate 24 (Err (BadLine 2))
-unfolding words_of is_name id_of bytes_of numeral_of offset_of whence_of letter_flags_of bits_of flags_of create_words open_words write_words seek_words one_number two_numbers verb_of call_words call_line app_line control_verb_of control_of step_line words_line line_of script_from decode_pairs by_index
+unfolding words_of is_name id_of bytes_of numeral_of offset_of whence_of letter_flags_of bits_of flags_of create_words open_words write_words seek_words one_number two_numbers verb_of call_words call_line app_line control_verb_of control_of control_line step_line words_line line_of script_from decode_pairs by_index
 bad_words = refl
 
 offsets : map offset_of
@@ -95,13 +95,12 @@ offsets : map offset_of
 unfolding numeral_of offset_of
 offsets = refl
 
--- an unknown word, an undeclared application, too few words and too many, and words whose lines are not built
+-- an unknown word, an undeclared application, too few words and too many
 bad_forms : below
     (map codes
-    ("a wrote 0 ff" ∷ "b open 6b r" ∷ "a" ∷ "a close" ∷ "a close 0 0" ∷ "a enum 0" ∷ "a seek 0 0" ∷ "a # 0" ∷ "serial a" ∷ "phase 0" ∷ "threads 2"
-    ∷ "taint 1 1 0 00" ∷ "flip 1 0 00" ∷ "save m" ∷ "restore 1 m" ∷ []))
-    ≡ replicate 15 (Err (BadLine 2))
-unfolding words_of is_name id_of bytes_of numeral_of offset_of whence_of letter_flags_of bits_of flags_of open_words seek_words one_number two_numbers verb_of call_words call_line app_line control_verb_of control_of step_line words_line line_of script_from decode_pairs by_index
+    ("a wrote 0 ff" ∷ "b open 6b r" ∷ "a" ∷ "a close" ∷ "a close 0 0" ∷ "a enum 0" ∷ "a seek 0 0" ∷ "a # 0" ∷ "serial a" ∷ "phase 0" ∷ "threads 2" ∷ []))
+    ≡ replicate 11 (Err (BadLine 2))
+unfolding words_of is_name id_of bytes_of numeral_of offset_of whence_of letter_flags_of bits_of flags_of open_words seek_words one_number two_numbers verb_of call_words call_line app_line control_verb_of control_of control_line step_line words_line line_of script_from decode_pairs by_index
 bad_forms = refl
 
 -- further spaces and tabs, a CR before the LF, lines without a word, and comments
@@ -113,7 +112,7 @@ good_separators : below
     ∷ (codes "# a\n\t #a create\n#" ++ 0 ∷ 13 ∷ 127 ∷ codes "\na close 0")
     ∷ [])
     ≡ replicate 5 (calls (Close 0 ∷ []))
-unfolding words_of is_name numeral_of one_number verb_of call_words call_line app_line control_verb_of control_of step_line words_line line_of script_from by_index
+unfolding words_of is_name numeral_of one_number verb_of call_words call_line app_line control_verb_of control_of control_line step_line words_line line_of script_from by_index
 good_separators = refl
 
 -- a CR that stands before no LF, other bytes that are not of words, and a byte past ASCII, in a comment too
@@ -127,7 +126,7 @@ bad_separators : below
     ∷ (codes " " ++ 255 ∷ codes "#")
     ∷ [])
     ≡ replicate 7 (Err (BadLine 2))
-unfolding words_of is_name numeral_of one_number verb_of call_words call_line app_line control_verb_of control_of step_line words_line line_of script_from by_index
+unfolding words_of is_name numeral_of one_number verb_of call_words call_line app_line control_verb_of control_of control_line step_line words_line line_of script_from by_index
 bad_separators = refl
 
 -- controls stand where they are, also above an application
@@ -137,7 +136,7 @@ controls : below
       applications = record { name = codes "a"; app = app } ∷ record { name = codes "b"; app = app } ∷ [];
       steps = ControlStep (ModeControl Serial) ∷ ControlStep Phase ∷ CallStep 1 EnumNew ∷ ControlStep Phase ∷ ControlStep (ModeControl Threads) ∷ CallStep 0 EnumNew ∷ [];
     }) ∷ []
-unfolding words_of is_name verb_of call_words call_line app_line control_verb_of control_of step_line words_line line_of script_from by_index
+unfolding words_of is_name verb_of call_words call_line app_line control_verb_of control_of control_line step_line words_line line_of script_from by_index
 controls = refl
 
 -- the controls that arm a device, crash the files and show the objects; zeros may lead
@@ -146,7 +145,7 @@ arms : below
     ≡ Ok (script_a (map ControlStep
     (ArmControl (Stop Dir 0) ∷ ArmControl (Stop Card 5) ∷ ArmControl (Stop (File 272) 4294967295) ∷ ArmControl (Fail (File 1) 1) ∷ ArmControl (Fail Dir 4294967295)
     ∷ ArmControl (Lose 2) ∷ ListControl ∷ Crash 0 ∷ Crash 18446744073709551615 ∷ []))) ∷ []
-unfolding words_of is_name numeral_of positive_of device_of stop_words fail_words lose_words crash_words control_verb_of control_of app_line step_line words_line line_of script_from by_index
+unfolding words_of is_name numeral_of positive_of file_of device_of stop_words fail_words lose_words crash_words control_verb_of control_of app_line control_line step_line words_line line_of script_from by_index
 arms = refl
 
 -- no device, no number, a number past its bounds, too few words and too many
@@ -156,8 +155,28 @@ bad_arms : below
     ∷ "fail dir 0" ∷ "fail card" ∷ "fail 1 4294967296" ∷ "lose card 0" ∷ "lose dir 1" ∷ "lose 1" ∷ "lose card 1 1" ∷ "crash" ∷ "crash 18446744073709551616" ∷ "crash -1"
     ∷ "crash 1 1" ∷ "list 0" ∷ []))
     ≡ replicate 22 (Err (BadLine 2))
-unfolding words_of is_name numeral_of positive_of device_of stop_words fail_words lose_words crash_words verb_of call_words call_line app_line control_verb_of control_of step_line words_line line_of script_from by_index
+unfolding words_of is_name numeral_of positive_of file_of device_of stop_words fail_words lose_words crash_words verb_of call_words call_line app_line control_verb_of control_of control_line step_line words_line line_of script_from by_index
 bad_arms = refl
+
+-- the controls that alter files: the places of zeros, masks that change nothing, marks that are words of controls, and a mark again
+alterations : below
+    (codes "taint dir 1 0 00\ntaint 272 04294967295 04294967295 00fF\nflip 001 0 00\nflip dir 4294967295 Ff00\nsave restore\nsave list\nsave restore\nrestore 1 list\n restore dir  restore" ∷ [])
+    ≡ Ok (script_a (map ControlStep
+    (ArmControl (Taint Dir 1 0 (0 ∷ [])) ∷ ArmControl (Taint (File 272) 4294967295 4294967295 (0 ∷ 255 ∷ [])) ∷ Flip (File 1) 0 (0 ∷ []) ∷ Flip Dir 4294967295 (255 ∷ 0 ∷ [])
+    ∷ Save (codes "restore") ∷ Save (codes "list") ∷ Save (codes "restore") ∷ Restore (File 1) (codes "list") ∷ Restore Dir (codes "restore") ∷ []))) ∷ []
+unfolding words_of is_name mark_of mask_of bytes_of numeral_of positive_of file_of taint_words save_words restore_words flip_words control_verb_of control_of app_line control_line step_line words_line line_of script_from decode_pairs by_index
+alterations = refl
+
+-- no file, no mark, a number past its bounds or with a sign, half a byte or none, too few words and too many, and a mark that is saved nowhere or below
+bad_alterations : below
+    (map codes
+    ("taint card 1 0 00" ∷ "taint 0 1 0 00" ∷ "taint 273 1 0 00" ∷ "taint 1 0 0 00" ∷ "taint 1 4294967296 0 00" ∷ "taint 1 1 4294967296 00" ∷ "taint 1 1 -1 00" ∷ "taint 1 1 +0 00"
+    ∷ "taint 1 1 0 0" ∷ "taint 1 1 0 -" ∷ "taint 1 1 0" ∷ "taint 1 1 0 00 00" ∷ "taint 1 1 0 0x00" ∷ "flip card 0 00" ∷ "flip 273 0 00" ∷ "flip 1 4294967296 00" ∷ "flip 1 -0 00" ∷ "flip 1 0" ∷ "flip 1 0 000" ∷ "flip 1 0 -"
+    ∷ "flip 1 0 00 00" ∷ "save" ∷ "save app" ∷ "save 1m" ∷ "save M" ∷ "save abcdefghijklmnopq" ∷ "save m m" ∷ "restore 1 m" ∷ "restore 1 m\nsave m" ∷ "restore 1" ∷ []))
+    ++ below (map codes ("save m\nrestore card m" ∷ "save m\nrestore 0 m" ∷ "save m\nrestore 1 n" ∷ "save m\nrestore 1 m m" ∷ "save m\nrestore m 1" ∷ "save m\nrestore 1 M" ∷ []))
+    ≡ replicate 30 (Err (BadLine 2)) ++ replicate 6 (Err (BadLine 3))
+unfolding words_of is_name mark_of mask_of bytes_of numeral_of positive_of file_of taint_words save_words restore_words flip_words verb_of call_words call_line control_verb_of control_of app_line control_line step_line words_line line_of script_from decode_pairs by_index
+bad_alterations = refl
 
 -- a name again, an application below a call, a word too few and too many, and no UUID
 bad_applications : below
@@ -169,18 +188,18 @@ bad_applications : below
     ∷ [])
     ++ below (codes "a enum\napp b 00000000-0000-0000-0000-000000000002" ∷ [])
     ≡ replicate 5 (Err (BadLine 2)) ++ Err (BadLine 3) ∷ []
-unfolding words_of is_name verb_of call_words call_line app_line control_verb_of control_of step_line words_line line_of script_from by_index
+unfolding words_of is_name verb_of call_words call_line app_line control_verb_of control_of control_line step_line words_line line_of script_from by_index
 bad_applications = refl
 
 -- a call above every application, and the first of two bad lines; comments and empty lines count
 first_bad_line : script_of (codes "a close 0\n") ∷ below (codes "a close 0\na\nb" ∷ codes "\n# a\na close" ∷ [])
     ≡ Err (BadLine 1) ∷ Err (BadLine 3) ∷ Err (BadLine 4) ∷ []
-unfolding words_of is_name numeral_of one_number verb_of call_words call_line app_line control_verb_of control_of step_line words_line line_of script_from by_index
+unfolding words_of is_name numeral_of one_number verb_of call_words call_line app_line control_verb_of control_of control_line step_line words_line line_of script_from by_index
 first_bad_line = refl
 
 -- the last of four lines is cut off
 truncated_script : below (codes "a create 6b rw - -\na read 0 1\na write 0 f" ∷ []) ≡ Err (BadLine 4) ∷ []
-unfolding words_of is_name id_of bytes_of numeral_of letter_flags_of bits_of flags_of create_words write_words two_numbers verb_of call_words call_line app_line control_verb_of control_of step_line words_line line_of script_from decode_pairs by_index
+unfolding words_of is_name id_of bytes_of numeral_of letter_flags_of bits_of flags_of create_words write_words two_numbers verb_of call_words call_line app_line control_verb_of control_of control_line step_line words_line line_of script_from decode_pairs by_index
 truncated_script = refl
 
 -- an application under each of these letters
@@ -191,12 +210,12 @@ applications letters = flat_map (λ letter. codes "app " ++ letter ∷ codes " 0
 seventeen_applications :
     script_of (applications (codes "abcdefghijklmnopq")) ∷ script_of (applications (codes "abcdefghijklmnopq") ++ codes "save\n") ∷ []
     ≡ Err (TooManyApps 17) ∷ Err (BadLine 18) ∷ []
-unfolding words_of is_name verb_of call_words call_line app_line control_verb_of control_of step_line words_line line_of script_from by_index
+unfolding words_of is_name verb_of call_words call_line app_line save_words control_verb_of control_of control_line step_line words_line line_of script_from by_index
 seventeen_applications = refl
 
 sixteen_applications : script_of (applications (codes "abcdefghijklmnop"))
     ≡ Ok (record { applications = map (λ letter. record { name = letter ∷ []; app = app }) (codes "abcdefghijklmnop"); steps = [] })
-unfolding words_of is_name verb_of call_words call_line app_line control_verb_of control_of step_line words_line line_of script_from by_index
+unfolding words_of is_name verb_of call_words call_line app_line control_verb_of control_of control_line step_line words_line line_of script_from by_index
 sixteen_applications = refl
 
 names : map is_name (codes "a" ∷ codes "a_9" ∷ codes "abcdefghijklmnop" ∷ codes "set" ∷ codes "dir" ∷ codes "create" ∷ codes "card" ∷ []) ≡ replicate 7 true

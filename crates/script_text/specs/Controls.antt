@@ -2,13 +2,13 @@
 use Rattle.std.specs.Prelude.{ℕ, List, [], ◌∷◌, if◌then◌else◌, codes, Option, Some, None}
 use Rattle.std.specs.Map.{lookup}
 use Rattle.script_text.specs.declared.controls.ControlVerb.{ControlVerb}
-use Rattle.script_text.specs.declared.controls.ControlVerb.TheVariants.{Serial as SerialVerb, Threads as ThreadsVerb, Phase as PhaseVerb, Stop as StopVerb, Fail as FailVerb, Lose as LoseVerb, Crash as CrashVerb, List as ListVerb}
+use Rattle.script_text.specs.declared.controls.ControlVerb.TheVariants.{Serial as SerialVerb, Threads as ThreadsVerb, Phase as PhaseVerb, Stop as StopVerb, Fail as FailVerb, Lose as LoseVerb, Taint as TaintVerb, Crash as CrashVerb, Save as SaveVerb, Restore as RestoreVerb, Flip as FlipVerb, List as ListVerb}
 use Rattle.script_text.specs.declared.script.Arm.{Arm}
-use Rattle.script_text.specs.declared.script.Arm.TheVariants.{Stop, Fail, Lose}
+use Rattle.script_text.specs.declared.script.Arm.TheVariants.{Stop, Fail, Lose, Taint}
 use Rattle.script_text.specs.declared.script.Control.{Control}
-use Rattle.script_text.specs.declared.script.Control.TheVariants.{Mode as ModeControl, Phase, Arm as ArmControl, Crash, List as ListControl}
+use Rattle.script_text.specs.declared.script.Control.TheVariants.{Mode as ModeControl, Phase, Arm as ArmControl, Crash, Save, Restore, Flip, List as ListControl}
 use Rattle.script_text.specs.declared.script.Mode.TheVariants.{Serial, Threads}
-use Rattle.script_text.specs.Words.{same_word, number_of, place_of_call, seed_of, device_of}
+use Rattle.script_text.specs.Words.{same_word, mask_of, number_of, place_of_call, seed_of, device_of, file_of, mark_of}
 use Rattle.script_text.specs.Calls.{◌>>=◌}
 
 -- `DEVICE N`: it passes so many calls
@@ -37,12 +37,46 @@ lose_words (card ∷ call ∷ []) =
     else None
 lose_words _ = None
 
+-- `FILE N OFFSET BYTES`: before that call the mask is laid over the file from that place on
+unfoldable pub taint_words : List (List ℕ) → Option Arm
+taint_words (file ∷ call ∷ at ∷ mask ∷ []) = do
+  f ← file_of file
+  n ← place_of_call call
+  a ← number_of at
+  m ← mask_of mask
+  Some (Taint f n a m)
+taint_words _ = None
+
 -- `SEED`
 unfoldable pub crash_words : List (List ℕ) → Option Control
 crash_words (seed ∷ []) = do
   s ← seed_of seed
   Some (Crash s)
 crash_words _ = None
+
+-- `MARK`
+unfoldable pub save_words : List (List ℕ) → Option Control
+save_words (mark ∷ []) = do
+  m ← mark_of mark
+  Some (Save m)
+save_words _ = None
+
+-- `FILE MARK`
+unfoldable pub restore_words : List (List ℕ) → Option Control
+restore_words (file ∷ mark ∷ []) = do
+  f ← file_of file
+  m ← mark_of mark
+  Some (Restore f m)
+restore_words _ = None
+
+-- `FILE OFFSET BYTES`: the mask is laid over the file from that place on
+unfoldable pub flip_words : List (List ℕ) → Option Control
+flip_words (file ∷ at ∷ mask ∷ []) = do
+  f ← file_of file
+  a ← number_of at
+  m ← mask_of mask
+  Some (Flip f a m)
+flip_words _ = None
 
 -- nothing
 abbrev pub alone : Control → List (List ℕ) → Option Control
@@ -59,7 +93,8 @@ arming arm = do
 abbrev pub control_verbs : List (List ℕ × ControlVerb)
 control_verbs =
     (codes "serial", SerialVerb) ∷ (codes "threads", ThreadsVerb) ∷ (codes "phase", PhaseVerb) ∷ (codes "stop", StopVerb)
-    ∷ (codes "fail", FailVerb) ∷ (codes "lose", LoseVerb) ∷ (codes "crash", CrashVerb) ∷ (codes "list", ListVerb) ∷ []
+    ∷ (codes "fail", FailVerb) ∷ (codes "lose", LoseVerb) ∷ (codes "taint", TaintVerb) ∷ (codes "crash", CrashVerb)
+    ∷ (codes "save", SaveVerb) ∷ (codes "restore", RestoreVerb) ∷ (codes "flip", FlipVerb) ∷ (codes "list", ListVerb) ∷ []
 
 unfoldable pub control_verb_of : List ℕ → Option ControlVerb
 control_verb_of word = lookup (same_word word) control_verbs
@@ -72,7 +107,11 @@ control_words PhaseVerb words = alone Phase words
 control_words StopVerb words = arming (stop_words words)
 control_words FailVerb words = arming (fail_words words)
 control_words LoseVerb words = arming (lose_words words)
+control_words TaintVerb words = arming (taint_words words)
 control_words CrashVerb words = crash_words words
+control_words SaveVerb words = save_words words
+control_words RestoreVerb words = restore_words words
+control_words FlipVerb words = flip_words words
 control_words ListVerb words = alone ListControl words
 
 -- the control of a line: its first word, and the words behind it

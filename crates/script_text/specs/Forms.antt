@@ -20,11 +20,11 @@ use Rattle.tee_types.specs.declared.reply.Cause.{Cause}
 use Rattle.tee_types.specs.declared.reply.Cause.TheVariants.{Fault, Frame, CardResult}
 use Rattle.tee_types.specs.Rights.{read_bit, write_bit, write_meta_bit, share_read_bit, share_write_bit, overwrite_bit, has, is_known}
 use Rattle.script_text.specs.declared.script.Control.{Control}
-use Rattle.script_text.specs.declared.script.Control.TheVariants.{Mode as ModeControl, Phase, Arm as ArmControl, Crash, List as ListControl}
+use Rattle.script_text.specs.declared.script.Control.TheVariants.{Mode as ModeControl, Phase, Arm as ArmControl, Crash, Save, Restore, Flip, List as ListControl}
 use Rattle.script_text.specs.declared.script.Mode.{Mode}
 use Rattle.script_text.specs.declared.script.Mode.TheVariants.{Serial, Threads}
 use Rattle.script_text.specs.declared.script.Arm.{Arm}
-use Rattle.script_text.specs.declared.script.Arm.TheVariants.{Stop, Fail, Lose}
+use Rattle.script_text.specs.declared.script.Arm.TheVariants.{Stop, Fail, Lose, Taint}
 
 -- bytes in hex, small letters; no bytes as `-`
 abbrev pub bytes_text : List ℕ → List ℕ
@@ -86,6 +86,7 @@ abbrev pub arm_text : Arm → List ℕ
 arm_text (Stop device calls) = codes "stop " ++ device_word device ++ codes " " ++ decimal calls
 arm_text (Fail device call) = codes "fail " ++ device_word device ++ codes " " ++ decimal call
 arm_text (Lose call) = codes "lose card " ++ decimal call
+arm_text (Taint file call at mask) = codes "taint " ++ device_word file ++ codes " " ++ decimal call ++ codes " " ++ decimal at ++ codes " " ++ bytes_text mask
 
 -- the word of a mode
 abbrev pub mode_text : Mode → List ℕ
@@ -98,6 +99,9 @@ control_text (ModeControl mode) = mode_text mode
 control_text Phase = codes "phase"
 control_text (ArmControl arm) = arm_text arm
 control_text (Crash seed) = codes "crash " ++ decimal seed
+control_text (Save mark) = codes "save " ++ mark
+control_text (Restore file mark) = codes "restore " ++ device_word file ++ codes " " ++ mark
+control_text (Flip file at mask) = codes "flip " ++ device_word file ++ codes " " ++ decimal at ++ codes " " ++ bytes_text mask
 control_text ListControl = codes "list"
 
 abbrev pub code_text : Code → List ℕ

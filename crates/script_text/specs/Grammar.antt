@@ -1,13 +1,15 @@
 -- The grammar of scripts: what each line means under the lines above it.
-use Rattle.std.specs.Prelude.{ℕ, ◌+◌, Bool, not, ◌&&◌, nat_lt, nat_eq, List, [], ◌∷◌, ◌++◌, length, if◌then◌else◌, codes, Option, Some, None, is_none, position, Result, Ok, Err}
+use Rattle.std.specs.Prelude.{ℕ, ◌+◌, Bool, true, not, ◌&&◌, nat_lt, nat_eq, List, [], ◌∷◌, ◌++◌, length, if◌then◌else◌, codes, Option, Some, None, is_none, position, Result, Ok, Err}
 use Rattle.std.specs.List.{starts_with}
+use Rattle.script_text.specs.declared.script.Control.{Control}
+use Rattle.script_text.specs.declared.script.Control.TheVariants.{Restore}
 use Rattle.script_text.specs.declared.script.Step.{Step}
 use Rattle.script_text.specs.declared.script.Step.TheVariants.{Call as CallStep, Control as ControlStep}
 use Rattle.script_text.specs.declared.reading.ScriptFault.{ScriptFault}
 use Rattle.script_text.specs.declared.reading.ScriptFault.TheVariants.{BadLine, TooManyApps}
 use Rattle.script_text.specs.Lines.{lines_of, words_of, is_ascii}
 use Rattle.script_text.specs.Words.{same_word, is_name, uuid_of}
-use Rattle.script_text.specs.Script.{Declaration, ScriptValue, no_script, has_call}
+use Rattle.script_text.specs.Script.{Declaration, ScriptValue, no_script, has_call, is_saved}
 use Rattle.script_text.specs.Calls.{◌>>=◌, call_words}
 use Rattle.script_text.specs.Controls.{control_of}
 
@@ -39,10 +41,18 @@ app_line above (name ∷ uuid ∷ []) =
     else None
 app_line above _ = None
 
+-- what a control puts back was saved above
+abbrev pub may_stand : List Step → Control → Bool
+may_stand above (Restore file mark) = is_saved mark above
+may_stand above control = true
+
+unfoldable pub control_line : ScriptValue → Control → Option ScriptValue
+control_line above control = if may_stand above.steps control then Some (with_step above (ControlStep control)) else None
+
 -- a control, or a call
 unfoldable pub step_line : ScriptValue → List ℕ → List (List ℕ) → Option ScriptValue
 step_line above word words = elim (control_of word words) [
-  | Some control ↦ Some (with_step above (ControlStep control))
+  | Some control ↦ control_line above control
   | None ↦ call_line above word words
 ]
 

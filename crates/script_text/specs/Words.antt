@@ -32,13 +32,24 @@ reserved_words =
     codes "app" ∷ codes "serial" ∷ codes "threads" ∷ codes "phase" ∷ codes "list" ∷ codes "stop" ∷ codes "fail"
     ∷ codes "lose" ∷ codes "taint" ∷ codes "flip" ∷ codes "crash" ∷ codes "save" ∷ codes "restore" ∷ []
 
--- NAME: 1 to 16 of `a` to `z`, `0` to `9` and `_`, a letter first, and no reserved word
-unfoldable pub is_name : List ℕ → Bool
-is_name word =
+-- 1 to 16 of `a` to `z`, `0` to `9` and `_`, a letter first
+abbrev pub has_name_form : List ℕ → Bool
+has_name_form word =
     nat_le 1 (length word) && nat_le (length word) 16
     && list_all (λ byte. is_small_letter byte || is_digit byte || (byte == 95)) word
     && is_small_letter (slice_index word 0)
-    && not (list_any (same_word word) reserved_words)
+
+-- NAME: the form of a name, and no reserved word
+unfoldable pub is_name : List ℕ → Bool
+is_name word = has_name_form word && not (list_any (same_word word) reserved_words)
+
+-- MARK: the form of a name; reserved words are marks too, but for `app`
+abbrev pub is_mark : List ℕ → Bool
+is_mark word = has_name_form word && not (same_word word (codes "app"))
+
+-- the bytes of a mark
+unfoldable pub mark_of : List ℕ → Option (List ℕ)
+mark_of word = if is_mark word then Some word else None
 
 -- UUID: any text form of a UUID
 abbrev pub uuid_of : List ℕ → Option (List ℕ)
@@ -54,6 +65,10 @@ bytes_of word =
     if same_word word (codes "-") then Some []
     else if nat_le 2 (length word) then result_ok (decode_of word)
     else None
+
+-- BYTES, of one byte at least
+unfoldable pub mask_of : List ℕ → Option (List ℕ)
+mask_of word = if same_word word (codes "-") then None else bytes_of word
 
 -- each byte is a digit in that base
 abbrev pub are_digits : ℕ → List ℕ → Bool
@@ -86,12 +101,13 @@ place_of_call word = positive_of 4294967295 word
 abbrev pub seed_of : List ℕ → Option ℕ
 seed_of word = numeral_of 10 18446744073709551615 word
 
--- DEVICE: `dir`, `card`, or the number of an object's file, 1 to 272
+-- FILE: `dir`, or the number of an object's file, 1 to 272
+unfoldable pub file_of : List ℕ → Option Device
+file_of word = if same_word word (codes "dir") then Some Dir else option_map File (positive_of 272 word)
+
+-- DEVICE: a file, or `card`
 unfoldable pub device_of : List ℕ → Option Device
-device_of word =
-    if same_word word (codes "dir") then Some Dir
-    else if same_word word (codes "card") then Some Card
-    else option_map File (positive_of 272 word)
+device_of word = if same_word word (codes "card") then Some Card else file_of word
 
 -- OFFSET: `-`, `+` or no sign, then decimal digits, of a number up to 9,223,372,036,854,775,807
 unfoldable pub offset_of : List ℕ → Option ℤ

@@ -2,6 +2,8 @@
 
 ghost use Rattle.std.specs.Prelude.{◌≡◌, ◌++◌, length, take, codes, decimal, OnOk};
 ghost use Rattle.tee_types.specs.declared.call.Call.TheVariants.{Create, Open, Rename, Seek, Write};
+ghost use Rattle.script_text.specs.declared.script.Arm.TheVariants.{Taint};
+ghost use Rattle.script_text.specs.declared.script.Control.TheVariants.{Flip, Restore};
 ghost use Rattle.script_text.specs.Forms.{arm_text, call_text, control_text, device_word, mode_text, whence_text};
 
 use crate::append_text::{
@@ -143,15 +145,37 @@ fn put_device_number(
     put_word_number(out, b" ", number as u64)
 }
 
+/// Appends the words of a taint.
+fn put_taint(
+    out: &mut Vec<u8>,
+    file: Device,
+    call: u32,
+    at: u32,
+    mask: &Bytes,
+) -> Result<(), NoMemory>
+    ensures ok { OnOk result (out.new.items ≡ out.old.items ++ arm_text (Taint file call at mask.now)) }
+    ensures kept { take (length out.old.items) out.new.items ≡ out.old.items }
+{
+    put_device_number(out, b"taint ", file, call)?;
+    put_word_number(out, b" ", at as u64)?;
+    put_word_bytes(out, b" ", mask.as_slice())
+}
+
 /// Appends the words of a control that arms a device.
-fn put_arm(out: &mut Vec<u8>, arm: Arm) -> Result<(), NoMemory>
-    ensures ok { OnOk result (out.new.items ≡ out.old.items ++ arm_text arm) }
+fn put_arm(out: &mut Vec<u8>, arm: &Arm) -> Result<(), NoMemory>
+    ensures ok { OnOk result (out.new.items ≡ out.old.items ++ arm_text arm.now) }
     ensures kept { take (length out.old.items) out.new.items ≡ out.old.items }
 {
     match arm {
-        Arm::Stop { device, calls } => put_device_number(out, b"stop ", device, calls),
-        Arm::Fail { device, call } => put_device_number(out, b"fail ", device, call),
-        Arm::Lose { call } => put_word_number(out, b"lose card ", call as u64),
+        Arm::Stop { device, calls } => put_device_number(out, b"stop ", *device, *calls),
+        Arm::Fail { device, call } => put_device_number(out, b"fail ", *device, *call),
+        Arm::Lose { call } => put_word_number(out, b"lose card ", *call as u64),
+        Arm::Taint {
+            file,
+            call,
+            at,
+            mask,
+        } => put_taint(out, *file, *call, *at, mask),
     }
 }
 
@@ -165,6 +189,25 @@ pub(crate) fn mode_name(mode: Mode) -> &'static [u8]
     }
 }
 
+/// Appends the words that put a saved file back.
+fn put_restore(out: &mut Vec<u8>, file: Device, mark: &Bytes) -> Result<(), NoMemory>
+    ensures ok { OnOk result (out.new.items ≡ out.old.items ++ control_text (Restore file mark.now)) }
+    ensures kept { take (length out.old.items) out.new.items ≡ out.old.items }
+{
+    put(out, b"restore ")?;
+    put_device_word(out, file)?;
+    put_two(out, b" ", mark.as_slice())
+}
+
+/// Appends the words of a flip.
+fn put_flip(out: &mut Vec<u8>, file: Device, at: u32, mask: &Bytes) -> Result<(), NoMemory>
+    ensures ok { OnOk result (out.new.items ≡ out.old.items ++ control_text (Flip file at mask.now)) }
+    ensures kept { take (length out.old.items) out.new.items ≡ out.old.items }
+{
+    put_device_number(out, b"flip ", file, at)?;
+    put_word_bytes(out, b" ", mask.as_slice())
+}
+
 /// Appends a control.
 pub(crate) fn put_control(out: &mut Vec<u8>, control: &Control) -> Result<(), NoMemory>
     ensures ok { OnOk result (out.new.items ≡ out.old.items ++ control_text control.now) }
@@ -173,8 +216,11 @@ pub(crate) fn put_control(out: &mut Vec<u8>, control: &Control) -> Result<(), No
     match control {
         Control::Mode(mode) => put(out, mode_name(*mode)),
         Control::Phase => put(out, b"phase"),
-        Control::Arm(arm) => put_arm(out, *arm),
+        Control::Arm(arm) => put_arm(out, arm),
         Control::Crash { seed } => put_word_number(out, b"crash ", *seed),
+        Control::Save { mark } => put_two(out, b"save ", mark.as_slice()),
+        Control::Restore { file, mark } => put_restore(out, *file, mark),
+        Control::Flip { file, at, mask } => put_flip(out, *file, *at, mask),
         Control::List => put(out, b"list"),
     }
 }

@@ -3,12 +3,12 @@
 ghost use Rattle.std.specs.Prelude.{◌≡◌, ◌^◌, ◌<◌, ◌≤◌, ◌+◌, length, IfOk, OnOk};
 ghost use Rattle.script_text.specs.Lines.{lines_of, words_of};
 ghost use Rattle.script_text.specs.Script.{ScriptValue, no_script};
-ghost use Rattle.script_text.specs.Grammar.{app_line, call_line, step_line, words_line, line_of, script_from, script_of};
+ghost use Rattle.script_text.specs.Grammar.{app_line, call_line, control_line, step_line, words_line, line_of, script_from, script_of};
 ghost use Rattle.script_text.specs.Parsed.{IsParsed, IsRead, HasGrown};
 
 use crate::calls::call;
 use crate::controls::control;
-use crate::script::{Script, Step};
+use crate::script::{Control, Script, Step};
 use crate::values::{is_name, same, uuid};
 use crate::words::{cut_line, cut_word, is_ascii, two};
 use std::alloc::{AllocError, Global};
@@ -49,7 +49,7 @@ fn add_call(alloc: Global, script: &mut Script, name: &[u8], words: &[u8]) -> Re
     let Some(call) = call(alloc, words)? else {
         return Ok(false);
     };
-    script.add(Step::Call { app, call })?;
+    script.add(alloc, Step::Call { app, call })?;
     Ok(true)
 }
 
@@ -73,6 +73,19 @@ fn add_app(alloc: Global, script: &mut Script, words: &[u8]) -> Result<bool, NoM
     Ok(true)
 }
 
+/// Adds a control, and tells whether it may stand where it does.
+#[tactic(auto, unfolding(crate::specs::Grammar::control_line))]
+fn add_control(alloc: Global, script: &mut Script, control: Control) -> Result<bool, NoMemory>
+    ensures read { IfOk result (λ good. IsRead good script.old script.new (control_line script.old control)) }
+    ensures grown { OnOk result (HasGrown script.old script.new) }
+{
+    if !script.may_stand(&control) {
+        return Ok(false);
+    }
+    script.add(alloc, Step::Control(control))?;
+    Ok(true)
+}
+
 /// Adds the step that a line means, a control or a call, and tells whether the line is in the grammar.
 #[tactic(auto, unfolding(crate::specs::Grammar::step_line))]
 fn add_step(alloc: Global, script: &mut Script, word: &[u8], words: &[u8]) -> Result<bool, NoMemory>
@@ -80,11 +93,10 @@ fn add_step(alloc: Global, script: &mut Script, word: &[u8], words: &[u8]) -> Re
         (step_line script.old word.now (words_of words.now))) }
     ensures grown { OnOk result (HasGrown script.old script.new) }
 {
-    let Some(control) = control(word, words) else {
+    let Some(control) = control(alloc, word, words)? else {
         return add_call(alloc, script, word, words);
     };
-    script.add(Step::Control(control))?;
-    Ok(true)
+    add_control(alloc, script, control)
 }
 
 /// Adds what the words of a line mean, and tells whether the line is in the grammar.

@@ -1,12 +1,17 @@
 //! A script that was read.
 
-use indexmap::IndexMap;
+ghost use Rattle.std.specs.Prelude.{◌≡◌, ◌≤◌, IfOk};
+ghost use Rattle.std.specs.Option.{option_map};
+ghost use Rattle.indexmap.specs.IndexSet.{spare};
+ghost use Rattle.script_text.specs.Script.{is_call, saved_mark, with_mark};
+
+use indexmap::{IndexMap, IndexSet};
 use std::alloc::Global;
 use std::marker::Model;
-use tee_types::{AppId, Call, Device, NoMemory};
+use tee_types::{AppId, Bytes, Call, Device, NoMemory};
 
 /// What a device is set to do in the next phase. Its calls are counted from 1 since the phase was mounted.
-#[derive(Clone, Copy, Debug, PartialEq, Eq)]
+#[derive(Debug, Drop)]
 pub enum Arm {
     /// The device passes so many calls, and fails all later ones.
     Stop {
@@ -27,6 +32,49 @@ pub enum Arm {
         /// The call, from 1.
         call: u32,
     },
+    /// Before that call a mask is laid over the file: its bytes from that place on are XORed with the mask's.
+    Taint {
+        /// The file.
+        file: Device,
+        /// The call, from 1.
+        call: u32,
+        /// The place in the file.
+        at: u32,
+        /// The mask.
+        mask: Bytes,
+    },
+}
+
+impl Arm {
+    ghost use Rattle.std.specs.Prelude.{◌≡◌, IfOk};
+
+    /// An equal arm.
+    pub fn copy(&self, alloc: Global) -> Result<Arm, NoMemory>
+        ensures { IfOk result (λ arm. arm ≡ self.now) }
+    {
+        match self {
+            Arm::Stop { device, calls } => Ok(Arm::Stop {
+                device: *device,
+                calls: *calls,
+            }),
+            Arm::Fail { device, call } => Ok(Arm::Fail {
+                device: *device,
+                call: *call,
+            }),
+            Arm::Lose { call } => Ok(Arm::Lose { call: *call }),
+            Arm::Taint {
+                file,
+                call,
+                at,
+                mask,
+            } => Ok(Arm::Taint {
+                file: *file,
+                call: *call,
+                at: *at,
+                mask: mask.copy(alloc)?,
+            }),
+        }
+    }
 }
 
 /// How the calls of a phase are made.
@@ -52,6 +100,27 @@ pub enum Control {
         /// The seed.
         seed: u64,
     },
+    /// What every file reads as is kept under a mark. A mark again replaces what was kept.
+    Save {
+        /// The mark.
+        mark: Bytes,
+    },
+    /// The bytes of a file that were kept under a mark are put back.
+    Restore {
+        /// The file.
+        file: Device,
+        /// The mark, which was saved above.
+        mark: Bytes,
+    },
+    /// A file's bytes from that place on are XORed with a mask, where there are bytes.
+    Flip {
+        /// The file.
+        file: Device,
+        /// The place in the file.
+        at: u32,
+        /// The mask.
+        mask: Bytes,
+    },
     /// The store is mounted and its objects are shown.
     List,
 }
@@ -70,6 +139,38 @@ pub enum Step {
     Control(Control),
 }
 
+/// Whether a step is a call.
+fn is_call(step: &Step) -> bool
+    ensures { result ≡ is_call step.now }
+{
+    matches!(step, Step::Call { .. })
+}
+
+/// The mark under which a step saves.
+fn mark_of(alloc: Global, step: &Step) -> Result<Option<Vec<u8>>, NoMemory>
+    ensures { IfOk result (λ mark. option_map (λ m. m.items) mark ≡ saved_mark step.now) }
+{
+    match step {
+        Step::Control(Control::Save { mark }) => {
+            Ok(Some(Vec::from_slice(alloc, mark.as_slice())?))
+        }
+        _ => Ok(None),
+    }
+}
+
+/// Notes a mark, for which there is room.
+fn note_mark(saved: &mut IndexSet<Vec<u8>>, mark: Option<Vec<u8>>)
+    requires { 1 ≤ spare saved.old }
+    ensures { saved.new.keys ≡ with_mark saved.old.keys mark }
+{
+    let Some(mark) = mark else {
+        return;
+    };
+    if saved.insert(mark).is_err() {
+        unreachable!();
+    }
+}
+
 /// A script: its applications in the order of declaration, each with the name by which its lines call it, and
 /// its steps.
 #[derive(Debug, Drop)]
@@ -78,12 +179,14 @@ pub struct Script {
     made: Vec<Step>,
     // whether a call is among the steps
     calling: bool,
+    // the marks that a step saves under
+    saved: IndexSet<Vec<u8>>,
 }
 
 impl Model for Script {
     ghost use Rattle.std.specs.Prelude.{◌≡◌, ◌<◌, ◌^◌, All};
     ghost use Rattle.indexmap.specs.IndexMap.{index_map_len};
-    ghost use Rattle.script_text.specs.Script.{ScriptValue, IsPlaced, declarations_of, has_call};
+    ghost use Rattle.script_text.specs.Script.{ScriptValue, IsPlaced, IsSavedIn, declarations_of, has_call};
 
     ghost Value = { ScriptValue };
 
@@ -91,14 +194,15 @@ impl Model for Script {
 
     ghost invariant = { λ a. (index_map_len a.declared < 2 ^ 32)
         × All (IsPlaced (index_map_len a.declared)) a.made.items
-        × (a.calling ≡ has_call a.made.items) };
+        × (a.calling ≡ has_call a.made.items)
+        × IsSavedIn a.made.items a.saved.keys };
 }
 
 impl Script {
     ghost use Rattle.std.specs.Prelude.{◌≡◌, ◌+◌, ◌^◌, ◌<◌, None, [], ◌∷◌, ◌++◌, map, length, slice_get, option_copied, All, IfSome, OnOk};
     ghost use Rattle.std.specs.Option.{option_map};
-    ghost use Rattle.script_text.specs.Script.{no_script, IsPlaced, has_call};
-    ghost use Rattle.script_text.specs.Grammar.{place_of, with_step};
+    ghost use Rattle.script_text.specs.Script.{no_script, IsPlaced, has_call, is_saved};
+    ghost use Rattle.script_text.specs.Grammar.{may_stand, place_of, with_step};
 
     /// A script without applications and steps.
     pub(crate) fn new(alloc: Global) -> Script
@@ -108,6 +212,7 @@ impl Script {
             declared: IndexMap::new(alloc),
             made: Vec::new(alloc),
             calling: false,
+            saved: IndexSet::new(alloc),
         }
     }
 
@@ -124,13 +229,16 @@ impl Script {
     }
 
     /// Adds a step at the end.
-    pub(crate) fn add(&mut self, step: Step) -> Result<(), NoMemory>
+    pub(crate) fn add(&mut self, alloc: Global, step: Step) -> Result<(), NoMemory>
         requires { IsPlaced (length self.old.applications) step }
         ensures { OnOk result (self.new ≡ with_step self.old step) }
     {
-        let calls = matches!(step, Step::Call { .. });
+        let calls = is_call(&step);
+        let mark = mark_of(alloc, &step)?;
+        self.saved.reserve(1)?;
         self.made.push(step)?;
-        self.calling = self.calling || calls;
+        self.calling |= calls;
+        note_mark(&mut self.saved, mark);
         Ok(())
     }
 
@@ -148,6 +256,23 @@ impl Script {
         ensures { result ≡ has_call self.now.steps }
     {
         self.calling
+    }
+
+    /// Whether a step saves under that mark.
+    fn has_saved(&self, mark: &[u8]) -> bool
+        ensures { result ≡ is_saved mark.now self.now.steps }
+    {
+        self.saved.contains(mark)
+    }
+
+    /// Whether a control may stand behind the steps: what it puts back was saved.
+    pub(crate) fn may_stand(&self, control: &Control) -> bool
+        ensures { result ≡ may_stand self.now.steps control.now }
+    {
+        match control {
+            Control::Restore { mark, .. } => self.has_saved(mark.as_slice()),
+            _ => true,
+        }
     }
 
     /// How many applications the script declares.

@@ -4,7 +4,7 @@ ghost use Rattle.std.specs.Prelude.{◌≡◌, ◌<◌, ◌≤◌, ◌+◌, ◌=
 ghost use Rattle.std.specs.Char.{digit_value};
 ghost use Rattle.std.specs.Str.Parse.{digits_value};
 ghost use Rattle.std.specs.List.{list_any, list_all};
-ghost use Rattle.script_text.specs.Words.{same_word, is_name, uuid_of, id_of, bytes_of, letter_flags_of, bits_of, flags_of, numeral_of, number_of, positive_of, place_of_call, seed_of, device_of, offset_of, whence_of, count_of, are_digits, is_digit, is_small_letter, reserved_words};
+ghost use Rattle.script_text.specs.Words.{same_word, is_name, has_name_form, mark_of, uuid_of, id_of, bytes_of, mask_of, letter_flags_of, bits_of, flags_of, numeral_of, number_of, positive_of, place_of_call, seed_of, device_of, file_of, offset_of, whence_of, count_of, are_digits, is_digit, is_small_letter, reserved_words};
 
 use std::alloc::Global;
 use tee_types::{
@@ -183,19 +183,27 @@ pub(crate) fn seed(word: &[u8]) -> Option<u64>
     numeral(word, 10, u64::MAX)
 }
 
-/// The device that a word names: `dir`, `card`, or the number of an object's file.
-#[tactic(auto, unfolding(crate::specs::Words::device_of))]
-pub(crate) fn device(word: &[u8]) -> Option<Device>
-    ensures { result ≡ device_of word.now }
+/// The file that a word names: `dir`, or the number of an object's file.
+#[tactic(auto, unfolding(crate::specs::Words::file_of))]
+pub(crate) fn file(word: &[u8]) -> Option<Device>
+    ensures { result ≡ file_of word.now }
 {
     if same(word, b"dir") {
         return Some(Device::Dir);
     }
+    let file = positive(word, MAX_FILE as u64)?;
+    Some(Device::File(file as u16))
+}
+
+/// The device that a word names: a file, or `card`.
+#[tactic(auto, unfolding(crate::specs::Words::device_of))]
+pub(crate) fn device(word: &[u8]) -> Option<Device>
+    ensures { result ≡ device_of word.now }
+{
     if same(word, b"card") {
         return Some(Device::Card);
     }
-    let file = positive(word, MAX_FILE as u64)?;
-    Some(Device::File(file as u16))
+    file(word)
 }
 
 /// The offset that a word stands for.
@@ -249,6 +257,17 @@ pub(crate) fn bytes(alloc: Global, word: &[u8]) -> Result<Option<Bytes>, NoMemor
     }
 }
 
+/// The bytes of the mask that a word is, one at least.
+#[tactic(auto, unfolding(crate::specs::Words::mask_of))]
+pub(crate) fn mask(alloc: Global, word: &[u8]) -> Result<Option<Bytes>, NoMemory>
+    ensures { IfOk result (λ mask. mask ≡ mask_of word.now) }
+{
+    if same(word, b"-") {
+        return Ok(None);
+    }
+    bytes(alloc, word)
+}
+
 /// The identifier that a word stands for.
 #[tactic(auto, unfolding(crate::specs::Words::id_of))]
 pub(crate) fn id(word: &[u8]) -> Option<ObjectId>
@@ -291,13 +310,31 @@ fn is_reserved(word: &[u8]) -> bool
         || same(word, b"restore")
 }
 
+/// Whether a word has the form of a name.
+fn has_name_form(word: &[u8]) -> bool
+    ensures { result ≡ has_name_form word.now }
+{
+    if word.is_empty() || 16 < word.len() {
+        return false;
+    }
+    has_name_bytes(word) && word[0].is_ascii_lowercase()
+}
+
 /// Whether a word may be the name of an application.
 #[tactic(auto, unfolding(crate::specs::Words::is_name))]
 pub(crate) fn is_name(word: &[u8]) -> bool
     ensures { result ≡ is_name word.now }
 {
-    if word.is_empty() || 16 < word.len() {
-        return false;
+    has_name_form(word) && !is_reserved(word)
+}
+
+/// The mark that a word is.
+#[tactic(auto, unfolding(crate::specs::Words::mark_of))]
+pub(crate) fn mark(alloc: Global, word: &[u8]) -> Result<Option<Bytes>, NoMemory>
+    ensures { IfOk result (λ mark. mark ≡ mark_of word.now) }
+{
+    if !has_name_form(word) || same(word, b"app") {
+        return Ok(None);
     }
-    has_name_bytes(word) && word[0].is_ascii_lowercase() && !is_reserved(word)
+    Ok(Some(Bytes::from_slice(alloc, word)?))
 }

@@ -1,5 +1,5 @@
 -- Numbers and bytes as they are printed: they are words, and are read back.
-use Rattle.std.proofs.Common.{◌≡◌, ◌==◌, ◌&&◌, ◌*◌, ◌/◌, ◌%◌, ◌<◌, ◌≤◌, ◌^◌, ℕ, Bool, true, false, cond, List, [], ◌∷◌, length, drop, get_or, slice_index, Some, None, pos, refl, ap, ◌∙◌, arith, suc}
+use Rattle.std.proofs.Common.{◌≡◌, ◌==◌, ◌&&◌, ◌*◌, ◌/◌, ◌%◌, ◌<◌, ◌≤◌, ◌^◌, ℕ, true, false, cond, List, [], ◌∷◌, length, drop, get_or, slice_index, Some, None, pos, refl, ap, ◌∙◌, arith, suc}
 use Rattle.std.specs.Prelude.{nat_lt, nat_le, nat_eq, codes, decimal, neg_ℤ}
 use Rattle.std.specs.Int.{IsInRange}
 use Rattle.std.specs.Char.{digit_value}

@@ -15,7 +15,7 @@ use Rattle.script_text.specs.Words.{is_name, same_word}
 use Rattle.script_text.specs.Script.{Declaration, ScriptValue, no_script}
 use Rattle.script_text.specs.Calls.{call_words}
 use Rattle.script_text.specs.Controls.{control_of, control_verb_of}
-use Rattle.script_text.specs.Grammar.{app_line, call_line, few_applications, line_of, place_of, step_line, with_step, words_line}
+use Rattle.script_text.specs.Grammar.{app_line, call_line, control_line, few_applications, line_of, place_of, step_line, with_step, words_line}
 use Rattle.script_text.specs.Forms.{call_text}
 use Rattle.seed_words.specs.Joined.{joined}
 use Rattle.seed_words.specs.Scripts.{app_calls, app_steps, soak_app, soak_name, soak_script}
@@ -110,7 +110,7 @@ call_line-call above app name words call placed means = rw (placed, means)
 
 -- what a line is, where its words mean this control
 stepped : ScriptValue → List ℕ → List (List ℕ) → Option Control → Option ScriptValue
-stepped above name words control = elim control [ Some c ↦ Some (with_step above (ControlStep c)) | None ↦ call_line above name words ]
+stepped above name words control = elim control [ Some c ↦ control_line above c | None ↦ call_line above name words ]
 
 step_line-call : (above : ScriptValue) (name : List ℕ) (words : List (List ℕ)) → control_verb_of name ≡ None → step_line above name words ≡ call_line above name words
 unfolding step_line stepped
@@ -173,7 +173,7 @@ reads-declaration : (app : ℕ) → app < 8 → Reads (declaration_line app) (de
 reads-declaration app lt = let is = declares app lt in reads-line (declaration app) (declared app) (declared (app + 1)) is.0 is.1
 
 mode : (above : ScriptValue) → line_of above (codes "threads") ≡ Some (with_step above (ControlStep (ModeControl Threads)))
-unfolding words_of control_verb_of control_of step_line words_line line_of
+unfolding words_of control_verb_of control_of control_line step_line words_line line_of
 mode above = refl
 
 reads-mode : Reads (codes "threads\n") (declared 8) (with_step (declared 8) (ControlStep (ModeControl Threads)))

@@ -6,7 +6,7 @@ use Rattle.serial_calls.specs.Clearing.{IsClearSlot}
 use Rattle.crash_core.specs.EntryLists.{IsUnnamed}
 use Rattle.core_laws.specs.Ties.{IsTied}
 use Rattle.history_seats.specs.Changes.{slot_renewed, together}
-use Rattle.history_seats.specs.Mounts.{Mounted, Served}
+use Rattle.history_seats.specs.Mounts.{Mounted}
 use Rattle.history_seats.specs.Rule.{Agrees}
 use Rattle.history_seats.specs.Views.{GateView, PassView, Sight, SlotView}
 use Rattle.call_steps.specs.Commits.{IsCalm}
@@ -44,12 +44,10 @@ module _ {F R : Type 0} (store : Store) (gate : GateValue F R) (knows : GateView
   shown_new : new_seat store knows slot.number old.knows.generation ≡ seat_shown
   shown_new =
       let mounted : unwrap_or knows.mounted store.mounted ≡ old.knows.mounted = ap (λ (o : Option Mounted). unwrap_or o store.mounted) guarded.journal.mounted ∙ sym own.mounted in
-      let served : unwrap_or knows.served store.served ≡ old.knows.served = ap (λ (o : Option Served). unwrap_or o store.served) guarded.journal.served ∙ sym own.served in
       λ i. record {
         table = sym own.table i;
         knows = record {
           mounted = mounted i;
-          served = served i;
           seen = knows.all;
           decided = knows.decided;
           file = sym own.own i;

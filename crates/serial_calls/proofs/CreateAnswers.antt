@@ -19,6 +19,7 @@ use Rattle.call_steps.specs.declared.EntryChange.{EntryChange}
 use Rattle.core_laws.specs.Stores.{Store}
 use Rattle.tee_types.specs.declared.call.Call.{Call}
 use Rattle.tee_types.specs.declared.reply.Reply.{Reply}
+use Rattle.serial_calls.proofs.Results.{served_drawn}
 
 -- A session is the same, whatever its generator is.
 module _ {F R E : Type 0} (store : Store) (old new : GuardedGateValue F R) (file : ℕ) (was mid now : CallerSession E) (drawn : mid ≡ record was { entropy = mid.entropy }) where
@@ -27,22 +28,7 @@ module _ {F R E : Type 0} (store : Store) (old new : GuardedGateValue F R) (file
 
   module _ (call : Call) (answer : PlacedReply) where
     told_seen : IsToldUnmade store old new file seen now call answer → IsToldUnmade store old new file was now call answer
-    told_seen t = record {
-      place = t.place;
-      extends = t.extends;
-      whole = t.whole;
-      number = t.number;
-      made = t.made;
-      state = t.state;
-      last = t.last;
-      event = t.event;
-      tagged = t.tagged;
-      knows = t.knows;
-      spare = t.spare;
-      gate = t.gate;
-      handles = t.handles;
-      closing = t.closing;
-    }
+    told_seen t = record { served = served_drawn store old new file was now mid.entropy call answer t.served; state = t.state }
 
     told_was : IsToldUnmade store old new file mid now call answer → IsToldUnmade store old new file was now call answer
     told_was t = told_seen (subst (λ (s : CallerSession E). IsToldUnmade store old new file s now call answer) drawn t)
@@ -131,5 +117,5 @@ pub answered_number : {F R E A : Type 0} (of_file : F → FileState) (of_port : 
     (object : NewObject) (place : NewPlace) (Reliable : Type 0) (drew draws : ℕ) (result : Result PlacedReply A)
     → IsAnsweredOrNot of_file of_port store old new file before after was now object place Reliable drew draws result → now.number ≡ was.number
 answered_number of_file of_port store old new file before after was now object place Reliable drew draws (Ok answer) (Committable new_ passed) = new_.committed.number
-answered_number of_file of_port store old new file before after was now object place Reliable drew draws (Ok answer) (ToldWhy told cause) = told.number
+answered_number of_file of_port store old new file before after was now object place Reliable drew draws (Ok answer) (ToldWhy told cause) = told.served.extends.number
 answered_number {E = E} of_file of_port store old new file before after was now object place Reliable drew draws (Err none) untold = ap (λ (s : CallerSession E). s.number) untold.session

@@ -14,7 +14,6 @@ use Rattle.disk_model.specs.Calls.{GoesOn as FileGoesOn}
 use Rattle.disk_model.specs.State.{FileState}
 use Rattle.history_seats.specs.Records.{HistoryRecord}
 use Rattle.hmac_keys.specs.KeyTable.{rpmb_key}
-use Rattle.history_seats.specs.Views.{GateView}
 use Rattle.call_steps.specs.declared.PlacedReply.{PlacedReply}
 use Rattle.call_steps.specs.GuardedGates.{GuardedGateValue}
 use Rattle.call_steps.specs.CreateLaws.{index_of_place, new_entry}
@@ -25,7 +24,6 @@ use Rattle.call_steps.specs.Holds.{file_held}
 use Rattle.call_steps.specs.declared.EntryChange.{EntryChange}
 use Rattle.call_steps.specs.declared.EntryChange.TheVariants.{Put}
 use Rattle.store_model.specs.declared.event.Mark.{Mark}
-use Rattle.store_model.specs.declared.event.Mark.TheVariants.{Unchanged}
 use Rattle.core_laws.specs.Joined.{IsObjectFile}
 use Rattle.core_laws.specs.Stores.{Store}
 use Rattle.tee_types.specs.declared.call.Call.{Call}
@@ -42,7 +40,7 @@ use Rattle.serial_calls.specs.ServeReplay.{ServesObject}
 use Rattle.call_steps.specs.Rising.{Serving, devices_in}
 use Rattle.serial_calls.proofs.CommittedCalls.{committed_appends, committed_goes_on, committed_mark, committed_still, end_accuses, end_costs, unheld}
 use Rattle.serial_calls.proofs.HeldFiles.{IsHeldAlone, committed_holds, quiet_given, reserved_alone}
-use Rattle.serial_calls.proofs.ToldCalls.{GatesGoOn, file_from, file_to, is_object_file, none_appended, quiet_goes_on, same_gate, serves_err, serves_ok, told_accuses_file}
+use Rattle.serial_calls.proofs.ToldCalls.{GatesGoOn, file_from, file_to, is_object_file, none_appended, quiet_goes_on, same_gate, serves_err, serves_ok, told_accuses_file, told_appends, told_quiet}
 
 -- the gate once the session holds that file
 abbrev pub reserved : {F R : Type 0} → (session file : ℕ) → GuardedGateValue F R → GuardedGateValue F R
@@ -162,31 +160,16 @@ module _ {F R E : Type 0} (of_file : F → FileState) (of_port : R → PortState
         file_to of_file of_port draws store old new slots place before after was now are within stands same n own,
       )) counter Reliable reply cause
 
-  unmade_appends : (call : Call) (answer : PlacedReply) → IsToldUnmade store mid behind before.number was now call answer → AppendsCall store mid behind was now call answer
-  unmade_appends call answer t = record {
-    mark = Unchanged;
-    extends = t.extends;
-    whole = t.whole;
-    made = t.made;
-    place = t.place;
-    last = t.last;
-    event = t.event;
-    tagged = λ other is_tag. subst IsObjectFile (some_number other (sym t.tagged ∙ is_tag)) object_file;
-    all = ap (λ (k : GateView). k.all) t.knows;
-  }
-    where
-      some_number : (other : ℕ) → Some before.number ≡ Some other → before.number ≡ other
-      some_number other e = cc
-
   unmade_serves : (call : Call) (counter : ℕ) (Reliable : Type 0) (answer : PlacedReply) (X : Type 0) → IsToldUnmade store mid behind before.number was now call answer
       → UnmadeCause counter before.number before.file after.file Reliable (draws was.entropy) (draws now.entropy) answer.reply
       → ServesObject of_file of_port draws {X = X} store from to call (Ok answer)
-  unfolding moved_appends unmade_appends
+  unfolding moved_appends
   unmade_serves call counter Reliable answer X t cause =
       serves_ok of_file of_port draws store old new slots place before after was now are within stands same call answer
-      (moved_appends store old new mid behind was now call answer refl refl (unmade_appends call answer t)) (unmade_accuses counter Reliable answer.reply cause) tt
-      (λ held. quiet_given was.number before.number behind mid.gate.holds (alone held) (ap (λ (g : GateValue F R). g.holds) t.gate) (ap (λ (g : GateValue F R). g.doubt) t.gate ∙ idle))
-      (moved_goes_on (quiet_goes_on of_file of_port draws key mid.gate behind.gate was now t.gate
+      (moved_appends store old new mid behind was now call answer refl refl (told_appends store mid behind was now before.number object_file call answer t.served)) (unmade_accuses counter Reliable answer.reply cause)
+      (told_quiet store mid behind was now before.number object_file call answer t.served key d0 d1)
+      (λ held. quiet_given was.number before.number behind mid.gate.holds (alone held) (ap (λ (g : GateValue F R). g.holds) t.served.gate) (ap (λ (g : GateValue F R). g.doubt) t.served.gate ∙ idle))
+      (moved_goes_on (quiet_goes_on of_file of_port draws key mid.gate behind.gate was now t.served.gate
       (unmade_drawn counter before.number before.file after.file Reliable (draws was.entropy) (draws now.entropy) answer.reply cause)))
       file X
 

@@ -69,7 +69,6 @@ module _ {F R : Type 0} (store : Store) (gate : GateValue F R) (knows : GateView
       fits = record {
         sees = seen-whole (concerns_file slot.number) (file_reseated store slot.number knows) sound.decided_within sound.decided_below;
         mounted = refl;
-        served = refl;
       };
       whole = refl;
     };

@@ -54,9 +54,8 @@ module _ (a b c : FileState) (passed : FilePassed a b) (goes : GoesOn a b) where
   passed_stage number Reliable drew draws (Root root) cause = (passed_passed cause.0, cause.1)
   passed_stage number Reliable drew draws (Unstaged reply) cause = passed_cause number Reliable drew draws reply cause
 
--- A commit, and a call that was served, of a session whose entropy drew before.
-module _ {F R E : Type 0} (of_file : F → FileState) (of_port : R → PortState) (reliable : E → Type 0) (faults : E → ℕ) (store : Store) (old new : GuardedGateValue F R) (number : ℕ) (was now : CallerSession E) (entropy : E)
-    (call : Call) (answer : PlacedReply) where
+-- A call that was served, of a session whose entropy drew before.
+module _ {F R E : Type 0} (store : Store) (old new : GuardedGateValue F R) (number : ℕ) (was now : CallerSession E) (entropy : E) (call : Call) (answer : PlacedReply) where
   pub served_drawn : IsServed store old new (record was { entropy = entropy }) now number call answer → IsServed store old new was now number call answer
   served_drawn x = record {
     place = x.place;
@@ -73,6 +72,9 @@ module _ {F R E : Type 0} (of_file : F → FileState) (of_port : R → PortState
     closing = x.closing;
   }
 
+-- A commit of such a session.
+module _ {F R E : Type 0} (of_file : F → FileState) (of_port : R → PortState) (reliable : E → Type 0) (faults : E → ℕ) (store : Store) (old new : GuardedGateValue F R) (number : ℕ) (was now : CallerSession E) (entropy : E)
+    (call : Call) (answer : PlacedReply) where
   module _ (own : Reply) (change : EntryChange) (lasts : reliable was.entropy → reliable entropy) (same : faults entropy ≡ faults was.entropy) where
     commits_drawn : (end : CommitEnd) → CommitsGate of_file of_port old new number was.number call own change end (reliable entropy) (faults entropy) (faults now.entropy)
         → CommitsGate of_file of_port old new number was.number call own change end (reliable was.entropy) (faults was.entropy) (faults now.entropy)

@@ -41,7 +41,7 @@ module _ {F R E : Type 0} (of_file : F → FileState) (of_port : R → PortState
       → IsToldUnstaged store old new number (record was { entropy = entropy }) now call reply answer
       → IsTried of_file of_port (reliable was.entropy) (faults was.entropy) (faults now.entropy) store old new number from to was now call held size answer
   unstaged_tried reply failure cause told =
-      Failed (served_drawn of_file of_port reliable faults store old new number was now entropy call answer told.served) (subst IsNotDone (sym told.told) (failure_not_done reply failure))
+      Failed (served_drawn store old new number was now entropy call answer told.served) (subst IsNotDone (sym told.told) (failure_not_done reply failure))
       (subst (λ (x : FileState × E × Reply). HasChangeCause from x.0 number (reliable was.entropy) (faults was.entropy) (faults x.1) x.2)
       (λ i. (sym let_be i, sym told.undrawn i, sym told.told i)) cause)
 

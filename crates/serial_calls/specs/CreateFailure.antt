@@ -1,22 +1,18 @@
 -- A create whose object is not made: why, and how it is told.
-use Rattle.std.specs.Prelude.{None, Option, Some, length, ℕ, ◌+◌, ◌≡◌, ◌≤◌}
-use Rattle.call_steps.specs.CallerSessions.{CallerSession, IsCallerOf, session_value}
+use Rattle.std.specs.Prelude.{None, Option, Some, ℕ, ◌≡◌}
+use Rattle.call_steps.specs.AnswerServed.{IsServed}
+use Rattle.call_steps.specs.CallerSessions.{CallerSession}
 use Rattle.serial_calls.specs.declared.create_failure.CreateFailure.{CreateFailure}
 use Rattle.serial_calls.specs.declared.create_failure.CreateFailure.TheVariants.{Failed, Spent}
 use Rattle.disk_model.specs.Faults.{Rose}
 use Rattle.disk_model.specs.State.{FileState}
-use Rattle.history_seats.specs.Changes.{with_record}
-use Rattle.history_seats.specs.Records.{HistoryRecord}
 use Rattle.htree_file.specs.Answers.{FileFailed, FilePassed}
 use Rattle.call_steps.specs.GuardedGates.{GuardedGateValue}
 use Rattle.call_steps.specs.declared.PlacedReply.{PlacedReply}
 use Rattle.call_steps.specs.declared.SlotFault.{SlotFault}
 use Rattle.call_steps.specs.declared.SlotFault.TheVariants.{Failed as FileFault, NoEntropy}
 use Rattle.rpmb_card.specs.Protocol.{last_counter}
-use Rattle.store_model.specs.Record.{file_at_fault, file_of}
-use Rattle.store_model.specs.declared.event.Event.TheVariants.{Call as CallEvent}
-use Rattle.store_model.specs.declared.event.Mark.TheVariants.{Unchanged}
-use Rattle.core_laws.specs.Sessions.{Extends}
+use Rattle.store_model.specs.Record.{file_at_fault}
 use Rattle.core_laws.specs.Stores.{Store}
 use Rattle.tee_types.specs.declared.call.Call.{Call}
 use Rattle.tee_types.specs.declared.reply.Cause.{Cause}
@@ -40,22 +36,10 @@ abbrev pub MayTell : (counter file : ℕ) → CreateFailure → Type 0
 MayTell counter file (Failed cause) = (n : ℕ) → file_at_fault cause ≡ Some n → n ≡ file
 MayTell counter file Spent = counter ≡ last_counter
 
--- The create was told why: one event is appended, with the tag of that file, which changed nothing.
+-- The create was told why, and the session's state stayed.
 pub record IsToldUnmade {F R E : Type 0} (store : Store) (old new : GuardedGateValue F R) (file : ℕ) (was now : CallerSession E) (call : Call) (answer : PlacedReply) : Type 0 where
-  pub place : answer.place ≡ length old.journal.knows.all
-  pub extends : Extends store (session_value was) (session_value now) (CallEvent was.number was.made call answer.reply Unchanged) answer.place
-  pub whole : IsCallerOf store now
-  pub number : now.number ≡ was.number
-  pub made : now.made ≡ was.made + 1
+  pub served : IsServed store old new was now file call answer
   pub state : now.state ≡ was.state
-  pub last : HistoryRecord
-  pub event : last.event ≡ CallEvent was.number was.made call answer.reply Unchanged
-  pub tagged : file_of last ≡ Some file
-  pub knows : new.journal.knows ≡ with_record last old.journal.knows
-  pub spare : old.journal.spare ≤ new.journal.spare + 1
-  pub gate : new.gate ≡ record old.gate { open_handles = new.gate.open_handles }
-  pub handles : new.gate.open_handles.records ≡ old.gate.open_handles.records
-  pub closing : new.closing ≡ old.closing
 
 -- The reply carries the count of the device that failed, which is the one that rose; or the card's counter is at its end, and nothing was
 -- tried. A generator that never fails is not accused. The file counted faults from `old` to `new`, and the generator from `drew` to `draws`.

@@ -59,6 +59,7 @@ pub use Rattle.call_steps.specs.Rulings
 pub use Rattle.call_steps.specs.Seen
 pub use Rattle.call_steps.specs.SessionViews
 pub use Rattle.core_laws.specs.Sessions
+pub use Rattle.core_laws.specs.Shown
 pub use Rattle.call_steps.specs.SlotCalls
 pub use Rattle.call_steps.specs.SlotCatchUp
 pub use Rattle.call_steps.specs.SlotInside

@@ -1,6 +1,5 @@
 -- A slot that gets a new seat.
 use Rattle.std.specs.Prelude.{None, Some, ℕ, ◌+◌, ◌<◌, ◌≡◌}
-use Rattle.call_steps.specs.Journals.{told_of}
 use Rattle.history_seats.specs.Changes.{with_slot_out}
 use Rattle.history_seats.specs.Numbers.{without}
 use Rattle.history_seats.specs.Views.{GateView, Sight, SlotView}
@@ -13,7 +12,7 @@ use Rattle.core_laws.specs.Stores.{Store}
 
 -- the gate's view once the seat of that file was taken in for good, and a new one was split
 abbrev pub file_reseated : Store → (file : ℕ) → GateView → GateView
-file_reseated store file knows = with_slot_out (told_of store) file (record knows { files = without file knows.files })
+file_reseated store file knows = with_slot_out store.mounted file (record knows { files = without file knows.files })
 
 abbrev pub reseated : {F R : Type 0} → Store → (file : ℕ) → GuardedGateValue F R → GuardedGateValue F R
 reseated store file g = record g { journal = record g.journal { knows = file_reseated store file g.journal.knows } }

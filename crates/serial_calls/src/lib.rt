@@ -7,7 +7,8 @@
 //!
 //! - Write and Truncate: what the machine answers whatever the bytes are is answered first (`early_answers`). Else the change is staged in
 //!   the object's file with the slot alone (`write_object`, `truncate_object`), session and slot are shown what came meanwhile, and the
-//!   stage is committed, or the reply says why there is none (`answer_write`, `answer_truncate`).
+//!   stage is committed, or the reply says why there is none (`answer_write`, `answer_truncate`). Where no commit can follow nothing is
+//!   staged: the blocks are read that the change needs, and that is told (`write_spent`, `truncate_spent`).
 //! - Rename and Delete change the directory alone.
 //! - Create: under the gate's lock `reserve` lets the session hold a free file, and `clear` lets go of what its slot holds. On the slot alone
 //!   `make` makes the object, unless the card's counter is spent (`make_unless_spent`). At the gate again `finish` gives the slot a new seat
@@ -60,5 +61,5 @@ pub use early_answers::answer_meant;
 pub use rename_call::rename;
 pub use stage_catch_up::catch_up_staged;
 pub use stage_result::Staged;
-pub use truncate_call::{answer_truncate, truncate, truncate_object};
-pub use write_call::{answer_write, write, write_object};
+pub use truncate_call::{answer_truncate, truncate, truncate_object, truncate_spent};
+pub use write_call::{answer_write, write, write_object, write_spent};

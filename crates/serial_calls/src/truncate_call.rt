@@ -17,7 +17,7 @@ ghost use Rattle.disk_model.specs.Calls.{GoesOn, Rests};
 ghost use Rattle.history_seats.specs.Records.{Version};
 ghost use Rattle.call_steps.specs.Commits.{IsCalm};
 ghost use Rattle.call_steps.specs.Fills.{GivesEntry};
-ghost use Rattle.call_steps.specs.Fits.{SeesWhole};
+ghost use Rattle.call_steps.specs.Fits.{FitsGate, SeesWhole};
 ghost use Rattle.call_steps.specs.GuardedSlots.{SlotInvariant};
 ghost use Rattle.call_steps.specs.GuardedReads.{GivesVersion};
 ghost use Rattle.call_steps.specs.SlotValues.{IsLive, without_stage};
@@ -145,8 +145,14 @@ pub fn answer_truncate<F: StoreFile + Drop, R: RpmbPort + Drop, L: StoreName, E:
     }
 }
 
-// Tells that no commit can follow, or why the object's file does not give what the truncation needs. The file is only read, and nothing is drawn.
-fn truncate_spent<F: StoreFile + Drop, R: RpmbPort + Drop, L: StoreName, E: Entropy>(
+/// Answers another size of an open object's data where no commit can follow: that the counter is spent, or why the object's file does not give
+/// what the truncation needs. `found` is what the rules found of the handle, whose session was shown the history. `tsk` is the key of the
+/// entry's application. The slot is shown the history first. Its file is only read, and nothing is drawn.
+///
+/// # Errors
+///
+/// Memory ran out. Nothing was answered.
+pub fn truncate_spent<F: StoreFile + Drop, R: RpmbPort + Drop, L: StoreName, E: Entropy>(
     alloc: Global,
     gate: &mut GuardedGate<F, R, L>,
     slot: &mut Slot<F>,
@@ -171,10 +177,13 @@ fn truncate_spent<F: StoreFile + Drop, R: RpmbPort + Drop, L: StoreName, E: Entr
     ensures kind { IfOk result (λ answer. IsNotDone answer.reply) }
     ensures cause { IfOk result (λ answer. HasToldCause slot.old.file slot.new.file slot.old.number answer.reply) }
     ensures entropy { session.new.entropy ≡ session.old.entropy }
+    // What the slot's seat knew agreed with the gate.
+    ensures agreed { FitsGate gate.old.journal.knows slot.old }
     ensures rests { Rests slot.old.file slot.new.file }
     ensures passed { OnErr result (FilePassed slot.old.file slot.new.file) }
     ensures number { slot.new.number ≡ slot.old.number }
     ensures guarded { SlotInvariant L.store slot.new }
+    ensures whole { SeesWhole gate.new.journal.knows slot.new }
 {
     let entry = found.held.entry;
     catch_up_entry(gate, slot, session, &entry);

@@ -15,10 +15,8 @@ use Rattle.serial_calls.specs.GuardedGates.{GuardedGateValue}
 use Rattle.serial_calls.specs.declared.PlacedReply.{PlacedReply}
 use Rattle.serial_calls.specs.Fits.{SeesWhole}
 use Rattle.node_image.specs.declared.node.RootRef.{RootRef}
-use Rattle.serial_calls.specs.AnswerServed.{IsServed}
 use Rattle.serial_calls.specs.SlotValues.{SlotValue}
 use Rattle.rpmb_card.specs.Port.{PortState}
-use Rattle.open_table.specs.HandleChanges.{NotesReply}
 use Rattle.serial_calls.specs.Stores.{Store}
 use Rattle.tee_types.specs.declared.call.Call.{Call}
 use Rattle.tee_types.specs.declared.reply.Cause.TheVariants.{CardResult, Fault, Frame}
@@ -37,33 +35,11 @@ use Rattle.shared_calls.proofs.Served.{slot-answers}
 use Rattle.shared_calls.proofs.SparedGates.{SparesGate, keeps-spared}
 use Rattle.shared_calls.proofs.Waiting.{answers-then}
 
--- That an object was not made is served as what its file gives is.
+-- that an object was not made is an answer
 module _ {F R E : Type 0} (store : Store) (old new : GuardedGateValue F R) (file : ℕ) (was now : CallerSession E) (object : NewObject) (why : CreateFailure) (answer : PlacedReply)
     (t : IsToldWhy store old new file was now object why answer) where
-  -- no handle is noted of it
-  unmade-notes : (reason : CreateFailure) → new.gate.open_handles.records ≡ old.gate.open_handles.records
-      → NotesReply old.gate.open_handles new.gate.open_handles file was.number (create_call object) (reply_unmade reason)
-  unmade-notes (Failed cause) same = same
-  unmade-notes Spent same = same
-
-  unmade-served : IsServed store old new was now file (create_call object) answer
-  unmade-served = record {
-    place = t.told.place;
-    extends = t.told.extends;
-    whole = t.told.whole;
-    made = t.told.made;
-    last = t.told.last;
-    event = t.told.event;
-    tagged = t.told.tagged;
-    knows = t.told.knows;
-    spare = t.told.spare;
-    gate = t.told.gate;
-    notes = subst (NotesReply old.gate.open_handles new.gate.open_handles file was.number (create_call object)) (sym t.reply) (unmade-notes why t.told.handles);
-    closing = t.told.closing;
-  }
-
   unmade-answers : IsAnswered store was now (create_call object) answer
-  unmade-answers = slot-answers store (create_call object) was now answer old new file unmade-served
+  unmade-answers = slot-answers store (create_call object) was now answer old new file t.told.served
 
 -- neither the directory's file nor the card is accused
 unmade-spares : (file : ℕ) (why : CreateFailure) → AccusesAtMost file (Err why) → SparesGate (reply_unmade why)
@@ -118,7 +94,7 @@ module _ {F R E : Type 0} (of_file : F → FileState) (of_port : R → PortState
       (k : KeepsGate of_file of_port store before old) where
     gate-told : (why : CreateFailure) → AccusesAtMost file (Err why) → IsToldWhy store old new file was now object why answer → KeepsGate of_file of_port store before new
     gate-told why accuses t =
-        keeps-spared of_file of_port store before old new was now file of_object (create_call object) answer (unmade-served store old new file was now object why answer t) (subst SparesGate (sym t.reply) (unmade-spares file why accuses)) k
+        keeps-spared of_file of_port store before old new was now file of_object (create_call object) answer t.told.served (subst SparesGate (sym t.reply) (unmade-spares file why accuses)) k
 
     pub finished-gate : (made : Result RootRef CreateFailure) → AccusesAtMost file made → Finishes made → KeepsGate of_file of_port store before new
     finished-gate (Ok root) accuses (Committable b low) =
@@ -130,7 +106,7 @@ module _ {F R E : Type 0} (of_file : F → FileState) (of_port : R → PortState
   module _ (before : Devices) (from to : SlotValue) (number : to.number ≡ from.number) (rests : to.file ≡ from.file) (saw : SeesWhole old.journal.knows from) (sees : SeesWhole new.journal.knows to) where
     slot-told : (why : CreateFailure) → IsToldWhy store old new file was now object why answer → KeepsSlot before from (told_of (File from.number) (reply_unmade why)) → KeepsSlot before to []
     slot-told why t k =
-        keeps-served before from to number rests store old new was now (create_call object) answer sees file (unmade-served store old new file was now object why answer t) saw
+        keeps-served before from to number rests store old new was now (create_call object) answer sees file t.told.served saw
         (subst (λ (r : Reply). KeepsSlot before from (told_of (File from.number) r)) (sym t.reply) k)
 
     pub finished-slot : (made : Result RootRef CreateFailure) → Finishes made → KeepsSlot before from (told_made from.number made) → KeepsSlot before to []

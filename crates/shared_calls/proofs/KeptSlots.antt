@@ -164,6 +164,18 @@ module _ (before : Devices) where
             (subst (λ (l : List HistoryRecord). RiseIn old.number old.file.faults l then) (sym (whole-seen gate new sees seat is)) all);
       }
 
+      -- both saw the whole history
+      pub keeps-seen : (gate : GateView) (then : List ℕ) → SeesWhole gate old → SeesWhole gate new → Keeps old then → Keeps new then
+      keeps-seen gate then saw sees k = record {
+        object = subst IsObjectFile (sym number) k.object;
+        goes_on = goes_on_still then k;
+        counted = λ seat is.
+            let rise : RiseIn old.number old.file.faults gate.all then =
+            subst (λ (l : List HistoryRecord). RiseIn old.number old.file.faults l then) (whole-seen gate old saw saw.seat saw.is) (k.counted saw.seat saw.is) in
+            subst (λ (p : ℕ × FileState). RiseIn p.0 (p.1).faults seat.knows.seen then) (λ i. (sym number i, sym file i))
+            (subst (λ (l : List HistoryRecord). RiseIn old.number old.file.faults l then) (sym (whole-seen gate new sees seat is)) rise);
+      }
+
       -- the reply was appended
       pub keeps-answered : (was now : GateView) (last : HistoryRecord) (session event : ℕ) (call : Call) (reply : Reply) (mark : Mark) → SeesWhole was old → SeesWhole now new
           → now.all ≡ was.all ++ last ∷ [] → last.event ≡ CallEvent session event call reply mark → Keeps old (told_of (File old.number) reply) → Keeps new []

@@ -18,6 +18,7 @@ mod KeptGates
 mod KeptCalls
 mod CarriedDraws
 mod KeptAnswers
+mod SpentCalls
 pub mod Waiting
 pub mod CarriedAttempts
 pub mod KeptSlots

@@ -1,5 +1,8 @@
--- What staging a change of an object's data left of its slot, before it is brought to the gate.
+-- What staging a change of an object's data left of its slot, before it is brought to the gate; and what is left where no commit can follow.
 use Rattle.std.specs.Prelude.{[], List, None, ℕ, ◌≡◌}
+use Rattle.disk_model.specs.Calls.{Rests}
+use Rattle.disk_model.specs.State.{FileState}
+use Rattle.serial_calls.specs.CallerSessions.{CallerSession}
 use Rattle.serial_calls.specs.declared.stage_result.Staged.{Staged}
 use Rattle.serial_calls.specs.declared.stage_result.Staged.TheVariants.{Root, Unstaged}
 use Rattle.serial_calls.specs.ChangeStaging.{DataCall, StagesChange}
@@ -30,3 +33,8 @@ told_staged file (Unstaged reply) = told_of (File file) reply
 abbrev pub CarriesStaged : (first last : ℕ) → Staged → Type 0
 CarriesStaged first last (Root root) = Unit {0}
 CarriesStaged first last (Unstaged reply) = CarriesDraws first last reply
+
+-- The slot's file was only read, and the session drew nothing.
+pub record OnlyReads {E : Type 0} (from to : FileState) (was now : CallerSession E) : Type 0 where
+  pub file : Rests from to
+  pub entropy : now.entropy ≡ was.entropy

@@ -9,6 +9,9 @@ ghost use Rattle.hmac_keys.specs.KeyTable.{ssk};
 ghost use Rattle.shared_calls.specs.Attempts.{EndsAttempt};
 ghost use Rattle.shared_calls.specs.Kept.{KeepsSlot};
 ghost use Rattle.shared_calls.specs.SharedCounts.{CarriesDraws};
+ghost use Rattle.shared_calls.specs.SharedChange.{OnlyReads};
+ghost use Rattle.shared_calls.specs.SharedReady.{IsSpent};
+ghost use Rattle.serial_calls.specs.Shown.{IsPartial};
 
 use crate::gate_entry::begin;
 use crate::validation::Validation;
@@ -120,6 +123,8 @@ pub fn attempt<
     ensures still { E.is_reliable session.old.entropy → E.faults session.new.entropy ≡ E.faults session.old.entropy }
     ensures kept { KeepsSlot L.devices slot.new [] }
     ensures drawn { IfOk result (λ found. IfSome found (λ answer. CarriesDraws (E.faults session.old.entropy) (E.faults session.new.entropy) answer.reply)) }
+    // Where no commit can follow as the gate's lock is held first, a change of data leaves the object's file as it was but for reads, and draws nothing.
+    ensures spent { IsPartial call.now → IsSpent first.entry.value → OnlyReads slot.old.file slot.new.file session.old session.new }
 {
     match call {
         Call::Create {

@@ -41,6 +41,7 @@ pub(crate) fn answer_held<
     ensures answered { IfSome result (IsAnswered L.store session.old session.new call) }
     ensures waits { IsNone result → session.new ≡ session.old }
     ensures entropy { session.new.entropy ≡ session.old.entropy }
+    ensures file { slot.new.file ≡ slot.old.file }
     ensures kept { KeepsSlot L.devices slot.new [] }
     ensures undrawn { IfSome result (λ answer. IsDoneOrRefused answer.reply) }
 {

@@ -1,6 +1,7 @@
 //! How each validation of a call at the gate begins.
 
-ghost use Rattle.std.specs.Prelude.{◌≡◌, ◌≤◌, true, IfOk, IsNone, IfSome};
+ghost use Rattle.std.specs.Prelude.{◌≡◌, ◌≢◌, ◌≤◌, false, true, IfOk, IsNone, IfSome, None};
+ghost use Rattle.rpmb_card.specs.Protocol.{last_counter};
 ghost use Rattle.serial_calls.specs.CallerSessions.{IsCallerOf};
 ghost use Rattle.serial_calls.specs.Rulings.{is_on_object};
 ghost use Rattle.shared_calls.specs.SharedReady.{IsReady};
@@ -41,6 +42,9 @@ pub(crate) fn begin<
     // Where the call is left to an object's file, the session's entropy counted no fault.
     ensures undrawn { IfOk result (λ answer. IsNone answer → E.faults session.new.entropy ≡ E.faults session.old.entropy) }
     ensures drawn { IfOk result (λ found. IfSome found (λ answer. CarriesDraws (E.faults session.old.entropy) (E.faults session.new.entropy) answer.reply)) }
+    // Where no commit is in doubt nothing is drawn, and the counter stays.
+    ensures let_be { gate.old.gate.doubt ≡ None → session.new.entropy ≡ session.old.entropy }
+    ensures counter { IfOk result (λ answer. IsNone answer → gate.old.gate.doubt ≡ None → gate.new.gate.counter ≡ gate.old.gate.counter) }
 {
     // Tells how the gate and the card stand to each other.
     let _doubt = gate.gate.doubt();
@@ -50,4 +54,15 @@ pub(crate) fn begin<
     }
     gate.gate.reserve()?;
     Ok(None)
+}
+
+/// Whether the card's counter is at its end, so that no commit can follow. No commit is in doubt.
+pub(crate) fn is_spent<F: StoreFile + Drop, R: RpmbPort + Drop, L: StoreName + DevicesName>(
+    gate: &SharedGate<F, R, L>,
+) -> bool
+    requires idle { gate.now.gate.doubt ≡ None }
+    ensures spent { result ≡ true → gate.now.gate.counter ≡ last_counter }
+    ensures unspent { result ≡ false → gate.now.gate.counter ≢ last_counter }
+{
+    gate.gate.counter() == u32::MAX
 }

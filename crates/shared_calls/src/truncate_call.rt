@@ -1,23 +1,24 @@
 //! TEE_TruncateObjectData, with the gate's lock taken for each validation alone.
 
-ghost use Rattle.std.specs.Prelude.{◌==◌, ◌≡◌, ◌≤◌, IfOk, OnErr, false, IfSome, MatchResult, ℕ, []};
+ghost use Rattle.std.specs.Prelude.{◌==◌, ◌≡◌, ◌≤◌, IfOk, OnErr, false, IfSome, MatchResult, None, ℕ, []};
 ghost use Rattle.tee_types.specs.Rights.{write_bit};
 ghost use Rattle.hmac_keys.specs.KeyTable.{ssk};
 ghost use Rattle.serial_calls.specs.GuardedSlots.{SlotInvariant};
 ghost use Rattle.serial_calls.specs.CallerSessions.{IsCallerOf};
 ghost use Rattle.call_rules.specs.Objects.{IsRightful};
 ghost use Rattle.serial_calls.specs.ChangeStaging.{resizing};
-ghost use Rattle.shared_calls.specs.SharedChange.{HasStaged, CarriesStaged, told_staged};
+ghost use Rattle.shared_calls.specs.SharedChange.{HasStaged, CarriesStaged, told_staged, OnlyReads};
 ghost use Rattle.serial_calls.specs.Devices.{Grows};
 ghost use Rattle.shared_calls.specs.Validations.{EndsLook, IfAnswered, IfFound};
 ghost use Rattle.shared_calls.specs.SharedCatchUp.{MayLoad};
-ghost use Rattle.shared_calls.specs.SharedReady.{IsReady};
+ghost use Rattle.shared_calls.specs.SharedReady.{IsReady, IsSpent};
+ghost use Rattle.rpmb_card.specs.Protocol.{last_counter};
 ghost use Rattle.shared_calls.specs.Attempts.{EndsAttempt, IsAnswered, IsWaiting};
 ghost use Rattle.shared_calls.specs.Kept.{KeepsSlot};
 ghost use Rattle.shared_calls.specs.SharedCounts.{CarriesDraws};
 
 use crate::data_calls::{answer_held, give_up};
-use crate::gate_entry::begin;
+use crate::gate_entry::{begin, is_spent};
 use crate::gate_lock::spin_then_lock;
 use crate::slot_catch_up::catch_up_held;
 use crate::validation::Validation;
@@ -27,7 +28,7 @@ use hmac_keys::tsk;
 use rpmb_card::RpmbPort;
 use serial_calls::{
     GuardedSlot, PlacedReply, Session, Slot, Staged, StoreName, answer_ruled, answer_truncate,
-    catch_up_staged, truncate_object,
+    catch_up_staged, truncate_object, truncate_spent,
 };
 use std::alloc::Global;
 use std::sync::{Mutex, MutexGuard, Wait};
@@ -51,6 +52,9 @@ fn validate<F: StoreFile + Drop, R: RpmbPort + Drop, L: StoreName + DevicesName,
     ensures still { E.is_reliable session.old.entropy → E.faults session.new.entropy ≡ E.faults session.old.entropy }
     ensures undrawn { IfFound result (λ found. E.faults session.new.entropy ≡ E.faults session.old.entropy) }
     ensures drawn { IfAnswered result (λ answer. CarriesDraws (E.faults session.old.entropy) (E.faults session.new.entropy) answer.reply) }
+    // Where no commit is in doubt nothing is drawn, and the counter stays.
+    ensures let_be { gate.old.gate.doubt ≡ None → session.new.entropy ≡ session.old.entropy }
+    ensures counter { IfFound result (λ found. gate.old.gate.doubt ≡ None → gate.new.gate.counter ≡ gate.old.gate.counter) }
 {
     let call = Call::Truncate { handle, size };
     if let Some(answer) = begin(alloc, gate, session, &call)? {
@@ -98,17 +102,61 @@ pub(crate) fn file_of<
     }
 }
 
+// Answers another size where no commit can follow, with both locks held: the object's file is only read, and nothing is drawn. None where the slot is
+// another file's: then nothing is answered.
+fn answer_spent<F: StoreFile + Drop, R: RpmbPort + Drop, L: StoreName + DevicesName, E: Entropy>(
+    alloc: Global,
+    gate: &mut SharedGate<F, R, L>,
+    slot: &mut GuardedSlot<F, L>,
+    storage_key: &[u8; 32],
+    session: &mut Session<E>,
+    found: &OpenObject,
+    handle: u32,
+    size: u32,
+) -> Result<Option<PlacedReply>, NoMemory>
+    requires ready { IsReady L.store gate.old session.old }
+    requires spent { gate.old.gate.counter ≡ last_counter }
+    requires found { IsRightful gate.old.gate.dir.dir.entries session.old.state handle write_bit found.now }
+    requires other { (size == found.now.held.entry.size) ≡ false }
+    requires fits { size ≤ 1044480 }
+    requires keyed { storage_key.now ≡ ssk L.store.keys.huk L.store.keys.chip }
+    requires kept { KeepsSlot L.devices slot.old [] }
+    ensures ends { EndsAttempt L.store session.old session.new (Call.Truncate handle size) result }
+    ensures reads { OnlyReads slot.old.file slot.new.file session.old session.new }
+    ensures kept { KeepsSlot L.devices slot.new [] }
+    ensures undrawn { IfOk result (λ found. IfSome found (λ answer. CarriesDraws (E.faults session.old.entropy) (E.faults session.new.entropy) answer.reply)) }
+{
+    let entry = found.held.entry;
+    if entry.file != slot.number() {
+        return Ok(None);
+    }
+    let key = tsk(storage_key, &entry.app.bytes());
+    let answer = truncate_spent(
+        alloc,
+        &mut gate.gate,
+        &mut slot.slot,
+        session,
+        found,
+        &key,
+        handle,
+        size,
+    )?;
+    Ok(Some(answer))
+}
+
 // The first validation: a size that is refused, and one that the object has, are answered. For any other the object's slot is shown the history, so
 // that the object may be loaded.
 fn validate_first<F: StoreFile + Drop, R: RpmbPort + Drop, L: StoreName + DevicesName, E: Entropy>(
     alloc: Global,
     gate: &mut SharedGate<F, R, L>,
     slot: &mut GuardedSlot<F, L>,
+    storage_key: &[u8; 32],
     session: &mut Session<E>,
     handle: u32,
     size: u32,
 ) -> Result<Validation<OpenObject>, NoMemory>
     requires caller { IsCallerOf L.store session.old }
+    requires keyed { storage_key.now ≡ ssk L.store.keys.huk L.store.keys.chip }
     requires kept { KeepsSlot L.devices slot.old [] }
     ensures ends { EndsLook L.store session.old session.new (Call.Truncate handle size) result }
     ensures loads { IfFound result (λ found. MayLoad slot.new found.held.entry) }
@@ -118,6 +166,9 @@ fn validate_first<F: StoreFile + Drop, R: RpmbPort + Drop, L: StoreName + Device
     ensures still { E.is_reliable session.old.entropy → E.faults session.new.entropy ≡ E.faults session.old.entropy }
     ensures kept { KeepsSlot L.devices slot.new [] }
     ensures drawn { IfAnswered result (λ answer. CarriesDraws (E.faults session.old.entropy) (E.faults session.new.entropy) answer.reply) }
+    // Where no commit can follow, nothing is left to be staged.
+    ensures spent { IsSpent gate.old → IfFound result (λ found. ⊥) }
+    ensures reads { IsSpent gate.old → OnlyReads slot.old.file slot.new.file session.old session.new }
 {
     let found = match validate(alloc, gate, session, handle, size)? {
         Validation::Found(found) => found,
@@ -132,6 +183,22 @@ fn validate_first<F: StoreFile + Drop, R: RpmbPort + Drop, L: StoreName + Device
     }
     if size == found.held.entry.size {
         let Some(answer) = answer_held(gate, slot, session, &found.held, call, Reply::Done) else {
+            return Ok(Validation::Retry);
+        };
+        return Ok(Validation::Answered(answer));
+    }
+    if is_spent(gate) {
+        let Some(answer) = answer_spent(
+            alloc,
+            gate,
+            slot,
+            storage_key,
+            session,
+            &found,
+            handle,
+            size,
+        )?
+        else {
             return Ok(Validation::Retry);
         };
         return Ok(Validation::Answered(answer));
@@ -351,8 +418,10 @@ pub(crate) fn attempt<
     ensures still { E.is_reliable session.old.entropy → E.faults session.new.entropy ≡ E.faults session.old.entropy }
     ensures kept { KeepsSlot L.devices slot.new [] }
     ensures drawn { IfOk result (λ found. IfSome found (λ answer. CarriesDraws (E.faults session.old.entropy) (E.faults session.new.entropy) answer.reply)) }
+    // Where no commit can follow as the gate's lock is held first, the object's file is only read, and nothing is drawn.
+    ensures spent { IsSpent first.entry.value → OnlyReads slot.old.file slot.new.file session.old session.new }
 {
-    let validated = validate_first(alloc, &mut first, slot, session, handle, size)?;
+    let validated = validate_first(alloc, &mut first, slot, storage_key, session, handle, size)?;
     drop(first);
     let found = match validated {
         Validation::Answered(answer) => return Ok(Some(answer)),

@@ -1,23 +1,24 @@
 //! TEE_WriteObjectData, with the gate's lock taken for each validation alone.
 
-ghost use Rattle.std.specs.Prelude.{◌==◌, ◌≡◌, ◌+◌, ◌≤◌, IfOk, OnErr, false, length, IfSome, MatchResult, ℕ, []};
+ghost use Rattle.std.specs.Prelude.{◌==◌, ◌≡◌, ◌+◌, ◌≤◌, IfOk, OnErr, false, length, IfSome, MatchResult, None, ℕ, []};
 ghost use Rattle.tee_types.specs.Rights.{write_bit};
 ghost use Rattle.hmac_keys.specs.KeyTable.{ssk};
 ghost use Rattle.serial_calls.specs.GuardedSlots.{SlotInvariant};
 ghost use Rattle.serial_calls.specs.CallerSessions.{IsCallerOf};
 ghost use Rattle.call_rules.specs.Objects.{IsRightful};
 ghost use Rattle.serial_calls.specs.ChangeStaging.{writing};
-ghost use Rattle.shared_calls.specs.SharedChange.{HasStaged, CarriesStaged, told_staged};
+ghost use Rattle.shared_calls.specs.SharedChange.{HasStaged, CarriesStaged, told_staged, OnlyReads};
 ghost use Rattle.serial_calls.specs.Devices.{Grows};
 ghost use Rattle.shared_calls.specs.Validations.{EndsLook, IfAnswered, IfFound};
 ghost use Rattle.shared_calls.specs.SharedCatchUp.{MayLoad};
-ghost use Rattle.shared_calls.specs.SharedReady.{IsReady};
+ghost use Rattle.shared_calls.specs.SharedReady.{IsReady, IsSpent};
+ghost use Rattle.rpmb_card.specs.Protocol.{last_counter};
 ghost use Rattle.shared_calls.specs.Attempts.{EndsAttempt, IsAnswered, IsWaiting};
 ghost use Rattle.shared_calls.specs.Kept.{KeepsSlot};
 ghost use Rattle.shared_calls.specs.SharedCounts.{CarriesDraws};
 
 use crate::data_calls::{answer_held, give_up};
-use crate::gate_entry::begin;
+use crate::gate_entry::{begin, is_spent};
 use crate::gate_lock::spin_then_lock;
 use crate::slot_catch_up::catch_up_held;
 use crate::validation::Validation;
@@ -27,7 +28,7 @@ use hmac_keys::tsk;
 use rpmb_card::RpmbPort;
 use serial_calls::{
     GuardedSlot, PlacedReply, Session, Slot, Staged, StoreName, answer_ruled, answer_write,
-    catch_up_staged, write_object,
+    catch_up_staged, write_object, write_spent,
 };
 use std::alloc::Global;
 use std::sync::{Mutex, MutexGuard, Wait};
@@ -54,6 +55,9 @@ fn validate<F: StoreFile + Drop, R: RpmbPort + Drop, L: StoreName + DevicesName,
     ensures still { E.is_reliable session.old.entropy → E.faults session.new.entropy ≡ E.faults session.old.entropy }
     ensures undrawn { IfFound result (λ found. E.faults session.new.entropy ≡ E.faults session.old.entropy) }
     ensures drawn { IfAnswered result (λ answer. CarriesDraws (E.faults session.old.entropy) (E.faults session.new.entropy) answer.reply) }
+    // Where no commit is in doubt nothing is drawn, and the counter stays.
+    ensures let_be { gate.old.gate.doubt ≡ None → session.new.entropy ≡ session.old.entropy }
+    ensures counter { IfFound result (λ found. gate.old.gate.doubt ≡ None → gate.new.gate.counter ≡ gate.old.gate.counter) }
 {
     if let Some(answer) = begin(alloc, gate, session, call)? {
         return Ok(Validation::Answered(answer));
@@ -100,12 +104,55 @@ pub(crate) fn file_of<
     }
 }
 
+// Answers a write where no commit can follow, with both locks held: the object's file is only read, and nothing is drawn. None where the slot is
+// another file's: then nothing is answered.
+fn answer_spent<F: StoreFile + Drop, R: RpmbPort + Drop, L: StoreName + DevicesName, E: Entropy>(
+    alloc: Global,
+    gate: &mut SharedGate<F, R, L>,
+    slot: &mut GuardedSlot<F, L>,
+    storage_key: &[u8; 32],
+    session: &mut Session<E>,
+    found: &OpenObject,
+    handle: u32,
+    bytes: Bytes,
+) -> Result<Option<PlacedReply>, NoMemory>
+    requires ready { IsReady L.store gate.old session.old }
+    requires spent { gate.old.gate.counter ≡ last_counter }
+    requires found { IsRightful gate.old.gate.dir.dir.entries session.old.state handle write_bit found.now }
+    requires some { (length bytes == 0) ≡ false }
+    requires fits { found.now.handle.position + length bytes ≤ 1044480 }
+    requires keyed { storage_key.now ≡ ssk L.store.keys.huk L.store.keys.chip }
+    requires kept { KeepsSlot L.devices slot.old [] }
+    ensures ends { EndsAttempt L.store session.old session.new (Call.Write handle bytes) result }
+    ensures reads { OnlyReads slot.old.file slot.new.file session.old session.new }
+    ensures kept { KeepsSlot L.devices slot.new [] }
+    ensures undrawn { IfOk result (λ found. IfSome found (λ answer. CarriesDraws (E.faults session.old.entropy) (E.faults session.new.entropy) answer.reply)) }
+{
+    let entry = found.held.entry;
+    if entry.file != slot.number() {
+        return Ok(None);
+    }
+    let key = tsk(storage_key, &entry.app.bytes());
+    let answer = write_spent(
+        alloc,
+        &mut gate.gate,
+        &mut slot.slot,
+        session,
+        found,
+        &key,
+        handle,
+        bytes,
+    )?;
+    Ok(Some(answer))
+}
+
 // The first validation: a write that is refused whatever the object's bytes are is answered. For any other the object's slot is shown the history,
 // so that the object may be loaded. `call` is that Write.
 fn validate_first<F: StoreFile + Drop, R: RpmbPort + Drop, L: StoreName + DevicesName, E: Entropy>(
     alloc: Global,
     gate: &mut SharedGate<F, R, L>,
     slot: &mut GuardedSlot<F, L>,
+    storage_key: &[u8; 32],
     session: &mut Session<E>,
     call: &Call,
     handle: u32,
@@ -113,6 +160,7 @@ fn validate_first<F: StoreFile + Drop, R: RpmbPort + Drop, L: StoreName + Device
 ) -> Result<Validation<OpenObject>, NoMemory>
     requires caller { IsCallerOf L.store session.old }
     requires call { call.now ≡ Call.Write handle bytes.now }
+    requires keyed { storage_key.now ≡ ssk L.store.keys.huk L.store.keys.chip }
     requires kept { KeepsSlot L.devices slot.old [] }
     ensures ends { EndsLook L.store session.old session.new (Call.Write handle bytes.now) result }
     ensures loads { IfFound result (λ found. MayLoad slot.new found.held.entry) }
@@ -122,6 +170,9 @@ fn validate_first<F: StoreFile + Drop, R: RpmbPort + Drop, L: StoreName + Device
     ensures still { E.is_reliable session.old.entropy → E.faults session.new.entropy ≡ E.faults session.old.entropy }
     ensures kept { KeepsSlot L.devices slot.new [] }
     ensures drawn { IfAnswered result (λ answer. CarriesDraws (E.faults session.old.entropy) (E.faults session.new.entropy) answer.reply) }
+    // Where no commit can follow, nothing is left to be staged.
+    ensures spent { IsSpent gate.old → IfFound result (λ found. ⊥) }
+    ensures reads { IsSpent gate.old → OnlyReads slot.old.file slot.new.file session.old session.new }
 {
     let found = match validate(alloc, gate, session, call, handle, bytes)? {
         Validation::Found(found) => found,
@@ -130,6 +181,23 @@ fn validate_first<F: StoreFile + Drop, R: RpmbPort + Drop, L: StoreName + Device
     if let Some(reply) = write_refusal(found.handle.position, bytes.len()) {
         let kept = call.copy(alloc)?;
         let Some(answer) = answer_held(gate, slot, session, &found.held, kept, reply) else {
+            return Ok(Validation::Retry);
+        };
+        return Ok(Validation::Answered(answer));
+    }
+    if is_spent(gate) {
+        let copied = bytes.copy(alloc)?;
+        let Some(answer) = answer_spent(
+            alloc,
+            gate,
+            slot,
+            storage_key,
+            session,
+            &found,
+            handle,
+            copied,
+        )?
+        else {
             return Ok(Validation::Retry);
         };
         return Ok(Validation::Answered(answer));
@@ -373,8 +441,19 @@ pub(crate) fn attempt<
     ensures still { E.is_reliable session.old.entropy → E.faults session.new.entropy ≡ E.faults session.old.entropy }
     ensures kept { KeepsSlot L.devices slot.new [] }
     ensures drawn { IfOk result (λ found. IfSome found (λ answer. CarriesDraws (E.faults session.old.entropy) (E.faults session.new.entropy) answer.reply)) }
+    // Where no commit can follow as the gate's lock is held first, the object's file is only read, and nothing is drawn.
+    ensures spent { IsSpent first.entry.value → OnlyReads slot.old.file slot.new.file session.old session.new }
 {
-    let validated = validate_first(alloc, &mut first, slot, session, call, handle, bytes)?;
+    let validated = validate_first(
+        alloc,
+        &mut first,
+        slot,
+        storage_key,
+        session,
+        call,
+        handle,
+        bytes,
+    )?;
     drop(first);
     let found = match validated {
         Validation::Answered(answer) => return Ok(Some(answer)),

@@ -28,7 +28,7 @@ use Rattle.crash_core.specs.Mounting.{directory_by, mounted_directory, unless_fa
 use Rattle.dir_file.specs.View.{DirView}
 use Rattle.dir_file.specs.EntryForms.{AreEntriesOf}
 use Rattle.dir_file.specs.Held.{IsDurable}
-use Rattle.dir_file.specs.Loading.{DirCause, IsDirFault, IsOutsideDir, IsReadDirectory}
+use Rattle.dir_file.specs.Loading.{DirCause, IsDirFault, IsOutsideDir, SeesDirectory}
 use Rattle.dir_file.specs.Refusals.{DirDiffers}
 use Rattle.store_commit.specs.declared.fault.MountFault.{MountFault}
 use Rattle.store_commit.specs.declared.fault.MountFault.TheVariants.{NoStore, CardBlock, Directory, Frame, CardResult, Failed, Spent, NoMemory}
@@ -218,9 +218,9 @@ module _ (old : FileState) (p0 p1 : PortState) (keys : Keys) (k : List ℕ) (cou
         };
   }
 
-  pub gate_opens : LeavesDevices old s p0 p1 → IsSynced s → pending s ≡ [] → IsRootRead (rpmb_key keys.huk) p0 p1 counter root → IsVerified root dir.tree → IsReadDirectory (directory_key keys) dir.tree (Ok dir.entries)
+  pub gate_opens : LeavesDevices old s p0 p1 → IsSynced s → pending s ≡ [] → IsRootRead (rpmb_key keys.huk) p0 p1 counter root → IsVerified root dir.tree → SeesDirectory old s (directory_key keys) root dir.tree (Ok dir.entries)
       → (Told old s → directory_of (directory_key keys) s.reads root ≡ Ok dir.entries) → OpensGate old p0 keys g
-  gate_opens devices synced unwritten heard verified pages directory = record {
+  gate_opens devices synced unwritten heard verified seen directory = record {
     unwritten = unwritten;
     heard = subst (λ (r : RootRef). IsRootRead (rpmb_key keys.huk) p0 p1 counter r) (sym root_is) heard;
     devices = devices;
@@ -229,7 +229,7 @@ module _ (old : FileState) (p0 p1 : PortState) (keys : Keys) (k : List ℕ) (cou
     settled = gate_settled;
     synced = synced;
     verified = subst (λ (r : RootRef). IsVerified r dir.tree) (sym root_is) verified;
-    pages = pages;
+    seen = subst (λ (r : RootRef). SeesDirectory old s (directory_key keys) r dir.tree (Ok dir.entries)) (sym root_is) seen;
     directory = λ told card has. mounts_as old s p0 p1 keys 0 0 counter block tells root names s.reads (Ok dir.entries) (directory told) card has;
     pictures = settled_pictures g gate_settled;
   }

@@ -31,7 +31,7 @@ use Rattle.store_commit.specs.declared.fault.MountFault.TheVariants.{NoStore, Ca
 use Rattle.store_commit.specs.Blocks.{picture_of}
 use Rattle.store_commit.specs.Leaving.{KeepsPort, LeavesNoMore}
 use Rattle.store_commit.specs.Reads.{IsCardRead, IsReadRefused, IsRootRead}
-use Rattle.dir_file.specs.Loading.{IsDirFault, IsOutsideDir, IsReadDirectory}
+use Rattle.dir_file.specs.Loading.{IsDirFault, IsOutsideDir, SeesDirectory}
 use Rattle.dir_file.specs.Refusals.{DirDiffers}
 use Rattle.store_commit.specs.Sides.{EachPicture, IsSettled, Sides}
 
@@ -146,7 +146,7 @@ pub record OpensGate (old : FileState) (p0 : PortState) (keys : Keys) (g : Sides
   -- what was heard of the card, whatever it is
   pub heard : IsRootRead (rpmb_key keys.huk) p0 g.port g.counter g.dir.root
   pub verified : IsVerified g.dir.root g.dir.tree
-  -- of any file: the entries are those of pages that the tree's nodes seal
-  pub pages : IsReadDirectory (directory_key keys) g.dir.tree (Ok g.dir.entries)
+  -- of any file: its tree, and pages that the tree's nodes seal and that have the entries, are what the file was seen to read
+  pub seen : SeesDirectory old g.file (directory_key keys) g.dir.root g.dir.tree (Ok g.dir.entries)
   pub directory : Told old g.file → (card : CardState) → HasCard p0 (rpmb_key keys.huk) card → mounted_directory keys (picture_of g.file.reads card) ≡ Ok g.dir.entries
   pub pictures : EachPicture g (λ m. m ≡ Ok g.dir.entries)

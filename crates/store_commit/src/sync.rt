@@ -11,7 +11,7 @@ ghost use Rattle.htree_file.specs.Standing.{Told};
 ghost use Rattle.crash_core.specs.Directory.{directory_of};
 ghost use Rattle.dir_file.specs.EntryForms.{AreEntriesOf};
 ghost use Rattle.dir_file.specs.Held.{IsDurable};
-ghost use Rattle.dir_file.specs.Loading.{DirCause, IsDirFault, IsOutsideDir, IsReadDirectory};
+ghost use Rattle.dir_file.specs.Loading.{DirCause, IsDirFault, IsOutsideDir, SeesDirectory};
 ghost use Rattle.dir_file.specs.Refusals.{DirDiffers};
 ghost use Rattle.store_commit.specs.Leaving.{LeavesNoMore};
 
@@ -56,7 +56,7 @@ pub(crate) fn open_directory<F: StoreFile>(
     ensures left_err { IfErr result (λ b. LeavesNoMore (F.state file) (F.state b.file)) }
     ensures kind { IfErr result (λ b. IsDirFault b.fault) }
     // Of any file.
-    ensures pages { IfOk result (λ d. IsReadDirectory tsk.now d.dir.tree (Result.Ok d.dir.entries)) }
+    ensures seen { IfOk result (λ d. SeesDirectory (F.state file) (F.state d.file) tsk.now root d.dir.tree (Result.Ok d.dir.entries)) }
     ensures differs { IfErr result (λ b. DirDiffers tsk.now (F.state b.file) root b.fault) }
     ensures passed { IfOk result (λ d. FilePassed (F.state file) (F.state d.file)) }
     ensures cause { IfErr result (λ b. DirCause (F.state file) (F.state b.file) b.fault) }

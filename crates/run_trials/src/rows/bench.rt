@@ -34,6 +34,9 @@ pub fn bench_for(
     if settings.is_worn {
         bench = worn(alloc, bench)?;
     }
+    if settings.exchanged {
+        bench.files.swap(1, 2);
+    }
     if settings.card_fails > 0 {
         bench.card.fail_call(settings.card_fails)?;
     }

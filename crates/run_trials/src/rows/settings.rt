@@ -20,6 +20,8 @@ pub struct Settings {
     pub same_bench: bool,
     /// The card's write counter is at its end.
     pub is_worn: bool,
+    /// Files 1 and 2 of the bench are exchanged.
+    pub exchanged: bool,
 }
 
 impl Settings {
@@ -33,6 +35,7 @@ impl Settings {
             card_fails: 0,
             same_bench: false,
             is_worn: false,
+            exchanged: false,
         })
     }
 
@@ -59,6 +62,7 @@ impl Settings {
         match line {
             "same bench" => self.same_bench = true,
             "worn" => self.is_worn = true,
+            "exchanged" => self.exchanged = true,
             _ => anyhow::bail!("not a setting"),
         }
         Ok(())

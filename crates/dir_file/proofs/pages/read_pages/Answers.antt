@@ -6,9 +6,9 @@ use Rattle.htree_file.specs.declared.fault.TreeFault.{TreeFault}
 use Rattle.htree_file.specs.Answers.{BlockAnswer}
 use Rattle.htree_file.specs.Pages.{block_in}
 use Rattle.htree_file.proofs.Causes.{fault_then, passed_none, passed_then, rests_none, rests_then}
-use Rattle.dir_file.specs.Pages.{ArePages, AreSealed}
+use Rattle.dir_file.specs.Pages.{ArePages, AreSeen}
 use Rattle.dir_file.proofs.Loading.{few_blocks}
-use Rattle.dir_file.proofs.PagesRead.{once_none, pages_begin, once_step, read_long, read_step, refused_block, refused_differs, sealed_begin, sealed_step}
+use Rattle.dir_file.proofs.PagesRead.{once_none, pages_begin, once_step, read_long, read_step, refused_block, refused_differs, seen_begin, seen_step}
 use Rattle.dir_file.proofs.pages.read_pages.Goals as goal
 
 pub returns-in_err-read_block-clause-fault : goal.returns-in_err-read_block-clause-fault
@@ -71,7 +71,8 @@ loop-k-preserved g c =
       long = read_long c.loop-k.pages.items k page c.keep_page.new.pages.items before.long c.in-Ok.ensures;
       pages = λ told. subst (λ (l : List (List ℕ)). ArePages a.reads t.key t.tree l (k + 1)) (sym c.in-Ok.ensures)
           (read_step a b d t.key t.tree c.loop-k.pages.items k page before.rests c.in_ok-read_block.ensures.rests before.long before.pages answer told);
-      sealed = subst (AreSealed t.key t.tree) (sym c.in-Ok.ensures) (sealed_step t.key t.tree c.loop-k.pages.items k page before.long before.sealed (answer.0, answer.2));
+      seen = subst (AreSeen a d t.key t.tree) (sym c.in-Ok.ensures)
+          (seen_step a b d t.key t.tree c.loop-k.pages.items k page (g.met.F.StoreFile.sound c.loop-k.tree.file) before.rests c.in_ok-read_block.ensures.rests before.long before.seen answer);
       once = once_step a b d k before.rests before.once c.in_ok-read_block.ensures.once;
     }
 
@@ -82,6 +83,6 @@ loop-k-init g c = record {
   passed = passed_none _;
   long = ap length c.new-pages.ensures.items;
   pages = λ told. pages_begin (g.F.StoreFile.state c.args.tree.now.file).reads c.args.tree.now.key c.args.tree.now.tree c.new-pages.result.items;
-  sealed = sealed_begin c.args.tree.now.key c.args.tree.now.tree c.new-pages.result.items c.new-pages.ensures.items;
+  seen = seen_begin (g.F.StoreFile.state c.args.tree.now.file) (g.F.StoreFile.state c.args.tree.now.file) c.args.tree.now.key c.args.tree.now.tree c.new-pages.result.items c.new-pages.ensures.items;
   once = once_none (g.F.StoreFile.state c.args.tree.now.file);
 }

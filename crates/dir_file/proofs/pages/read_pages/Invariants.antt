@@ -3,7 +3,7 @@ use Rattle.disk_model.specs.Calls.{Rests}
 use Rattle.htree_file.specs.Answers.{FilePassed}
 use Rattle.htree_file.specs.Standing.{Told}
 use Rattle.dir_file.specs.Calls.{ReadsBlocks}
-use Rattle.dir_file.specs.Pages.{ArePages, AreSealed}
+use Rattle.dir_file.specs.Pages.{ArePages, AreSeen}
 use Rattle.dir_file.proofs.pages.read_pages.Given as goal
 
 abbrev pub invariant-loop-k : goal.invariant-loop-k
@@ -14,6 +14,6 @@ invariant-loop-k g l = record {
   long : length l.pages.items ≡ min 8 l.k;
   pages : Told (g.F.StoreFile.state l.initial.tree.file) (g.F.StoreFile.state l.tree.file)
       → ArePages (g.F.StoreFile.state l.initial.tree.file).reads l.initial.tree.key l.initial.tree.tree l.pages.items l.k;
-  sealed : AreSealed l.initial.tree.key l.initial.tree.tree l.pages.items;
+  seen : AreSeen (g.F.StoreFile.state l.initial.tree.file) (g.F.StoreFile.state l.tree.file) l.initial.tree.key l.initial.tree.tree l.pages.items;
   once : ReadsBlocks (g.F.StoreFile.state l.initial.tree.file) (g.F.StoreFile.state l.tree.file) l.k;
 }

@@ -1,5 +1,4 @@
-use Rattle.serial_calls.specs.Journals.{told_of}
 use Rattle.object_calls.proofs.seat_splitting.split_slot.Given as goal
 
 abbrev pub ghost-split_slot : goal.ghost-split_slot
-ghost-split_slot g a = told_of g.L.StoreName.store
+ghost-split_slot g a = g.L.StoreName.store.mounted

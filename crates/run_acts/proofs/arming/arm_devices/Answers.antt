@@ -1,11 +1,9 @@
 use Rattle.std.proofs.Common.{List, drop, get_or, take, sym, subst, take-append-drop}
 use Rattle.std.proofs.lemmas.List.{take_more}
 use Rattle.std.proofs.lemmas.Result.{err_from_is_err_and}
-use Rattle.tee_types.specs.declared.reply.Device.TheVariants.{Dir}
 use Rattle.script_text.specs.declared.script.Arm.{Arm}
-use Rattle.script_text.specs.declared.script.Arm.TheVariants.{Stop}
 use Rattle.run_acts.specs.Benches.{opening_state}
-use Rattle.run_acts.specs.PhaseArms.{ArmsAll}
+use Rattle.run_acts.specs.PhaseArms.{ArmsAll, ArmsOneOf}
 use Rattle.run_acts.proofs.Arms.{arms_push, arms_stay, devices_then}
 use Rattle.run_acts.proofs.arming.arm_devices.Goals as goal
 
@@ -13,12 +11,14 @@ pub loop-arm-preserved : goal.loop-arm-preserved
 loop-arm-preserved g c =
     let l = c.loop-arm in
     let arms : List Arm = c.args.arms.now in
+    let arm : Arm = c.arm-item.result in
     let state = opening_state g.F.StoreFile.state g.R.RpmbPort.state in
     let old = c.args.opening.now in
     let new = c.arm_device.new.opening in
     record {
-      arms = subst (λ (a : List Arm). ArmsAll a (state old) (state new)) (sym (take_more arms l.arm-index (Stop Dir 0) c.loop-arm-test.true))
-          (arms_push (take l.arm-index arms) (get_or arms l.arm-index (Stop Dir 0)) (state old) (state l.opening) (state new) l.invariant.arms c.in_ok-arm_device.ensures.arms);
+      arms = subst (λ (a : List Arm). ArmsAll a (state old) (state new)) (sym (take_more arms l.arm-index arm c.loop-arm-test.true))
+          (arms_push (take l.arm-index arms) (get_or arms l.arm-index arm) (state old) (state l.opening) (state new) l.invariant.arms
+          (subst (λ (a : Arm). ArmsOneOf a (state l.opening) (state new)) c.arm-item.is c.in_ok-arm_device.ensures.arms));
       others = devices_then old l.opening new l.invariant.others c.in_ok-arm_device.ensures.others;
     }
 

@@ -1,3 +1,4 @@
+use Rattle.object_calls.proofs.Files.{files_sound}
 use Rattle.run_acts.proofs.ObjectFiles.{same_objects}
 use Rattle.run_acts.proofs.first_opening.form_bench.Goals as goal
 
@@ -10,6 +11,7 @@ returns-in-Ok-clause-answer g c = record {
   others = same_objects g.F.StoreFile.state c.args.bench.files.items c.in-Ok.bench.files.items c.in-Ok.ensures.others;
   dir_passed = c.in-Ok.ensures.passed.file;
   card_passed = c.in-Ok.ensures.passed.card;
+  sound = files_sound g.F.StoreFile.state g.met.F.StoreFile.sound c.in-Ok.bench.files.items;
 }
 
 pub returns-in-Err-clause-answer : goal.returns-in-Err-clause-answer

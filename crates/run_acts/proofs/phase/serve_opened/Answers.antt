@@ -38,11 +38,11 @@ returns-in-Ok-clause-serves g c =
     let reliable = g.E.Entropy.is_reliable c.args.entropy.now in
     let sessions = AreReliable g.E.Entropy.is_reliable c.in-Ok.sessions.items in
     IfOk-weaker c.serve_once.result
-    (λ x. ClosesStore sessions (store_in keys of_file of_port armed) (opening_state of_file of_port armed) c.args.mode c.args.calls.now (bench_state of_file of_port x.bench) x.history.events)
+    (λ x. ClosesStore sessions (store_in keys of_file armed) (opening_state of_file of_port armed) c.args.mode c.args.calls.now (bench_state of_file of_port x.bench) x.history.events)
     (λ x. ServesOpened of_file of_port reliable keys c.args.applications.now c.args.arms.now c.args.mode c.args.calls.now c.args.opening (bench_state of_file of_port x.bench) x.history.events)
     (λ x closes. serves_opened of_file of_port c.args.applications.now c.args.arms.now c.args.opening armed c.in-Ok.ensures.ready reliable keys c.args.mode c.args.calls.now (bench_state of_file of_port x.bench)
     x.history.events c.requires.keyed
-    (closes_where sessions reliable (store_in keys of_file of_port armed) (opening_state of_file of_port armed) c.args.mode c.args.calls.now (bench_state of_file of_port x.bench) x.history.events
+    (closes_where sessions reliable (store_in keys of_file armed) (opening_state of_file of_port armed) c.args.mode c.args.calls.now (bench_state of_file of_port x.bench) x.history.events
     c.in-Ok.ensures.reliable closes))
     c.serve_once.ensures.closed
 
@@ -53,7 +53,7 @@ returns-in-Ok-clause-early g c =
     let keys = c.args.keys.now in
     let armed : OpeningValue g.row.F.Denot g.row.R.Denot = c.make_ready.new.opening in
     IfErr-weaker c.serve_once.result
-    (λ b. ClosesEarly (store_in keys of_file of_port armed) (opening_state of_file of_port armed) c.args.mode c.args.calls.now (bench_state of_file of_port b))
+    (λ b. ClosesEarly (store_in keys of_file armed) (opening_state of_file of_port armed) c.args.mode c.args.calls.now (bench_state of_file of_port b))
     (λ b. ClosesOpened of_file of_port keys c.args.applications.now c.args.arms.now c.args.mode c.args.calls.now c.args.opening (bench_state of_file of_port b))
     (λ b closes. early_opened of_file of_port keys c.args.applications.now c.args.arms.now c.args.mode c.args.calls.now c.args.opening armed (bench_state of_file of_port b) c.in-Ok.ensures.ready c.requires.keyed closes)
     c.serve_once.ensures.early

@@ -22,7 +22,7 @@ pub returns-in-Threads-clause-closed : goal.returns-in-Threads-clause-closed
 returns-in-Threads-clause-closed g c =
     let of_file = g.F.StoreFile.state in
     let of_port = g.R.RpmbPort.state in
-    let store = store_in c.args.keys.now of_file of_port c.args.opening in
+    let store = store_in c.args.keys.now of_file c.args.opening in
     let reliable = AreReliable g.E.Entropy.is_reliable c.args.sessions.items in
     let calls = c.args.calls.now in
     subst
@@ -38,7 +38,7 @@ returns-in-Serial-clause-early g c =
     let of_file = g.F.StoreFile.state in
     let of_port = g.R.RpmbPort.state in
     let before = opening_state of_file of_port c.args.opening in
-    subst (λ (mode : Mode). IfErr c.serve_calls.result (λ b. ClosesEarly (store_in c.args.keys.now of_file of_port c.args.opening) before mode c.args.calls.now (bench_state of_file of_port b)))
+    subst (λ (mode : Mode). IfErr c.serve_calls.result (λ b. ClosesEarly (store_in c.args.keys.now of_file c.args.opening) before mode c.args.calls.now (bench_state of_file of_port b)))
     (sym c.in-Serial.is) c.serve_calls.ensures.early
 
 pub returns-in-Threads-clause-early : goal.returns-in-Threads-clause-early
@@ -46,5 +46,5 @@ returns-in-Threads-clause-early g c =
     let of_file = g.F.StoreFile.state in
     let of_port = g.R.RpmbPort.state in
     let before = opening_state of_file of_port c.args.opening in
-    subst (λ (mode : Mode). IfErr c.serve_shared_once.result (λ b. ClosesEarly (store_in c.args.keys.now of_file of_port c.args.opening) before mode c.args.calls.now (bench_state of_file of_port b)))
+    subst (λ (mode : Mode). IfErr c.serve_shared_once.result (λ b. ClosesEarly (store_in c.args.keys.now of_file c.args.opening) before mode c.args.calls.now (bench_state of_file of_port b)))
     (sym c.in-Threads.is) c.serve_shared_once.ensures.early

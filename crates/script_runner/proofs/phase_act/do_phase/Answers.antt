@@ -21,7 +21,7 @@ returns-in-Ok-clause-ok g c = λ first lasts.
     let runs = c.in-Ok.ensures.runs in
     let calls = c.calls_from-calls.ensures in
     let opened = c.in-Ok.field-0 in
-    let ran : Run g.row.F.Denot g.row.R.Denot = record { bench = opened.bench; arms = c.new.result; number = run.number + 1; mode = run.mode; at = run.at + length c.calls_from-calls.result.now; kept = run.kept } in
+    let ran : Run g.row.F.Denot g.row.R.Denot = record { bench = opened.bench; saved = run.saved; arms = c.new.result; number = run.number + 1; mode = run.mode; at = run.at + length c.calls_from-calls.result.now; kept = run.kept } in
     let phase : PhaseRecord = record { opening = runs.0; events = opened.history.events } in
     let Runs : List (List ℕ) → List Arm → List Step → Type 0 = λ apps arms steps.
     RunsPhase g.F.StoreFile.state g.R.RpmbPort.state (g.E.Entropy.is_reliable first) c.args.keys.now apps arms run.mode steps (bench_state g.F.StoreFile.state g.R.RpmbPort.state run.bench) (bench_state g.F.StoreFile.state g.R.RpmbPort.state opened.bench) runs.0 opened.history.events in
@@ -30,7 +30,7 @@ returns-in-Ok-clause-ok g c = λ first lasts.
     (subst (λ (a : List (List ℕ)). Runs a c.as_slice.result.now c.calls_from-calls.result.now) c.applications.ensures
     (runs_where g.F.StoreFile.state g.R.RpmbPort.state (g.E.Entropy.is_reliable c.args.entropy.now) (g.E.Entropy.is_reliable first) c.args.keys.now _ _ _ _ (bench_state g.F.StoreFile.state g.R.RpmbPort.state run.bench)
     (bench_state g.F.StoreFile.state g.R.RpmbPort.state opened.bench) runs.0 opened.history.events lasts runs.2))) in
-    let done = HasDone-calls g.F.StoreFile.state g.R.RpmbPort.state g.F.FileRig.crash_image (g.E.Entropy.is_reliable first) c.args.keys.now script run ran phase c.requires.ready c.requires.call ran_so c.new.ensures.items c.in-Ok.ensures.whole refl refl refl
+    let done = HasDone-calls g.F.StoreFile.state g.R.RpmbPort.state g.F.FileRig.crash_image (g.E.Entropy.is_reliable first) c.args.keys.now script run ran phase c.requires.ready c.requires.call ran_so c.new.ensures.items refl c.in-Ok.ensures.whole refl refl refl
     (ap (λ n. run.at + n) calls.count) (omega (arith, calls.count, calls.within)) in
     goes-on g.F.StoreFile.state g.R.RpmbPort.state g.F.FileRig.crash_image (g.E.Entropy.is_reliable first) c.args.keys.now script run ran c.print_phase_act.result _ _ _ _ _ done (phase_text_is script run.number run.mode opened.objects (take (prefix_len is_call (drop run.at script.steps)) (drop run.at script.steps)) phase runs.1) c.print_phase_act.ensures.ok
 
@@ -41,7 +41,7 @@ returns-in-Ok-clause-err g c = λ first lasts.
     let runs = c.in-Ok.ensures.runs in
     let calls = c.calls_from-calls.ensures in
     let opened = c.in-Ok.field-0 in
-    let ran : Run g.row.F.Denot g.row.R.Denot = record { bench = opened.bench; arms = c.new.result; number = run.number + 1; mode = run.mode; at = run.at + length c.calls_from-calls.result.now; kept = run.kept } in
+    let ran : Run g.row.F.Denot g.row.R.Denot = record { bench = opened.bench; saved = run.saved; arms = c.new.result; number = run.number + 1; mode = run.mode; at = run.at + length c.calls_from-calls.result.now; kept = run.kept } in
     let phase : PhaseRecord = record { opening = runs.0; events = opened.history.events } in
     let Runs : List (List ℕ) → List Arm → List Step → Type 0 = λ apps arms steps.
     RunsPhase g.F.StoreFile.state g.R.RpmbPort.state (g.E.Entropy.is_reliable first) c.args.keys.now apps arms run.mode steps (bench_state g.F.StoreFile.state g.R.RpmbPort.state run.bench) (bench_state g.F.StoreFile.state g.R.RpmbPort.state opened.bench) runs.0 opened.history.events in
@@ -50,12 +50,12 @@ returns-in-Ok-clause-err g c = λ first lasts.
     (subst (λ (a : List (List ℕ)). Runs a c.as_slice.result.now c.calls_from-calls.result.now) c.applications.ensures
     (runs_where g.F.StoreFile.state g.R.RpmbPort.state (g.E.Entropy.is_reliable c.args.entropy.now) (g.E.Entropy.is_reliable first) c.args.keys.now _ _ _ _ (bench_state g.F.StoreFile.state g.R.RpmbPort.state run.bench)
     (bench_state g.F.StoreFile.state g.R.RpmbPort.state opened.bench) runs.0 opened.history.events lasts runs.2))) in
-    let done = HasDone-calls g.F.StoreFile.state g.R.RpmbPort.state g.F.FileRig.crash_image (g.E.Entropy.is_reliable first) c.args.keys.now script run ran phase c.requires.ready c.requires.call ran_so c.new.ensures.items c.in-Ok.ensures.whole refl refl refl
+    let done = HasDone-calls g.F.StoreFile.state g.R.RpmbPort.state g.F.FileRig.crash_image (g.E.Entropy.is_reliable first) c.args.keys.now script run ran phase c.requires.ready c.requires.call ran_so c.new.ensures.items refl c.in-Ok.ensures.whole refl refl refl
     (ap (λ n. run.at + n) calls.count) (omega (arith, calls.count, calls.within)) in
     cut-off g.F.StoreFile.state g.R.RpmbPort.state g.F.FileRig.crash_image (g.E.Entropy.is_reliable first) c.args.keys.now script run ran c.print_phase_act.result _ _ _ _ _ done (phase_text_is script run.number run.mode opened.objects (take (prefix_len is_call (drop run.at script.steps)) (drop run.at script.steps)) phase runs.1) _ _ _ c.print_phase_act.ensures.err
 
-pub returns-clause-err : goal.returns-clause-err
-returns-clause-err g c = λ first lasts.
+pub returns-in-Err-clause-err : goal.returns-in-Err-clause-err
+returns-in-Err-clause-err g c = λ first lasts.
     let of_file = g.F.StoreFile.state in
     let of_port = g.R.RpmbPort.state in
     let run = c.args.run in

@@ -8,6 +8,10 @@ use Rattle.history_seats.specs.Changes.{slot_renewed}
 use Rattle.history_seats.specs.Views.{GateView, Sight, SlotView}
 use Rattle.call_steps.specs.SlotAnswers.{MayBeTold, slot_record, versions_given}
 use Rattle.call_steps.proofs.Contents.{seat_same}
+use Rattle.call_steps.proofs.Meetings.{own-seat}
+use Rattle.call_steps.proofs.ServedCalls.{answer-served}
+use Rattle.call_steps.specs.CallerSessions.{CallerSession}
+use Rattle.serial_calls.specs.Seating.{unmade}
 use Rattle.call_steps.proofs.SlotViews.{shown_whole}
 use Rattle.call_steps.specs.GuardedSlots.{SlotInvariant}
 use Rattle.call_steps.specs.OwnEvents.{seat_after}
@@ -70,3 +74,16 @@ pub returns-clause-whole : goal.returns-clause-whole
 returns-clause-whole g c =
     shown_whole c.answer_with-place.new.self.journal.knows c.give_seat.new.self c.lend_seat-seat.result c.answer_with-place.result.1 (ap (λ (s : SlotValue). s.seat) c.give_seat.ensures)
     c.answer_with-place.ensures.slot
+
+pub returns-clause-told : goal.returns-clause-told
+returns-clause-told g c =
+    let store = g.L.StoreName.store in
+    let lent = c.lend_seat-seat.result in
+    let told = c.answer_with-place.ensures in
+    record {
+      served =
+          answer-served store c.args.gate.now c.answer_with-place.new.self c.args.session.now c.answer_with-place.new.session lent.knows c.args.slot.now.number c.answer_with-place.result.0 c.args.call c.reply.result
+          c.reply-2.result (own-seat store (unmade c.args.slot.now) lent c.lend_seat-seat.ensures.seat c.requires.fresh.empty.guarded).own (c.reply-2.ensures ∙ sym c.reply.ensures) told.place told.extends told.whole
+          told.session told.knows told.spare told.gate told.notes told.closing;
+      state = ap (λ (s : CallerSession g.row.E.Denot). s.state) told.session;
+    }

@@ -3,6 +3,7 @@ use Rattle.std.proofs.Common.{List, ap, subst, sym, ℕ, ◌∙◌, ◌≡◌}
 use Rattle.call_steps.proofs.Meetings.{at-stays}
 use Rattle.call_steps.specs.AnswerCauses.{HasToldCause}
 use Rattle.call_steps.specs.CallerSessions.{CallerSession}
+use Rattle.call_steps.specs.Fits.{SeesWhole}
 use Rattle.call_steps.specs.GuardedGates.{GuardedGateValue}
 use Rattle.call_steps.specs.ServableReplies.{MayBeServed}
 use Rattle.disk_model.specs.State.{FileState}
@@ -51,3 +52,9 @@ returns-clause-cause g c =
     subst (λ (x : FileState × FileState × ℕ × Reply). HasToldCause x.0 x.1 x.2 x.3)
     (λ i. (c.catch_up_entry.ensures.file i, sym c.tell.ensures.file i, number i, sym (c.tell.ensures.reply ∙ ap (λ (p : Reply × Reply). p.0) c.twice-kept.ensures) i))
     (c.in_ok-reply.ensures.checks at.0 at.1.gives).cause
+
+pub returns-in_err-reply-clause-whole : goal.returns-in_err-reply-clause-whole
+returns-in_err-reply-clause-whole g c =
+    let at = c.catch_up_entry.ensures.at in
+    subst (λ (x : GuardedGateValue g.row.F.Denot g.row.R.Denot). SeesWhole x.journal.knows c.check_write_object.new.slot) (sym c.catch_up_entry.ensures.gate)
+    (at-stays c.args.gate.now.journal.knows c.catch_up_entry.new.slot c.check_write_object.new.slot c.args.found.now.held.entry at.0 c.check_write_object.ensures.same at.1).sees

@@ -1,6 +1,9 @@
--- The gate keeps what always holds of its devices, whatever it did alone.
-use Rattle.std.proofs.Common.{Ok, Option, subst}
-use Rattle.serial_calls.specs.GateServed.{ServesAlone}
+-- The gate keeps what always holds of its devices, whatever it did alone. Where no commit was in doubt nothing was resolved.
+use Rattle.std.proofs.Common.{◌≡◌, ◌∙◌, None, Ok, Option, ap, subst}
+use Rattle.serial_calls.proofs.Unfailed.{settled_same}
+use Rattle.serial_calls.specs.Gates.{GateValue}
+use Rattle.serial_calls.specs.GuardedGates.{GuardedGateValue}
+use Rattle.serial_calls.specs.GateServed.{IsLeft, ServesAlone}
 use Rattle.serial_calls.specs.declared.PlacedReply.{PlacedReply}
 use Rattle.shared_calls.proofs.KeptCalls.{keeps-alone, keeps-left, keeps-reserved, keeps-unserved}
 use Rattle.shared_calls.proofs.gate_entry.begin.Goals as goal
@@ -44,3 +47,37 @@ invariant_of-gate-2 g c =
     (g.E.Entropy.faults c.answer_alone.new.session.entropy) {X = Unit {0}} g.L.StoreName.store c.args.call.now c.reserve.new.self c.answer_alone.new.gate c.args.session.now c.answer_alone.new.session (Ok o))
     c.in_default.is c.in_ok-answer.ensures.serves)
     c.gate.invariant
+
+pub returns-in_err-answer-clause-let_be : goal.returns-in_err-answer-clause-let_be
+returns-in_err-answer-clause-let_be g c = λ none.
+    c.answer_alone.ensures.let_be
+    (ap (λ (x : GateValue g.row.F.Denot g.row.R.Denot). x.doubt) c.reserve.ensures.gate ∙ ap (λ (x : GuardedGateValue g.row.F.Denot g.row.R.Denot). x.gate.doubt) c.gate.view_is ∙ none)
+
+pub returns-in-Some-clause-let_be : goal.returns-in-Some-clause-let_be
+returns-in-Some-clause-let_be g c = λ none.
+    c.answer_alone.ensures.let_be
+    (ap (λ (x : GateValue g.row.F.Denot g.row.R.Denot). x.doubt) c.reserve.ensures.gate ∙ ap (λ (x : GuardedGateValue g.row.F.Denot g.row.R.Denot). x.gate.doubt) c.gate.view_is ∙ none)
+
+pub returns-in_err-reserve-2-clause-let_be : goal.returns-in_err-reserve-2-clause-let_be
+returns-in_err-reserve-2-clause-let_be g c = λ none.
+    c.answer_alone.ensures.let_be
+    (ap (λ (x : GateValue g.row.F.Denot g.row.R.Denot). x.doubt) c.reserve.ensures.gate ∙ ap (λ (x : GuardedGateValue g.row.F.Denot g.row.R.Denot). x.gate.doubt) c.gate.view_is ∙ none)
+
+pub returns-clause-let_be : goal.returns-clause-let_be
+returns-clause-let_be g c = λ none.
+    c.answer_alone.ensures.let_be
+    (ap (λ (x : GateValue g.row.F.Denot g.row.R.Denot). x.doubt) c.reserve.ensures.gate ∙ ap (λ (x : GuardedGateValue g.row.F.Denot g.row.R.Denot). x.gate.doubt) c.gate.view_is ∙ none)
+
+pub returns-clause-counter : goal.returns-clause-counter
+returns-clause-counter g c = λ no_answer none.
+    let alone = c.answer_alone in
+    let left : IsLeft g.F.StoreFile.state g.R.RpmbPort.state g.L.StoreName.store c.reserve.new.self alone.new.gate c.args.session.now alone.new.session =
+    subst
+    (λ (o : Option PlacedReply). ServesAlone g.F.StoreFile.state g.R.RpmbPort.state (g.E.Entropy.is_reliable c.args.session.now.entropy) (g.E.Entropy.faults c.args.session.now.entropy)
+    (g.E.Entropy.faults alone.new.session.entropy) {X = Unit {0}} g.L.StoreName.store c.args.call.now c.reserve.new.self alone.new.gate c.args.session.now alone.new.session (Ok o))
+    c.in_default.is c.in_ok-answer.ensures.serves in
+    let idle : c.reserve.new.self.gate.doubt ≡ None =
+    ap (λ (x : GateValue g.row.F.Denot g.row.R.Denot). x.doubt) c.reserve.ensures.gate ∙ ap (λ (x : GuardedGateValue g.row.F.Denot g.row.R.Denot). x.gate.doubt) c.gate.view_is ∙ none in
+    ap (λ (x : GateValue g.row.F.Denot g.row.R.Denot). x.counter) c.reserve-2.ensures.gate
+    ∙ ap (λ (x : GuardedGateValue g.row.F.Denot g.row.R.Denot). x.gate.counter) (settled_same g.F.StoreFile.state g.R.RpmbPort.state c.reserve.new.self alone.new.gate idle left.settled)
+    ∙ ap (λ (x : GateValue g.row.F.Denot g.row.R.Denot). x.counter) c.reserve.ensures.gate ∙ ap (λ (x : GuardedGateValue g.row.F.Denot g.row.R.Denot). x.gate.counter) c.gate.view_is

@@ -1,8 +1,10 @@
-use Rattle.std.proofs.Common.{◌≡◌, []}
+use Rattle.std.proofs.Common.{◌≡◌, [], Ok}
 use Rattle.disk_model.specs.State.{pending}
 use Rattle.disk_model.specs.Calls.{Rests}
 use Rattle.disk_model.specs.Keeps.{Anywhere, Keeps}
 use Rattle.disk_model.proofs.Laws.{rest_keeps}
+use Rattle.dir_file.specs.Loading.{SeesDirectory}
+use Rattle.dir_file.proofs.Seen.{directory_behind}
 use Rattle.store_commit.specs.Leaving.{LeavesNoMore}
 use Rattle.store_commit.proofs.Leavings.{left_then, rests_left, syncs_left}
 use Rattle.store_commit.proofs.Mounting.{rests_pending}
@@ -35,6 +37,16 @@ returns-in-Ok-clause-unwritten g c =
     let a = state c.args.file in
     let b = state c.sync.new.self in
     ok_map c.load.result (λ d. Rests b (state d.file)) (λ d. pending (state d.file) ≡ []) (λ d rests. rests_pending a b (state d.file) c.in-Ok.ensures.synced rests) c.load.ensures.rests
+
+pub returns-in-Ok-clause-seen : goal.returns-in-Ok-clause-seen
+returns-in-Ok-clause-seen g c =
+    let state = g.F.StoreFile.state in
+    let a = state c.args.file in
+    let b = state c.sync.new.self in
+    let tsk = c.args.tsk.now in
+    let root = c.args.root in
+    ok_map c.load.result (λ d. SeesDirectory b (state d.file) tsk root d.dir.tree (Ok d.dir.entries)) (λ d. SeesDirectory a (state d.file) tsk root d.dir.tree (Ok d.dir.entries))
+    (λ d seen. directory_behind a b (state d.file) tsk root d.dir.tree (Ok d.dir.entries) (g.met.F.StoreFile.sound c.args.file) c.in-Ok.ensures.synced seen) c.load.ensures.seen
 
 pub returns-in-Ok-clause-left : goal.returns-in-Ok-clause-left
 returns-in-Ok-clause-left g c =

@@ -1,13 +1,12 @@
 use Rattle.std.proofs.Common.{None}
 use Rattle.history_seats.specs.Views.{no_mount}
-use Rattle.history_seats.specs.Changes.{nothing_told}
 use Rattle.worked_calls.proofs.doubts.land_doubt.Given as goal
 
 abbrev pub ghost-split_pass : goal.ghost-split_pass
 ghost-split_pass a = no_mount
 
 abbrev pub ghost-split_slot : goal.ghost-split_slot
-ghost-split_slot a = nothing_told
+ghost-split_slot a = no_mount
 
 abbrev pub ghost-append : goal.ghost-append
 ghost-append a = record { committed = None; doubted = None }

@@ -23,8 +23,8 @@ split_slots-slots-requires-clause-guarded g c =
     let i = c.self.inside in
     let o : OpeningValue g.row.F.Denot g.row.R.Denot =
     record { gate = i.gate; files = i.files.items; storage_key = i.storage_key; table = i.table; applications = i.applications.items } in
-    let of = subst (IsStoreOf g.F.StoreFile.state g.R.RpmbPort.state g.L.StoreName.store) (sym c.self.view_is) c.requires.store in
-    may_be_first g.F.StoreFile.state g.R.RpmbPort.state g.met.F.StoreFile.sound g.L.StoreName.store o c.self.invariant.0 of
+    let of = subst (IsStoreOf g.F.StoreFile.state g.L.StoreName.store) (sym c.self.view_is) c.requires.store in
+    may_be_first g.F.StoreFile.state g.met.F.StoreFile.sound g.L.StoreName.store o c.self.invariant.0 of
 
 pub new-journal-requires : goal.new-journal-requires
 new-journal-requires g c =
@@ -32,11 +32,11 @@ new-journal-requires g c =
     let store = g.L.StoreName.store in
     let o : OpeningValue g.row.F.Denot g.row.R.Denot =
     record { gate = i.gate; files = i.files.items; storage_key = i.storage_key; table = i.table; applications = i.applications.items } in
-    let of = subst (IsStoreOf g.F.StoreFile.state g.R.RpmbPort.state store) (sym c.self.view_is) c.requires.store in
+    let of = subst (IsStoreOf g.F.StoreFile.state store) (sym c.self.view_is) c.requires.store in
     let seat = c.split_passes.new.seat in
     let told = c.split_passes.ensures.told in
     subst (λ (l : List Event). IsJournalOf store i.table seat l 0) (sym c.new.ensures)
-    (first_journal g.F.StoreFile.state g.R.RpmbPort.state g.met.F.StoreFile.sound store o c.self.invariant.0 of i.table seat (sym (ap (λ (s : Store). s.table) of.is)) c.split_passes.ensures.table
+    (first_journal g.F.StoreFile.state g.met.F.StoreFile.sound store o c.self.invariant.0 of i.table seat (sym (ap (λ (s : Store). s.table) of.is)) c.split_passes.ensures.table
     told.undecided (told_first store seat.knows (length store.mounted.applications) told))
 
 pub new-requires-2 : goal.new-requires-2
@@ -45,11 +45,11 @@ new-requires-2 g c =
     let store = g.L.StoreName.store in
     let o : OpeningValue g.row.F.Denot g.row.R.Denot =
     record { gate = i.gate; files = i.files.items; storage_key = i.storage_key; table = i.table; applications = i.applications.items } in
-    let of = subst (IsStoreOf g.F.StoreFile.state g.R.RpmbPort.state store) (sym c.self.view_is) c.requires.store in
+    let of = subst (IsStoreOf g.F.StoreFile.state store) (sym c.self.view_is) c.requires.store in
     let seat = c.split_passes.new.seat in
     let first = told_first store seat.knows (length store.mounted.applications) c.split_passes.ensures.told in
     subst (λ (v : GateView). GateInvariant store i.gate v None) (sym (ap (λ (j : JournalValue). j.knows) c.new-journal.ensures))
-    (first_gate g.F.StoreFile.state g.R.RpmbPort.state g.met.F.StoreFile.sound store o c.self.invariant.0 of seat.knows first)
+    (first_gate g.F.StoreFile.state g.met.F.StoreFile.sound store o c.self.invariant.0 of seat.knows first)
 
 pub invariant_of-result : goal.invariant_of-result
 invariant_of-result g c =
@@ -57,7 +57,7 @@ invariant_of-result g c =
     let store = g.L.StoreName.store in
     let o : OpeningValue g.row.F.Denot g.row.R.Denot =
     record { gate = i.gate; files = i.files.items; storage_key = i.storage_key; table = i.table; applications = i.applications.items } in
-    let of = subst (IsStoreOf g.F.StoreFile.state g.R.RpmbPort.state store) (sym c.self.view_is) c.requires.store in
+    let of = subst (IsStoreOf g.F.StoreFile.state store) (sym c.self.view_is) c.requires.store in
     let slots = c.split_slots-slots.result.slots in
     let many : length slots.items ≡ 272 = sym slots.ok.0 ∙ c.split_slots-slots.ensures.many in
     let gate : GuardedGateValue g.row.F.Denot g.row.R.Denot = c.new-2.result in
@@ -71,7 +71,7 @@ invariant_of-result g c =
         tagged = none_tagged gate.journal.knows empty;
         keyed = of.keyed.storage;
         few = subst (λ (n : ℕ). n ≤ 16) (i.applications.ok.0 ∙ sym (ap (λ (s : Store). length s.mounted.applications) of.is)) c.self.invariant.3;
-        opens = first_opens g.F.StoreFile.state g.R.RpmbPort.state g.met.F.StoreFile.sound store o c.self.invariant.0 of;
+        opens = first_opens g.F.StoreFile.state g.met.F.StoreFile.sound store o c.self.invariant.0 of;
       },
       c.split_slots-slots.ensures.vacant,
       room_for_all (vec_capacity c.split_slots-slots.result.room) (vec_capacity i.files) (vec_len i.files) (length i.files.items) c.split_slots-slots.ensures.room c.self.invariant.1

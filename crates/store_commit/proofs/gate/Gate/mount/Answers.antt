@@ -9,7 +9,7 @@ use Rattle.crash_core.specs.CardBlock.{root_in}
 use Rattle.crash_core.specs.DeviceKeys.{directory_key}
 use Rattle.crash_core.specs.Directory.{directory_of}
 use Rattle.dir_file.specs.Held.{IsDurable}
-use Rattle.dir_file.specs.Loading.{IsOutsideDir, IsReadDirectory}
+use Rattle.dir_file.specs.Loading.{IsOutsideDir, SeesDirectory}
 use Rattle.dir_file.specs.Refusals.{DirDiffers}
 use Rattle.store_commit.specs.declared.fault.MountFault.TheVariants.{NoMemory}
 use Rattle.store_commit.specs.Gates.{gate_sides}
@@ -72,7 +72,7 @@ returns-in-Ok-open_directory-clause-opens g c =
     let devices : LeavesDevices (state c.args.dir) (state d.file) (port c.args.card) (port c.read_card.new.host.port) = record { keeps = o.keeps; reads = o.reads; left = o.left; card = stays; port = keeps } in
     let opens = gate_opens (state c.args.dir) (port c.args.card) (port c.read_card.new.host.port) keys c.read_card.new.host.key c.in-Ok.read.counter c.in-Ok.read.block c.in-Ok-root_in.root
     (state d.file) d.dir stays key_is tells c.in-Ok-root_in.ensures.answer c.in-Ok-root_in.ensures.form o.root o.idle (o.tsk ∙ tsk_is) o.entries held
-    devices o.synced o.unwritten (record { block = c.in-Ok.read.block; read = read; named = answer_root (root_in c.in-Ok.read.block) c.in-Ok-root_in.root c.in-Ok-root_in.ensures.answer }) o.verified (subst (λ (t : List ℕ). IsReadDirectory t d.dir.tree (Ok d.dir.entries)) tsk_is o.pages) directory in
+    devices o.synced o.unwritten (record { block = c.in-Ok.read.block; read = read; named = answer_root (root_in c.in-Ok.read.block) c.in-Ok-root_in.root c.in-Ok-root_in.ensures.answer }) o.verified (subst (λ (t : List ℕ). SeesDirectory (state c.args.dir) (state d.file) t c.in-Ok-root_in.root d.dir.tree (Ok d.dir.entries)) tsk_is o.seen) directory in
     ok_map c.new.result (λ v. (v.dir ≡ d) × (v.host ≡ c.read_card.new.host) × (v.counter ≡ c.in-Ok.read.counter))
     (λ v. OpensGate (state c.args.dir) (port c.args.card) keys (gate_sides state port v))
     (λ v made. subst (OpensGate (state c.args.dir) (port c.args.card) keys)
