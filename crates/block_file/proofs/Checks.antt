@@ -16,7 +16,7 @@ use Rattle.block_file.specs.Reads.{BlocksAnswer, IsPage, IsReadFault, WasRead}
 use Rattle.block_file.proofs.Reading.{page_then, was_first}
 use Rattle.block_file.proofs.StageRewrites.{needed_met}
 
-module _ (key : List ℕ) (tree : Loaded) (r : ByteRange) (a b c : FileState) (keeps : Keeps (Lies tree.nodes 0) b c) (k : ℕ) (before : (j : ℕ) → j < k → needs r j ≡ true → WasRead key tree a b j) where
+module _ (key : List ℕ) (tree : Loaded) (r : ByteRange) (a b c : FileState) (keeps : Keeps (Lies tree.layout tree.nodes 0) b c) (k : ℕ) (before : (j : ℕ) → j < k → needs r j ≡ true → WasRead key tree a b j) where
   -- one block more was read, if it is needed
   pub check_step : (page : List ℕ) → Rests a b → (needs r k ≡ true → IsPage key tree b c k page) → (j : ℕ) → j < k + 1 → needs r j ≡ true → WasRead key tree a c j
   check_step page rests read j lt needed = elim (cases_lt j k) [

@@ -16,7 +16,7 @@ use Rattle.block_file.specs.NewPages.{AreNewPages, IsNewPage, NewPageAnswer, New
 use Rattle.block_file.proofs.ChangeLists.{blocks-push, page_for-last, page_for-missed, page_for-push}
 use Rattle.block_file.proofs.Reading.{page_first, page_then}
 
-module _ {root : ℕ} (key : List ℕ) (tree : Loaded) (r : ByteRange) (at : ℕ) (bytes : List ℕ) (a b c : FileState) (keeps : Keeps (Lies tree.nodes root) b c) where
+module _ {root : ℕ} (key : List ℕ) (tree : Loaded) (r : ByteRange) (at : ℕ) (bytes : List ℕ) (a b c : FileState) (keeps : Keeps (Lies tree.layout tree.nodes root) b c) where
   -- a page that was made stays one as the calls go on
   pub new_page_first : (k : ℕ) (page : List ℕ) → IsNewPage key tree a b r at bytes k page → IsNewPage key tree a c r at bytes k page
   new_page_first k page made = record {

@@ -14,7 +14,7 @@ use Rattle.disk_model.proofs.Seen.{runs_fewer, seen_later, seen_now, seen_then}
 use Rattle.htree_file.specs.Opening.{Loaded}
 use Rattle.htree_file.specs.Pages.{block_in, page_in, page_of}
 use Rattle.node_image.specs.declared.node.NodeImage.{NodeImage}
-use Rattle.node_image.specs.Parts.{In}
+use Rattle.node_image.specs.Parts.{In, Layout}
 use Rattle.node_image.specs.Parts.Part.{block}
 use Rattle.node_image.specs.Tables.{at_node, block_version}
 use Rattle.htree_file.specs.Answers.{BlockAnswer}
@@ -39,8 +39,8 @@ pub told_first : (a b c : FileState) → GoesOn b c → Told a c → Told a b
 told_first a b c goes told = (subst (λ (t : Bool). IsTrue t) goes.tells told.0, first_known a b c goes told.1)
 
 -- calls that change nothing keep the tree's places
-pub rests_keep : (nodes : List NodeImage) (a b : FileState) → Sound a → Rests a b → Keeps (Lies nodes 0) a b
-rests_keep nodes a b sound rests = keeps_selected nodes 0 a b (rest_keeps a b sound rests)
+pub rests_keep : (layout : Layout) (nodes : List NodeImage) (a b : FileState) → Sound a → Rests a b → Keeps (Lies layout nodes 0) a b
+rests_keep layout nodes a b sound rests = keeps_selected layout nodes 0 a b (rest_keeps a b sound rests)
 
 -- a page put among others
 abbrev put_page : (pages : ℕ → List ℕ) (k : ℕ) (page : List ℕ) → ℕ → List ℕ
@@ -54,12 +54,12 @@ put_new pages k j page same = cond-true (j == k) page (pages j) (eq-eqb j k same
 
 module _ (key : List ℕ) (tree : Loaded) where
   -- a page that was read stays one as calls go on that do not write at the tree's places
-  pub page_first : {root : ℕ} (a b c : FileState) (k : ℕ) (page : List ℕ) → Keeps (Lies tree.nodes root) b c → IsPage key tree a b k page → IsPage key tree a c k page
+  pub page_first : {root : ℕ} (a b c : FileState) (k : ℕ) (page : List ℕ) → Keeps (Lies tree.layout tree.nodes root) b c → IsPage key tree a b k page → IsPage key tree a c k page
   page_first {root} a b c k page keeps read = record {
     among = read.among;
     ciphertext = read.ciphertext;
-    seen = seen_later (In (block k (block_version tree.nodes k))) a b c (λ image. read.ciphertext ≡ block_in image tree k)
-        (runs_fewer (Lies tree.nodes root) (In (block k (block_version tree.nodes k))) b c (λ place within. record { part = block k (block_version tree.nodes k); selected = (read.among, refl); within = within }) keeps.run)
+    seen = seen_later (In tree.layout (block k (block_version tree.nodes k))) a b c (λ image. read.ciphertext ≡ block_in image tree k)
+        (runs_fewer (Lies tree.layout tree.nodes root) (In tree.layout (block k (block_version tree.nodes k))) b c (λ place within. record { part = block k (block_version tree.nodes k); selected = (read.among, refl); at = place; near = refl; within = within }) keeps.run)
         read.seen;
     stands = λ told. read.stands (told_first a b c keeps.goes_on told);
     opens = read.opens;
@@ -71,13 +71,13 @@ module _ (key : List ℕ) (tree : Loaded) where
   page_then a b c k page rests goes read = record {
     among = read.among;
     ciphertext = read.ciphertext;
-    seen = seen_then (In (block k (block_version tree.nodes k))) a b c (λ image. read.ciphertext ≡ block_in image tree k) rests read.seen;
+    seen = seen_then (In tree.layout (block k (block_version tree.nodes k))) a b c (λ image. read.ciphertext ≡ block_in image tree k) rests read.seen;
     stands = λ told. read.stands (told_then a b c rests.goes_on told) ∙ ap (λ (bytes : List ℕ). block_in bytes tree k) (rests.reads (first_known a b c goes told.1));
     opens = read.opens;
     long = read.long;
   }
 
-  pub was_first : {root : ℕ} (a b c : FileState) (k : ℕ) → Keeps (Lies tree.nodes root) b c → WasRead key tree a b k → WasRead key tree a c k
+  pub was_first : {root : ℕ} (a b c : FileState) (k : ℕ) → Keeps (Lies tree.layout tree.nodes root) b c → WasRead key tree a b k → WasRead key tree a c k
   was_first a b c k keeps read = (read.0, page_first a b c k read.0 keeps read.1)
 
   -- no block was read yet
@@ -89,7 +89,7 @@ module _ (key : List ℕ) (tree : Loaded) where
   }
 
   -- one block more was read, and its bytes stand where they belong
-  pub read_step : {root : ℕ} (a b c : FileState) (r : ByteRange) (k : ℕ) (before after : List ℕ) → Rests a b → Keeps (Lies tree.nodes root) b c
+  pub read_step : {root : ℕ} (a b c : FileState) (r : ByteRange) (k : ℕ) (before after : List ℕ) → Rests a b → Keeps (Lies tree.layout tree.nodes root) b c
       → AreRead key tree a b r k before → IsGiven key tree b c r k before after → AreRead key tree a c r (k + 1) after
   read_step a b c r k before after rests keeps old given = record {
     pages = put_page old.pages k given.page;
@@ -115,7 +115,7 @@ module _ (key : List ℕ) (tree : Loaded) where
 
 -- a block that was not read, behind those that were
 pub part_blocks : {root : ℕ} (key : List ℕ) (tree : Loaded) (a b c : FileState) (asked : ℕ → Bool) (r : ByteRange) (k : ℕ) (before after : List ℕ) (A B : Type 0) (e : TreeFault)
-    → Keeps (Lies tree.nodes root) b c → asked k ≡ true → ((j : ℕ) → j < k → asked j ≡ true → WasRead key tree a b j)
+    → Keeps (Lies tree.layout tree.nodes root) b c → asked k ≡ true → ((j : ℕ) → j < k → asked j ≡ true → WasRead key tree a b j)
     → PartAnswer key tree b c r k before after {A = A} (Err e) → BlocksAnswer key tree a c asked {A = B} (Err e)
 part_blocks key tree a b c asked r k before after A B (BadTag bad want found) keeps is earlier answer = rw (answer.0) (record {
   is_asked = is;
@@ -287,7 +287,7 @@ pub page_answer : (key : List ℕ) (tree : Loaded) (a b : FileState) (k : ℕ) (
 page_answer key tree a b k A (Ok done) page lt long rests answer = record {
   among = lt;
   ciphertext = answer.0;
-  seen = seen_now (In (block k (block_version tree.nodes k))) a b (λ image. answer.0 ≡ block_in image tree k) rests answer.1;
+  seen = seen_now (In tree.layout (block k (block_version tree.nodes k))) a b (λ image. answer.0 ≡ block_in image tree k) rests answer.1;
   stands = λ told. answer.1 told.0 ∙ ap (λ (bytes : List ℕ). block_in bytes tree k) (rests.reads told.1);
   opens = answer.2;
   long = long;

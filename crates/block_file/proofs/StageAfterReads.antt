@@ -37,7 +37,7 @@ reads_same a b rests honest = rests.reads (inl honest)
 -- a firm tree is so after reads
 pub firm_rested : (a b : FileState) (root : RootRef) (tree : Loaded) → Rests a b → IsFirm a root tree → IsTrue b.honest → IsFirm b root tree
 firm_rested a b root tree rests firm honest image left =
-    subst (λ (l : List ℕ). OpensTo root tree (selected_tree l root.version) image) (sym (reads_same a b rests honest)) (firm image (left_before a b image rests honest left))
+    subst (λ (l : List ℕ). OpensTo root tree (selected_tree l root) image) (sym (reads_same a b rests honest)) (firm image (left_before a b image rests honest left))
 
 -- reads keep a tree firm
 pub rests_firm : (a b : FileState) (root : RootRef) (tree : Loaded) → Rests a b → KeepsFirm a b root tree
@@ -51,7 +51,7 @@ then_firm a b c root tree rests goes keeps firm honest =
     let was : IsTrue b.honest = goes.honest honest in
     let stays = keeps (firm_rested a b root tree rests firm was) honest in
     record {
-      always = λ image left. subst (λ (l : List ℕ). OpensTo root tree (selected_tree l root.version) image) (reads_same a b rests was)
+      always = λ image left. subst (λ (l : List ℕ). OpensTo root tree (selected_tree l root) image) (reads_same a b rests was)
           (stays.always image (subst (λ (n : ℕ). LeftSince c n image) (sym (ap length rests.trail)) left));
       firm = stays.firm;
     }
@@ -138,9 +138,10 @@ stage_then F state old new mid size A result sound rests staged =
       opens = staged.opens;
       none = staged.none;
       next = staged.next;
+      format = staged.format;
       same = staged.same;
       firm = then_firm a b c old.root old.tree rests goes staged.firm;
-      keeps = keeps_then (Lies old.tree.nodes old.root.version) a b c (keeps_selected old.tree.nodes old.root.version a b (rest_keeps a b sound rests)) staged.keeps;
+      keeps = keeps_then (Lies old.tree.layout old.tree.nodes old.root.version) a b c (keeps_selected old.tree.layout old.tree.nodes old.root.version a b (rest_keeps a b sound rests)) staged.keeps;
       loaded = loaded_then a b c old.root old.tree A result _ rests goes staged.loaded;
       unsettled = staged.unsettled ∙ rests.pending_from;
       verified = staged.verified;
@@ -158,9 +159,10 @@ no_stage F state old mid size A fault sound idle rests =
       opens = tt;
       none = idle;
       next = tt;
+      format = tt;
       same = refl;
       firm = rests_firm a b old.root old.tree rests;
-      keeps = keeps_selected old.tree.nodes old.root.version a b (rest_keeps a b sound rests);
+      keeps = keeps_selected old.tree.layout old.tree.nodes old.root.version a b (rest_keeps a b sound rests);
       loaded = tt;
       unsettled = rests.pending_from;
       verified = tt;

@@ -99,14 +99,14 @@ module _ (key : List ℕ) (tree : Loaded) (r : ByteRange) (at : ℕ) (bytes : Li
       (λ k low high. let page = made.pages k low (omega arith) in subst (λ (o : Option (List ℕ)). IsSome o) (sym page.1) refl)
 
   -- a block that the change needs was read before its page was made
-  needed_read : {root : ℕ} (c : FileState) → Keeps (Lies tree.nodes root) b c → (k : ℕ) → needs r k ≡ true → WasRead key tree a c k
+  needed_read : {root : ℕ} (c : FileState) → Keeps (Lies tree.layout tree.nodes root) b c → (k : ℕ) → needs r k ≡ true → WasRead key tree a c k
   needed_read c keeps k needed =
       let stays = needed_stays r size k reaches needed in
       let page = made.pages k (omega (arith, stays.0, begins)) (omega (arith, stays.1, ends)) in
       (page.2.over, page_first key tree a b c k page.2.over keeps (page.2.read needed))
 
   -- those that the change needs were read, also where a draw failed
-  pub blocks_read : {root : ℕ} (c : FileState) (A : Type 0) (result : Result A TreeFault) → Keeps (Lies tree.nodes root) b c → IfErr result IsDeviceFault → BlocksAnswer key tree a c (needs r) result
+  pub blocks_read : {root : ℕ} (c : FileState) (A : Type 0) (result : Result A TreeFault) → Keeps (Lies tree.layout tree.nodes root) b c → IfErr result IsDeviceFault → BlocksAnswer key tree a c (needs r) result
   blocks_read c A (Ok done) keeps fault = needed_read c keeps
   blocks_read c A (Err (BadTag bad want found)) keeps fault = absurd fault
   blocks_read c A (Err (Failed count)) keeps fault = tt
@@ -172,7 +172,7 @@ rewritten_then old mid new A (Err fault) stage tree root P Q rests goes was then
 
 -- what the nodes of a stage seal, by the pages that were made for it
 pub seals_range : {root : ℕ} (key : List ℕ) (tree : Loaded) (r : ByteRange) (at : ℕ) (bytes : List ℕ) (size first upto : ℕ) (a b c : FileState) (changes : List BlockChange)
-    → first ≡ first_block r → upto ≡ min (end_block r) (greatest_of size) → first ≤ upto → AreNewPages key tree a b r at bytes changes first upto → Keeps (Lies tree.nodes root) b c
+    → first ≡ first_block r → upto ≡ min (end_block r) (greatest_of size) → first ≤ upto → AreNewPages key tree a b r at bytes changes first upto → Keeps (Lies tree.layout tree.nodes root) b c
     → (A : Type 0) (result : Result A TreeFault) (stage : Option Staged)
     → OnOk result (IfSome stage (λ s. SealsChanges key tree s.tree changes)) → OnOk result (IfSome stage (λ s. SealsRange key tree s.tree a c r at bytes size))
 seals_range key tree r at bytes size first upto a b c changes begins ends forward made keeps A (Ok done) stage seals =

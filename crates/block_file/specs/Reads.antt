@@ -20,7 +20,7 @@ use Rattle.page_bytes.specs.Ranges.{end_block, first_block, meets}
 pub record IsPage (key : List ℕ) (tree : Loaded) (old new : FileState) (k : ℕ) (page : List ℕ) : Type 0 where
   pub among : k < length tree.nodes
   pub ciphertext : List ℕ
-  pub seen : WasSeen (In (block k (block_version tree.nodes k))) old new (λ image. ciphertext ≡ block_in image tree k)
+  pub seen : WasSeen (In tree.layout (block k (block_version tree.nodes k))) old new (λ image. ciphertext ≡ block_in image tree k)
   pub stands : Told old new → ciphertext ≡ block_in old.reads tree k
   pub opens : page_of key tree.head (at_node tree.nodes (k + 1)) k ciphertext ≡ Some page
   pub long : length page ≡ 4096

@@ -69,9 +69,10 @@ pub record StageAnswer {F : Type 0} (state : F → FileState) (old new : TreeVal
   pub none : OnErr result (new.stage ≡ None)
   pub next : OnOk result (IfSome new.stage (λ s. (s.root.version ≡ 1 - old.root.version) × (s.settled ≡ false)
       × (s.tree.head ≡ record old.tree.head { length = bytes; greatest = greatest_of bytes })))
+  pub format : OnOk result (IfSome new.stage (λ s. s.root.format ≡ old.root.format))
   pub same : new ≡ record old { file = new.file; stage = new.stage }
   pub firm : KeepsFirm (state old.file) (state new.file) old.root old.tree
-  pub keeps : Keeps (Lies old.tree.nodes old.root.version) (state old.file) (state new.file)
+  pub keeps : Keeps (Lies old.tree.layout old.tree.nodes old.root.version) (state old.file) (state new.file)
   pub unsettled : (state new.file).pending_from ≡ (state old.file).pending_from
   pub loaded : OnOk result (Known (state old.file) (state new.file) → load_of (state old.file).reads old.root ≡ Ok old.tree →
       IfSome new.stage (λ s. load_of (state new.file).reads s.root ≡ Ok s.tree))

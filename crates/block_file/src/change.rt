@@ -127,6 +127,7 @@ impl<F: StoreFile> BlockFile<F> {
         entropy: &mut E,
     ) -> Result<(), TreeFault>
         requires idle { self.old.stage ≡ None }
+        requires format { self.old.root.format ≡ 2 }
         requires few { size ≤ 1048576 }
         requires changes { AreChanges self.old.tree.head.greatest (greatest_of size) changes.now }
         ensures staged { StageAnswer F.state self.old self.new size result }
@@ -156,6 +157,7 @@ impl<F: StoreFile> BlockFile<F> {
         entropy: &mut E,
     ) -> Result<(), TreeFault>
         requires idle { self.old.stage ≡ None }
+        requires format { self.old.root.format ≡ 2 }
         requires verified { IsVerified self.old.root self.old.tree }
         requires few { (size ≤ 1048576) × (range.first < 2 ^ 32) × (range.last < 2 ^ 32) }
         requires old_size { range.size ≡ self.old.tree.head.length }
@@ -201,6 +203,7 @@ impl<F: StoreFile> BlockFile<F> {
         entropy: &mut E,
     ) -> Result<(), TreeFault>
         requires idle { self.old.stage ≡ None }
+        requires format { self.old.root.format ≡ 2 }
         requires few { at + length bytes.now ≤ 1048576 }
         ensures staged { StageAnswer F.state self.old self.new (max self.old.tree.head.length (at + length bytes.now)) result }
         // It writes no more than the write budget has for the blocks that the change meets.
@@ -246,6 +249,7 @@ impl<F: StoreFile> BlockFile<F> {
         entropy: &mut E,
     ) -> Result<(), TreeFault>
         requires idle { self.old.stage ≡ None }
+        requires format { self.old.root.format ≡ 2 }
         requires few { size ≤ 1048576 }
         ensures staged { StageAnswer F.state self.old self.new size result }
         // It writes no more than the write budget has for the blocks that the change meets and that hold bytes afterwards.

@@ -24,6 +24,7 @@ use Rattle.call_rules.proofs.ReplayHandles.{well_replay-answered}
 use Rattle.call_rules.specs.WellOpened.{IsSoundAt}
 use Rattle.call_steps.proofs.PlacedEntries.{entries_placed, file_own}
 use Rattle.call_steps.specs.AtObject.{IsAtObject}
+use Rattle.node_image.specs.References.{current_format}
 use Rattle.commit_gate.specs.Gates.{GateValue}
 use Rattle.store_model.specs.Files.{name_by}
 use Rattle.store_model.specs.Machine.{Session, handle_at, session_at}
@@ -51,6 +52,9 @@ module _ {F R E : Type 0} (store : Store) (gate : GateValue F R) (knows : GateVi
 
   pub entry_there : entry_at entries index ≡ Some e
   entry_there = at_object.opened.named.0
+
+  pub entry_current : e.format ≡ current_format
+  entry_current = at_object.guarded.current.entries index e entry_there
 
   pub entry_name : name_of e ≡ found.handle.name
   entry_name = at_object.opened.named.1

@@ -12,7 +12,7 @@ use Rattle.hmac_keys.specs.declared.Keys.{Keys}
 use Rattle.object_slots.specs.KnownFor.{own_version}
 use Rattle.object_slots.specs.GuardedSlots.{IsContentOf, SlotInvariant}
 use Rattle.object_slots.specs.SlotObjects.{IsObjectOf, IsOfVersion}
-use Rattle.node_image.specs.declared.node.RootRef.{RootRef}
+use Rattle.node_image.specs.References.{IsCurrent}
 use Rattle.call_steps.specs.CommittableSlots.{ShownSeatsSeeWhole, StagedSlotsAreCommittable, StagesAreVersions}
 use Rattle.object_slots.specs.Changes.{adopted}
 use Rattle.object_slots.specs.SlotValues.{HasStage, HeldObject, Holding, IsHolding, SlotValue, free, live, made, staged, with_stage, without_stage}
@@ -26,7 +26,7 @@ pub record IsNextObject (keys : Keys) (file : FileState) (holds : Holding) (next
   pub object : HeldObject
   pub is : with_stage holds ≡ live object
   pub of_next : IsObjectOf keys file object next
-  pub bit : IsHolding holds → next.root.version < 2
+  pub current : IsHolding holds → IsCurrent next.root
 
 object_after : (keys : Keys) (file : FileState) (o : HeldObject) (next : Version) → IsOfVersion keys file (live o) (Some next) → IsObjectOf keys file o next
 object_after keys file o next after = subst (IsObjectOf keys file o) (sym (some_same next after.0 after.1)) after.2
@@ -36,16 +36,16 @@ next_object keys file free next has after = absurd has
 next_object keys file (live o) next has after = absurd has
 next_object keys file (made o) next has after =
     let object = object_after keys file o next after in
-    record { object = o; is = refl; of_next = object; bit = λ holding. subst (λ (r : RootRef). r.version < 2) (sym object.root) holding }
+    record { object = o; is = refl; of_next = object; current = λ holding. subst IsCurrent (sym object.root) holding }
 next_object keys file (staged o s) next has after =
     let object = object_after keys file (adopted o s) next after in
-    record { object = adopted o s; is = refl; of_next = object; bit = λ holding. subst (λ (r : RootRef). r.version < 2) (sym object.root) holding.2 }
+    record { object = adopted o s; is = refl; of_next = object; current = λ holding. subst IsCurrent (sym object.root) holding.2 }
 
 pub stages_versions : StagesAreVersions
 stages_versions store slot v change root stages holding =
     let left = stages.leaves in
     let object = next_object store.keys slot.file slot.holds left.0 left.1.has left.1.after in
-    (left.0, left.1, record { follows = left.2; real = object.of_next.real; bit = object.bit holding; spared = stages.corrupt })
+    (left.0, left.1, record { follows = left.2; real = object.of_next.real; current = object.current holding; spared = stages.corrupt })
 
 -- a slot behind its lock, whose view gives a version that no doubt touches, holds what is of that
 pub holding_given : (store : Store) (slot : SlotValue) (holds : Holding) (seat : Sight SlotView) (version : Option Version) → SlotInvariant store (record slot { seat = Some seat; holds = holds })

@@ -1,5 +1,5 @@
 -- A create may be brought to the gate.
-use Rattle.std.proofs.Common.{List, None, Option, Some, ap, inl, inr, length, refl, subst, sym, ℕ, ◌<◌, ◌≡◌, ◌≤◌}
+use Rattle.std.proofs.Common.{List, None, Option, Some, ap, arith, inl, inr, length, refl, subst, sym, ℕ, ◌<◌, ◌≡◌, ◌≤◌}
 use Rattle.std.proofs.lemmas.Bool.{cases_Bool}
 use Rattle.std.specs.Ordering.{is_eq}
 use Rattle.commit_gate.specs.CallerSessions.{CallerSession}
@@ -25,6 +25,7 @@ use Rattle.commit_gate.specs.Commits.{IsDueUnder, tag_of}
 use Rattle.commit_gate.specs.GuardedGates.{change_in_doubt}
 use Rattle.commit_gate.specs.declared.guarded_gate.Closing.{Closing}
 use Rattle.object_slots.specs.NewObjects.{IsNewVersion}
+use Rattle.node_image.specs.References.{IsCurrent}
 use Rattle.node_image.specs.declared.node.RootRef.{RootRef}
 use Rattle.call_steps.proofs.NewFiles.{none_given}
 use Rattle.call_steps.proofs.PlacedEntries.{entries_placed}
@@ -50,7 +51,7 @@ use Rattle.tee_types.specs.declared.reply.Reply.TheVariants.{Handle}
 
 module _ {F R E : Type 0} (store : Store) (gate : GateValue F R) (knows : GateView) (closing : Option Closing) (caller : CallerSession E) (id : List ℕ) (flags : Flags) (attributes bytes : List ℕ)
     (place : NewPlace) (slot : SlotView) (next : Version) (root : RootRef) (at_place : IsAtPlace store gate knows closing caller id flags attributes bytes place slot)
-    (of : IsNewVersion next caller.state.application attributes bytes root) (real : IsReal store.keys next) (bit : next.root.version < 2) where
+    (of : IsNewVersion next caller.state.application attributes bytes root) (real : IsReal store.keys next) (current : IsCurrent next.root) where
   abbrev entries : List (Option DirEntry)
   entries = gate.dir.dir.entries
 
@@ -89,11 +90,11 @@ module _ {F R E : Type 0} (store : Store) (gate : GateValue F R) (knows : GateVi
 
   put_form : HasForm put
   put_form = record {
-    version = bit;
+    version = current.0;
     file = at_place.numbered;
     size = subst (λ (n : ℕ). n ≤ 1044480) (sym of.size) at_place.few;
     attributes = subst (λ (n : ℕ). n ≤ 2048) (sym of.long) at_place.short;
-    format = refl;
+    format = (omega arith, omega arith);
   }
 
   create_commit : IsEntryCommit store entries gate.counter caller.number create change (tag_of slot (new_versions next)) (Some next)
@@ -108,7 +109,7 @@ module _ {F R E : Type 0} (store : Store) (gate : GateValue F R) (knows : GateVi
     };
     place = within place at_place.place_is;
     tagged = record { file = refl; generation = refl };
-    leaves = (next, refl, record { root = refl; app = of.app_is; size = refl; attributes = refl }, real);
+    leaves = (next, refl, record { root = λ i. record { hash = next.root.hash; version = next.root.version; format = current.1 i }; app = of.app_is; size = refl; attributes = refl }, real);
     before = at_place.entries;
     after = entries_placed entries at_place.entries (index_of_place place) put (within place at_place.place_is) put_form (alone place at_place.place_is) (λ other f off there. at_place.unnamed other f there);
   }
@@ -136,6 +137,7 @@ module _ {F R E : Type 0} (store : Store) (gate : GateValue F R) (knows : GateVi
     ready = record {
       commit = create_commit;
       given = sym (none_given store knows entries gate.counter tied slot.file at_place.unnamed slot.generation);
+      current = refl;
       on = λ scenario answered. of.size;
       due = λ scenario answered off. inl (create_due scenario answered);
     };
@@ -143,5 +145,5 @@ module _ {F R E : Type 0} (store : Store) (gate : GateValue F R) (knows : GateVi
   }
 
 pub creates_commit : (F R E : Type 0) → CreatesMayCommit F R E
-creates_commit F R E store gate knows closing caller id flags attributes bytes place slot next root file at_place of real bit =
-    create_commits store gate knows closing caller id flags attributes bytes place slot next root at_place of real bit file
+creates_commit F R E store gate knows closing caller id flags attributes bytes place slot next root file at_place of real current =
+    create_commits store gate knows closing caller id flags attributes bytes place slot next root at_place of real current file

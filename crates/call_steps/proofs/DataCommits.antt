@@ -1,4 +1,5 @@
 -- The commit of a change of an object in its place, in the words of the gate's entries.
+use Rattle.node_image.specs.References.{IsCurrent}
 use Rattle.std.proofs.Common.{Option, Some, [], ap, false, inl, inr, length, refl, slice_index_or, sym, ℕ, ◌<◌, ◌∙◌, ◌≡◌, ◌≤◌, ◌⊎◌}
 use Rattle.commit_gate.specs.CallerSessions.{CallerSession}
 use Rattle.call_rules.specs.declared.decision.OpenObject.{OpenObject}
@@ -18,7 +19,7 @@ use Rattle.history_seats.specs.Views.{GateView, SlotView}
 use Rattle.commit_gate.specs.Commits.{EndsUnder, IsDueUnder, call_record, tag_of}
 use Rattle.commit_gate.specs.declared.guarded_gate.Closing.{Closing}
 use Rattle.call_rules.specs.WellOpened.{IsSoundAt}
-use Rattle.call_steps.proofs.AtObject.{entries_after, entry_name, entry_there, mapped_here, object_here, sound_here, version_own, version_real}
+use Rattle.call_steps.proofs.AtObject.{entries_after, entry_current, entry_name, entry_there, mapped_here, object_here, sound_here, version_own, version_real}
 use Rattle.call_steps.proofs.GivenCalls.{ends_any}
 use Rattle.call_steps.specs.AtObject.{IsAtObject}
 use Rattle.call_steps.specs.StagedVersions.{change_versions, changed_entry}
@@ -40,7 +41,7 @@ use Rattle.tee_types.specs.declared.reply.Reply.TheVariants.{Done}
 -- the next version of an object at hand
 module _ {F R E : Type 0} (store : Store) (gate : GateValue F R) (knows : GateView) (closing : Option Closing) (caller : CallerSession E) (handle : ℕ) (found : OpenObject) (slot : SlotView) (v : Version)
     (at_object : IsAtObject store gate knows closing caller handle found slot v) (next : Version) (app : next.app ≡ v.app) (attributes : next.attributes ≡ v.attributes) (real : IsReal store.keys next)
-    (bit : next.root.version < 2) (few : next.size ≤ 1044480) where
+    (current : IsCurrent next.root) (few : next.size ≤ 1044480) where
   abbrev pub put : DirEntry
   put = changed_entry found.held.entry next
 
@@ -53,12 +54,15 @@ module _ {F R E : Type 0} (store : Store) (gate : GateValue F R) (knows : GateVi
   put_form : HasForm put
   put_form =
       let form = at_object.entries.forms found.held.index found.held.entry (entry_there store gate knows closing caller handle found slot v at_object) in
-      record { version = bit; file = form.file; size = few; attributes = form.attributes; format = form.format }
+      record { version = current.0; file = form.file; size = few; attributes = form.attributes; format = form.format }
+
+  kept_format : next.root.format ≡ put.format
+  kept_format = current.1 ∙ sym (entry_current store gate knows closing caller handle found slot v at_object)
 
   put_version : IsVersionOf put next
   put_version =
       let own = version_own store gate knows closing caller handle found slot v at_object in
-      record { root = refl; app = app ∙ own.app; size = refl; attributes = attributes ∙ own.attributes }
+      record { root = λ i. record { hash = next.root.hash; version = next.root.version; format = kept_format i }; app = app ∙ own.app; size = refl; attributes = attributes ∙ own.attributes }
 
   pub put_next : IsNextEntry gate.dir.dir.entries found.held.index put (name_of put) (name_of put)
   put_next = record {

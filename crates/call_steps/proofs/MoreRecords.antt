@@ -2,7 +2,7 @@
 use Rattle.std.proofs.Common.{◌≡◌, ◌++◌, ◌∷◌, [], ℕ, List, Some, ap, ◌∙◌, inl, inr}
 use Rattle.std.proofs.lemmas.List.{map-append}
 use Rattle.std.proofs.lemmas.List.Elements.{Contains-push_cases}
-use Rattle.core_laws.specs.Joined.{IsObjectFile}
+use Rattle.tee_types.specs.Limits.{IsObjectFile}
 use Rattle.history_seats.specs.Records.{HistoryRecord}
 use Rattle.store_model.specs.Record.{events_of, file_of}
 use Rattle.call_steps.specs.Slots.{AreOfObjectFiles}

@@ -22,7 +22,7 @@ use Rattle.history_seats.specs.Views.{GateView, SlotView}
 use Rattle.commit_gate.proofs.Knowing.{guarded_know, shown_stand}
 use Rattle.commit_gate.specs.Commits.{IsDueUnder, tag_of}
 use Rattle.commit_gate.specs.declared.guarded_gate.Closing.{Closing}
-use Rattle.call_steps.proofs.AtObject.{at_hand, entry_there, version_own, version_real}
+use Rattle.call_steps.proofs.AtObject.{at_hand, entry_current, entry_there, version_own, version_real}
 use Rattle.call_steps.proofs.OwnHandles.{own_name}
 use Rattle.call_steps.proofs.PlacedEntries.{entries_cleared, entries_placed, file_own}
 use Rattle.call_steps.specs.AtObject.{IsAtObject}
@@ -128,6 +128,7 @@ module _ {F R E : Type 0} (store : Store) (gate : GateValue F R) (knows : GateVi
       ready = record {
         commit = rename_commit;
         given = sym at_object.gives;
+        current = entry_current store gate knows closing caller handle found slot v at_object;
         on = λ scenario answered. (at_hand store gate knows closing caller handle found slot v at_object scenario answered, refl);
         due = λ scenario answered off. inl (rename_due scenario answered);
       };
@@ -160,6 +161,7 @@ module _ {F R E : Type 0} (store : Store) (gate : GateValue F R) (knows : GateVi
       ready = record {
         commit = delete_commit;
         given = sym at_object.gives;
+        current = tt;
         on = at_hand store gate knows closing caller handle found slot v at_object;
         due = λ scenario answered off. inl (delete_due scenario answered);
       };

@@ -4,6 +4,7 @@ use Rattle.std.specs.Prelude.{Contains}
 use Rattle.std.proofs.lemmas.Bool.{cases_Bool, eqb-true}
 use Rattle.std.proofs.lemmas.Map.Views.{Contains-from_any}
 use Rattle.tee_types.specs.declared.call.Call.{Call}
+use Rattle.tee_types.proofs.FileNumbers.{object_not_directory}
 use Rattle.store_model.specs.Makes.{MakesChange, MapChange}
 use Rattle.store_model.specs.Object.{Object}
 use Rattle.store_model.specs.Record.{Tag}
@@ -48,7 +49,7 @@ module _ (store : Store) (scenario : TamperScenario) (view : GateView) (entries 
       let form : HasForm e = c.commit.after.forms index e (set_here entries index (Some e) c.commit.place) in
       let held : Held = record { entry = e; object = object } in (
         file,
-        form.file.0,
+        object_not_directory e.file form.file.0 form.file.1,
         λ trusted.
             let honest = to.honest (subst (IsTrusted (phase_under store scenario)) (sym file) trusted) in
             let own : left.0.object ≡ object =

@@ -19,7 +19,7 @@ use Rattle.commit_gate.specs.declared.guarded_gate.Closing.{Closing}
 use Rattle.object_slots.specs.GuardedStages.{IsMadeOverGiven, VersionChange, resize_of}
 use Rattle.call_rules.specs.WellOpened.{IsSoundAt}
 use Rattle.node_image.specs.declared.node.RootRef.{RootRef}
-use Rattle.call_steps.proofs.AtObject.{at_hand, entry_name, live_here, mapped_here, version_real}
+use Rattle.call_steps.proofs.AtObject.{at_hand, entry_current, entry_name, live_here, mapped_here, version_real}
 use Rattle.call_steps.proofs.DataCommits.{commits_change, due_or_end, held_here, long_here, next_here, put_next, version_here}
 use Rattle.call_steps.proofs.GivenCalls.{given_call}
 use Rattle.call_steps.specs.AtObject.{IsAtObject}
@@ -67,7 +67,7 @@ module _ {F R E : Type 0} (store : Store) (gate : GateValue F R) (knows : GateVi
   other = ap (λ (n : ℕ). n == v.size) staged.follows.size ∙ may.other
 
   makes : IsCallChange (slice_index_or store.mounted.applications caller.number []) cut gate.dir.dir.entries gate.counter (Put found.held.index (changed_entry e next))
-  makes = put_next store gate knows closing caller handle found slot v at_object next staged.follows.app staged.follows.attributes staged.real staged.bit few
+  makes = put_next store gate knows closing caller handle found slot v at_object next staged.follows.app staged.follows.attributes staged.real staged.current few
 
   -- the change, by the size of the version that it leaves
   resizes : resize_of v.size next.size ≡ resize_of v.size size
@@ -93,7 +93,7 @@ module _ {F R E : Type 0} (store : Store) (gate : GateValue F R) (knows : GateVi
     due_cut : IsDueUnder store scenario knows.all caller.number cut Done (Put found.held.index (changed_entry e next)) (tag_of slot versions)
         ⊎ EndsUnder store scenario knows.all caller.number caller.made cut Done slot
     due_cut =
-        due_or_end store gate knows closing caller handle found slot v at_object next staged.follows.app staged.follows.attributes staged.real staged.bit few cut tt makes scenario answered on_cut Done (Made 0) given
+        due_or_end store gate knows closing caller handle found slot v at_object next staged.follows.app staged.follows.attributes staged.real staged.current few cut tt makes scenario answered on_cut Done (Made 0) given
         (truncations_due store scenario knows.all (call_record caller.number caller.made cut Done (Made 0) slot versions) given (version_real store gate knows closing caller handle found slot v at_object) refl
         (mapped_here store gate knows closing caller handle found slot v at_object scenario answered) next handle refl
         (record { handle = found.handle; live = live }, may.right, other, fits) over.1)
@@ -101,16 +101,16 @@ module _ {F R E : Type 0} (store : Store) (gate : GateValue F R) (knows : GateVi
     -- Over an honest file.
     module _ (now : IsTrue file.honest) (honest : is_in slot.file scenario.tampered ≡ false) where
       abbrev there : IsSoundAt m.objects found.handle.name
-      there = held_here store gate knows closing caller handle found slot v at_object next staged.follows.app staged.follows.attributes staged.real staged.bit few scenario answered honest
+      there = held_here store gate knows closing caller handle found slot v at_object next staged.follows.app staged.follows.attributes staged.real staged.current few scenario answered honest
 
       abbrev c : Contents
       c = there.contents
 
       is_version : v.object ≡ Sound c
-      is_version = version_here store gate knows closing caller handle found slot v at_object next staged.follows.app staged.follows.attributes staged.real staged.bit few scenario answered honest
+      is_version = version_here store gate knows closing caller handle found slot v at_object next staged.follows.app staged.follows.attributes staged.real staged.current few scenario answered honest
 
       long : length c.bytes ≡ v.size
-      long = long_here store gate knows closing caller handle found slot v at_object next staged.follows.app staged.follows.attributes staged.real staged.bit few scenario answered honest
+      long = long_here store gate knows closing caller handle found slot v at_object next staged.follows.app staged.follows.attributes staged.real staged.current few scenario answered honest
 
       spares : spoils c (range_resized c next.size) ≡ false
       spares =
@@ -125,7 +125,7 @@ module _ {F R E : Type 0} (store : Store) (gate : GateValue F R) (knows : GateVi
 
       next_stands : object_under store.keys scenario e.file e.generation next ≡ Sound (resized_contents c next.size)
       next_stands =
-          next_here store gate knows closing caller handle found slot v at_object next staged.follows.app staged.follows.attributes staged.real staged.bit few scenario answered honest
+          next_here store gate knows closing caller handle found slot v at_object next staged.follows.app staged.follows.attributes staged.real staged.current few scenario answered honest
           (resized_contents c next.size) (staged.follows.object now c is_version ∙ ap (λ (n : ℕ). Sound (resized_contents c n)) (sym staged.follows.size))
 
       due_honest : IsDueUnder store scenario knows.all caller.number cut Done (Put found.held.index (changed_entry e next)) (tag_of slot versions)
@@ -142,8 +142,9 @@ module _ {F R E : Type 0} (store : Store) (gate : GateValue F R) (knows : GateVi
   by_next : IsSlotCommit store knows gate.dir.dir.entries gate.counter caller.number caller.made cut Done (Put found.held.index (changed_entry e next)) file slot versions
   by_next = record {
     ready = record {
-      commit = commits_change store gate knows closing caller handle found slot v at_object next staged.follows.app staged.follows.attributes staged.real staged.bit few cut makes;
+      commit = commits_change store gate knows closing caller handle found slot v at_object next staged.follows.app staged.follows.attributes staged.real staged.current few cut makes;
       given = sym at_object.gives;
+      current = entry_current store gate knows closing caller handle found slot v at_object;
       on = on_cut;
       due = λ scenario answered off. due_cut scenario answered;
     };

@@ -19,7 +19,7 @@ use Rattle.commit_gate.specs.declared.guarded_gate.Closing.{Closing}
 use Rattle.object_slots.specs.GuardedStages.{write_of}
 use Rattle.call_rules.specs.WellOpened.{IsSoundAt}
 use Rattle.node_image.specs.declared.node.RootRef.{RootRef}
-use Rattle.call_steps.proofs.AtObject.{at_hand, entry_name, entry_there, live_here, mapped_here, version_own, version_real}
+use Rattle.call_steps.proofs.AtObject.{at_hand, entry_current, entry_name, entry_there, live_here, mapped_here, version_own, version_real}
 use Rattle.call_steps.proofs.DataCommits.{commits_change, due_or_end, held_here, long_here, next_here, put_next, version_here}
 use Rattle.call_steps.proofs.GivenCalls.{given_call}
 use Rattle.call_steps.specs.AtObject.{IsAtObject}
@@ -77,7 +77,7 @@ module _ {F R E : Type 0} (store : Store) (gate : GateValue F R) (knows : GateVi
   fits = le-ltb most_data_bytes (found.handle.position + length bytes) may.fits
 
   makes : IsCallChange (slice_index_or store.mounted.applications caller.number []) write gate.dir.dir.entries gate.counter (Put found.held.index (changed_entry e next))
-  makes = put_next store gate knows closing caller handle found slot v at_object next staged.follows.app staged.follows.attributes staged.real staged.bit few
+  makes = put_next store gate knows closing caller handle found slot v at_object next staged.follows.app staged.follows.attributes staged.real staged.current few
 
   over : IsMadeOverGiven store.keys (store.taints slot.file) v next (write_of v.size found.handle.position bytes)
   over = subst (λ (t : Option (List Taint)). IsMadeOverGiven store.keys t v next (write_of v.size found.handle.position bytes)) told staged.follows.over
@@ -104,7 +104,7 @@ module _ {F R E : Type 0} (store : Store) (gate : GateValue F R) (knows : GateVi
     due_write : IsDueUnder store scenario knows.all caller.number write Done (Put found.held.index (changed_entry e next)) (tag_of slot versions)
         ⊎ EndsUnder store scenario knows.all caller.number caller.made write Done slot
     due_write =
-        due_or_end store gate knows closing caller handle found slot v at_object next staged.follows.app staged.follows.attributes staged.real staged.bit few write tt makes scenario answered on_write Done (Made 0) given
+        due_or_end store gate knows closing caller handle found slot v at_object next staged.follows.app staged.follows.attributes staged.real staged.current few write tt makes scenario answered on_write Done (Made 0) given
         (writes_due store scenario knows.all (call_record caller.number caller.made write Done (Made 0) slot versions) given (version_real store gate knows closing caller handle found slot v at_object) refl
         (mapped_here store gate knows closing caller handle found slot v at_object scenario answered) next handle bytes refl
         (record { handle = found.handle; live = live }, may.right, may.some, low, fits) staged.follows.size over.1)
@@ -112,16 +112,16 @@ module _ {F R E : Type 0} (store : Store) (gate : GateValue F R) (knows : GateVi
     -- Over an honest file.
     module _ (now : IsTrue file.honest) (honest : is_in slot.file scenario.tampered ≡ false) where
       abbrev there : IsSoundAt m.objects found.handle.name
-      there = held_here store gate knows closing caller handle found slot v at_object next staged.follows.app staged.follows.attributes staged.real staged.bit few scenario answered honest
+      there = held_here store gate knows closing caller handle found slot v at_object next staged.follows.app staged.follows.attributes staged.real staged.current few scenario answered honest
 
       abbrev c : Contents
       c = there.contents
 
       is_version : v.object ≡ Sound c
-      is_version = version_here store gate knows closing caller handle found slot v at_object next staged.follows.app staged.follows.attributes staged.real staged.bit few scenario answered honest
+      is_version = version_here store gate knows closing caller handle found slot v at_object next staged.follows.app staged.follows.attributes staged.real staged.current few scenario answered honest
 
       long : length c.bytes ≡ v.size
-      long = long_here store gate knows closing caller handle found slot v at_object next staged.follows.app staged.follows.attributes staged.real staged.bit few scenario answered honest
+      long = long_here store gate knows closing caller handle found slot v at_object next staged.follows.app staged.follows.attributes staged.real staged.current few scenario answered honest
 
       spares : spoils c (range_written c found.handle.position (length bytes)) ≡ false
       spares =
@@ -133,7 +133,7 @@ module _ {F R E : Type 0} (store : Store) (gate : GateValue F R) (knows : GateVi
 
       next_stands : object_under store.keys scenario e.file e.generation next ≡ Sound (written_contents c found.handle.position bytes)
       next_stands =
-          next_here store gate knows closing caller handle found slot v at_object next staged.follows.app staged.follows.attributes staged.real staged.bit few scenario answered honest
+          next_here store gate knows closing caller handle found slot v at_object next staged.follows.app staged.follows.attributes staged.real staged.current few scenario answered honest
           (written_contents c found.handle.position bytes) (staged.follows.object now c is_version)
 
       due_honest : IsDueUnder store scenario knows.all caller.number write Done (Put found.held.index (changed_entry e next)) (tag_of slot versions)
@@ -149,10 +149,11 @@ module _ {F R E : Type 0} (store : Store) (gate : GateValue F R) (knows : GateVi
 pub writes_commit : (F R E : Type 0) → WritesMayCommit F R E
 writes_commit F R E store gate knows closing caller handle found slot v next file root bytes at_object may told staged = record {
   ready = record {
-    commit = commits_change store gate knows closing caller handle found slot v at_object next staged.follows.app staged.follows.attributes staged.real staged.bit
+    commit = commits_change store gate knows closing caller handle found slot v at_object next staged.follows.app staged.follows.attributes staged.real staged.current
         (few store gate knows closing caller handle found slot v next file root bytes at_object may told staged) (Write handle bytes)
         (makes store gate knows closing caller handle found slot v next file root bytes at_object may told staged);
     given = sym at_object.gives;
+    current = entry_current store gate knows closing caller handle found slot v at_object;
     on = on_write store gate knows closing caller handle found slot v next file root bytes at_object may told staged;
     due = λ scenario answered off. due_write store gate knows closing caller handle found slot v next file root bytes at_object may told staged scenario answered;
   };

@@ -21,6 +21,7 @@ use Rattle.commit_gate.specs.declared.guarded_gate.Closing.{Closing}
 use Rattle.object_slots.specs.GuardedSlots.{SlotInvariant}
 use Rattle.object_slots.specs.NewObjects.{IsNewVersion, KnowsNothing}
 use Rattle.object_slots.specs.GuardedStages.{IsStagedSlot}
+use Rattle.node_image.specs.References.{IsCurrent, current_format}
 use Rattle.node_image.specs.declared.node.RootRef.{RootRef}
 use Rattle.call_steps.specs.CommittableSlots.{IsCommittableSlot}
 use Rattle.call_steps.specs.SlotCommits.{IsSlotCommit}
@@ -30,7 +31,7 @@ use Rattle.store_model.specs.Calls.{reply_of}
 use Rattle.store_model.specs.Machine.{MachineState}
 use Rattle.core_laws.specs.Decodings.{IsReal}
 use Rattle.core_laws.specs.Stores.{Store}
-use Rattle.tee_types.specs.Limits.{last_file}
+use Rattle.tee_types.specs.Limits.{IsObjectFile}
 use Rattle.tee_types.specs.declared.call.Call.TheVariants.{Create}
 use Rattle.tee_types.specs.declared.flags.Flags.{Flags}
 use Rattle.tee_types.specs.declared.reply.Reply.TheVariants.{Handle}
@@ -50,7 +51,7 @@ new_entry app id slot next = record {
   hash = next.root.hash;
   size = next.size;
   attributes = next.attributes;
-  format = 1;
+  format = current_format;
   generation = slot.generation;
 }
 
@@ -69,7 +70,7 @@ pub record IsAtPlace {F R E : Type 0} (store : Store) (gate : GateValue F R) (kn
       → reply_of s i (Create id flags attributes bytes) ≡ Handle caller.state.next_handle
   pub place_is : IsNewPlace gate.dir.dir.entries (named caller.state.application id) place
   pub unnamed : IsUnnamed gate.dir.dir.entries slot.file
-  pub numbered : (1 ≤ slot.file) × (slot.file ≤ last_file)
+  pub numbered : IsObjectFile slot.file
   pub generation : slot.generation ≡ gate.counter + 1
   pub short : length attributes ≤ 2048
   pub few : length bytes ≤ 1044480
@@ -78,7 +79,7 @@ abbrev pub CreatesMayCommit : (F R E : Type 0) → Type 0
 CreatesMayCommit F R E =
     (store : Store) (gate : GateValue F R) (knows : GateView) (closing : Option Closing) (caller : CallerSession E) (id : List ℕ) (flags : Flags) (attributes bytes : List ℕ) (place : NewPlace)
     (slot : SlotView) (next : Version) (root : RootRef) (file : FileState) → IsAtPlace store gate knows closing caller id flags attributes bytes place slot
-    → IsNewVersion next caller.state.application attributes bytes root → IsReal store.keys next → next.root.version < 2
+    → IsNewVersion next caller.state.application attributes bytes root → IsReal store.keys next → IsCurrent next.root
     → IsSlotCommit store knows gate.dir.dir.entries gate.counter caller.number caller.made (Create id flags attributes bytes) (Handle caller.state.next_handle)
     (Put (index_of_place place) (new_entry caller.state.application id slot next)) file slot (new_versions next)
 

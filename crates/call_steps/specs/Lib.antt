@@ -68,6 +68,7 @@ pub use Rattle.commit_gate.specs.Journals
 pub use Rattle.object_slots.specs.KnownFor
 pub use Rattle.commit_gate.specs.KnownMachine
 pub use Rattle.object_slots.specs.Learning
+pub use Rattle.commit_gate.specs.CurrentFiles
 pub use Rattle.commit_gate.specs.GuardedGates
 pub use Rattle.object_slots.specs.GuardedSlots
 pub use Rattle.object_slots.specs.Makes

@@ -1,6 +1,7 @@
 -- A gate behind its lock as a part of the core machine, and what its calls are there.
 use Rattle.std.specs.Prelude.{Option, IsTrue}
 use Rattle.disk_model.specs.State.{FileState}
+use Rattle.tee_types.specs.Limits.{directory_file}
 use Rattle.rpmb_card.specs.Card.{CardState}
 use Rattle.rpmb_card.specs.Port.{PortState}
 use Rattle.crash_core.specs.CoreState.{IsTrusted}
@@ -32,7 +33,7 @@ module _ {F R : Type 0} (of_file : F → FileState) (of_port : R → PortState) 
 
   -- Where the directory's file is honest to the end, it is honest now.
   abbrev pub IsDirectoryHonest : Store → TamperScenario → GuardedGateValue F R → Type 0
-  IsDirectoryHonest store scenario g = IsTrusted (phase_under store scenario) 0 → IsTrue (of_file g.gate.dir.file).honest
+  IsDirectoryHonest store scenario g = IsTrusted (phase_under store scenario) directory_file → IsTrue (of_file g.gate.dir.file).honest
 
 -- Between two calls it has the gate's fact, and no call is under way, under each tamper scenario under which the history is answered.
 abbrev pub GuardedGatesRest : (F R : Type 0) → Type 0

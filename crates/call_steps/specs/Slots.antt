@@ -1,6 +1,6 @@
 -- The slots of the objects' files.
 use Rattle.std.specs.Prelude.{Contains, List, Some, length, slice_index_or, ℕ, ◌+◌, ◌<◌, ◌≡◌}
-use Rattle.core_laws.specs.Joined.{IsObjectFile}
+use Rattle.tee_types.specs.Limits.{IsObjectFile, last_file}
 use Rattle.history_seats.specs.Records.{HistoryRecord}
 use Rattle.store_model.specs.Record.{file_of}
 use Rattle.object_slots.specs.SlotValues.{SlotValue}
@@ -15,5 +15,5 @@ AreOfObjectFiles records = (r : HistoryRecord) (file : ℕ) → Contains records
 
 -- 272 slots, so numbered
 pub record AreSlots (slots : List SlotValue) : Type 0 where
-  pub many : length slots ≡ 272
+  pub many : length slots ≡ last_file
   pub numbered : AreNumberedSlots slots

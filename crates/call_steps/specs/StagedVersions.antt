@@ -7,15 +7,16 @@ use Rattle.history_seats.specs.Changes.{TagVersions}
 use Rattle.history_seats.specs.Records.{Version}
 use Rattle.hmac_keys.specs.declared.Keys.{Keys}
 use Rattle.object_slots.specs.GuardedStages.{IsNextVersion, VersionChange}
+use Rattle.node_image.specs.References.{IsCurrent}
 use Rattle.node_image.specs.declared.node.RootRef.{RootRef}
 use Rattle.store_model.specs.Object.{Contents, Sound}
 use Rattle.core_laws.specs.Decodings.{IsReal}
 
--- That version is real, and its reference names version 0 or 1. Where the file is honest now, the change needs no bad block.
+-- That version is real, and its reference is current. Where the file is honest now, the change needs no bad block.
 pub record IsStagedVersion (keys : Keys) (file : FileState) (v next : Version) (change : VersionChange) (root : RootRef) : Type 0 where
   pub follows : IsNextVersion keys file v next change root
   pub real : IsReal keys next
-  pub bit : next.root.version < 2
+  pub current : IsCurrent next.root
   pub spared : IsTrue file.honest → (c : Contents) → v.object ≡ Sound c → list_any change.asked c.bad ≡ false
 
 -- the entry of an object that was changed, with the reference and the size of its version

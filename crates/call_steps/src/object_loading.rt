@@ -3,6 +3,7 @@
 ghost use Rattle.std.specs.Prelude.{◌≡◌, IfOk, OnErr};
 ghost use Rattle.htree_file.specs.Answers.{FilePassed};
 ghost use Rattle.disk_model.specs.Calls.{Rests};
+ghost use Rattle.node_image.specs.References.{current_format};
 ghost use Rattle.dir_records.specs.Form.{HasForm};
 ghost use Rattle.crash_core.specs.DeviceKeys.{object_key};
 ghost use Rattle.history_seats.specs.Records.{Version};
@@ -29,6 +30,7 @@ fn fill_free<F: StoreFile + Drop, L: StoreName>(
 ) -> Result<(), SlotFault>
     requires guarded { SlotInvariant L.store slot.old }
     requires form { HasForm entry.now }
+    requires current { entry.now.format ≡ current_format }
     requires key { tsk.now ≡ object_key L.store.keys entry.now.app }
     requires given { GivesEntry slot.old entry.now }
     ensures same { slot.new ≡ record slot.old { file = slot.new.file; holds = slot.new.holds } }
@@ -57,6 +59,7 @@ pub fn load_or_reply<F: StoreFile + Drop, L: StoreName>(
 ) -> Result<Option<Reply>, NoMemory>
     requires guarded { SlotInvariant L.store slot.old }
     requires form { HasForm entry.now }
+    requires current { entry.now.format ≡ current_format }
     requires given { GivesEntry slot.old entry.now }
     requires key { tsk.now ≡ object_key L.store.keys entry.now.app }
     ensures same { slot.new ≡ record slot.old { file = slot.new.file; holds = slot.new.holds } }

@@ -5,6 +5,7 @@ ghost use Rattle.htree_file.specs.Answers.{FilePassed};
 ghost use Rattle.tee_types.specs.Rights.{read_bit};
 ghost use Rattle.disk_model.specs.Calls.{Rests};
 ghost use Rattle.disk_model.specs.State.{FileState};
+ghost use Rattle.node_image.specs.References.{current_format};
 ghost use Rattle.dir_records.specs.Form.{HasForm};
 ghost use Rattle.crash_core.specs.DeviceKeys.{object_key};
 ghost use Rattle.history_seats.specs.Records.{Version};
@@ -81,6 +82,7 @@ pub fn read_object<F: StoreFile + Drop, L: StoreName>(
 ) -> Result<Reply, NoMemory>
     requires guarded { SlotInvariant L.store slot.old }
     requires form { HasForm entry.now }
+    requires current { entry.now.format ≡ current_format }
     requires given { GivesEntry slot.old entry.now }
     requires key { tsk.now ≡ object_key L.store.keys entry.now.app }
     ensures same { slot.new ≡ record slot.old { file = slot.new.file; holds = slot.new.holds } }

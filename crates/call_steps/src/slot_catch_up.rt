@@ -2,6 +2,7 @@
 
 ghost use Rattle.std.specs.Prelude.{◌≡◌, ◌<◌, ℕ, length, None, Some};
 ghost use Rattle.crash_core.specs.EntryLists.{entry_at};
+ghost use Rattle.node_image.specs.References.{current_format};
 ghost use Rattle.dir_records.specs.Form.{HasForm};
 ghost use Rattle.history_seats.specs.Records.{Version};
 ghost use Rattle.history_seats.specs.Rule.{IsSound};
@@ -105,6 +106,7 @@ pub fn catch_up_entry<F: StoreFile + Drop, R: RpmbPort + Drop, L: StoreName, E: 
     // So its object may be loaded.
     ensures given { GivesEntry slot.new entry.now }
     ensures form { HasForm entry.now }
+    ensures current { entry.now.format ≡ current_format }
     ensures still { (v : Version) → GivesVersion slot.old v → StillGives slot.old slot.new v }
     ensures session { session.new ≡ shown gate.old.journal.knows session.old }
     ensures calm { IsCalm L.store gate.old.journal.knows session.old → session.new ≡ session.old }

@@ -79,4 +79,5 @@ module _ (store : Store) (knows : GateView) (session made : ℕ) (call : Call) (
     closes = alone-closes gate.doubt closing guarded.closes;
     directory_key = guarded.directory_key;
     card_key = guarded.card_key;
+    current = guarded.current;
   }

@@ -1,9 +1,10 @@
 -- At the end of a phase all parts of a store together are at rest, so that every picture mounts to what the history leaves.
-use Rattle.std.proofs.Common.{◌≡◌, ℕ, zero, suc, ◌<◌, ◌≤◌, false, eqb, List, ◌∷◌, IsTrue, inl, inr, Option, Some, None, refl, sym, ap, ◌∙◌, subst, arith, ne_eqb}
-use Rattle.std.specs.Prelude.{Contains, nat_lt}
-use Rattle.std.proofs.lemmas.Bool.{cases_Bool, cases_eq, cases_lt, cond-true, cond-false, le-ltb, lt-ltb}
+use Rattle.std.proofs.Common.{◌≡◌, ◌≢◌, ℕ, zero, suc, ◌<◌, false, eqb, List, ◌∷◌, IsTrue, inl, inr, Option, Some, None, refl, sym, ap, ◌∙◌, subst, arith, eq-eqb, ne_eqb}
+use Rattle.std.specs.Prelude.{Contains}
+use Rattle.std.proofs.lemmas.Bool.{cases_Bool, cases_eq, cases_lt, cond-true, cond-false}
 use Rattle.disk_model.specs.State.{FileState, Sound}
-use Rattle.tee_types.specs.Limits.{last_file}
+use Rattle.tee_types.specs.Limits.{IsObjectFile, directory_file, file_count, may_hold_object}
+use Rattle.tee_types.proofs.FileNumbers.{directory_on_bench, object_fails, object_or_not, object_passes}
 use Rattle.rpmb_card.specs.Card.{CardState}
 use Rattle.history_seats.specs.Records.{Version}
 use Rattle.history_seats.specs.Rule.{SlotFits}
@@ -17,7 +18,7 @@ use Rattle.crash_core.proofs.MountedPictures.{directory_mounts, mounts_whole}
 use Rattle.core_laws.specs.SlotParts.{Knows, SlotHolds, SlotPart}
 use Rattle.core_laws.specs.Finished.{IsAtRest}
 use Rattle.core_laws.specs.GateParts.{replay_of}
-use Rattle.core_laws.specs.Joined.{IsObjectFile, Parts, PartsHold, files_of}
+use Rattle.core_laws.specs.Joined.{Parts, PartsHold, files_of}
 use Rattle.core_laws.proofs.Contained.{contains_first, contains_later}
 use Rattle.core_laws.proofs.FinishedParts.{finish_mounts}
 use Rattle.core_laws.proofs.JoinedParts.{committed_stands, pending_stands}
@@ -29,41 +30,39 @@ use Rattle.store_commit.specs.Sides.{Sides}
 use Rattle.commit_gate.specs.FinishedPhases.{phase_under}
 use Rattle.commit_gate.specs.Resting.{IsResting, resting_part}
 use Rattle.commit_gate.specs.CoreGates.{pending_of, sealed_in}
-use Rattle.commit_gate.specs.ClosedStores.{ClosedStoresMount, TamperedFilesAreSupposed, IsClosedStore, IsMapBy, HonestStoresMount, MountsBy, tampered_below, no_file, no_slot, slots_of, store_files}
+use Rattle.commit_gate.specs.ClosedStores.{ClosedStoresMount, TamperedFilesAreSupposed, IsClosedStore, IsMapBy, HonestStoresMount, MountsBy, tampered_below, no_slot, slots_of, store_files}
 use Rattle.commit_gate.proofs.RestingGates.{resting_gates_hold}
 
 -- the slot of an object file, and of another number
-pub slot_is : (slots : ℕ → SlotPart) (file : ℕ) → file ≤ last_file → slots_of slots file ≡ slots file
-slot_is slots file le = cond-false (nat_lt last_file file) (no_slot file) (slots file) (le-ltb last_file file le)
+pub slot_is : (slots : ℕ → SlotPart) (file : ℕ) → IsObjectFile file → slots_of slots file ≡ slots file
+slot_is slots file object = cond-true (may_hold_object file) (slots file) (no_slot (slots file).file file) (object_passes file object)
 
-slot_none : (slots : ℕ → SlotPart) (file : ℕ) → last_file < file → slots_of slots file ≡ no_slot file
-slot_none slots file lt = cond-true (nat_lt last_file file) (no_slot file) (slots file) (lt-ltb last_file file lt)
+pub slot_none : (slots : ℕ → SlotPart) (file : ℕ) → (IsObjectFile file → ⊥) → slots_of slots file ≡ no_slot (slots file).file file
+slot_none slots file off = cond-false (may_hold_object file) (slots file) (no_slot (slots file).file file) (object_fails file off)
 
 -- what holds of each object file's slot, and of no slot, holds of all
-each_slot : (slots : ℕ → SlotPart) (P : ℕ → SlotPart → Type 0) → ((file : ℕ) → IsObjectFile file → P file (slots file)) → ((file : ℕ) → P file (no_slot file)) → (file : ℕ) → 1 ≤ file → P file (slots_of slots file)
-each_slot slots P own none file least = elim (cases_lt last_file file) [
-  | inl past ↦ subst (P file) (sym (slot_none slots file past)) (none file)
-  | inr within ↦ let le : file ≤ last_file = omega (arith, within) in subst (P file) (sym (slot_is slots file le)) (own file (least, le))
+each_slot : (slots : ℕ → SlotPart) (P : ℕ → SlotPart → Type 0) → ((file : ℕ) → IsObjectFile file → P file (slots file)) → ((file : ℕ) → P file (no_slot (slots file).file file)) → (file : ℕ) → P file (slots_of slots file)
+each_slot slots P own none file = elim (object_or_not file) [
+  | inl object ↦ subst (P file) (sym (slot_is slots file object)) (own file object)
+  | inr off ↦ subst (P file) (sym (slot_none slots file off)) (none file)
 ]
 
-no_file_sound : Sound no_file
-no_file_sound = record {
-  bytes = record { agrees = λ honest place byte off. (λ has. has, λ has. has); within = omega arith; bases = λ moment. omega arith };
-  reads = λ place. omega arith;
-  told = λ honest. honest;
-  calm = λ tells none. refl;
-  steady = λ tells none. refl;
-}
+-- the directory's file is the gate's, and any other that of its slot
+pub store_directory : (g : Sides) (slots : ℕ → SlotPart) → store_files g slots directory_file ≡ g.file
+store_directory g slots = cond-true (eqb directory_file directory_file) g.file (slots_of slots directory_file).file (eq-eqb directory_file directory_file refl)
 
-nothing_known : (file : ℕ) (v : Version) → Knows (no_slot file).view v → ⊥
-nothing_known file v (inl given) = none_some v given.1
-nothing_known file v (inr left) = none_some (Some v) left.1
+pub store_slot : (g : Sides) (slots : ℕ → SlotPart) (file : ℕ) → file ≢ directory_file → store_files g slots file ≡ (slots_of slots file).file
+store_slot g slots file other = cond-false (eqb file directory_file) g.file (slots_of slots file).file (ne_eqb file directory_file other)
 
-no_slot_holds : (store : Store) (file : ℕ) → SlotHolds store.keys (no_slot file)
-no_slot_holds store file = record { sound = no_file_sound; stands = λ honest v known. absurd (nothing_known file v known) }
+nothing_known : (s : FileState) (file : ℕ) (v : Version) → Knows (no_slot s file).view v → ⊥
+nothing_known s file v (inl given) = none_some v given.1
+nothing_known s file v (inr left) = none_some (Some v) left.1
+
+no_slot_holds : (store : Store) (s : FileState) (file : ℕ) → Sound s → SlotHolds store.keys (no_slot s file)
+no_slot_holds store s file sound = record { sound = sound; stands = λ honest v known. absurd (nothing_known s file v known) }
 
 -- where no commit is pending, to the map that the history leaves
-settled_mounts : (phase : Phase) (p : Parts) (picture : Picture) → PartsHold phase p → IsPictureOf (files_of p.gate p.slots) p.gate.card picture → IsTrusted phase 0 → p.gate.pending ≡ None
+settled_mounts : (phase : Phase) (p : Parts) (picture : Picture) → PartsHold phase p → IsPictureOf (files_of p.gate p.slots) p.gate.card picture → IsTrusted phase directory_file → p.gate.pending ≡ None
     → MountsTo phase picture ((replay_of phase p.gate.view).state).objects
 settled_mounts phase p picture h is trusted none =
     let s : ReplayState = replay_of phase p.gate.view in
@@ -71,7 +70,7 @@ settled_mounts phase p picture h is trusted none =
     subst (PendingStands phase (files_of p.gate p.slots) p.gate.card p.gate.root p.gate.entries s) none (pending_stands phase p h p.gate.pending h.gate.pending) in
     directory_mounts phase (files_of p.gate p.slots) p.gate.card picture is p.gate.root p.gate.entries (s.state).objects s.counter names (committed_stands phase p h trusted)
 
-mounts_by : {D : Type 0} (phase : Phase) (p : Parts) (picture : Picture) → PartsHold phase p → IsAtRest phase p.gate → IsPictureOf (files_of p.gate p.slots) p.gate.card picture → IsTrusted phase 0
+mounts_by : {D : Type 0} (phase : Phase) (p : Parts) (picture : Picture) → PartsHold phase p → IsAtRest phase p.gate → IsPictureOf (files_of p.gate p.slots) p.gate.card picture → IsTrusted phase directory_file
     → (doubt : Option D) → (doubt ≡ None → p.gate.pending ≡ None) → MountsBy doubt phase picture (replay_of phase p.gate.view)
 mounts_by phase p picture h rests is trusted None none = settled_mounts phase p picture h is trusted (none refl)
 mounts_by phase p picture h rests is trusted (Some d) none = finish_mounts phase p picture h rests is trusted
@@ -86,15 +85,19 @@ module _ (store : Store) (scenario : TamperScenario) (g : Sides) (doubt : Option
     (e : IsClosedStore store scenario g doubt holds card view slots) where
   -- each file is honest that is not supposed otherwise
   files_honest : (file : ℕ) → IsTrusted (phase_under store scenario) file → IsTrue (store_files g slots file).honest
-  files_honest file trusted = elim (cases_lt last_file file) [
-    | inl past ↦
-        let other : store_files g slots file ≡ (slots_of slots file).file = cond-false (eqb file 0) g.file (slots_of slots file).file (ne_eqb file 0 (λ none. omega (arith, none, past))) in
-        subst (λ (s : FileState). IsTrue s.honest) (sym (other ∙ ap (λ (s : SlotPart). s.file) (slot_none slots file past))) refl
-    | inr within ↦ e.tampered file (omega (arith, within)) trusted
+  files_honest file trusted = elim (cases_lt file file_count) [
+    | inl within ↦ e.tampered file within trusted
+    | inr past ↦
+        let is : store_files g slots file ≡ (slots_of slots file).file = store_slot g slots file (λ own. omega (arith, own, past, directory_on_bench)) in
+        let none : slots_of slots file ≡ no_slot (slots file).file file = slot_none slots file (λ object. omega (arith, object.1, past)) in
+        subst (λ (s : FileState). IsTrue s.honest) (sym (is ∙ ap (λ (s : SlotPart). s.file) none)) (e.slots_hold.past file past)
   ]
 
+  directory_honest : IsTrusted (phase_under store scenario) directory_file → IsTrue g.file.honest
+  directory_honest trusted = subst (λ (s : FileState). IsTrue s.honest) (store_directory g slots) (files_honest directory_file trusted)
+
   rests : IsResting (phase_under store scenario) (resting_part store scenario g doubt holds card view)
-  rests = resting_gates_hold store scenario g doubt holds card view e.gate e.tied (files_honest 0)
+  rests = resting_gates_hold store scenario g doubt holds card view e.gate e.tied directory_honest
 
   abbrev parts : Parts
   parts = record { gate = resting_part store scenario g doubt holds card view; slots = slots_of slots }
@@ -102,16 +105,16 @@ module _ (store : Store) (scenario : TamperScenario) (g : Sides) (doubt : Option
   parts_hold : PartsHold (phase_under store scenario) parts
   parts_hold = record {
     gate = rests.fact;
-    slots = each_slot slots (λ file slot. SlotHolds store.keys slot) e.slots_hold.holds (no_slot_holds store);
+    slots = λ file other. each_slot slots (λ file slot. SlotHolds store.keys slot) e.slots_hold.holds (λ n. no_slot_holds store (slots n).file n (e.slots_hold.sound n)) file;
     fit = record {
-      numbered = each_slot slots (λ file slot. slot.view.file ≡ file) e.slots_hold.numbered (λ file. refl);
-      fits = λ file own. subst (λ (slot : SlotPart). SlotFits view slot.view) (sym (slot_is slots file own.1)) (e.slots_hold.fits file own);
+      numbered = λ file other. each_slot slots (λ file slot. slot.view.file ≡ file) e.slots_hold.numbered (λ file. refl) file;
+      fits = λ file own. subst (λ (slot : SlotPart). SlotFits view slot.view) (sym (slot_is slots file own)) (e.slots_hold.fits file own);
       putting = λ h puts. absurd (none_some h puts);
     };
     honest = files_honest;
   }
 
-  pub closed_mounts : (picture : Picture) → IsPictureOf (store_files g slots) card picture → IsTrusted (phase_under store scenario) 0
+  pub closed_mounts : (picture : Picture) → IsPictureOf (store_files g slots) card picture → IsTrusted (phase_under store scenario) directory_file
       → MountsBy doubt (phase_under store scenario) picture (replay_at store scenario view.all)
   closed_mounts picture is trusted =
       mounts_by (phase_under store scenario) parts picture parts_hold rests.at_rest is trusted doubt
@@ -119,7 +122,7 @@ module _ (store : Store) (scenario : TamperScenario) (g : Sides) (doubt : Option
 
   pub honest_mounts : (picture : Picture) → IsPictureOf (store_files g slots) card picture → ((file : ℕ) → IsTrusted (phase_under store scenario) file)
       → IsMapBy doubt (phase_under store scenario) picture (replay_at store scenario view.all)
-  honest_mounts picture is trusted = whole_by (phase_under store scenario) picture (replay_at store scenario view.all) trusted doubt (closed_mounts picture is (trusted 0))
+  honest_mounts picture is trusted = whole_by (phase_under store scenario) picture (replay_at store scenario view.all) trusted doubt (closed_mounts picture is (trusted directory_file))
 
 pub closed_stores_mount : ClosedStoresMount
 closed_stores_mount store scenario g doubt holds card view slots picture e is trusted = closed_mounts store scenario g doubt holds card view slots e picture is trusted
@@ -150,5 +153,5 @@ below_contains files (suc last) file lt tainted = elim (cases_eq last file) [
 pub tampered_files_are_supposed : TamperedFilesAreSupposed
 tampered_files_are_supposed scenario files is file within trusted = elim (cases_Bool (files file).honest) [
   | inl honest ↦ honest
-  | inr tainted ↦ absurd (trusted (subst (λ (l : List ℕ). Contains l file) (sym is) (below_contains files (suc last_file) file (omega (arith, within)) tainted)))
+  | inr tainted ↦ absurd (trusted (subst (λ (l : List ℕ). Contains l file) (sym is) (below_contains files file_count file within tainted)))
 ]

@@ -6,6 +6,7 @@ use Rattle.disk_model.proofs.ImageLaws.{reads_left}
 use Rattle.node_image.specs.declared.node.RootRef.{RootRef}
 use Rattle.htree_file.specs.Opening.{Loaded, load_of}
 use Rattle.htree_file.specs.Selected.{Lies}
+use Rattle.tee_types.specs.Limits.{directory_file}
 use Rattle.store_model.specs.Object.{Object, ObjectMap}
 use Rattle.store_model.specs.Calls.{state_after}
 use Rattle.store_model.proofs.MadeChanges.{commits_make_changes}
@@ -33,7 +34,7 @@ use Rattle.commit_gate.specs.CommitFacts.{DirectoryRunsKeep, IsUnsealed, SealsKe
 use Rattle.commit_gate.proofs.CommitSteps.{first_set}
 
 -- a call that writes at no place of a tree misses it
-call_misses : (s : FileState) (root : RootRef) (tree : Loaded) (call : FileCall) → load_of s.reads root ≡ Ok tree → CallOff (Lies tree.nodes root.version) call → CallMisses call s.reads root
+call_misses : (s : FileState) (root : RootRef) (tree : Loaded) (call : FileCall) → load_of s.reads root ≡ Ok tree → CallOff (Lies tree.layout tree.nodes root.version) call → CallMisses call s.reads root
 call_misses s root tree (write from upto) loads off = record {
   tree = tree;
   loads = loads;
@@ -47,12 +48,12 @@ call_misses s root tree rest loads off = tt
 
 -- what stands, and loads the tree, stands after calls that write beside it
 run_stands : (key : List ℕ) (root : RootRef) (tree : Loaded) (what : Sight) → what.loads ≡ Ok tree → (old : FileState) (calls : List FileCall) (new : FileState)
-    → IsFileRun (Lies tree.nodes root.version) old calls new → Sound new → IsTrue new.honest → Stands old key root what → Stands new key root what
+    → IsFileRun (Lies tree.layout tree.nodes root.version) old calls new → Sound new → IsTrue new.honest → Stands old key root what → Stands new key root what
 run_stands key root tree what loads old [] new run sound honest stands = subst (λ (s : FileState). Stands s key root what) (sym run) stands
 run_stands key root tree what loads old (call ∷ calls) new run sound honest stands =
     let mid : FileState = run.0 in
-    let whole : Sound mid = file_run_sound (Lies tree.nodes root.version) mid calls new run.4 sound in
-    let fine : IsTrue mid.honest = file_run_honest (Lies tree.nodes root.version) mid calls new run.4 honest in
+    let whole : Sound mid = file_run_sound (Lies tree.layout tree.nodes root.version) mid calls new run.4 sound in
+    let fine : IsTrue mid.honest = file_run_honest (Lies tree.layout tree.nodes root.version) mid calls new run.4 honest in
     let here : load_of old.reads root ≡ Ok tree = ap (λ (x : Sight). x.loads) (stands.alike old.reads (reads_left old run.1)) ∙ loads in
     run_stands key root tree what loads mid calls new run.4 sound honest
     (call_stands call old mid key root what run.1 whole fine run.2 (call_misses old root tree call here run.3) stands)
@@ -115,7 +116,7 @@ module _ (phase : Phase) (view : GateView) where
   any_backed putting x (inr puts) = absurd (none_some x puts)
 
 module _ (phase : Phase) (handed : Option Handed) (g : GatePart) (p : PendingCommit) (dir : RootRef) (may : MaySeal phase handed g p dir) (h : GateHolds phase g)
-    (is : g.pending ≡ Some p) (none : p.sealed ≡ None) (idle : g.putting ≡ None) (honest : IsTrusted phase 0 → IsTrue g.directory.honest) where
+    (is : g.pending ≡ Some p) (none : p.sealed ≡ None) (idle : g.putting ≡ None) (honest : IsTrusted phase directory_file → IsTrue g.directory.honest) where
   abbrev objects : ObjectMap
   objects = ((replay_of phase g.view).state).objects
 
@@ -134,14 +135,14 @@ module _ (phase : Phase) (handed : Option Handed) (g : GatePart) (p : PendingCom
     counted = ap (λ (n : ℕ). n + 1) names.counted;
   }
 
-  sealed_reads : IsTrusted phase 0 → DirectoryReads phase.keys g.directory dir (changed g.entries p.change)
+  sealed_reads : IsTrusted phase directory_file → DirectoryReads phase.keys g.directory dir (changed g.entries p.change)
   sealed_reads trusted = record {
     sight = sight_of (directory_key phase.keys) g.directory.reads dir;
-    stands = settled_stands g.directory (directory_key phase.keys) dir h.sound (honest trusted) (may.settled trusted) may.form.bit;
+    stands = settled_stands g.directory (directory_key phase.keys) dir h.sound (honest trusted) (may.settled trusted) (may.form.version, may.current);
     reads = directory_seen (directory_key phase.keys) g.directory.reads dir (changed g.entries p.change) (may.holds trusted);
   }
 
-  sealed_map : IsTrusted phase 0 → map_of (changed_held d.held p.change may.object) ≡ (state_after (replay_of phase g.view).state p.session p.call).objects
+  sealed_map : IsTrusted phase directory_file → map_of (changed_held d.held p.change may.object) ≡ (state_after (replay_of phase g.view).state p.session p.call).objects
   sealed_map trusted =
       let own : DirectoryReads phase.keys g.directory g.root g.entries = d.own trusted in
       let next : DirectoryReads phase.keys g.directory dir (changed g.entries p.change) = sealed_reads trusted in

@@ -1,5 +1,5 @@
 -- What always holds of the gate holds behind a ready commit that was made, or that is in doubt.
-use Rattle.std.proofs.Common.{◌≡◌, ◌≤◌, ◌<◌, ℕ, List, [], ◌∷◌, Option, Some, None, length, refl, sym, ap, ◌∙◌, subst}
+use Rattle.std.proofs.Common.{◌≡◌, ◌≤◌, ◌<◌, ℕ, List, [], ◌∷◌, Option, Some, None, IfSome, length, refl, sym, ap, ◌∙◌, subst}
 use Rattle.tee_types.specs.declared.call.Call.{Call}
 use Rattle.tee_types.specs.declared.reply.Cause.{Cause}
 use Rattle.tee_types.specs.declared.reply.Reply.{Reply}
@@ -33,6 +33,8 @@ use Rattle.store_commit.specs.declared.change.EntryChange.{EntryChange as GateCh
 use Rattle.commit_gate.specs.declared.guarded_gate.Closing.{Closing}
 use Rattle.commit_gate.specs.GuardedGates.{IsClosingTied, GateInvariant, change_in_doubt, closing_of}
 use Rattle.commit_gate.specs.Commits.{IsReadyCommit, call_record, made_versions, tag_of}
+use Rattle.commit_gate.specs.CurrentFiles.{PutsCurrent}
+use Rattle.commit_gate.proofs.CurrentFiles.{kept_current, landed_current}
 use Rattle.commit_gate.proofs.ReadyCommits.{notes_undone}
 use Rattle.commit_gate.proofs.EndedCommits.{doubtful_tied, made_tied, makes_entries}
 
@@ -55,7 +57,7 @@ module _ {F R : Type 0} (store : Store) (gate next : GateValue F R) (view : Gate
   calm_tied = subst (λ (d : Option GateDoubt). IsTied store view entries gate.counter (change_in_doubt d)) idle guarded.tied
 
   module _ (cause : Cause) (n : ℕ) (same_entries : next.dir.dir.entries ≡ gate.dir.dir.entries) (counted : next.counter ≡ gate.counter) (doubted : next.doubt ≡ Some (record { number = n; change = change }))
-      (handles : next.open_handles ≡ gate.open_handles) (tsk : next.dir.dir.tsk ≡ gate.dir.dir.tsk) (key : next.host.key ≡ gate.host.key) where
+      (handles : next.open_handles ≡ gate.open_handles) (tsk : next.dir.dir.tsk ≡ gate.dir.dir.tsk) (format : next.dir.dir.root.format ≡ gate.dir.dir.root.format) (key : next.host.key ≡ gate.host.key) where
     abbrev r : HistoryRecord
     r = call_record session number call (NotAvailable cause) (Doubtful n) slot versions
 
@@ -86,11 +88,13 @@ module _ {F R : Type 0} (store : Store) (gate next : GateValue F R) (view : Gate
       closes = subst (λ (d : Option GateDoubt). IsClosingTied store after d (closing_of session call)) (sym doubted) (λ scenario doubt answered is. closes scenario doubt is);
       directory_key = tsk ∙ guarded.directory_key;
       card_key = key ∙ guarded.card_key;
+      current = kept_current gate.dir.dir next.dir.dir gate.doubt guarded.current next.doubt format same_entries
+          (subst (λ (o : Option GateDoubt). IfSome o (λ d. PutsCurrent (change_of d.change))) (sym doubted) ready.current);
     }
 
   module _ (n : ℕ) (entries_are : next.dir.dir.entries ≡ changed gate.dir.dir.entries (change_of change)) (counted : next.counter ≡ n) (none : next.doubt ≡ None)
       (notes : NotesReply gate.open_handles next.open_handles slot.file session call reply)
-      (tsk : next.dir.dir.tsk ≡ gate.dir.dir.tsk) (key : next.host.key ≡ gate.host.key) where
+      (tsk : next.dir.dir.tsk ≡ gate.dir.dir.tsk) (format : next.dir.dir.root.format ≡ gate.dir.dir.root.format) (key : next.host.key ≡ gate.host.key) where
     abbrev r_made : HistoryRecord
     r_made = call_record session number call reply (Made n) slot (made_versions versions)
 
@@ -122,4 +126,5 @@ module _ {F R : Type 0} (store : Store) (gate next : GateValue F R) (view : Gate
       closes = subst (λ (d : Option GateDoubt). IsClosingTied store after_made d closing) (sym none) none_closes;
       directory_key = tsk ∙ guarded.directory_key;
       card_key = key ∙ guarded.card_key;
+      current = landed_current gate.dir.dir next.dir.dir gate.doubt guarded.current (change_of change) ready.current format entries_are next.doubt none;
     }

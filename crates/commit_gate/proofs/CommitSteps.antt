@@ -10,6 +10,7 @@ use Rattle.disk_model.proofs.Masks.{reads_masked_none}
 use Rattle.disk_model.proofs.ImageLaws.{reads_left}
 use Rattle.node_image.specs.declared.node.RootRef.{RootRef}
 use Rattle.htree_file.specs.Selected.{Lies}
+use Rattle.tee_types.specs.Limits.{directory_file}
 use Rattle.tee_types.specs.declared.call.Call.{Call}
 use Rattle.tee_types.specs.declared.reply.Cause.{Cause}
 use Rattle.tee_types.specs.declared.reply.Reply.{Reply}
@@ -112,12 +113,12 @@ module _ (store : Store) (scenario : TamperScenario) (handed : Option Handed) (o
   abbrev Legal : Mark → Type 0
   Legal mark = IsLegalEvent scenario.tampered here (CallEvent session number call reply mark) (file_of {Root = Version} (event mark))
 
-  module _ (still : Sound new.file) (honest : IsTrusted (phase_under store scenario) 0 → IsTrue new.file.honest) (keeps : Keeps (Lies old.dir.tree.nodes old.dir.root.version) old.file new.file) where
-    was_honest : IsTrusted phase 0 → IsTrue old.file.honest
+  module _ (still : Sound new.file) (honest : IsTrusted (phase_under store scenario) directory_file → IsTrue new.file.honest) (keeps : Keeps (Lies old.dir.tree.layout old.dir.tree.nodes old.dir.root.version) old.file new.file) where
+    was_honest : IsTrusted phase directory_file → IsTrue old.file.honest
     was_honest trusted = keeps.goes_on.honest (honest trusted)
 
     -- the commit begins with a write of nothing
-    misses : IsTrusted phase 0 → Misses 0 0 old.file.reads old.dir.root
+    misses : IsTrusted phase directory_file → Misses 0 0 old.file.reads old.dir.root
     misses trusted = record {
       tree = old.dir.tree;
       loads = ((gate.stands.held (was_honest trusted)).firm old.file.reads (reads_left old.file gate.sound)).opens;
@@ -133,7 +134,7 @@ module _ (store : Store) (scenario : TamperScenario) (handed : Option Handed) (o
 
     prepares : GateSteps phase handed start prepared
     prepares =
-        let ran = directory_runs_are_steps phase handed begun commit old.dir.tree new.file (inr refl, refl) gate.stands.form.bit
+        let ran = directory_runs_are_steps phase handed begun commit old.dir.tree new.file (inr refl, refl) (gate.stands.form.version, gate.current)
         (λ trusted. (gate.stands.held (was_honest trusted)).firm) keeps.run still honest in
         let waits : ran.0 ≡ Some commit = elim ran.1 [ inl is ↦ is | inr is ↦ is ] in
         steps_then phase handed start begun prepared begins
@@ -147,6 +148,7 @@ module _ (store : Store) (scenario : TamperScenario) (handed : Option Handed) (o
       may_seal : (root : RootRef) → IsReady old new change root → MaySeal phase handed prepared commit root
       may_seal root ready = record {
         form = ready.form;
+        current = ready.format ∙ gate.current;
         settled = λ trusted. ready.settled;
         holds = λ trusted. subst (λ (key : List ℕ). directory_of key new.file.reads root ≡ Ok (changed old.dir.entries (change_of change))) gate.tsk (ready.holds (honest trusted));
         due = purpose.due;

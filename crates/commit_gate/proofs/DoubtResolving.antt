@@ -22,9 +22,12 @@ use Rattle.store_commit.specs.declared.gate.Doubted.{Doubted}
 use Rattle.store_commit.specs.Changes.{change_of, entries_after}
 use Rattle.store_commit.specs.Gates.{DoubtStands, GateValue, IsDoubtOf as IsDoubtOfGate}
 use Rattle.store_commit.specs.Sides.{Sides}
+use Rattle.store_commit.specs.View.{DirView}
 use Rattle.commit_gate.specs.declared.guarded_gate.Closing.{Closing}
 use Rattle.commit_gate.specs.GuardedGates.{AreHandlesTied, IsClosingTied, GateInvariant, change_in_doubt, closing_of}
+use Rattle.commit_gate.specs.CurrentFiles.{AreFilesCurrent, PutsCurrent}
 use Rattle.commit_gate.specs.Settled.{Closes}
+use Rattle.commit_gate.proofs.CurrentFiles.{kept_current, landed_current}
 
 -- the doubt that is there
 pub the-doubt : (o : Option Doubted) → IsSome o → (d : Doubted) × (o ≡ Some d)
@@ -61,6 +64,9 @@ module _ {F R : Type 0} (store : Store) (gate : GateValue F R) (knows : GateView
   closing-so : IsClosingTied store knows (Some d) closing
   closing-so = subst (λ (o : Option Doubted). IsClosingTied store knows o closing) doubted guarded.closes
 
+  puts-current : PutsCurrent own.change
+  puts-current = the-resolve (λ x. PutsCurrent (change_of x.change)) gate.doubt d doubted guarded.current.put
+
   -- under each tamper scenario the replay has it open
   pub doubt-held : IsDoubtOf store knows d.number
   doubt-held = λ scenario answered. let s = doubt-tied.stands scenario answered in (s.doubt, s.is_open, s.number)
@@ -77,7 +83,8 @@ module _ {F R : Type 0} (store : Store) (gate : GateValue F R) (knows : GateView
       (subst (λ (c : Option Closing). Closes c gate.open_handles table) (closing-so scenario s.doubt before s.is_open) closes))
 
   -- The landing: the entries have the change, the counter is its number, and the handle is closed.
-  module _ (next : GateValue F R) (counted : next.counter ≡ d.number) (calm : next.doubt ≡ None) (tsk : next.dir.dir.tsk ≡ gate.dir.dir.tsk) (key : next.host.key ≡ gate.host.key) where
+  module _ (next : GateValue F R) (counted : next.counter ≡ d.number) (calm : next.doubt ≡ None) (tsk : next.dir.dir.tsk ≡ gate.dir.dir.tsk)
+      (format : next.dir.dir.root.format ≡ gate.dir.dir.root.format) (key : next.host.key ≡ gate.host.key) where
     pub landed-guarded : next.dir.dir.entries ≡ entries_after entries d.change → AreDistinct entries → Closes closing gate.open_handles next.open_handles
         → IsJournal store (with_record (landing_of d.number) knows) → GateInvariant store next (with_record (landing_of d.number) knows) None
     landed-guarded is distinct closes journal =
@@ -93,10 +100,12 @@ module _ {F R : Type 0} (store : Store) (gate : GateValue F R) (knows : GateView
           closes = subst (λ (o : Option Doubted). IsClosingTied store view o None) (sym calm) refl;
           directory_key = tsk ∙ guarded.directory_key;
           card_key = key ∙ guarded.card_key;
+          current = landed_current gate.dir.dir next.dir.dir gate.doubt guarded.current own.change puts-current format is next.doubt calm;
         }
 
   -- It did not land: entries, counter and handles stay.
-  module _ (next : GateValue F R) (counted : next.counter ≡ gate.counter) (calm : next.doubt ≡ None) (tsk : next.dir.dir.tsk ≡ gate.dir.dir.tsk) (key : next.host.key ≡ gate.host.key) where
+  module _ (next : GateValue F R) (counted : next.counter ≡ gate.counter) (calm : next.doubt ≡ None) (tsk : next.dir.dir.tsk ≡ gate.dir.dir.tsk)
+      (format : next.dir.dir.root.format ≡ gate.dir.dir.root.format) (key : next.host.key ≡ gate.host.key) where
     pub dropped-guarded : next.dir.dir.entries ≡ entries → next.open_handles ≡ gate.open_handles → IsJournal store (doubt_dropped knows)
         → GateInvariant store next (doubt_dropped knows) None
     dropped-guarded is same journal =
@@ -110,6 +119,8 @@ module _ {F R : Type 0} (store : Store) (gate : GateValue F R) (knows : GateView
           closes = subst (λ (o : Option Doubted). IsClosingTied store view o None) (sym calm) refl;
           directory_key = tsk ∙ guarded.directory_key;
           card_key = key ∙ guarded.card_key;
+          current = kept_current gate.dir.dir next.dir.dir gate.doubt guarded.current next.doubt format is
+              (subst (λ (o : Option Doubted). IfSome o (λ x. PutsCurrent (change_of x.change))) (sym calm) tt);
         }
 
 -- Nothing that the ties speak of changed.
@@ -124,4 +135,5 @@ same-guarded store gate next knows closing dir counted doubt handles key guarded
   closes = subst (λ (o : Option Doubted). IsClosingTied store knows o closing) (sym doubt) guarded.closes;
   directory_key = ap (λ d. d.tsk) dir ∙ guarded.directory_key;
   card_key = key ∙ guarded.card_key;
+  current = subst (λ (p : DirView × Option Doubted). AreFilesCurrent p.0 p.1) (λ i. (sym dir i, sym doubt i)) guarded.current;
 }

@@ -59,11 +59,12 @@ module _ {F R : Type 0} (file : F → FileState) (port : R → PortState) (store
       made_guarded store old new view closing guarded idle within session number known call reply change slot versions ready n
       (same_entries ∙ leaves.entries) (ap (λ (g : GateValue F R). g.counter) same ∙ leaves.counted) (ap (λ (g : GateValue F R). g.doubt) same ∙ doubt)
       (subst (λ (t : TableState). NotesReply t new.open_handles slot.file session call reply) handles noted)
-      (ap (λ (g : GateValue F R). g.dir.dir.tsk) same ∙ leaves.tsk) key_stays journal
+      (ap (λ (g : GateValue F R). g.dir.dir.tsk) same ∙ leaves.tsk) (ap (λ (g : GateValue F R). g.dir.dir.root.format) same ∙ leaves.format) key_stays journal
   ended_guarded (Doubtful n cause) leaves doubt noted journal =
       doubtful_guarded store old new view closing guarded idle within session number known call reply change slot versions ready cause n
       (same_entries ∙ ap (λ (d : DirView). d.entries) leaves.same) (ap (λ (g : GateValue F R). g.counter) same ∙ leaves.counted) (ap (λ (g : GateValue F R). g.doubt) same ∙ doubt)
-      (noted ∙ handles) (ap (λ (g : GateValue F R). g.dir.dir.tsk) same ∙ ap (λ (d : DirView). d.tsk) leaves.same) key_stays journal
+      (noted ∙ handles) (ap (λ (g : GateValue F R). g.dir.dir.tsk) same ∙ ap (λ (d : DirView). d.tsk) leaves.same)
+      (ap (λ (g : GateValue F R). g.dir.dir.root.format) same ∙ ap (λ (d : DirView). d.root.format) leaves.same) key_stays journal
   ended_guarded (Dropped cause) leaves doubt noted journal = undone (NotAvailable cause) refl leaves.same leaves.counted doubt noted journal
   ended_guarded Spent leaves doubt noted journal =
       undone (CounterSpent last_counter) refl (ap (λ (g : Sides). g.dir) leaves.same) (ap (λ (g : Sides). g.counter) leaves.same) doubt noted journal

@@ -40,4 +40,5 @@ module _ (store : Store) (old : GateView) (mounted : Option Mounted) (files : Li
     closes = seated-closes gate.doubt closing guarded.closes;
     directory_key = guarded.directory_key;
     card_key = guarded.card_key;
+    current = guarded.current;
   }

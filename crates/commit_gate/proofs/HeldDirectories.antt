@@ -2,6 +2,7 @@
 use Rattle.std.proofs.Common.{◌≡◌, ◌<◌, ℕ, List, Option, sym, ◌∙◌}
 use Rattle.disk_model.specs.State.{FileState, Sound}
 use Rattle.disk_model.proofs.ImageLaws.{reads_left}
+use Rattle.node_image.specs.References.{IsCurrent}
 use Rattle.node_image.specs.declared.node.RootRef.{RootRef}
 use Rattle.node_image.specs.Selection.{selected_tree}
 use Rattle.hmac_keys.specs.declared.Keys.{Keys}
@@ -16,22 +17,22 @@ use Rattle.core_laws.specs.GateParts.{DirectoryReads}
 use Rattle.store_commit.specs.Held.{IsDurable}
 
 -- a firm tree stands as the file reads
-pub firm_seen : (key : List ℕ) (s : FileState) (root : RootRef) (tree : Loaded) → Sound s → root.version < 2 → IsFirm s root tree → Stands s key root (sight_of key s.reads root)
-firm_seen key s root tree sound bit firm =
+pub firm_seen : (key : List ℕ) (s : FileState) (root : RootRef) (tree : Loaded) → Sound s → IsCurrent root → IsFirm s root tree → Stands s key root (sight_of key s.reads root)
+firm_seen key s root tree sound current firm =
     let here = firm s.reads (reads_left s sound) in
     record {
-      bit = bit;
+      current = current;
       alike = λ image left.
-          let selects : selected_tree image root.version ≡ selected_tree s.reads root.version = (firm image left).selects in
+          let selects : selected_tree image root ≡ selected_tree s.reads root = (firm image left).selects in
           let loads : load_of image root ≡ load_of s.reads root = (firm image left).opens ∙ sym here.opens in
           let opened : opened_of key image root ≡ opened_of key s.reads root = opened_same key image s.reads root selects loads in
           (λ j. record { tree = selects j; loads = loads j; opened = opened j });
     }
 
-pub held_reads : (keys : Keys) (s : FileState) (root : RootRef) (tree : Loaded) (entries : List (Option DirEntry)) → Sound s → root.version < 2
+pub held_reads : (keys : Keys) (s : FileState) (root : RootRef) (tree : Loaded) (entries : List (Option DirEntry)) → Sound s → IsCurrent root
     → IsDurable s (directory_key keys) root tree entries → DirectoryReads keys s root entries
-held_reads keys s root tree entries sound bit held = record {
+held_reads keys s root tree entries sound current held = record {
   sight = sight_of (directory_key keys) s.reads root;
-  stands = firm_seen (directory_key keys) s root tree sound bit held.firm;
+  stands = firm_seen (directory_key keys) s root tree sound current held.firm;
   reads = directory_seen (directory_key keys) s.reads root entries (held.entries_are s.reads (reads_left s sound));
 }

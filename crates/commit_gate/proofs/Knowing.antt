@@ -78,4 +78,5 @@ roomy-guarded store gate next knows closing same is guarded =
       closes = guarded.closes;
       directory_key = guarded.directory_key;
       card_key = guarded.card_key;
+      current = guarded.current;
     })

@@ -10,6 +10,7 @@ pub mod EntryCalls
 pub mod ReadyCommits
 pub mod FairCommits
 pub mod EndedCommits
+pub mod CurrentFiles
 pub mod CommitGates
 pub mod FileSeating
 pub mod ReadyChanges

@@ -5,6 +5,7 @@ use Rattle.std.proofs.lemmas.Bool.{cases_Bool, eqb-true}
 use Rattle.std.proofs.lemmas.Map.Views.{Contains-from_any}
 use Rattle.disk_model.specs.State.{FileState}
 use Rattle.node_image.specs.declared.node.RootRef.{RootRef}
+use Rattle.tee_types.specs.Limits.{directory_file}
 use Rattle.store_model.specs.Object.{Object}
 use Rattle.store_model.specs.ReplayState.{ReplayState}
 use Rattle.store_model.proofs.Closeness.{IsRising}
@@ -65,7 +66,7 @@ module _ (store : Store) (scenario : TamperScenario) (entries : List (Option Dir
         )
 
     -- So the directory stands for the gate.
-    pub reading_stands : (file : FileState) (dir : RootRef) → (IsTrusted (phase_under store scenario) 0 → DirectoryReads store.keys file dir entries)
+    pub reading_stands : (file : FileState) (dir : RootRef) → (IsTrusted (phase_under store scenario) directory_file → DirectoryReads store.keys file dir entries)
         → GateDirectory (phase_under store scenario) file view None dir entries (s.state).objects
     reading_stands file dir own = record {
       own = own;

@@ -109,4 +109,5 @@ module _ {F R : Type 0} (store : Store) (gate : GateValue F R) (view : GateView)
             (subst (λ (d : Option Doubted). IsClosingTied store view d closing) idle guarded.closes);
         directory_key = guarded.directory_key;
         card_key = guarded.card_key;
+        current = guarded.current;
       }

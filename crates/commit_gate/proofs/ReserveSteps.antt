@@ -3,6 +3,7 @@ use Rattle.std.proofs.Common.{◌≡◌, ◌≢◌, ℕ, zero, suc, List, [], �
 use Rattle.std.specs.Prelude.{slice_set}
 use Rattle.std.proofs.lemmas.Bool.{cases_eq}
 use Rattle.node_image.specs.declared.node.RootRef.{RootRef}
+use Rattle.tee_types.proofs.FileNumbers.{object_not_directory}
 use Rattle.rpmb_card.specs.Card.{CardState}
 use Rattle.store_model.specs.Doubt.{Doubt}
 use Rattle.dir_records.specs.declared.entry.DirEntry.{DirEntry}
@@ -99,7 +100,7 @@ module _ (store : Store) (scenario : TamperScenario) (handed : Option Handed) (g
       ] in
       to (put (takes_of before) file (Some session)) (λ j n. point n j)
       (one_step phase handed (part (takes_of before)) (TakeFile session file) (part (put (takes_of before) file (Some session)))
-      (take_is_step phase handed (part (takes_of before)) session file r.free.from r.free.unnamed (unput doubt (replay_at store scenario view.all).doubt (sealed_in g card) file r.undoubted) none))
+      (take_is_step phase handed (part (takes_of before)) session file (object_not_directory file r.free.from r.free.upto) r.free.unnamed (unput doubt (replay_at store scenario view.all).doubt (sealed_in g card) file r.undoubted) none))
 
   release_steps : (o : Option ℕ) → file_held before session ≡ o → IsReleased g doubt before after session → StepsTo store scenario handed (part (takes_of before)) g doubt after view
   release_steps o was r = by_hold o was

@@ -3,7 +3,9 @@ use Rattle.std.proofs.Common.{◌≡◌, ◌⊎◌, ℕ, ◌+◌, ◌<◌, List,
 use Rattle.std.specs.Prelude.{◌==◌, unwrap_or}
 use Rattle.std.specs.Option.{option_map}
 use Rattle.std.proofs.lemmas.Bool.{cond-true, cond-false, eq-eqb, ne_eqb}
+use Rattle.node_image.specs.References.{IsCurrent}
 use Rattle.node_image.specs.declared.node.RootRef.{RootRef}
+use Rattle.tee_types.specs.Limits.{directory_file}
 use Rattle.rpmb_card.specs.Card.{CardState}
 use Rattle.htree_file.specs.Opening.{Loaded}
 use Rattle.store_model.specs.Doubt.{Doubt}
@@ -16,7 +18,7 @@ use Rattle.history_seats.specs.Settling.{IsOpenDoubt, as_landed}
 use Rattle.history_seats.specs.Directory.{given_version}
 use Rattle.history_seats.specs.Known.{version_from}
 use Rattle.history_seats.specs.Views.{GateView, no_mount}
-use Rattle.crash_core.specs.CardBlock.{IsReference, root_in}
+use Rattle.crash_core.specs.CardBlock.{root_in}
 use Rattle.crash_core.specs.Entries.{first_double}
 use Rattle.crash_core.specs.EntryLists.{AreDistinct, IsUnnamed}
 use Rattle.crash_core.specs.EntryChanges.{index_of}
@@ -80,7 +82,7 @@ module _ (store : Store) (scenario : TamperScenario) (g : Sides) (view : GateVie
 
   -- the committed directory stands for the gate
   committed_stands : (doubt : Option Doubted) → IsTiedUnder store scenario view g.dir.entries g.counter doubt → AreEntriesOf g.dir.entries
-      → (IsTrusted (phase_under store scenario) 0 → DirectoryReads store.keys g.file g.dir.root g.dir.entries)
+      → (IsTrusted (phase_under store scenario) directory_file → DirectoryReads store.keys g.file g.dir.root g.dir.entries)
       → GateDirectory (phase_under store scenario) g.file view None g.dir.root g.dir.entries ((replay_of (phase_under store scenario) view).state).objects
   committed_stands doubt tied are own =
       reading_stands store scenario g.dir.entries (entries_at store view.all).now (given_version store.mounted view.all) s tied.now (entries_distinct g.dir.entries are) tied.rising
@@ -93,15 +95,15 @@ change_within entries (Clear index) fits = fits
 
 module _ (store : Store) (scenario : TamperScenario) (g : Sides) (doubt : Option Doubted) (holds : List (Option ℕ)) (card : CardState) (view : GateView)
     (gate : IsGateOf store g doubt holds card) (tied : IsTiedUnder store scenario view g.dir.entries g.counter doubt)
-    (honest : IsTrusted (phase_under store scenario) 0 → IsTrue g.file.honest) where
+    (honest : IsTrusted (phase_under store scenario) directory_file → IsTrue g.file.honest) where
   abbrev at_now : ReplayState
   at_now = replay_at store scenario view.all
 
   -- a directory that is held reads as its entries
-  own_reads : (root : RootRef) (tree : Loaded) (entries : List (Option DirEntry)) → IsReference root → (IsTrue g.file.honest → IsDurable g.file g.dir.tsk root tree entries)
-      → IsTrusted (phase_under store scenario) 0 → DirectoryReads store.keys g.file root entries
-  own_reads root tree entries form held trusted =
-      held_reads store.keys g.file root tree entries gate.sound form.bit (subst (λ (key : List ℕ). IsDurable g.file key root tree entries) gate.tsk (held (honest trusted)))
+  own_reads : (root : RootRef) (tree : Loaded) (entries : List (Option DirEntry)) → IsCurrent root → (IsTrue g.file.honest → IsDurable g.file g.dir.tsk root tree entries)
+      → IsTrusted (phase_under store scenario) directory_file → DirectoryReads store.keys g.file root entries
+  own_reads root tree entries current held trusted =
+      held_reads store.keys g.file root tree entries gate.sound current (subst (λ (key : List ℕ). IsDurable g.file key root tree entries) gate.tsk (held (honest trusted)))
 
   names_now : (root : RootRef) (more counter : ℕ) → at_now.counter ≡ counter → Names (gate.told).own root (counter + more) → CardNames card root (at_now.counter + more)
   names_now root more counter is names = card_names g card gate.told root (at_now.counter + more) (subst (λ (n : ℕ). Names (gate.told).own root (n + more)) (sym is) names)
@@ -113,7 +115,7 @@ module _ (store : Store) (scenario : TamperScenario) (g : Sides) (doubt : Option
   settled_rests settled = record {
     fact = record {
       sound = gate.sound;
-      committed = committed_stands store scenario g view tied.mounted doubt tied settled.entries (own_reads g.dir.root g.dir.tree g.dir.entries settled.form settled.held);
+      committed = committed_stands store scenario g view tied.mounted doubt tied settled.entries (own_reads g.dir.root g.dir.tree g.dir.entries (settled.form.version, gate.current) settled.held);
       pending = names_still g.dir.root g.counter tied.counted (settled.named (gate.told).own (gate.told).has);
       taken = taken_unnamed g.dir.entries holds gate.held;
     };
@@ -146,12 +148,12 @@ module _ (store : Store) (scenario : TamperScenario) (g : Sides) (doubt : Option
         read.landed (entries_distinct (entries_after g.dir.entries d.change) after) (rising-after at_now.state (read.doubt).session (read.doubt).call tied.rising)
         view (λ index e v stood given. landed_known store scenario g view tied.mounted d.number read.late e v given) g.file (of.next).root
         (λ trusted. subst (DirectoryReads store.keys g.file (of.next).root) of.entries
-        (own_reads (of.next).root (of.next).tree (of.next).entries stands.next_form stands.next_held trusted))
+        (own_reads (of.next).root (of.next).tree (of.next).entries (stands.next_form.version, stands.same_format ∙ gate.current) stands.next_held trusted))
 
     holds_with : (sealed : Option RootRef) → GateSealed (phase_under store scenario) (part_with (Some read.doubt) sealed) (commit_with sealed) sealed → GateHolds (phase_under store scenario) (part_with (Some read.doubt) sealed)
     holds_with sealed names = record {
       sound = gate.sound;
-      committed = committed_stands store scenario g view tied.mounted doubt tied (of.stands).entries (own_reads g.dir.root g.dir.tree g.dir.entries (of.stands).form (of.stands).held);
+      committed = committed_stands store scenario g view tied.mounted doubt tied (of.stands).entries (own_reads g.dir.root g.dir.tree g.dir.entries ((of.stands).form.version, gate.current) (of.stands).held);
       pending = names;
       taken = taken_unnamed g.dir.entries holds gate.held;
     }

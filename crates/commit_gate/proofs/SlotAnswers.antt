@@ -59,4 +59,5 @@ module _ (store : Store) (knows : GateView) (slot : SlotView) (session made : â„
     closes = slot-closes gate.doubt closing told.calm guarded.closes;
     directory_key = guarded.directory_key;
     card_key = guarded.card_key;
+    current = guarded.current;
   }

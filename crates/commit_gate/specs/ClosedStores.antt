@@ -1,9 +1,8 @@
 -- A store that is closed at the end of a phase: its gate, and a slot for each file of an object.
-use Rattle.std.specs.Prelude.{◌≡◌, ◌⊎◌, ◌==◌, ◌≤◌, ℕ, zero, suc, nat_lt, if◌then◌else◌, true, false, List, [], ◌∷◌, Option, Some, None, Ok, Contains, IsTrue}
+use Rattle.std.specs.Prelude.{◌≡◌, ◌⊎◌, ◌==◌, ◌<◌, ◌≤◌, ℕ, zero, suc, if◌then◌else◌, List, [], ◌∷◌, Option, Some, None, Ok, Contains, IsTrue}
 use Rattle.std.specs.Option.{option_map}
-use Rattle.disk_model.specs.Arms.{no_arms}
-use Rattle.disk_model.specs.State.{FileState}
-use Rattle.tee_types.specs.Limits.{last_file}
+use Rattle.disk_model.specs.State.{FileState, Sound}
+use Rattle.tee_types.specs.Limits.{IsObjectFile, directory_file, file_count, may_hold_object}
 use Rattle.rpmb_card.specs.Card.{CardState}
 use Rattle.store_model.specs.declared.name.ObjectName.{ObjectName}
 use Rattle.store_model.specs.Object.{Object, ObjectMap, object_at}
@@ -20,7 +19,6 @@ use Rattle.crash_core.specs.Mounting.{mounted}
 use Rattle.crash_core.specs.Theorem.{MountsTo}
 use Rattle.core_laws.specs.SlotParts.{SlotHolds, SlotPart}
 use Rattle.core_laws.specs.Finished.{IsMapAfter, MountsAfter}
-use Rattle.core_laws.specs.Joined.{IsObjectFile}
 use Rattle.core_laws.specs.TamperScenarios.{TamperScenario}
 use Rattle.core_laws.specs.Mapped.{Versions, landed_version}
 use Rattle.core_laws.specs.Stores.{Store, entries_at, entry_named, replay_at}
@@ -32,44 +30,30 @@ use Rattle.commit_gate.specs.FinishedPhases.{phase_under}
 use Rattle.commit_gate.specs.Readings.{IsTiedUnder}
 use Rattle.commit_gate.specs.Resting.{IsGateOf}
 
--- the file and the slot of a number that is no object file's: nothing is in it, and nothing is known of it
-abbrev pub no_file : FileState
-no_file = record {
-  settled = [];
-  reads = [];
-  trail = [];
-  pending_from = 0;
-  honest = true;
-  steady = true;
-  tells = true;
-  calm = true;
-  faults = 0;
-  starved = 0;
-  written = 0;
-  tells_arms = false;
-  arms = no_arms;
-}
-
-abbrev pub no_slot : (file : ℕ) → SlotPart
-no_slot file = record {
-  file = no_file;
+-- the slot of a file that may hold no object: nothing is known of it
+abbrev pub no_slot : FileState → (file : ℕ) → SlotPart
+no_slot state file = record {
+  file = state;
   view = record { mounted = no_mount; seen = []; decided = 0; file = file; generation = 0 };
   stage = None;
 }
 
--- the slots of the object files, and no other
+-- the slots of the object files, and of any other number the file alone
 abbrev pub slots_of : (slots : ℕ → SlotPart) → ℕ → SlotPart
-slots_of slots file = if nat_lt last_file file then no_slot file else slots file
+slots_of slots file = if may_hold_object file then slots file else no_slot (slots file).file file
 
--- the files of the store: the directory's, then those of objects
+-- the files of the store: the directory's, and those of the slots
 abbrev pub store_files : Sides → (slots : ℕ → SlotPart) → ℕ → FileState
-store_files g slots file = if file == 0 then g.file else (slots_of slots file).file
+store_files g slots file = if file == directory_file then g.file else (slots_of slots file).file
 
--- What holds of the slots: each is of its file, its view fits the gate's, and it has its fact.
+-- What holds of the slots: each is of its file, its view fits the gate's, and it has its fact. The other files are as files are, and behind
+-- the bench there is none that is not honest.
 pub record AreSlotsOf (store : Store) (view : GateView) (slots : ℕ → SlotPart) : Type 0 where
   pub numbered : (file : ℕ) → IsObjectFile file → (slots file).view.file ≡ file
   pub fits : (file : ℕ) → IsObjectFile file → SlotFits view (slots file).view
   pub holds : (file : ℕ) → IsObjectFile file → SlotHolds store.keys (slots file)
+  pub sound : (file : ℕ) → Sound (slots file).file
+  pub past : (file : ℕ) → file_count ≤ file → IsTrue (slots file).file.honest
 
 -- those of the first so many files that are not honest
 unfoldable pub tampered_below : (ℕ → FileState) → (count : ℕ) → List ℕ
@@ -78,11 +62,11 @@ tampered_below files (suc file) = if (files file).honest then tampered_below fil
 
 -- the files that are not honest
 abbrev pub tampered_in : (ℕ → FileState) → List ℕ
-tampered_in files = tampered_below files (suc last_file)
+tampered_in files = tampered_below files file_count
 
 -- The tamper scenario has all files as not honest that are not.
 abbrev pub SupposesTampered : TamperScenario → (ℕ → FileState) → Type 0
-SupposesTampered scenario files = (file : ℕ) → file ≤ last_file → (Contains scenario.tampered file → ⊥) → IsTrue (files file).honest
+SupposesTampered scenario files = (file : ℕ) → file < file_count → (Contains scenario.tampered file → ⊥) → IsTrue (files file).honest
 
 -- A closed store, as a tamper scenario has it.
 pub record IsClosedStore (store : Store) (scenario : TamperScenario) (g : Sides) (doubt : Option Doubted) (holds : List (Option ℕ)) (card : CardState) (view : GateView) (slots : ℕ → SlotPart) : Type 0 where
@@ -107,7 +91,7 @@ IsMapBy (Some d) phase picture s = IsMapAfter phase picture s
 abbrev pub ClosedStoresMount : Type 0
 ClosedStoresMount =
     (store : Store) (scenario : TamperScenario) (g : Sides) (doubt : Option Doubted) (holds : List (Option ℕ)) (card : CardState) (view : GateView) (slots : ℕ → SlotPart) (picture : Picture)
-    → IsClosedStore store scenario g doubt holds card view slots → IsPictureOf (store_files g slots) card picture → IsTrusted (phase_under store scenario) 0
+    → IsClosedStore store scenario g doubt holds card view slots → IsPictureOf (store_files g slots) card picture → IsTrusted (phase_under store scenario) directory_file
     → MountsBy doubt (phase_under store scenario) picture (replay_at store scenario view.all)
 
 -- Where every file is honest, it mounts to that map itself.
@@ -148,7 +132,7 @@ pub record IsTiedStore (store : Store) (scenario : TamperScenario) (g : Sides) (
 abbrev pub TiedStoresMount : Type 0
 TiedStoresMount =
     (store : Store) (scenario : TamperScenario) (g : Sides) (doubt : Option Doubted) (holds : List (Option ℕ)) (card : CardState) (view : GateView) (slots : ℕ → SlotPart) (picture : Picture)
-    → IsTiedStore store scenario g doubt holds card view slots → IsPictureOf (store_files g slots) card picture → IsTrusted (phase_under store scenario) 0
+    → IsTiedStore store scenario g doubt holds card view slots → IsPictureOf (store_files g slots) card picture → IsTrusted (phase_under store scenario) directory_file
     → MountsGivenBy doubt store (phase_under store scenario) picture view.all
 
 -- A tamper scenario by which exactly the files are not honest that are not has them all.

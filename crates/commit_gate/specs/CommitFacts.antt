@@ -6,6 +6,7 @@ use Rattle.node_image.specs.declared.node.RootRef.{RootRef}
 use Rattle.htree_file.specs.Opening.{Loaded}
 use Rattle.htree_file.specs.Selected.{Lies}
 use Rattle.htree_file.specs.Standing.{IsFirm}
+use Rattle.tee_types.specs.Limits.{directory_file}
 use Rattle.store_model.specs.Object.{Object}
 use Rattle.crash_core.specs.EntryChanges.{Clear, EntryChange, Put}
 use Rattle.crash_core.specs.Mounting.{Held}
@@ -24,7 +25,7 @@ IsUnsealed (Some p) = p.sealed ≡ None
 abbrev pub DirectoryRunsKeep : Type 0
 DirectoryRunsKeep =
     (phase : Phase) (g : GatePart) (tree : Loaded) (new : FileState) (after : Option PendingCommit) → GateHolds phase g → IsUnsealed g.pending → IsUnsealed after
-    → (IsTrusted phase 0 → IsFirm g.directory g.root tree) → Runs (Lies tree.nodes g.root.version) g.directory new → Sound new → (IsTrusted phase 0 → IsTrue new.honest)
+    → (IsTrusted phase directory_file → IsFirm g.directory g.root tree) → Runs (Lies tree.layout tree.nodes g.root.version) g.directory new → Sound new → (IsTrusted phase directory_file → IsTrue new.honest)
     → GateHolds phase (record g { directory = new; pending = after })
 
 -- the entry that a change puts, with its object
@@ -36,5 +37,5 @@ held_put (Clear index) object = None
 abbrev pub SealsKeep : Type 0
 SealsKeep =
     (phase : Phase) (handed : Option Handed) (g : GatePart) (p : PendingCommit) (dir : RootRef) (may : MaySeal phase handed g p dir) → GateHolds phase g → g.pending ≡ Some p → p.sealed ≡ None
-    → g.putting ≡ None → (IsTrusted phase 0 → IsTrue g.directory.honest)
+    → g.putting ≡ None → (IsTrusted phase directory_file → IsTrue g.directory.honest)
     → GateHolds phase (record g { card = sealed_card g.card dir; pending = Some (record p { sealed = Some dir }); putting = held_put p.change may.object })

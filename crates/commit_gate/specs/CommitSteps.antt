@@ -1,6 +1,7 @@
 -- A commit of the gate with the event that it leaves, as steps of the core machine.
 use Rattle.std.specs.Prelude.{◌≡◌, ℕ, true, List, Option, None, IsTrue}
 use Rattle.disk_model.specs.State.{Sound}
+use Rattle.tee_types.specs.Limits.{directory_file}
 use Rattle.tee_types.specs.declared.call.Call.{Call}
 use Rattle.tee_types.specs.declared.reply.Reply.{Reply}
 use Rattle.rpmb_card.specs.Card.{CardState}
@@ -67,5 +68,5 @@ CommitsAreSteps =
     (store : Store) (scenario : TamperScenario) (handed : Option Handed) (old new : Sides) (change : EntryChange) (end : CommitEnd) (before after : List (Option ℕ)) (card : CardState) (view : GateView)
     (session number : ℕ) (call : Call) (reply : Reply) (tag : Option (Tag Version)) → let r = commit_event session number call reply end tag in
     IsGateOf store old None before card → IsGateCommit old new change end before after → IsForCall store scenario handed old view change session call
-    → (IsTrusted (phase_under store scenario) 0 → IsTrue new.file.honest) → IsLegalEvent scenario.tampered (replay_at store scenario view.all) r.event (file_of r)
+    → (IsTrusted (phase_under store scenario) directory_file → IsTrue new.file.honest) → IsLegalEvent scenario.tampered (replay_at store scenario view.all) r.event (file_of r)
     → StepsTo store scenario handed (resting_part store scenario old None before card view) new (doubt_left change end) after (with_record r view)

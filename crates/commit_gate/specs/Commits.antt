@@ -17,6 +17,7 @@ use Rattle.core_laws.specs.Stores.{Store, replay_at}
 use Rattle.core_laws.specs.Shown.{EndsCommit, IsEndAt}
 use Rattle.core_laws.specs.Answered.{AreAnswered}
 use Rattle.commit_gate.specs.CallerSessions.{CallerSession, IsCallerOf}
+use Rattle.commit_gate.specs.CurrentFiles.{PutsCurrent}
 use Rattle.commit_gate.specs.SessionViews.{SeesAll}
 use Rattle.core_laws.specs.CallChanges.{IsEntryCommit}
 use Rattle.core_laws.specs.MachineChanges.{IsCallOn}
@@ -55,6 +56,7 @@ EndsUnder store scenario before session number call made slot =
 pub record IsReadyCommit (store : Store) (view : GateView) (entries : List (Option DirEntry)) (counter session number : ℕ) (call : Call) (reply : Reply) (change : EntryChange) (slot : SlotView) (versions : TagVersions) : Type 0 where
   pub commit : IsEntryCommit store entries counter session call change (tag_of slot versions) versions.doubted
   pub given : versions.committed ≡ given_version store.mounted view.all slot.file slot.generation
+  pub current : PutsCurrent change
   pub on : (scenario : TamperScenario) → AreAnswered store scenario view.all → IsCallOn (replay_at store scenario view.all).state session call entries change
   pub due : (scenario : TamperScenario) → AreAnswered store scenario view.all → Contains scenario.tampered slot.file
       → IsDueUnder store scenario view.all session call reply change (tag_of slot versions) ⊎ EndsUnder store scenario view.all session number call reply slot

@@ -1,6 +1,7 @@
 -- A phase that finished, as one tamper scenario has it.
 use Rattle.std.specs.Prelude.{◌≡◌, ◌⊎◌, ℕ, List, Option, Some, Contains}
 use Rattle.std.specs.Option.{option_map}
+use Rattle.tee_types.specs.Limits.{directory_file}
 use Rattle.rpmb_card.specs.Card.{CardState}
 use Rattle.history_seats.specs.Views.{GateView}
 use Rattle.crash_core.specs.Pictures.{IsPictureOf, Picture}
@@ -34,7 +35,7 @@ pub record HasFinished (store : Store) (scenario : TamperScenario) (g : Sides) (
 -- doubt, where one is
 abbrev pub PicturesMount : Store → TamperScenario → Sides → Option Doubted → CardState → GateView → (slots : ℕ → SlotPart) → Type 0
 PicturesMount store scenario g doubt card view slots =
-    (picture : Picture) → IsPictureOf (store_files g slots) card picture → IsTrusted (phase_under store scenario) 0
+    (picture : Picture) → IsPictureOf (store_files g slots) card picture → IsTrusted (phase_under store scenario) directory_file
     → MountsBy doubt (phase_under store scenario) picture (replay_at store scenario view.all)
 
 -- So they do, or the promises end at a first event under the tamper scenario.

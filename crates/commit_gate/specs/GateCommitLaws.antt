@@ -56,6 +56,7 @@ pub record IsDoubtedGate {F R : Type 0} (old new : GateValue F R) (change : Gate
   pub doubted : new.doubt ≡ Some (record { number = n; change = change })
   pub open_handles : new.open_handles ≡ old.open_handles
   pub tsk : new.dir.dir.tsk ≡ old.dir.dir.tsk
+  pub format : new.dir.dir.root.format ≡ old.dir.dir.root.format
   pub key : new.host.key ≡ old.host.key
 
 -- The gate once a session's commit of that number was made, and its handle noted.
@@ -65,6 +66,7 @@ pub record IsMadeGate {F R : Type 0} (old new : GateValue F R) (change : GateCha
   pub settled : new.doubt ≡ None
   pub notes : NotesReply old.open_handles new.open_handles file session call reply
   pub tsk : new.dir.dir.tsk ≡ old.dir.dir.tsk
+  pub format : new.dir.dir.root.format ≡ old.dir.dir.root.format
   pub key : new.host.key ≡ old.host.key
 
 -- Behind the record of a ready commit in doubt the gate is whole, and its doubt's landing closes the handle of a delete.

@@ -1,10 +1,11 @@
 -- From one part at rest to the next, the gate moves as the parts of the core machine may.
-use Rattle.std.specs.Prelude.{◌≡◌, ◌≢◌, ◌≤◌, ℕ, List, Option, Some, IsTrue}
+use Rattle.std.specs.Prelude.{◌≡◌, ◌≢◌, ℕ, List, Option, Some, IsTrue}
+use Rattle.tee_types.specs.Limits.{IsObjectFile, directory_file}
 use Rattle.history_seats.specs.Rule.{SlotFits}
 use Rattle.history_seats.specs.Views.{GateView}
 use Rattle.crash_core.specs.CoreState.{IsTrusted, put}
 use Rattle.core_laws.specs.SlotParts.{SlotHolds, SlotPart}
-use Rattle.core_laws.specs.Joined.{IsObjectFile, Parts, PartsHold}
+use Rattle.core_laws.specs.Joined.{Parts, PartsHold}
 use Rattle.core_laws.specs.Moves.{GateMoves}
 use Rattle.core_laws.specs.TamperScenarios.{TamperScenario}
 use Rattle.core_laws.specs.Stores.{Store}
@@ -18,8 +19,8 @@ use Rattle.commit_gate.specs.Resting.{IsGateOf, StepsTo, resting_part}
 pub record HandsBack (store : Store) (from : Parts) (file : ℕ) (slot : SlotPart) (view : GateView) : Type 0 where
   pub same_file : slot.file ≡ (from.slots file).file
   pub same_stage : slot.stage ≡ (from.slots file).stage
-  pub holds : 1 ≤ file → SlotHolds store.keys slot
-  pub numbered : 1 ≤ file → slot.view.file ≡ file
+  pub holds : file ≢ directory_file → SlotHolds store.keys slot
+  pub numbered : file ≢ directory_file → slot.view.file ≡ file
   pub fits : IsObjectFile file → SlotFits view slot.view
   pub others : (other : ℕ) → IsObjectFile other → other ≢ file → SlotFits view (from.slots other).view
 
@@ -28,6 +29,6 @@ abbrev pub RestingGatesMove : Type 0
 RestingGatesMove =
     (store : Store) (scenario : TamperScenario) (from : Parts) (file : ℕ) (slot : SlotPart) (g : Sides) (doubt : Option Doubted) (holds : List (Option ℕ)) (view : GateView)
     → PartsHold (phase_under store scenario) from → (to : StepsTo store scenario (Some (record { file = file; state = (from.slots file).file })) from.gate g doubt holds view)
-    → IsGateOf store g doubt holds to.card → IsTiedUnder store scenario view g.dir.entries g.counter doubt → (IsTrusted (phase_under store scenario) 0 → IsTrue g.file.honest)
+    → IsGateOf store g doubt holds to.card → IsTiedUnder store scenario view g.dir.entries g.counter doubt → (IsTrusted (phase_under store scenario) directory_file → IsTrue g.file.honest)
     → HandsBack store from file slot view
     → GateMoves (phase_under store scenario) from (record { gate = resting_part store scenario g doubt holds to.card view; slots = put from.slots file slot })

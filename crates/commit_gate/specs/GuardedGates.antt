@@ -14,6 +14,7 @@ use Rattle.core_laws.specs.Answered.{AreAnswered}
 use Rattle.store_commit.specs.declared.gate.Doubted.{Doubted}
 use Rattle.store_commit.specs.Changes.{change_of}
 use Rattle.store_commit.specs.Gates.{GateValue}
+use Rattle.commit_gate.specs.CurrentFiles.{AreFilesCurrent}
 use Rattle.commit_gate.specs.Journals.{IsJournal, JournalValue}
 use Rattle.core_laws.specs.Ties.{DoubtedChange, IsTied}
 use Rattle.call_rules.specs.OpenHandles.{AreOpen}
@@ -54,3 +55,4 @@ pub record GateInvariant {F R : Type 0} (store : Store) (gate : GateValue F R) (
   pub closes : IsClosingTied store knows gate.doubt closing
   pub directory_key : gate.dir.dir.tsk ≡ directory_key store.keys
   pub card_key : gate.host.key ≡ rpmb_key store.keys.huk
+  pub current : AreFilesCurrent gate.dir.dir gate.doubt

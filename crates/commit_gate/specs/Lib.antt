@@ -1,3 +1,4 @@
+pub mod CurrentFiles
 pub mod GuardedGates
 pub mod KnownMachine
 pub mod Answering

@@ -1,6 +1,8 @@
 -- A gate between two calls.
 use Rattle.std.specs.Prelude.{◌≡◌, ℕ, List, Option, None, IsTrue}
 use Rattle.disk_model.specs.State.{Sound}
+use Rattle.node_image.specs.References.{current_format}
+use Rattle.tee_types.specs.Limits.{directory_file}
 use Rattle.rpmb_card.specs.Card.{CardState}
 use Rattle.history_seats.specs.Views.{GateView}
 use Rattle.crash_core.specs.DeviceKeys.{directory_key}
@@ -22,6 +24,7 @@ use Rattle.commit_gate.specs.Readings.{IsTiedUnder}
 pub record IsGateOf (store : Store) (g : Sides) (doubt : Option Doubted) (holds : List (Option ℕ)) (card : CardState) : Type 0 where
   pub tsk : g.dir.tsk ≡ directory_key store.keys
   pub sound : Sound g.file
+  pub current : g.dir.root.format ≡ current_format
   pub stands : DoubtStands g doubt
   pub held : AreHolds g.dir.entries holds
   pub told : IsCardOf g card
@@ -46,5 +49,5 @@ pub record IsResting (phase : Phase) (g : GatePart) : Type 0 where
 abbrev pub RestingGatesHold : Type 0
 RestingGatesHold =
     (store : Store) (scenario : TamperScenario) (g : Sides) (doubt : Option Doubted) (holds : List (Option ℕ)) (card : CardState) (view : GateView)
-    → IsGateOf store g doubt holds card → IsTiedUnder store scenario view g.dir.entries g.counter doubt → (IsTrusted (phase_under store scenario) 0 → IsTrue g.file.honest)
+    → IsGateOf store g doubt holds card → IsTiedUnder store scenario view g.dir.entries g.counter doubt → (IsTrusted (phase_under store scenario) directory_file → IsTrue g.file.honest)
     → IsResting (phase_under store scenario) (resting_part store scenario g doubt holds card view)

@@ -1,10 +1,12 @@
 -- A step of a slot is one of the core machine, whatever the other parts are.
-use Rattle.std.proofs.Common.{◌≡◌, ◌≢◌, ◌⊎◌, ℕ, ◌<◌, ◌≤◌, List, eqb, cond, length, IsTrue, Option, Some, None, inl, inr, refl, sym, ◌∙◌, ap, subst}
+use Rattle.std.proofs.Common.{◌≡◌, ◌≢◌, ◌⊎◌, ℕ, ◌<◌, List, eqb, cond, length, IsTrue, Option, Some, None, inl, inr, refl, sym, ◌∙◌, ap, subst}
 use Rattle.std.specs.Option.{option_map}
 use Rattle.std.proofs.lemmas.Bool.{cases_eq}
 use Rattle.disk_model.specs.State.{FileState}
 use Rattle.disk_model.specs.Keeps.{FileCall, write, sync, rest}
 use Rattle.node_image.specs.declared.node.RootRef.{RootRef}
+use Rattle.tee_types.specs.Limits.{IsObjectFile, directory_file}
+use Rattle.tee_types.proofs.FileNumbers.{object_not_directory}
 use Rattle.store_model.specs.Object.{ObjectMap}
 use Rattle.dir_records.specs.declared.entry.DirEntry.{DirEntry}
 use Rattle.history_seats.specs.Records.{Version}
@@ -21,7 +23,7 @@ use Rattle.crash_core.proofs.Lists.{map_at, put_else, put_here, set_here}
 use Rattle.core_laws.specs.SlotParts.{Knows, SlotHolds, SlotPart}
 use Rattle.core_laws.specs.SlotSteps.{CallFile, DropOpenStage, FileUser, IsSlotCall, IsSlotStep, IsStageWritten, Reader, SlotStep, Stager, Taker}
 use Rattle.core_laws.specs.GateParts.{GateDirectory, GatePart, GatePending, GateSealed}
-use Rattle.core_laws.specs.Joined.{IsObjectFile, Parts, PartsHold, core_of, files_of}
+use Rattle.core_laws.specs.Joined.{Parts, PartsHold, core_of, files_of}
 use Rattle.core_laws.specs.Moves.{MayUse}
 use Rattle.core_laws.proofs.JoinedParts.{file_is}
 use Rattle.core_laws.proofs.SlotRuns.{spared_missed, step_honest}
@@ -51,18 +53,18 @@ put_map g f n x k = elim (cases_eq k n) [
 ]
 
 -- THE CORE WITH ANOTHER SLOT
-module _ (g : GatePart) (slots : ℕ → SlotPart) (file : ℕ) (least : 1 ≤ file) (slot : SlotPart) where
+module _ (g : GatePart) (slots : ℕ → SlotPart) (file : ℕ) (other : file ≢ directory_file) (slot : SlotPart) where
   -- the files with that slot's
   pub files_put : files_of g (put slots file slot) ≡ put (files_of g slots) file slot.file
   files_put =
       let same : (n : ℕ) → files_of g (put slots file slot) n ≡ put (files_of g slots) file slot.file n = λ n. elim (cases_eq n file) [
         | inl is ↦
-            file_is g (put slots file slot) n (subst (λ (k : ℕ). 1 ≤ k) (sym is) least)
+            file_is g (put slots file slot) n (subst (λ (k : ℕ). k ≢ directory_file) (sym is) other)
             ∙ ap (λ (s : SlotPart). s.file) (put_here slots file slot n is)
             ∙ sym (put_here (files_of g slots) file slot.file n is)
-        | inr other ↦
-            ap (λ (s : SlotPart). cond (eqb n 0) g.directory s.file) (put_else slots file slot n other)
-            ∙ sym (put_else (files_of g slots) file slot.file n other)
+        | inr apart ↦
+            ap (λ (s : SlotPart). cond (eqb n directory_file) g.directory s.file) (put_else slots file slot n apart)
+            ∙ sym (put_else (files_of g slots) file slot.file n apart)
       ] in
       (λ j n. same n j)
 
@@ -93,8 +95,11 @@ module _ (phase : Phase) (p : Parts) (h : PartsHold phase p) (file : ℕ) (of_ob
   abbrev old : SlotPart
   old = p.slots file
 
+  other : file ≢ directory_file
+  other = object_not_directory file of_object.0 of_object.1
+
   here : (p.slots file).file ≡ files_of p.gate p.slots file
-  here = sym (file_is p.gate p.slots file of_object.0)
+  here = sym (file_is p.gate p.slots file other)
 
   module _ (user : FileUser) (from upto : ℕ) (new : SlotPart) (step : IsSlotCall user (write from upto) (p.slots file) new) (honest : IsTrusted phase file → IsTrue new.file.honest) (trusted : IsTrusted phase file) where
     -- the write misses what an entry of the file selects
@@ -104,13 +109,13 @@ module _ (phase : Phase) (p : Parts) (h : PartsHold phase p) (file : ℕ) (of_ob
         let found = held_here d.held entries index e d.holds at in
         let x : Held = found.0 in
         let of_file : x.entry.file ≡ file = ap (λ (y : DirEntry). y.file) found.2 ∙ sym own in
-        let slot : SlotHolds phase.keys old = h.slots file of_object.0 in
+        let slot : SlotHolds phase.keys old = h.slots file other in
         let was : IsTrue old.file.honest = step_honest user old (CallFile (write from upto)) new step (honest trusted) in
         let spares = step.spares (honest trusted) in
         elim (d.each index x found.1 (subst (IsTrusted phase) (sym of_file) trusted)) [
           | inl known ↦
               let v : Version = known.0 in
-              let knows : Knows old.view v = entry_is_known p.gate.view old.view x.entry v (h.fit.fits file of_object) (h.fit.numbered file of_object.0 ∙ sym of_file) known.1 in
+              let knows : Knows old.view v = entry_is_known p.gate.view old.view x.entry v (h.fit.fits file of_object) (h.fit.numbered file other ∙ sym of_file) known.1 in
               subst (Misses from upto old.file.reads) (known.2.root ∙ ap root_of found.2)
               (spared_missed phase.keys old.file old.view (write from upto) v slot.sound (slot.stands was v knows) knows spares)
           | inr putting ↦ absurd (free x putting of_file)
@@ -155,7 +160,7 @@ module _ (phase : Phase) (p : Parts) (h : PartsHold phase p) (file : ℕ) (of_ob
       write_step : (actor : ℕ) → MayWrite phase (core_of p.gate p.slots) actor file (put (λ n. (p.slots n).stage) file new.stage) → StepsTo new
       write_step actor may = (
         WriteFile actor file from upto,
-        (of_object.0, stages, may, named, sealed, new.file, file_step (write from upto) c, core_put p.gate p.slots file of_object.0 new),
+        (other, stages, may, named, sealed, new.file, file_step (write from upto) c, core_put p.gate p.slots file other new),
       )
 
       same_stages : new.stage ≡ (p.slots file).stage → put (λ n. (p.slots n).stage) file new.stage ≡ (λ n. (p.slots n).stage)
@@ -168,6 +173,7 @@ module _ (phase : Phase) (p : Parts) (h : PartsHold phase p) (file : ℕ) (of_ob
           none = none;
           root = may.0;
           named = may.1;
+          current = may.2;
           loads = λ trusted. let missed = named trusted may.0 may.1 in (missed.tree, missed.loads);
         },
         ap (λ (o : Option ℕ). put (λ n. (p.slots n).stage) file o) is,
@@ -181,15 +187,15 @@ module _ (phase : Phase) (p : Parts) (h : PartsHold phase p) (file : ℕ) (of_ob
 
     call_is_step : (call : FileCall) → MayUse p.gate file user → IsSlotCall user call (p.slots file) new → StepsTo new
     call_is_step (write from upto) may c = write_is_step user from upto may c c.stage
-    call_is_step sync may c = (SyncFile file, (of_object.0, new.file, file_step sync c, core_put_file p.gate p.slots file of_object.0 new c.stage))
-    call_is_step rest may c = (RestFile file, (new.file, file_step rest c, core_put_file p.gate p.slots file of_object.0 new c.stage))
+    call_is_step sync may c = (SyncFile file, (other, new.file, file_step sync c, core_put_file p.gate p.slots file other new c.stage))
+    call_is_step rest may c = (RestFile file, (new.file, file_step rest c, core_put_file p.gate p.slots file other new c.stage))
 
     drop_is_step : new ≡ record (p.slots file) { stage = None } → StepsTo new
     drop_is_step is =
         let dropped : SlotPart = record old { stage = None } in
         let files : put (files_of p.gate p.slots) file dropped.file ≡ files_of p.gate p.slots = put_same (files_of p.gate p.slots) file dropped.file here in
         let core : core_of p.gate (put p.slots file dropped) ≡ record (core_of p.gate p.slots) { stages = put (λ n. (p.slots n).stage) file None } =
-        core_put p.gate p.slots file of_object.0 dropped ∙ (λ j. record (core_of p.gate p.slots) { files = files j; stages = put (λ n. (p.slots n).stage) file None }) in
+        core_put p.gate p.slots file other dropped ∙ (λ j. record (core_of p.gate p.slots) { files = files j; stages = put (λ n. (p.slots n).stage) file None }) in
         (DropStage file, ap (λ (s : SlotPart). core_of p.gate (put p.slots file s)) is ∙ core)
 
     -- Each step of the slot is one of the core machine.

@@ -3,12 +3,14 @@ use Rattle.std.proofs.Common.{◌≡◌, ◌⊎◌, ℕ, ◌<◌, List, [], ◌�
 use Rattle.disk_model.specs.State.{FileState, Sound}
 use Rattle.disk_model.specs.Keeps.{CallOff, FileCall, IsFileRun, write, sync, rest}
 use Rattle.disk_model.proofs.ImageLaws.{reads_left}
+use Rattle.node_image.specs.References.{IsCurrent}
 use Rattle.node_image.specs.declared.node.RootRef.{RootRef}
 use Rattle.node_image.specs.Selection.{selected_tree}
 use Rattle.htree_file.specs.Opening.{Loaded, load_of}
 use Rattle.htree_file.specs.Pages.{opened_of}
 use Rattle.htree_file.specs.Selected.{Lies}
 use Rattle.htree_file.specs.Standing.{IsFirm}
+use Rattle.tee_types.specs.Limits.{directory_file}
 use Rattle.crash_core.specs.DeviceKeys.{directory_key}
 use Rattle.crash_core.specs.Sights.{Sight, Stands, sight_of}
 use Rattle.crash_core.specs.CoreState.{IsTrusted, PendingCommit, Phase}
@@ -30,15 +32,15 @@ pub record StandsLoaded (key : List ℕ) (s : FileState) (root : RootRef) (tree 
   pub loads : sight.loads ≡ Ok tree
 
 -- a firm tree does
-firm_stands : (key : List ℕ) (s : FileState) (root : RootRef) (tree : Loaded) → Sound s → root.version < 2 → IsFirm s root tree → StandsLoaded key s root tree
-firm_stands key s root tree sound bit firm =
+firm_stands : (key : List ℕ) (s : FileState) (root : RootRef) (tree : Loaded) → Sound s → IsCurrent root → IsFirm s root tree → StandsLoaded key s root tree
+firm_stands key s root tree sound current firm =
     let here = firm s.reads (reads_left s sound) in
     record {
       sight = sight_of key s.reads root;
       stands = record {
-        bit = bit;
+        current = current;
         alike = λ image left.
-            let selects : selected_tree image root.version ≡ selected_tree s.reads root.version = (firm image left).selects in
+            let selects : selected_tree image root ≡ selected_tree s.reads root = (firm image left).selects in
             let loads : load_of image root ≡ load_of s.reads root = (firm image left).opens ∙ sym here.opens in
             let opened : opened_of key image root ≡ opened_of key s.reads root = opened_same key image s.reads root selects loads in
             (λ j. record { tree = selects j; loads = loads j; opened = opened j });
@@ -47,7 +49,7 @@ firm_stands key s root tree sound bit firm =
     }
 
 -- what writes at no place of its parts misses it
-off_missed : (key : List ℕ) (s : FileState) (root : RootRef) (tree : Loaded) (call : FileCall) → Sound s → StandsLoaded key s root tree → CallOff (Lies tree.nodes root.version) call → CallMisses call s.reads root
+off_missed : (key : List ℕ) (s : FileState) (root : RootRef) (tree : Loaded) (call : FileCall) → Sound s → StandsLoaded key s root tree → CallOff (Lies tree.layout tree.nodes root.version) call → CallMisses call s.reads root
 off_missed key s root tree (write from upto) sound stands off = record {
   tree = tree;
   loads = ap (λ (x : Sight). x.loads) (stands.stands.alike s.reads (reads_left s sound)) ∙ stands.loads;
@@ -71,7 +73,7 @@ file_run_sound Kept old (call ∷ calls) new run sound = run.1
 
 module _ (phase : Phase) (handed : Option Handed) (p : PendingCommit) (tree : Loaded) where
   abbrev pub Kept : RootRef → ℕ → Type 0
-  Kept root = Lies tree.nodes root.version
+  Kept root = Lies tree.layout tree.nodes root.version
 
   -- the commit that is pending after a call, and after a run
   abbrev called_pending : FileCall → Option PendingCommit → Option PendingCommit
@@ -95,15 +97,15 @@ module _ (phase : Phase) (handed : Option Handed) (p : PendingCommit) (tree : Lo
   still_one (sync ∷ calls) was = still_one calls was
   still_one (rest ∷ calls) was = still_one calls was
 
-  call_step : (g : GatePart) (call : FileCall) (new : FileState) → IsOpenFor g.pending p → (IsTrusted phase 0 → CallMisses call g.directory.reads g.root) → IsFileStep phase 0 call g.directory new
+  call_step : (g : GatePart) (call : FileCall) (new : FileState) → IsOpenFor g.pending p → (IsTrusted phase directory_file → CallMisses call g.directory.reads g.root) → IsFileStep phase directory_file call g.directory new
       → GateSteps phase handed g (record g { directory = new; pending = called_pending call g.pending })
   call_step g (write from upto) new open_ misses step =
       one_step phase handed g (WriteDirectory p from upto) (record g { directory = new; pending = Some p }) (write_directory_is_step phase handed g p from upto new open_.0 open_.1 misses step)
   call_step g sync new open_ misses step = one_step phase handed g SyncDirectory (record g { directory = new }) (sync_directory_is_step phase handed g new step)
-  call_step g rest new open_ misses step = one_step phase handed g (RestFile 0) (record g { directory = new }) (rest_directory_is_step phase handed g new step)
+  call_step g rest new open_ misses step = one_step phase handed g (RestFile directory_file) (record g { directory = new }) (rest_directory_is_step phase handed g new step)
 
-  run_steps : (calls : List FileCall) (g : GatePart) (new : FileState) → IsOpenFor g.pending p → (IsTrusted phase 0 → StandsLoaded (directory_key phase.keys) g.directory g.root tree)
-      → IsFileRun (Kept g.root) g.directory calls new → Sound new → (IsTrusted phase 0 → IsTrue new.honest)
+  run_steps : (calls : List FileCall) (g : GatePart) (new : FileState) → IsOpenFor g.pending p → (IsTrusted phase directory_file → StandsLoaded (directory_key phase.keys) g.directory g.root tree)
+      → IsFileRun (Kept g.root) g.directory calls new → Sound new → (IsTrusted phase directory_file → IsTrue new.honest)
       → GateSteps phase handed g (record g { directory = new; pending = run_pending calls g.pending })
   run_steps [] g new open_ stands run sound honest = record { steps = []; run = λ slots. (λ j. core_of (record g { directory = run j }) slots) }
   run_steps (call ∷ calls) g new open_ stands run sound honest =
@@ -111,10 +113,10 @@ module _ (phase : Phase) (handed : Option Handed) (p : PendingCommit) (tree : Lo
       let mid : FileState = run.0 in
       let old : FileState = g.directory in
       let then : GatePart = record g { directory = mid; pending = called_pending call g.pending } in
-      let fine : IsTrusted phase 0 → IsTrue mid.honest = λ trusted. file_run_honest (Kept g.root) mid calls new run.4 (honest trusted) in
+      let fine : IsTrusted phase directory_file → IsTrue mid.honest = λ trusted. file_run_honest (Kept g.root) mid calls new run.4 (honest trusted) in
       let whole : Sound mid = file_run_sound (Kept g.root) mid calls new run.4 sound in
-      let misses : IsTrusted phase 0 → CallMisses call old.reads g.root = λ trusted. off_missed key old g.root tree call run.1 (stands trusted) run.3 in
-      let after : IsTrusted phase 0 → StandsLoaded key mid g.root tree = λ trusted.
+      let misses : IsTrusted phase directory_file → CallMisses call old.reads g.root = λ trusted. off_missed key old g.root tree call run.1 (stands trusted) run.3 in
+      let after : IsTrusted phase directory_file → StandsLoaded key mid g.root tree = λ trusted.
       let was = stands trusted in
       record { sight = was.sight; stands = call_stands call old mid key g.root was.sight run.1 whole (fine trusted) run.2 (misses trusted) was.stands; loads = was.loads } in
       let first : GateSteps phase handed g then = call_step g call mid open_ misses (record { called = run.2; sound = whole; honest = fine }) in
@@ -122,9 +124,9 @@ module _ (phase : Phase) (handed : Option Handed) (p : PendingCommit) (tree : Lo
       (run_steps calls then new (still_open call g.pending open_) after run.4 sound honest)
 
 pub directory_runs_are_steps : DirectoryRunsAreSteps
-directory_runs_are_steps phase handed g p tree new open_ bit firm runs sound honest =
-    let begins : Sound g.directory = file_run_sound (Lies tree.nodes g.root.version) g.directory runs.calls new runs.run sound in (
+directory_runs_are_steps phase handed g p tree new open_ current firm runs sound honest =
+    let begins : Sound g.directory = file_run_sound (Lies tree.layout tree.nodes g.root.version) g.directory runs.calls new runs.run sound in (
       run_pending phase handed p tree runs.calls g.pending,
       still_one phase handed p tree runs.calls g.pending,
-      run_steps phase handed p tree runs.calls g new open_ (λ trusted. firm_stands (directory_key phase.keys) g.directory g.root tree begins bit (firm trusted)) runs.run sound honest,
+      run_steps phase handed p tree runs.calls g new open_ (λ trusted. firm_stands (directory_key phase.keys) g.directory g.root tree begins current (firm trusted)) runs.run sound honest,
     )

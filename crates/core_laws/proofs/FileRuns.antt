@@ -48,7 +48,7 @@ may_called user rest stage may = may
 
 -- each version that the view knows loads, and the parts that it selects are kept
 abbrev pub AreKept : (Kept : ℕ → Type 0) → SlotView → Type 0
-AreKept Kept view = (v : Version) → Knows view v → (tree : Loaded) × (v.loads ≡ Ok tree) × ((place : ℕ) → Lies tree.nodes v.root.version place → Kept place)
+AreKept Kept view = (v : Version) → Knows view v → (tree : Loaded) × (v.loads ≡ Ok tree) × ((place : ℕ) → Lies tree.layout tree.nodes v.root.version place → Kept place)
 
 module _ (Kept : ℕ → Type 0) (user : FileUser) where
   -- what writes at no kept place spares the versions
@@ -94,10 +94,10 @@ kept_steps Kept user old new may kept runs sound =
     (run_stage user runs.calls old.stage, record { steps = map CallFile runs.calls; run = run_steps Kept user runs.calls old new may kept runs.run sound })
 
 -- a view that knows one tree knows nothing that this does not keep
-one_kept : (root : RootRef) (tree : Loaded) (view : SlotView) → KnowsOne root tree view → AreKept (Lies tree.nodes root.version) view
+one_kept : (root : RootRef) (tree : Loaded) (view : SlotView) → KnowsOne root tree view → AreKept (Lies tree.layout tree.nodes root.version) view
 one_kept root tree view one v known =
-    let own = one v known in (tree, own.1, λ place at. subst (λ (r : RootRef). Lies tree.nodes r.version place) own.0 at)
+    let own = one v known in (tree, own.1, λ place at. subst (λ (r : RootRef). Lies tree.layout tree.nodes r.version place) own.0 at)
 
 pub file_runs_are_steps : FileRunsAreSteps
 file_runs_are_steps user old root tree new may one runs sound =
-    kept_steps (Lies tree.nodes root.version) user old new may (λ honest. one_kept root tree old.view (one honest)) runs sound
+    kept_steps (Lies tree.layout tree.nodes root.version) user old new may (λ honest. one_kept root tree old.view (one honest)) runs sound

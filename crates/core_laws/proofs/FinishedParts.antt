@@ -2,6 +2,7 @@
 use Rattle.std.proofs.Common.{◌≡◌, ℕ, ◌+◌, Option, Some, None, inl, inr, refl, sym, ◌∙◌, ap}
 use Rattle.disk_model.specs.State.{FileState}
 use Rattle.node_image.specs.declared.node.RootRef.{RootRef}
+use Rattle.tee_types.specs.Limits.{directory_file}
 use Rattle.tee_types.specs.declared.call.Call.{Call}
 use Rattle.store_model.specs.Calls.{state_after}
 use Rattle.store_model.specs.Commits.{with_doubt}
@@ -24,7 +25,7 @@ doubted_map s p d =
     ∙ ap (λ (n : ℕ). Some (state_after s.state n d.doubt.call).objects) (sym d.session)
     ∙ ap (λ (call : Call). Some (state_after s.state p.session call).objects) (sym d.call)
 
-module _ (phase : Phase) (p : Parts) (picture : Picture) (h : PartsHold phase p) (is : IsPictureOf (files_of p.gate p.slots) p.gate.card picture) (trusted : IsTrusted phase 0) where
+module _ (phase : Phase) (p : Parts) (picture : Picture) (h : PartsHold phase p) (is : IsPictureOf (files_of p.gate p.slots) p.gate.card picture) (trusted : IsTrusted phase directory_file) where
   -- the card names the directory of the history, or that of the commit in doubt
   abbrev s : ReplayState
   s = replay_of phase p.gate.view
@@ -49,13 +50,13 @@ module _ (phase : Phase) (p : Parts) (picture : Picture) (h : PartsHold phase p)
   pending_mounts None doubts names = committed_mounts names
   pending_mounts (Some commit) doubts stands = sealed_mounts commit commit.sealed (doubts commit refl) stands
 
-pub finish_mounts : (phase : Phase) (p : Parts) (picture : Picture) → PartsHold phase p → IsAtRest phase p.gate → IsPictureOf (files_of p.gate p.slots) p.gate.card picture → IsTrusted phase 0
+pub finish_mounts : (phase : Phase) (p : Parts) (picture : Picture) → PartsHold phase p → IsAtRest phase p.gate → IsPictureOf (files_of p.gate p.slots) p.gate.card picture → IsTrusted phase directory_file
     → MountsAfter phase picture (replay_of phase p.gate.view)
 finish_mounts phase p picture h rests is trusted = pending_mounts phase p picture h is trusted p.gate.pending rests (pending_stands phase p h p.gate.pending h.gate.pending)
 
 -- Where every file is honest, to that map itself.
 pub honest_finish_mounts : HonestFinishMounts
-honest_finish_mounts phase p picture h rests is trusted = elim (finish_mounts phase p picture h rests is (trusted 0)) [
+honest_finish_mounts phase p picture h rests is trusted = elim (finish_mounts phase p picture h rests is (trusted directory_file)) [
   | inl mounts ↦ inl (mounts_whole phase picture ((replay_of phase p.gate.view).state).objects trusted mounts)
   | inr doubt ↦ inr (doubt.0, doubt.1, mounts_whole phase picture doubt.0 trusted doubt.2)
 ]

@@ -1,9 +1,10 @@
 -- What makes a step of the gate: what is asked of it speaks of the gate's part, and of the slot that it is handed.
-use Rattle.std.proofs.Common.{◌≡◌, ◌≢◌, ◌⊎◌, ℕ, ◌≤◌, List, [], ◌∷◌, ◌++◌, eqb, Option, Some, None, inl, inr, refl, sym, ◌∙◌, ap, subst, arith, ne_eqb}
-use Rattle.std.proofs.lemmas.Bool.{cases_eq, cond-false}
-use Rattle.disk_model.specs.State.{FileState}
+use Rattle.std.proofs.Common.{◌≡◌, ◌≢◌, ◌⊎◌, ℕ, List, [], ◌∷◌, ◌++◌, eqb, Option, Some, None, Ok, inl, inr, refl, sym, ◌∙◌, ap, subst, eq-eqb, ne_eqb}
+use Rattle.std.proofs.lemmas.Bool.{cases_eq, cond-false, cond-true}
+use Rattle.disk_model.specs.State.{FileState, pending}
 use Rattle.disk_model.specs.Keeps.{write, sync, rest}
 use Rattle.node_image.specs.declared.node.RootRef.{RootRef}
+use Rattle.tee_types.specs.Limits.{directory_file}
 use Rattle.tee_types.specs.declared.call.Call.{Call}
 use Rattle.tee_types.specs.declared.reply.Reply.{Reply}
 use Rattle.store_model.specs.declared.event.Event.TheVariants.{Call as CallEvent, Landed}
@@ -16,6 +17,8 @@ use Rattle.store_model.specs.Legal.{IsLegalEvent}
 use Rattle.history_seats.specs.Records.{HistoryRecord, Version}
 use Rattle.history_seats.specs.Views.{GateView}
 use Rattle.history_seats.specs.Changes.{with_record}
+use Rattle.crash_core.specs.DeviceKeys.{directory_key}
+use Rattle.crash_core.specs.Directory.{directory_of}
 use Rattle.crash_core.specs.EntryLists.{IsUnnamed}
 use Rattle.crash_core.specs.EntryChanges.{Clear, EntryChange, Put, changed, file_put}
 use Rattle.crash_core.specs.Mounting.{Held}
@@ -30,40 +33,52 @@ use Rattle.core_laws.specs.GateParts.{GatePart, replay_of}
 use Rattle.core_laws.specs.GateSteps.{GateSteps, Handed, IsGateRun, IsGateStep, IsHanded}
 use Rattle.core_laws.specs.GateLaws.{HandedShows, MaySeal}
 use Rattle.core_laws.specs.Joined.{core_of, files_of}
+use Rattle.core_laws.proofs.JoinedParts.{directory_is, file_is}
 
 -- the files with another directory's file
-directory_put : (g : GatePart) (slots : ℕ → SlotPart) (new : FileState) → files_of (record g { directory = new }) slots ≡ put (files_of g slots) 0 new
+directory_put : (g : GatePart) (slots : ℕ → SlotPart) (new : FileState) → files_of (record g { directory = new }) slots ≡ put (files_of g slots) directory_file new
 directory_put g slots new =
-    let same : (n : ℕ) → files_of (record g { directory = new }) slots n ≡ put (files_of g slots) 0 new n = λ n. elim (cases_eq n 0) [
-      | inl is ↦ subst (λ (k : ℕ). files_of (record g { directory = new }) slots k ≡ put (files_of g slots) 0 new k) (sym is) refl
+    let same : (n : ℕ) → files_of (record g { directory = new }) slots n ≡ put (files_of g slots) directory_file new n = λ n. elim (cases_eq n directory_file) [
+      | inl is ↦
+          let on = eq-eqb n directory_file is in
+          cond-true (eqb n directory_file) new (slots n).file on ∙ sym (cond-true (eqb n directory_file) new (files_of g slots n) on)
       | inr other ↦
-          let off = ne_eqb n 0 other in
-          cond-false (eqb n 0) new (slots n).file off
-          ∙ sym (cond-false (eqb n 0) new (files_of g slots n) off ∙ cond-false (eqb n 0) g.directory (slots n).file off)
+          let off = ne_eqb n directory_file other in
+          cond-false (eqb n directory_file) new (slots n).file off
+          ∙ sym (cond-false (eqb n directory_file) new (files_of g slots n) off ∙ cond-false (eqb n directory_file) g.directory (slots n).file off)
     ] in
     (λ j n. same n j)
 
+-- what holds of the gate's directory holds of the file of its number
+of_directory : (g : GatePart) (slots : ℕ → SlotPart) (P : FileState → Type 0) → P g.directory → P (files_of g slots directory_file)
+of_directory g slots P own = subst P (sym (directory_is g slots)) own
+
 module _ (phase : Phase) (handed : Option Handed) (g : GatePart) where
   -- A free file is taken, or is no longer.
-  pub take_is_step : (actor file : ℕ) → 1 ≤ file → IsUnnamed g.entries file → ((p : PendingCommit) → g.pending ≡ Some p → file_put p.change ≢ Some file) → g.takes file ≡ None
+  pub take_is_step : (actor file : ℕ) → file ≢ directory_file → IsUnnamed g.entries file → ((p : PendingCommit) → g.pending ≡ Some p → file_put p.change ≢ Some file) → g.takes file ≡ None
       → IsGateStep phase handed g (TakeFile actor file) (record g { takes = put g.takes file (Some actor) })
-  take_is_step actor file least unnamed unput free slots known = (least, unnamed, unput, free, refl)
+  take_is_step actor file other unnamed unput free slots known = (other, unnamed, unput, free, refl)
 
   pub drop_taking_is_step : (file : ℕ) → ((p : PendingCommit) → g.pending ≡ Some p → file_put p.change ≢ Some file)
       → IsGateStep phase handed g (DropTaking file) (record g { takes = put g.takes file None })
   drop_taking_is_step file unput slots known = (unput, refl)
 
   -- A write of the directory's file is for the commit that is pending, or makes it so.
-  pub write_directory_is_step : (p : PendingCommit) (from upto : ℕ) (new : FileState) → ((g.pending ≡ None) ⊎ (g.pending ≡ Some p)) → p.sealed ≡ None → (IsTrusted phase 0 → Misses from upto g.directory.reads g.root)
-      → IsFileStep phase 0 (write from upto) g.directory new → IsGateStep phase handed g (WriteDirectory p from upto) (record g { directory = new; pending = Some p })
-  write_directory_is_step p from upto new open_ unsealed misses step slots known =
-      ((open_, unsealed), misses, new, step, (λ j. record (core_of g slots) { files = directory_put g slots new j; pending = Some p }))
+  pub write_directory_is_step : (p : PendingCommit) (from upto : ℕ) (new : FileState) → ((g.pending ≡ None) ⊎ (g.pending ≡ Some p)) → p.sealed ≡ None → (IsTrusted phase directory_file → Misses from upto g.directory.reads g.root)
+      → IsFileStep phase directory_file (write from upto) g.directory new → IsGateStep phase handed g (WriteDirectory p from upto) (record g { directory = new; pending = Some p })
+  write_directory_is_step p from upto new open_ unsealed misses step slots known = (
+    (open_, unsealed),
+    of_directory g slots (λ (s : FileState). IsTrusted phase directory_file → Misses from upto s.reads g.root) misses,
+    new,
+    of_directory g slots (λ (s : FileState). IsFileStep phase directory_file (write from upto) s new) step,
+    (λ j. record (core_of g slots) { files = directory_put g slots new j; pending = Some p }),
+  )
 
-  pub sync_directory_is_step : (new : FileState) → IsFileStep phase 0 sync g.directory new → IsGateStep phase handed g SyncDirectory (record g { directory = new })
-  sync_directory_is_step new step slots known = (new, step, (λ j. record (core_of g slots) { files = directory_put g slots new j }))
+  pub sync_directory_is_step : (new : FileState) → IsFileStep phase directory_file sync g.directory new → IsGateStep phase handed g SyncDirectory (record g { directory = new })
+  sync_directory_is_step new step slots known = (new, of_directory g slots (λ (s : FileState). IsFileStep phase directory_file sync s new) step, (λ j. record (core_of g slots) { files = directory_put g slots new j }))
 
-  pub rest_directory_is_step : (new : FileState) → IsFileStep phase 0 rest g.directory new → IsGateStep phase handed g (RestFile 0) (record g { directory = new })
-  rest_directory_is_step new step slots known = (new, step, (λ j. record (core_of g slots) { files = directory_put g slots new j }))
+  pub rest_directory_is_step : (new : FileState) → IsFileStep phase directory_file rest g.directory new → IsGateStep phase handed g (RestFile directory_file) (record g { directory = new })
+  rest_directory_is_step new step slots known = (new, of_directory g slots (λ (s : FileState). IsFileStep phase directory_file rest s new) step, (λ j. record (core_of g slots) { files = directory_put g slots new j }))
 
   -- A commit that is not sealed is dropped.
   pub drop_commit_is_step : (p : PendingCommit) → g.pending ≡ Some p → p.sealed ≡ None → IsGateStep phase handed g DropCommit (record g { pending = None })
@@ -76,9 +91,7 @@ module _ (phase : Phase) (handed : Option Handed) (g : GatePart) where
 handed_shows : (phase : Phase) (handed : Option Handed) (g : GatePart) (change : EntryChange) (object : Object) (slots : ℕ → SlotPart) → IsHanded handed slots → HandedShows phase handed change object
     → PutShows phase (files_of g slots) change object
 handed_shows phase (Some handed) g (Put index e) object slots known shows =
-    let least : 1 ≤ e.file = shows.1 in
-    let is : handed.state ≡ files_of g slots e.file =
-    sym known ∙ ap (λ (n : ℕ). (slots n).file) shows.0 ∙ sym (cond-false (eqb e.file 0) g.directory (slots e.file).file (ne_eqb e.file 0 (λ none. omega (arith, none, least)))) in
+    let is : handed.state ≡ files_of g slots e.file = sym known ∙ ap (λ (n : ℕ). (slots n).file) shows.0 ∙ sym (file_is g slots e.file shows.1) in
     λ trusted. subst (λ (s : FileState). Shows phase.keys s e object) is (shows.2 trusted)
 handed_shows phase (Some handed) g (Clear index) object slots known shows = tt
 handed_shows phase None g (Put index e) object slots known shows = absurd shows
@@ -94,8 +107,9 @@ module _ (phase : Phase) (handed : Option Handed) (g : GatePart) where
     unsealed,
     record {
       form = may.form;
-      settled = may.settled;
-      holds = may.holds;
+      current = may.current;
+      settled = of_directory g slots (λ (s : FileState). IsTrusted phase directory_file → pending s ≡ []) may.settled;
+      holds = of_directory g slots (λ (s : FileState). IsTrusted phase directory_file → directory_of (directory_key phase.keys) s.reads dir ≡ Ok (changed g.entries p.change)) may.holds;
       due = may.due;
       made = may.made;
       makes = may.makes;

@@ -3,16 +3,13 @@ use Rattle.std.proofs.Common.{◌≡◌, ◌+◌, ◌<◌, ℕ, List, [], length
 use Rattle.aes_block.specs.WrappedKey.{unwrapped_of}
 use Rattle.disk_model.specs.Bytes.{AreBytes}
 use Rattle.node_image.specs.declared.node.RootRef.{RootRef}
-use Rattle.node_image.specs.declared.node.NodeImage.{NodeImage}
-use Rattle.node_image.specs.declared.head.Head.{Head}
-use Rattle.node_image.specs.Tables.{at_node, block_bit}
-use Rattle.node_image.specs.Parts.Part.{block}
-use Rattle.node_image.specs.Selection.{head_in, part_in, selected_node}
-use Rattle.node_image.proofs.Matching.{node_is, row_at, row_same}
+use Rattle.node_image.specs.Tables.{at_node}
+use Rattle.node_image.proofs.Matching.{row_same}
 use Rattle.htree_file.specs.declared.fault.TreeFault.{TreeFault}
 use Rattle.htree_file.specs.Opening.{Loaded, load_of}
 use Rattle.htree_file.specs.Pages.{block_in, opened_in, page_in, page_of}
-use Rattle.htree_file.proofs.Loadings.{loaded_from, verified_from}
+use Rattle.htree_file.proofs.Loadings.{verified_from}
+use Rattle.htree_file.proofs.SelectedBlocks.{selected_block}
 use Rattle.hmac_keys.specs.declared.Keys.{Keys}
 use Rattle.crash_core.specs.DeviceKeys.{object_key}
 use Rattle.crash_core.specs.MountedObject.{object_of, object_or_damaged}
@@ -26,12 +23,7 @@ module _ (keys : Keys) (image : List ℕ) (root : RootRef) (app : List ℕ) (siz
 
   -- the ciphertexts are those of the image
   block-is : (tree : Loaded) → load_of image root ≡ Ok tree → (k : ℕ) → k < length tree.nodes → block_of v k ≡ block_in image tree k
-  block-is tree is k lt =
-      let l = loaded_from image root tree is in
-      row_at (λ j. part_in image (block j (block_bit (selected_node image root.version (j + 1)).flags))) (head_in image root.version).greatest k []
-      (omega (arith, lt, l.hashed.all, ap (λ (h : Head). h.greatest) l.top))
-      ∙ ap (λ (n : NodeImage). part_in image (block k (block_bit n.flags)))
-      (node_is image root.version tree.nodes (length tree.nodes) l.matches (k + 1) (omega arith) (omega (arith, lt)))
+  block-is = selected_block image root
 
   decodes-by : (r : Result Loaded TreeFault) → load_of image root ≡ r
       → object_decoded size attributes (tree_decoding_if (object_key keys app) (block_of v) r) ≡ object_or_damaged size attributes (opened_in image (object_key keys app) r)

@@ -11,16 +11,11 @@ use Rattle.disk_model.specs.State.{FileState}
 use Rattle.disk_model.proofs.Goings.{goes_on_none, goes_on_then}
 use Rattle.disk_model.proofs.Masks.{reads_armed, reads_masked_none, reads_masked_then}
 use Rattle.disk_model.proofs.Seen.{run_masked}
-use Rattle.node_image.specs.declared.node.NodeImage.{NodeImage}
-use Rattle.node_image.specs.declared.head.Head.{Head}
-use Rattle.node_image.specs.Parts.Part.{block}
-use Rattle.node_image.specs.Tables.{block_bit, block_version}
-use Rattle.node_image.specs.Selection.{SelectedTree, head_in, part_in, selected_node}
-use Rattle.node_image.proofs.Matching.{node_is, row_at}
+use Rattle.node_image.specs.Selection.{SelectedTree}
 use Rattle.htree_file.specs.Opening.{Loaded}
-use Rattle.htree_file.specs.Selected.{IsLoaded, Lies}
+use Rattle.htree_file.specs.Selected.{Lies}
 use Rattle.htree_file.specs.Pages.{block_in}
-use Rattle.htree_file.proofs.Loadings.{loaded_from}
+use Rattle.htree_file.proofs.SelectedBlocks.{selected_block}
 use Rattle.hmac_keys.specs.declared.Keys.{Keys}
 use Rattle.history_seats.specs.Records.{Version}
 use Rattle.core_laws.specs.SlotParts.{IsShownIn}
@@ -85,9 +80,9 @@ module _ (K L : ℕ → Type 0) (within : (p : ℕ) → L p → (K p → ⊥) �
   runs_within old new runs = record { calls = runs.calls; run = run_within old runs.calls new runs.run }
 
 -- What is read where a version lies goes on along a run that leaves these places alone.
-pub masked_later : (keys : Keys) (old new : FileState) (v : Version) (tree : Loaded) → IsTrue old.tells_arms → Runs (Lies tree.nodes v.root.version) old new → MaskedAt keys old v tree → MaskedAt keys new v tree
+pub masked_later : (keys : Keys) (old new : FileState) (v : Version) (tree : Loaded) → IsTrue old.tells_arms → Runs (Lies tree.layout tree.nodes v.root.version) old new → MaskedAt keys old v tree → MaskedAt keys new v tree
 masked_later keys old new v tree tells runs at =
-    let K : ℕ → Type 0 = Lies tree.nodes v.root.version in
+    let K : ℕ → Type 0 = Lies tree.layout tree.nodes v.root.version in
     record {
       committed = at.committed;
       shows = at.shows;
@@ -97,7 +92,7 @@ masked_later keys old new v tree tells runs at =
     }
 
 pub stands_later : (keys : Keys) (old new : FileState) (v : Version) → GoesOn old new
-    → ((taints : List Taint) (tree : Loaded) → told_taints new ≡ Some taints → HasOneTree keys taints v tree → Runs (Lies tree.nodes v.root.version) old new)
+    → ((taints : List Taint) (tree : Loaded) → told_taints new ≡ Some taints → HasOneTree keys taints v tree → Runs (Lies tree.layout tree.nodes v.root.version) old new)
     → StandsMasked keys old v → StandsMasked keys new v
 stands_later keys old new v goes runs stands taints tree told one =
     let was : told_taints old ≡ Some taints = sym (told_stays old new goes) ∙ told in
@@ -105,14 +100,14 @@ stands_later keys old new v goes runs stands taints tree told one =
 
 -- Where a file reads as bytes that show the version, these stand in it.
 pub stands_own : (keys : Keys) (file : FileState) (v : Version) → IsShownIn keys file.reads v → StandsMasked keys file v
-stands_own keys file v shows taints tree told one = record { committed = file.reads; shows = shows; reads = reads_masked_none (Lies tree.nodes v.root.version) file.arms file.reads }
+stands_own keys file v shows taints tree told one = record { committed = file.reads; shows = shows; reads = reads_masked_none (Lies tree.layout tree.nodes v.root.version) file.arms file.reads }
 
 -- What was seen of a version's bytes in a call was seen with masks over them.
 pub seen_masked : (keys : Keys) (taints : List Taint) (v : Version) (tree : Loaded) (K : ℕ → Type 0) (old now : FileState) (Shown : List ℕ → Type 0) → told_taints old ≡ Some taints → GoesOn old now
-    → MaskedAt keys old v tree → WasSeen K old now Shown → ShowsMasked keys taints v (λ place. K place × Lies tree.nodes v.root.version place) Shown
+    → MaskedAt keys old v tree → WasSeen K old now Shown → ShowsMasked keys taints v (λ place. K place × Lies tree.layout tree.nodes v.root.version place) Shown
 seen_masked keys taints v tree K old now Shown told goes at seen =
     let parts = told_parts old taints told in
-    let both : ℕ → Type 0 = λ place. K place × Lies tree.nodes v.root.version place in
+    let both : ℕ → Type 0 = λ place. K place × Lies tree.layout tree.nodes v.root.version place in
     let first : ReadsMasked both old.arms at.committed old.reads = record { masks = at.reads.masks; armed = at.reads.armed; are = λ place byte kept there. at.reads.are place byte kept.1 there } in
     let m : ReadsMasked K old.arms old.reads seen.past.reads = seen.masked parts.1 in
     let second : ReadsMasked both old.arms old.reads seen.past.reads = record { masks = m.masks; armed = m.armed; are = λ place byte kept there. m.are place byte kept.0 there } in
@@ -129,18 +124,9 @@ seen_masked keys taints v tree K old now Shown told goes at seen =
     }
 
 module _ (keys : Keys) (v : Version) (own : Loaded) (image : List ℕ) (shows : IsShownIn keys image v) (loads : v.loads ≡ Ok own) where
-  l : IsLoaded image v.root own
-  l = loaded_from image v.root own (shows.loads ∙ loads)
-
   -- the ciphertext of a block of the version
-  pub block_is : (k : ℕ) → k < length own.nodes → part_in image (block k (block_version own.nodes k)) ≡ block_of v k
-  block_is k lt =
-      sym
-      (ap (λ (t : SelectedTree). get_or t.blocks k []) (sym shows.selects)
-      ∙ row_at (λ j. part_in image (block j (block_bit (selected_node image v.root.version (j + 1)).flags))) (head_in image v.root.version).greatest k []
-      (omega (arith, lt, l.hashed.all, ap (λ (h : Head). h.greatest) l.top))
-      ∙ ap (λ (n : NodeImage). part_in image (block k (block_bit n.flags)))
-      (node_is image v.root.version own.nodes (length own.nodes) l.matches (k + 1) (omega arith) (omega (arith, lt))))
+  pub block_is : (k : ℕ) → k < length own.nodes → block_in image own k ≡ block_of v k
+  block_is k lt = sym (ap (λ (t : SelectedTree). get_or t.blocks k []) (sym shows.selects) ∙ selected_block image v.root own (shows.loads ∙ loads) k lt)
 
   -- it is shown with no mask
   pub own_shown : (taints : List Taint) (Kept : ℕ → Type 0) (k : ℕ) → k < length own.nodes → ShowsMasked keys taints v Kept (λ other. block_of v k ≡ block_in other own k)

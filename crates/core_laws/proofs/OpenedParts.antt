@@ -4,8 +4,10 @@ use Rattle.std.specs.Prelude.{◌==◌, Contains}
 use Rattle.std.specs.Option.{option_map}
 use Rattle.std.proofs.lemmas.Bool.{cases_Bool, cases_eq, cond-true, cond-false, and_parts, eqb-true}
 use Rattle.disk_model.specs.State.{FileState, LeftNow, pending}
+use Rattle.node_image.specs.References.{IsCurrent}
 use Rattle.node_image.specs.declared.node.RootRef.{RootRef}
 use Rattle.hmac_keys.specs.declared.Keys.{Keys}
+use Rattle.tee_types.specs.Limits.{directory_file}
 use Rattle.rpmb_card.specs.Card.{CardState}
 use Rattle.dir_records.specs.declared.entry.DirEntry.{DirEntry}
 use Rattle.history_seats.specs.Records.{Version}
@@ -28,6 +30,7 @@ use Rattle.core_laws.specs.GateParts.{GateDirectory, GateHolds, IsBacked, IsVers
 use Rattle.core_laws.specs.Joined.{Parts, PartsFit, PartsHold, files_of}
 use Rattle.core_laws.specs.Opened.{HasMounted, IsMountOf, IsMountedAs, OpeningsHold, first_parts, first_view}
 use Rattle.core_laws.proofs.Contained.{contains_cases, contains_first, contains_later, contains_none}
+use Rattle.core_laws.proofs.JoinedParts.{file_is}
 
 -- the first of the entries that has that file and generation
 pub record IsAmong (entries : List MountedEntry) (file generation : ℕ) (version : Option Version) : Type 0 where
@@ -83,12 +86,12 @@ module _ (keys : Keys) (files : ℕ → FileState) (entries : List (Option DirEn
       → ((image : List ℕ) → LeftNow (files file) image → image ≡ (files file).reads) → IsTrue (files file).honest → VersionStands keys (files file) v
   first_stands file v m h own is one honest =
       let e : DirEntry = h.entry in
-      let bit : m.version.root.version < 2 = subst (λ (r : RootRef). r.version < 2) (sym h.told.version.root) (o.forms.forms h.index e h.at).version in
+      let current : IsCurrent m.version.root = subst IsCurrent (sym h.told.version.root) ((o.forms.forms h.index e h.at).version, o.current h.index e h.at) in
       let shown : IsShownIn keys (files e.file).reads m.version = h.told.shown (subst (λ (n : ℕ). IsTrue (files n).honest) (sym own) honest) in
       let here : IsShownIn keys (files file).reads v =
       subst (λ (w : Version). IsShownIn keys (files file).reads w) is (subst (λ (n : ℕ). IsShownIn keys (files n).reads m.version) own shown) in
       record {
-        bit = subst (λ (w : Version). w.root.version < 2) is bit;
+        current = subst (λ (w : Version). IsCurrent w.root) is current;
         shown = λ image left. subst (λ (i : List ℕ). IsShownIn keys i v) (sym (one image left)) here;
       }
 
@@ -148,7 +151,7 @@ module _ (phase : Phase) (files : ℕ → FileState) (card : CardState) (root : 
       let known = first_known phase.keys files entries mounted t index found.0 found.1 in
       inl (known.0.version, inl known.1, known.2.version, mounted_is phase.keys (files found.0.file).reads found.0 known.0.version known.2.version (known.2.shown (o.honest found.0.file own)))) trusted
 
-  gate_directory : GateDirectory phase (files 0) p.gate.view None root entries phase.begins.objects
+  gate_directory : GateDirectory phase (files directory_file) p.gate.view None root entries phase.begins.objects
   gate_directory = record {
     own = λ trusted. let d = start.directory trusted in record { sight = d.sight; stands = d.own; reads = d.reads };
     held = all_held_in phase.keys (reads_of files) entries;
@@ -158,11 +161,11 @@ module _ (phase : Phase) (files : ℕ → FileState) (card : CardState) (root : 
   }
 
   gate_holds : GateHolds phase p.gate
-  gate_holds = record { sound = o.sound 0; committed = gate_directory; pending = o.names; taken = λ file actor taken. absurd (cc (taken)) }
+  gate_holds = record { sound = o.sound directory_file; committed = gate_directory; pending = o.names; taken = λ file actor taken. absurd (cc (taken)) }
 
   parts_fit : PartsFit phase p.gate p.slots
   parts_fit = record {
-    numbered = λ file least. refl;
+    numbered = λ file other. refl;
     fits = λ file own. record {
       sees = record { begins = record { rest = []; is = refl; lacks = refl }; decided_before = omega arith; decided_within = omega arith; decided_below = tt };
       mounted = refl;
@@ -171,18 +174,15 @@ module _ (phase : Phase) (files : ℕ → FileState) (card : CardState) (root : 
   }
 
   same_file : (file : ℕ) → files_of p.gate p.slots file ≡ files file
-  same_file file = elim (cases_eq file 0) [
-    | inl is ↦ cond-true (eqb file 0) (files 0) (files file) (eq-eqb file 0 is) ∙ ap files (sym is)
-    | inr other ↦ elim (cases_Bool (eqb file 0)) [
-      | inl zero_ ↦ absurd (other (eqb-true file 0 zero_))
-      | inr no_ ↦ cond-false (eqb file 0) (files 0) (files file) no_
-    ]
+  same_file file = elim (cases_eq file directory_file) [
+    | inl is ↦ cond-true (eqb file directory_file) (files directory_file) (files file) (eq-eqb file directory_file is) ∙ ap files (sym is)
+    | inr other ↦ file_is p.gate p.slots file other
   ]
 
   pub first_hold : PartsHold phase (first_parts files card root entries mounted outs sessions generations)
   first_hold = record {
     gate = gate_holds;
-    slots = λ file least. record { sound = o.sound file; stands = λ honest v known. slot_known file v honest known };
+    slots = λ file other. record { sound = o.sound file; stands = λ honest v known. slot_known file v honest known };
     fit = parts_fit;
     honest = λ file trusted. subst (λ (s : FileState). IsTrue s.honest) (sym (same_file file)) (o.honest file trusted);
   }

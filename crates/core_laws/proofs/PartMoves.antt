@@ -1,7 +1,9 @@
 -- Moves of the parts, in any order, are one run of the core machine, and keep what holds of each part.
-use Rattle.std.proofs.Common.{◌≡◌, ◌≢◌, ◌⊎◌, ℕ, ◌≤◌, List, [], ◌∷◌, ◌++◌, IsTrue, Option, Some, inl, inr, refl, sym, ◌∙◌, ap, subst}
+use Rattle.std.proofs.Common.{◌≡◌, ◌≢◌, ◌⊎◌, ℕ, List, [], ◌∷◌, ◌++◌, IsTrue, Option, Some, inl, inr, refl, sym, ◌∙◌, ap, subst}
 use Rattle.std.proofs.lemmas.Bool.{cases_eq}
 use Rattle.disk_model.specs.State.{FileState}
+use Rattle.tee_types.specs.Limits.{IsObjectFile, directory_file}
+use Rattle.tee_types.proofs.FileNumbers.{object_not_directory}
 use Rattle.history_seats.specs.Records.{Version}
 use Rattle.history_seats.specs.Rule.{SlotFits}
 use Rattle.history_seats.specs.Views.{SlotView}
@@ -14,7 +16,7 @@ use Rattle.core_laws.specs.SlotParts.{SlotHolds, SlotPart}
 use Rattle.core_laws.specs.SlotSteps.{FileUser, IsSlotRun, IsSlotStep, SlotStep}
 use Rattle.core_laws.specs.GateParts.{GatePart}
 use Rattle.core_laws.specs.GateSteps.{Handed, IsGateRun, IsHanded}
-use Rattle.core_laws.specs.Joined.{IsObjectFile, Parts, PartsFit, PartsHold, core_of, files_of}
+use Rattle.core_laws.specs.Joined.{Parts, PartsFit, PartsHold, core_of, files_of}
 use Rattle.core_laws.specs.Moves.{AreMoves, GateMoves, MayUse, MovesTo, SlotMoves}
 use Rattle.core_laws.proofs.CoreMoves.{files_put, put_same, put_twice, slot_step_is_step}
 use Rattle.core_laws.proofs.JoinedParts.{each_file, file_is}
@@ -49,7 +51,7 @@ module _ (phase : Phase) (file : ℕ) (of_object : IsObjectFile file) (user : Fi
 
     fit_stays : PartsFit phase p.gate (put p.slots file new)
     fit_stays = record {
-      numbered = λ n. put_each (λ (k : ℕ) (s : SlotPart). 1 ≤ k → s.view.file ≡ k) p.slots file new n (λ least. ap (λ (view : SlotView). view.file) view_is ∙ h.fit.numbered file least) (h.fit.numbered n);
+      numbered = λ n. put_each (λ (k : ℕ) (s : SlotPart). k ≢ directory_file → s.view.file ≡ k) p.slots file new n (λ other. ap (λ (view : SlotView). view.file) view_is ∙ h.fit.numbered file other) (h.fit.numbered n);
       fits = λ n. put_each (λ (k : ℕ) (s : SlotPart). IsObjectFile k → SlotFits p.gate.view s.view) p.slots file new n
           (λ own. subst (SlotFits p.gate.view) (sym view_is) (h.fit.fits file own)) (h.fit.fits n);
       putting = λ x putting trusted.
@@ -59,10 +61,10 @@ module _ (phase : Phase) (file : ℕ) (of_object : IsObjectFile file) (user : Fi
     step_parts : PartsHold phase (with_slot p file new)
     step_parts = record {
       gate = h.gate;
-      slots = λ n. put_each (λ (k : ℕ) (s : SlotPart). 1 ≤ k → SlotHolds phase.keys s) p.slots file new n
-          (λ least. step_holds user phase.keys (p.slots file) step new (h.slots file least) is) (h.slots n);
+      slots = λ n. put_each (λ (k : ℕ) (s : SlotPart). k ≢ directory_file → SlotHolds phase.keys s) p.slots file new n
+          (λ other. step_holds user phase.keys (p.slots file) step new (h.slots file other) is) (h.slots n);
       fit = fit_stays;
-      honest = λ n. subst (λ (f : ℕ → FileState). IsTrusted phase n → IsTrue (f n).honest) (sym (files_put p.gate p.slots file of_object.0 new))
+      honest = λ n. subst (λ (f : ℕ → FileState). IsTrusted phase n → IsTrue (f n).honest) (sym (files_put p.gate p.slots file (object_not_directory file of_object.0 of_object.1) new))
           (put_each (λ (k : ℕ) (s : FileState). IsTrusted phase k → IsTrue s.honest) (files_of p.gate p.slots) file new.file n honest (h.honest n));
     }
 
@@ -122,11 +124,11 @@ module _ (phase : Phase) (old new : Parts) (h : PartsHold phase old) (m : GateMo
   gate_parts : PartsHold phase (record { gate = new.gate; slots = put old.slots m.file m.slot })
   gate_parts = record {
     gate = m.holds;
-    slots = λ n. put_each (λ (k : ℕ) (s : SlotPart). 1 ≤ k → SlotHolds phase.keys s) old.slots m.file m.slot n m.slot_holds (h.slots n);
+    slots = λ n. put_each (λ (k : ℕ) (s : SlotPart). k ≢ directory_file → SlotHolds phase.keys s) old.slots m.file m.slot n m.slot_holds (h.slots n);
     fit = subst (PartsFit phase new.gate) m.slots_are m.fit;
     honest = each_file new.gate (put old.slots m.file m.slot) (λ n s. IsTrusted phase n → IsTrue s.honest) m.honest
-        (λ n least trusted.
-        subst (λ (s : FileState). IsTrue s.honest) (file_is old.gate old.slots n least ∙ sym (same_file n)) (h.honest n trusted));
+        (λ n other trusted.
+        subst (λ (s : FileState). IsTrue s.honest) (file_is old.gate old.slots n other ∙ sym (same_file n)) (h.honest n trusted));
   }
 
   gate_moves : MovesTo phase old new

@@ -180,7 +180,7 @@ module _ (root : RootRef) (a b : Loaded) (va : IsVerified root a) (vb : IsVerifi
       | inr clash ↦ inr clash
       | inl all ↦ elim (nodes-alike h (length a.nodes) (omega arith) all) [
         | inr clash ↦ inr clash
-        | inl each ↦ inl (record { head = h; count = counts h; nodes = λ n one le. each n one le })
+        | inl each ↦ inl (record { layout = va.hashed.stands ∙ sym vb.hashed.stands; head = h; count = counts h; nodes = λ n one le. each n one le })
       ]
     ]
   ]
@@ -189,7 +189,7 @@ module _ (root : RootRef) (a b : Loaded) (va : IsVerified root a) (vb : IsVerifi
 pub same_alike : (a b : Loaded) → HaveFlags a → HaveFlags b → IsAlike a b → a ≡ b
 same_alike a b fa fb alike =
     let nodes : a.nodes ≡ b.nodes = ext_get_or no_node a.nodes b.nodes alike.count each in
-    λ i. record { head = alike.head i; nodes = nodes i }
+    λ i. record { head = alike.head i; nodes = nodes i; layout = alike.layout i }
   where
     each : (k : ℕ) → k < length a.nodes → get_or a.nodes k no_node ≡ get_or b.nodes k no_node
     each k lt =

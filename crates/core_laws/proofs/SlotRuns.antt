@@ -27,7 +27,7 @@ version_stays keys call old new v sound still honest called misses stands =
     let after : Stands new wrap v.root what = call_stands call old new wrap v.root what sound still honest called misses (version_seen keys old v sound stands) in
     let was : IsShownIn keys old.reads v = stands.shown old.reads here in
     record {
-      bit = stands.bit;
+      current = stands.current;
       shown = λ image left.
           let same : sight_of wrap image v.root ≡ what = after.alike image left in
           record {

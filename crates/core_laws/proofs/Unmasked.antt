@@ -5,7 +5,7 @@ use Rattle.std.specs.Option.{IsSome}
 use Rattle.disk_model.specs.Arms.{Taint}
 use Rattle.disk_model.specs.Images.{Has}
 use Rattle.node_image.specs.Layout.{greatest_of}
-use Rattle.node_image.specs.Parts.{Part, In, start}
+use Rattle.node_image.specs.Parts.{In, Layout, Part, start}
 use Rattle.node_image.specs.Parts.Part.{block}
 use Rattle.node_image.specs.Tables.{block_version}
 use Rattle.node_image.proofs.ImageBytes.{bytes_same}
@@ -52,16 +52,16 @@ module _ (keys : Keys) (v : Version) (own : Loaded) (loads : v.loads ≡ Ok own)
   loads_in image shows = shows.loads ∙ loads
 
   block_same : (k : ℕ) (ciphertext : List ℕ) → k < length own.nodes
-      → ShowsMasked keys [] v (λ place. In (block k (block_version own.nodes k)) place × Lies own.nodes v.root.version place) (λ image. ciphertext ≡ block_in image own k)
+      → ShowsMasked keys [] v (λ place. In own.layout (block k (block_version own.nodes k)) place × Lies own.layout own.nodes v.root.version place) (λ image. ciphertext ≡ block_in image own k)
       → ciphertext ≡ block_of v k
   block_same k ciphertext lt s =
       let q : Part = block k (block_version own.nodes k) in
       let l : IsLoaded s.committed v.root own = loaded_from s.committed v.root own (loads_in s.committed s.shows) in
-      let ends : start q + 4096 ≤ length s.committed = l.ends k lt in
+      let ends : start own.layout q + 4096 ≤ length s.committed = subst (λ (layout : Layout). start layout q + 4096 ≤ length s.committed) (sym l.hashed.stands) (l.ends k lt) in
       s.shown
-      ∙ bytes_same s.image s.committed (start q) 4096 (λ j low.
-      (are_same (λ place. In q place × Lies own.nodes v.root.version place) (λ image. ciphertext ≡ block_in image own k) s (start q + j) (get_or s.committed (start q + j) 0)
-      (record { from = omega arith; upto = omega (arith, low) }, record { part = q; selected = (lt, refl); within = record { from = omega arith; upto = omega (arith, low) } })
+      ∙ bytes_same s.image s.committed (start own.layout q) 4096 (λ j low.
+      (are_same (λ place. In own.layout q place × Lies own.layout own.nodes v.root.version place) (λ image. ciphertext ≡ block_in image own k) s (start own.layout q + j) (get_or s.committed (start own.layout q + j) 0)
+      (record { from = omega arith; upto = omega (arith, low) }, record { part = q; selected = (lt, refl); at = start own.layout q + j; near = refl; within = record { from = omega arith; upto = omega (arith, low) } })
       (record { below = omega (arith, ends, low); is = refl })).is)
       ∙ block_is keys v own s.committed s.shows loads k lt
 
@@ -84,9 +84,9 @@ module _ (place byte : ℕ) where
 
 -- so masks on blocks show no other tree
 pub no_other : MasksOnBlocksShowNoOther
-no_other keys taints v own behind bit loads x =
+no_other keys taints v own behind current loads x =
     let s = x.shown in
-    x.differs (one_tree s.committed s.image v.root bit own x.other (s.shows.loads ∙ loads) s.shown (λ place byte one two low there.
+    x.differs (one_tree s.committed s.image v.root current.0 own x.other (s.shows.loads ∙ loads) s.shown (λ place byte one two low there.
     s.are place byte (two, one)
     (before_masks place byte s.masks s.committed (λ taint among. let at = behind taint (s.armed taint among) in omega (arith, low, at)) there)))
 
@@ -99,7 +99,7 @@ module _ (store : Store) (scenario : TamperScenario) (before : List HistoryRecor
   given = decoding_given x.gave
 
   masked : AreMasked store.keys [] v un.tree (asked_of x) x.gave.tree x.gave.block
-  masked = x.masked [] un.tree un.none (record { image = un.image; shows = un.shows; loads = un.loads; single = no_other store.keys [] v un.tree (λ taint among. absurd (contains_none taint among)) un.bit un.loads })
+  masked = x.masked [] un.tree un.none (record { image = un.image; shows = un.shows; loads = un.loads; single = no_other store.keys [] v un.tree (λ taint among. absurd (contains_none taint among)) un.current un.loads })
 
   -- what stands for the version: its own tree, with its own ciphertexts where these are good
   abbrev sp : Decoding
@@ -137,7 +137,7 @@ module _ (store : Store) (scenario : TamperScenario) (before : List HistoryRecor
     block_given : (k : ℕ) → asked_of x k ≡ true → x.gave.block k ≡ block_of v k
     block_given k asked =
         block_same store.keys v un.tree un.loads k (x.gave.block k) (low k asked)
-        (subst (λ (t : Loaded). ShowsMasked store.keys [] v (λ place. In (block k (block_version t.nodes k)) place × Lies un.tree.nodes v.root.version place)
+        (subst (λ (t : Loaded). ShowsMasked store.keys [] v (λ place. In t.layout (block k (block_version t.nodes k)) place × Lies un.tree.layout un.tree.nodes v.root.version place)
         (λ image. x.gave.block k ≡ block_in image t k)) same (masked.blocks k asked))
 
     good : (k : ℕ) → asked_of x k ≡ true → IsSome (page_decoded (tree_decoding (wrap_of store.keys v) (block_of v) un.tree) k)

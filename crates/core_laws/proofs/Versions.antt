@@ -29,9 +29,9 @@ version_seen keys s v sound stands =
     let wrap : List ℕ = object_key keys v.app in
     let here : LeftNow s s.reads = reads_left s sound in
     record {
-      bit = stands.bit;
+      current = stands.current;
       alike = λ image left.
-          let selects : selected_tree image v.root.version ≡ selected_tree s.reads v.root.version = (stands.shown image left).selects ∙ sym (stands.shown s.reads here).selects in
+          let selects : selected_tree image v.root ≡ selected_tree s.reads v.root = (stands.shown image left).selects ∙ sym (stands.shown s.reads here).selects in
           let loads : load_of image v.root ≡ load_of s.reads v.root = (stands.shown image left).loads ∙ sym (stands.shown s.reads here).loads in
           let opened : opened_of wrap image v.root ≡ opened_of wrap s.reads v.root = opened_same wrap image s.reads v.root selects loads in
           (λ j. record { tree = selects j; loads = loads j; opened = opened j });

@@ -34,8 +34,9 @@ pub record IsAlikeNode (one other : NodeImage) : Type 0 where
   pub tag : one.tag ≡ other.tag
   pub flags : to_be_bytes w16 one.flags ≡ to_be_bytes w16 other.flags
 
--- The trees have one head, and node by node what the hashes tell of it.
+-- The trees have one layout, one head, and node by node what the hashes tell of it.
 pub record IsAlike (one other : Loaded) : Type 0 where
+  pub layout : one.layout ≡ other.layout
   pub head : one.head ≡ other.head
   pub count : length one.nodes ≡ length other.nodes
   pub nodes : (n : ℕ) → 1 ≤ n → n ≤ length one.nodes → IsAlikeNode (at_node one.nodes n) (at_node other.nodes n)

@@ -1,5 +1,6 @@
 -- The crash prefix of a closed store: what its pictures mount to, once all its parts are at rest.
 use Rattle.std.specs.Prelude.{◌≡◌, ◌⊎◌, ℕ, Some, Ok}
+use Rattle.tee_types.specs.Limits.{directory_file}
 use Rattle.store_model.specs.Object.{ObjectMap}
 use Rattle.store_model.specs.Doubt.{Doubt}
 use Rattle.store_model.specs.ReplayState.{ReplayState}
@@ -31,7 +32,7 @@ MountsAfter phase picture s =
 abbrev pub FinishMounts : Type 0
 FinishMounts =
     (phase : Phase) (p : Parts) (picture : Picture) → PartsHold phase p → IsAtRest phase p.gate → IsPictureOf (files_of p.gate p.slots) p.gate.card picture
-    → IsTrusted phase 0 → MountsAfter phase picture (replay_of phase p.gate.view)
+    → IsTrusted phase directory_file → MountsAfter phase picture (replay_of phase p.gate.view)
 
 -- the same, where every file is honest: it mounts to that map itself
 abbrev pub IsMapAfter : Phase → Picture → ReplayState → Type 0

@@ -1,11 +1,13 @@
 -- Which steps of the gate its calls are: of the directory's file, and the write of the card.
-use Rattle.std.specs.Prelude.{◌≡◌, ◌⊎◌, ◌<◌, ◌≤◌, true, [], Option, Some, None, Ok, IsTrue}
+use Rattle.std.specs.Prelude.{◌≡◌, ◌≢◌, ◌⊎◌, ◌<◌, true, [], Option, Some, None, Ok, IsTrue}
 use Rattle.disk_model.specs.State.{FileState, Sound, pending}
 use Rattle.disk_model.specs.Keeps.{Runs}
+use Rattle.node_image.specs.References.{IsCurrent, current_format}
 use Rattle.node_image.specs.declared.node.RootRef.{RootRef}
 use Rattle.htree_file.specs.Opening.{Loaded}
 use Rattle.htree_file.specs.Selected.{Lies}
 use Rattle.htree_file.specs.Standing.{IsFirm}
+use Rattle.tee_types.specs.Limits.{directory_file}
 use Rattle.store_model.specs.Object.{Object}
 use Rattle.store_model.specs.Makes.{MakesChange, MapChange}
 use Rattle.store_model.specs.Legal.{is_commit_due}
@@ -29,13 +31,13 @@ IsOpenFor pending_ p = ((pending_ ≡ None) ⊎ (pending_ ≡ Some p)) × (p.sea
 -- the commit pending, or as it was where they wrote nothing.
 abbrev pub DirectoryRunsAreSteps : Type 0
 DirectoryRunsAreSteps =
-    (phase : Phase) (handed : Option Handed) (g : GatePart) (p : PendingCommit) (tree : Loaded) (new : FileState) → IsOpenFor g.pending p → g.root.version < 2
-    → (IsTrusted phase 0 → IsFirm g.directory g.root tree) → Runs (Lies tree.nodes g.root.version) g.directory new → Sound new → (IsTrusted phase 0 → IsTrue new.honest)
+    (phase : Phase) (handed : Option Handed) (g : GatePart) (p : PendingCommit) (tree : Loaded) (new : FileState) → IsOpenFor g.pending p → IsCurrent g.root
+    → (IsTrusted phase directory_file → IsFirm g.directory g.root tree) → Runs (Lies tree.layout tree.nodes g.root.version) g.directory new → Sound new → (IsTrusted phase directory_file → IsTrue new.honest)
     → (after : Option PendingCommit) × ((after ≡ g.pending) ⊎ (after ≡ Some p)) × GateSteps phase handed g (record g { directory = new; pending = after })
 
 -- the slot that is handed over shows in its file what a change puts
 abbrev pub HandedShows : Phase → Option Handed → EntryChange → Object → Type 0
-HandedShows phase (Some handed) (Put index e) object = (handed.file ≡ e.file) × (1 ≤ e.file) × (IsTrusted phase e.file → Shows phase.keys handed.state e object)
+HandedShows phase (Some handed) (Put index e) object = (handed.file ≡ e.file) × (e.file ≢ directory_file) × (IsTrusted phase e.file → Shows phase.keys handed.state e object)
 HandedShows phase (Some handed) (Clear index) object = Unit {0}
 HandedShows phase None (Put index e) object = ⊥
 HandedShows phase None (Clear index) object = Unit {0}
@@ -43,8 +45,9 @@ HandedShows phase None (Clear index) object = Unit {0}
 -- What is asked of a seal, as the gate and the slot that it is handed can tell.
 pub record MaySeal (phase : Phase) (handed : Option Handed) (g : GatePart) (p : PendingCommit) (dir : RootRef) : Type 0 where
   pub form : IsReference dir
-  pub settled : IsTrusted phase 0 → pending g.directory ≡ []
-  pub holds : IsTrusted phase 0 → directory_of (directory_key phase.keys) g.directory.reads dir ≡ Ok (changed g.entries p.change)
+  pub current : dir.format ≡ current_format
+  pub settled : IsTrusted phase directory_file → pending g.directory ≡ []
+  pub holds : IsTrusted phase directory_file → directory_of (directory_key phase.keys) g.directory.reads dir ≡ Ok (changed g.entries p.change)
   pub due : is_commit_due (replay_of phase g.view) p.session p.call ≡ true
   pub made : MapChange
   pub makes : MakesChange (replay_of phase g.view).state p.session p.call made

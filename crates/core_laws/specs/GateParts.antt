@@ -3,6 +3,7 @@ use Rattle.std.specs.Prelude.{◌≡◌, ◌⊎◌, ℕ, ◌+◌, ◌<◌, List,
 use Rattle.disk_model.specs.State.{FileState, Sound}
 use Rattle.node_image.specs.declared.node.RootRef.{RootRef}
 use Rattle.hmac_keys.specs.declared.Keys.{Keys}
+use Rattle.tee_types.specs.Limits.{directory_file}
 use Rattle.rpmb_card.specs.Card.{CardState}
 use Rattle.store_model.specs.Object.{ObjectMap}
 use Rattle.store_model.specs.Calls.{state_after}
@@ -73,11 +74,11 @@ pub record DirectoryReads (keys : Keys) (s : FileState) (dir : RootRef) (entries
 -- The directory stands under a reference with these entries, the versions of which the history knows; with their objects they are that
 -- map. Nothing is said of the file of an object, nor of an object whose file is not honest to the end.
 pub record GateDirectory (phase : Phase) (directory : FileState) (view : GateView) (putting : Option Held) (dir : RootRef) (entries : List (Option DirEntry)) (objects : ObjectMap) : Type 0 where
-  pub own : IsTrusted phase 0 → DirectoryReads phase.keys directory dir entries
+  pub own : IsTrusted phase directory_file → DirectoryReads phase.keys directory dir entries
   pub held : List (Option Held)
   pub holds : entries_held held ≡ entries
   pub each : (index : ℕ) (h : Held) → held_at held index ≡ Some h → IsTrusted phase h.entry.file → IsBacked view putting h
-  pub map_is : IsTrusted phase 0 → map_of held ≡ objects
+  pub map_is : IsTrusted phase directory_file → map_of held ≡ objects
 
 -- Of a sealed commit the card names the directory that it leaves, which stands beside the committed one.
 pub record GateSeal (phase : Phase) (g : GatePart) (p : PendingCommit) (dir : RootRef) : Type 0 where

@@ -12,7 +12,7 @@ use Rattle.history_seats.specs.Records.{Version}
 abbrev pub version_of_image : Keys → (image : List ℕ) → RootRef → (app : List ℕ) → (size attributes : ℕ) → Version
 version_of_image keys image root app size attributes = record {
   root = root;
-  tree = selected_tree image root.version;
+  tree = selected_tree image root;
   loads = load_of image root;
   app = app;
   size = size;

@@ -1,5 +1,7 @@
 -- Where no mask is armed on a file that tells its bytes and its arms, what it gave is what was committed.
 use Rattle.std.specs.Prelude.{◌≡◌, ℕ, ◌<◌, ◌≤◌, List, [], Contains, Some, Ok}
+use Rattle.node_image.specs.Parts.{layout_of, nodes_end}
+use Rattle.node_image.specs.References.{IsCurrent}
 use Rattle.htree_file.specs.Opening.{Loaded}
 use Rattle.disk_model.specs.Arms.{Taint}
 use Rattle.hmac_keys.specs.declared.Keys.{Keys}
@@ -14,13 +16,13 @@ use Rattle.core_laws.specs.EndLaws.{given_at}
 -- Masks behind the heads and the nodes show no other tree.
 abbrev pub MasksOnBlocksShowNoOther : Type 0
 MasksOnBlocksShowNoOther =
-    (keys : Keys) (taints : List Taint) (v : Version) (tree : Loaded) → ((taint : Taint) → Contains taints taint → 37888 ≤ taint.at) → v.root.version < 2 → v.loads ≡ Ok tree
+    (keys : Keys) (taints : List Taint) (v : Version) (tree : Loaded) → ((taint : Taint) → Contains taints taint → nodes_end (layout_of v.root.format) ≤ taint.at) → IsCurrent v.root → v.loads ≡ Ok tree
     → ShowsOther keys taints v tree → ⊥
 
 -- No mask is armed on the file of the event's object. Its version is shown by an image, and loads.
 pub record IsUnmasked (store : Store) (scenario : TamperScenario) (before : List HistoryRecord) (r : HistoryRecord) (x : IsGivenAt store scenario before r) : Type 0 where
   pub none : store.taints x.tag.file ≡ Some []
-  pub bit : x.version.root.version < 2
+  pub current : IsCurrent x.version.root
   pub image : List ℕ
   pub shows : IsShownIn store.keys image x.version
   pub tree : Loaded

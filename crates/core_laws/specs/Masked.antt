@@ -38,7 +38,7 @@ HasTable v tree image = table_of image v.root ≡ Ok tree
 pub record ShowsOther (keys : Keys) (taints : List Taint) (v : Version) (tree : Loaded) : Type 0 where
   pub other : Loaded
   pub differs : other ≢ tree
-  pub shown : ShowsMasked keys taints v (λ place. Lies other.nodes v.root.version place × Lies tree.nodes v.root.version place) (HasTable v other)
+  pub shown : ShowsMasked keys taints v (λ place. Lies other.layout other.nodes v.root.version place × Lies tree.layout tree.nodes v.root.version place) (HasTable v other)
 
 -- An image shows the version, which loads that tree; and no other is shown with these masks.
 pub record HasOneTree (keys : Keys) (taints : List Taint) (v : Version) (tree : Loaded) : Type 0 where
@@ -51,7 +51,7 @@ pub record HasOneTree (keys : Keys) (taints : List Taint) (v : Version) (tree : 
 pub record AreMasked (keys : Keys) (taints : List Taint) (v : Version) (own : Loaded) (asked : ℕ → Bool) (given : Loaded) (ciphertext : ℕ → List ℕ) : Type 0 where
   pub same : (given ≢ own) → ⊥
   pub blocks : (k : ℕ) → asked k ≡ true
-      → ShowsMasked keys taints v (λ place. In (block k (block_version given.nodes k)) place × Lies own.nodes v.root.version place)
+      → ShowsMasked keys taints v (λ place. In given.layout (block k (block_version given.nodes k)) place × Lies own.layout own.nodes v.root.version place)
       (λ image. ciphertext k ≡ block_in image given k)
 
 -- Where a file tells which masks are armed on it, and the version has one tree with these, they are.
@@ -68,7 +68,7 @@ pub record GaveVersion (keys : Keys) (told : Option (List Taint)) (v : Version) 
 pub record MaskedAt (keys : Keys) (file : FileState) (v : Version) (tree : Loaded) : Type 0 where
   pub committed : List ℕ
   pub shows : IsShownIn keys committed v
-  pub reads : ReadsMasked (Lies tree.nodes v.root.version) file.arms committed file.reads
+  pub reads : ReadsMasked (Lies tree.layout tree.nodes v.root.version) file.arms committed file.reads
 
 -- So the version stands in a file that tells these, while it has one tree with its masks.
 abbrev pub StandsMasked : Keys → FileState → Version → Type 0

@@ -1,6 +1,8 @@
 -- Moves of slots and gate, each judged by what the part knows itself, are one run of the core machine, in whatever order they come.
-use Rattle.std.specs.Prelude.{◌≡◌, ◌≢◌, ◌⊎◌, ℕ, ◌≤◌, List, [], ◌∷◌, Some, IsTrue}
+use Rattle.std.specs.Prelude.{◌≡◌, ◌≢◌, ◌⊎◌, ℕ, List, [], ◌∷◌, Some, IsTrue}
 use Rattle.node_image.specs.declared.node.RootRef.{RootRef}
+use Rattle.node_image.specs.References.{current_format}
+use Rattle.tee_types.specs.Limits.{IsObjectFile, directory_file}
 use Rattle.history_seats.specs.Records.{Version}
 use Rattle.crash_core.specs.EntryLists.{IsNamed}
 use Rattle.crash_core.specs.Mounting.{Held}
@@ -10,13 +12,13 @@ use Rattle.core_laws.specs.SlotParts.{SlotHolds, SlotPart}
 use Rattle.core_laws.specs.SlotSteps.{FileUser, Reader, SlotSteps, Stager, Taker}
 use Rattle.core_laws.specs.GateParts.{GateHolds, GatePart}
 use Rattle.core_laws.specs.GateSteps.{GateSteps}
-use Rattle.core_laws.specs.Joined.{IsObjectFile, Parts, PartsFit, PartsHold, core_of}
+use Rattle.core_laws.specs.Joined.{Parts, PartsFit, PartsHold, core_of}
 
--- who writes the file has taken it, or an entry names it
+-- who writes the file has taken it, or an entry names it in the current format
 abbrev pub MayUse : GatePart → (file : ℕ) → FileUser → Type 0
 MayUse g file Reader = Unit {0}
 MayUse g file (Taker actor) = g.takes file ≡ Some actor
-MayUse g file (Stager actor) = (root : RootRef) × IsNamed g.entries file root
+MayUse g file (Stager actor) = (root : RootRef) × IsNamed g.entries file root × (root.format ≡ current_format)
 
 -- One slot moves. No commit under way puts its file: such a one holds the slot's lock.
 pub record SlotMoves (phase : Phase) (old new : Parts) : Type 0 where
@@ -34,15 +36,15 @@ pub record SlotMoves (phase : Phase) (old new : Parts) : Type 0 where
 -- The gate moves, by as little as one step, and is handed a slot, of which only the view changes. It knows nothing of the other slots, and
 -- changes nothing there.
 pub record GateMoves (phase : Phase) (old new : Parts) : Type 0 where
-  -- the slot's; 0 where none is handed over
+  -- the slot's; the directory's where none is handed over
   pub file : ℕ
   pub steps : GateSteps phase (Some (record { file = file; state = (old.slots file).file })) old.gate new.gate
   pub holds : GateHolds phase new.gate
-  pub honest : IsTrusted phase 0 → IsTrue new.gate.directory.honest
+  pub honest : IsTrusted phase directory_file → IsTrue new.gate.directory.honest
   pub slot : SlotPart
   pub same_file : slot.file ≡ (old.slots file).file
   pub same_stage : slot.stage ≡ (old.slots file).stage
-  pub slot_holds : 1 ≤ file → SlotHolds phase.keys slot
+  pub slot_holds : file ≢ directory_file → SlotHolds phase.keys slot
   pub slots_are : new.slots ≡ put old.slots file slot
   pub fit : PartsFit phase new.gate new.slots
 

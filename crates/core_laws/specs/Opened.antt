@@ -3,11 +3,12 @@ use Rattle.std.specs.Prelude.{◌≡◌, ℕ, List, [], Option, Some, None, Cont
 use Rattle.disk_model.specs.State.{FileState, pending}
 use Rattle.node_image.specs.declared.node.RootRef.{RootRef}
 use Rattle.hmac_keys.specs.declared.Keys.{Keys}
+use Rattle.tee_types.specs.Limits.{directory_file}
 use Rattle.rpmb_card.specs.Card.{CardState}
 use Rattle.dir_records.specs.declared.entry.DirEntry.{DirEntry}
 use Rattle.history_seats.specs.Mounts.{Mounted, MountedEntry}
 use Rattle.history_seats.specs.Views.{GateView, SlotView}
-use Rattle.crash_core.specs.EntryLists.{entry_at}
+use Rattle.crash_core.specs.EntryLists.{AreCurrent, entry_at}
 use Rattle.crash_core.specs.DirectoryLaws.{AreEntries}
 use Rattle.crash_core.specs.Opening.{IsOpened}
 use Rattle.crash_core.specs.CoreState.{Phase}
@@ -32,6 +33,7 @@ pub record HasMounted (keys : Keys) (files : ℕ → FileState) (entries : List 
 -- The mount tells of the directory's entries and of nothing else; of the files that these name none has a change that was not synced.
 pub record IsMountOf (keys : Keys) (files : ℕ → FileState) (entries : List (Option DirEntry)) (mounted : Mounted) : Type 0 where
   pub forms : AreEntries entries
+  pub current : AreCurrent entries
   pub each : (index : ℕ) (e : DirEntry) → entry_at entries index ≡ Some e → (m : MountedEntry) × Contains mounted.entries m × (history_entry e ≡ m.entry)
   pub back : (m : MountedEntry) → Contains mounted.entries m → HasMounted keys files entries m
   pub settled : (index : ℕ) (e : DirEntry) → entry_at entries index ≡ Some e → IsTrue (files e.file).honest → pending (files e.file) ≡ []
@@ -42,7 +44,7 @@ first_view mounted file generation = record { mounted = mounted; seen = []; deci
 
 abbrev pub first_gate : (files : ℕ → FileState) → CardState → RootRef → List (Option DirEntry) → GateView → GatePart
 first_gate files card root entries view = record {
-  directory = files 0;
+  directory = files directory_file;
   card = card;
   root = root;
   entries = entries;

@@ -2,6 +2,7 @@
 use Rattle.std.specs.Prelude.{◌≡◌, ℕ, ◌<◌, List, Option, IsTrue}
 use Rattle.disk_model.specs.State.{FileState, LeftNow, Sound}
 use Rattle.hmac_keys.specs.declared.Keys.{Keys}
+use Rattle.node_image.specs.References.{IsCurrent}
 use Rattle.node_image.specs.Selection.{selected_tree}
 use Rattle.htree_file.specs.Opening.{load_of}
 use Rattle.history_seats.specs.Records.{Version}
@@ -18,13 +19,13 @@ pub record SlotPart : Type 0 where
 
 -- The image shows the version: its reference selects its tree there, loads what the version does, and opens to its object.
 pub record IsShownIn (keys : Keys) (image : List ℕ) (v : Version) : Type 0 where
-  pub selects : selected_tree image v.root.version ≡ v.tree
+  pub selects : selected_tree image v.root ≡ v.tree
   pub loads : load_of image v.root ≡ v.loads
   pub object : object_in (object_key keys v.app) image v.root v.size v.attributes ≡ v.object
 
 -- every image that the file may leave does
 pub record VersionStands (keys : Keys) (s : FileState) (v : Version) : Type 0 where
-  pub bit : v.root.version < 2
+  pub current : IsCurrent v.root
   pub shown : (image : List ℕ) → LeftNow s image → IsShownIn keys image v
 
 -- The view knows the version: its records give it for some generation of its file, or leave it there by a doubt that may still land.

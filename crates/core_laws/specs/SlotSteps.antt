@@ -13,7 +13,7 @@ use Rattle.core_laws.specs.SlotParts.{Knows, SlotPart}
 pub record IsSpared (from upto : ℕ) (v : Version) : Type 0 where
   pub tree : Loaded
   pub loads : v.loads ≡ Ok tree
-  pub off : (place : ℕ) → from ≤ place → place < upto → Lies tree.nodes v.root.version place → ⊥
+  pub off : (place : ℕ) → from ≤ place → place < upto → Lies tree.layout tree.nodes v.root.version place → ⊥
 
 -- what a call of the file writes spares each version that the view knows
 abbrev pub SparesKnown : SlotView → FileCall → Type 0
@@ -80,4 +80,4 @@ KnowsOne root tree view = (v : Version) → Knows view v → (v.root ≡ root) �
 abbrev pub FileRunsAreSteps : Type 0
 FileRunsAreSteps =
     (user : FileUser) (old : SlotPart) (root : RootRef) (tree : Loaded) (new : FileState) → MayStage user old.stage → (IsTrue old.file.honest → KnowsOne root tree old.view)
-    → Runs (Lies tree.nodes root.version) old.file new → Sound new → (stage : Option ℕ) × SlotSteps user old (record old { file = new; stage = stage })
+    → Runs (Lies tree.layout tree.nodes root.version) old.file new → Sound new → (stage : Option ℕ) × SlotSteps user old (record old { file = new; stage = stage })

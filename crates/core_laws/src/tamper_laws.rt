@@ -56,7 +56,6 @@ pub fn nothing_comes_back()
 {}
 
 /// What stands for a real version is verified under its reference, with the key that its head wraps.
-#[tactic(auto, using(crate::proofs::ReplayState::spelled_under))]
 pub fn scenarios_are_verified()
     ensures { ScenariosAreVerified }
 {}

@@ -4,6 +4,7 @@ use Rattle.std.specs.Prelude.{slice_set}
 use Rattle.std.proofs.lemmas.Bool.{cases_eq}
 use Rattle.disk_model.specs.State.{FileState}
 use Rattle.node_image.specs.declared.node.RootRef.{RootRef}
+use Rattle.tee_types.specs.Limits.{directory_file}
 use Rattle.rpmb_card.specs.Card.{CardState}
 use Rattle.tee_types.specs.declared.call.Call.{Call}
 use Rattle.store_model.specs.declared.event.Event.{Event}
@@ -48,7 +49,7 @@ pub stand_distinct : (phase : Phase) (files : ℕ → FileState) (dir : RootRef)
 stand_distinct phase files dir entries objects d = directory_distinct entries d.sight.opened d.reads
 
 -- the first block of a card that names a directory is set
-first_set : (blocks : List (List ℕ)) (block : List ℕ) (root : RootRef) → root_in (get_or blocks 0 []) ≡ Ok root → get_or (slice_set blocks 0 block) 0 [] ≡ block
+pub first_set : (blocks : List (List ℕ)) (block : List ℕ) (root : RootRef) → root_in (get_or blocks 0 []) ≡ Ok root → get_or (slice_set blocks 0 block) 0 [] ≡ block
 unfolding root_in
 first_set [] block root names = absurd (cc (names))
 first_set (b ∷ blocks) block root names = refl
@@ -109,17 +110,17 @@ module _ {Root : Type 0} (phase : Phase) (c : Core Root) (h : Holds phase c) whe
   ]
 
   -- the directory that is sealed stands, with the map that the machine leaves
-  sealed_directory : CommitsMakeChanges → (p : PendingCommit) (dir : RootRef) → IsSeal phase c p dir → IsTrusted phase 0
+  sealed_directory : CommitsMakeChanges → (p : PendingCommit) (dir : RootRef) → IsSeal phase c p dir → IsTrusted phase directory_file
       → DirectoryStands phase c.files dir (changed c.entries p.change) (state_after (replay_state phase c).state p.session p.call).objects
   sealed_directory commits p dir s trusted =
       let d : DirectoryStands phase c.files c.root c.entries ((replay_state phase c).state).objects = h.committed trusted in
       let key : List ℕ = directory_key phase.keys in
-      let what : Sight = sight_of key (c.files 0).reads dir in
-      let reads = directory_seen key (c.files 0).reads dir (changed c.entries p.change) (s.holds trusted) in
+      let what : Sight = sight_of key (c.files directory_file).reads dir in
+      let reads = directory_seen key (c.files directory_file).reads dir (changed c.entries p.change) (s.holds trusted) in
       let after : AreDistinct (changed c.entries p.change) = directory_distinct (changed c.entries p.change) what.opened reads in
       record {
         sight = what;
-        own = settled_stands (c.files 0) key dir (h.sound 0) (h.honest 0 trusted) (s.settled trusted) s.form.bit;
+        own = settled_stands (c.files directory_file) key dir (h.sound directory_file) (h.honest directory_file trusted) (s.settled trusted) (s.form.version, s.current);
         reads = reads;
         held = changed_held d.held p.change s.object;
         holds = entries_changed d.held c.entries p.change s.object d.holds;

@@ -1,8 +1,9 @@
 -- The calls of files keep what every step keeps.
-use Rattle.std.proofs.Common.{◌≡◌, ◌⊎◌, ℕ, ◌≤◌, List, IsTrue, Option, Some, None, inl, inr, refl, sym, ◌∙◌, ap, subst, arith}
+use Rattle.std.proofs.Common.{◌≡◌, ◌≢◌, ◌⊎◌, ℕ, List, IsTrue, Option, Some, None, inl, inr, refl, sym, ◌∙◌, ap, subst}
 use Rattle.disk_model.specs.State.{FileState, Sound}
 use Rattle.disk_model.specs.Keeps.{FileCall, write, sync, rest}
 use Rattle.node_image.specs.declared.node.RootRef.{RootRef}
+use Rattle.tee_types.specs.Limits.{directory_file}
 use Rattle.rpmb_card.specs.Card.{CardState}
 use Rattle.store_model.specs.ReplayState.{ReplayState}
 use Rattle.dir_records.specs.declared.entry.DirEntry.{DirEntry}
@@ -51,10 +52,10 @@ named_changed entries (Clear k) file root n = elim (set_at entries k n.index Non
 ]
 
 -- a write to the file of an object misses what a directory selects there
-object_roots : (from upto : ℕ) (reads : List ℕ) (dir : RootRef) (entries : List (Option DirEntry)) (file : ℕ) → 1 ≤ file → MissesNamed from upto reads entries file
+object_roots : (from upto : ℕ) (reads : List ℕ) (dir : RootRef) (entries : List (Option DirEntry)) (file : ℕ) → file ≢ directory_file → MissesNamed from upto reads entries file
     → (root : RootRef) → IsRoot dir entries file root → Misses from upto reads root
-object_roots from upto reads dir entries file least misses root (inl own) = absurd (omega (arith, least, own.0))
-object_roots from upto reads dir entries file least misses root (inr named) = misses root named
+object_roots from upto reads dir entries file other misses root (inl own) = absurd (other own.0)
+object_roots from upto reads dir entries file other misses root (inr named) = misses root named
 
 put_missed : (from upto : ℕ) (reads : List ℕ) (change : EntryChange) (dir : RootRef) (file index : ℕ) (e : DirEntry) (root : RootRef) → MissesSealed from upto reads change (Some dir) file
     → change ≡ Put index e → file ≡ e.file → root ≡ root_of e → Misses from upto reads root
@@ -66,7 +67,7 @@ put_missed from upto reads (Clear k) dir file index e root misses is own of = ab
 module _ {Root : Type 0} (phase : Phase) (c : Core Root) (h : Holds phase c) where
   -- A call of a file keeps it, where what it writes is missed.
   pub call_holds : (file : ℕ) (call : FileCall) (new : FileState) (stages : ℕ → Option ℕ) → IsFileStep phase file call (c.files file) new
-      → (IsTrusted phase 0 → MissesUnder phase call (c.files file).reads c.root c.entries file) → MissesNext phase call (c.files file).reads c.entries c.pending file
+      → (IsTrusted phase directory_file → MissesUnder phase call (c.files file).reads c.root c.entries file) → MissesNext phase call (c.files file).reads c.entries c.pending file
       → Holds phase (record c { files = put c.files file new; stages = stages })
   call_holds file call new stages step misses next = record {
     sound = λ k. put_each (λ (n : ℕ) (s : FileState). Sound s) c.files file new k step.sound (h.sound k);
@@ -101,15 +102,15 @@ module _ {Root : Type 0} (phase : Phase) (c : Core Root) (h : Holds phase c) whe
   rest_holds file new step = call_holds file rest new c.stages step (λ first trusted root named. tt) (rest_next c.pending file)
 
   -- A write to the file of an object.
-  pub write_holds : (file from upto : ℕ) (new : FileState) (stages : ℕ → Option ℕ) → 1 ≤ file → (IsTrusted phase file → MissesNamed from upto (c.files file).reads c.entries file)
+  pub write_holds : (file from upto : ℕ) (new : FileState) (stages : ℕ → Option ℕ) → file ≢ directory_file → (IsTrusted phase file → MissesNamed from upto (c.files file).reads c.entries file)
       → (IsTrusted phase file → MissesPending from upto (c.files file).reads c.pending file) → IsFileStep phase file (write from upto) (c.files file) new
       → Holds phase (record c { files = put c.files file new; stages = stages })
-  write_holds file from upto new stages least named sealed step =
-      call_holds file (write from upto) new stages step (λ first trusted. object_roots from upto (c.files file).reads c.root c.entries file least (named trusted)) (by_pending c.pending sealed)
+  write_holds file from upto new stages other named sealed step =
+      call_holds file (write from upto) new stages step (λ first trusted. object_roots from upto (c.files file).reads c.root c.entries file other (named trusted)) (by_pending c.pending sealed)
     where
       under : (change : EntryChange) (dir : RootRef) → (IsTrusted phase file → MissesSealed from upto (c.files file).reads change (Some dir) file) → IsTrusted phase file
           → (root : RootRef) → IsRoot dir (changed c.entries change) file root → Misses from upto (c.files file).reads root
-      under change dir misses trusted root (inl own) = absurd (omega (arith, least, own.0))
+      under change dir misses trusted root (inl own) = absurd (other own.0)
       under change dir misses trusted root (inr one) = elim (named_changed c.entries change file root one) [
         | inl old ↦ named trusted root old
         | inr new ↦ put_missed from upto (c.files file).reads change dir file new.0 new.1 root (misses trusted) new.2 new.3 new.4
@@ -126,19 +127,19 @@ module _ {Root : Type 0} (phase : Phase) (c : Core Root) (h : Holds phase c) whe
       by_pending (Some p) misses = by_seal p.change p.sealed misses
 
   -- A write to the directory's file, for a commit that is not sealed.
-  pub directory_holds : (p : PendingCommit) (from upto : ℕ) (new : FileState) → IsOpenCommit c p → (IsTrusted phase 0 → Misses from upto (c.files 0).reads c.root)
-      → IsFileStep phase 0 (write from upto) (c.files 0) new → Holds phase (record c { files = put c.files 0 new; pending = Some p })
+  pub directory_holds : (p : PendingCommit) (from upto : ℕ) (new : FileState) → IsOpenCommit c p → (IsTrusted phase directory_file → Misses from upto (c.files directory_file).reads c.root)
+      → IsFileStep phase directory_file (write from upto) (c.files directory_file) new → Holds phase (record c { files = put c.files directory_file new; pending = Some p })
   directory_holds p from upto new open_ misses step =
       let names : CardNames c.card c.root (replay_state phase c).counter = unsealed phase c.files c.card c.root c.entries (replay_state phase c) c.pending (open_commit c p open_) h.pending in
       record {
-        sound = λ k. put_each (λ (n : ℕ) (s : FileState). Sound s) c.files 0 new k step.sound (h.sound k);
-        honest = λ k. put_each (λ (n : ℕ) (s : FileState). IsTrusted phase n → IsTrue s.honest) c.files 0 new k step.honest (h.honest k);
+        sound = λ k. put_each (λ (n : ℕ) (s : FileState). Sound s) c.files directory_file new k step.sound (h.sound k);
+        honest = λ k. put_each (λ (n : ℕ) (s : FileState). IsTrusted phase n → IsTrue s.honest) c.files directory_file new k step.honest (h.honest k);
         legal = h.legal;
-        committed = λ trusted. directory_moved phase c.files 0 (write from upto) new (h.sound 0) step c.root c.entries _ trusted (own (h.committed trusted)) (h.committed trusted);
-        pending = not_sealed phase (put c.files 0 new) c.card c.root c.entries (replay_state phase c) p open_.1 names;
+        committed = λ trusted. directory_moved phase c.files directory_file (write from upto) new (h.sound directory_file) step c.root c.entries _ trusted (own (h.committed trusted)) (h.committed trusted);
+        pending = not_sealed phase (put c.files directory_file new) c.card c.root c.entries (replay_state phase c) p open_.1 names;
         taken = h.taken;
       }
     where
-      own : DirectoryStands phase c.files c.root c.entries ((replay_state phase c).state).objects → MissesUnder phase (write from upto) (c.files 0).reads c.root c.entries 0
-      own d trusted root (inl same) = subst (Misses from upto (c.files 0).reads) (sym same.1) (misses trusted)
+      own : DirectoryStands phase c.files c.root c.entries ((replay_state phase c).state).objects → MissesUnder phase (write from upto) (c.files directory_file).reads c.root c.entries directory_file
+      own d trusted root (inl same) = subst (Misses from upto (c.files directory_file).reads) (sym same.1) (misses trusted)
       own d trusted root (inr named) = absurd (names_files phase c.files c.root c.entries _ d root named)

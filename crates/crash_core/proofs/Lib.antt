@@ -7,6 +7,7 @@ pub mod EntryMaps
 pub mod Doubles
 pub mod Names
 pub mod Lists
+pub mod FileRuns
 pub mod Sightings
 pub mod Moves
 pub mod Legality
@@ -17,3 +18,7 @@ pub mod Runs
 pub mod MountedPictures
 pub mod DirectoryLaws
 pub mod Openings
+pub mod MountedImages
+pub mod OldFormats
+pub mod Migrations
+pub mod MigrationSeals

@@ -3,8 +3,9 @@ use Rattle.std.proofs.Common.{◌≡◌, ℕ, suc, true, List, [], ◌∷◌, Op
 use Rattle.std.specs.declared.cmp.Ordering.TheVariants.{Less, Equal, Greater}
 use Rattle.std.specs.BTreeMap.{insert_entry}
 use Rattle.std.proofs.lemmas.Bool.{false≢true}
-use Rattle.disk_model.specs.State.{FileState}
+use Rattle.disk_model.specs.State.{FileState, LeftNow}
 use Rattle.node_image.specs.declared.node.RootRef.{RootRef}
+use Rattle.tee_types.specs.Limits.{directory_file}
 use Rattle.rpmb_card.specs.Card.{CardState}
 use Rattle.store_model.specs.declared.name.ObjectName.{ObjectName}
 use Rattle.store_model.specs.Name.{name_cmp}
@@ -17,7 +18,7 @@ use Rattle.crash_core.specs.MountedObject.{mounted_object, object_or_damaged}
 use Rattle.crash_core.specs.Entries.{name_of}
 use Rattle.crash_core.specs.EntryChanges.{changed}
 use Rattle.crash_core.specs.Directory.{directory_from, directory_of}
-use Rattle.crash_core.specs.CardBlock.{root_in}
+use Rattle.crash_core.specs.CardBlock.{directory_at, root_in}
 use Rattle.crash_core.specs.DeviceKeys.{directory_key, object_key}
 use Rattle.crash_core.specs.Pictures.{IsPictureOf, Picture, block_zero}
 use Rattle.crash_core.specs.Mounting.{Held, all_held_in, directory_by, map_of, mounted, mounted_directory, mounted_entries, unless_fault}
@@ -80,11 +81,13 @@ module _ (phase : Phase) (files : ℕ → FileState) (card : CardState) (picture
   pub directory_mounts : (dir : RootRef) (entries : List (Option DirEntry)) (objects : ObjectMap) (counter : ℕ) → CardNames card dir counter → DirectoryStands phase files dir entries objects
       → MountsTo phase picture objects
   directory_mounts dir entries objects counter names d =
-      let image : List ℕ = picture.images 0 in
+      let home : directory_at dir.format ≡ directory_file = ap directory_at d.own.current.1 in
+      let image : List ℕ = picture.images (directory_at dir.format) in
+      let left : LeftNow (files directory_file) image = subst (λ (n : ℕ). LeftNow (files n) image) home (is.left (directory_at dir.format)) in
       let block : root_in (block_zero picture.card) ≡ Ok dir = ap (λ (b : List (List ℕ)). root_in (block_zero (record card { blocks = b }))) is.same.blocks ∙ names.names in
-      let opened = ap (λ (s : Sight). directory_from s.opened) (d.own.alike image (is.left 0)) ∙ d.reads in
+      let opened = ap (λ (s : Sight). directory_from s.opened) (d.own.alike image left) ∙ d.reads in
       let read : directory_of (directory_key phase.keys) image dir ≡ Ok entries = seen_directory (directory_key phase.keys) image dir entries opened in
-      let directory : mounted_directory phase.keys picture ≡ Ok entries = ap (directory_by phase.keys image) block ∙ ap unless_fault read in
+      let directory : mounted_directory phase.keys picture ≡ Ok entries = ap (directory_by phase.keys picture.images) block ∙ ap unless_fault read in
       let Same : ObjectName → Type 0 = IsTrustedName phase entries in
       let same : SameBut Same (map_of d.held) (map_of (all_held_in phase.keys picture.images (entries_held d.held))) =
       shown_maps phase picture.images Same d.held
@@ -101,7 +104,7 @@ module _ (phase : Phase) (files : ℕ → FileState) (card : CardState) (picture
             (subst (λ (l : List (Option DirEntry)). SameBut Same (map_of d.held) (map_of (all_held_in phase.keys picture.images l))) d.holds same);
       }
 
-  module _ (trusted : IsTrusted phase 0) (root : RootRef) (entries : List (Option DirEntry)) (s : ReplayState) (committed : DirectoryStands phase files root entries (s.state).objects) where
+  module _ (trusted : IsTrusted phase directory_file) (root : RootRef) (entries : List (Option DirEntry)) (s : ReplayState) (committed : DirectoryStands phase files root entries (s.state).objects) where
     sealed_mounts : (p : PendingCommit) (sealed : Option RootRef) → SealedStands phase files card root entries s p sealed → MountsTo phase picture (map_sealed s.state p sealed)
     sealed_mounts p None stands = directory_mounts root entries (s.state).objects s.counter stands committed
     sealed_mounts p (Some dir) stands = directory_mounts dir (changed entries p.change) _ _ stands.0 (stands.1 trusted)
@@ -111,7 +114,7 @@ module _ (phase : Phase) (files : ℕ → FileState) (card : CardState) (picture
     pending_mounts (Some p) stands = sealed_mounts p p.sealed stands
 
 -- Every picture of a state that holds mounts.
-pub holds_mounts : {Root : Type 0} (phase : Phase) (c : Core Root) (picture : Picture) → Holds phase c → IsPictureOf c.files c.card picture → IsTrusted phase 0
+pub holds_mounts : {Root : Type 0} (phase : Phase) (c : Core Root) (picture : Picture) → Holds phase c → IsPictureOf c.files c.card picture → IsTrusted phase directory_file
     → MountsTo phase picture (map_on_card (replay_state phase c).state c.pending)
 holds_mounts phase c picture h is trusted =
     pending_mounts phase c.files c.card picture is trusted c.root c.entries (replay_state phase c) (h.committed trusted) c.pending h.pending
@@ -137,4 +140,4 @@ mounts_whole phase picture objects trusted m =
 
 pub honest-pictures-mount : {Root : Type 0} → UnchangedMapsStay → CommitsMakeChanges → HonestPicturesMount Root
 honest-pictures-mount quiet commits phase start now steps picture good run is trusted =
-    mounts_whole phase picture _ trusted (every-picture-mounts quiet commits phase start now steps picture good run is (trusted 0))
+    mounts_whole phase picture _ trusted (every-picture-mounts quiet commits phase start now steps picture good run is (trusted directory_file))

@@ -1,9 +1,11 @@
 -- A directory that stands stays so after a call of one file that misses what it and its entries select.
-use Rattle.std.proofs.Common.{◌≡◌, ◌⊎◌, ℕ, ◌≤◌, List, IsTrue, Option, Some, None, inl, inr, refl, sym, subst, arith}
+use Rattle.std.proofs.Common.{◌≡◌, ◌⊎◌, ℕ, List, IsTrue, Option, Some, None, inl, inr, refl, sym, subst}
 use Rattle.std.proofs.lemmas.Bool.{cases_eq}
 use Rattle.disk_model.specs.State.{FileState, Sound}
 use Rattle.disk_model.specs.Keeps.{FileCall}
 use Rattle.node_image.specs.declared.node.RootRef.{RootRef}
+use Rattle.tee_types.specs.Limits.{directory_file}
+use Rattle.tee_types.proofs.FileNumbers.{object_not_directory}
 use Rattle.rpmb_card.specs.Card.{CardState}
 use Rattle.store_model.specs.Object.{ObjectMap}
 use Rattle.store_model.specs.ReplayState.{ReplayState}
@@ -22,7 +24,7 @@ use Rattle.crash_core.proofs.Sightings.{CallMisses, call_shows, call_stands}
 
 -- the references of a file under a directory: the directory's own, and those of its entries
 abbrev pub IsRoot : (dir : RootRef) → (entries : List (Option DirEntry)) → (file : ℕ) → RootRef → Type 0
-IsRoot dir entries file root = ((file ≡ 0) × (root ≡ dir)) ⊎ IsNamed entries file root
+IsRoot dir entries file root = ((file ≡ directory_file) × (root ≡ dir)) ⊎ IsNamed entries file root
 
 -- what a call of a file writes misses what a directory and its entries select there
 abbrev pub MissesUnder : Phase → FileCall → List ℕ → (dir : RootRef) → (entries : List (Option DirEntry)) → (file : ℕ) → Type 0
@@ -39,12 +41,10 @@ MissesNext phase call reads entries (Some p) file = MissesOnceSealed phase call 
 
 -- no entry of a directory that is read names the directory's file
 pub names_files : (phase : Phase) (files : ℕ → FileState) (dir : RootRef) (entries : List (Option DirEntry)) (objects : ObjectMap) → DirectoryStands phase files dir entries objects
-    → (root : RootRef) → IsNamed entries 0 root → ⊥
+    → (root : RootRef) → IsNamed entries directory_file root → ⊥
 names_files phase files dir entries objects d root named =
     let form = directory_forms entries d.sight.opened d.reads named.index named.entry named.at in
-    let least : 1 ≤ named.entry.file = form.file.0 in
-    let none : 1 ≤ 0 = subst (λ (n : ℕ). 1 ≤ n) (sym named.is_file) least in
-    omega (arith, none)
+    object_not_directory named.entry.file form.file.0 form.file.1 (sym named.is_file)
 
 module _ (phase : Phase) (files : ℕ → FileState) (file : ℕ) (call : FileCall) (new : FileState) (sound : Sound (files file)) (step : IsFileStep phase file call (files file) new) where
   file_stands : (k : ℕ) (P : FileState → Type 0) → IsTrusted phase k → (k ≡ file → IsTrue new.honest → P (files file) → P new) → P (files k) → P (put files file new k)
@@ -56,11 +56,11 @@ module _ (phase : Phase) (files : ℕ → FileState) (file : ℕ) (call : FileCa
   ]
 
   -- The directory stands after the call.
-  pub directory_moved : (dir : RootRef) (entries : List (Option DirEntry)) (objects : ObjectMap) → IsTrusted phase 0
+  pub directory_moved : (dir : RootRef) (entries : List (Option DirEntry)) (objects : ObjectMap) → IsTrusted phase directory_file
       → MissesUnder phase call (files file).reads dir entries file → DirectoryStands phase files dir entries objects → DirectoryStands phase (put files file new) dir entries objects
   directory_moved dir entries objects trusted misses d = record {
     sight = d.sight;
-    own = file_stands 0 (λ (s : FileState). Stands s (directory_key phase.keys) dir d.sight) trusted
+    own = file_stands directory_file (λ (s : FileState). Stands s (directory_key phase.keys) dir d.sight) trusted
         (λ is honest. call_stands call (files file) new (directory_key phase.keys) dir d.sight sound step.sound honest step.called (misses (subst (IsTrusted phase) is trusted) dir (inl (sym is, refl))))
         d.own;
     reads = d.reads;

@@ -3,6 +3,7 @@ use Rattle.std.proofs.Common.{◌≡◌, ℕ, List, [], ◌∷◌, Option, Some,
 use Rattle.std.specs.Option.{option_map}
 use Rattle.disk_model.specs.State.{FileState}
 use Rattle.node_image.specs.declared.node.RootRef.{RootRef}
+use Rattle.tee_types.specs.Limits.{directory_file}
 use Rattle.rpmb_card.specs.Card.{CardState}
 use Rattle.dir_records.specs.declared.entry.DirEntry.{DirEntry}
 use Rattle.dir_records.specs.Form.{HasForm}
@@ -36,7 +37,7 @@ module _ (phase : Phase) (files : ℕ → FileState) where
 
 module _ (phase : Phase) (files : ℕ → FileState) (card : CardState) (root : RootRef) (entries : List (Option DirEntry)) (o : IsOpened phase files card root entries) where
   abbrev seen : Sight
-  seen = sight_of (directory_key phase.keys) (files 0).reads root
+  seen = sight_of (directory_key phase.keys) (files directory_file).reads root
 
   -- an entry whose file is honest to the end shows what it names
   shows : ((index : ℕ) (e : DirEntry) → entry_at entries index ≡ Some e → HasForm e) → (index : ℕ) (h : Held) → held_at (all_held_in phase.keys (reads_of files) entries) index ≡ Some h → IsTrusted phase h.entry.file
@@ -47,16 +48,16 @@ module _ (phase : Phase) (files : ℕ → FileState) (card : CardState) (root : 
       subst (λ (x : Held). IsTrusted phase x.entry.file → Shows phase.keys (files x.entry.file) x.entry x.object) found.2
       (λ own. record {
         sight = sight_of (object_key phase.keys e.app) (files e.file).reads (root_of e);
-        stands = settled_stands (files e.file) (object_key phase.keys e.app) (root_of e) (o.sound e.file) (o.honest e.file own) (o.synced index e found.1 own) (forms index e found.1).version;
+        stands = settled_stands (files e.file) (object_key phase.keys e.app) (root_of e) (o.sound e.file) (o.honest e.file own) (o.synced index e found.1 own) ((forms index e found.1).version, o.entries_current index e found.1);
         is = refl;
       }) trusted
 
-  opened_stands : IsTrusted phase 0 → DirectoryStands phase files root entries phase.begins.objects
+  opened_stands : IsTrusted phase directory_file → DirectoryStands phase files root entries phase.begins.objects
   opened_stands trusted =
-      let reads = directory_seen (directory_key phase.keys) (files 0).reads root entries (o.directory trusted) in
+      let reads = directory_seen (directory_key phase.keys) (files directory_file).reads root entries (o.directory trusted) in
       record {
         sight = seen;
-        own = settled_stands (files 0) (directory_key phase.keys) root (o.sound 0) (o.honest 0 trusted) (o.settled trusted) o.form.bit;
+        own = settled_stands (files directory_file) (directory_key phase.keys) root (o.sound directory_file) (o.honest directory_file trusted) (o.settled trusted) (o.form.version, o.current);
         reads = reads;
         held = all_held_in phase.keys (reads_of files) entries;
         holds = entries_back phase files entries;

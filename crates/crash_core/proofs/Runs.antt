@@ -1,5 +1,6 @@
 -- Every step of the core machine keeps what holds of it, and so does every run from a start.
 use Rattle.std.proofs.Common.{◌≡◌, List, [], ◌∷◌, sym, ap, subst}
+use Rattle.tee_types.specs.Limits.{directory_file}
 use Rattle.store_model.specs.ReplayState.{ReplayState, opening, replay}
 use Rattle.store_model.specs.Record.{Record}
 use Rattle.store_model.specs.Legal.{IsLegalFrom}
@@ -19,7 +20,7 @@ module _ {Root : Type 0} (quiet : UnchangedMapsStay) (commits : CommitsMakeChang
   step_holds c h (WriteFile actor file from upto) d s = subst (Holds phase) (sym s.7) (write_holds phase c h file from upto s.5 s.1 s.0 s.3 s.4 s.6)
   step_holds c h (SyncFile file) d s = subst (Holds phase) (sym s.3) (sync_holds phase c h file s.1 s.2)
   step_holds c h (WriteDirectory p from upto) d s = subst (Holds phase) (sym s.4) (directory_holds phase c h p from upto s.2 s.0 s.1 s.3)
-  step_holds c h SyncDirectory d s = subst (Holds phase) (sym s.2) (sync_holds phase c h 0 s.0 s.1)
+  step_holds c h SyncDirectory d s = subst (Holds phase) (sym s.2) (sync_holds phase c h directory_file s.0 s.1)
   step_holds c h (Seal dir) d s = subst (Holds phase) (sym s.4) (seal_holds phase c h commits s.0 dir s.1 s.2 s.3)
   step_holds c h (Append r) d s = append_holds quiet phase c h r d s
   step_holds c h (DropStage file) d s = subst (Holds phase) (sym s) (drop_stage_holds phase c h file)

@@ -2,12 +2,10 @@
 -- bytes have the same directory.
 use Rattle.std.proofs.Common.{◌≡◌, ◌∙◌, ◌+◌, ◌/◌, ◌<◌, ◌≤◌, ℕ, zero, suc, max, List, [], length, get_or, Option, Some, None, Result, Ok, Err, cond, is_none, Bool, true, false, refl, sym, ap, arith}
 use Rattle.aes_block.specs.WrappedKey.{unwrapped_of}
-use Rattle.node_image.specs.declared.node.NodeImage.{NodeImage}
 use Rattle.node_image.specs.declared.node.RootRef.{RootRef}
-use Rattle.node_image.specs.Parts.Part.{block}
-use Rattle.node_image.specs.Tables.{at_node, block_bit}
-use Rattle.node_image.specs.Selection.{SelectedTree, head_in, part_in, selected_node, selected_tree}
-use Rattle.node_image.proofs.Matching.{node_is, row_at, row_same}
+use Rattle.node_image.specs.Tables.{at_node}
+use Rattle.node_image.specs.Selection.{SelectedTree, selected_tree}
+use Rattle.node_image.proofs.Matching.{row_same}
 use Rattle.htree_file.specs.declared.fault.TreeFault.{TreeFault}
 use Rattle.htree_file.specs.declared.fault.TreeFault.TheVariants.{BadTag}
 use Rattle.htree_file.specs.Opening.{Loaded, load_of}
@@ -15,6 +13,7 @@ use Rattle.htree_file.specs.Pages.{block_in, opened_in, opened_of, page_in, page
 use Rattle.htree_file.specs.Selected.{IsLoaded}
 use Rattle.htree_file.specs.Standing.{OpensTo}
 use Rattle.htree_file.proofs.Loadings.{loaded_from}
+use Rattle.htree_file.proofs.SelectedBlocks.{selected_block}
 use Rattle.htree_file.proofs.Sizes.{sized_greatest}
 use Rattle.dir_records.specs.declared.entry.DirEntry.{DirEntry}
 use Rattle.crash_core.specs.declared.fault.DirFault.{DirFault}
@@ -57,33 +56,26 @@ module _ (tsk image : List ℕ) (root : RootRef) (entries : List (Option DirEntr
           bad_none image key tree entries (bad_block tree.head.length (pages_of image key tree)) found
 
 -- THE SAME SELECTED BYTES
--- the selected block k of an image in which the tree loads
-selected_block : (image : List ℕ) (root : RootRef) (tree : Loaded) → IsLoaded image root tree → (k : ℕ) → k < length tree.nodes
-    → get_or (selected_tree image root.version).blocks k [] ≡ block_in image tree k
-selected_block image root tree l k lt =
-    row_at (λ m. part_in image (block m (block_bit (selected_node image root.version (m + 1)).flags))) (head_in image root.version).greatest k [] (omega (arith, ap (λ h. h.greatest) l.top, l.hashed.all, lt))
-    ∙ ap (λ (x : NodeImage). part_in image (block k (block_bit x.flags))) (node_is image root.version tree.nodes (length tree.nodes) l.matches (k + 1) (omega arith) (omega (arith, lt)))
-
-pub same_block : (i r : List ℕ) (root : RootRef) (tree : Loaded) → load_of i root ≡ Ok tree → load_of r root ≡ Ok tree → selected_tree i root.version ≡ selected_tree r root.version
+pub same_block : (i r : List ℕ) (root : RootRef) (tree : Loaded) → load_of i root ≡ Ok tree → load_of r root ≡ Ok tree → selected_tree i root ≡ selected_tree r root
     → (k : ℕ) → k < length tree.nodes → block_in i tree k ≡ block_in r tree k
 same_block i r root tree a b same k lt =
-    sym (selected_block i root tree (loaded_from i root tree a) k lt)
+    sym (selected_block i root tree a k lt)
     ∙ ap (λ (s : SelectedTree). get_or s.blocks k []) same
-    ∙ selected_block r root tree (loaded_from r root tree b) k lt
+    ∙ selected_block r root tree b k lt
 
-same_pages : (i r : List ℕ) (root : RootRef) (tree : Loaded) → load_of i root ≡ Ok tree → load_of r root ≡ Ok tree → selected_tree i root.version ≡ selected_tree r root.version
+same_pages : (i r : List ℕ) (root : RootRef) (tree : Loaded) → load_of i root ≡ Ok tree → load_of r root ≡ Ok tree → selected_tree i root ≡ selected_tree r root
     → (key : List ℕ) → pages_of i key tree ≡ pages_of r key tree
 same_pages i r root tree a b same key = row_same (page_in i key tree) (page_in r key tree) (length tree.nodes)
     (λ k lt. ap (page_of key tree.head (at_node tree.nodes (k + 1)) k) (same_block i r root tree a b same k lt))
 
-opened_by : (wrap i r : List ℕ) (root : RootRef) (x : Result Loaded TreeFault) → load_of i root ≡ x → load_of r root ≡ x → selected_tree i root.version ≡ selected_tree r root.version
+opened_by : (wrap i r : List ℕ) (root : RootRef) (x : Result Loaded TreeFault) → load_of i root ≡ x → load_of r root ≡ x → selected_tree i root ≡ selected_tree r root
     → opened_in i wrap x ≡ opened_in r wrap x
 opened_by wrap i r root (Err fault) a b same = refl
 opened_by wrap i r root (Ok tree) a b same =
     ap (λ (pages : _). Ok (record { bytes = tree.head.length; pages = pages })) (same_pages i r root tree a b same (unwrapped_of wrap tree.head.wrapped))
 
 -- two images in which a reference selects the same and loads alike open alike
-pub opened_same : (wrap i r : List ℕ) (root : RootRef) → selected_tree i root.version ≡ selected_tree r root.version → load_of i root ≡ load_of r root
+pub opened_same : (wrap i r : List ℕ) (root : RootRef) → selected_tree i root ≡ selected_tree r root → load_of i root ≡ load_of r root
     → opened_of wrap i root ≡ opened_of wrap r root
 opened_same wrap i r root same loads = opened_by wrap i r root (load_of i root) refl (sym loads) same ∙ ap (opened_in r wrap) loads
 

@@ -1,15 +1,13 @@
 -- What stands alike in every image of a file stands so after each call of the file that misses what it selects.
-use Rattle.std.proofs.Common.{◌≡◌, ℕ, ◌<◌, List, [], drop, IsTrue, inl, inr, sym, ◌∙◌, ap, subst, arith}
+use Rattle.std.proofs.Common.{◌≡◌, ℕ, List, [], IsTrue, inl, inr, sym, ◌∙◌, ap, arith}
 use Rattle.std.proofs.lemmas.Bool.{cases_lt}
-use Rattle.disk_model.specs.declared.span.Span.{Span}
-use Rattle.disk_model.specs.declared.span.Change.{Change}
-use Rattle.disk_model.specs.Images.{MayLeave}
-use Rattle.disk_model.specs.State.{FileState, LeftNow, Sound, moment, pending, spans_of}
+use Rattle.disk_model.specs.State.{FileState, LeftNow, Sound, moment, pending}
 use Rattle.disk_model.specs.Calls.{Rests, Syncs}
 use Rattle.disk_model.specs.Keeps.{FileCall, IsCall, Keeps, Outside, Writes, write, sync, rest}
-use Rattle.disk_model.proofs.ImageLaws.{now_since, reads_left}
-use Rattle.disk_model.proofs.Laws.{change_keeps, keeps_fewer, synced}
+use Rattle.disk_model.proofs.ImageLaws.{exact_none, now_since, reads_left}
+use Rattle.disk_model.proofs.Laws.{change_keeps, keeps_fewer}
 use Rattle.node_image.specs.declared.node.RootRef.{RootRef}
+use Rattle.node_image.specs.References.{IsCurrent}
 use Rattle.node_image.specs.Selection.{selected_tree}
 use Rattle.hmac_keys.specs.declared.Keys.{Keys}
 use Rattle.htree_file.specs.Opening.{load_of}
@@ -22,6 +20,7 @@ use Rattle.dir_records.specs.declared.entry.DirEntry.{DirEntry}
 use Rattle.crash_core.specs.MountedObject.{root_of}
 use Rattle.crash_core.specs.DeviceKeys.{object_key}
 use Rattle.crash_core.specs.Sights.{Misses, Shows, Sight, Stands, sight_of}
+use Rattle.crash_core.proofs.FileRuns.{rest_left, sync_left}
 use Rattle.crash_core.proofs.SameDirectory.{opened_same}
 
 -- a write misses what the reference selects
@@ -32,7 +31,7 @@ CallMisses rest reads root = Unit {0}
 
 -- of a settled file there is one image
 pub one_image : (s : FileState) → Sound s → IsTrue s.honest → pending s ≡ [] → (image : List ℕ) → LeftNow s image → image ≡ s.reads
-one_image s sound honest none image left = (left honest).exact none ∙ sym ((reads_left s sound honest).exact none)
+one_image s sound honest none image left = exact_none s.settled (pending s) image none (left honest) ∙ sym (exact_none s.settled (pending s) s.reads none (reads_left s sound honest))
 
 module _ (old new : FileState) (wrap : List ℕ) (root : RootRef) (what : Sight) (sound : Sound old) (still : Sound new) (honest : IsTrue new.honest) (stands : Stands old wrap root what) where
   -- what it reads as is an image
@@ -40,12 +39,10 @@ module _ (old new : FileState) (wrap : List ℕ) (root : RootRef) (what : Sight)
   here = stands.alike old.reads (reads_left old sound)
 
   rest_stands : Rests old new → (i : List ℕ) → LeftNow new i → sight_of wrap i root ≡ what
-  rest_stands rests i left =
-      let spans : pending new ≡ pending old = ap (λ (n : ℕ). spans_of (drop n new.trail)) rests.pending_from ∙ ap (λ (l : List Change). spans_of (drop old.pending_from l)) rests.trail in
-      stands.alike i (λ was. subst (λ (b : List ℕ). MayLeave b (pending old) i) (rests.settled honest) (subst (λ (l : List Span). MayLeave new.settled l i) spans (left honest)))
+  rest_stands rests i left = stands.alike i (rest_left old new rests honest i left)
 
   sync_stands : Syncs old new → (i : List ℕ) → LeftNow new i → sight_of wrap i root ≡ what
-  sync_stands syncs i left = ap (λ (b : List ℕ). sight_of wrap b root) (synced old new syncs honest i left ∙ syncs.reads (inl honest)) ∙ here
+  sync_stands syncs i left = stands.alike i (sync_left old new sound syncs honest i left)
 
   module _ (from upto : ℕ) (writes : Writes from upto old new) (misses : Misses from upto old.reads root) where
     firm : IsFirm old root misses.tree
@@ -54,7 +51,7 @@ module _ (old new : FileState) (wrap : List ℕ) (root : RootRef) (what : Sight)
       selects = ap (λ (s : Sight). s.tree) (stands.alike i left ∙ sym here);
     }
 
-    outside : (p : ℕ) → Lies misses.tree.nodes root.version p → Outside from upto p
+    outside : (p : ℕ) → Lies misses.tree.layout misses.tree.nodes root.version p → Outside from upto p
     outside p at = elim (cases_lt p from) [
       | inl lt ↦ inl lt
       | inr ge ↦ elim (cases_lt p upto) [
@@ -63,14 +60,14 @@ module _ (old new : FileState) (wrap : List ℕ) (root : RootRef) (what : Sight)
       ]
     ]
 
-    keeps : Keeps (Lies misses.tree.nodes root.version) old new
-    keeps = keeps_fewer (Outside from upto) (Lies misses.tree.nodes root.version) old new outside (change_keeps from upto old new sound writes)
+    keeps : Keeps (Lies misses.tree.layout misses.tree.nodes root.version) old new
+    keeps = keeps_fewer (Outside from upto) (Lies misses.tree.layout misses.tree.nodes root.version) old new outside (change_keeps from upto old new sound writes)
 
     write_stands : (i : List ℕ) → LeftNow new i → sight_of wrap i root ≡ what
     write_stands i left =
-        let stays : StaysFirm old new root misses.tree = stays_firm old new root misses.tree sound still stands.bit keeps firm honest in
+        let stays : StaysFirm old new root misses.tree = stays_firm old new root misses.tree sound still stands.current.0 keeps firm honest in
         let opens = stays.always i (now_since new (moment old) i still left) in
-        let selects : selected_tree i root.version ≡ selected_tree old.reads root.version = opens.selects in
+        let selects : selected_tree i root ≡ selected_tree old.reads root = opens.selects in
         let loads : load_of i root ≡ load_of old.reads root = opens.opens ∙ sym misses.loads in
         let opened : opened_of wrap i root ≡ opened_of wrap old.reads root = opened_same wrap i old.reads root selects loads in
         let same : sight_of wrap i root ≡ sight_of wrap old.reads root = (λ j. record { tree = selects j; loads = loads j; opened = opened j }) in
@@ -80,11 +77,11 @@ module _ (old new : FileState) (wrap : List ℕ) (root : RootRef) (what : Sight)
 pub call_stands : (call : FileCall) (old new : FileState) (wrap : List ℕ) (root : RootRef) (what : Sight) → Sound old → Sound new → IsTrue new.honest
     → IsCall call old new → CallMisses call old.reads root → Stands old wrap root what → Stands new wrap root what
 call_stands (write from upto) old new wrap root what sound still honest called misses stands =
-    record { bit = stands.bit; alike = write_stands old new wrap root what sound still honest stands from upto called misses }
+    record { current = stands.current; alike = write_stands old new wrap root what sound still honest stands from upto called misses }
 call_stands sync old new wrap root what sound still honest called misses stands =
-    record { bit = stands.bit; alike = sync_stands old new wrap root what sound still honest stands called }
+    record { current = stands.current; alike = sync_stands old new wrap root what sound still honest stands called }
 call_stands rest old new wrap root what sound still honest called misses stands =
-    record { bit = stands.bit; alike = rest_stands old new wrap root what sound still honest stands called }
+    record { current = stands.current; alike = rest_stands old new wrap root what sound still honest stands called }
 
 -- so an entry shows its object still
 pub call_shows : (call : FileCall) (old new : FileState) (keys : Keys) (e : DirEntry) (object : Object) → Sound old → Sound new → IsTrue new.honest
@@ -96,6 +93,6 @@ call_shows call old new keys e object sound still honest called misses shows = r
 }
 
 -- in a settled file a reference stands
-pub settled_stands : (s : FileState) (wrap : List ℕ) (root : RootRef) → Sound s → IsTrue s.honest → pending s ≡ [] → root.version < 2 → Stands s wrap root (sight_of wrap s.reads root)
-settled_stands s wrap root sound honest none bit =
-    record { bit = bit; alike = λ image left. ap (λ (b : List ℕ). sight_of wrap b root) (one_image s sound honest none image left) }
+pub settled_stands : (s : FileState) (wrap : List ℕ) (root : RootRef) → Sound s → IsTrue s.honest → pending s ≡ [] → IsCurrent root → Stands s wrap root (sight_of wrap s.reads root)
+settled_stands s wrap root sound honest none current =
+    record { current = current; alike = λ image left. ap (λ (b : List ℕ). sight_of wrap b root) (one_image s sound honest none image left) }

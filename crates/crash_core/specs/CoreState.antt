@@ -19,7 +19,7 @@ pub record PendingCommit : Type 0 where
 
 -- `Root` stands for a committed version of a file in the history's tags.
 pub record Core (Root : Type 0) : Type 0 where
-  -- file 0 is the directory's
+  -- by their numbers
   pub files : ℕ → FileState
   pub card : CardState
   -- the directory's reference and its entries, as the last commit of the history left them

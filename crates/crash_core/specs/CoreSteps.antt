@@ -1,8 +1,9 @@
 -- The steps of the core machine. Those that are judged by who makes them name the actor.
-use Rattle.std.specs.Prelude.{◌≡◌, ◌≢◌, ◌⊎◌, ◌≤◌, ℕ, List, [], ◌∷◌, Option, Some, None}
+use Rattle.std.specs.Prelude.{◌≡◌, ◌≢◌, ◌⊎◌, ℕ, List, [], ◌∷◌, Option, Some, None}
 use Rattle.disk_model.specs.State.{FileState}
 use Rattle.disk_model.specs.Keeps.{write, sync, rest}
 use Rattle.node_image.specs.declared.node.RootRef.{RootRef}
+use Rattle.tee_types.specs.Limits.{directory_file}
 use Rattle.store_model.specs.Record.{Record}
 use Rattle.crash_core.specs.EntryLists.{IsUnnamed}
 use Rattle.crash_core.specs.EntryChanges.{file_put}
@@ -43,21 +44,21 @@ IsOpenCommit c p = ((c.pending ≡ None) ⊎ (c.pending ≡ Some p)) × (p.seale
 -- the step leads from one state to the other
 abbrev pub IsStep : {Root : Type 0} → Phase → Core Root → CoreStep Root → Core Root → Type 0
 IsStep phase c (TakeFile actor file) d =
-    (1 ≤ file) × IsUnnamed c.entries file × IsPutByNone c file × (c.takes file ≡ None) × (d ≡ record c { takes = put c.takes file (Some actor) })
+    (file ≢ directory_file) × IsUnnamed c.entries file × IsPutByNone c file × (c.takes file ≡ None) × (d ≡ record c { takes = put c.takes file (Some actor) })
 IsStep phase c (WriteFile actor file from upto) d =
-    (1 ≤ file) × (stages : ℕ → Option ℕ) × MayWrite phase c actor file stages
+    (file ≢ directory_file) × (stages : ℕ → Option ℕ) × MayWrite phase c actor file stages
     × (IsTrusted phase file → MissesNamed from upto (c.files file).reads c.entries file)
     × (IsTrusted phase file → MissesPending from upto (c.files file).reads c.pending file)
     × (new : FileState) × IsFileStep phase file (write from upto) (c.files file) new
     × (d ≡ record c { files = put c.files file new; stages = stages })
 IsStep phase c (SyncFile file) d =
-    (1 ≤ file) × (new : FileState) × IsFileStep phase file sync (c.files file) new × (d ≡ record c { files = put c.files file new })
+    (file ≢ directory_file) × (new : FileState) × IsFileStep phase file sync (c.files file) new × (d ≡ record c { files = put c.files file new })
 IsStep phase c (WriteDirectory p from upto) d =
-    IsOpenCommit c p × (IsTrusted phase 0 → Misses from upto (c.files 0).reads c.root)
-    × (new : FileState) × IsFileStep phase 0 (write from upto) (c.files 0) new
-    × (d ≡ record c { files = put c.files 0 new; pending = Some p })
+    IsOpenCommit c p × (IsTrusted phase directory_file → Misses from upto (c.files directory_file).reads c.root)
+    × (new : FileState) × IsFileStep phase directory_file (write from upto) (c.files directory_file) new
+    × (d ≡ record c { files = put c.files directory_file new; pending = Some p })
 IsStep phase c SyncDirectory d =
-    (new : FileState) × IsFileStep phase 0 sync (c.files 0) new × (d ≡ record c { files = put c.files 0 new })
+    (new : FileState) × IsFileStep phase directory_file sync (c.files directory_file) new × (d ≡ record c { files = put c.files directory_file new })
 IsStep phase c (Seal dir) d =
     (p : PendingCommit) × (c.pending ≡ Some p) × (p.sealed ≡ None) × IsSeal phase c p dir
     × (d ≡ record c { card = sealed_card c.card dir; pending = Some (record p { sealed = Some dir }) })

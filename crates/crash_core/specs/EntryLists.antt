@@ -2,6 +2,7 @@
 use Rattle.std.specs.Prelude.{◌≡◌, ◌≢◌, ℕ, false, List, Option, Some, None, get_or}
 use Rattle.std.specs.Ordering.{is_eq}
 use Rattle.node_image.specs.declared.node.RootRef.{RootRef}
+use Rattle.node_image.specs.References.{current_format}
 use Rattle.store_model.specs.declared.name.ObjectName.{ObjectName}
 use Rattle.store_model.specs.Name.{name_cmp}
 use Rattle.dir_records.specs.declared.entry.DirEntry.{DirEntry}
@@ -26,6 +27,10 @@ AreSingle entries = (a b : ℕ) (e f : DirEntry) → entry_at entries a ≡ Some
 -- no entry names the file
 abbrev pub IsUnnamed : List (Option DirEntry) → (file : ℕ) → Type 0
 IsUnnamed entries file = (index : ℕ) (e : DirEntry) → entry_at entries index ≡ Some e → file ≢ e.file
+
+-- each file that an entry names is of the current format
+abbrev pub AreCurrent : List (Option DirEntry) → Type 0
+AreCurrent entries = (index : ℕ) (e : DirEntry) → entry_at entries index ≡ Some e → e.format ≡ current_format
 
 -- an entry names the file by that reference
 pub record IsNamed (entries : List (Option DirEntry)) (file : ℕ) (root : RootRef) : Type 0 where

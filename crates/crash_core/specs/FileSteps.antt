@@ -3,6 +3,7 @@ use Rattle.std.specs.Prelude.{◌≡◌, ◌⊎◌, ℕ, List, Option, Some, Non
 use Rattle.disk_model.specs.State.{FileState, Sound}
 use Rattle.disk_model.specs.Keeps.{FileCall, IsCall}
 use Rattle.node_image.specs.declared.node.RootRef.{RootRef}
+use Rattle.node_image.specs.References.{current_format}
 use Rattle.htree_file.specs.Opening.{Loaded, load_of}
 use Rattle.dir_records.specs.declared.entry.DirEntry.{DirEntry}
 use Rattle.crash_core.specs.MountedObject.{root_of}
@@ -34,11 +35,13 @@ abbrev pub MissesPending : (from upto : ℕ) → (reads : List ℕ) → Option P
 MissesPending from upto reads None file = Unit {0}
 MissesPending from upto reads (Some p) file = MissesSealed from upto reads p.change p.sealed file
 
--- The first write of a stage: nobody has one on the file, and an entry names the file, which loads by its reference.
+-- The first write of a stage: nobody has one on the file, and an entry names the file, which is of the current format and loads by its
+-- reference.
 pub record BeginsStage {Root : Type 0} (phase : Phase) (c : Core Root) (file : ℕ) : Type 0 where
   pub none : c.stages file ≡ None
   pub root : RootRef
   pub named : IsNamed c.entries file root
+  pub current : root.format ≡ current_format
   pub loads : IsTrusted phase file → (tree : Loaded) × (load_of (c.files file).reads root ≡ Ok tree)
 
 -- Who may write the file of an object: who has taken it, or who stages on it. With the stages that are then open.

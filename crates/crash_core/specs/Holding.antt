@@ -3,6 +3,7 @@ use Rattle.std.specs.Prelude.{◌≡◌, ◌+◌, ℕ, List, map, Option, Some, 
 use Rattle.std.specs.Option.{option_map}
 use Rattle.disk_model.specs.State.{FileState, Sound}
 use Rattle.node_image.specs.declared.node.RootRef.{RootRef}
+use Rattle.tee_types.specs.Limits.{directory_file}
 use Rattle.rpmb_card.specs.Card.{CardState}
 use Rattle.store_model.specs.Object.{ObjectMap}
 use Rattle.store_model.specs.Calls.{state_after}
@@ -30,7 +31,7 @@ entries_held held = map (option_map (λ h. h.entry)) held
 -- are that map. Nothing is said of an object in a file that is not honest to the end.
 pub record DirectoryStands (phase : Phase) (files : ℕ → FileState) (dir : RootRef) (entries : List (Option DirEntry)) (objects : ObjectMap) : Type 0 where
   pub sight : Sight
-  pub own : Stands (files 0) (directory_key phase.keys) dir sight
+  pub own : Stands (files directory_file) (directory_key phase.keys) dir sight
   pub reads : directory_from sight.opened ≡ Ok entries
   pub held : List (Option Held)
   pub holds : entries_held held ≡ entries
@@ -47,7 +48,7 @@ abbrev pub SealedStands : Phase → (ℕ → FileState) → CardState → RootRe
 SealedStands phase files card root entries s p None = CardNames card root s.counter
 SealedStands phase files card root entries s p (Some dir) =
     CardNames card dir (s.counter + 1)
-    × (IsTrusted phase 0 → DirectoryStands phase files dir (changed entries p.change) (state_after s.state p.session p.call).objects)
+    × (IsTrusted phase directory_file → DirectoryStands phase files dir (changed entries p.change) (state_after s.state p.session p.call).objects)
 
 abbrev pub PendingStands : Phase → (ℕ → FileState) → CardState → RootRef → List (Option DirEntry) → ReplayState → Option PendingCommit → Type 0
 PendingStands phase files card root entries s None = CardNames card root s.counter
@@ -58,6 +59,6 @@ pub record Holds {Root : Type 0} (phase : Phase) (c : Core Root) : Type 0 where
   pub honest : (file : ℕ) → IsTrusted phase file → IsTrue (c.files file).honest
   pub legal : IsLegalFrom phase.tampered (opening phase.begins) c.history
   -- the committed directory stands, and holds the objects of the history
-  pub committed : IsTrusted phase 0 → DirectoryStands phase c.files c.root c.entries ((replay_state phase c).state).objects
+  pub committed : IsTrusted phase directory_file → DirectoryStands phase c.files c.root c.entries ((replay_state phase c).state).objects
   pub pending : PendingStands phase c.files c.card c.root c.entries (replay_state phase c) c.pending
   pub taken : (file actor : ℕ) → c.takes file ≡ Some actor → IsUnnamed c.entries file

@@ -9,6 +9,7 @@ pub mod EntryLists
 pub mod EntryChanges
 pub mod Pictures
 pub mod Mounting
+pub mod OldFormats
 pub mod Sights
 pub mod CoreState
 pub mod FileSteps
@@ -19,3 +20,5 @@ pub mod Holding
 pub mod DirectoryLaws
 pub mod Theorem
 pub mod Opening
+pub mod Migration
+pub mod MigrationLaws

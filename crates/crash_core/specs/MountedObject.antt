@@ -41,7 +41,7 @@ object_in tsk image root size attributes = object_or_damaged size attributes (op
 
 -- the reference of an entry
 abbrev pub root_of : DirEntry → RootRef
-root_of e = record { hash = e.hash; version = e.version }
+root_of e = record { hash = e.hash; version = e.version; format = e.format }
 
 -- the object that an entry mounts as
 abbrev pub mounted_object : (tsk : List ℕ) → (image : List ℕ) → DirEntry → Object

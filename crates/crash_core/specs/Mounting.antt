@@ -10,7 +10,7 @@ use Rattle.crash_core.specs.MountedObject.{mounted_object}
 use Rattle.crash_core.specs.Entries.{name_of}
 use Rattle.crash_core.specs.Directory.{directory_of}
 use Rattle.crash_core.specs.Refusal.{Refusal, NoDirectory}
-use Rattle.crash_core.specs.CardBlock.{root_in}
+use Rattle.crash_core.specs.CardBlock.{directory_at, root_in}
 use Rattle.crash_core.specs.DeviceKeys.{directory_key, object_key}
 use Rattle.crash_core.specs.Pictures.{Picture, block_zero}
 
@@ -36,13 +36,13 @@ abbrev pub unless_fault : Result (List (Option DirEntry)) DirFault → Result (L
 unless_fault (Ok entries) = Ok entries
 unless_fault (Err fault) = Err (NoDirectory fault)
 
-abbrev pub directory_by : Keys → (image : List ℕ) → Result RootRef Refusal → Result (List (Option DirEntry)) Refusal
-directory_by keys image (Ok root) = unless_fault (directory_of (directory_key keys) image root)
-directory_by keys image (Err refusal) = Err refusal
+abbrev pub directory_by : Keys → (images : ℕ → List ℕ) → Result RootRef Refusal → Result (List (Option DirEntry)) Refusal
+directory_by keys images (Ok root) = unless_fault (directory_of (directory_key keys) (images (directory_at root.format)) root)
+directory_by keys images (Err refusal) = Err refusal
 
--- the entries that a picture mounts: of the directory, in the image of file 0, that the card's block 0 names
+-- the entries that a picture mounts: of the directory that the card's block 0 names, in the image of its file
 abbrev pub mounted_directory : Keys → Picture → Result (List (Option DirEntry)) Refusal
-mounted_directory keys picture = directory_by keys (picture.images 0) (root_in (block_zero picture.card))
+mounted_directory keys picture = directory_by keys picture.images (root_in (block_zero picture.card))
 
 abbrev pub mounted_entries : Keys → (images : ℕ → List ℕ) → Result (List (Option DirEntry)) Refusal → Result ObjectMap Refusal
 mounted_entries keys images (Ok entries) = Ok (map_of (all_held_in keys images entries))

@@ -2,14 +2,16 @@
 use Rattle.std.specs.Prelude.{◌≡◌, ℕ, List, [], Option, Some, None, Ok, IsTrue}
 use Rattle.disk_model.specs.State.{FileState, Sound, pending}
 use Rattle.node_image.specs.declared.node.RootRef.{RootRef}
+use Rattle.node_image.specs.References.{current_format}
 use Rattle.hmac_keys.specs.declared.Keys.{Keys}
+use Rattle.tee_types.specs.Limits.{directory_file}
 use Rattle.rpmb_card.specs.Card.{CardState}
 use Rattle.store_model.specs.Object.{ObjectMap}
 use Rattle.dir_records.specs.declared.entry.DirEntry.{DirEntry}
 use Rattle.crash_core.specs.Directory.{directory_of}
 use Rattle.crash_core.specs.CardBlock.{IsReference}
 use Rattle.crash_core.specs.DeviceKeys.{directory_key}
-use Rattle.crash_core.specs.EntryLists.{entry_at}
+use Rattle.crash_core.specs.EntryLists.{AreCurrent, entry_at}
 use Rattle.crash_core.specs.Mounting.{all_held_in, map_of}
 use Rattle.crash_core.specs.CoreState.{Core, IsTrusted, Phase}
 use Rattle.crash_core.specs.Holding.{CardNames}
@@ -29,11 +31,13 @@ pub record IsOpened (phase : Phase) (files : ℕ → FileState) (card : CardStat
   pub honest : (file : ℕ) → IsTrusted phase file → IsTrue (files file).honest
   pub names : CardNames card root phase.begins.counter
   pub form : IsReference root
-  pub directory : IsTrusted phase 0 → directory_of (directory_key phase.keys) (files 0).reads root ≡ Ok entries
-  pub settled : IsTrusted phase 0 → pending (files 0) ≡ []
+  pub current : root.format ≡ current_format
+  pub directory : IsTrusted phase directory_file → directory_of (directory_key phase.keys) (files directory_file).reads root ≡ Ok entries
+  pub settled : IsTrusted phase directory_file → pending (files directory_file) ≡ []
+  pub entries_current : AreCurrent entries
   -- each file that an entry names was synced
   pub synced : (index : ℕ) (e : DirEntry) → entry_at entries index ≡ Some e → IsTrusted phase e.file → pending (files e.file) ≡ []
-  pub begins : IsTrusted phase 0 → phase.begins.objects ≡ opening_map phase.keys files entries
+  pub begins : IsTrusted phase directory_file → phase.begins.objects ≡ opening_map phase.keys files entries
 
 -- the core before its first step
 abbrev pub core_at : {Root : Type 0} → (ℕ → FileState) → CardState → RootRef → List (Option DirEntry) → Core Root

@@ -2,6 +2,8 @@
 use Rattle.std.specs.Prelude.{◌≡◌, ℕ, ◌+◌, true, [], slice_set, Ok}
 use Rattle.disk_model.specs.State.{FileState, pending}
 use Rattle.node_image.specs.declared.node.RootRef.{RootRef}
+use Rattle.node_image.specs.References.{current_format}
+use Rattle.tee_types.specs.Limits.{directory_file}
 use Rattle.rpmb_card.specs.Card.{CardState}
 use Rattle.store_model.specs.Object.{Object}
 use Rattle.store_model.specs.Makes.{MapChange, MakesChange}
@@ -25,9 +27,10 @@ PutShows phase files (Clear index) object = Unit {0}
 -- A pending commit may be sealed with the directory under that reference.
 pub record IsSeal {Root : Type 0} (phase : Phase) (c : Core Root) (p : PendingCommit) (dir : RootRef) : Type 0 where
   pub form : IsReference dir
+  pub current : dir.format ≡ current_format
   -- the directory is settled, and under the new reference holds the committed entries with the one change
-  pub settled : IsTrusted phase 0 → pending (c.files 0) ≡ []
-  pub holds : IsTrusted phase 0 → directory_of (directory_key phase.keys) (c.files 0).reads dir ≡ Ok (changed c.entries p.change)
+  pub settled : IsTrusted phase directory_file → pending (c.files directory_file) ≡ []
+  pub holds : IsTrusted phase directory_file → directory_of (directory_key phase.keys) (c.files directory_file).reads dir ≡ Ok (changed c.entries p.change)
   -- the machine commits the pending call, and the change is the one that this makes
   pub due : is_commit_due (replay_state phase c) p.session p.call ≡ true
   pub made : MapChange

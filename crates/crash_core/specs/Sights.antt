@@ -2,6 +2,7 @@
 use Rattle.std.specs.Prelude.{◌≡◌, ℕ, ◌<◌, ◌≤◌, List, Result, Ok}
 use Rattle.disk_model.specs.State.{FileState, LeftNow}
 use Rattle.node_image.specs.declared.node.RootRef.{RootRef}
+use Rattle.node_image.specs.References.{IsCurrent}
 use Rattle.node_image.specs.Selection.{SelectedTree, selected_tree}
 use Rattle.hmac_keys.specs.declared.Keys.{Keys}
 use Rattle.htree_file.specs.declared.fault.TreeFault.{TreeFault}
@@ -20,11 +21,11 @@ pub record Sight : Type 0 where
   pub opened : Result Opened TreeFault
 
 abbrev pub sight_of : (wrap image : List ℕ) → RootRef → Sight
-sight_of wrap image root = record { tree = selected_tree image root.version; loads = load_of image root; opened = opened_of wrap image root }
+sight_of wrap image root = record { tree = selected_tree image root; loads = load_of image root; opened = opened_of wrap image root }
 
 -- in every image that the file may leave the reference selects one and the same tree, and opens alike
 pub record Stands (s : FileState) (wrap : List ℕ) (root : RootRef) (what : Sight) : Type 0 where
-  pub bit : root.version < 2
+  pub current : IsCurrent root
   pub alike : (image : List ℕ) → LeftNow s image → sight_of wrap image root ≡ what
 
 -- so does the reference of an entry, which opens to that object
@@ -33,8 +34,8 @@ pub record Shows (keys : Keys) (s : FileState) (e : DirEntry) (object : Object) 
   pub stands : Stands s (object_key keys e.app) (root_of e) sight
   pub is : object_or_damaged e.size e.attributes sight.opened ≡ object
 
--- the reference loads, and no place from one up to another lies in a part that it selects
+-- the reference loads, and no place from one up to another has a sector that meets a part that it selects
 pub record Misses (from upto : ℕ) (reads : List ℕ) (root : RootRef) : Type 0 where
   pub tree : Loaded
   pub loads : load_of reads root ≡ Ok tree
-  pub off : (place : ℕ) → from ≤ place → place < upto → Lies tree.nodes root.version place → ⊥
+  pub off : (place : ℕ) → from ≤ place → place < upto → Lies tree.layout tree.nodes root.version place → ⊥

@@ -4,6 +4,7 @@ use Rattle.std.specs.Prelude.{◌≡◌, ℕ, true, List, [], ◌∷◌, Option,
 use Rattle.std.specs.Ordering.{is_eq}
 use Rattle.disk_model.specs.State.{Sound}
 use Rattle.node_image.specs.declared.node.RootRef.{RootRef}
+use Rattle.tee_types.specs.Limits.{directory_file}
 use Rattle.store_model.specs.declared.name.ObjectName.{ObjectName}
 use Rattle.store_model.specs.Name.{name_cmp}
 use Rattle.store_model.specs.Object.{ObjectMap}
@@ -23,7 +24,7 @@ use Rattle.crash_core.specs.Holding.{CardNames, DirectoryStands}
 pub record IsStart {Root : Type 0} (phase : Phase) (c : Core Root) : Type 0 where
   pub sound : (file : ℕ) → Sound (c.files file)
   pub honest : (file : ℕ) → IsTrusted phase file → IsTrue (c.files file).honest
-  pub directory : IsTrusted phase 0 → DirectoryStands phase c.files c.root c.entries phase.begins.objects
+  pub directory : IsTrusted phase directory_file → DirectoryStands phase c.files c.root c.entries phase.begins.objects
   pub card : CardNames c.card c.root phase.begins.counter
   pub no_takes : (file : ℕ) → c.takes file ≡ None
   pub no_stages : (file : ℕ) → c.stages file ≡ None
@@ -62,7 +63,7 @@ map_on_card state (Some p) = map_sealed state p p.sealed
 abbrev pub EveryPictureMounts : Type 0 → Type 0
 EveryPictureMounts Root =
     (phase : Phase) (start now : Core Root) (steps : List (CoreStep Root)) (picture : Picture) → IsStart phase start → IsRun phase start steps now
-    → IsPictureOf now.files now.card picture → IsTrusted phase 0 → MountsTo phase picture (map_on_card (replay_state phase now).state now.pending)
+    → IsPictureOf now.files now.card picture → IsTrusted phase directory_file → MountsTo phase picture (map_on_card (replay_state phase now).state now.pending)
 
 -- Where every file is, it is that map.
 abbrev pub HonestPicturesMount : Type 0 → Type 0

@@ -10,7 +10,7 @@ use crate::objects;
 use crate::outcome::{Outcome, Tally};
 use crate::told::{Told, answer_of};
 use anyhow::Context;
-use node_image::{RootRef, block_offset, head_offset, node_offset};
+use node_image::{FORMAT, RootRef, block_offset, head_offset, node_offset};
 use std::alloc::Global;
 use tee_ports::{FileRig, StoreFile};
 
@@ -31,11 +31,11 @@ const SIZE: u16 = 5000;
 
 // Which part a place belongs to, where all parts stand in version 0.
 fn part_at(place: u64) -> Part {
-    if place < head_offset(0) + 32 {
+    if place < head_offset(FORMAT, 0) + 32 {
         return Part::Head;
     }
     for k in 0..BLOCKS {
-        let (node, block) = (node_offset(k + 1, 0), block_offset(k, 0));
+        let (node, block) = (node_offset(FORMAT, k + 1, 0), block_offset(FORMAT, k, 0));
         if node <= place && place < node + 66 {
             return Part::Node;
         }
@@ -111,7 +111,7 @@ fn outcome_of_cut(place: u64, told: Told) -> Outcome {
     match told {
         Told::Short => Outcome::Refused,
         Told::BadHead if place < 32 => Outcome::Refused,
-        Told::Damaged if place < block_offset(0, 0) => Outcome::Refused,
+        Told::Damaged if place < block_offset(FORMAT, 0, 0) => Outcome::Refused,
         _ => Outcome::Lost,
     }
 }
@@ -151,10 +151,12 @@ fn other_names(named: &Named) -> [Option<Named>; 3] {
     let flipped = RootRef {
         hash,
         version: 1 - version.min(1),
+        format: FORMAT,
     };
     let hashed = RootRef {
         hash: other,
         version,
+        format: FORMAT,
     };
     [
         Named::new(flipped, named.size, named.attributes),

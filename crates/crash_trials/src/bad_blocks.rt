@@ -7,7 +7,7 @@ use crate::objects;
 use crate::outcome::{Outcome, Tally};
 use crate::told::{Told, answer_of};
 use mem_files::MemFile;
-use node_image::block_offset;
+use node_image::{FORMAT, block_offset};
 use std::alloc::Global;
 use tee_ports::FileRig;
 
@@ -84,7 +84,7 @@ const CASES: [Case; 9] = [
 // The file of the base, with a bit of a block turned.
 fn with_bad_block(alloc: Global, base: &Base, bad: u32) -> anyhow::Result<MemFile> {
     let mut file = base.file(alloc)?;
-    file.flip(block_offset(bad.min(255), 0), &[1]);
+    file.flip(block_offset(FORMAT, bad.min(255), 0), &[1]);
     Ok(file)
 }
 

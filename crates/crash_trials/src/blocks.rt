@@ -21,6 +21,7 @@ pub fn load_tree(
 ) -> Result<Tree<MemFile>, Broken<MemFile>>
     ensures idle { IfOk result (λ tree. tree.stage ≡ None) }
     ensures few { IfOk result (λ tree. 1 ≤ tree.tree.head.greatest) }
+    ensures format { IfOk result (λ tree. tree.root.format ≡ 2) }
 {
     let named = *named;
     Tree::load(alloc, file, &TSK, named.root)
@@ -33,6 +34,7 @@ pub fn load(
     named: &Named,
 ) -> Result<BlockFile<MemFile>, Broken<MemFile>>
     ensures idle { IfOk result (λ file. file.stage ≡ None) }
+    ensures format { IfOk result (λ file. file.root.format ≡ 2) }
 {
     let named = *named;
     match Tree::load(alloc, file, &TSK, named.root) {
@@ -48,7 +50,7 @@ fn stage(
     change: Change,
     entropy: &mut ListEntropy,
 ) -> Result<(), TreeFault>
-    requires { file.old.stage ≡ None }
+    requires { (file.old.stage ≡ None) × (file.old.root.format ≡ 2) }
     ensures open { OnOk result (IsSome file.new.stage) }
 {
     match change {
@@ -67,7 +69,7 @@ fn commit(
     change: Change,
     arm: Arm,
 ) -> Result<RootRef, TreeFault>
-    requires { file.old.stage ≡ None }
+    requires { (file.old.stage ≡ None) × (file.old.root.format ≡ 2) }
 {
     let mut entropy = arm.entropy();
     stage(alloc, file, change, &mut entropy)?;

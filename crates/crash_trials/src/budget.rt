@@ -52,7 +52,7 @@ const ROWS: [Row; 3] = [
 
 // Stages a change.
 fn stage(alloc: Global, object: &mut ObjectFile<MemFile>, change: Change) -> Result<(), TreeFault>
-    requires { object.old.tree.stage ≡ None }
+    requires { (object.old.tree.stage ≡ None) × (object.old.tree.root.format ≡ 2) }
 {
     let mut entropy = ListEntropy::new([0; 16]);
     let size = object.size();

@@ -15,6 +15,7 @@ mod base;
 mod blocks;
 mod budget;
 mod change;
+mod copies;
 mod files;
 mod masks;
 mod named;

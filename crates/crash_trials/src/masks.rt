@@ -3,7 +3,7 @@
 use crate::base::Base;
 use crate::outcome::{Outcome, Tally};
 use crate::told::{Told, answer_of};
-use node_image::{block_offset, head_offset, node_offset};
+use node_image::{FORMAT, block_offset, head_offset, node_offset};
 use std::alloc::Global;
 use tee_ports::FileRig;
 
@@ -28,11 +28,11 @@ fn calls_of(alloc: Global, base: &Base) -> anyhow::Result<u64> {
 pub fn tally(alloc: Global) -> anyhow::Result<Tally> {
     let base = Base::new(alloc, 5000)?;
     let places = [
-        head_offset(0),
-        node_offset(1, 0),
-        node_offset(3, 0),
-        block_offset(0, 0),
-        block_offset(2, 0),
+        head_offset(FORMAT, 0),
+        node_offset(FORMAT, 1, 0),
+        node_offset(FORMAT, 3, 0),
+        block_offset(FORMAT, 0, 0),
+        block_offset(FORMAT, 2, 0),
     ];
     let mut tally = Tally::new();
     tally.calls = calls_of(alloc, &base)?;

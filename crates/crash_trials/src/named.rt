@@ -1,10 +1,10 @@
 // What names an object.
 
-ghost use Rattle.std.specs.Prelude.{◌<◌, ◌≤◌};
+ghost use Rattle.std.specs.Prelude.{◌≡◌, ◌<◌, ◌≤◌};
 ghost use Rattle.dir_records.specs.Form.{HasForm};
 
 use dir_records::DirEntry;
-use node_image::RootRef;
+use node_image::{FORMAT, RootRef};
 use tee_types::{AppId, ObjectId};
 use uuid::Uuid;
 
@@ -16,13 +16,13 @@ pub struct Named {
     pub size: u32,
     /// How many bytes of attributes.
     pub attributes: u16,
-    ghost formed: { (root.version < 2) × (size ≤ 1044480) × (attributes ≤ 2048) },
+    ghost formed: { (root.version < 2) × (root.format ≡ 2) × (size ≤ 1044480) × (attributes ≤ 2048) },
 }
 
 impl Named {
     /// None where the numbers are no object's.
     pub fn new(root: RootRef, size: u32, attributes: u16) -> Option<Named> {
-        if root.version > 1 || size > 1_044_480 || attributes > 2048 {
+        if root.version > 1 || root.format != FORMAT || size > 1_044_480 || attributes > 2048 {
             return None;
         }
         Some(Named {
@@ -34,7 +34,8 @@ impl Named {
 
     /// The entry of the directory that names it.
     pub fn entry(&self) -> DirEntry
-        ensures { HasForm result }
+        ensures form { HasForm result }
+        ensures format { result.format ≡ 2 }
     {
         let named = *self;
         let hash = named.root.hash;
@@ -46,7 +47,7 @@ impl Named {
             hash,
             size: named.size,
             attributes: named.attributes,
-            format: 1,
+            format: FORMAT,
             generation: 0,
         }
     }

@@ -41,6 +41,7 @@ pub fn load(
     named: &Named,
 ) -> Result<ObjectFile<MemFile>, ObjectBroken<MemFile>>
     ensures idle { IfOk result (λ object. object.tree.stage ≡ None) }
+    ensures format { IfOk result (λ object. object.tree.root.format ≡ 2) }
 {
     ObjectFile::load(alloc, file, &TSK, &named.entry())
 }
@@ -53,6 +54,7 @@ fn loaded(
     again: bool,
 ) -> Result<ObjectFile<MemFile>, MemFile>
     ensures idle { IfOk result (λ object. object.tree.stage ≡ None) }
+    ensures format { IfOk result (λ object. object.tree.root.format ≡ 2) }
 {
     match load(alloc, file, named) {
         Ok(object) => Ok(object),
@@ -75,9 +77,10 @@ pub fn stage(
     change: Change,
     entropy: &mut ListEntropy,
 ) -> Result<(), TreeFault>
-    requires { object.old.tree.stage ≡ None }
+    requires { (object.old.tree.stage ≡ None) × (object.old.tree.root.format ≡ 2) }
     ensures open { OnOk result (IsSome object.new.tree.stage) }
     ensures none { OnErr result (object.new.tree.stage ≡ None) }
+    ensures root { object.new.tree.root ≡ object.old.tree.root }
 {
     match change {
         Change::Write { at, count } => {
@@ -95,7 +98,7 @@ fn staged(
     change: Change,
     arm: Arm,
 ) -> Result<(), TreeFault>
-    requires { object.old.tree.stage ≡ None }
+    requires { (object.old.tree.stage ≡ None) × (object.old.tree.root.format ≡ 2) }
     ensures open { OnOk result (IsSome object.new.tree.stage) }
 {
     let mut entropy = arm.entropy();

@@ -9,7 +9,7 @@ use anyhow::Context;
 use block_file::BlockFile;
 use htree_file::Tree;
 use mem_files::MemFile;
-use node_image::block_offset;
+use node_image::{FORMAT, block_offset};
 use std::alloc::Global;
 
 // Whether a read of block 0 passes.
@@ -32,7 +32,7 @@ fn tree_passes_arms_on(alloc: Global, base: &Base) -> anyhow::Result<bool> {
     tree.fail_call(1)?;
     let failed = !reads_tree(&mut tree);
     tree.disarm();
-    tree.taint_call(1, block_offset(0, 0), &[1])?;
+    tree.taint_call(1, block_offset(FORMAT, 0, 0), &[1])?;
     let struck = !reads_tree(&mut tree);
     Ok(stopped && passed && failed && struck)
 }
@@ -54,7 +54,7 @@ fn bytes_pass_arms_on(alloc: Global, base: &Base) -> anyhow::Result<bool> {
     file.fail_call(1)?;
     let failed = !reads_bytes(&mut file);
     file.disarm();
-    file.taint_call(1, block_offset(0, 0), &[1])?;
+    file.taint_call(1, block_offset(FORMAT, 0, 0), &[1])?;
     let struck = !reads_bytes(&mut file);
     Ok(stopped && passed && failed && struck)
 }

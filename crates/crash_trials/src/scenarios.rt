@@ -7,7 +7,7 @@ use crate::outcome::Tally;
 use crate::trees::Step;
 use crate::trials::Trial;
 use crate::work::Work;
-use crate::{bad_blocks, files, masks, passed_on, ranges, roots, single_calls};
+use crate::{bad_blocks, copies, files, masks, passed_on, ranges, roots, single_calls};
 use std::alloc::Global;
 
 /// What a scenario tries.
@@ -15,6 +15,8 @@ use std::alloc::Global;
 enum Tries {
     /// A file itself.
     File,
+    /// What stands beside a change of a file.
+    Beside,
     /// Single calls of a file.
     Calls,
     /// An object of so many bytes is made.
@@ -43,6 +45,8 @@ enum Tries {
     Roots,
     /// Arms that a tree passes on.
     PassedOn,
+    /// Copies in another format.
+    Copies,
 }
 
 /// A scenario.
@@ -53,10 +57,14 @@ pub struct Scenario {
 }
 
 /// All scenarios, in the order of the table.
-pub const ALL: [Scenario; 29] = [
+pub const ALL: [Scenario; 31] = [
     Scenario {
         name: "a file: written, cut, written past its end",
         tries: Tries::File,
+    },
+    Scenario {
+        name: "a file: what stands beside a write",
+        tries: Tries::Beside,
     },
     Scenario {
         name: "a file: single calls, stops, masks, older bytes",
@@ -159,6 +167,10 @@ pub const ALL: [Scenario; 29] = [
         tries: Tries::PassedOn,
     },
     Scenario {
+        name: "copies of files in another format",
+        tries: Tries::Copies,
+    },
+    Scenario {
         name: "changes of an object with a bad block",
         tries: Tries::BadBlocks,
     },
@@ -201,6 +213,7 @@ impl Scenario {
     pub fn tally(&self, alloc: Global) -> anyhow::Result<Tally> {
         match self.tries {
             Tries::File => files::tally(alloc),
+            Tries::Beside => files::tally_beside(alloc),
             Tries::Calls => single_calls::tally(alloc),
             Tries::Make(size) => {
                 let data = old_bytes(alloc, usize::from(size))?;
@@ -221,6 +234,7 @@ impl Scenario {
             Tries::Sizes => ranges::tally_sizes(alloc),
             Tries::Roots => roots::tally(alloc),
             Tries::PassedOn => passed_on::tally(alloc),
+            Tries::Copies => copies::tally(alloc),
         }
     }
 }

@@ -62,7 +62,7 @@ impl Step {
 }
 
 fn stage_page(tree: &mut BlockFile<MemFile>, entropy: &mut ListEntropy) -> Result<(), TreeFault>
-    requires { (tree.old.stage ≡ None) × (tree.old.tree.head.greatest ≡ 5) }
+    requires { (tree.old.stage ≡ None) × (tree.old.root.format ≡ 2) × (tree.old.tree.head.greatest ≡ 5) }
     ensures open { OnOk result (IsSome tree.new.stage) }
 {
     let changes = [change(1)];
@@ -70,7 +70,7 @@ fn stage_page(tree: &mut BlockFile<MemFile>, entropy: &mut ListEntropy) -> Resul
 }
 
 fn stage_growth(tree: &mut BlockFile<MemFile>, entropy: &mut ListEntropy) -> Result<(), TreeFault>
-    requires { (tree.old.stage ≡ None) × (tree.old.tree.head.greatest ≡ 3) }
+    requires { (tree.old.stage ≡ None) × (tree.old.root.format ≡ 2) × (tree.old.tree.head.greatest ≡ 3) }
     ensures open { OnOk result (IsSome tree.new.stage) }
 {
     let changes = [change(1), change(2), change(3), change(4)];
@@ -78,7 +78,7 @@ fn stage_growth(tree: &mut BlockFile<MemFile>, entropy: &mut ListEntropy) -> Res
 }
 
 fn stage_cut(tree: &mut BlockFile<MemFile>, entropy: &mut ListEntropy) -> Result<(), TreeFault>
-    requires { (tree.old.stage ≡ None) × (tree.old.tree.head.greatest ≡ 5) }
+    requires { (tree.old.stage ≡ None) × (tree.old.root.format ≡ 2) × (tree.old.tree.head.greatest ≡ 5) }
     ensures open { OnOk result (IsSome tree.new.stage) }
 {
     tree.stage_pages(100, &[], entropy)
@@ -97,7 +97,7 @@ fn stage(
     step: Step,
     entropy: &mut ListEntropy,
 ) -> Result<(), TreeFault>
-    requires { tree.old.stage ≡ None }
+    requires { (tree.old.stage ≡ None) × (tree.old.root.format ≡ 2) }
     ensures open { OnOk result (IsSome tree.new.stage) }
 {
     let blocks = block_count(tree);
@@ -111,7 +111,7 @@ fn stage(
 
 // Stages a step, settles it, and makes it what is committed.
 fn commit(tree: &mut BlockFile<MemFile>, step: Step, arm: Arm) -> Result<RootRef, TreeFault>
-    requires { tree.old.stage ≡ None }
+    requires { (tree.old.stage ≡ None) × (tree.old.root.format ≡ 2) }
 {
     let mut entropy = arm.entropy();
     stage(tree, step, &mut entropy)?;

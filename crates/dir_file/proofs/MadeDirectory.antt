@@ -80,7 +80,7 @@ pub made_held : (s : FileState) (tsk : List ℕ) (root : RootRef) (tree : Loaded
 made_held s tsk root tree pages sound firm b loads opens = record {
   firm = firm;
   entries_are = λ image left.
-      directory_same image s.reads root tree (selected_tree s.reads root.version) (firm image left) (firm s.reads (reads_left s sound)) tsk
+      directory_same image s.reads root tree (selected_tree s.reads root) (firm image left) (firm s.reads (reads_left s sound)) tsk
       ∙ directory_opened tsk s.reads root tree (blank pages) no_entries loads opens (blank_holds pages b);
 }
 

@@ -86,7 +86,7 @@ held_kept old new d sound still kept honest was =
     record {
       firm = firm.firm;
       entries_are = λ image left.
-          directory_same image old.reads d.root d.tree (selected_tree old.reads d.root.version) (firm.always image (now_since new (moment old) image still left)) (was.firm old.reads (reads_left old sound)) d.tsk
+          directory_same image old.reads d.root d.tree (selected_tree old.reads d.root) (firm.always image (now_since new (moment old) image still left)) (was.firm old.reads (reads_left old sound)) d.tsk
           ∙ was.entries_are old.reads (reads_left old sound);
     }
 
@@ -127,7 +127,7 @@ module _ {F : Type 0} (t u : TreeValue F) (old new : FileState) (tsk : List ℕ)
               record {
                 firm = stands;
                 entries_are = λ image left.
-                    directory_same image new.reads s.root s.tree (selected_tree new.reads s.root.version) (stands image left) (stands new.reads (reads_left new still)) tsk
+                    directory_same image new.reads s.root s.tree (selected_tree new.reads s.root) (stands image left) (stands new.reads (reads_left new still)) tsk
                     ∙ ap (λ (b : List ℕ). directory_of tsk b s.root) (reads (inl honest)) ∙ staged.entries_are;
               });
         }
@@ -163,7 +163,7 @@ module _ {F : Type 0} (t u : TreeValue F) (old new : FileState) (tsk : List ℕ)
     abbrev before : DirView
     before = view_of t tsk entries was
 
-    module _ (same : u ≡ record t { file = u.file; stage = u.stage }) (keeps : Keeps (Lies t.tree.nodes t.root.version) old new) (kept : KeepsFirm old new t.root t.tree)
+    module _ (same : u ≡ record t { file = u.file; stage = u.stage }) (keeps : Keeps (Lies t.tree.layout t.tree.nodes t.root.version) old new) (kept : KeepsFirm old new t.root t.tree)
         (budget : IsWithinBudget (index / 32 ∷ []) 8 8 old.written new.written) (unsettled : new.pending_from ≡ old.pending_from) where
       pub stages_err : (fault : TreeFault) → u.stage ≡ None → was ≡ None → StagesEntry old new before (view_of u tsk entries was) index entry {A = Unit {0}} (Err fault)
       stages_err fault none idle = record {
@@ -183,13 +183,14 @@ module _ {F : Type 0} (t u : TreeValue F) (old new : FileState) (tsk : List ℕ)
       }
 
       pub stages_ok : IsSome u.stage → IfSome u.stage (λ s. (s.root.version ≡ 1 - t.root.version) × (s.settled ≡ false) × (s.tree.head ≡ top))
+          → IfSome u.stage (λ s. s.root.format ≡ t.root.format)
           → IfSome u.stage (λ s. IsVerified s.root s.tree)
           → (Known old new → load_of old.reads t.root ≡ Ok t.tree → IfSome u.stage (λ s. load_of new.reads s.root ≡ Ok s.tree))
           → (Known old new → load_of old.reads t.root ≡ Ok t.tree → IfSome u.stage (λ s. OpensAfter t.key t.tree.head.wrapped old.reads t.root new.reads s.root 32768 (one_change (index / 32) page)))
           → IfSome u.stage (λ s. SealsChanges t.key t.tree s.tree (one_change (index / 32) page)) → IfSome u.stage (λ s. SparesZero t.tree s.tree)
           → top.wrapped ≡ t.tree.head.wrapped → top.length ≡ 32768
           → StagesEntry old new before (view_of u tsk entries (Some put)) index entry {A = Unit {0}} (Ok tt)
-      stages_ok opens version verified loaded opened sealed spares wrapped bytes =
+      stages_ok opens version format verified loaded opened sealed spares wrapped bytes =
           let p = stage_some u.stage opens in
           let s : Staged = p.0 in
           let is : staged_of u.stage (Some put) entries ≡ Some (stage_at s put entries) = staged_is u.stage (Some put) entries s put p.1 refl in
@@ -201,7 +202,7 @@ module _ {F : Type 0} (t u : TreeValue F) (old new : FileState) (tsk : List ℕ)
             none = tt;
             opens = subst IsSome (sym is) refl;
             next = if_staged (staged_of u.stage (Some put) entries) (IsNext before index entry) (stage_at s put entries) is
-                (record { version = v.0; settled = v.1; entries_are = refl; are = entries_after entries index entry fits; verified = stands });
+                (record { version = v.0; format = at_stage u.stage (λ (x : Staged). x.root.format ≡ t.root.format) s p.1 format; settled = v.1; entries_are = refl; are = entries_after entries index entry fits; verified = stands });
             keeps = keeps;
             firm = kept;
             held = held_kept old new before sound still kept;

@@ -12,8 +12,8 @@ use Rattle.htree_file.specs.Selected.{Lies}
 
 -- head and nodes of the tree that the reference names
 abbrev pub SeesTree : (old new : FileState) → RootRef → Loaded → Type 0
-SeesTree old new root tree = WasSeen (Lies tree.nodes root.version) old new (λ image. table_of image root ≡ Ok tree)
+SeesTree old new root tree = WasSeen (Lies tree.layout tree.nodes root.version) old new (λ image. table_of image root ≡ Ok tree)
 
 -- the ciphertext of its block k
 abbrev pub SeesBlock : (old new : FileState) → Loaded → (k : ℕ) → (ciphertext : List ℕ) → Type 0
-SeesBlock old new tree k ciphertext = WasSeen (In (block k (block_version tree.nodes k))) old new (λ image. ciphertext ≡ block_in image tree k)
+SeesBlock old new tree k ciphertext = WasSeen (In tree.layout (block k (block_version tree.nodes k))) old new (λ image. ciphertext ≡ block_in image tree k)

@@ -21,6 +21,7 @@ KeepsHeld old new was = IsTrue new.honest → IsDurable old was.tsk was.root was
 -- the stage has the entries with one changed, in the version that the committed tree does not select
 pub record IsNext (was : DirView) (index : ℕ) (entry : Option DirEntry) (s : StagedDirectory) : Type 0 where
   pub version : s.root.version ≡ 1 - was.root.version
+  pub format : s.root.format ≡ was.root.format
   pub settled : s.settled ≡ false
   pub entries_are : s.entries ≡ slice_set was.entries index entry
   -- each name and each file stands once still
@@ -34,7 +35,7 @@ pub record StagesEntry (old new : FileState) (was now : DirView) (index : ℕ) (
   pub opens : OnOk result (IsSome now.stage)
   pub next : OnOk result (IfSome now.stage (IsNext was index entry))
   -- also after a failure
-  pub keeps : Keeps (Lies was.tree.nodes was.root.version) old new
+  pub keeps : Keeps (Lies was.tree.layout was.tree.nodes was.root.version) old new
   pub firm : KeepsFirm old new was.root was.tree
   pub held : KeepsHeld old new was
   -- as the file reads, the stage's reference names the entries with the one changed

@@ -12,7 +12,7 @@ ghost use Rattle.dir_file.specs.Making.{AreBlank};
 use crate::file::DirFile;
 use dir_records::DirEntry;
 use htree_file::{Broken, Page, Tree, TreeFault};
-use node_image::RootRef;
+use node_image::{FORMAT, RootRef};
 use std::alloc::Global;
 use tee_ports::{Entropy, NoMemory, StoreFile};
 
@@ -58,6 +58,7 @@ impl<F: StoreFile> DirFile<F> {
         entropy: &mut E,
     ) -> Result<(DirFile<F>, RootRef), Broken<F>>
         ensures root { IfOk result (λ made. (made.1 ≡ made.0.dir.root) × (made.1.version ≡ 0) × (length made.1.hash ≡ 32)) }
+        ensures format { IfOk result (λ made. made.1.format ≡ 2) }
         ensures idle { IfOk result (λ made. made.0.dir.stage ≡ None) }
         ensures tsk { IfOk result (λ made. made.0.dir.tsk ≡ tsk.now) }
         ensures entries { IfOk result (λ made. made.0.dir.entries ≡ no_entries) }
@@ -89,7 +90,7 @@ impl<F: StoreFile> DirFile<F> {
             }
         };
         let pages = blank_pages();
-        match Tree::make(alloc, file, tsk, 32_768, &pages, entropy) {
+        match Tree::make(alloc, file, FORMAT, tsk, 32_768, &pages, entropy) {
             Ok((tree, root)) => {
                 let root = whole(root);
                 let dir = DirFile {

@@ -19,6 +19,7 @@ impl<F: StoreFile> DirFile<F> {
         entropy: &mut E,
     ) -> Result<(), TreeFault>
         requires idle { self.old.dir.stage ≡ None }
+        requires format { self.old.dir.root.format ≡ 2 }
         requires fits { Fits self.old.dir.entries index entry.now }
         ensures answer { StagesEntry (F.state self.old.file) (F.state self.new.file) self.old.dir self.new.dir index entry.now result }
         ensures untouched { IfErr result (λ fault. IsDrawFault fault → self.new ≡ self.old) }
@@ -50,6 +51,7 @@ impl<F: StoreFile> DirFile<F> {
         entropy: &mut E,
     ) -> Result<(), TreeFault>
         requires idle { self.old.dir.stage ≡ None }
+        requires format { self.old.dir.root.format ≡ 2 }
         requires fits { Fits self.old.dir.entries index (Some entry.now) }
         ensures answer { StagesEntry (F.state self.old.file) (F.state self.new.file) self.old.dir self.new.dir index (Some entry.now) result }
         // All vectors are drawn before the first call of the file.
@@ -67,6 +69,7 @@ impl<F: StoreFile> DirFile<F> {
     /// Those of `stage_put`.
     pub fn stage_clear<E: Entropy>(&mut self, index: u16, entropy: &mut E) -> Result<(), TreeFault>
         requires idle { self.old.dir.stage ≡ None }
+        requires format { self.old.dir.root.format ≡ 2 }
         requires below { index < 256 }
         ensures answer { StagesEntry (F.state self.old.file) (F.state self.new.file) self.old.dir self.new.dir index None result }
         // All vectors are drawn before the first call of the file.

@@ -5,9 +5,10 @@ use Rattle.std.proofs.lemmas.List.{drop_all, length-take-le, take-append-drop}
 use Rattle.std.proofs.lemmas.Nat.{be_bytes_2, be_bytes_4}
 use Rattle.byte_fields.specs.Field.{field}
 use Rattle.byte_fields.proofs.Fields.{field-append-drop, field_byte, length-field}
+use Rattle.tee_types.specs.Limits.{IsObjectFile, last_file}
 use Rattle.tee_types.specs.Identifier.{padded}
 use Rattle.dir_records.specs.Layout.{byte, id_length, entry_of, entry_bytes}
-use Rattle.dir_records.specs.Form.{HasForm, is_free, tests, first_fault}
+use Rattle.dir_records.specs.Form.{HasForm, IsFormat, is_free, last_format, tests, first_fault}
 use Rattle.dir_records.proofs.Bytes.{byte-drop, zeros}
 use Rattle.dir_records.proofs.Rows.{each_passes, upto, at_most, is_equal, is_true}
 
@@ -16,10 +17,10 @@ pub record Passes (b : List ℕ) : Type 0 where
   pub count : (1 ≤ id_length b) × (id_length b ≤ 64)
   pub padding : is_free (drop (id_length b) (field 16 64 b)) ≡ true
   pub version : byte 81 b ≤ 1
-  pub file : (1 ≤ from_be_bytes w16 (field 82 2 b)) × (from_be_bytes w16 (field 82 2 b) ≤ 272)
+  pub file : IsObjectFile (from_be_bytes w16 (field 82 2 b))
   pub size : from_be_bytes w32 (field 116 4 b) ≤ 1044480
   pub attributes : from_be_bytes w16 (field 120 2 b) ≤ 2048
-  pub format : byte 122 b ≡ 1
+  pub format : IsFormat (byte 122 b)
   pub last : byte 127 b ≡ 0
 
 -- bytes without a fault pass each test
@@ -31,10 +32,10 @@ passes b none =
       count = upto 64 (id_length b) t.0;
       padding = is_true _ t.1.0;
       version = at_most 1 (byte 81 b) t.1.1.0;
-      file = upto 272 (from_be_bytes w16 (field 82 2 b)) t.1.1.1.0;
+      file = upto last_file (from_be_bytes w16 (field 82 2 b)) t.1.1.1.0;
       size = at_most 1044480 (from_be_bytes w32 (field 116 4 b)) t.1.1.1.1.0;
       attributes = at_most 2048 (from_be_bytes w16 (field 120 2 b)) t.1.1.1.1.1.0;
-      format = is_equal (byte 122 b) 1 t.1.1.1.1.1.1.0;
+      format = upto last_format (byte 122 b) t.1.1.1.1.1.1.0;
       last = is_equal (byte 127 b) 0 t.1.1.1.1.1.1.1.0;
     }
 

@@ -5,10 +5,11 @@ use Rattle.std.proofs.lemmas.List.{take_at, drop_at, length-replicate}
 use Rattle.std.proofs.lemmas.Nat.{from_be_bytes-to_be_bytes_2, from_be_bytes-to_be_bytes_4}
 use Rattle.byte_fields.specs.Field.{field}
 use Rattle.byte_fields.proofs.Fields.{field_here, rest_after}
+use Rattle.tee_types.specs.Limits.{last_file}
 use Rattle.tee_types.specs.Identifier.{IsIdentifier, padded}
 use Rattle.dir_records.specs.declared.entry.DirEntry.{DirEntry}
 use Rattle.dir_records.specs.Layout.{byte, id_length, entry_of, entry_bytes}
-use Rattle.dir_records.specs.Form.{HasForm, is_free, tests, first_fault, entry_or, record_of}
+use Rattle.dir_records.specs.Form.{HasForm, is_free, last_format, tests, first_fault, entry_or, record_of}
 use Rattle.dir_records.proofs.Bytes.{byte_here, is_free-replicate, byte_of_zeros}
 use Rattle.dir_records.proofs.Rows.{fault_of-passed, within, below, equal}
 
@@ -80,10 +81,10 @@ first_fault-given e b g id form =
     let id_passes = within 64 (id_length b) (omega (arith, g.count, id.0)) (omega (arith, g.count, id.1)) in
     let name_passes = ap (λ z. not (is_free z)) tail ∙ ap not (is_free-replicate (64 - length e.id)) in
     let version_passes = below 1 (byte 81 b) (omega (arith, version, form.version)) in
-    let file_passes = within 272 (from_be_bytes w16 (field 82 2 b)) (omega (arith, file, form.file.0)) (omega (arith, file, form.file.1)) in
+    let file_passes = within last_file (from_be_bytes w16 (field 82 2 b)) (omega (arith, file, form.file.0)) (omega (arith, file, form.file.1)) in
     let size_passes = below 1044480 (from_be_bytes w32 (field 116 4 b)) (omega (arith, size, form.size)) in
     let attributes_pass = below 2048 (from_be_bytes w16 (field 120 2 b)) (omega (arith, attributes, form.attributes)) in
-    let format_passes = equal (byte 122 b) 1 (format ∙ form.format) in
+    let format_passes = within last_format (byte 122 b) (omega (arith, format, form.format.0)) (omega (arith, format, form.format.1)) in
     let last_passes = equal (byte 127 b) 0 g.last in
     fault_of-passed (tests b)
     (id_passes, (name_passes, (version_passes, (file_passes, (size_passes, (attributes_pass, (format_passes, (last_passes, tt))))))))

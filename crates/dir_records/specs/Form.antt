@@ -1,10 +1,10 @@
 -- Which 128 bytes are free, an entry, or neither.
-use Rattle.std.specs.Prelude.{◌≡◌, ℕ, ◌<◌, ◌≤◌, Bool, ◌&&◌, ◌==◌, not, nat_le, nat_lt, List, [], ◌∷◌, drop, find, Option, None, Some, Result, Ok, Err, if◌then◌else◌}
+use Rattle.std.specs.Prelude.{ℕ, ◌<◌, ◌≤◌, Bool, ◌&&◌, ◌==◌, not, nat_le, nat_lt, List, [], ◌∷◌, drop, find, Option, None, Some, Result, Ok, Err, if◌then◌else◌}
 use Rattle.std.specs.List.{list_all}
 use Rattle.std.specs.Int.{w16, w32, from_be_bytes}
 use Rattle.std.specs.Option.{option_map}
 use Rattle.byte_fields.specs.Field.{field}
-use Rattle.tee_types.specs.Limits.{last_file, most_attribute_bytes, most_data_bytes, most_identifier_bytes}
+use Rattle.tee_types.specs.Limits.{IsObjectFile, last_file, most_attribute_bytes, most_data_bytes, most_identifier_bytes}
 use Rattle.dir_records.specs.declared.entry.DirEntry.{DirEntry}
 use Rattle.dir_records.specs.declared.entry.BadRecord.{BadRecord}
 use Rattle.dir_records.specs.Layout.{byte, id_length, entry_of}
@@ -17,6 +17,13 @@ is_free bytes = list_all (λ x. x == 0) bytes
 abbrev pub is_upto : (most n : ℕ) → Bool
 is_upto most n = nat_le 1 n && nat_le n most
 
+-- the last format of a file of an object; the first is 1
+abbrev pub last_format : ℕ
+last_format = 2
+
+abbrev pub IsFormat : ℕ → Type 0
+IsFormat format = (1 ≤ format) × (format ≤ last_format)
+
 -- each field that has a form, in the order of the tests: whether it is outside it, and its offset
 abbrev pub tests : List ℕ → List (Bool × ℕ)
 tests bytes =
@@ -26,7 +33,7 @@ tests bytes =
     ∷ (not (is_upto last_file (from_be_bytes w16 (field 82 2 bytes))), 82)
     ∷ (nat_lt most_data_bytes (from_be_bytes w32 (field 116 4 bytes)), 116)
     ∷ (nat_lt most_attribute_bytes (from_be_bytes w16 (field 120 2 bytes)), 120)
-    ∷ (not (byte 122 bytes == 1), 122)
+    ∷ (not (is_upto last_format (byte 122 bytes)), 122)
     ∷ (not (byte 127 bytes == 0), 127)
     ∷ []
 
@@ -46,7 +53,7 @@ record_of bytes = if is_free bytes then Ok None else entry_or (first_fault bytes
 -- each number of an entry has its form
 pub record HasForm (e : DirEntry) : Type 0 where
   pub version : e.version < 2
-  pub file : (1 ≤ e.file) × (e.file ≤ last_file)
+  pub file : IsObjectFile e.file
   pub size : e.size ≤ most_data_bytes
   pub attributes : e.attributes ≤ most_attribute_bytes
-  pub format : e.format ≡ 1
+  pub format : IsFormat e.format

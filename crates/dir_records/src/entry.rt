@@ -28,7 +28,7 @@ pub struct DirEntry {
     pub size: u32,
     /// Bytes 120 and 121: how many bytes of attributes the object has, at most 2,048.
     pub attributes: u16,
-    /// Byte 122: the format of the entry, 1.
+    /// Byte 122: the format of the object's file, 1 or 2.
     pub format: u8,
     /// Bytes 123 to 126: the card's write counter after the commit that made the object.
     pub generation: u32,
@@ -115,7 +115,7 @@ impl DirEntry {
     ///
     /// `BadRecord` where a field is outside its form: the length of the identifier (80) is not 1 to 64, a byte behind the
     /// identifier (16) is not zero, the version (81) is above 1, the file (82) is not 1 to 272, the size (116) is
-    /// above 1,044,480, the size of the attributes (120) is above 2,048, the format (122) is not 1, or the last
+    /// above 1,044,480, the size of the attributes (120) is above 2,048, the format (122) is neither 1 nor 2, or the last
     /// byte (127) is not zero. It names the first of these, in this order.
     pub fn from_bytes(bytes: &[u8; 128]) -> Result<Option<DirEntry>, BadRecord>
         ensures record { result ≡ record_of bytes.now }

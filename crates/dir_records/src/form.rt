@@ -8,8 +8,8 @@ ghost use Rattle.dir_records.specs.Form.{first_fault, is_free, is_upto, tests};
 use byte_fields::field;
 use tee_types::{MAX_ATTRIBUTES, MAX_DATA, MAX_FILE, MAX_IDENTIFIER};
 
-/// The one format of entries.
-const FORMAT: u8 = 1;
+/// The last format of the file of an object; the first is 1.
+const LAST_FORMAT: u16 = 2;
 
 /// Whether bytes hold no entry: all are zero.
 pub(crate) fn is_free(bytes: &[u8; 128]) -> bool
@@ -47,7 +47,7 @@ fn tests(bytes: &[u8; 128]) -> [(bool, u8); 8]
         (!is_upto(MAX_FILE, file), 82),
         (MAX_DATA < size as usize, 116),
         (MAX_ATTRIBUTES < usize::from(attributes), 120),
-        (bytes[122] != FORMAT, 122),
+        (!is_upto(LAST_FORMAT, u16::from(bytes[122])), 122),
         (bytes[127] != 0, 127),
     ]
 }

@@ -1,14 +1,14 @@
 -- Each call keeps the places that it does not change, and so does a run of calls.
-use Rattle.std.proofs.Common.{◌≡◌, ◌⊎◌, inl, inr, ℕ, ◌<◌, ◌≤◌, List, [], ◌∷◌, ◌++◌, length, false, IsTrue, drop, length-append, refl, sym, ◌∙◌, ap, subst, arith}
+use Rattle.std.proofs.Common.{◌≡◌, ◌⊎◌, inl, inr, ℕ, ◌<◌, ◌≤◌, List, [], ◌∷◌, ◌++◌, length, get_or, false, IsTrue, drop, length-append, refl, sym, ◌∙◌, ap, subst, arith}
 use Rattle.std.proofs.lemmas.List.{drop_all, append-nil, append_assoc}
 use Rattle.disk_model.specs.declared.span.Span.{Span}
 use Rattle.disk_model.specs.declared.span.Change.{Change}
-use Rattle.disk_model.specs.Images.{Has, in_span, in_spans, MayLeave, Every}
+use Rattle.disk_model.specs.Images.{Has, in_span, in_spans, sector, IsSpared, MayLeave, Every}
 use Rattle.disk_model.specs.State.{FileState, spans_of, pending, moment, base_at, spans_since, LeftSince, LeftNow, Sound}
 use Rattle.disk_model.specs.Calls.{AddsChange, Changes, Rests, Syncs}
-use Rattle.disk_model.specs.Keeps.{Anywhere, write, sync, rest, Outside, Writes, Grows, Keeps}
-use Rattle.disk_model.proofs.Spans.{in_spans-append, in_spans_front, in_spans_drop, one_span, no_place, spans_of-append, drop_push, not_nil, base_push}
-use Rattle.disk_model.proofs.ImageLaws.{push_span, every_reads, every_free}
+use Rattle.disk_model.specs.Keeps.{Anywhere, write, sync, rest, IsKeptWhole, Outside, Writes, Grows, Keeps}
+use Rattle.disk_model.proofs.Spans.{in_spans-append, in_spans_front, in_spans_drop, one_span, no_place, spans_of-append, drop_push, base_push}
+use Rattle.disk_model.proofs.ImageLaws.{push_span, every_reads, every_free, exact_none, same_bytes, spared_free}
 use Rattle.disk_model.proofs.Seen.{runs_none, runs_one, runs_fewer, runs_then}
 use Rattle.disk_model.proofs.Goings.{goes_on_none, goes_on_then, first_known, then_known}
 
@@ -24,8 +24,9 @@ module _ (Within : ℕ → Type 0) (old new : FileState) (sound : Sound old) (ad
   later_push : moment old ≤ moment new
   later_push = omega (arith, ap length adds.trail, length-append old.trail (adds.change ∷ []))
 
-  free_push : (t p : ℕ) → t ≤ moment old → in_spans (spans_since old t) p ≡ false → in_span adds.change.span p ≡ false → in_spans (spans_since new t) p ≡ false
-  free_push t p le free out = subst (λ (l : List Span). in_spans l p ≡ false) (sym (spans_push t le)) (in_spans-append (spans_since old t) (adds.change.span ∷ []) p free (one_span adds.change.span p out))
+  spared_push : (t p : ℕ) → t ≤ moment old → IsSpared (spans_since old t) p → ((q : ℕ) → sector q ≡ sector p → in_span adds.change.span q ≡ false) → IsSpared (spans_since new t) p
+  spared_push t p le free out q same =
+      subst (λ (l : List Span). in_spans l q ≡ false) (sym (spans_push t le)) (in_spans-append (spans_since old t) (adds.change.span ∷ []) q (free q same) (one_span adds.change.span q (out q same)))
 
   past_push : (t : ℕ) (i : List ℕ) → t ≤ moment old → MayLeave old.settled (spans_since old t) i → MayLeave old.settled (spans_since new t) i
   past_push t i le left = subst (λ (l : List Span). MayLeave old.settled l i) (sym (spans_push t le)) (push_span old.settled i (spans_since old t) adds.change.span left)
@@ -53,18 +54,18 @@ module _ (from upto : ℕ) (old new : FileState) (sound : Sound old) (changes : 
       outside (inl both) (inr high) = omega (arith, both.1)
       outside (inr past) any = omega (arith, h.below)
 
-  free_change : IsTrue new.honest → (t p x : ℕ) → t ≤ moment old → Outside from upto p → Every (LeftSince old t) p x → in_spans (spans_since new t) p ≡ false
-  free_change honest t p x le out every =
+  spared_change : IsTrue new.honest → (t p x : ℕ) → t ≤ moment old → IsKeptWhole (Outside from upto) old.reads p → Every (LeftSince old t) p x → IsSpared (spans_since new t) p
+  spared_change honest t p x le whole every =
       let was = every_free old t p x (changes.goes_on.honest honest) every in
       elim changes.trail [
-        | inl same ↦ subst (λ (l : List Span). in_spans l p ≡ false) (sym (same_spans same t)) was.0
-        | inr adds ↦ free_push _ old new sound adds t p le was.0 (misses adds p x out (every_reads old t p x sound every))
+        | inl same ↦ subst (λ (l : List Span). IsSpared l p) (sym (same_spans same t)) was.0
+        | inr adds ↦ spared_push _ old new sound adds t p le was.0 (λ q same. let kept = whole q same in misses adds q (get_or old.reads q 0) kept.0 (record { below = kept.1; is = refl }))
       ]
 
-  places_change : IsTrue new.honest → (t p x : ℕ) → t ≤ moment old → Outside from upto p → Every (LeftSince old t) p x → Every (LeftSince new t) p x
-  places_change honest t p x le out every i left =
+  places_change : IsTrue new.honest → (t p x : ℕ) → t ≤ moment old → IsKeptWhole (Outside from upto) old.reads p → Every (LeftSince old t) p x → Every (LeftSince new t) p x
+  places_change honest t p x le whole every i left =
       let was = every_free old t p x (changes.goes_on.honest honest) every in
-      (left honest).stays p x (free_change honest t p x le out every) (subst (λ (b : List ℕ). Has b p x) (sym (changes.settled honest)) was.1)
+      (left honest).stays p x (spared_change honest t p x le whole every) (subst (λ (b : List ℕ). Has b p x) (sym (changes.settled honest)) was.1)
 
   grows_change : Grows (Outside from upto) old new
   grows_change = elim changes.trail [
@@ -89,7 +90,7 @@ keeps_fewer K L old new fewer keeps = record {
   goes_on = keeps.goes_on;
   later = keeps.later;
   past = keeps.past;
-  places = λ honest t p x le at every. keeps.places honest t p x le (fewer p at) every;
+  places = λ honest t p x le whole every. keeps.places honest t p x le (λ q same. let kept = whole q same in (fewer q kept.0, kept.1)) every;
   reads = λ known p x at h. keeps.reads known p x (fewer p at) h;
   grows = record { more = keeps.grows.more; trail = keeps.grows.trail; misses = λ honest p x at h. keeps.grows.misses honest p x (fewer p at) h };
   run = runs_fewer K L old new fewer keeps.run;
@@ -100,7 +101,11 @@ keeps_then K a b c first second = record {
   goes_on = goes_on_then a b c first.goes_on second.goes_on;
   later = omega (arith, first.later, second.later);
   past = λ t i le left. second.past t i (omega (arith, le, first.later)) (first.past t i le left);
-  places = λ honest t p x le at every. second.places honest t p x (omega (arith, le, first.later)) at (first.places (second.goes_on.honest honest) t p x le at every);
+  places = λ honest t p x le whole every.
+      let before = second.goes_on.honest honest in
+      second.places honest t p x (omega (arith, le, first.later))
+      (λ q same. let kept = whole q same in (kept.0, (first.reads (inl before) q (get_or a.reads q 0) kept.0 (record { below = kept.1; is = refl })).below))
+      (first.places before t p x le whole every);
   reads = λ known p x at h. second.reads (then_known a b c first.goes_on known) p x at (first.reads (first_known a b c second.goes_on known) p x at h);
   grows = record {
     more = first.grows.more ++ second.grows.more;
@@ -118,7 +123,7 @@ keeps_none K s = record {
   goes_on = goes_on_none s;
   later = omega arith;
   past = λ t i le left. left;
-  places = λ honest t p x le at every. every;
+  places = λ honest t p x le whole every. every;
   reads = λ known p x at h. h;
   grows = record { more = []; trail = sym (append-nil s.trail); misses = λ honest p x at h. refl };
   run = runs_none K s;
@@ -136,7 +141,7 @@ rest_keeps old new sound rests =
       goes_on = rests.goes_on;
       later = omega (arith, ap length rests.trail);
       past = past_change 0 0 old new sound changes;
-      places = λ honest t p x le at every. places_change 0 0 old new sound changes honest t p x le (inr (omega arith)) every;
+      places = λ honest t p x le whole every. places_change 0 0 old new sound changes honest t p x le (λ q same. (inr (omega arith), (whole q same).1)) every;
       reads = λ known p x at h. subst (λ (b : List ℕ). Has b p x) (sym (rests.reads known)) h;
       grows = record { more = []; trail = rests.trail ∙ sym (append-nil old.trail); misses = λ honest p x at h. refl };
       run = runs_one Anywhere rest old new sound rests tt;
@@ -166,16 +171,20 @@ sync_keeps old new sound syncs = record {
         let k = base_at old.trail old.pending_from t in
         record {
           stays = λ p x e h.
-              let free = in_spans_front (spans_since old t) (syncs.trail.change.span ∷ []) p (subst (λ (l : List Span). in_spans l p ≡ false) (spans_push _ old new sound syncs.trail t le) e) in
+              let free = in_spans_front (spans_since old t) (syncs.trail.change.span ∷ []) p (subst (λ (l : List Span). in_spans l p ≡ false) (spans_push _ old new sound syncs.trail t le) (spared_free (spans_since new t) p e)) in
               was.stays p x e ((sound.bytes.agrees (syncs.goes_on.honest honest) p x (in_spans_drop k old.pending_from old.trail p (sound.bytes.bases t) free)).1 (subst (λ (b : List ℕ). Has b p x) (is honest) h));
-          exact = λ e. absurd (not_nil (spans_since old t) syncs.trail.change.span (sym (spans_push _ old new sound syncs.trail t le) ∙ e));
+          exact = λ none.
+              let before : (p : ℕ) → in_spans (spans_since old t) p ≡ false = λ p. in_spans_front (spans_since old t) (syncs.trail.change.span ∷ []) p (subst (λ (l : List Span). in_spans l p ≡ false) (spans_push _ old new sound syncs.trail t le) (none p)) in
+              let agree = λ (p x : ℕ). sound.bytes.agrees (syncs.goes_on.honest honest) p x (in_spans_drop k old.pending_from old.trail p (sound.bytes.bases t) (before p)) in
+              (left (syncs.goes_on.honest honest)).exact before
+              ∙ same_bytes old.settled old.reads (λ p x h. (agree p x).0 h) (λ p x h. (agree p x).1 h) ∙ sym (is honest);
         }
 
-    places : IsTrue new.honest → (t p x : ℕ) → t ≤ moment old → Anywhere p → Every (LeftSince old t) p x → Every (LeftSince new t) p x
-    places honest t p x le at every i left =
+    places : IsTrue new.honest → (t p x : ℕ) → t ≤ moment old → IsKeptWhole Anywhere old.reads p → Every (LeftSince old t) p x → Every (LeftSince new t) p x
+    places honest t p x le whole every i left =
         let was = every_free old t p x (syncs.goes_on.honest honest) every in
         let here = every_reads old t p x sound every in
-        (left honest).stays p x (free_push _ old new sound syncs.trail t p le was.0 (out p)) (subst (λ (b : List ℕ). Has b p x) (sym (is honest)) here)
+        (left honest).stays p x (spared_push _ old new sound syncs.trail t p le was.0 (λ q same. out q)) (subst (λ (b : List ℕ). Has b p x) (sym (is honest)) here)
 
 -- after a sync that succeeds nothing is pending
 pub synced_pending : (old new : FileState) → Syncs old new → pending new ≡ []
@@ -183,4 +192,4 @@ synced_pending old new syncs = ap (λ (n : ℕ). spans_of (drop n new.trail)) sy
 
 -- and what a read gives is the only image
 pub synced : (old new : FileState) → Syncs old new → IsTrue new.honest → (i : List ℕ) → LeftNow new i → i ≡ new.reads
-synced old new syncs honest i left = (left honest).exact (synced_pending old new syncs) ∙ syncs.settled honest
+synced old new syncs honest i left = exact_none new.settled (pending new) i (synced_pending old new syncs) (left honest) ∙ syncs.settled honest

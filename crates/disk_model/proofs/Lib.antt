@@ -1,4 +1,5 @@
 pub mod Spans
+pub mod Sectors
 pub mod ImageLaws
 pub mod Masks
 pub mod Goings

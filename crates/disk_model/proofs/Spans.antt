@@ -48,20 +48,10 @@ in_spans_drop n (suc m) [] p le e = refl
 in_spans_drop zero (suc m) (c ∷ cs) p le e = in_spans_drop zero m cs p (omega arith) ((or_parts (in_span c.span p) (in_spans (spans_of cs) p) e).1)
 in_spans_drop (suc n) (suc m) (c ∷ cs) p le e = in_spans_drop n m cs p (omega arith) e
 
-pub spans_nil : (n m : ℕ) (cs : List Change) → n ≤ m → spans_of (drop n cs) ≡ [] → spans_of (drop m cs) ≡ []
-spans_nil n zero cs le e = let z : n ≡ 0 = omega arith in subst (λ (k : ℕ). spans_of (drop k cs) ≡ []) z e
-spans_nil n (suc m) [] le e = refl
-spans_nil zero (suc m) (c ∷ cs) le e = absurd (cc)
-spans_nil (suc n) (suc m) (c ∷ cs) le e = spans_nil n m cs (omega arith) e
-
 pub drop_push : (n : ℕ) (cs : List Change) (c : Change) → n ≤ length cs → spans_of (drop n (cs ++ c ∷ [])) ≡ spans_of (drop n cs) ++ c.span ∷ []
 drop_push zero cs c le = spans_of-append cs (c ∷ [])
 drop_push (suc n) [] c le = absurd (omega arith)
 drop_push (suc n) (d ∷ cs) c le = drop_push n cs c (omega arith)
-
-pub not_nil : (a : List Span) (s : Span) → a ++ s ∷ [] ≡ [] → ⊥
-not_nil [] s e = cc
-not_nil (d ∷ a) s e = cc
 
 pub base_now : (cs : List Change) (now : ℕ) → base_at cs now (length cs) ≡ now
 base_now [] now = refl

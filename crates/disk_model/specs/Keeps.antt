@@ -1,7 +1,7 @@
 -- What a run of calls keeps, place by place.
-use Rattle.std.specs.Prelude.{◌≡◌, ◌⊎◌, ℕ, ◌<◌, ◌≤◌, List, [], ◌∷◌, ◌++◌, false, IsTrue}
+use Rattle.std.specs.Prelude.{◌≡◌, ◌⊎◌, ℕ, ◌<◌, ◌≤◌, List, [], ◌∷◌, ◌++◌, length, false, IsTrue}
 use Rattle.disk_model.specs.declared.span.Change.{Change}
-use Rattle.disk_model.specs.Images.{Has, in_spans, Every}
+use Rattle.disk_model.specs.Images.{Has, in_spans, sector, Every}
 use Rattle.disk_model.specs.State.{FileState, Sound, spans_of, moment, LeftSince}
 use Rattle.disk_model.specs.Calls.{Changes, Known, GoesOn, Rests, Syncs}
 use Rattle.disk_model.specs.Masks.{ReadsMasked}
@@ -13,6 +13,10 @@ Anywhere place = Unit {0}
 -- the places below one and from another on
 abbrev pub Outside : ℕ → ℕ → ℕ → Type 0
 Outside from upto place = (place < from) ⊎ (upto ≤ place)
+
+-- each place of the place's sector is kept, and has a byte
+abbrev pub IsKeptWhole : (Kept : ℕ → Type 0) → List ℕ → ℕ → Type 0
+IsKeptWhole Kept bytes place = (other : ℕ) → sector other ≡ sector place → Kept other × (other < length bytes)
 
 -- the changes of a run, none of which meets a kept place that has a byte
 pub record Grows (Kept : ℕ → Type 0) (old new : FileState) : Type 0 where
@@ -53,13 +57,13 @@ pub record Runs (Kept : ℕ → Type 0) (old new : FileState) : Type 0 where
   pub calls : List FileCall
   pub run : IsFileRun Kept old calls new
 
--- A run of calls keeps these places: no image of an earlier moment is forgotten, and the byte that every image had at such
--- a place, every image has there still.
+-- A run of calls keeps these places: no image of an earlier moment is forgotten, and in a sector that is kept whole the byte
+-- that every image had at a place, every image has there still.
 pub record Keeps (Kept : ℕ → Type 0) (old new : FileState) : Type 0 where
   pub goes_on : GoesOn old new
   pub later : moment old ≤ moment new
   pub past : (t : ℕ) (image : List ℕ) → t ≤ moment old → LeftSince old t image → LeftSince new t image
-  pub places : IsTrue new.honest → (t place byte : ℕ) → t ≤ moment old → Kept place
+  pub places : IsTrue new.honest → (t place byte : ℕ) → t ≤ moment old → IsKeptWhole Kept old.reads place
       → Every (LeftSince old t) place byte → Every (LeftSince new t) place byte
   pub reads : Known old new → (place byte : ℕ) → Kept place → Has old.reads place byte → Has new.reads place byte
   pub grows : Grows Kept old new

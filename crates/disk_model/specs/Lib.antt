@@ -1,5 +1,6 @@
 pub mod Faults
 pub mod Images
+pub mod Sectors
 pub mod Bytes
 pub mod State
 pub mod Calls

@@ -1,7 +1,8 @@
 // The places of a file that changed since they were last known to be on the disk.
-ghost use Rattle.std.specs.Prelude.{◌≡◌, ◌↔◌, ℕ, List, length, IsTrue};
+ghost use Rattle.std.specs.Prelude.{◌≡◌, ◌↔◌, ℕ, ◌*◌, ◌<◌, ◌^◌, List, [], ◌∷◌, length, IsTrue};
 ghost use Rattle.std.specs.Bool.{OnTrue, OnFalse};
-ghost use Rattle.disk_model.specs.Images.{in_span, in_spans, IsTouched, MayLeave, SameAt, DiffersAt};
+ghost use Rattle.disk_model.specs.Images.{IsSpoiled, IsTouched, MayLeave, SameAt, DiffersAt};
+ghost use Rattle.disk_model.specs.Sectors.{any_has_place, any_spoils, meets, spoils};
 
 /// The `length` places of a file from `at` on, in bytes.
 #[derive(Clone, Copy, Debug, PartialEq, Eq)]
@@ -19,19 +20,33 @@ pub struct Change {
     pub base: u64,
 }
 
+// The places of a sector.
+const SECTOR: u64 = 512;
+
 impl Span {
-    /// Whether the place lies in the span.
-    pub fn holds(&self, place: u64) -> bool
-        ensures { result ≡ in_span self.now place }
+    /// Whether the span meets the sector of the place. A sector is 512 places, of which the first is a multiple of 512.
+    pub fn spoils(&self, place: u64) -> bool
+        ensures holds { result ≡ spoils self.now place }
+        ensures meets { IsTrue result ↔ IsSpoiled (self.now ∷ []) place }
     {
-        self.at <= place && place - self.at < self.length
+        self.meets(place / SECTOR)
+    }
+
+    fn meets(&self, number: u64) -> bool
+        requires { 512 * number < 2 ^ 64 }
+        ensures { result ≡ meets self.now number }
+    {
+        let first = SECTOR * number;
+        self.length > 0
+            && self.at / SECTOR <= number
+            && (first < self.at || first - self.at < self.length)
     }
 }
 
 /// Whether a crash may leave another byte at the place `at`, or none, than the settled bytes have there.
 ///
-/// `spans` are those that changed since the last successful sync, and `old_end` is the number of settled bytes. Without
-/// any span a crash leaves the settled bytes, so no place is touched.
+/// `spans` are those that changed since the last successful sync, and `old_end` is the number of settled bytes. A place is
+/// touched where a span meets its sector, and past the settled bytes. Where no span has a place, none is touched.
 pub fn touched(spans: &[Span], old_end: u64, at: u64) -> bool
     ensures holds { IsTrue result ↔ IsTouched spans.now old_end at }
 
@@ -44,15 +59,23 @@ pub fn touched(spans: &[Span], old_end: u64, at: u64) -> bool
     is_touched(spans, old_end, at)
 }
 
+#[tactic(auto, using(crate::proofs::Sectors::any_spoils_iff, crate::proofs::Sectors::any_has_place_iff))]
 fn is_touched(spans: &[Span], old_end: u64, at: u64) -> bool
     ensures { IsTrue result ↔ IsTouched spans.now old_end at }
 {
-    !spans.is_empty() && (old_end <= at || any_holds(spans, at))
+    any_has_place(spans) && (old_end <= at || any_spoils(spans, at))
 }
 
-// Whether the place lies in one of the spans.
-fn any_holds(spans: &[Span], place: u64) -> bool
-    ensures { result ≡ in_spans spans.now place }
+// Whether a place lies in one of the spans.
+fn any_has_place(spans: &[Span]) -> bool
+    ensures { result ≡ any_has_place spans.now }
 {
-    spans.iter().any(|span| span.holds(place))
+    spans.iter().any(|span| span.length > 0)
+}
+
+// Whether one of the spans meets the place's sector.
+fn any_spoils(spans: &[Span], place: u64) -> bool
+    ensures { result ≡ any_spoils spans.now place }
+{
+    spans.iter().any(|span| span.spoils(place))
 }

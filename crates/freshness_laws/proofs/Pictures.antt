@@ -11,7 +11,7 @@ use Rattle.hmac_keys.specs.declared.Keys.{Keys}
 use Rattle.store_model.specs.Object.{ObjectMap}
 use Rattle.dir_records.specs.declared.entry.DirEntry.{DirEntry}
 use Rattle.crash_core.specs.declared.fault.DirFault.{DirFault}
-use Rattle.crash_core.specs.CardBlock.{root_in}
+use Rattle.crash_core.specs.CardBlock.{directory_at, root_in}
 use Rattle.crash_core.specs.DeviceKeys.{directory_key, object_key}
 use Rattle.crash_core.specs.Directory.{directory_from, directory_of}
 use Rattle.crash_core.specs.MountedObject.{object_or_damaged, root_of}
@@ -65,27 +65,27 @@ module _ (keys : Keys) (images : ℕ → List ℕ) (bytes : AreByteImages images
   trees_are e = read_is (images e.file) (bytes e.file) (root_of e) (load_of (images e.file) (root_of e)) refl
 
   module _ (block : List ℕ) (entries : List (Option DirEntry)) where
-    by_tree : (root : RootRef) → root_in block ≡ Ok root → (r : Result Loaded TreeFault) → load_of (images 0) root ≡ r
-        → directory_from (opened_in (images 0) (directory_key keys) r) ≡ Ok entries → HoldsStore keys block images entries
+    by_tree : (root : RootRef) → root_in block ≡ Ok root → (r : Result Loaded TreeFault) → load_of (images (directory_at root.format)) root ≡ r
+        → directory_from (opened_in (images (directory_at root.format)) (directory_key keys) r) ≡ Ok entries → HoldsStore keys block images entries
     by_tree root named (Err fault) loads reads = absurd (cc (reads))
     by_tree root named (Ok tree) loads reads = record {
-      seen = record { root = root; named = named; dir = read_tree (images 0) (bytes 0) root tree loads; entries = entries; reads = reads; trees = trees_in };
+      seen = record { root = root; named = named; dir = read_tree (images (directory_at root.format)) (bytes (directory_at root.format)) root tree loads; entries = entries; reads = reads; trees = trees_in };
       held = record { dir = record { loads = loads; blocks = λ k lt. refl }; trees = trees_are };
       entries_are = refl;
       objects_are = map_same entries;
     }
 
-    by_directory : (root : RootRef) → root_in block ≡ Ok root → (d : Result (List (Option DirEntry)) DirFault) → directory_of (directory_key keys) (images 0) root ≡ d
+    by_directory : (root : RootRef) → root_in block ≡ Ok root → (d : Result (List (Option DirEntry)) DirFault) → directory_of (directory_key keys) (images (directory_at root.format)) root ≡ d
         → unless_fault d ≡ Ok entries → HoldsStore keys block images entries
     by_directory root named (Err fault) reads is = absurd (cc (is))
     by_directory root named (Ok found) reads is =
         let same : found ≡ entries = cc (is) in
-        by_tree root named (load_of (images 0) root) refl
-        (directory_seen (directory_key keys) (images 0) root entries (reads ∙ ap (λ (l : List (Option DirEntry)). let r : Result (List (Option DirEntry)) DirFault = Ok l in r) same))
+        by_tree root named (load_of (images (directory_at root.format)) root) refl
+        (directory_seen (directory_key keys) (images (directory_at root.format)) root entries (reads ∙ ap (λ (l : List (Option DirEntry)). let r : Result (List (Option DirEntry)) DirFault = Ok l in r) same))
 
-    pub by_root : (r : Result RootRef Refusal) → root_in block ≡ r → directory_by keys (images 0) r ≡ Ok entries → HoldsStore keys block images entries
+    pub by_root : (r : Result RootRef Refusal) → root_in block ≡ r → directory_by keys images r ≡ Ok entries → HoldsStore keys block images entries
     by_root (Err refusal) named is = absurd (cc (is))
-    by_root (Ok root) named is = by_directory root named (directory_of (directory_key keys) (images 0) root) refl is
+    by_root (Ok root) named is = by_directory root named (directory_of (directory_key keys) (images (directory_at root.format)) root) refl is
 
 pub pictures_hold : PicturesHoldStores
 pictures_hold keys picture entries bytes is = by_root keys picture.images bytes (block_zero picture.card) entries (root_in (block_zero picture.card)) refl is

@@ -118,13 +118,19 @@ taken_mend keys block tampered s scenario takes image index e at among real = by
 
 pub same_root : (e : DirEntry) (root : RootRef) → is_root e root ≡ true → root_of e ≡ root
 same_root e root is =
-    let both = and_parts (bytes_eq (root_of e).hash root.hash) ((root_of e).version == root.version) is in
-    let hash : (root_of e).hash ≡ root.hash = same_is (root_of e).hash root.hash both.0 in
-    let version : (root_of e).version ≡ root.version = eqb-true (root_of e).version root.version both.1 in
-    λ i. record { hash = hash i; version = version i }
+    let own = root_of e in
+    let parts = and_parts (bytes_eq own.hash root.hash) ((own.version == root.version) && (own.format == root.format)) is in
+    let numbers = and_parts (own.version == root.version) (own.format == root.format) parts.1 in
+    let hash : own.hash ≡ root.hash = same_is own.hash root.hash parts.0 in
+    let version : own.version ≡ root.version = eqb-true own.version root.version numbers.0 in
+    let format : own.format ≡ root.format = eqb-true own.format root.format numbers.1 in
+    λ i. record { hash = hash i; version = version i; format = format i }
 
 own_root : (e : DirEntry) → is_root e (root_of e) ≡ true
-own_root e = and_from (bytes_eq (root_of e).hash (root_of e).hash) ((root_of e).version == (root_of e).version) (same_from (root_of e).hash (root_of e).hash refl) (eq-eqb (root_of e).version (root_of e).version refl)
+own_root e =
+    let own = root_of e in
+    and_from (bytes_eq own.hash own.hash) ((own.version == own.version) && (own.format == own.format)) (same_from own.hash own.hash refl)
+    (and_from (own.version == own.version) (own.format == own.format) (eq-eqb own.version own.version refl) (eq-eqb own.format own.format refl))
 
 own_entry : (e : DirEntry) → is_entry e.file e.generation e ≡ true
 own_entry e = and_from (e.file == e.file) (e.generation == e.generation) (eq-eqb e.file e.file refl) (eq-eqb e.generation e.generation refl)

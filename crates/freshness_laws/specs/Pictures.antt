@@ -8,6 +8,7 @@ use Rattle.htree_file.specs.Opening.{load_of}
 use Rattle.htree_file.specs.Pages.{block_in}
 use Rattle.store_model.specs.Object.{ObjectMap}
 use Rattle.dir_records.specs.declared.entry.DirEntry.{DirEntry}
+use Rattle.crash_core.specs.CardBlock.{directory_at}
 use Rattle.crash_core.specs.MountedObject.{root_of}
 use Rattle.crash_core.specs.Mounting.{all_held_in, map_of, mounted, mounted_directory}
 use Rattle.crash_core.specs.Pictures.{Picture, block_zero}
@@ -31,7 +32,7 @@ IsReadOrNone image root None = (fault : TreeFault) × (load_of image root ≡ Er
 
 -- a store is what the images hold
 pub record IsSeenIn {keys : Keys} {block : List ℕ} (images : ℕ → List ℕ) (s : SeenStore keys block) : Type 0 where
-  pub dir : IsReadIn (images 0) s.root s.dir
+  pub dir : IsReadIn (images (directory_at s.root.format)) s.root s.dir
   pub trees : (e : DirEntry) → IsReadOrNone (images e.file) (root_of e) (s.trees e)
 
 -- Images under a block hold a store with these entries, and with the objects that these mount as.

@@ -42,7 +42,7 @@ is_entry file generation e = (e.file == file) && (e.generation == generation)
 
 -- by that reference
 abbrev pub is_root : DirEntry → RootRef → Bool
-is_root e root = bytes_eq (root_of e).hash root.hash && ((root_of e).version == root.version)
+is_root e root = bytes_eq (root_of e).hash root.hash && (((root_of e).version == root.version) && ((root_of e).format == root.format))
 
 abbrev pub verified_by : {root : RootRef} → Option (ReadTree root) → Option (VerifiedTree root)
 verified_by None = None

@@ -3,7 +3,7 @@ use Rattle.std.proofs.Common.{◌≡◌, ◌≢◌, inl, inr, ℕ, zero, suc, �
 use Rattle.std.proofs.lemmas.Bool.{cases_Bool, cases_lt, cond-true, cond-false}
 use Rattle.node_image.specs.declared.node.NodeImage.{NodeImage}
 use Rattle.node_image.specs.declared.head.Head.{Head}
-use Rattle.node_image.specs.Parts.{start}
+use Rattle.node_image.specs.Parts.{Layout, start}
 use Rattle.node_image.specs.Parts.Part.{block}
 use Rattle.node_image.specs.Tables.{at_node, block_version, hash_in}
 use Rattle.std.specs.Str.{bytes_eq}
@@ -41,13 +41,13 @@ none_damaged h nodes n (suc count) is m le lt = elim (cases_Bool (bytes_eq (at_n
 ]
 
 -- the end that is needed is the end of some block, and of none a greater one
-pub need_within : (nodes : List NodeImage) (g end : ℕ) → ((k : ℕ) → k < g → start (block k (block_version nodes k)) + 4096 ≤ end) → need_of nodes g ≤ end
-need_within nodes zero end ends = omega arith
-need_within nodes (suc k) end ends = omega (arith, need_within nodes k end (λ j lt. ends j (omega arith)), ends k (omega arith))
+pub need_within : (layout : Layout) (nodes : List NodeImage) (g end : ℕ) → ((k : ℕ) → k < g → start layout (block k (block_version nodes k)) + 4096 ≤ end) → need_of layout nodes g ≤ end
+need_within layout nodes zero end ends = omega arith
+need_within layout nodes (suc k) end ends = omega (arith, need_within layout nodes k end (λ j lt. ends j (omega arith)), ends k (omega arith))
 
-pub each_ends : (nodes : List NodeImage) (g end : ℕ) → need_of nodes g ≤ end → (k : ℕ) → k < g → start (block k (block_version nodes k)) + 4096 ≤ end
-each_ends nodes zero end le k lt = absurd (omega arith)
-each_ends nodes (suc g) end le k lt = elim (cases_lt k g) [
-  | inl low ↦ each_ends nodes g end (omega arith) k low
-  | inr high ↦ let e : g ≡ k = omega arith in subst (λ (n : ℕ). start (block n (block_version nodes n)) + 4096 ≤ end) e (omega arith)
+pub each_ends : (layout : Layout) (nodes : List NodeImage) (g end : ℕ) → need_of layout nodes g ≤ end → (k : ℕ) → k < g → start layout (block k (block_version nodes k)) + 4096 ≤ end
+each_ends layout nodes zero end le k lt = absurd (omega arith)
+each_ends layout nodes (suc g) end le k lt = elim (cases_lt k g) [
+  | inl low ↦ each_ends layout nodes g end (omega arith) k low
+  | inr high ↦ let e : g ≡ k = omega arith in subst (λ (n : ℕ). start layout (block n (block_version nodes n)) + 4096 ≤ end) e (omega arith)
 ]

@@ -18,9 +18,13 @@ pub mod WriteSetLaws
 pub mod VersionWrites
 pub mod NextTable
 pub mod Loadings
+pub mod SelectedBlocks
 pub mod Firmness
 pub mod StageOpens
 pub mod Written
 pub mod StageWhole
 pub mod StageTree
 pub mod Made
+pub mod CopiedParts
+pub mod CopyOpens
+pub mod CopyRuns

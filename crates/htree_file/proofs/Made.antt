@@ -7,6 +7,7 @@ use Rattle.node_image.specs.declared.node.NodeImage.{NodeImage}
 use Rattle.node_image.specs.declared.node.RootRef.{RootRef}
 use Rattle.node_image.specs.declared.head.Head.{Head}
 use Rattle.node_image.specs.Layout.{is_sized}
+use Rattle.node_image.specs.Parts.{layout_of}
 use Rattle.node_image.specs.Tables.{at_node}
 use Rattle.node_image.specs.Selection.{row}
 use Rattle.node_image.proofs.Matching.{row_is}
@@ -21,21 +22,21 @@ use Rattle.htree_file.proofs.Loadings.{loaded_is}
 use Rattle.htree_file.proofs.Written.{sealed_at, written_loads, written_page, written_verified}
 
 -- where all nodes and blocks are written
-pub is_made : (known : Type 0) (file key : List ℕ) (top : Head) (changes : List BlockChange) (dirty : ℕ → Bool) (table : List NodeImage) → IsWritten known file key top 0 changes dirty table
+pub is_made : (format : ℕ) (known : Type 0) (file key : List ℕ) (top : Head) (changes : List BlockChange) (dirty : ℕ → Bool) (table : List NodeImage) → IsWritten (layout_of format) known file key top 0 changes dirty table
     → length table ≡ top.greatest → is_sized top ≡ true → ((n : ℕ) → 1 ≤ n → n ≤ length table → dirty n ≡ true) → ((k : ℕ) → k < length table → IsChanged changes k)
-    → IsMade known file key (record { hash = (at_node table 1).hash; version = 0 }) (record { head = top; nodes = table }) changes
-is_made known file key top changes dirty table w all sized hits each =
-    let verified : IsVerified (record { hash = (at_node table 1).hash; version = 0 }) (record { head = top; nodes = table }) =
-    written_verified known file key top 0 changes dirty table w all sized (λ n least most idle. absurd (false≢true (sym idle ∙ hits n least most))) in
+    → IsMade known file key (record { hash = (at_node table 1).hash; version = 0; format = format }) (record { head = top; nodes = table; layout = layout_of format }) changes
+is_made format known file key top changes dirty table w all sized hits each =
+    let verified : IsVerified (record { hash = (at_node table 1).hash; version = 0; format = format }) (record { head = top; nodes = table; layout = layout_of format }) =
+    written_verified format known file key top 0 changes dirty table w all sized (λ n least most idle. absurd (false≢true (sym idle ∙ hits n least most))) in
     let mine : (j : ℕ) → j < length changes → IsChanged changes (block_at changes j) = λ j lt. record { place = j; below = lt; is = refl } in
     record {
       root_is = refl;
       verified = verified;
-      loaded = λ is. loaded_is file _ (record { head = top; nodes = table })
-          (written_loads known file key top 0 changes dirty table w is sized verified.hashed (λ n least most idle. absurd (false≢true (sym idle ∙ hits n least most)))
-          (λ k lt. ((sealed_at known file key top 0 changes dirty table w k (each k lt)).stands is).fits));
-      opens = λ is j lt. written_page known file key top 0 changes dirty table w is (block_at changes j) (mine j lt);
-      seals = λ j lt. let sealed = sealed_at known file key top 0 changes dirty table w (block_at changes j) (mine j lt) in (sealed.ciphertext, sealed.opens);
+      loaded = λ is. loaded_is file _ (record { head = top; nodes = table; layout = layout_of format })
+          (written_loads format known file key top 0 changes dirty table w is sized verified.hashed (λ n least most idle. absurd (false≢true (sym idle ∙ hits n least most)))
+          (λ k lt. ((sealed_at format known file key top 0 changes dirty table w k (each k lt)).stands is).fits));
+      opens = λ is j lt. written_page format known file key top 0 changes dirty table w is (block_at changes j) (mine j lt);
+      seals = λ j lt. let sealed = sealed_at format known file key top 0 changes dirty table w (block_at changes j) (mine j lt) in (sealed.ciphertext, sealed.opens);
     }
 
 -- so it is once the file is synced

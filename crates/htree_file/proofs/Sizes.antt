@@ -3,8 +3,9 @@ use Rattle.std.proofs.Common.{◌≡◌, ℕ, ◌+◌, ◌-◌, ◌/◌, ◌≤�
 use Rattle.std.proofs.lemmas.Bool.{and_parts, eqb-true, leb-true}
 use Rattle.disk_model.specs.Bytes.{AreBytes}
 use Rattle.node_image.specs.declared.node.NodeImage.{NodeImage}
+use Rattle.node_image.specs.declared.node.RootRef.{RootRef}
 use Rattle.node_image.specs.declared.head.Head.{Head}
-use Rattle.node_image.specs.Parts.{start}
+use Rattle.node_image.specs.Parts.{Layout, start, layout_of}
 use Rattle.node_image.specs.Parts.Part.{head, node}
 use Rattle.node_image.specs.Tables.{at_node, no_node}
 use Rattle.node_image.specs.Selection.{bytes_at, head_in, nodes_in, selected_node, version_in}
@@ -54,16 +55,16 @@ node_width bytes each long = record {
 pub part_width : (image : List ℕ) (at width : ℕ) → AreBytes image → HasWidth width (bytes_at image at width)
 part_width image at width each = record { long = length-bytes_at image at width; bytes = part-bytes image at width each }
 
-pub head_in_width : (image : List ℕ) (v : ℕ) → AreBytes image → HasWidth 16 (head_in image v).wrapped
-head_in_width image v each = let part = part_width image (start (head v)) 32 each in head_width _ part.bytes part.long
+pub head_in_width : (image : List ℕ) (root : RootRef) → AreBytes image → HasWidth 16 (head_in image root).wrapped
+head_in_width image root each = let part = part_width image (start (layout_of root.format) (head root.version)) 32 each in head_width _ part.bytes part.long
 
-pub node_in_width : (image : List ℕ) (n v : ℕ) → AreBytes image → HasFields (node_of (bytes_at image (start (node n v)) 66))
-node_in_width image n v each = let part = part_width image (start (node n v)) 66 each in node_width _ part.bytes part.long
+pub node_in_width : (layout : Layout) (image : List ℕ) (n v : ℕ) → AreBytes image → HasFields (node_of (bytes_at image (start layout (node n v)) 66))
+node_in_width layout image n v each = let part = part_width image (start layout (node n v)) 66 each in node_width _ part.bytes part.long
 
-pub nodes_in_width : (image : List ℕ) (v : ℕ) → AreBytes image → (n : ℕ) → 1 ≤ n → n ≤ (head_in image v).greatest → HasFields (at_node (nodes_in image v) n)
-nodes_in_width image v each n least most =
-    subst HasFields (sym (row_at (λ k. selected_node image v (k + 1)) (head_in image v).greatest (n - 1) no_node (omega arith)))
-    (node_in_width image ((n - 1) + 1) (version_in image v ((n - 1) + 1)) each)
+pub nodes_in_width : (image : List ℕ) (root : RootRef) → AreBytes image → (n : ℕ) → 1 ≤ n → n ≤ (head_in image root).greatest → HasFields (at_node (nodes_in image root) n)
+nodes_in_width image root each n least most =
+    subst HasFields (sym (row_at (λ k. selected_node image root (k + 1)) (head_in image root).greatest (n - 1) no_node (omega arith)))
+    (node_in_width (layout_of root.format) image ((n - 1) + 1) (version_in image root ((n - 1) + 1)) each)
 
 -- a head that is read back from its bytes has them too
 pub returned_width : (h : Head) → HeadReturns h → HasWidth 16 h.wrapped

@@ -5,6 +5,7 @@ use Rattle.node_image.specs.declared.node.NodeImage.{NodeImage}
 use Rattle.node_image.specs.declared.node.RootRef.{RootRef}
 use Rattle.node_image.specs.declared.head.Head.{Head}
 use Rattle.node_image.specs.Layout.{greatest_of}
+use Rattle.node_image.specs.Parts.{Layout}
 use Rattle.node_image.specs.Tables.{at_node}
 use Rattle.node_image.specs.Selection.{row}
 use Rattle.node_image.proofs.Matching.{row_at, row_same}
@@ -24,19 +25,19 @@ after_same : (o x y : Option (List ℕ)) → (o ≡ None → x ≡ y) → page_a
 after_same None x y same = same refl
 after_same (Some page) x y same = refl
 
-module _ (before after : List ℕ) (root next_root : RootRef) (key : List ℕ) (was top : Head) (nodes next : List NodeImage) (changes : List BlockChange)
-    (loads : load_of before root ≡ Ok (record { head = was; nodes = nodes })) (next_loads : load_of after next_root ≡ Ok (record { head = top; nodes = next }))
+module _ (layout : Layout) (before after : List ℕ) (root next_root : RootRef) (key : List ℕ) (was top : Head) (nodes next : List NodeImage) (changes : List BlockChange)
+    (loads : load_of before root ≡ Ok (record { head = was; nodes = nodes; layout = layout })) (next_loads : load_of after next_root ≡ Ok (record { head = top; nodes = next; layout = layout }))
     (wrapped : top.wrapped ≡ was.wrapped) (many : length next ≡ greatest_of top.length) (are : AreChanges (length nodes) (length next) changes)
-    (pages : (k : ℕ) → k < length next → page_in after key (record { head = top; nodes = next }) k ≡ wanted_page before key top nodes changes k) where
+    (pages : (k : ℕ) → k < length next → page_in after key (record { head = top; nodes = next; layout = layout }) k ≡ wanted_page layout before key top nodes changes k) where
   abbrev tree : Loaded
-  tree = record { head = was; nodes = nodes }
+  tree = record { head = was; nodes = nodes; layout = layout }
 
   abbrev new_tree : Loaded
-  new_tree = record { head = top; nodes = next }
+  new_tree = record { head = top; nodes = next; layout = layout }
 
   one_page : (old : Opened) → old.pages ≡ row (page_in before key tree) (length nodes) → (k : ℕ) → k < length next → page_in after key new_tree k ≡ page_after (page_for changes k) (get_or old.pages k None)
   one_page old is k lt =
-      pages k lt ∙ after_same (page_for changes k) (page_in before key (record { head = top; nodes = nodes }) k) (get_or old.pages k None)
+      pages k lt ∙ after_same (page_for changes k) (page_in before key (record { head = top; nodes = nodes; layout = layout }) k) (get_or old.pages k None)
       (λ none.
       let within : k < length nodes = unchanged_old (length nodes) (length next) changes k are lt none in
       page_wrapped key was top (at_node nodes (k + 1)) k (block_in before tree k) wrapped

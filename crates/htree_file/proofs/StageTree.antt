@@ -5,6 +5,7 @@ use Rattle.disk_model.specs.State.{FileState}
 use Rattle.disk_model.specs.Keeps.{Keeps}
 use Rattle.node_image.specs.declared.node.NodeImage.{NodeImage}
 use Rattle.node_image.specs.declared.node.RootRef.{RootRef}
+use Rattle.node_image.specs.Parts.{Layout}
 use Rattle.tree_paths.specs.Paths.{holds}
 use Rattle.tree_paths.specs.Staged.{IsWithinBudget, count_to, write_budget}
 use Rattle.htree_file.specs.declared.change.BlockChange.{BlockChange}
@@ -21,8 +22,10 @@ pub held : (table items : List NodeImage) (len : ℕ) → length table ≡ len �
 held table items len is = take_at table (drop (length table) items) len is
 
 -- what a stage keeps, by the committed table and its reference's version
-pub keeps_over : (nodes items : List NodeImage) (n v root : ℕ) (a b : FileState) → nodes ≡ items → 1 - v ≡ root → Keeps (Lies (take n nodes) (1 - v)) a b → Keeps (Lies (take n items) root) a b
-keeps_over nodes items n v root a b same turn keeps = subst (λ (m : ℕ). Keeps (Lies (take n items) m) a b) turn (subst (λ (l : List NodeImage). Keeps (Lies (take n l) (1 - v)) a b) same keeps)
+pub keeps_over : (la lb : Layout) → la ≡ lb → (nodes items : List NodeImage) (n v root : ℕ) (a b : FileState) → nodes ≡ items → 1 - v ≡ root → Keeps (Lies la (take n nodes) (1 - v)) a b → Keeps (Lies lb (take n items) root) a b
+keeps_over la lb there nodes items n v root a b same turn keeps =
+    subst (λ (y : Layout). Keeps (Lies y (take n items) root) a b) there
+    (subst (λ (m : ℕ). Keeps (Lies la (take n items) m) a b) turn (subst (λ (l : List NodeImage). Keeps (Lies la (take n l) (1 - v)) a b) same keeps))
 
 -- a stage by terms that are the same
 pub stage_over : (known : Type 0) (before after : List ℕ) (root r : RootRef) (ka kb : List ℕ) (oa ob ta tb : Loaded) (ca cb : List BlockChange) → ka ≡ kb → oa ≡ ob → ta ≡ tb → ca ≡ cb

@@ -8,11 +8,12 @@ use Rattle.node_image.specs.declared.node.NodeImage.{NodeImage}
 use Rattle.node_image.specs.declared.node.RootRef.{RootRef}
 use Rattle.node_image.specs.declared.head.Head.{Head}
 use Rattle.node_image.specs.Layout.{is_sized, node_of}
-use Rattle.node_image.specs.Parts.{IsPart, Off, Part, size, start}
+use Rattle.node_image.specs.Parts.{In, IsPart, Layout, Off, Part, size, start, layout_of}
+use Rattle.node_image.specs.Parts.Layout.{aligned}
 use Rattle.node_image.specs.Parts.Part.{block, head, node}
 use Rattle.node_image.specs.Tables.{at_node, hash_in, block_version, node_version}
 use Rattle.node_image.specs.Selection.{node_in, part_in}
-use Rattle.node_image.proofs.PartPlaces.{off_other}
+use Rattle.node_image.proofs.PartPlaces.{off_sector}
 use Rattle.htree_file.specs.declared.change.BlockChange.{BlockChange}
 use Rattle.htree_file.specs.Changes.{AreApart, AreChanges, IsChanged, SealsAt, block_at, page_after, page_for}
 use Rattle.htree_file.specs.Opening.{HasFields, IsHashed, IsVerified}
@@ -94,10 +95,12 @@ module _ (nodes filled drawn : List NodeImage) (changes : List BlockChange) (dir
         (seal.iv ∙ ap (λ (x : NodeImage). x.iv) drew ∙ was.0, seal.tag ∙ ap (λ (x : NodeImage). x.tag) drew ∙ was.1)
 
 -- No write of a stage meets a part that the committed reference selects.
-module _ (nodes table : List NodeImage) (changes : List BlockChange) (dirty moved : ℕ → Bool) (root : ℕ) (few : length nodes ≤ 256) (most_next : length table ≤ 256) (bit : root < 2)
+module _ (layout : Layout) (two : layout ≡ aligned) (nodes table : List NodeImage) (changes : List BlockChange) (dirty moved : ℕ → Bool) (root : ℕ) (few : length nodes ≤ 256) (most_next : length table ≤ 256) (bit : root < 2)
     (closed : IsWriteSet (length nodes) (length table) changes dirty moved) (flags : AreFlags nodes table dirty moved) (apart : AreApart (length table) changes) where
-  lies_off : (r : Part) → IsPart r → ((q : Part) → IsSelected nodes root q → q ≡ r → ⊥) → (p : ℕ) → Lies nodes root p → Off r p
-  lies_off r part other p lies = off_other lies.part r p (selected_part nodes root few bit lies.part lies.selected) part (other lies.part lies.selected) lies.within
+  lies_off : (r : Part) → IsPart r → ((q : Part) → IsSelected nodes root q → q ≡ r → ⊥) → (p : ℕ) → Lies layout nodes root p → Off layout r p
+  lies_off r part other p lies =
+      subst (λ (y : Layout). Off y r p) (sym two)
+      (off_sector lies.part r p lies.at (selected_part nodes root few bit lies.part lies.selected) part (other lies.part lies.selected) lies.near (subst (λ (y : Layout). In y lies.part lies.at) two lies.within))
 
   not_block : (k : ℕ) → k < length table → IsChanged changes k → (q : Part) → IsSelected nodes root q → q ≡ block k (block_version table k) → ⊥
   not_block k lt changed (head v) at same = cc (same)
@@ -125,7 +128,7 @@ module _ (nodes table : List NodeImage) (changes : List BlockChange) (dirty move
   not_head (block m v) at same = cc (same)
   not_head (head v) at same = let b : v ≡ 1 - root = ap version same in omega (arith, at, b, bit)
 
-  pub lies_written : (p : ℕ) → Lies nodes root p → OffWritten table (1 - root) changes dirty p
+  pub lies_written : (p : ℕ) → Lies layout nodes root p → OffWritten layout table (1 - root) changes dirty p
   lies_written p lies = record {
     blocks = λ j lt.
         let k = block_at changes j in
@@ -141,7 +144,7 @@ module _ (nodes table : List NodeImage) (changes : List BlockChange) (dirty move
 module _ (a d : FileState) (key : List ℕ) (root : RootRef) (was top : Head) (nodes filled drawn next : List NodeImage) (changes : List BlockChange) (dirty moved : ℕ → Bool)
     (few : length nodes ≤ 256) (most_next : length next ≤ 256) (bit : root.version < 2) (all : length next ≡ top.greatest) (sized : is_sized top ≡ true) (long : length next ≡ length drawn)
     (closed_drawn : IsWriteSet (length nodes) (length drawn) changes dirty moved) (are : AreChanges (length nodes) (length next) changes) (turns : AreTurned nodes dirty moved filled (length drawn)) (anew : SealsAnew changes filled drawn)
-    (from : MadeFrom changes dirty drawn next) (w : IsWritten (Known a d) d.reads key top (1 - root.version) changes dirty next) (keeps : Keeps (Lies nodes root.version) a d) where
+    (from : MadeFrom changes dirty drawn next) (w : IsWritten (layout_of root.format) (Known a d) d.reads key top (1 - root.version) changes dirty next) (keeps : Keeps (Lies (layout_of root.format) nodes root.version) a d) where
   closed : IsWriteSet (length nodes) (length next) changes dirty moved
   closed = subst (λ (n : ℕ). IsWriteSet (length nodes) n changes dirty moved) (sym long) closed_drawn
 
@@ -151,75 +154,75 @@ module _ (a d : FileState) (key : List ℕ) (root : RootRef) (was top : Head) (n
   same : (n : ℕ) → 1 ≤ n → n ≤ length next → dirty n ≡ false → (n ≤ length nodes) × (at_node next n ≡ at_node nodes n)
   same = next_same nodes filled drawn changes dirty moved closed_drawn turns anew next long from
 
-  hash_next : IsHashed root (record { head = was; nodes = nodes }) → (n : ℕ) → 1 ≤ n → n ≤ length next → dirty n ≡ false → (at_node next n).hash ≡ hash_in next top n
+  hash_next : IsHashed root (record { head = was; nodes = nodes; layout = layout_of root.format }) → (n : ℕ) → 1 ≤ n → n ≤ length next → dirty n ≡ false → (at_node next n).hash ≡ hash_in next top n
   hash_next hashed n least most idle = hashes_next nodes next changes top dirty moved closed w.hashed same was (sym hashed.all) (sym all) hashed.hashes n least most
 
-  hashed_next : IsHashed root (record { head = was; nodes = nodes }) → IsHashed (record { hash = (at_node next 1).hash; version = 1 - root.version }) (record { head = top; nodes = next })
-  hashed_next hashed = written_hashed (Known a d) d.reads key top (1 - root.version) changes dirty next w all sized (hash_next hashed)
+  hashed_next : IsHashed root (record { head = was; nodes = nodes; layout = layout_of root.format }) → IsHashed (record { hash = (at_node next 1).hash; version = 1 - root.version; format = root.format }) (record { head = top; nodes = next; layout = layout_of root.format })
+  hashed_next hashed = written_hashed root.format (Known a d) d.reads key top (1 - root.version) changes dirty next w all sized (hash_next hashed)
 
-  verified_next : IsVerified root (record { head = was; nodes = nodes }) → IsVerified (record { hash = (at_node next 1).hash; version = 1 - root.version }) (record { head = top; nodes = next })
+  verified_next : IsVerified root (record { head = was; nodes = nodes; layout = layout_of root.format }) → IsVerified (record { hash = (at_node next 1).hash; version = 1 - root.version; format = root.format }) (record { head = top; nodes = next; layout = layout_of root.format })
   verified_next verified =
-      written_verified (Known a d) d.reads key top (1 - root.version) changes dirty next w all sized
+      written_verified root.format (Known a d) d.reads key top (1 - root.version) changes dirty next w all sized
       (λ n least most idle. let old = same n least most idle in (hash_next verified.hashed n least most idle, subst HasFields (sym old.1) (verified.fields n least old.0)))
 
-  module _ (loads : IsLoaded a.reads root (record { head = was; nodes = nodes })) (known : Known a d) where
+  module _ (loads : IsLoaded a.reads root (record { head = was; nodes = nodes; layout = layout_of root.format })) (known : Known a d) where
     -- a selected part stands as it stood
-    kept : (q : Part) → IsSelected nodes root.version q → Stands d.reads q (part_in a.reads q)
-    kept q at = stands_kept (Lies nodes root.version) a d q (part_in a.reads q) (size_some q) keeps known (λ p within. record { part = q; selected = at; within = within })
-        (record { fits = part_ends a.reads root (record { head = was; nodes = nodes }) bit loads q at; is = refl })
+    kept : (q : Part) → IsSelected nodes root.version q → Stands (layout_of root.format) d.reads q (part_in (layout_of root.format) a.reads q)
+    kept q at = stands_kept (layout_of root.format) (Lies (layout_of root.format) nodes root.version) a d q (part_in (layout_of root.format) a.reads q) (size_some q) keeps known (λ p within. record { part = q; selected = at; at = p; near = refl; within = within })
+        (record { fits = part_ends a.reads root (record { head = was; nodes = nodes; layout = layout_of root.format }) bit loads q at; is = refl })
 
     -- a block that does not change stands where it stood
-    old_stands : (k : ℕ) → k < length next → (IsChanged changes k → ⊥) → (k < length nodes) × Stands d.reads (block k (block_version next k)) (part_in a.reads (block k (block_version nodes k)))
+    old_stands : (k : ℕ) → k < length next → (IsChanged changes k → ⊥) → (k < length nodes) × Stands (layout_of root.format) d.reads (block k (block_version next k)) (part_in (layout_of root.format) a.reads (block k (block_version nodes k)))
     old_stands k lt out =
         let idle : moved (k + 1) ≡ false = false_from_ne_true (moved (k + 1)) (λ hit. out (closed.only k hit)) in
         let old : k < length nodes = old_block nodes next changes dirty moved root.version closed flags k lt idle in
         let w : block_version nodes k ≡ block_version next k = sym (block_version_turns nodes next changes dirty moved root.version closed flags k lt ∙ cond-false (moved (k + 1)) _ _ idle) in
         let at : IsSelected nodes root.version (block k (block_version nodes k)) = (old, refl) in
-        (old, subst (λ (v : ℕ). Stands d.reads (block k v) (part_in a.reads (block k (block_version nodes k)))) w (kept (block k (block_version nodes k)) at))
+        (old, subst (λ (v : ℕ). Stands (layout_of root.format) d.reads (block k v) (part_in (layout_of root.format) a.reads (block k (block_version nodes k)))) w (kept (block k (block_version nodes k)) at))
 
-    pub next_page : (k : ℕ) → k < length next → page_in d.reads key (record { head = top; nodes = next }) k ≡ wanted_page a.reads key top nodes changes k
-    next_page k lt = page_cases changes k (λ o. page_in d.reads key (record { head = top; nodes = next }) k ≡ page_after o (page_in a.reads key (record { head = top; nodes = nodes }) k))
+    pub next_page : (k : ℕ) → k < length next → page_in d.reads key (record { head = top; nodes = next; layout = layout_of root.format }) k ≡ wanted_page (layout_of root.format) a.reads key top nodes changes k
+    next_page k lt = page_cases changes k (λ o. page_in d.reads key (record { head = top; nodes = next; layout = layout_of root.format }) k ≡ page_after o (page_in a.reads key (record { head = top; nodes = nodes; layout = layout_of root.format }) k))
         (λ none.
         let out : IsChanged changes k → ⊥ = λ c. has_page changes k c none in
         let stands = old_stands k lt out in
         let seal = next_seal nodes filled drawn changes dirty moved closed_drawn turns anew next long from k stands.0 lt out in
         ap (page_of key top (at_node next (k + 1)) k) stands.1.is
-        ∙ (λ i. page_of key top (record { hash = []; iv = seal.0 i; tag = seal.1 i; flags = 0 }) k (part_in a.reads (block k (block_version nodes k)))))
-        (λ page is. let c = found changes k page is in written_page (Known a d) d.reads key top (1 - root.version) changes dirty next w known k c.0 ∙ ap (λ (p : List ℕ). Some p) c.1)
+        ∙ (λ i. page_of key top (record { hash = []; iv = seal.0 i; tag = seal.1 i; flags = 0 }) k (part_in (layout_of root.format) a.reads (block k (block_version nodes k)))))
+        (λ page is. let c = found changes k page is in written_page root.format (Known a d) d.reads key top (1 - root.version) changes dirty next w known k c.0 ∙ ap (λ (p : List ℕ). Some p) c.1)
 
-    ends : (k : ℕ) → k < length next → start (block k (block_version next k)) + 4096 ≤ length d.reads
+    ends : (k : ℕ) → k < length next → start (layout_of root.format) (block k (block_version next k)) + 4096 ≤ length d.reads
     ends k lt = ends_by (page_for changes k) refl
       where
-        ends_by : (o : Option (List ℕ)) → page_for changes k ≡ o → start (block k (block_version next k)) + 4096 ≤ length d.reads
+        ends_by : (o : Option (List ℕ)) → page_for changes k ≡ o → start (layout_of root.format) (block k (block_version next k)) + 4096 ≤ length d.reads
         ends_by None none = (old_stands k lt (λ c. has_page changes k c none)).1.fits
-        ends_by (Some page) is = ((sealed_at (Known a d) d.reads key top (1 - root.version) changes dirty next w k (found changes k page is).0).stands known).fits
+        ends_by (Some page) is = ((sealed_at root.format (Known a d) d.reads key top (1 - root.version) changes dirty next w k (found changes k page is).0).stands known).fits
 
     -- a node that is not written stands where the next table has it
-    old_node_stands : (n : ℕ) → 1 ≤ n → n ≤ length next → dirty n ≡ false → node_in d.reads n (node_version next (1 - root.version) n) ≡ at_node next n
+    old_node_stands : (n : ℕ) → 1 ≤ n → n ≤ length next → dirty n ≡ false → node_in (layout_of root.format) d.reads n (node_version next (1 - root.version) n) ≡ at_node next n
     old_node_stands n least most idle =
         let w = node_version nodes root.version n in
         let old = same n least most idle in
         let u : node_version next (1 - root.version) n ≡ w = version_turns nodes next changes dirty moved root.version closed flags n least most ∙ cond-false (dirty n) _ _ idle in
         let at : IsSelected nodes root.version (node n w) = (least, old.0, refl) in
-        ap (node_in d.reads n) u ∙ ap node_of (kept (node n w) at).is ∙ loads.matches n least old.0 ∙ sym old.1
+        ap (node_in (layout_of root.format) d.reads n) u ∙ ap node_of (kept (node n w) at).is ∙ loads.matches n least old.0 ∙ sym old.1
 
-    pub next_loads : IsLoaded d.reads (record { hash = (at_node next 1).hash; version = 1 - root.version }) (record { head = top; nodes = next })
-    next_loads = written_loads (Known a d) d.reads key top (1 - root.version) changes dirty next w known sized (hashed_next loads.hashed) old_node_stands ends
+    pub next_loads : IsLoaded d.reads (record { hash = (at_node next 1).hash; version = 1 - root.version; format = root.format }) (record { head = top; nodes = next; layout = layout_of root.format })
+    next_loads = written_loads root.format (Known a d) d.reads key top (1 - root.version) changes dirty next w known sized (hashed_next loads.hashed) old_node_stands ends
 
-  pub is_stage : IsStage (Known a d) a.reads d.reads key root (record { head = was; nodes = nodes }) (record { hash = (at_node next 1).hash; version = 1 - root.version }) (record { head = top; nodes = next }) changes
+  pub is_stage : IsStage (Known a d) a.reads d.reads key root (record { head = was; nodes = nodes; layout = layout_of root.format }) (record { hash = (at_node next 1).hash; version = 1 - root.version; format = root.format }) (record { head = top; nodes = next; layout = layout_of root.format }) changes
   is_stage = record {
     next_is = refl;
     verified = verified_next;
-    loaded = λ known loads. loaded_is d.reads _ (record { head = top; nodes = next }) (next_loads (loaded_from a.reads root _ loads) known);
+    loaded = λ known loads. loaded_is d.reads _ (record { head = top; nodes = next; layout = layout_of root.format }) (next_loads (loaded_from a.reads root _ loads) known);
     opened = λ wrapped known loads.
-        let l = loaded_from a.reads root (record { head = was; nodes = nodes }) loads in
-        opens_after a.reads d.reads root (record { hash = (at_node next 1).hash; version = 1 - root.version }) key was top nodes next changes loads
-        (loaded_is d.reads _ (record { head = top; nodes = next }) (next_loads l known)) wrapped (all ∙ sized_greatest top sized) are (next_page l known);
-    seals = λ k lt. page_cases changes k (SealsAt key (record { head = was; nodes = nodes }) (record { head = top; nodes = next }) k)
+        let l = loaded_from a.reads root (record { head = was; nodes = nodes; layout = layout_of root.format }) loads in
+        opens_after (layout_of root.format) a.reads d.reads root (record { hash = (at_node next 1).hash; version = 1 - root.version; format = root.format }) key was top nodes next changes loads
+        (loaded_is d.reads _ (record { head = top; nodes = next; layout = layout_of root.format }) (next_loads l known)) wrapped (all ∙ sized_greatest top sized) are (next_page l known);
+    seals = λ k lt. page_cases changes k (SealsAt key (record { head = was; nodes = nodes; layout = layout_of root.format }) (record { head = top; nodes = next; layout = layout_of root.format }) k)
         (λ none. let out : IsChanged changes k → ⊥ = λ c. has_page changes k c none in
         next_seal nodes filled drawn changes dirty moved closed_drawn turns anew next long from k
         (old_block nodes next changes dirty moved root.version closed flags k lt (false_from_ne_true (moved (k + 1)) (λ hit. out (closed.only k hit)))) lt out)
-        (λ page is. let c = found changes k page is in let sealed = sealed_at (Known a d) d.reads key top (1 - root.version) changes dirty next w k c.0 in
+        (λ page is. let c = found changes k page is in let sealed = sealed_at root.format (Known a d) d.reads key top (1 - root.version) changes dirty next w k c.0 in
         (sealed.ciphertext, sealed.opens ∙ ap (λ (p : List ℕ). Some p) c.1));
     spares = λ n least most. ⊎_elim
         (λ hit. inr (subst (λ (f : ℕ). f < 8) (sym (flags.flags n least most hit)) (turned_few dirty moved n (at_node nodes n).flags)))

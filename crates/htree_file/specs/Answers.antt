@@ -53,7 +53,7 @@ IsLoadFault fault = Unit {0}
 pub record IsNeed (root : RootRef) (need : ℕ) : Type 0 where
   pub tree : Loaded
   pub verified : IsVerified root tree
-  pub is : need ≡ need_of tree.nodes (length tree.nodes)
+  pub is : need ≡ need_of tree.layout tree.nodes (length tree.nodes)
 
 -- What a refusal to load says of any file: the value that it carries is what differs, as the file reads.
 abbrev pub Differs : List ℕ → RootRef → TreeFault → Type 0

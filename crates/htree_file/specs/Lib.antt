@@ -10,3 +10,4 @@ pub mod Selected
 pub mod Staging
 pub mod Stages
 pub mod Plans
+pub mod Copies

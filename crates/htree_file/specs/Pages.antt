@@ -37,7 +37,7 @@ page_of key head node k ciphertext =
 
 -- the ciphertext of block k of a tree in an image
 abbrev pub block_in : List ℕ → Loaded → (k : ℕ) → List ℕ
-block_in image tree k = part_in image (block k (block_version tree.nodes k))
+block_in image tree k = part_in tree.layout image (block k (block_version tree.nodes k))
 
 -- and its page
 abbrev pub page_in : List ℕ → (key : List ℕ) → Loaded → (k : ℕ) → Option (List ℕ)

@@ -10,7 +10,7 @@ use Rattle.htree_file.specs.Pages.{page_in}
 -- Of the committed tree and the stage that was written beside it: the stage is verified where the committed tree is, and
 -- where the file is known, it loads and opens to the old pages with the changes where the committed tree loads.
 pub record IsStage (known : Type 0) (before after key : List ℕ) (root : RootRef) (old : Loaded) (next : RootRef) (new : Loaded) (changes : List BlockChange) : Type 0 where
-  pub next_is : next ≡ record { hash = (at_node new.nodes 1).hash; version = 1 - root.version }
+  pub next_is : next ≡ record { hash = (at_node new.nodes 1).hash; version = 1 - root.version; format = root.format }
   pub verified : IsVerified root old → IsVerified next new
   pub loaded : known → load_of before root ≡ Ok old → load_of after next ≡ Ok new
   pub opened : new.head.wrapped ≡ old.head.wrapped → known → load_of before root ≡ Ok old
@@ -20,7 +20,7 @@ pub record IsStage (known : Type 0) (before after key : List ℕ) (root : RootRe
 
 -- a tree that was made whole of these pages
 pub record IsMade (known : Type 0) (file key : List ℕ) (root : RootRef) (tree : Loaded) (pages : List BlockChange) : Type 0 where
-  pub root_is : root ≡ record { hash = (at_node tree.nodes 1).hash; version = 0 }
+  pub root_is : root ≡ record { hash = (at_node tree.nodes 1).hash; version = 0; format = root.format }
   pub verified : IsVerified root tree
   pub loaded : known → load_of file root ≡ Ok tree
   pub opens : known → (j : ℕ) → j < length pages → page_in file key tree (block_at pages j) ≡ Some (page_at pages j)

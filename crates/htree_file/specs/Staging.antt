@@ -6,7 +6,7 @@ use Rattle.disk_model.specs.Keeps.{Keeps}
 use Rattle.node_image.specs.declared.node.NodeImage.{NodeImage}
 use Rattle.node_image.specs.declared.head.Head.{Head}
 use Rattle.node_image.specs.Layout.{has_form, head_bytes, head_of, is_sized, node_bytes, node_of}
-use Rattle.node_image.specs.Parts.{Off, Part}
+use Rattle.node_image.specs.Parts.{Layout, Off, Part}
 use Rattle.node_image.specs.Parts.Part.{block, head, node}
 use Rattle.node_image.specs.Tables.{at_node, block_bit, block_version, hash_in, no_node, node_version}
 use Rattle.htree_file.specs.declared.change.BlockChange.{BlockChange}
@@ -28,40 +28,40 @@ abbrev pub named_node : List NodeImage → (root n : ℕ) → Part
 named_node table root n = node n (node_version table root n)
 
 -- the place lies off the blocks of these changes, and off the nodes of the set
-abbrev pub OffBlocks : List NodeImage → List BlockChange → (place : ℕ) → Type 0
-OffBlocks table changes place = (j : ℕ) → j < length changes → Off (named_block table (block_at changes j)) place
+abbrev pub OffBlocks : Layout → List NodeImage → List BlockChange → (place : ℕ) → Type 0
+OffBlocks layout table changes place = (j : ℕ) → j < length changes → Off layout (named_block table (block_at changes j)) place
 
-abbrev pub OffNodes : List NodeImage → (root : ℕ) → (set : ℕ → Bool) → (place : ℕ) → Type 0
-OffNodes table root set place = (n : ℕ) → 1 ≤ n → n ≤ length table → set n ≡ true → Off (named_node table root n) place
+abbrev pub OffNodes : Layout → List NodeImage → (root : ℕ) → (set : ℕ → Bool) → (place : ℕ) → Type 0
+OffNodes layout table root set place = (n : ℕ) → 1 ≤ n → n ≤ length table → set n ≡ true → Off layout (named_node table root n) place
 
 -- the place lies off all that is written: these blocks and nodes, and the head
-pub record OffWritten (table : List NodeImage) (root : ℕ) (changes : List BlockChange) (set : ℕ → Bool) (place : ℕ) : Type 0 where
-  pub blocks : OffBlocks table changes place
-  pub nodes : OffNodes table root set place
-  pub top : Off (head root) place
+pub record OffWritten (layout : Layout) (table : List NodeImage) (root : ℕ) (changes : List BlockChange) (set : ℕ → Bool) (place : ℕ) : Type 0 where
+  pub blocks : OffBlocks layout table changes place
+  pub nodes : OffNodes layout table root set place
+  pub top : Off layout (head root) place
 
 -- The node seals the page as block k: a ciphertext opens to it. Where the file is known, that stands in the version which the
 -- node names.
-pub record IsSealed (known : Type 0) (file key : List ℕ) (h : Head) (n : NodeImage) (k : ℕ) (page : List ℕ) : Type 0 where
+pub record IsSealed (layout : Layout) (known : Type 0) (file key : List ℕ) (h : Head) (n : NodeImage) (k : ℕ) (page : List ℕ) : Type 0 where
   pub ciphertext : List ℕ
   pub opens : page_of key h n k ciphertext ≡ Some page
-  pub stands : known → Stands file (block k (block_bit n.flags)) ciphertext
+  pub stands : known → Stands layout file (block k (block_bit n.flags)) ciphertext
 
 -- the pages of the first changes are sealed by the nodes of the table
-abbrev pub AreSealed : (known : Type 0) → (file key : List ℕ) → Head → (table : List NodeImage) → List BlockChange → (count : ℕ) → Type 0
-AreSealed known file key h table changes count =
-    (j : ℕ) → j < count → IsSealed known file key h (get_or table (block_at changes j) no_node) (block_at changes j) (page_at changes j)
+abbrev pub AreSealed : Layout → (known : Type 0) → (file key : List ℕ) → Head → (table : List NodeImage) → List BlockChange → (count : ℕ) → Type 0
+AreSealed layout known file key h table changes count =
+    (j : ℕ) → j < count → IsSealed layout known file key h (get_or table (block_at changes j) no_node) (block_at changes j) (page_at changes j)
 
 -- the node is read back from its bytes, which stand in the part where the file is known
-pub record NodeStands (known : Type 0) (file : List ℕ) (q : Part) (image : NodeImage) : Type 0 where
-  pub stands : known → Stands file q (node_bytes image)
+pub record NodeStands (layout : Layout) (known : Type 0) (file : List ℕ) (q : Part) (image : NodeImage) : Type 0 where
+  pub stands : known → Stands layout file q (node_bytes image)
   pub returns : node_of (node_bytes image) ≡ image
   pub bytes : AreBytes (node_bytes image)
 
 -- those of the first nodes that are in the set stand where the table has them
-abbrev pub NodesStand : (known : Type 0) → (file : List ℕ) → (root : ℕ) → (table : List NodeImage) → (set : ℕ → Bool) → (count : ℕ) → Type 0
-NodesStand known file root table set count =
-    (n : ℕ) → 1 ≤ n → n ≤ count → set n ≡ true → NodeStands known file (named_node table root n) (at_node table n)
+abbrev pub NodesStand : Layout → (known : Type 0) → (file : List ℕ) → (root : ℕ) → (table : List NodeImage) → (set : ℕ → Bool) → (count : ℕ) → Type 0
+NodesStand layout known file root table set count =
+    (n : ℕ) → 1 ≤ n → n ≤ count → set n ≡ true → NodeStands layout known file (named_node table root n) (at_node table n)
 
 -- a table with room for the nodes of any tree, whose nodes name version 0
 pub record IsBlank (table : List NodeImage) : Type 0 where
@@ -96,13 +96,13 @@ pub record MadeFrom (changes : List BlockChange) (set : ℕ → Bool) (old new :
   pub same : (n : ℕ) → 1 ≤ n → set n ≡ false → (IsChanged changes (n - 1) → ⊥) → at_node new n ≡ at_node old n
 
 -- a version of a tree, as it is once its parts are written
-pub record IsWritten (known : Type 0) (file key : List ℕ) (top : Head) (root : ℕ) (changes : List BlockChange) (set : ℕ → Bool) (table : List NodeImage) : Type 0 where
-  pub sealed : AreSealed known file key top table changes (length changes)
+pub record IsWritten (layout : Layout) (known : Type 0) (file key : List ℕ) (top : Head) (root : ℕ) (changes : List BlockChange) (set : ℕ → Bool) (table : List NodeImage) : Type 0 where
+  pub sealed : AreSealed layout known file key top table changes (length changes)
   pub hashed : HashedAmong set table top 0
-  pub nodes : NodesStand known file root table set (length table)
-  pub top_stands : known → Stands file (head root) (head_bytes top)
+  pub nodes : NodesStand layout known file root table set (length table)
+  pub top_stands : known → Stands layout file (head root) (head_bytes top)
   pub top_returns : HeadReturns top
 
 -- the page that block k is to have: its change's, or the one that it has in the file, good or bad
-abbrev pub wanted_page : (file key : List ℕ) → Head → List NodeImage → List BlockChange → (k : ℕ) → Option (List ℕ)
-wanted_page file key h nodes changes k = page_after (page_for changes k) (page_in file key (record { head = h; nodes = nodes }) k)
+abbrev pub wanted_page : Layout → (file key : List ℕ) → Head → List NodeImage → List BlockChange → (k : ℕ) → Option (List ℕ)
+wanted_page layout file key h nodes changes k = page_after (page_for changes k) (page_in file key (record { head = h; nodes = nodes; layout = layout }) k)

@@ -2,6 +2,7 @@
 ghost use Rattle.std.specs.Prelude.{◌≡◌, ℕ, ◌<◌, List, Result};
 ghost use Rattle.disk_model.specs.Calls.{Rests};
 ghost use Rattle.disk_model.specs.State.{FileState, LeftNow, Sound};
+ghost use Rattle.node_image.specs.Parts.{layout_of};
 ghost use Rattle.node_image.specs.declared.node.RootRef.{RootRef};
 ghost use Rattle.node_image.specs.Selection.{selected_tree};
 ghost use Rattle.htree_file.specs.Opening.{Loaded, load_of};
@@ -24,5 +25,5 @@ pub fn read_keeps_firm()
 /// The bytes that a reference selects tell the tree that loads.
 pub fn selection_names_tree()
     ensures { (image : List ℕ) (root : RootRef) (tree : Loaded) → load_of image root ≡ Result.Ok tree →
-        loaded_in (selected_tree image root.version) ≡ tree }
+        loaded_in (layout_of root.format) (selected_tree image root) ≡ tree }
 {}

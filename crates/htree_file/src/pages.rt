@@ -20,8 +20,12 @@ fn block_aad(head: &Head, block: u32) -> [u8; 20]
     aad
 }
 
-/// Deciphers the block in the page where it has the node's tag. Where it has not, the page stays, and both tags are given.
-pub(crate) fn open_page(
+/// Deciphers the block in the page where it has the node's tag.
+///
+/// # Errors
+///
+/// `BadTag` with both tags where it has not; the page then stays.
+pub fn open_page(
     key: &Aes128,
     head: &Head,
     node: &NodeImage,

@@ -1,7 +1,7 @@
 // Pages are enciphered under the initialization vectors that were drawn for them.
 ghost use Rattle.std.specs.Prelude.{◌≡◌, ◌<◌, IfErr, IfOk, IsOk, OnOk};
 ghost use Rattle.disk_model.specs.Calls.{Known};
-ghost use Rattle.node_image.specs.Parts.{Off};
+ghost use Rattle.node_image.specs.Parts.{Off, layout_of};
 ghost use Rattle.node_image.specs.Parts.Part.{block};
 ghost use Rattle.node_image.specs.Tables.{block_bit};
 ghost use Rattle.htree_file.specs.Answers.{HasCause, IsFailed};
@@ -35,6 +35,7 @@ pub(crate) fn draw<E: Entropy>(entropy: &mut E) -> Result<[u8; 16], TreeFault>
 /// with the tag.
 pub(crate) fn write_page<F: StoreFile>(
     file: &mut F,
+    format: u8,
     key: &Aes128,
     head: &Head,
     node: &NodeImage,
@@ -43,14 +44,14 @@ pub(crate) fn write_page<F: StoreFile>(
 ) -> Result<NodeImage, TreeFault>
     requires { k < 256 }
     ensures tagged { IfOk result (λ made. made ≡ record node.now { tag = made.tag }) }
-    ensures sealed { IfOk result (λ made. IsSealed (Known (F.state file.old) (F.state file.new)) (F.state file.new).reads
+    ensures sealed { IfOk result (λ made. IsSealed (layout_of format) (Known (F.state file.old) (F.state file.new)) (F.state file.new).reads
         key.now head.now made k page.now) }
-    ensures writes { WritesAtMost (Off (block k (block_bit node.now.flags))) 4096 (F.state file.old) (F.state file.new) }
+    ensures writes { WritesAtMost (Off (layout_of format) (block k (block_bit node.now.flags))) 4096 (F.state file.old) (F.state file.new) }
     ensures cause { HasCause (F.state file.old) (F.state file.new) result }
     ensures failed { IfErr result IsFailed }
 {
     let mut block = *page;
     let tag = seal_page(key, head, &node.iv, k, &mut block);
-    write_block(file, k, version_of_block(node), &block)?;
+    write_block(file, format, k, version_of_block(node), &block)?;
     Ok(NodeImage { tag, ..*node })
 }

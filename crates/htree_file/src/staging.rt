@@ -2,7 +2,7 @@
 ghost use Rattle.std.specs.Prelude.{◌≡◌, ◌↔◌, ℕ, ◌+◌, ◌-◌, ◌*◌, ◌<◌, ◌≤◌, length, cond, true, IfErr, IfOk, IsTrue, OnOk};
 ghost use Rattle.disk_model.specs.Calls.{Known};
 ghost use Rattle.node_image.specs.Layout.{is_sized};
-ghost use Rattle.node_image.specs.Parts.{Off};
+ghost use Rattle.node_image.specs.Parts.{Off, layout_of};
 ghost use Rattle.node_image.specs.Tables.{at_node};
 ghost use Rattle.tree_paths.specs.Paths.{holds};
 ghost use Rattle.tree_paths.specs.Staged.{count_to, write_budget};
@@ -22,12 +22,13 @@ use node_image::{Head, NodeImage, RootRef};
 use tee_ports::StoreFile;
 
 /// A version of a tree that is to be written, in place of one of `before` nodes: the blocks' key, the head and its version,
-/// the pages that it gets, and the parts that are written.
+/// the file's format, the pages that it gets, and the parts that are written.
 #[derive(Drop)]
 pub(crate) struct NewVersion<'a> {
     pub(crate) key: &'a Aes128,
     pub(crate) head: &'a Head,
     pub(crate) root: u8,
+    pub(crate) format: u8,
     pub(crate) pages: NewPages<'a>,
     pub(crate) before: u32,
     pub(crate) set: WriteSet,
@@ -39,6 +40,7 @@ impl<'a> NewVersion<'a> {
         key: &'a Aes128,
         head: &'a Head,
         root: u8,
+        format: u8,
         pages: NewPages<'a>,
         before: u32,
     ) -> NewVersion<'a>
@@ -48,7 +50,7 @@ impl<'a> NewVersion<'a> {
         ensures fits { Fits result }
         ensures key { result.key.now ≡ key.now }
         ensures head { result.head.now ≡ head.now }
-        ensures root { (result.root ≡ root) × (result.before ≡ before) }
+        ensures root { (result.root ≡ root) × (result.before ≡ before) × (result.format ≡ format) }
         ensures pages { changes_of result.pages ≡ changes_of pages.entry }
     {
         let set = WriteSet::of_pages(&pages, before, head.greatest);
@@ -56,6 +58,7 @@ impl<'a> NewVersion<'a> {
             key,
             head,
             root,
+            format,
             pages,
             before,
             set,
@@ -70,10 +73,10 @@ impl<'a> NewVersion<'a> {
     ) -> Result<(), TreeFault>
         requires fits { Fits self.now }
         requires all { length table.old ≡ self.now.head.now.greatest }
-        ensures sealed { OnOk result (AreSealed (Known (F.state file.old) (F.state file.new)) (F.state file.new).reads
+        ensures sealed { OnOk result (AreSealed (layout_of self.now.format) (Known (F.state file.old) (F.state file.new)) (F.state file.new).reads
             self.now.key.now self.now.head.now table.new (changes_of self.now.pages) (length (changes_of self.now.pages))) }
         ensures anew { SealsAnew (changes_of self.now.pages) table.old table.new }
-        ensures writes { WritesAtMost (OffBlocks table.old (changes_of self.now.pages)) (4096 * length (changes_of self.now.pages))
+        ensures writes { WritesAtMost (OffBlocks (layout_of self.now.format) table.old (changes_of self.now.pages)) (4096 * length (changes_of self.now.pages))
             (F.state file.old) (F.state file.new) }
         ensures cause { HasCause (F.state file.old) (F.state file.new) result }
         ensures failed { IfErr result IsFailed }
@@ -81,7 +84,15 @@ impl<'a> NewVersion<'a> {
         for j in 0..self.pages.count() {
             let k = self.pages.block(j);
             let page = self.pages.page(j);
-            let node = write_page(file, self.key, self.head, &table[k as usize], k, page)?;
+            let node = write_page(
+                file,
+                self.format,
+                self.key,
+                self.head,
+                &table[k as usize],
+                k,
+                page,
+            )?;
             table[k as usize] = node;
         }
         Ok(())
@@ -96,11 +107,11 @@ impl<'a> NewVersion<'a> {
     ) -> Result<(), TreeFault>
         requires { (1 ≤ n) × (n ≤ length table.now) × (length table.now ≤ 256) × (self.now.root < 2) }
         ensures stands { OnOk result (holds self.now.set.nodes n ≡ true →
-            NodeStands (Known (F.state file.old) (F.state file.new)) (F.state file.new).reads
+            NodeStands (layout_of self.now.format) (Known (F.state file.old) (F.state file.new)) (F.state file.new).reads
             (named_node table.now self.now.root n) (at_node table.now n)) }
-        ensures one { WritesAtMost (Off (named_node table.now self.now.root n)) (66 * cond (holds self.now.set.nodes n) 1 0)
+        ensures one { WritesAtMost (Off (layout_of self.now.format) (named_node table.now self.now.root n)) (66 * cond (holds self.now.set.nodes n) 1 0)
             (F.state file.old) (F.state file.new) }
-        ensures writes { WritesAtMost (OffNodes table.now self.now.root (holds self.now.set.nodes))
+        ensures writes { WritesAtMost (OffNodes (layout_of self.now.format) table.now self.now.root (holds self.now.set.nodes))
             (66 * cond (holds self.now.set.nodes n) 1 0) (F.state file.old) (F.state file.new) }
         ensures cause { HasCause (F.state file.old) (F.state file.new) result }
         ensures failed { IfErr result IsFailed }
@@ -109,16 +120,16 @@ impl<'a> NewVersion<'a> {
             return Ok(());
         }
         let version = node_version(table, self.root, n);
-        write_node(file, n, version, &table[n as usize - 1])?;
+        write_node(file, self.format, n, version, &table[n as usize - 1])?;
         Ok(())
     }
 
     // Writes each node of the set where the table has it.
     fn write_nodes<F: StoreFile>(&self, file: &mut F, table: &[NodeImage]) -> Result<(), TreeFault>
         requires { (length table.now ≤ 256) × (self.now.root < 2) }
-        ensures stand { OnOk result (NodesStand (Known (F.state file.old) (F.state file.new)) (F.state file.new).reads
+        ensures stand { OnOk result (NodesStand (layout_of self.now.format) (Known (F.state file.old) (F.state file.new)) (F.state file.new).reads
             self.now.root table.now (holds self.now.set.nodes) (length table.now)) }
-        ensures writes { WritesAtMost (OffNodes table.now self.now.root (holds self.now.set.nodes))
+        ensures writes { WritesAtMost (OffNodes (layout_of self.now.format) table.now self.now.root (holds self.now.set.nodes))
             (66 * count_to (holds self.now.set.nodes) 256) (F.state file.old) (F.state file.new) }
         ensures cause { HasCause (F.state file.old) (F.state file.new) result }
         ensures failed { IfErr result IsFailed }
@@ -138,11 +149,11 @@ impl<'a> NewVersion<'a> {
     ) -> Result<RootRef, TreeFault>
         requires fits { Fits self.now }
         requires all { length table.old ≡ self.now.head.now.greatest }
-        ensures root { IfOk result (λ r. r ≡ record { hash = (at_node table.new 1).hash; version = self.now.root }) }
-        ensures written { OnOk result (IsWritten (Known (F.state file.old) (F.state file.new)) (F.state file.new).reads
+        ensures root { IfOk result (λ r. r ≡ record { hash = (at_node table.new 1).hash; version = self.now.root; format = self.now.format }) }
+        ensures written { OnOk result (IsWritten (layout_of self.now.format) (Known (F.state file.old) (F.state file.new)) (F.state file.new).reads
             self.now.key.now self.now.head.now self.now.root (changes_of self.now.pages) (holds self.now.set.nodes) table.new) }
         ensures from { OnOk result (MadeFrom (changes_of self.now.pages) (holds self.now.set.nodes) table.old table.new) }
-        ensures writes { WritesAtMost (OffWritten table.old self.now.root (changes_of self.now.pages) (holds self.now.set.nodes))
+        ensures writes { WritesAtMost (OffWritten (layout_of self.now.format) table.old self.now.root (changes_of self.now.pages) (holds self.now.set.nodes))
             (write_budget (length (changes_of self.now.pages)) (count_to (holds self.now.set.nodes) 256)) (F.state file.old) (F.state file.new) }
         ensures cause { HasCause (F.state file.old) (F.state file.new) result }
         ensures failed { IfErr result IsFailed }
@@ -150,11 +161,12 @@ impl<'a> NewVersion<'a> {
         self.write_pages(file, table)?;
         rehash_nodes(table, self.head, &self.set.nodes);
         self.write_nodes(file, table)?;
-        write_head(file, self.root, self.head)?;
+        write_head(file, self.format, self.root, self.head)?;
         let hash = table[0].hash;
         Ok(RootRef {
             hash,
             version: self.root,
+            format: self.format,
         })
     }
 }

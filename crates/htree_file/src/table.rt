@@ -1,5 +1,6 @@
 // Tables of nodes, node 1 first, and what they name.
 ghost use Rattle.std.specs.Prelude.{◌≡◌, ◌≢◌, ℕ, ◌+◌, ◌-◌, ◌*◌, ◌<◌, ◌≤◌, length, IfOk, IfSome, IfNone, option_copied, option_map, get_or, Bool, false};
+ghost use Rattle.node_image.specs.Parts.{layout_of};
 ghost use Rattle.node_image.specs.Tables.{at_node, block_bit, block_version, hash_in, no_node, node_version};
 ghost use Rattle.htree_file.specs.Opening.{first_damaged, need_of};
 ghost use Rattle.htree_file.specs.Staging.{HashedAmong, IsBlank, SameSeal};
@@ -115,13 +116,14 @@ pub(crate) fn first_damaged(nodes: &[NodeImage], head: &Head) -> Option<u32>
 }
 
 /// The greatest end of a selected block.
-pub(crate) fn need_of(nodes: &[NodeImage]) -> u64
+#[tactic(auto, using(crate::proofs::SameTable::block_low))]
+pub(crate) fn need_of(format: u8, nodes: &[NodeImage]) -> u64
     requires { length nodes.now ≤ 256 }
-    ensures { result ≡ need_of nodes.now (length nodes.now) }
+    ensures { result ≡ need_of (layout_of format) nodes.now (length nodes.now) }
 {
     let mut most = 0;
     for k in 0..nodes.len() as u32 {
-        most = most.max(block_offset(k, block_version(nodes, k)) + 4096);
+        most = most.max(block_offset(format, k, block_version(nodes, k)) + 4096);
     }
     most
 }

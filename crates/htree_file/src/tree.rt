@@ -1,11 +1,12 @@
 // A tree over a file.
-ghost use Rattle.std.specs.Prelude.{◌≡◌, ◌⊎◌, ℕ, [], ◌+◌, ◌-◌, ◌<◌, ◌≤◌, get_or, length, map, IfErr, IfOk, IfSome, IsSome, IsSomeAnd, IsTrue, OnErr, OnOk, Result, Some, None, true, false};
+ghost use Rattle.std.specs.Prelude.{◌≡◌, ◌⊎◌, ℕ, [], ◌+◌, ◌-◌, ◌<◌, ◌≤◌, ◌&&◌, get_or, if◌then◌else◌, length, map, nat_le, IfErr, IfOk, IfSome, IsSome, IsSomeAnd, IsTrue, OnErr, OnOk, Result, Some, None, true, false};
 ghost use Rattle.aes_block.specs.WrappedKey.{unwrapped_of};
 ghost use Rattle.disk_model.specs.Controls.{disarmed, failure_armed, stop_armed, taint_armed};
 ghost use Rattle.disk_model.specs.Arms.{count_call};
 ghost use Rattle.disk_model.specs.Calls.{Known, Rests, Syncs};
 ghost use Rattle.disk_model.specs.Keeps.{Anywhere, Keeps};
 ghost use Rattle.disk_model.specs.Seen.{WasSeen};
+ghost use Rattle.node_image.specs.Parts.{layout_of};
 ghost use Rattle.node_image.specs.Layout.{greatest_of, is_sized};
 ghost use Rattle.node_image.specs.Tables.{at_node};
 ghost use Rattle.htree_file.specs.Answers.{BlockAnswer, Differs, FaultCause, FilePassed, HasCause, HasFaultWidths, IsFailed, IsLoadFault, IsOutside};
@@ -59,6 +60,7 @@ struct Stage {
 
 impl<F: StoreFile> Model for Tree<F> {
     ghost use Rattle.std.specs.Prelude.{◌≡◌, ◌<◌, ◌≤◌, IfSome, length, take, option_map};
+    ghost use Rattle.node_image.specs.Parts.{layout_of};
     ghost use Rattle.htree_file.specs.Opening.{IsVerified};
     ghost use Rattle.htree_file.specs.Value.{TreeValue};
 
@@ -68,17 +70,17 @@ impl<F: StoreFile> Model for Tree<F> {
       file = t.file;
       key = t.key;
       root = t.root;
-      tree = record { head = t.head; nodes = take t.head.greatest t.nodes.items };
+      tree = record { head = t.head; nodes = take t.head.greatest t.nodes.items; layout = layout_of t.root.format };
       stage = option_map (λ s. record {
         root = s.root;
-        tree = record { head = s.head; nodes = take s.head.greatest t.next.items };
+        tree = record { head = s.head; nodes = take s.head.greatest t.next.items; layout = layout_of s.root.format };
         settled = s.settled;
       }) t.stage;
     } };
 
     ghost invariant = { λ t. (length t.nodes.items ≡ 256) × (length t.next.items ≡ 256) × (1 ≤ t.head.greatest) × (t.head.greatest ≤ 256) × (t.root.version < 2)
-        × IsVerified t.root (record { head = t.head; nodes = take t.head.greatest t.nodes.items })
-        × IfSome t.stage (λ s. IsVerified s.root (record { head = s.head; nodes = take s.head.greatest t.next.items })) };
+        × IsVerified t.root (record { head = t.head; nodes = take t.head.greatest t.nodes.items; layout = layout_of t.root.format })
+        × IfSome t.stage (λ s. IsVerified s.root (record { head = s.head; nodes = take s.head.greatest t.next.items; layout = layout_of s.root.format })) };
 }
 
 // The head of a new tree.
@@ -100,8 +102,8 @@ fn new_head(wrap: &[u8; 32], fek: &[u8; 16], bytes: u64) -> Head
 
 impl<F: StoreFile> Tree<F> {
     /// Makes a tree in a file: draws the file's key and an initialization vector for each block, then writes all in version 0,
-    /// and settles it. `wrap` is the key that wraps the file's key, `bytes` is how many bytes the tree holds, and `blocks`
-    /// are its pages.
+    /// and settles it. `format` says where the parts stand, `wrap` is the key that wraps the file's key, `bytes` is how many
+    /// bytes the tree holds, and `blocks` are its pages.
     ///
     /// # Errors
     ///
@@ -110,6 +112,7 @@ impl<F: StoreFile> Tree<F> {
     pub fn make<E: Entropy>(
         alloc: Global,
         mut file: F,
+        format: u8,
         wrap: &[u8; 32],
         bytes: u64,
         blocks: &[Page],
@@ -117,7 +120,7 @@ impl<F: StoreFile> Tree<F> {
     ) -> Result<(Tree<F>, RootRef), Broken<F>>
         requires bytes { bytes ≤ 1048576 }
         requires blocks { length blocks.now ≡ greatest_of bytes }
-        ensures root { IfOk result (λ made. (made.1 ≡ made.0.root) × (made.1.version ≡ 0)) }
+        ensures root { IfOk result (λ made. (made.1 ≡ made.0.root) × (made.1.version ≡ 0) × (made.1.format ≡ format)) }
         ensures idle { IfOk result (λ made. made.0.stage ≡ None) }
         ensures loaded { IfOk result (λ made. Known (F.state file) (F.state made.0.file) →
             load_of (F.state made.0.file).reads made.1 ≡ Result.Ok made.0.tree) }
@@ -159,7 +162,7 @@ impl<F: StoreFile> Tree<F> {
         };
         let head = new_head(wrap, &fek, bytes);
         let key = Aes128::new(&fek);
-        let version = NewVersion::of_pages(&key, &head, 0, NewPages::All(blocks), 0);
+        let version = NewVersion::of_pages(&key, &head, 0, format, NewPages::All(blocks), 0);
         match version.make(&mut file, entropy, &mut nodes) {
             Ok(root) => {
                 let tree = Tree {
@@ -204,7 +207,7 @@ impl<F: StoreFile> Tree<F> {
         ensures kind { IfErr result (λ b. IsLoadFault b.fault) }
         ensures verified { IfOk result (λ t. IsVerified root t.tree) }
         // Head and nodes are those that the file read as at one moment of the call.
-        ensures seen { IfOk result (λ t. WasSeen (Lies t.tree.nodes root.version) (F.state file) (F.state t.file)
+        ensures seen { IfOk result (λ t. WasSeen (Lies t.tree.layout t.tree.nodes root.version) (F.state file) (F.state t.file)
             (λ image. table_of image root ≡ Result.Ok t.tree)) }
         ensures few { IfOk result (λ t. (1 ≤ t.tree.head.greatest) × (t.tree.head.greatest ≤ 256)) }
         ensures widths { IfErr result (λ b. HasFaultWidths b.fault) }
@@ -244,6 +247,7 @@ impl<F: StoreFile> Tree<F> {
     ///
     /// `BadTag` where the block, as the file reads when the call ends, has not the tag that its node has for it; the page
     /// then holds the ciphertext. Besides `Failed`, where the call of the file failed; the page may then hold anything.
+    #[tactic(auto, using(crate::proofs::SameTable::block_low))]
     pub fn read_block(&mut self, block: u32, into: &mut Page) -> Result<(), TreeFault>
         requires { block < self.old.tree.head.greatest }
         ensures answer { let tree = self.old.tree in
@@ -259,13 +263,59 @@ impl<F: StoreFile> Tree<F> {
     {
         let node = self.nodes[block as usize];
         let version = block_version(&self.nodes, block);
-        read_padded(&mut self.file, block_offset(block, version), into)?;
+        read_padded(
+            &mut self.file,
+            block_offset(self.root.format, block, version),
+            into,
+        )?;
         open_page(&self.key, &self.head, &node, block, into)
+    }
+
+    /// The head.
+    pub fn head(&self) -> Head
+        ensures { result ≡ self.now.tree.head }
+    {
+        self.head
+    }
+
+    /// The node of a number, from 1 on, where the tree has it.
+    pub fn node(&self, n: u32) -> Option<NodeImage>
+        ensures { result ≡ (if nat_le 1 n && nat_le n self.now.tree.head.greatest then Some (at_node self.now.tree.nodes n) else None) }
+    {
+        if n == 0 || self.head.greatest < n {
+            return None;
+        }
+        Some(self.nodes[n as usize - 1])
+    }
+
+    /// Reads the ciphertext of a block into the page. Blocks are numbered from 0. It is one call of the file, and takes no
+    /// memory.
+    ///
+    /// # Errors
+    ///
+    /// `Failed` where the call of the file failed; the page may then hold anything.
+    #[tactic(auto, using(crate::proofs::SameTable::block_low))]
+    pub fn read_cipher(&mut self, block: u32, into: &mut Page) -> Result<(), TreeFault>
+        requires { block < self.old.tree.head.greatest }
+        ensures bytes { OnOk result (IsTrue (F.state self.new.file).tells → into.new ≡ block_in (F.state self.new.file).reads self.old.tree block) }
+        ensures fault { IfErr result IsFailed }
+        ensures verified { IsVerified self.old.root self.old.tree }
+        ensures once { IsTrue (F.state self.old.file).tells_arms → (F.state self.new.file).arms ≡ count_call (F.state self.old.file).arms }
+        ensures same { self.new ≡ record self.old { file = self.new.file } }
+        ensures rests { Rests (F.state self.old.file) (F.state self.new.file) }
+        ensures cause { HasCause (F.state self.old.file) (F.state self.new.file) result }
+    {
+        let version = block_version(&self.nodes, block);
+        read_padded(
+            &mut self.file,
+            block_offset(self.root.format, block, version),
+            into,
+        )
     }
 
     /// Writes what changes of a tree of so many bytes into the version that the committed tree does not select, and leaves it
     /// open as a stage: the blocks of the changes, the nodes that change with them, and the head. The committed tree stays,
-    /// and nothing is settled. Takes no memory.
+    /// and nothing is settled. Takes no memory. The file has format 2, in which no two parts share a sector.
     ///
     /// `changes` are the blocks that change, in their order, with one for each new block.
     ///
@@ -280,18 +330,20 @@ impl<F: StoreFile> Tree<F> {
         entropy: &mut E,
     ) -> Result<(), TreeFault>
         requires idle { self.old.stage ≡ None }
+        requires format { self.old.root.format ≡ 2 }
         requires bytes { bytes ≤ 1048576 }
         requires changes { AreChanges self.old.tree.head.greatest (greatest_of bytes) changes.now }
         ensures open { OnOk result (IsSome self.new.stage) }
         ensures none { OnErr result (self.new.stage ≡ None) }
         ensures next { OnOk result (IfSome self.new.stage (λ s. (s.root.version ≡ 1 - self.old.root.version) × (s.settled ≡ false)
             × (s.tree.head ≡ record self.old.tree.head { length = bytes; greatest = greatest_of bytes }))) }
+        ensures format { OnOk result (IfSome self.new.stage (λ s. s.root.format ≡ self.old.root.format)) }
         ensures same { self.new ≡ record self.old { file = self.new.file; stage = self.new.stage } }
         // All vectors are drawn before the first call of the file.
         ensures untouched { IfErr result (λ fault. IsDrawFault fault → self.new ≡ self.old) }
         // In every image at every moment since, the committed reference names the committed tree.
         ensures firm { KeepsFirm (F.state self.old.file) (F.state self.new.file) self.old.root self.old.tree }
-        ensures keeps { Keeps (Lies self.old.tree.nodes self.old.root.version) (F.state self.old.file) (F.state self.new.file) }
+        ensures keeps { Keeps (Lies self.old.tree.layout self.old.tree.nodes self.old.root.version) (F.state self.old.file) (F.state self.new.file) }
         // It writes no more than the write budget has for these changes, and settles nothing.
         ensures budget { IsWithinBudget (changed_blocks changes.now) self.old.tree.head.greatest (greatest_of bytes)
             (F.state self.old.file).written (F.state self.new.file).written }
@@ -318,7 +370,14 @@ impl<F: StoreFile> Tree<F> {
         };
         let before = self.head.greatest;
         let pages = NewPages::Changed(changes);
-        let version = NewVersion::of_pages(&self.key, &head, 1 - self.root.version, pages, before);
+        let version = NewVersion::of_pages(
+            &self.key,
+            &head,
+            1 - self.root.version,
+            self.root.format,
+            pages,
+            before,
+        );
         let committed = &self.nodes[..before as usize];
         let root = version.stage(&mut self.file, entropy, committed, &mut self.next)?;
         self.stage = Some(Stage {

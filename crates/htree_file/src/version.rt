@@ -4,6 +4,7 @@ ghost use Rattle.disk_model.specs.Calls.{Known};
 ghost use Rattle.disk_model.specs.Keeps.{Keeps};
 ghost use Rattle.node_image.specs.declared.head.Head.{Head};
 ghost use Rattle.node_image.specs.declared.node.RootRef.{RootRef};
+ghost use Rattle.node_image.specs.Parts.{layout_of};
 ghost use Rattle.tree_paths.specs.Paths.{holds};
 ghost use Rattle.tree_paths.specs.Staged.{count_to, write_budget};
 ghost use Rattle.htree_file.specs.Changes.{AreApart, changes_of};
@@ -54,9 +55,10 @@ impl<'a> NewVersion<'a> {
         requires blank { IsBlank table.old }
         requires whole { (self.now.before ≡ 0) × (self.now.root ≡ 0) }
         ensures made { IfOk result (λ r. IsMade (Known (F.state file.old) (F.state file.new)) (F.state file.new).reads
-            self.now.key.now r (record { head = self.now.head.now; nodes = take self.now.head.now.greatest table.new }) (changes_of self.now.pages)) }
+            self.now.key.now r (record { head = self.now.head.now; nodes = take self.now.head.now.greatest table.new; layout = layout_of self.now.format }) (changes_of self.now.pages)) }
+        ensures format { IfOk result (λ r. r.format ≡ self.now.format) }
         ensures all { length (take self.now.head.now.greatest table.new) ≡ self.now.head.now.greatest }
-        ensures flags { OnOk result (NamesVersionZero (record { head = self.now.head.now; nodes = take self.now.head.now.greatest table.new })) }
+        ensures flags { OnOk result (NamesVersionZero (record { head = self.now.head.now; nodes = take self.now.head.now.greatest table.new; layout = layout_of self.now.format })) }
         ensures synced { OnOk result (IsSynced (F.state file.new)) }
         ensures keeps { Keeps Nowhere (F.state file.old) (F.state file.new) }
         ensures untouched { IfErr result (λ fault. IsDrawFault fault → file.new ≡ file.old) }
@@ -81,11 +83,12 @@ impl<'a> NewVersion<'a> {
         requires fits { Fits self.now }
         requires committed { length committed.now ≡ self.now.before }
         requires room { length next.old ≡ 256 }
-        ensures stage { IfOk result (λ r. (root : RootRef) (was : Head) → root.version ≡ 1 - self.now.root →
+        requires aligned { self.now.format ≡ 2 }
+        ensures stage { IfOk result (λ r. (root : RootRef) (was : Head) → root.version ≡ 1 - self.now.root → root.format ≡ self.now.format →
             IsStage (Known (F.state file.old) (F.state file.new)) (F.state file.old).reads (F.state file.new).reads self.now.key.now
-            root (record { head = was; nodes = committed.now }) r (record { head = self.now.head.now; nodes = take self.now.head.now.greatest next.new })
+            root (record { head = was; nodes = committed.now; layout = layout_of self.now.format }) r (record { head = self.now.head.now; nodes = take self.now.head.now.greatest next.new; layout = layout_of self.now.format })
             (changes_of self.now.pages)) }
-        ensures writes { WritesAtMost (Lies committed.now (1 - self.now.root))
+        ensures writes { WritesAtMost (Lies (layout_of self.now.format) committed.now (1 - self.now.root))
             (write_budget (length (changes_of self.now.pages)) (count_to (holds self.now.set.nodes) 256)) (F.state file.old) (F.state file.new) }
         ensures untouched { IfErr result (λ fault. IsDrawFault fault → file.new ≡ file.old) }
         ensures causes { HasCauses IsDeviceFault (F.state file.old) (F.state file.new) (E.faults entropy.old) (E.faults entropy.new)

@@ -23,18 +23,19 @@ unfoldable pub AreParts : List ℕ → List ℕ → List ℕ → List ℕ → Pa
 AreParts key iv aad text p =
     IsArray key p.key × IsArgument iv p.iv.items × IsArgument aad p.aad.items × IsArgument text p.text.items
 
--- the four words are the key, the reference and the image
-unfoldable pub IsTreeImage : List ℕ → List ℕ → List ℕ → List ℕ → TreeImage → Type 0
-IsTreeImage tsk hash version image t =
-    IsArray tsk t.tsk × IsArray hash t.root.hash × IsNumber version t.root.version × IsArgument image t.image.items
+-- the five words are the key, the reference and the image
+unfoldable pub IsTreeImage : (tsk hash version format image : List ℕ) → TreeImage → Type 0
+IsTreeImage tsk hash version format image t =
+    IsArray tsk t.tsk × IsArray hash t.root.hash × IsNumber version t.root.version × IsNumber format t.root.format × IsArgument image t.image.items
 
 -- the three words are the key, the entry and the image
 unfoldable pub IsObjectImage : List ℕ → List ℕ → List ℕ → ObjectImage → Type 0
 IsObjectImage tsk entry image o = IsArray tsk o.tsk × IsArray entry o.entry × IsArgument image o.image.items
 
--- the words are the key, the length and the pages
-unfoldable pub AreTreePages : List ℕ → List ℕ → List (List ℕ) → TreePages → Type 0
-AreTreePages tsk bytes pages t = IsArray tsk t.tsk × IsNumber bytes t.bytes × AreArrays pages t.pages.items
+-- the words are the key, the format, the length and the pages
+unfoldable pub AreTreePages : (tsk format bytes : List ℕ) → List (List ℕ) → TreePages → Type 0
+AreTreePages tsk format bytes pages t =
+    IsArray tsk t.tsk × IsNumber format t.format × IsNumber bytes t.bytes × AreArrays pages t.pages.items
 
 -- the words behind the first word of a line, by their shape
 
@@ -66,8 +67,8 @@ ArePartsAndTag words parts tag =
 
 abbrev pub TreeAlone : List (List ℕ) → TreeImage → Type 0
 TreeAlone words tree =
-    (words ≡ word_at words 0 ∷ word_at words 1 ∷ word_at words 2 ∷ word_at words 3 ∷ [])
-    × IsTreeImage (word_at words 0) (word_at words 1) (word_at words 2) (word_at words 3) tree
+    (words ≡ word_at words 0 ∷ word_at words 1 ∷ word_at words 2 ∷ word_at words 3 ∷ word_at words 4 ∷ [])
+    × IsTreeImage (word_at words 0) (word_at words 1) (word_at words 2) (word_at words 3) (word_at words 4) tree
 
 abbrev pub ObjectAlone : List (List ℕ) → ObjectImage → Type 0
 ObjectAlone words object =
@@ -76,8 +77,8 @@ ObjectAlone words object =
 
 abbrev pub ArePages : List (List ℕ) → TreePages → Type 0
 ArePages words tree =
-    (words ≡ word_at words 0 ∷ word_at words 1 ∷ drop 2 words)
-    × AreTreePages (word_at words 0) (word_at words 1) (drop 2 words) tree
+    (words ≡ word_at words 0 ∷ word_at words 1 ∷ word_at words 2 ∷ drop 3 words)
+    × AreTreePages (word_at words 0) (word_at words 1) (word_at words 2) (drop 3 words) tree
 
 abbrev pub IsWornCard : List (List ℕ) → WornCard → Type 0
 IsWornCard words card =

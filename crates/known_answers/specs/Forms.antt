@@ -34,6 +34,10 @@ is_counter word = is_number word && nat_lt (number_in word) (2 ^ 32)
 unfoldable pub is_version : List ℕ → Bool
 is_version word = is_number word && nat_lt (number_in word) 2
 
+-- one of the two formats
+unfoldable pub is_format : List ℕ → Bool
+is_format word = is_number word && nat_le 1 (number_in word) && nat_le (number_in word) 2
+
 -- an initialization vector, which is not empty
 unfoldable pub is_iv : List ℕ → Bool
 is_iv word = is_argument word && not (bytes_eq word (codes "-"))
@@ -42,9 +46,10 @@ is_iv word = is_argument word && not (bytes_eq word (codes "-"))
 unfoldable pub are_parts : (key iv aad text : List ℕ) → Bool
 are_parts key iv aad text = is_array 16 key && is_iv iv && is_argument aad && is_argument text
 
--- the four words of a tree's image
-unfoldable pub is_tree_image : (tsk hash version image : List ℕ) → Bool
-is_tree_image tsk hash version image = is_array 32 tsk && is_array 32 hash && is_version version && is_argument image
+-- the five words of a tree's image
+unfoldable pub is_tree_image : (tsk hash version format image : List ℕ) → Bool
+is_tree_image tsk hash version format image =
+    is_array 32 tsk && is_array 32 hash && is_version version && is_format format && is_argument image
 
 -- the three words of an object's image
 unfoldable pub is_object_image : (tsk entry image : List ℕ) → Bool

@@ -3,7 +3,7 @@ use Rattle.std.specs.Prelude.{ℕ, ◌&&◌, Bool, false, List, [], ◌∷◌, O
 use Rattle.known_answers.specs.declared.subjects.Subject.{Subject}
 use Rattle.known_answers.specs.declared.subjects.Subject.TheVariants.{Aes, AesInverse, Ghash, GcmSeal, GcmOpen, Hmac, Ssk, Tsk, DirTsk, RpmbKey, Wrap, Unwrap, FrameMac, FrameFields, Card, WornCard, Tree, TreeMake, Entry, Object}
 use Rattle.known_answers.specs.Subjects.{subject_named}
-use Rattle.known_answers.specs.Forms.{are_arrays, are_parts, has_its_pages, is_argument, is_array, is_counter, is_object_image, is_tree_image}
+use Rattle.known_answers.specs.Forms.{are_arrays, are_parts, has_its_pages, is_argument, is_array, is_counter, is_format, is_object_image, is_tree_image}
 
 -- a word of so many bytes in hex
 abbrev pub is_one_array : ℕ → List (List ℕ) → Bool
@@ -37,7 +37,7 @@ are_parts_and_tag words = false
 
 -- the image of a tree
 abbrev pub tree_alone : List (List ℕ) → Bool
-tree_alone (tsk ∷ hash ∷ version ∷ image ∷ []) = is_tree_image tsk hash version image
+tree_alone (tsk ∷ hash ∷ version ∷ format ∷ image ∷ []) = is_tree_image tsk hash version format image
 tree_alone words = false
 
 -- the image of an object
@@ -45,9 +45,9 @@ abbrev pub object_alone : List (List ℕ) → Bool
 object_alone (tsk ∷ entry ∷ image ∷ []) = is_object_image tsk entry image
 object_alone words = false
 
--- a key, a length, and the pages of a tree
+-- a key, a format, a length, and the pages of a tree
 abbrev pub are_pages : List (List ℕ) → Bool
-are_pages (tsk ∷ bytes ∷ pages) = is_array 32 tsk && has_its_pages bytes pages
+are_pages (tsk ∷ format ∷ bytes ∷ pages) = is_array 32 tsk && is_format format && has_its_pages bytes pages
 are_pages words = false
 
 -- a card's counter, and one frame or more

@@ -49,10 +49,11 @@ tree_line t = opened_line (opened_of t.tsk t.image.items t.root)
 abbrev pub made_line : RootRef → List ℕ → List ℕ
 made_line root image = hex_word root.hash ++ codes " " ++ decimal root.version ++ codes " " ++ hex_word image
 
--- the line names an image and a reference, of version 0, that opens to the pages in it
+-- the line names an image of that format and a reference, of version 0, that opens to the pages in it
 pub record IsMadeLine (t : TreePages) (line : List ℕ) : Type 0 where
   pub root : RootRef
   pub image : List ℕ
   pub version : root.version ≡ 0
+  pub format : root.format ≡ t.format
   pub opens : opened_of t.tsk image root ≡ Ok (record { bytes = t.bytes; pages = map (λ page. Some page) t.pages.items })
   pub is : line ≡ made_line root image

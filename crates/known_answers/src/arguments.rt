@@ -95,10 +95,10 @@ pub fn tree_alone(alloc: Global, words: &[&str]) -> Result<TreeImage, Unreadable
     ensures form { MatchResult result (λ _. IsTrue (tree_alone (map (λ w. w.now) words.now)))
         (λ e. e ≡ Form → IsFalse (tree_alone (map (λ w. w.now) words.now))) }
 {
-    let [tsk, hash, version, image] = words else {
+    let [tsk, hash, version, format, image] = words else {
         return Err(Unreadable::Form);
     };
-    tree_image_of(alloc, tsk, hash, version, image)
+    tree_image_of(alloc, tsk, hash, version, format, image)
 }
 
 /// The image of an object.
@@ -119,10 +119,10 @@ pub fn tree_pages(alloc: Global, words: &[&str]) -> Result<TreePages, Unreadable
     ensures form { MatchResult result (λ _. IsTrue (are_pages (map (λ w. w.now) words.now)))
         (λ e. e ≡ Form → IsFalse (are_pages (map (λ w. w.now) words.now))) }
 {
-    let [tsk, bytes, pages @ ..] = words else {
+    let [tsk, format, bytes, pages @ ..] = words else {
         return Err(Unreadable::Form);
     };
-    tree_pages_of(alloc, tsk, bytes, pages)
+    tree_pages_of(alloc, tsk, format, bytes, pages)
 }
 
 /// A card with its counter moved on, and the frames that it is sent.

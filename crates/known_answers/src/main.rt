@@ -1,8 +1,8 @@
 //! Answers questions about the ciphers, the keys, the card, tree files, entries of the directory and their objects, for
 //! comparison with answers from elsewhere: a line of standard input is one question, and a line of standard output its answer.
 //!
-//! A line is a word and its arguments, one space apart. Each argument is bytes in hex, in either case, or `-` for none; a version, a length
-//! and a counter are numbers in decimal. Empty lines and lines that begin with `#` are passed over. A line that cannot be read ends the
+//! A line is a word and its arguments, one space apart. Each argument is bytes in hex, in either case, or `-` for none; a version, a format,
+//! a length and a counter are numbers in decimal. Empty lines and lines that begin with `#` are passed over. A line that cannot be read ends the
 //! program with status 1, and its number on standard error.
 #![tactic(auto)]
 

@@ -1,8 +1,8 @@
 // The lines that ask the questions.
 
-ghost use Rattle.std.specs.Prelude.{◌≡◌, ◌∷◌, ◌<◌, ◌&&◌, IfOk, IsFalse, IsTrue, MatchResult, map};
+ghost use Rattle.std.specs.Prelude.{◌≡◌, ◌∷◌, ◌<◌, ◌≤◌, ◌&&◌, IfOk, IsFalse, IsTrue, MatchResult, map};
 ghost use Rattle.hex.specs.Hex.{decode_of};
-ghost use Rattle.known_answers.specs.Forms.{are_arrays, are_parts, has_its_pages, is_argument, is_array, is_counter, is_number, is_object_image, is_tree_image, is_version};
+ghost use Rattle.known_answers.specs.Forms.{are_arrays, are_parts, has_its_pages, is_argument, is_array, is_counter, is_format, is_number, is_object_image, is_tree_image, is_version};
 ghost use Rattle.known_answers.specs.LineForms.{behind, has_form};
 ghost use Rattle.known_answers.specs.declared.question_lines.Unreadable.TheVariants.{Form};
 ghost use Rattle.known_answers.specs.Asks.{AreArrays, AreParts, AreTreePages, Asks, IsObjectImage, IsTreeImage};
@@ -147,6 +147,20 @@ fn version_of(word: &str) -> Result<u8, Unreadable>
     Ok(version as u8)
 }
 
+// One of the two formats of a file. It takes no memory.
+#[tactic(auto, using(crate::proofs::Forms::number_in_decimal), unfolding(crate::specs::Forms::is_format))]
+fn format_of(word: &str) -> Result<u8, Unreadable>
+    ensures number { IfOk result (λ format. IsNumber word.now format) }
+    ensures bound { IfOk result (λ format. (1 ≤ format) × (format ≤ 2)) }
+    ensures form { MatchResult result (λ _. IsTrue (is_format word.now)) (λ e. (e ≡ Form) × IsFalse (is_format word.now)) }
+{
+    let format = number_of(word)?;
+    if format == 0 || format > 2 {
+        return Err(Unreadable::Form);
+    }
+    Ok(format as u8)
+}
+
 // A card's counter. It takes no memory.
 #[tactic(auto, using(crate::proofs::Forms::number_in_decimal), unfolding(crate::specs::Forms::is_counter))]
 pub fn counter_of(word: &str) -> Result<u32, Unreadable>
@@ -166,16 +180,23 @@ pub fn tree_image_of(
     tsk: &str,
     hash: &str,
     version: &str,
+    format: &str,
     image: &str,
 ) -> Result<TreeImage, Unreadable>
-    ensures value { IfOk result (λ tree. IsTreeImage tsk.now hash.now version.now image.now tree) }
-    ensures form { MatchResult result (λ _. IsTrue (is_tree_image tsk.now hash.now version.now image.now)) (λ e. e ≡ Form → IsFalse (is_tree_image tsk.now hash.now version.now image.now)) }
+    ensures value { IfOk result (λ tree. IsTreeImage tsk.now hash.now version.now format.now image.now tree) }
+    ensures form { MatchResult result (λ _. IsTrue (is_tree_image tsk.now hash.now version.now format.now image.now))
+        (λ e. e ≡ Form → IsFalse (is_tree_image tsk.now hash.now version.now format.now image.now)) }
 {
     let tsk = array_of(tsk)?;
     let hash = array_of(hash)?;
     let version = version_of(version)?;
+    let format = format_of(format)?;
     let image = argument_of(alloc, image)?.bytes;
-    let root = RootRef { hash, version };
+    let root = RootRef {
+        hash,
+        version,
+        format,
+    };
     Ok(TreeImage { tsk, root, image })
 }
 
@@ -199,19 +220,27 @@ pub fn object_image_of(
 pub fn tree_pages_of(
     alloc: Global,
     tsk: &str,
+    format: &str,
     bytes: &str,
     pages: &[&str],
 ) -> Result<TreePages, Unreadable>
-    ensures value { IfOk result (λ tree. AreTreePages tsk.now bytes.now (map (λ w. w.now) pages.now) tree) }
-    ensures form { MatchResult result (λ _. IsTrue (is_array 32 tsk.now && has_its_pages bytes.now (map (λ w. w.now) pages.now))) (λ e. e ≡ Form → IsFalse (is_array 32 tsk.now && has_its_pages bytes.now (map (λ w. w.now) pages.now))) }
+    ensures value { IfOk result (λ tree. AreTreePages tsk.now format.now bytes.now (map (λ w. w.now) pages.now) tree) }
+    ensures form { MatchResult result (λ _. IsTrue (is_array 32 tsk.now && is_format format.now && has_its_pages bytes.now (map (λ w. w.now) pages.now)))
+        (λ e. e ≡ Form → IsFalse (is_array 32 tsk.now && is_format format.now && has_its_pages bytes.now (map (λ w. w.now) pages.now))) }
 {
     let tsk = array_of(tsk)?;
+    let format = format_of(format)?;
     let bytes = number_of(bytes)?;
     if bytes > MOST_IN_A_TREE || pages.len() != greatest_node(bytes) as usize {
         return Err(Unreadable::Form);
     }
     let pages = arrays_of(alloc, pages)?;
-    Ok(TreePages { tsk, bytes, pages })
+    Ok(TreePages {
+        tsk,
+        format,
+        bytes,
+        pages,
+    })
 }
 
 /// The question of a line.

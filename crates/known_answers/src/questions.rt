@@ -32,14 +32,17 @@ pub struct TreeImage {
     pub root: RootRef,
     pub image: Vec<u8>,
     ghost version: { root.version < 2 },
+    ghost format: { (1 ≤ root.format) × (root.format ≤ 2) },
 }
 
-/// How many bytes a tree is to hold, its pages, and the key that wraps its file's.
+/// How many bytes a tree is to hold, its pages, the key that wraps its file's, and the file's format.
 #[derive(Drop)]
 pub struct TreePages {
     pub tsk: [u8; 32],
+    pub format: u8,
     pub bytes: u64,
     pub pages: Vec<[u8; 4096]>,
+    ghost one_of_two: { (1 ≤ format) × (format ≤ 2) },
     ghost few: { bytes ≤ 1048576 },
     ghost all: { vec_len pages ≡ greatest_of bytes },
 }

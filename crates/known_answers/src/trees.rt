@@ -141,9 +141,22 @@ fn made_line(alloc: Global, root: &RootRef, image: &[u8]) -> Result<String, Allo
 pub fn made_tree(alloc: Global, question: TreePages) -> Result<String, AllocError>
     ensures { IfOk result (λ line. IsMadeLine question (string_bytes line)) }
 {
-    let TreePages { tsk, bytes, pages } = question;
+    let TreePages {
+        tsk,
+        format,
+        bytes,
+        pages,
+    } = question;
     let mut draws = ListEntropy::new([0; 16]);
-    match Tree::make(alloc, MemFile::new(alloc), &tsk, bytes, &pages, &mut draws) {
+    match Tree::make(
+        alloc,
+        MemFile::new(alloc),
+        format,
+        &tsk,
+        bytes,
+        &pages,
+        &mut draws,
+    ) {
         Ok((tree, root)) => made_line(alloc, &root, tree.into_file().save()?.bytes()),
         Err(_) => Err(AllocError),
     }

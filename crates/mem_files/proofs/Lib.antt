@@ -1,5 +1,6 @@
 pub mod Mixtures
 pub mod ByteLists
+pub mod Spoilings
 pub mod Overlays
 pub mod Masks
 pub mod Settling

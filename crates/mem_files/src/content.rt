@@ -1,8 +1,8 @@
 // What a file in memory holds: the bytes that a read gives, those that are settled, and where the two may differ.
-ghost use Rattle.std.specs.Prelude.{◌≡◌, ◌+◌, ◌-◌, ◌<◌, ◌≤◌, ◌^◌, ◌++◌, [], ◌∷◌, length, min, max, true, IsSome, IfOk, OnOk, OnErr, ◌==◌, if◌then◌else◌};
+ghost use Rattle.std.specs.Prelude.{◌≡◌, ◌+◌, ◌-◌, ◌<◌, ◌≤◌, ◌^◌, ◌++◌, [], ◌∷◌, length, drop, min, max, true, IsSome, IfOk, OnOk, OnErr, ◌==◌, if◌then◌else◌};
 ghost use Rattle.std.proofs.Props.{props};
 ghost use Rattle.disk_model.specs.Bytes.{AreBytes, after_mask, after_write, after_resize};
-ghost use Rattle.disk_model.specs.State.{BytesAgree};
+ghost use Rattle.disk_model.specs.State.{BytesAgree, spans_of};
 ghost use Rattle.tee_ports.specs.Files.{ReadsAt};
 ghost use Rattle.mem_files.specs.Crash.{crash_of};
 ghost use Rattle.mem_files.specs.Held.{settled_bytes, change_of, held_as, held_anew};
@@ -204,10 +204,12 @@ impl Content {
     /// Makes the image that a crash leaves the settled bytes of an honest file.
     pub fn crash(&mut self, alloc: Global, seed: u64, file: u16) -> Result<(), NoMemory>
         ensures ok { OnOk result (held self.new ≡
-            held_anew (crash_of (held self.old).settled (held self.old).reads seed file)) }
+            held_anew (crash_of (held self.old).settled (held self.old).reads
+            (spans_of (drop (held self.old).pending_from (held self.old).trail)) seed file)) }
         ensures err { OnErr result (held self.new ≡ held self.old) }
     {
-        let image = image_of(alloc, self.settled(), &self.bytes, seed, file)?;
+        let changes = &self.trail[self.pending_from as usize..];
+        let image = image_of(alloc, self.settled(), &self.bytes, changes, seed, file)?;
         self.take_over(image);
         Ok(())
     }

@@ -1,28 +1,75 @@
 // Which image a simulated crash leaves.
 ghost use Rattle.std.specs.Prelude.{◌≡◌, ◌-◌, ◌/◌, ◌<◌, ◌^◌, length, [], drop, min, slice_index, nat_lt, if◌then◌else◌, IfOk};
-ghost use Rattle.mem_files.specs.Crash.{crash_of, crash_key, coin, unit_length, mixture};
+ghost use Rattle.std.specs.List.{list_any};
+ghost use Rattle.disk_model.specs.Sectors.{spoils};
+ghost use Rattle.disk_model.specs.State.{spans_of};
+ghost use Rattle.mem_files.specs.Crash.{crash_of, crash_key, coin, is_hit, unit_length, mixture, noise, noise_over};
 
+use disk_model::Change;
 use std::alloc::Global;
 use tee_ports::NoMemory;
 
 // 2^64 divided by the golden ratio, whose multiples lie evenly.
 const STRIDE: u64 = 0x9e37_79b9_7f4a_7c15;
 
-/// The image that a crash leaves, of a file with these settled bytes that reads as `bytes`.
+// Where the coins of sectors begin, behind those of units.
+const SECTOR_COINS: u64 = 1 << 32;
+
+/// The image that a crash leaves of a file with these settled bytes that reads as `bytes`, with these changes since.
 pub fn image_of(
     alloc: Global,
     settled: &[u8],
     bytes: &[u8],
+    changes: &[Change],
     seed: u64,
     file: u16,
 ) -> Result<Vec<u8>, NoMemory>
-    ensures { IfOk result (λ image. image.items ≡ crash_of settled.now bytes.now seed file) }
+    ensures { IfOk result (λ image. image.items ≡ crash_of settled.now bytes.now (spans_of changes.now) seed file) }
 {
     match seed {
         0 => settled.to_vec(alloc),
         1 => bytes.to_vec(alloc),
-        _ => mix(alloc, settled, bytes, key_of(seed, file), unit_of(seed)),
+        _ => {
+            let key = key_of(seed, file);
+            let mut image = mix(alloc, settled, bytes, key, unit_of(seed))?;
+            if seed % 2 == 1 {
+                spoil(&mut image, changes, key);
+            }
+            Ok(image)
+        }
     }
+}
+
+// Spoils some of the sectors that meet a change.
+fn spoil(image: &mut [u8], changes: &[Change], key: u64)
+    ensures { image.new ≡ noise_over (is_hit (spans_of changes.now) key) key 0 image.old }
+{
+    for i in 0..image.len() {
+        if is_hit(changes, key, i as u64) {
+            image[i] = noise(key, i as u64);
+        }
+    }
+}
+
+// Whether the place is spoiled.
+fn is_hit(changes: &[Change], key: u64, place: u64) -> bool
+    ensures { result ≡ is_hit (spans_of changes.now) key place }
+{
+    toss(key, SECTOR_COINS + place / 512) && any_spoils(changes, place)
+}
+
+// Whether one of the changes meets the place's sector.
+fn any_spoils(changes: &[Change], place: u64) -> bool
+    ensures { result ≡ list_any (λ change. spoils change.span place) changes.now }
+{
+    changes.iter().any(|change| change.span.spoils(place))
+}
+
+// A byte that nobody wrote.
+fn noise(key: u64, place: u64) -> u8
+    ensures { result ≡ noise key place }
+{
+    (key.wrapping_add(place) % 256) as u8
 }
 
 // How many bytes are chosen together.

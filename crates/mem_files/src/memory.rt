@@ -207,8 +207,9 @@ impl FileRig for MemFile {
     ghost use Rattle.mem_files.specs.Memory.{file_state, file_sound};
     ghost use Rattle.mem_files.specs.Crash.{crash_of};
     ghost use Rattle.mem_files.specs.CrashLaws.{crash_left};
+    ghost use Rattle.disk_model.specs.State.{pending};
 
-    ghost crash_image = { λ s seed file. crash_of s.settled s.reads seed file };
+    ghost crash_image = { λ s seed file. crash_of s.settled s.reads (pending s) seed file };
 
     fn stop_after(&mut self, calls: u64) {
         self.calls = 0;

@@ -50,6 +50,9 @@ impl NodeImage {
     }
 }
 
+/// The format of the files that are written. Those of format 1 are only read.
+pub const FORMAT: u8 = 2;
+
 /// Which root a tree is read by.
 #[derive(Clone, Copy, PartialEq, Eq, Debug)]
 pub struct RootRef {
@@ -57,4 +60,6 @@ pub struct RootRef {
     pub hash: [u8; 32],
     /// The version of node 1 and of the head, 0 or 1.
     pub version: u8,
+    /// The format of the file, which says where each part stands: 1 or 2.
+    pub format: u8,
 }

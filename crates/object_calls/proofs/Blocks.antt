@@ -105,7 +105,7 @@ module _ (key : List ℕ) (tree : Loaded) where
     part_shown false shows = (shows.0, λ i from upto lt. byte_in_part i from upto lt ∙ shows.1 (i - 4096 * k) (omega (arith, from, upto, lt, begins, counts, own, within)))
 
   -- IN THE COURSE OF FURTHER CALLS
-  block_first : {root : ℕ} (a b c : FileState) (size k : ℕ) (before after : List ℕ) (good : Bool) → Keeps (Lies tree.nodes root) b c → ((i : ℕ) → i < 4096 * (k + 1) → get_or after i 0 ≡ get_or before i 0)
+  block_first : {root : ℕ} (a b c : FileState) (size k : ℕ) (before after : List ℕ) (good : Bool) → Keeps (Lies tree.layout tree.nodes root) b c → ((i : ℕ) → i < 4096 * (k + 1) → get_or after i 0 ≡ get_or before i 0)
       → ShowsBlock key tree a b size k before good → ShowsBlock key tree a c size k after good
   block_first a b c size k before after true keeps kept shows =
       (shows.0, page_first key tree a b c (k + 1) shows.0 keeps shows.1, λ i from upto lt. kept i upto ∙ shows.2 i from upto lt)
@@ -125,7 +125,7 @@ module _ (key : List ℕ) (tree : Loaded) where
   }
 
   -- one block more
-  pub data_step : {root : ℕ} (a b c : FileState) (size k : ℕ) (before after : List ℕ) (was now : NodeSet) → Rests a b → Keeps (Lies tree.nodes root) b c → length after ≡ size
+  pub data_step : {root : ℕ} (a b c : FileState) (size k : ℕ) (before after : List ℕ) (was now : NodeSet) → Rests a b → Keeps (Lies tree.layout tree.nodes root) b c → length after ≡ size
       → ShowsData key tree a b size k before was → ShowsNext key tree b c size k before after was now → ShowsData key tree a c size (k + 1) after now
   data_step a b c size k before after was now rests keeps long given next = record {
     long = long;
@@ -204,6 +204,6 @@ module _ {F : Type 0} (state : F → FileState) (o m n : ObjectValue F) (k : ℕ
     same = reads_same;
     rests = reads_rests;
     passed = passed_then (state o.tree.file) (state m.tree.file) (state n.tree.file) reads.passed passed;
-    data_are = data_step o.tree.key o.tree.tree (state o.tree.file) (state m.tree.file) (state n.tree.file) (size_in o) k before after was now reads.rests (rests_keep o.tree.tree.nodes (state m.tree.file) (state n.tree.file) sound rests) long reads.data_are
+    data_are = data_step o.tree.key o.tree.tree (state o.tree.file) (state m.tree.file) (state n.tree.file) (size_in o) k before after was now reads.rests (rests_keep o.tree.tree.layout o.tree.tree.nodes (state m.tree.file) (state n.tree.file) sound rests) long reads.data_are
         (subst (λ (v : ObjectValue F). ShowsNext v.tree.key v.tree.tree (state m.tree.file) (state n.tree.file) (size_in v) k before after was now) reads.same next);
   }

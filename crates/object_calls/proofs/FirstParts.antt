@@ -1,9 +1,10 @@
 -- What lies behind each lock as a mounted store is served.
-use Rattle.std.proofs.Common.{◌≡◌, ◌+◌, ◌<◌, ◌≤◌, ◌||◌, ℕ, suc, Bool, List, [], ◌∷◌, length, Option, Some, None, unwrap_or, refl, sym, ap, ◌∙◌, subst, arith, ne_eqb}
+use Rattle.std.proofs.Common.{◌≡◌, ◌+◌, ◌||◌, ℕ, suc, Bool, List, [], length, Option, Some, None, unwrap_or, refl, sym, ap, ◌∙◌, subst, arith, ne_eqb, ◌<◌, ◌≤◌, ◌∷◌, IfSome}
 use Rattle.std.specs.Prelude.{Contains}
-use Rattle.disk_model.specs.State.{FileState, Sound}
+use Rattle.disk_model.specs.State.{FileState, Sound, pending}
 use Rattle.atomic_table.specs.Seated.{TableId}
 use Rattle.hmac_keys.specs.KeyTable.{dir_tsk}
+use Rattle.tee_types.specs.Limits.{last_file}
 use Rattle.dir_records.specs.declared.entry.DirEntry.{DirEntry}
 use Rattle.store_model.specs.Record.{events_of}
 use Rattle.history_seats.specs.Changes.{new_pass, new_slot, with_pass_out, with_slot_out}
@@ -15,8 +16,10 @@ use Rattle.core_laws.specs.Opened.{first_view}
 use Rattle.core_laws.proofs.Contained.{contains_none}
 use Rattle.core_laws.specs.Stores.{Store}
 use Rattle.store_commit.specs.declared.gate.Doubted.{Doubted}
+use Rattle.store_commit.specs.Changes.{change_of}
 use Rattle.serial_calls.specs.Journals.{IsJournalOf}
 use Rattle.core_laws.specs.Ties.{IsTied}
+use Rattle.serial_calls.specs.CurrentFiles.{PutsCurrent}
 use Rattle.serial_calls.specs.GuardedGates.{IsClosingTied, GateInvariant, change_in_doubt}
 use Rattle.serial_calls.proofs.Knowing.{directory-entries}
 use Rattle.serial_calls.specs.GuardedSlots.{SlotInvariant}
@@ -32,7 +35,8 @@ use Rattle.object_calls.specs.Opening.{IsOpening, OpeningValue, bench_files, ent
 use Rattle.object_calls.specs.Seats.{HasTold, IsSplitting}
 use Rattle.object_calls.specs.Services.{AreFirstSlots, HasSoundOpening, MayBeFirst}
 use Rattle.serial_calls.specs.Slots.{AreNumberedSlots, AreOfObjectFiles}
-use Rattle.object_calls.proofs.Files.{files_sound}
+use Rattle.object_calls.proofs.EntriesOf.{form_at}
+use Rattle.object_calls.proofs.Files.{numbered_sound, object_numbered}
 use Rattle.object_calls.proofs.HonestOpenings.{opens_unchanged}
 use Rattle.object_calls.proofs.ObjectMaps.{opening_sound}
 use Rattle.store_model.specs.Sound.{IsObjectMap}
@@ -43,8 +47,10 @@ module _ {F R : Type 0} (state : F → FileState) (sound : (f : F) → Sound (st
   pub mounted_store : IsMountedStore store (bench_files state o) (entries_in o)
   mounted_store = record {
     forms = directory-entries (entries_in o) opening.entries;
-    sound = files_sound state sound (o.gate.dir.file ∷ o.files);
-    synced = opening.synced;
+    current = opening.entries_current;
+    sound = numbered_sound state sound o.spare o.gate.dir.file o.files;
+    synced = λ index e at.
+        ap pending (object_numbered state o.spare o.gate.dir.file o.files e.file (form_at (entries_in o) opening.entries index e at).file) ∙ opening.synced index e at;
     told = ap (λ (s : Store). s.mounted.entries) of.is;
     objects = ap (λ (s : Store). s.objects) of.is;
     taints = λ file. ap (λ (s : Store). s.taints file) of.is;
@@ -58,7 +64,9 @@ module _ {F R : Type 0} (state : F → FileState) (sound : (f : F) → Sound (st
 
   pub may_be_first : MayBeFirst store (entries_in o) state o.files
   may_be_first i within =
-      let behind : bench_files state o (i + 1) ≡ files_of state o.files i = let next : i + 1 ≡ suc i = omega arith in ap (bench_files state o) next in
+      let next : i + 1 ≡ suc i = omega arith in
+      let behind : bench_files state o (i + 1) ≡ files_of state o.files i =
+      ap (bench_files state o) next ∙ object_numbered state o.spare o.gate.dir.file o.files (suc i) (omega arith, omega (arith, within, opening.whole)) in
       subst (λ (f : FileState). SlotInvariant store (first_slot store (i + 1) (generation_in (entries_in o) (i + 1)) f)) behind
       (mounted_slots_are_guarded store (bench_files state o) (entries_in o) (i + 1) mounted_store)
 
@@ -73,6 +81,11 @@ module _ {F R : Type 0} (state : F → FileState) (sound : (f : F) → Sound (st
         closes = subst (λ (d : Option Doubted). IsClosingTied store view d None) (sym opening.idle) refl;
         directory_key = opening.keyed ∙ ap dir_tsk of.keyed.storage;
         card_key = of.keyed.card;
+        current = record {
+          root = opening.current;
+          entries = opening.entries_current;
+          put = subst (λ (d : Option Doubted). IfSome d (λ x. PutsCurrent (change_of x.change))) (sym opening.idle) tt;
+        };
       }
 
   pub first_journal : (table : TableId) (seat : Sight GateView) → table ≡ store.table → seat.table ≡ store.table → seat.knows.decided ≡ 0 → IsFirstView store seat.knows
@@ -153,9 +166,5 @@ told_first store view next t = record { mounted = t.mounted; empty = t.empty }
 
 -- the slots that were split are in order
 pub first_numbered : {F : Type 0} (store : Store) (entries : List (Option DirEntry)) (state : F → FileState) (files : List F) (slots : List SlotValue)
-    → AreFirstSlots store entries state files 272 slots → length slots ≡ 272 → AreNumberedSlots slots
+    → AreFirstSlots store entries state files last_file slots → length slots ≡ last_file → AreNumberedSlots slots
 first_numbered store entries state files slots first many i d within = ap (λ (s : SlotValue). s.number) (first i d (omega (arith, within, many)))
-
--- the list of the files has room for one more
-pub room_for_all : (room capacity count many : ℕ) → room ≡ capacity → count < capacity → count ≡ many → many ≡ 272 → 273 ≤ room
-room_for_all room capacity count many kept more same is = omega (arith, kept, more, same, is)

@@ -1,11 +1,12 @@
 -- A store that is no longer served: its gate and its slots are at rest.
-use Rattle.std.proofs.Common.{◌≡◌, ◌==◌, ◌+◌, ◌<◌, ◌≤◌, ◌⊎◌, ◌||◌, ℕ, zero, suc, Bool, true, false, true≢false, List, [], ◌∷◌, ◌++◌, length, Option, Some, None, option_map, slice_index_or, IsTrue, inl, inr, refl, sym, ap, ◌∙◌, subst, arith, ne_eqb, eq-eqb}
-use Rattle.std.specs.Prelude.{Contains, drop, nat_lt}
-use Rattle.std.proofs.lemmas.Bool.{cases_Bool, cases_lt, cond-true, cond-false, le-ltb, lt-ltb, eqb-true}
+use Rattle.std.proofs.Common.{◌≡◌, ◌≢◌, ◌==◌, ◌+◌, ◌<◌, ◌⊎◌, ◌||◌, ℕ, zero, suc, Bool, true, false, true≢false, List, [], ◌∷◌, ◌++◌, length, Option, Some, None, option_map, slice_index_or, IsTrue, inl, inr, refl, sym, ap, ◌∙◌, subst, arith, eq-eqb}
+use Rattle.std.specs.Prelude.{Contains}
+use Rattle.std.proofs.lemmas.Bool.{cases_Bool, cases_eq, eqb-true}
 use Rattle.std.proofs.lemmas.List.{get_or_default}
-use Rattle.disk_model.specs.State.{FileState, Sound}
-use Rattle.tee_types.specs.Limits.{last_file}
+use Rattle.disk_model.specs.State.{FileState, LeftNow, Sound}
+use Rattle.tee_types.specs.Limits.{IsObjectFile, directory_file, last_file, old_directory_file}
 use Rattle.hmac_keys.specs.KeyTable.{rpmb_key}
+use Rattle.tee_types.proofs.FileNumbers.{object_or_not}
 use Rattle.rpmb_card.specs.Card.{CardState}
 use Rattle.rpmb_card.specs.Port.{PortState}
 use Rattle.rpmb_host.specs.Honest.{HasCard}
@@ -20,10 +21,10 @@ use Rattle.history_seats.specs.Numbers.{is_in}
 use Rattle.history_seats.specs.Records.{HistoryRecord, IsUpToDate}
 use Rattle.history_seats.specs.Rule.{SlotFits}
 use Rattle.history_seats.specs.Views.{GateView}
+use Rattle.crash_core.specs.CardBlock.{directory_at}
 use Rattle.crash_core.specs.CoreState.{Phase}
 use Rattle.crash_core.specs.Pictures.{IsPictureOf, Picture}
 use Rattle.core_laws.specs.SlotParts.{SlotHolds, SlotPart}
-use Rattle.core_laws.specs.Joined.{IsObjectFile}
 use Rattle.core_laws.proofs.Contained.{contains_first, contains_later, contains_cases, contains_none}
 use Rattle.core_laws.specs.TamperScenarios.{TamperScenario, nothing_back}
 use Rattle.core_laws.specs.Stores.{Store, mounted_files, phase_of, replay_at}
@@ -40,19 +41,21 @@ use Rattle.core_laws.specs.Ties.{DoubtedChange, IsReplayDoubt, IsTied}
 use Rattle.serial_calls.specs.FinishedPhases.{phase_under}
 use Rattle.serial_calls.specs.ClosedStores.{AreSlotsOf, IsClosedStore, IsMapBy, IsTiedStore, MountsBy, MountsGivenBy, SupposesTampered, tampered_in, no_slot, slots_of, store_files}
 use Rattle.serial_calls.specs.CoreTies.{doubted_change}
-use Rattle.serial_calls.proofs.ClosedStores.{closed_stores_mount, tampered_files_are_supposed, honest_stores_mount}
+use Rattle.serial_calls.proofs.ClosedStores.{closed_stores_mount, honest_stores_mount, slot_is, slot_none, store_directory, store_slot, tampered_files_are_supposed}
 use Rattle.serial_calls.proofs.GivenPictures.{tied_stores_mount}
 use Rattle.serial_calls.proofs.Ties.{ties_tell}
 use Rattle.serial_calls.specs.SlotCalls.{part}
 use Rattle.serial_calls.specs.SlotValues.{SlotValue}
 use Rattle.serial_calls.specs.declared.Closing.{Closing}
 use Rattle.serial_calls.specs.GuardedGates.{GateInvariant, GuardedGateValue, change_in_doubt}
-use Rattle.object_calls.specs.OpeningFiles.{files_of}
+use Rattle.object_calls.specs.OldStores.{HasNoOldFile}
+use Rattle.object_calls.specs.OpeningFiles.{files_of, numbered_files}
 use Rattle.object_calls.specs.FinishedPhase.{AreAllHonest, GivesBack, IsAnsweredOrEnds, IsCounterLeft, IsDoubtLeft, IsLegalOrClashed, IsMapWith, LeavesHonest, LeavesStore, PicturesMountAfter, PicturesMountGiven, end_replay}
 use Rattle.object_calls.specs.Retiring.{ArePlaced, AreRecorded, IsPlaced}
 use Rattle.object_calls.specs.Services.{HasSoundOpening, ServiceValue}
 use Rattle.serial_calls.specs.Slots.{AreOfObjectFiles, AreSlots}
-use Rattle.object_calls.proofs.Files.{files-past}
+use Rattle.object_calls.proofs.CurrentPictures.{gate_not_old}
+use Rattle.object_calls.proofs.Files.{directory_here, numbered_past, numbered_sound, object_numbered}
 use Rattle.object_calls.proofs.HonestOpenings.{altered-same}
 use Rattle.object_calls.proofs.Retirings.{IsSameHistory, placed_back, recorded_back}
 
@@ -81,16 +84,6 @@ contains_between : (front : List HistoryRecord) (r : HistoryRecord) (back : List
 contains_between [] r back = contains_first r r back refl
 contains_between (f ∷ front) r back = contains_later f r (front ++ r ∷ back) (contains_between front r back)
 
--- a file is one of an object, or it is not
-object_or_not : (file : ℕ) → IsObjectFile file ⊎ (IsObjectFile file → ⊥)
-object_or_not file = elim (cases_lt file 1) [
-  | inl none ↦ inr (λ own. omega (arith, own.0, none))
-  | inr least ↦ elim (cases_lt last_file file) [
-    | inl past ↦ inr (λ own. omega (arith, own.1, past))
-    | inr within ↦ inl (omega (arith, least), omega (arith, within))
-  ]
-]
-
 -- the commit in doubt by its number
 mounts_numbered : (phase : Phase) (picture : Picture) (s : ReplayState) (doubt : Option Doubted) → MountsBy doubt phase picture s → MountsBy (option_map (λ (d : Doubted). d.number) doubt) phase picture s
 mounts_numbered phase picture s None mounts = mounts
@@ -106,22 +99,25 @@ doubt_words None = refl
 doubt_words (Some d) = refl
 
 module _ {F R : Type 0} (state : F → FileState) (port : R → PortState) (sound : (f : F) → Sound (state f)) (store : Store) (gate : GateValue F R) (view : GateView)
-    (closing : Option Closing) (taken : List SlotValue) (others : List F) (guarded : GateInvariant store gate view closing) (stands : DoubtStands (gate_sides state port gate) gate.doubt)
-    (held : AreHolds gate.dir.dir.entries gate.holds) (tagged : AreOfObjectFiles view.all) (many : length others ≡ 272) (placed : ArePlaced store view taken state 272 others) (opens : HasSoundOpening store) where
+    (closing : Option Closing) (taken : List SlotValue) (spare : F) (others : List F) (guarded : GateInvariant store gate view closing) (stands : DoubtStands (gate_sides state port gate) gate.doubt)
+    (held : AreHolds gate.dir.dir.entries gate.holds) (tagged : AreOfObjectFiles view.all) (many : length others ≡ last_file) (placed : ArePlaced store view taken state last_file others) (opens : HasSoundOpening store) where
   abbrev g : Sides
   g = gate_sides state port gate
 
   abbrev files : ℕ → FileState
-  files = files_of state (gate.dir.file ∷ others)
+  files = numbered_files state spare gate.dir.file others
 
   -- THE SLOTS
   placed_at : (file : ℕ) → IsObjectFile file → IsPlaced store view taken file (files file)
   placed_at zero own = absurd (omega (arith, own.0))
-  placed_at (suc i) own = let next : i + 1 ≡ suc i = omega arith in subst (λ (n : ℕ). IsPlaced store view taken n (files_of state others i)) next (placed i (omega (arith, own.1)))
+  placed_at (suc i) own =
+      let next : i + 1 ≡ suc i = omega arith in
+      subst (IsPlaced store view taken (suc i)) (sym (object_numbered state spare gate.dir.file others (suc i) own))
+      (subst (λ (n : ℕ). IsPlaced store view taken n (files_of state others i)) next (placed i (omega (arith, own.1))))
 
   abbrev slot_by : (file : ℕ) → IsObjectFile file ⊎ (IsObjectFile file → ⊥) → SlotPart
   slot_by file (inl own) = part (files file) (placed_at file own).seat.knows None
-  slot_by file (inr off) = no_slot file
+  slot_by file (inr off) = no_slot (files file) file
 
   abbrev slots : ℕ → SlotPart
   slots file = slot_by file (object_or_not file)
@@ -131,28 +127,31 @@ module _ {F R : Type 0} (state : F → FileState) (port : R → PortState) (soun
   each_by P all file own (inl is) = all file is
   each_by P all file own (inr off) = absurd (off own)
 
+  file_by : (file : ℕ) (which : IsObjectFile file ⊎ (IsObjectFile file → ⊥)) → (slot_by file which).file ≡ files file
+  file_by file (inl own) = refl
+  file_by file (inr off) = refl
+
   slots_hold : AreSlotsOf store view slots
   slots_hold = record {
     numbered = λ file own. each_by (λ n s. s.view.file ≡ n) (λ n is. (placed_at n is).own.own) file own (object_or_not file);
     fits = λ file own. each_by (λ n s. SlotFits view s.view) (λ n is. (placed_at n is).fits) file own (object_or_not file);
     holds = λ file own. each_by (λ n s. SlotHolds store.keys s) (λ n is. (placed_at n is).own.holds None) file own (object_or_not file);
+    sound = λ file. subst (λ (s : FileState). Sound s) (sym (file_by file (object_or_not file))) (numbered_sound state sound spare gate.dir.file others file);
+    past = λ file behind. subst (λ (s : FileState). IsTrue s.honest) (sym (file_by file (object_or_not file) ∙ numbered_past state spare gate.dir.file others file many behind)) refl;
   }
 
   -- THE FILES
-  slot_file : (file : ℕ) → 1 ≤ file → (slots_of slots file).file ≡ files file
-  slot_file file least = elim (cases_lt last_file file) [
-    | inl past ↦
-        ap (λ (s : SlotPart). s.file) (cond-true (nat_lt last_file file) (no_slot file) (slots file) (lt-ltb last_file file past))
-        ∙ sym (files-past state (gate.dir.file ∷ others) file (omega (arith, past, many)))
-    | inr within ↦
-        ap (λ (s : SlotPart). s.file) (cond-false (nat_lt last_file file) (no_slot file) (slots file) (le-ltb last_file file (omega (arith, within))))
-        ∙ each_by (λ n s. s.file ≡ files n) (λ n is. refl) file (least, omega (arith, within)) (object_or_not file)
+  slot_file : (file : ℕ) → (slots_of slots file).file ≡ files file
+  slot_file file = elim (object_or_not file) [
+    | inl object ↦ ap (λ (s : SlotPart). s.file) (slot_is slots file object) ∙ file_by file (object_or_not file)
+    | inr off ↦ ap (λ (s : SlotPart). s.file) (slot_none slots file off) ∙ file_by file (object_or_not file)
   ]
 
   same_file : (file : ℕ) → store_files g slots file ≡ files file
-  same_file zero = refl
-  same_file (suc i) =
-      cond-false (suc i == 0) g.file (slots_of slots (suc i)).file (ne_eqb (suc i) 0 (λ is. omega (arith, is))) ∙ slot_file (suc i) (omega arith)
+  same_file file = elim (cases_eq file directory_file) [
+    | inl is ↦ subst (λ (n : ℕ). store_files g slots n ≡ files n) (sym is) (store_directory g slots ∙ sym (directory_here state spare gate.dir.file others))
+    | inr other ↦ store_slot g slots file other ∙ slot_file file
+  ]
 
   same_files : store_files g slots ≡ files
   same_files = λ j file. same_file file j
@@ -182,7 +181,7 @@ module _ {F R : Type 0} (state : F → FileState) (port : R → PortState) (soun
       | inl among ↦ inl (in-contains file scenario.tampered among)
       | inr off ↦
           let honest : IsTrue (files file).honest =
-          subst (λ (s : FileState). IsTrue s.honest) (same_file file) (supposed scenario is file own.1 (λ there. true≢false (sym (contains-in file scenario.tampered there) ∙ off))) in
+          subst (λ (s : FileState). IsTrue s.honest) (same_file file) (supposed scenario is file (omega (arith, own.1)) (λ there. true≢false (sym (contains-in file scenario.tampered there) ∙ off))) in
           inr (own_of scenario file own honest off)
     ]
   ]
@@ -199,6 +198,7 @@ module _ {F R : Type 0} (state : F → FileState) (port : R → PortState) (soun
     gate = record {
       tsk = guarded.directory_key;
       sound = sound gate.dir.file;
+      current = guarded.current.root;
       stands = stands;
       held = held;
       told = record { own = card; has = subst (λ (k : List ℕ). HasCard (port gate.host.port) k card) (sym guarded.card_key) has; same = record { key = refl; counter = refl; blocks = refl } };
@@ -263,6 +263,20 @@ module _ {F R : Type 0} (state : F → FileState) (port : R → PortState) (soun
         | inl settled ↦ inl (settled ∙ sym (guarded.tied.counter scenario answered))
         | inr doubted ↦ inr (is ∙ doubted)
       ]
+
+  -- THE FORMATS
+  not_old : IsTrue (files directory_file).honest → HasNoOldFile store.keys files (port gate.host.port)
+  not_old honest card picture has is =
+      let own : files directory_file ≡ state gate.dir.file = directory_here state spare gate.dir.file others in
+      let left : LeftNow (state gate.dir.file) (picture.images directory_file) = subst (λ (s : FileState). LeftNow s (picture.images directory_file)) own (is.left directory_file) in
+      gate_not_old g store.keys picture (sym guarded.directory_key) (subst (λ (s : FileState). IsTrue s.honest) own honest)
+      (record {
+        left = subst (λ (file : ℕ). LeftNow (state gate.dir.file) (picture.images file)) (sym (ap directory_at guarded.current.root)) left;
+        card = card;
+        has = subst (λ (k : List ℕ). HasCard (port gate.host.port) k card) (sym guarded.card_key) has;
+        same = is.same;
+      })
+      gate.doubt guarded.current stands
 
   -- WHERE NOTHING COMES BACK
   replay_same : (files : List ℕ) → replay_at store (nothing_back files) view.all ≡ end_replay store view
@@ -346,6 +360,7 @@ module _ {F R : Type 0} (state : F → FileState) (port : R → PortState) (soun
     legal_or_clashed = legal_or doubt is numbered;
     doubted = doubted_is doubt is;
     counted = counted_is doubt is;
+    current = not_old;
     honest = λ honest. leaves_honest honest doubt is;
     legal = λ honest. let left = leaves_honest honest doubt is in legal_left doubt numbered [] left.events_legal left.doubt_left;
   }
@@ -353,20 +368,18 @@ module _ {F R : Type 0} (state : F → FileState) (port : R → PortState) (soun
 -- The parts of a store that is closed: its gate, its history once the sessions' seats were taken in, and its files.
 module _ {F R : Type 0} (state : F → FileState) (port : R → PortState) (sound : (f : F) → Sound (state f)) (store : Store) (s : GuardedGateValue F R) (later : GateView)
     (guarded : GateInvariant store s.gate s.journal.knows s.closing) (tagged : AreOfObjectFiles s.journal.knows.all) (same : IsSameHistory s.journal.knows later)
-    (taken : List SlotValue) (others : List F) (many : length others ≡ 272) (placed : ArePlaced store later taken state 272 others) (recorded : AreRecorded later) (opens : HasSoundOpening store) where
+    (taken : List SlotValue) (spare : F) (others : List F) (many : length others ≡ last_file) (placed : ArePlaced store later taken state last_file others) (recorded : AreRecorded later) (opens : HasSoundOpening store) where
   pub leaves_parts : DoubtStands (gate_sides state port s.gate) s.gate.doubt → AreHolds s.gate.dir.dir.entries s.gate.holds → (doubt : Option ℕ)
-      → doubt ≡ option_map (λ d. d.number) s.gate.doubt → (dir : F) (card : R) (files : List F) → dir ≡ s.gate.dir.file → card ≡ s.gate.host.port → files ≡ dir ∷ others
+      → doubt ≡ option_map (λ d. d.number) s.gate.doubt → (dir : F) (card : R) (files : List F) → dir ≡ s.gate.dir.file → card ≡ s.gate.host.port → files_of state files ≡ numbered_files state spare dir others
       → LeavesStore store s.journal.knows (files_of state files) (port card) doubt
   leaves_parts stands held doubt doubt_is dir card files dir_is card_is files_are =
-      let all = leaves state port sound store s.gate s.journal.knows s.closing taken others guarded stands held tagged many
+      let all = leaves state port sound store s.gate s.journal.knows s.closing taken spare others guarded stands held tagged many
       (λ i within. placed_back s.journal.knows later same store taken (i + 1) (files_of state others i) (placed i within)) opens doubt doubt_is (recorded_back s.journal.knows later same recorded).numbered in
-      subst (λ (l : List F). LeavesStore store s.journal.knows (files_of state l) (port card) doubt) (sym (files_are ∙ ap (λ (f : F). f ∷ others) dir_is))
-      (subst (λ (r : R). LeavesStore store s.journal.knows (files_of state (s.gate.dir.file ∷ others)) (port r) doubt) (sym card_is) all)
+      subst (λ (f : ℕ → FileState). LeavesStore store s.journal.knows f (port card) doubt)
+      (sym (files_are ∙ ap (λ (d : F). numbered_files state spare d others) dir_is))
+      (subst (λ (r : R). LeavesStore store s.journal.knows (numbered_files state spare s.gate.dir.file others) (port r) doubt) (sym card_is) all)
 
 -- THE DEVICES
--- the directory's file stands in front of the others
-pub dir_first : {F : Type 0} (dir first : F) (others files : List F) → first ≡ dir → files ≡ first ∷ others → files ≡ dir ∷ drop 1 files
-dir_first dir first others files is files_are = files_are ∙ (λ i. is i ∷ sym (ap (drop 1) files_are) i)
 
 -- the slot of a file stands in its place
 slot_in_place : (slots : List SlotValue) (i : ℕ) (d slot : SlotValue) → AreSlots slots → Contains slots slot → slot.number ≡ i + 1 → slot ≡ slice_index_or slots i d
@@ -376,10 +389,11 @@ slot_in_place slots i d slot are among number =
 
 -- so each slot's file is given back in its place
 pub gives_back : {F R : Type 0} (state : F → FileState) (store : Store) (view : GateView) (s : ServiceValue F R) (files : List F) (card : R) → AreSlots s.slots
-    → files ≡ s.gate.gate.dir.file ∷ drop 1 files → card ≡ s.gate.gate.host.port → ((i : ℕ) → i < 272 → IsPlaced store view s.slots (i + 1) (files_of state files (i + 1)))
+    → files_of state files directory_file ≡ state s.gate.gate.dir.file → files_of state files old_directory_file ≡ state s.spare → card ≡ s.gate.gate.host.port → ((i : ℕ) → i < last_file → IsPlaced store view s.slots (i + 1) (files_of state files (i + 1)))
     → GivesBack state s files card
-gives_back state store view s files card are dir port placed = record {
+gives_back state store view s files card are dir spare port placed = record {
   dir = dir;
+  spare = spare;
   each = λ i d within.
       let p = placed i within in
       p.file ∙ ap (λ (x : SlotValue). x.file) (slot_in_place s.slots i d p.slot are p.among p.number);

@@ -1,5 +1,8 @@
 pub mod Files
 pub mod EntriesOf
+pub mod DirectoryImages
+pub mod OldGates
+pub mod CurrentPictures
 pub mod Syncs
 pub mod Openings
 pub mod EntryCounting
@@ -28,3 +31,17 @@ pub mod OpeningMaps
 pub mod MountedViews
 pub mod FirstHandles
 pub mod MountedParts
+pub mod MigrationTurns
+pub mod DirectoryCopies
+pub mod DirectoryNamings
+pub mod DirectorySteps
+pub mod DirectoryBenches
+pub mod DirectoryFiles
+pub mod MigrationStages
+pub mod MovedEntries
+pub mod ObjectTurns
+pub mod FilesBeside
+pub mod ObjectCopies
+pub mod ObjectMoving
+pub mod ObjectsMoved
+pub mod BenchMoves

@@ -1,4 +1,5 @@
 -- What lies behind each lock as a phase begins.
+use Rattle.node_image.specs.References.{IsCurrent}
 use Rattle.std.proofs.Common.{◌≡◌, ℕ, ◌<◌, List, [], Option, Some, refl, sym, ap, ◌∙◌, subst}
 use Rattle.std.specs.Prelude.{IsTrue}
 use Rattle.disk_model.specs.State.{FileState, pending}
@@ -67,7 +68,7 @@ module _ (store : Store) (files : ℕ → FileState) (entries : List (Option Dir
       let e : DirEntry = a.entry in
       let settled : pending (files number) ≡ [] = subst (λ (n : ℕ). pending (files n) ≡ []) a.file_is (o.synced a.index e a.at) in
       record {
-        bit = subst (λ (w : Version). w.root.version < 2) a.version_is (o.forms.forms a.index e a.at).version;
+        current = subst (λ (w : Version). IsCurrent w.root) a.version_is ((o.forms.forms a.index e a.at).version, o.current a.index e a.at);
         shown = λ image left. subst (λ (i : List ℕ). IsShownIn store.keys i v) (sym (one_image (files number) (o.sound number) honest settled image left)) (shown_in v is);
       }
 

@@ -40,6 +40,7 @@ module _ (store : Store) (files : ℕ → FileState) (entries : List (Option Dir
   mount_is : IsMountOf store.keys files entries store.mounted
   mount_is = record {
     forms = o.forms;
+    current = o.current;
     each = λ index e at. (
       mounted_entry store.keys files e,
       subst (λ (l : List MountedEntry). Contains l (mounted_entry store.keys files e)) (sym o.told)

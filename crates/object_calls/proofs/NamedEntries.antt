@@ -1,5 +1,5 @@
 -- Entries that a directory was read as have identifiers.
-use Rattle.std.proofs.Common.{◌≡◌, ◌⊎◌, ◌∙◌, ◌*◌, ◌/◌, ◌%◌, ◌<◌, ℕ, zero, suc, Bool, true, false, cond, List, [], ◌∷◌, ◌++◌, length, take, get_or, unwrap_or, Option, Some, None, Result, Ok, Err, inl, inr, refl, ap, subst, arith}
+use Rattle.std.proofs.Common.{◌≡◌, ◌⊎◌, ◌∙◌, ◌*◌, ◌/◌, ◌%◌, ◌<◌, ◌≤◌, ℕ, zero, suc, Bool, true, false, cond, List, [], ◌∷◌, ◌++◌, length, take, get_or, unwrap_or, Option, Some, None, Result, Ok, Err, inl, inr, refl, ap, subst, arith}
 use Rattle.std.proofs.lemmas.Bool.{cases_lt}
 use Rattle.std.proofs.lemmas.List.{get_or_past, length-take-le}
 use Rattle.byte_fields.specs.Field.{field}
@@ -19,7 +19,7 @@ use Rattle.crash_core.proofs.Doubles.{directory_reads}
 use Rattle.object_calls.specs.Opening.{AreIdentified}
 
 -- bytes that pass the tests reach beyond the identifier
-long_enough : (b : List ℕ) → byte 122 b ≡ 1 → 122 < length b
+long_enough : (b : List ℕ) → 1 ≤ byte 122 b → 122 < length b
 long_enough b is = elim (cases_lt 122 (length b)) [
   | inl within ↦ within
   | inr past ↦ let none : byte 122 b ≡ 0 = get_or_past b 122 0 past in absurd (omega (arith, is, none))
@@ -28,7 +28,7 @@ long_enough b is = elim (cases_lt 122 (length b)) [
 entry_identified : (b : List ℕ) → Passes b → IsIdentifier (entry_of b).id
 unfolding entry_of
 entry_identified b p =
-    let long : 122 < length b = long_enough b p.format in
+    let long : 122 < length b = long_enough b p.format.0 in
     let count : length (take (id_length b) (field 16 64 b)) ≡ id_length b = length-take-le (id_length b) (field 16 64 b) (omega (arith, p.count.1, length-field b 16 64 (omega (arith, long)))) in
     (omega (arith, count, p.count.0), omega (arith, count, p.count.1))
 

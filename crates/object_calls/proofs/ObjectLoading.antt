@@ -28,7 +28,7 @@ use Rattle.object_file.specs.Held.{held_in, pages_in}
 use Rattle.object_file.specs.Loading.{IsOutsideObject, ObjectCause, ObjectDiffers}
 use Rattle.object_file.specs.Value.{ObjectValue, size_in}
 use Rattle.store_commit.specs.declared.fault.MountFault.{MountFault}
-use Rattle.store_commit.specs.declared.fault.MountFault.TheVariants.{NoStore, CardBlock, Directory, Frame, CardResult, Failed, Spent, NoMemory}
+use Rattle.store_commit.specs.declared.fault.MountFault.TheVariants.{NoStore, CardBlock, Directory, Frame, CardResult, Failed, Spent, NoMemory, OldFormat}
 use Rattle.object_calls.specs.declared.shown_object.ShownObject.{ShownObject}
 use Rattle.object_calls.specs.declared.shown_object.ShownObject.TheVariants.{Damaged, Sound}
 use Rattle.object_calls.specs.Next.{ShowAnswer, ShowFailed}
@@ -83,7 +83,7 @@ module _ {F : Type 0} (tsk : List ℕ) (a b c : FileState) (e : DirEntry) (o : O
         let long : length (held_in o b.reads).bytes ≡ size_in o = length-bytes_from (page_at (pages_in o.tree b.reads)) 4096 (size_in o) in
         subst (ShowsObject (Sound attributes bytes bad) e.size) (sym is)
         (sym (long ∙ size_is), contents_shown o b c attributes bytes bad loaded.verified (omega (arith, loaded.size)) shows.0 shows.1 behind);
-    read = read_from o.tree.key o.tree.tree a b c loaded.rests (rests_keep o.tree.tree.nodes b c sound rests) tsk e attributes bytes bad
+    read = read_from o.tree.key o.tree.tree a b c loaded.rests (rests_keep o.tree.tree.layout o.tree.tree.nodes b c sound rests) tsk e attributes bytes bad
         (subst (λ (r : RootRef). IsVerified r o.tree.tree) loaded.root loaded.verified) loaded.size loaded.key
         (ap length shows.0 ∙ loaded.long) (subst (λ (l : List ℕ). AreReadBytes o.tree.key o.tree.tree a b 0 l e.attributes) (sym shows.0) loaded.front)
         (subst (λ (n : ℕ). ShowsData o.tree.key o.tree.tree b c n (data_blocks n) bytes bad) size_is shows.1);
@@ -108,6 +108,7 @@ module _ {F : Type 0} (tsk : List ℕ) (a b c : FileState) (e : DirEntry) (o : O
   show_failed (CardResult result) f = absurd f
   show_failed (Failed cause) f = cause_failed cause f
   show_failed Spent f = absurd f
+  show_failed (OldFormat n) f = absurd f
   show_failed NoMemory f = tt
 
   pub loaded_answer : (result : Result ShownObject MountFault) → IfOk result (ShowsLoaded o.attributes o.tree.key o.tree.tree b c (size_in o)) → OnOk result (FilePassed b c)

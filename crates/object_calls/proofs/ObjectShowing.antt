@@ -110,7 +110,7 @@ contents_shown o a b attributes bytes bad verified sized own shows told = record
 }
 
 -- WHAT WAS LOADED, AND THEN READ
-module _ {root : ℕ} (key : List ℕ) (tree : Loaded) (a b c : FileState) (rests : Rests a b) (keeps : Keeps (Lies tree.nodes root) b c) where
+module _ {root : ℕ} (key : List ℕ) (tree : Loaded) (a b c : FileState) (rests : Rests a b) (keeps : Keeps (Lies tree.layout tree.nodes root) b c) where
   front_first : (attributes : List ℕ) (count : ℕ) → AreReadBytes key tree a b 0 attributes count → AreReadBytes key tree a c 0 attributes count
   front_first attributes count bytes = record {
     pages = bytes.pages;

@@ -5,10 +5,10 @@ use Rattle.std.proofs.lemmas.Bool.{cases_Bool, cases_eq, cases_lt, false≢true}
 use Rattle.std.proofs.lemmas.List.{get_or-set_other, get_or_past, length-set, length_push, map_push, nil_from_length, take_all, take_more}
 use Rattle.std.proofs.lemmas.List.Sums.{count_by-le-length, sum_by-cons, sum_by-le, sum_by-set}
 use Rattle.disk_model.specs.State.{FileState}
+use Rattle.tee_types.specs.Limits.{IsObjectFile, last_file}
 use Rattle.history_seats.specs.Numbers.{is_in, without}
 use Rattle.history_seats.specs.Views.{GateView}
 use Rattle.history_seats.proofs.Numbers.{stays_in}
-use Rattle.core_laws.specs.Joined.{IsObjectFile}
 use Rattle.core_laws.specs.Stores.{Store}
 use Rattle.serial_calls.specs.GuardedSlots.{IsSlotOf}
 use Rattle.serial_calls.specs.SlotValues.{SlotValue}
@@ -82,7 +82,7 @@ pub record AreLastPlaced {F : Type 0} (store : Store) (state : F → FileState) 
   pub same : IsSameHistory view now
   pub few : length left ≤ length slots
   pub left_are : left ≡ take (length left) slots
-  pub many : length places ≡ 272
+  pub many : length places ≡ last_file
   pub counted : count_by is_some places + length left ≡ length slots
   pub placed : (i : ℕ) → IsSome (get_or places i None)
       → IsPlaced store view slots (i + 1) (files_of (place_state state) places i) × (is_in (i + 1) now.files ≡ false)
@@ -155,8 +155,8 @@ module _ {F : Type 0} (store : Store) (state : F → FileState) (slots : List Sl
         ]
 
   -- all slots were taken in
-  pub all_placed : (now : GateView) (left : List SlotValue) (places : List (Option F)) → AreLastPlaced store state slots view now left places → length left ≡ 0 → length slots ≡ 272
-      → All (λ place. IsSome place) places × ArePlaced store view slots (place_state state) 272 places × AreRecorded view
+  pub all_placed : (now : GateView) (left : List SlotValue) (places : List (Option F)) → AreLastPlaced store state slots view now left places → length left ≡ 0 → length slots ≡ last_file
+      → All (λ place. IsSome place) places × ArePlaced store view slots (place_state state) last_file places × AreRecorded view
   all_placed now left places s none many =
       let full : All (λ place. IsSome place) places = all_pass is_some places (omega (arith, s.counted, s.many, none, many)) in
       (full, λ i within. (s.placed i (full i None (omega (arith, within, s.many)))).0, s.recorded (omega (arith, none, many)))

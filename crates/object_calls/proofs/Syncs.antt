@@ -1,5 +1,5 @@
 -- Syncs of the files of objects, one after another.
-use Rattle.std.proofs.Common.{◌≡◌, ◌∙◌, ◌+◌, ◌-◌, ◌≤◌, ℕ, List, ◌∷◌, length, get_or, Option, Some, None, Result, Ok, Err, refl, sym, ap, subst, inl, inr, arith}
+use Rattle.std.proofs.Common.{◌≡◌, ◌≢◌, ◌∙◌, ◌+◌, ◌-◌, ◌≤◌, ℕ, List, zero, suc, length, get_or, Option, Some, None, Result, Ok, Err, refl, sym, ap, subst, inl, inr, arith}
 use Rattle.std.specs.Prelude.{slice_set}
 use Rattle.std.proofs.lemmas.Bool.{cases_eq, cases_lt}
 use Rattle.disk_model.specs.Faults.{Rose}
@@ -10,15 +10,17 @@ use Rattle.disk_model.proofs.Goings.{first_known, then_known}
 use Rattle.disk_model.proofs.Laws.{keeps_none, keeps_then, rest_keeps, sync_keeps, synced_pending}
 use Rattle.htree_file.specs.Answers.{FileFailed, FilePassed}
 use Rattle.htree_file.proofs.Causes.{passed_none, passed_then}
+use Rattle.tee_types.specs.Limits.{IsObjectFile, directory_file, last_file, old_directory_file}
+use Rattle.tee_types.proofs.FileNumbers.{object_not_directory}
 use Rattle.dir_records.specs.declared.entry.DirEntry.{DirEntry}
 use Rattle.crash_core.specs.EntryLists.{entry_at}
 use Rattle.store_commit.proofs.Leavings.{left_then, rests_left, syncs_left}
 use Rattle.tee_types.specs.declared.reply.Cause.{Cause}
 use Rattle.tee_types.specs.declared.reply.Cause.TheVariants.{Fault, Frame, CardResult}
 use Rattle.tee_types.specs.declared.reply.Device.TheVariants.{Dir, File, Card, Entropy}
-use Rattle.object_calls.specs.OpeningFiles.{files_of, object_files}
-use Rattle.object_calls.specs.Syncing.{FileSynced, IsOnlySynced, StopsSyncing, SyncFailed, SyncsNamed, SyncsOne}
-use Rattle.object_calls.proofs.Files.{files_behind, object_else, object_get, object_here}
+use Rattle.object_calls.specs.OpeningFiles.{numbered_files, object_files}
+use Rattle.object_calls.specs.Syncing.{FileSynced, IsOnlySynced, IsUnnamedBefore, StopsSyncing, SyncFailed, SyncsNamed, SyncsOne}
+use Rattle.object_calls.proofs.Files.{numbered_object, object_else, object_get, object_here, object_numbered, spare_here}
 
 -- ONE FILE
 pub only_none : (s : FileState) → IsOnlySynced s s
@@ -50,15 +52,15 @@ pub synced_one : {F : Type 0} (state : F → FileState) (files : List F) (file :
 synced_one state files file old new A result one few is answer = record {
   here = subst (λ (s : FileState). FileSynced s (object_files state (slice_set files (file - 1) new) file) file result) (sym (object_get state files file old one few is))
       (subst (λ (s : FileState). FileSynced (state old) s file result) (sym (object_here state files file new one few)) answer);
-  others = λ k some ne. object_else state files file k new one some ne;
+  others = λ k other ne. object_else state files file k new one ne;
 }
 
 -- MANY FILES
 pub synced_none : (entries : List (Option DirEntry)) (files : ℕ → FileState) → SyncsNamed entries 0 files files
 synced_none entries files = record {
-  each = λ file one. only_none (files file);
-  passed = λ file one. passed_none (files file);
-  untouched = λ file one unnamed. refl;
+  each = λ file other. only_none (files file);
+  passed = λ file other. passed_none (files file);
+  untouched = λ file other unnamed. refl;
   settled = λ index e lt at. absurd (omega (arith, lt));
 }
 
@@ -68,7 +70,7 @@ module _ (entries : List (Option DirEntry)) (i : ℕ) (old mid : ℕ → FileSta
   synced_free none = record {
     each = before.each;
     passed = before.passed;
-    untouched = λ file one unnamed. before.untouched file one (λ index e lt at. unnamed index e (omega (arith, lt)) at);
+    untouched = λ file off unnamed. before.untouched file off (λ index e lt at. unnamed index e (omega (arith, lt)) at);
     settled = λ index e lt at. elim (cases_lt index i) [
       | inl low ↦ before.settled index e low at
       | inr high ↦
@@ -78,18 +80,18 @@ module _ (entries : List (Option DirEntry)) (i : ℕ) (old mid : ℕ → FileSta
     ];
   }
 
-  module _ (new : ℕ → FileState) (sound : (file : ℕ) → Sound (mid file)) (named : (index : ℕ) (e : DirEntry) → entry_at entries index ≡ Some e → 1 ≤ e.file) where
+  module _ (new : ℕ → FileState) (sound : (file : ℕ) → Sound (mid file)) (named : (index : ℕ) (e : DirEntry) → entry_at entries index ≡ Some e → e.file ≢ directory_file) where
     -- an entry names one more
     pub synced_next : (e : DirEntry) (A : Type 0) (done : A) → entry_at entries i ≡ Some e → SyncsOne e.file mid new {A = A} (Ok done) → SyncsNamed entries (i + 1) old new
     synced_next e A done at one = record {
       each = λ file some. elim (cases_eq file e.file) [
         | inl same ↦ subst (λ (k : ℕ). IsOnlySynced (old k) (new k)) (sym same)
-            (only_then (old e.file) (mid e.file) (new e.file) (before.each e.file (omega (arith, same, some))) (only_sync (mid e.file) (new e.file) (sound e.file) one.here.0))
+            (only_then (old e.file) (mid e.file) (new e.file) (before.each e.file (named i e at)) (only_sync (mid e.file) (new e.file) (sound e.file) one.here.0))
         | inr other ↦ subst (IsOnlySynced (old file)) (sym (one.others file some other)) (before.each file some)
       ];
       passed = λ file some. elim (cases_eq file e.file) [
         | inl same ↦ subst (λ (k : ℕ). FilePassed (old k) (new k)) (sym same)
-            (passed_then (old e.file) (mid e.file) (new e.file) (before.passed e.file (omega (arith, same, some))) one.here.1)
+            (passed_then (old e.file) (mid e.file) (new e.file) (before.passed e.file (named i e at)) one.here.1)
         | inr other ↦ subst (FilePassed (old file)) (sym (one.others file some other)) (before.passed file some)
       ];
       untouched = λ file some unnamed.
@@ -108,45 +110,66 @@ module _ (entries : List (Option DirEntry)) (i : ℕ) (old mid : ℕ → FileSta
     }
 
     -- the sync of one fails
-    pub synced_stops : (n : ℕ) (A : Type 0) (cause : Cause) → 1 ≤ n → n ≤ 272 → SyncsOne n mid new {A = A} (Err cause) → StopsSyncing old new cause
+    pub synced_stops : (n : ℕ) (A : Type 0) (cause : Cause) → 1 ≤ n → n ≤ last_file → SyncsOne n mid new {A = A} (Err cause) → StopsSyncing old new cause
     synced_stops n A cause from upto one = record {
       each = λ file some. elim (cases_eq file n) [
         | inl same ↦ subst (λ (k : ℕ). IsOnlySynced (old k) (new k)) (sym same)
-            (only_then (old n) (mid n) (new n) (before.each n from) (only_rest (mid n) (new n) (sound n) one.here.0))
+            (only_then (old n) (mid n) (new n) (before.each n (object_not_directory n from upto)) (only_rest (mid n) (new n) (sound n) one.here.0))
         | inr other ↦ subst (IsOnlySynced (old file)) (sym (one.others file some other)) (before.each file some)
       ];
       failed = subst (SyncFailed old new) (sym one.here.2)
-          (from, upto, failed_then (old n) (mid n) (new n) one.here.1 (before.each n from).keeps.goes_on (before.passed n from) one.here.3);
+          (from, upto, failed_then (old n) (mid n) (new n) one.here.1 (before.each n (object_not_directory n from upto)).keeps.goes_on (before.passed n (object_not_directory n from upto)) one.here.3);
     }
 
--- The same of all files of a bench, behind the directory's.
-module _ {F : Type 0} (state : F → FileState) (d x : F) (old new : List F) where
-  was : (k : ℕ) → 1 ≤ k → object_files state old k ≡ files_of state (d ∷ old) k
-  was k one = sym (files_behind state d old k one)
+-- The same of all files of a bench.
+module _ {F : Type 0} (state : F → FileState) (spare d x : F) (old new : List F) where
+  abbrev first : ℕ → FileState
+  first = numbered_files state spare d old
 
-  is : (k : ℕ) → 1 ≤ k → object_files state new k ≡ files_of state (x ∷ new) k
-  is k one = sym (files_behind state x new k one)
+  abbrev last : ℕ → FileState
+  last = numbered_files state spare x new
 
-  each_bench : ((k : ℕ) → 1 ≤ k → IsOnlySynced (object_files state old k) (object_files state new k)) → (k : ℕ) → 1 ≤ k → IsOnlySynced (files_of state (d ∷ old) k) (files_of state (x ∷ new) k)
-  each_bench each k one = subst (λ (s : FileState). IsOnlySynced s (files_of state (x ∷ new) k)) (was k one) (subst (IsOnlySynced (object_files state old k)) (is k one) (each k one))
+  was : (k : ℕ) → 1 ≤ k → k ≢ directory_file → object_files state old k ≡ first k
+  was k from off = sym (numbered_object state spare d old k from off)
 
-  pub syncs_bench : (entries : List (Option DirEntry)) (count : ℕ) → ((index : ℕ) (e : DirEntry) → entry_at entries index ≡ Some e → 1 ≤ e.file)
-      → SyncsNamed entries count (object_files state old) (object_files state new) → SyncsNamed entries count (files_of state (d ∷ old)) (files_of state (x ∷ new))
+  is : (k : ℕ) → 1 ≤ k → k ≢ directory_file → object_files state new k ≡ last k
+  is k from off = sym (numbered_object state spare x new k from off)
+
+  -- the spare one is not called
+  stays : last old_directory_file ≡ first old_directory_file
+  stays = spare_here state spare x new ∙ sym (spare_here state spare d old)
+
+  -- what holds of each file of an object, and of one that stays, holds of each
+  each_file : (P : ℕ → FileState → FileState → Type 0) → ((s : FileState) → P old_directory_file s s) → ((k : ℕ) → k ≢ directory_file → P k (object_files state old k) (object_files state new k))
+      → (k : ℕ) → k ≢ directory_file → P k (first k) (last k)
+  each_file P same each zero off = subst (P old_directory_file (first old_directory_file)) (sym stays) (same (first old_directory_file))
+  each_file P same each (suc k) off =
+      let from : 1 ≤ suc k = omega arith in
+      subst (λ (s : FileState). P (suc k) s (last (suc k))) (was (suc k) from off) (subst (P (suc k) (object_files state old (suc k))) (is (suc k) from off) (each (suc k) off))
+
+  each_bench : ((k : ℕ) → k ≢ directory_file → IsOnlySynced (object_files state old k) (object_files state new k)) → (k : ℕ) → k ≢ directory_file → IsOnlySynced (first k) (last k)
+  each_bench each = each_file (λ k a b. IsOnlySynced a b) only_none each
+
+  pub syncs_bench : (entries : List (Option DirEntry)) (count : ℕ) → ((index : ℕ) (e : DirEntry) → entry_at entries index ≡ Some e → IsObjectFile e.file)
+      → SyncsNamed entries count (object_files state old) (object_files state new) → SyncsNamed entries count first last
   syncs_bench entries count named s = record {
     each = each_bench s.each;
-    passed = λ k one. subst (λ (f : FileState). FilePassed f (files_of state (x ∷ new) k)) (was k one) (subst (FilePassed (object_files state old k)) (is k one) (s.passed k one));
-    untouched = λ k one unnamed. sym (is k one) ∙ s.untouched k one unnamed ∙ was k one;
-    settled = λ index e lt at. ap pending (sym (is e.file (named index e at))) ∙ s.settled index e lt at;
+    passed = each_file (λ k a b. FilePassed a b) passed_none s.passed;
+    untouched = each_file (λ k a b. IsUnnamedBefore entries count k → b ≡ a) (λ a unnamed. refl) s.untouched;
+    settled = λ index e lt at.
+        let object = named index e at in
+        ap pending (object_numbered state spare x new e.file object) ∙ s.settled index e lt at;
   }
 
-  stopped : (cause : Cause) → SyncFailed (object_files state old) (object_files state new) cause → SyncFailed (files_of state (d ∷ old)) (files_of state (x ∷ new)) cause
+  stopped : (cause : Cause) → SyncFailed (object_files state old) (object_files state new) cause → SyncFailed first last cause
   stopped (Fault Dir count) f = absurd f
   stopped (Fault (File n) count) f =
-      (f.0, f.1, subst (λ (s : FileState). FileFailed s (files_of state (x ∷ new) n) count) (was n f.0) (subst (λ (s : FileState). FileFailed (object_files state old n) s count) (is n f.0) f.2))
+      let off = object_not_directory n f.0 f.1 in
+      (f.0, f.1, subst (λ (s : FileState). FileFailed s (last n) count) (was n f.0 off) (subst (λ (s : FileState). FileFailed (object_files state old n) s count) (is n f.0 off) f.2))
   stopped (Fault Card count) f = absurd f
   stopped (Fault Entropy count) f = absurd f
   stopped (Frame fault) f = absurd f
   stopped (CardResult result) f = absurd f
 
-  pub stops_bench : (cause : Cause) → StopsSyncing (object_files state old) (object_files state new) cause → StopsSyncing (files_of state (d ∷ old)) (files_of state (x ∷ new)) cause
+  pub stops_bench : (cause : Cause) → StopsSyncing (object_files state old) (object_files state new) cause → StopsSyncing first last cause
   stops_bench cause s = record { each = each_bench s.each; failed = stopped cause s.failed }

@@ -4,6 +4,7 @@ use Rattle.disk_model.specs.State.{FileState}
 use Rattle.htree_file.specs.Standing.{Told}
 use Rattle.hmac_keys.specs.declared.Keys.{Keys}
 use Rattle.hmac_keys.specs.KeyTable.{rpmb_key}
+use Rattle.tee_types.specs.Limits.{directory_file}
 use Rattle.rpmb_card.specs.Card.{CardState}
 use Rattle.rpmb_card.specs.Port.{PortState}
 use Rattle.rpmb_host.specs.Honest.{HasCard}
@@ -19,7 +20,7 @@ use Rattle.object_calls.specs.Opening.{IsKeyed, OpeningValue, bench_files, entri
 pub record BeginsThere {F R : Type 0} (phase : Phase) (state : F → FileState) (o : OpeningValue F R) : Type 0 where
   pub keyed : IsKeyed phase.keys o
   pub counter : phase.begins.counter ≡ o.gate.counter
-  pub objects : IsTrusted phase 0 → phase.begins.objects ≡ opening_map phase.keys (bench_files state o) (entries_in o)
+  pub objects : IsTrusted phase directory_file → phase.begins.objects ≡ opening_map phase.keys (bench_files state o) (entries_in o)
   pub honest : (file : ℕ) → IsTrusted phase file → IsTrue (bench_files state o file).honest
 
 -- the port tells that card, which has the key
@@ -37,7 +38,7 @@ BeginsCore state port o =
 abbrev pub PicturesMount : {F R : Type 0} → (F → FileState) → (R → PortState) → OpeningValue F R → Type 0
 PicturesMount state port o =
     (phase : Phase) (card : CardState) (picture : Picture) → BeginsThere phase state o → HasItsCard port o card
-    → IsPictureOf (bench_files state o) card picture → IsTrusted phase 0
+    → IsPictureOf (bench_files state o) card picture → IsTrusted phase directory_file
     → MountsTo phase picture (opening_map phase.keys (bench_files state o) (entries_in o))
 
 -- Where every file is honest, to that map itself.
@@ -56,5 +57,5 @@ pub record IsWholeOpening {F R : Type 0} (state : F → FileState) (port : R →
 -- Where the directory's file can be followed, the map is the one that the bench mounts to as its files read, whatever the other files are.
 abbrev pub MountsAsRead : {F R : Type 0} → (F → FileState) → (dir : FileState) → PortState → Keys → OpeningValue F R → Type 0
 MountsAsRead state dir port keys o =
-    Told dir (bench_files state o 0) → (card : CardState) → HasCard port (rpmb_key keys.huk) card
+    Told dir (bench_files state o directory_file) → (card : CardState) → HasCard port (rpmb_key keys.huk) card
     → mounted keys (record { images = reads_of (bench_files state o); card = card }) ≡ Ok (opening_map keys (bench_files state o) (entries_in o))

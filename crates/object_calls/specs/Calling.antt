@@ -31,6 +31,7 @@ module _ {F R E : Type 0} (of_file : F → FileState) (of_port : R → PortState
     -- no session holds a file but for a commit in doubt, where none did before
     pub held : KeepsHolds old.gate.gate new.gate.gate
     pub storage_key : new.storage_key ≡ old.storage_key
+    pub spare : new.spare ≡ old.spare
 
 -- A misuse was answered at once; or memory ran out before anything was done.
 abbrev pub AnswersAtOnceAt : {F R E : Type 0} → (old new : Serving F R E) → Call → (place : Option ℕ) → Reply → Type 0

@@ -1,8 +1,9 @@
 -- What a phase leaves, once the store is no longer served.
-use Rattle.std.specs.Prelude.{◌≡◌, ◌⊎◌, ◌<◌, ◌+◌, ℕ, List, [], ◌∷◌, drop, length, Option, Some, None, Ok, slice_index_or, IsTrue}
+use Rattle.std.specs.Prelude.{◌≡◌, ◌⊎◌, ◌<◌, ◌+◌, ℕ, List, [], length, Option, Some, None, Ok, slice_index_or, IsTrue}
 use Rattle.disk_model.specs.State.{FileState}
 use Rattle.hmac_keys.specs.declared.Keys.{Keys}
 use Rattle.hmac_keys.specs.KeyTable.{rpmb_key}
+use Rattle.tee_types.specs.Limits.{directory_file, last_file, old_directory_file}
 use Rattle.rpmb_card.specs.Card.{CardState}
 use Rattle.rpmb_card.specs.Port.{PortState}
 use Rattle.rpmb_host.specs.Honest.{HasCard}
@@ -29,6 +30,7 @@ use Rattle.serial_calls.specs.ClosedStores.{MountsBy, MountsGivenBy, tampered_in
 use Rattle.serial_calls.specs.FinishedPhases.{phase_under}
 use Rattle.serial_calls.specs.SlotValues.{SlotValue}
 use Rattle.serial_calls.specs.Slots.{AreOfObjectFiles}
+use Rattle.object_calls.specs.OldStores.{HasNoOldFile}
 use Rattle.object_calls.specs.OpeningFiles.{files_of}
 use Rattle.object_calls.specs.Services.{ServiceValue}
 
@@ -42,7 +44,7 @@ IsAnsweredOrEnds store view files =
 abbrev pub PicturesMountAfter : Store → GateView → (ℕ → FileState) → PortState → (doubt : Option ℕ) → Type 0
 PicturesMountAfter store view files port doubt =
     (scenario : TamperScenario) (card : CardState) (picture : Picture) → scenario.tampered ≡ tampered_in files → AreAnswered store scenario view.all
-    → HasCard port (rpmb_key store.keys.huk) card → IsPictureOf files card picture → IsTrusted (phase_under store scenario) 0
+    → HasCard port (rpmb_key store.keys.huk) card → IsPictureOf files card picture → IsTrusted (phase_under store scenario) directory_file
     → MountsBy doubt (phase_under store scenario) picture (replay_at store scenario view.all)
 
 -- Whatever became of the history, so long as the directory's file is honest, every picture of the files and the card mounts to the entries that
@@ -51,7 +53,7 @@ PicturesMountAfter store view files port doubt =
 abbrev pub PicturesMountGiven : Store → GateView → (ℕ → FileState) → PortState → (doubt : Option ℕ) → Type 0
 PicturesMountGiven store view files port doubt =
     (card : CardState) (picture : Picture) → HasCard port (rpmb_key store.keys.huk) card → IsPictureOf files card picture
-    → IsTrusted (phase_under store (nothing_back (tampered_in files))) 0
+    → IsTrusted (phase_under store (nothing_back (tampered_in files))) directory_file
     → MountsGivenBy doubt store (phase_under store (nothing_back (tampered_in files))) picture view.all
 
 -- Where no object in a file that is not honest was damaged as the phase opened, the history is a legal one of the phase, with these files as
@@ -120,14 +122,17 @@ pub record LeavesStore (store : Store) (view : GateView) (files : ℕ → FileSt
   pub legal_or_clashed : IsLegalOrClashed store view files doubt
   pub doubted : IsDoubtLeft store view doubt
   pub counted : IsCounterLeft store view port doubt
+  -- where the directory's file is honest, each file that the card or an entry names is of the current format
+  pub current : IsTrue (files directory_file).honest → HasNoOldFile store.keys files port
   pub honest : AreAllHonest files → LeavesHonest store view files port doubt
   -- so the history is a legal one of the phase
   pub legal : AreAllHonest files → IsLegal (phase_of store) [] view.all doubt
 
--- The devices that are given back are those that were served, in their places: the directory's file first.
+-- The devices that are given back are those that were served, in their places.
 pub record GivesBack {F R : Type 0} (state : F → FileState) (s : ServiceValue F R) (files : List F) (card : R) : Type 0 where
-  pub dir : files ≡ s.gate.gate.dir.file ∷ drop 1 files
-  pub each : (i : ℕ) (d : SlotValue) → i < 272 → files_of state files (i + 1) ≡ (slice_index_or s.slots i d).file
+  pub dir : files_of state files directory_file ≡ state s.gate.gate.dir.file
+  pub spare : files_of state files old_directory_file ≡ state s.spare
+  pub each : (i : ℕ) (d : SlotValue) → i < last_file → files_of state files (i + 1) ≡ (slice_index_or s.slots i d).file
   pub port : card ≡ s.gate.gate.host.port
 
 -- So of a phase that no call was made in.

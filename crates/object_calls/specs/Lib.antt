@@ -8,6 +8,7 @@ pub mod ShownObjects
 pub mod ObjectReads
 pub mod Next
 pub mod OpeningArms
+pub mod OldStores
 pub mod MountRefusals
 pub mod OpeningSessions
 pub mod OpenedStores
@@ -23,3 +24,8 @@ pub mod MountedEntries
 pub mod Generations
 pub mod MountedStores
 pub mod MountLaws
+pub mod MovedEntries
+pub mod Migrated
+pub mod MigrationRefusals
+pub mod DirectoryMoves
+pub mod ObjectMoves

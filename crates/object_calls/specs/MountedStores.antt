@@ -3,7 +3,7 @@ use Rattle.std.specs.Prelude.{◌≡◌, ℕ, List, [], Option, Some}
 use Rattle.disk_model.specs.State.{FileState, Sound, pending}
 use Rattle.dir_records.specs.declared.entry.DirEntry.{DirEntry}
 use Rattle.crash_core.specs.DirectoryLaws.{AreEntries}
-use Rattle.crash_core.specs.EntryLists.{entry_at}
+use Rattle.crash_core.specs.EntryLists.{AreCurrent, entry_at}
 use Rattle.crash_core.specs.Opening.{opening_map}
 use Rattle.core_laws.specs.Masked.{told_taints}
 use Rattle.core_laws.specs.Stores.{Store}
@@ -13,6 +13,7 @@ use Rattle.object_calls.specs.MountedEntries.{mounted_entries}
 -- file that an entry names, and its masks are those that the files tell.
 pub record IsMountedStore (store : Store) (files : ℕ → FileState) (entries : List (Option DirEntry)) : Type 0 where
   pub forms : AreEntries entries
+  pub current : AreCurrent entries
   pub sound : (file : ℕ) → Sound (files file)
   pub synced : (index : ℕ) (e : DirEntry) → entry_at entries index ≡ Some e → pending (files e.file) ≡ []
   pub told : store.mounted.entries ≡ mounted_entries store.keys files entries

@@ -1,22 +1,26 @@
 -- What a contract sees of a store that is mounted.
-use Rattle.std.specs.Prelude.{◌≡◌, ℕ, List, [], ◌∷◌, length, Option, Some, None}
+use Rattle.std.specs.Prelude.{◌≡◌, ℕ, List, [], length, Option, Some, None}
 use Rattle.disk_model.specs.State.{FileState, pending}
+use Rattle.node_image.specs.References.{current_format}
+use Rattle.tee_types.specs.Limits.{last_file}
 use Rattle.tee_types.specs.Identifier.{IsIdentifier}
 use Rattle.atomic_table.specs.Seated.{TableId}
 use Rattle.hmac_keys.specs.declared.Keys.{Keys}
 use Rattle.hmac_keys.specs.KeyTable.{dir_tsk, rpmb_key, ssk}
 use Rattle.dir_records.specs.declared.entry.DirEntry.{DirEntry}
-use Rattle.crash_core.specs.EntryLists.{entry_at}
+use Rattle.crash_core.specs.EntryLists.{AreCurrent, entry_at}
 use Rattle.store_commit.specs.EntryForms.{AreEntriesOf}
 use Rattle.store_commit.specs.Gates.{GateValue}
 use Rattle.store_commit.specs.Holds.{file_held}
-use Rattle.object_calls.specs.OpeningFiles.{files_of}
+use Rattle.object_calls.specs.OpeningFiles.{numbered_files, object_files}
 
 pub record OpeningValue (F R : Type 0) : Type 0 where
   -- the directory in its file, and the card
   pub gate : GateValue F R
   -- the files of objects, file 1 first
   pub files : List F
+  -- the file of an old directory, which is not called
+  pub spare : F
   -- the key that the keys of the directory and of the applications come from (SSK)
   pub storage_key : List ℕ
   -- the table of the phase's history
@@ -26,7 +30,7 @@ pub record OpeningValue (F R : Type 0) : Type 0 where
 
 -- all files, by their numbers
 abbrev pub bench_files : {F R : Type 0} → (F → FileState) → OpeningValue F R → ℕ → FileState
-bench_files state o = files_of state (o.gate.dir.file ∷ o.files)
+bench_files state o = numbered_files state o.spare o.gate.dir.file o.files
 
 -- the entries of the directory
 abbrev pub entries_in : {F R : Type 0} → OpeningValue F R → List (Option DirEntry)
@@ -47,9 +51,11 @@ pub record IsOpening {F R : Type 0} (state : F → FileState) (gate : GateValue 
   pub idle : gate.doubt ≡ None
   pub unopened : gate.open_handles.records ≡ []
   pub unheld : (session : ℕ) → file_held gate.holds session ≡ None
-  pub whole : length files ≡ 272
+  pub whole : length files ≡ last_file
   pub keyed : gate.dir.dir.tsk ≡ dir_tsk storage_key
+  pub current : gate.dir.dir.root.format ≡ current_format
   pub entries : AreEntriesOf gate.dir.dir.entries
+  pub entries_current : AreCurrent gate.dir.dir.entries
   pub identified : AreIdentified gate.dir.dir.entries
   pub settled : pending (state gate.dir.file) ≡ []
-  pub synced : (index : ℕ) (e : DirEntry) → entry_at gate.dir.dir.entries index ≡ Some e → pending (files_of state (gate.dir.file ∷ files) e.file) ≡ []
+  pub synced : (index : ℕ) (e : DirEntry) → entry_at gate.dir.dir.entries index ≡ Some e → pending (object_files state files e.file) ≡ []

@@ -1,12 +1,12 @@
 -- Slots that were taken in for good, and the files that came out of them.
 use Rattle.std.specs.Prelude.{◌≡◌, ◌<◌, ◌+◌, ℕ, All, Contains, List, Some}
 use Rattle.disk_model.specs.State.{FileState}
+use Rattle.tee_types.specs.Limits.{IsObjectFile}
 use Rattle.store_model.specs.History.{AreNumbered}
 use Rattle.store_model.specs.Record.{events_of}
 use Rattle.history_seats.specs.Rule.{SlotFits}
 use Rattle.history_seats.specs.Tags.{AreTagged}
 use Rattle.history_seats.specs.Views.{GateView, Sight, SlotView}
-use Rattle.core_laws.specs.Joined.{IsObjectFile}
 use Rattle.core_laws.specs.Stores.{Store}
 use Rattle.serial_calls.specs.GuardedSlots.{IsSlotOf}
 use Rattle.serial_calls.specs.SlotValues.{SlotValue}

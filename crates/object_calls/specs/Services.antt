@@ -14,11 +14,12 @@ use Rattle.object_calls.specs.Generations.{generation_in}
 use Rattle.serial_calls.specs.Slots.{AreOfObjectFiles, AreSlots}
 use Rattle.object_calls.specs.OpeningFiles.{files_of}
 
--- the gate, the slots of the files, file 1 first, and the key that the applications' keys come from
+-- the gate, the slots of the files, file 1 first, the key that the applications' keys come from, and the file of an old directory
 pub record ServiceValue (F R : Type 0) : Type 0 where
   pub gate : GuardedGateValue F R
   pub slots : List SlotValue
   pub storage_key : List ℕ
+  pub spare : F
 
 -- the first slot of the file at that place
 abbrev pub slot_for : {F : Type 0} → Store → List (Option DirEntry) → (F → FileState) → List F → ℕ → SlotValue

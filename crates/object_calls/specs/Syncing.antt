@@ -4,6 +4,7 @@ use Rattle.disk_model.specs.State.{FileState, pending}
 use Rattle.disk_model.specs.Calls.{Known, Rests, Syncs}
 use Rattle.disk_model.specs.Keeps.{Anywhere, Keeps}
 use Rattle.htree_file.specs.Answers.{FileFailed, FilePassed}
+use Rattle.tee_types.specs.Limits.{directory_file, last_file}
 use Rattle.dir_records.specs.declared.entry.DirEntry.{DirEntry}
 use Rattle.crash_core.specs.EntryLists.{entry_at}
 use Rattle.store_commit.specs.Leaving.{LeavesNoMore}
@@ -23,19 +24,19 @@ IsUnnamedBefore entries count file = (index : ℕ) (e : DirEntry) → index < co
 
 -- Each file that one of the first entries names was synced, and nothing was asked of the others.
 pub record SyncsNamed (entries : List (Option DirEntry)) (count : ℕ) (old new : ℕ → FileState) : Type 0 where
-  pub each : (file : ℕ) → 1 ≤ file → IsOnlySynced (old file) (new file)
-  pub passed : (file : ℕ) → 1 ≤ file → FilePassed (old file) (new file)
-  pub untouched : (file : ℕ) → 1 ≤ file → IsUnnamedBefore entries count file → new file ≡ old file
+  pub each : (file : ℕ) → file ≢ directory_file → IsOnlySynced (old file) (new file)
+  pub passed : (file : ℕ) → file ≢ directory_file → FilePassed (old file) (new file)
+  pub untouched : (file : ℕ) → file ≢ directory_file → IsUnnamedBefore entries count file → new file ≡ old file
   pub settled : (index : ℕ) (e : DirEntry) → index < count → entry_at entries index ≡ Some e → pending (new e.file) ≡ []
 
 -- the sync of a file failed: that file counted a fault, which the cause carries
 abbrev pub SyncFailed : (old new : ℕ → FileState) → Cause → Type 0
-SyncFailed old new (Fault (File n) count) = (1 ≤ n) × (n ≤ 272) × FileFailed (old n) (new n) count
+SyncFailed old new (Fault (File n) count) = (1 ≤ n) × (n ≤ last_file) × FileFailed (old n) (new n) count
 SyncFailed old new cause = ⊥
 
 -- the syncs ended there
 pub record StopsSyncing (old new : ℕ → FileState) (cause : Cause) : Type 0 where
-  pub each : (file : ℕ) → 1 ≤ file → IsOnlySynced (old file) (new file)
+  pub each : (file : ℕ) → file ≢ directory_file → IsOnlySynced (old file) (new file)
   pub failed : SyncFailed old new cause
 
 abbrev pub SyncAnswer : List (Option DirEntry) → (count : ℕ) → (old new : ℕ → FileState) → {A : Type 0} → Result A Cause → Type 0
@@ -50,4 +51,4 @@ FileSynced old new file (Err cause) = Rests old new × (count : ℕ) × (cause �
 -- the other files are as they were
 pub record SyncsOne (file : ℕ) (old new : ℕ → FileState) {A : Type 0} (result : Result A Cause) : Type 0 where
   pub here : FileSynced (old file) (new file) file result
-  pub others : (k : ℕ) → 1 ≤ k → k ≢ file → new k ≡ old k
+  pub others : (k : ℕ) → k ≢ directory_file → k ≢ file → new k ≡ old k

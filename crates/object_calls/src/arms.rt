@@ -1,11 +1,12 @@
 //! The arms of the devices of a mounted store.
 
-ghost use Rattle.std.specs.Prelude.{◌≡◌, ◌∷◌, length, OnErr, OnOk};
+ghost use Rattle.std.specs.Prelude.{◌≡◌, length, OnErr, OnOk};
+ghost use Rattle.tee_types.specs.Limits.{last_file};
 ghost use Rattle.rpmb_card.specs.Arms.{arm_loss};
 ghost use Rattle.rpmb_card.specs.Port.{Rearmed};
 ghost use Rattle.store_commit.specs.Gates.{GateValue};
 ghost use Rattle.object_calls.specs.OpeningArms.{FailsOnBench, IsFileOnBench, IsOnBench, StayDevices, StopsOnBench, TaintsOnBench};
-ghost use Rattle.object_calls.specs.OpeningFiles.{files_of};
+ghost use Rattle.object_calls.specs.OpeningFiles.{numbered_files};
 ghost use Rattle.object_calls.specs.Opening.{bench_files};
 
 use crate::opening::Opening;
@@ -21,9 +22,9 @@ fn stop_device<F: FileRig + Drop, R: CardRig + Drop>(
     device: Device,
     calls: u64,
 )
-    requires files { length files.old ≡ 272 }
+    requires files { length files.old ≡ last_file }
     requires device { IsOnBench device }
-    ensures stops { StopsOnBench device calls (files_of F.state (gate.old.dir.file ∷ files.old)) (files_of F.state (gate.new.dir.file ∷ files.new))
+    ensures stops { (spare : F) → StopsOnBench device calls (numbered_files F.state spare gate.old.dir.file files.old) (numbered_files F.state spare gate.new.dir.file files.new)
         (R.state gate.old.host.port) (R.state gate.new.host.port) }
     ensures gate { gate.new ≡ record gate.old {
       dir = record gate.old.dir { file = gate.new.dir.file };
@@ -43,11 +44,11 @@ fn fail_device<F: FileRig + Drop, R: CardRig + Drop>(
     device: Device,
     call: u64,
 ) -> Result<(), NoMemory>
-    requires files { length files.old ≡ 272 }
+    requires files { length files.old ≡ last_file }
     requires device { IsOnBench device }
-    ensures fails { OnOk result (FailsOnBench device call (files_of F.state (gate.old.dir.file ∷ files.old)) (files_of F.state (gate.new.dir.file ∷ files.new))
+    ensures fails { (spare : F) → OnOk result (FailsOnBench device call (numbered_files F.state spare gate.old.dir.file files.old) (numbered_files F.state spare gate.new.dir.file files.new)
         (R.state gate.old.host.port) (R.state gate.new.host.port)) }
-    ensures refused { OnErr result (StayDevices (files_of F.state (gate.old.dir.file ∷ files.old)) (files_of F.state (gate.new.dir.file ∷ files.new))
+    ensures refused { (spare : F) → OnErr result (StayDevices (numbered_files F.state spare gate.old.dir.file files.old) (numbered_files F.state spare gate.new.dir.file files.new)
         (R.state gate.old.host.port) (R.state gate.new.host.port)) }
     ensures gate { gate.new ≡ record gate.old {
       dir = record gate.old.dir { file = gate.new.dir.file };
@@ -69,12 +70,12 @@ fn taint_device<F: FileRig + Drop, R: CardRig + Drop>(
     at: u64,
     mask: &[u8],
 ) -> Result<(), NoMemory>
-    requires files { length files.old ≡ 272 }
+    requires files { length files.old ≡ last_file }
     requires device { IsFileOnBench device }
-    ensures taints { OnOk result (TaintsOnBench device (record { call = call; at = at; mask = mask.now })
-        (files_of F.state (gate.old.dir.file ∷ files.old)) (files_of F.state (gate.new.dir.file ∷ files.new))
+    ensures taints { (spare : F) → OnOk result (TaintsOnBench device (record { call = call; at = at; mask = mask.now })
+        (numbered_files F.state spare gate.old.dir.file files.old) (numbered_files F.state spare gate.new.dir.file files.new)
         (R.state gate.old.host.port) (R.state gate.new.host.port)) }
-    ensures refused { OnErr result (StayDevices (files_of F.state (gate.old.dir.file ∷ files.old)) (files_of F.state (gate.new.dir.file ∷ files.new))
+    ensures refused { (spare : F) → OnErr result (StayDevices (numbered_files F.state spare gate.old.dir.file files.old) (numbered_files F.state spare gate.new.dir.file files.new)
         (R.state gate.old.host.port) (R.state gate.new.host.port)) }
     ensures gate { gate.new ≡ record gate.old {
       dir = record gate.old.dir { file = gate.new.dir.file };

@@ -1,11 +1,15 @@
 //! The devices of a store.
 
-ghost use Rattle.std.specs.Prelude.{◌≡◌, ◌<◌, ◌∷◌, vec_len};
+ghost use Rattle.std.specs.Prelude.{◌≡◌, ◌≤◌, vec_len};
 ghost use Rattle.std.specs.Vec.{vec_capacity};
+ghost use Rattle.tee_types.specs.Limits.{directory_file, file_count, last_file};
+ghost use Rattle.object_calls.specs.OpeningFiles.{files_of, numbered_files};
 
 use store_commit::MountFault;
+use tee_ports::StoreFile;
 
-/// The devices of a store: 273 files, and the way to the card. File 0 has the directory, and each of the others an object or none.
+/// The devices of a store: `BENCH_FILES` files, and the way to the card. `DIRECTORY_FILE` has the directory, `OLD_DIRECTORY_FILE` that of
+/// an old store, and each of the others an object or none.
 #[derive(Drop)]
 pub struct Bench<F, R> {
     /// The files, by their numbers.
@@ -32,27 +36,44 @@ pub struct BlockRead<F, R> {
     pub block: [u8; 256],
 }
 
-// Takes the directory's file out of those of a bench; there is room for it still.
-pub(crate) fn take_dir<F>(files: Vec<F>) -> (F, Vec<F>)
-    requires { vec_len files ≡ 273 }
-    ensures files { files.items ≡ result.0 ∷ result.1.items }
-    ensures others { vec_len result.1 ≡ 272 }
-    ensures room { vec_len result.1 < vec_capacity result.1 }
-{
-    let mut others = files;
-    let dir = others.remove(0);
-    (dir, others)
+// The files of a bench that is taken apart: that of an old directory, those of objects, file 1 first, and the directory's.
+pub(crate) struct FileParts<F> {
+    pub(crate) spare: F,
+    pub(crate) objects: Vec<F>,
+    pub(crate) dir: F,
 }
 
-// Puts it back. No memory is taken.
-pub(crate) fn with_dir<F: Drop>(dir: F, others: Vec<F>) -> Vec<F>
-    requires room { vec_len others < vec_capacity others }
-    requires others { vec_len others ≡ 272 }
-    ensures files { result.items ≡ dir ∷ others.items }
-    ensures whole { vec_len result ≡ 273 }
+// Takes the files of a bench apart; those of objects have room for all still.
+pub(crate) fn take_apart<F: StoreFile + Drop>(files: Vec<F>) -> FileParts<F>
+    requires { vec_len files ≡ file_count }
+    ensures files { files_of F.state files.items ≡ numbered_files F.state result.spare result.dir result.objects.items }
+    ensures dir { files_of F.state files.items directory_file ≡ F.state result.dir }
+    ensures objects { vec_len result.objects ≡ last_file }
+    ensures room { file_count ≤ vec_capacity result.objects }
 {
-    let mut files = others;
-    match files.insert(0, dir) {
+    let mut objects = files;
+    let Some(dir) = objects.pop() else {
+        unreachable!()
+    };
+    let spare = objects.remove(0);
+    FileParts {
+        spare,
+        objects,
+        dir,
+    }
+}
+
+// Puts them together again. No memory is taken.
+pub(crate) fn put_together<F: StoreFile + Drop>(spare: F, objects: Vec<F>, dir: F) -> Vec<F>
+    requires room { file_count ≤ vec_capacity objects }
+    requires objects { vec_len objects ≡ last_file }
+    ensures files { files_of F.state result.items ≡ numbered_files F.state spare dir objects.items }
+    ensures dir { files_of F.state result.items directory_file ≡ F.state dir }
+    ensures whole { vec_len result ≡ file_count }
+{
+    let mut files = objects;
+    files.push(dir).unwrap();
+    match files.insert(0, spare) {
         Ok(()) => files,
         Err(_) => unreachable!(),
     }

@@ -6,7 +6,7 @@ ghost use Rattle.object_calls.specs.SlotPlaces.{AreFree};
 
 use crate::seat_splitting::reversed;
 use std::alloc::Global;
-use tee_types::{FILES, NoMemory};
+use tee_types::{MAX_FILE, NoMemory};
 
 /// A place for each file of an object, all of them free.
 ///
@@ -16,8 +16,8 @@ use tee_types::{FILES, NoMemory};
 pub(crate) fn free_places<F: Drop>(alloc: Global) -> Result<Vec<Option<F>>, NoMemory>
     ensures { IfOk result (λ places. AreFree places.items) }
 {
-    let mut places = Vec::with_capacity(alloc, FILES - 1)?;
-    for i in 1..FILES {
+    let mut places = Vec::with_capacity(alloc, usize::from(MAX_FILE))?;
+    for i in 0..MAX_FILE {
         let _ = i;
         places.push(None)?;
     }

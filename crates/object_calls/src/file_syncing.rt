@@ -1,6 +1,7 @@
 // Syncs of the files that a directory names.
 
 ghost use Rattle.std.specs.Prelude.{◌≡◌, ◌≤◌, length};
+ghost use Rattle.tee_types.specs.Limits.{IsObjectFile, last_file};
 ghost use Rattle.store_commit.specs.EntryForms.{AreEntriesOf};
 ghost use Rattle.object_calls.specs.OpeningFiles.{object_files};
 ghost use Rattle.object_calls.specs.Syncing.{SyncAnswer, SyncsOne};
@@ -12,8 +13,8 @@ use tee_types::{Cause, Device};
 
 // Syncs one file of an object.
 fn sync_file<F: StoreFile>(files: &mut [F], file: u16) -> Result<(), Cause>
-    requires files { length files.old ≡ 272 }
-    requires file { (1 ≤ file) × (file ≤ 272) }
+    requires files { length files.old ≡ last_file }
+    requires file { IsObjectFile file }
     ensures { SyncsOne file (object_files F.state files.old) (object_files F.state files.new) result }
 {
     match files[file as usize - 1].sync() {
@@ -34,7 +35,7 @@ pub(crate) fn sync_named<F: StoreFile + Drop, R: RpmbPort + Drop>(
     files: &mut [F],
     gate: &Gate<F, R>,
 ) -> Result<(), Cause>
-    requires files { length files.old ≡ 272 }
+    requires files { length files.old ≡ last_file }
     requires entries { AreEntriesOf gate.now.dir.dir.entries }
     ensures { SyncAnswer gate.now.dir.dir.entries 256 (object_files F.state files.old) (object_files F.state files.new) result }
 {

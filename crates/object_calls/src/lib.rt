@@ -1,5 +1,5 @@
 //! The store on its devices: the card's block is read, a store is formatted and mounted, its objects are shown, and it is served and
-//! closed.
+//! closed. A store of the old format is migrated first: its trees are copied into files of the current one.
 //!
 //! A mount reads the card's counter and its block 0, syncs and loads the directory, and syncs each file that the directory names. From
 //! then on every picture that a crash may leave mounts to the objects that were found. One object at a time is loaded, and none is
@@ -13,12 +13,16 @@
 mod arms;
 mod bench;
 mod block_reading;
+mod current_gate;
+mod directory_moving;
 mod file_places;
 mod file_syncing;
 mod formatting;
+mod migrating;
 mod mount_laws;
 mod mounting;
 mod object_data;
+mod object_moving;
 mod object_walk;
 mod opening;
 mod phase_end;
@@ -34,6 +38,7 @@ pub use bench::{Bench, BlockRead, Halted};
 pub use block_reading::card_block;
 pub use core_laws::StoreName;
 pub use formatting::format;
+pub use migrating::{Migrated, migrate};
 pub use mount_laws::{mounted_slots_are_guarded, mounts_begin_gates, mounts_tell_entries};
 pub use mounting::mount;
 pub use opening::Opening;

@@ -1,6 +1,7 @@
 //! The objects of a mounted store, one by one.
 
 ghost use Rattle.std.specs.Prelude.{◌≡◌, ◌∷◌, length};
+ghost use Rattle.tee_types.specs.Limits.{last_file};
 ghost use Rattle.crash_core.specs.Entries.{name_of};
 ghost use Rattle.dir_records.specs.Form.{HasForm};
 ghost use Rattle.object_calls.specs.OpeningEntries.{IsNextEntry, is_nearer, is_past, nearer_of};
@@ -87,7 +88,7 @@ fn next_entry<F: StoreFile + Drop, R: RpmbPort + Drop>(
 
 // Shows the object of an entry, whose file is taken out of its place and put back.
 fn show_in<F: StoreFile>(files: &mut [F], wanted: Wanted) -> Result<ShownObject, MountFault>
-    requires files { length files.old ≡ 272 }
+    requires files { length files.old ≡ last_file }
     requires form { HasForm wanted.entry }
     ensures answer { ShowAnswer wanted.tsk (object_files F.state files.old wanted.entry.file) (object_files F.state files.new wanted.entry.file) wanted.entry result }
     ensures reads { ReadsObject (object_files F.state files.old) (object_files F.state files.new) wanted.entry.file }

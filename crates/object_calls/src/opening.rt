@@ -1,15 +1,17 @@
 //! A store that is mounted.
 
-ghost use Rattle.std.specs.Prelude.{◌≡◌, ◌<◌, [], ◌∷◌, ℕ, length, vec_len, is_some, count_by};
+ghost use Rattle.std.specs.Prelude.{◌≡◌, ◌≤◌, [], ℕ, length, vec_len, is_some, count_by};
 ghost use Rattle.std.specs.Vec.{vec_capacity};
 ghost use Rattle.hmac_keys.specs.declared.Keys.{Keys};
+ghost use Rattle.tee_types.specs.Limits.{file_count};
 ghost use Rattle.crash_core.specs.Opening.{opening_map};
 ghost use Rattle.object_calls.specs.Begins.{IsWholeOpening};
 ghost use Rattle.object_calls.specs.ObjectMaps.{OpensObjectMap};
 ghost use Rattle.object_calls.specs.Opening.{IsOpening, bench_files, entries_in};
+ghost use Rattle.object_calls.specs.OpeningFiles.{files_of};
 ghost use Rattle.object_calls.specs.Seats.{IsUnused};
 
-use crate::bench::{Bench, with_dir};
+use crate::bench::{Bench, put_together};
 use history_seats::{GateSeat, HistoryTable};
 use rpmb_card::RpmbPort;
 use std::alloc::Global;
@@ -24,8 +26,10 @@ use tee_types::AppId;
 #[derive(Drop)]
 pub struct Opening<F: StoreFile + Drop, R: RpmbPort + Drop> {
     pub(crate) gate: Gate<F, R>,
-    // The files of objects, file 1 first. There is room for the directory's file.
+    // The files of objects, file 1 first. There is room for all files of a bench.
     pub(crate) files: Vec<F>,
+    // The file of an old directory.
+    pub(crate) spare: F,
     // The key that the applications' keys come from.
     pub(crate) storage_key: [u8; 32],
     pub(crate) alloc: Global,
@@ -37,8 +41,9 @@ pub struct Opening<F: StoreFile + Drop, R: RpmbPort + Drop> {
 }
 
 impl<F: StoreFile + Drop, R: RpmbPort + Drop> Model for Opening<F, R> {
-    ghost use Rattle.std.specs.Prelude.{◌<◌, ◌≤◌, vec_len};
+    ghost use Rattle.std.specs.Prelude.{◌≤◌, vec_len};
     ghost use Rattle.std.specs.Vec.{vec_capacity};
+    ghost use Rattle.tee_types.specs.Limits.{file_count};
     ghost use Rattle.object_calls.specs.Opening.{IsOpening, OpeningValue};
     ghost use Rattle.object_calls.specs.Seats.{IsUnused};
 
@@ -47,12 +52,13 @@ impl<F: StoreFile + Drop, R: RpmbPort + Drop> Model for Opening<F, R> {
     ghost view = { λ o. record {
       gate = o.gate;
       files = o.files.items;
+      spare = o.spare;
       storage_key = o.storage_key;
       table = o.table;
       applications = o.applications.items;
     } };
 
-    ghost invariant = { λ o. IsOpening F.state o.gate o.files.items o.storage_key × (vec_len o.files < vec_capacity o.files)
+    ghost invariant = { λ o. IsOpening F.state o.gate o.files.items o.storage_key × (file_count ≤ vec_capacity o.files)
         × IsUnused o.table o.seat × (vec_len o.applications ≤ 16) };
 }
 
@@ -74,18 +80,20 @@ impl<F: StoreFile + Drop, R: RpmbPort + Drop> Opening<F, R> {
         alloc: Global,
         gate: Gate<F, R>,
         files: Vec<F>,
+        spare: F,
         storage_key: [u8; 32],
         table: HistoryTable,
         seat: GateSeat,
     ) -> Opening<F, R>
         requires opening { IsOpening F.state gate files.items storage_key }
-        requires room { vec_len files < vec_capacity files }
+        requires room { file_count ≤ vec_capacity files }
         requires unused { IsUnused table seat }
-        ensures { result ≡ record { gate = gate; files = files.items; storage_key = storage_key; table = table; applications = [] } }
+        ensures { result ≡ record { gate = gate; files = files.items; spare = spare; storage_key = storage_key; table = table; applications = [] } }
     {
         Opening {
             gate,
             files,
+            spare,
             storage_key,
             alloc,
             table,
@@ -108,14 +116,15 @@ impl<F: StoreFile + Drop, R: RpmbPort + Drop> Opening<F, R> {
 
     /// Gives the bench back. Every picture of it mounts to the objects that were found. No device is called, and no memory is taken.
     pub fn close(self) -> Bench<F, R>
-        ensures files { result.files.items ≡ self.gate.dir.file ∷ self.files }
+        ensures files { files_of F.state result.files.items ≡ bench_files F.state self }
         ensures card { result.card ≡ self.gate.host.port }
-        ensures whole { vec_len result.files ≡ 273 }
+        ensures whole { vec_len result.files ≡ file_count }
         ensures opens { IsWholeOpening F.state R.state self }
     {
         let Opening {
             gate,
             files,
+            spare,
             storage_key: _,
             alloc: _,
             table: _,
@@ -123,7 +132,7 @@ impl<F: StoreFile + Drop, R: RpmbPort + Drop> Opening<F, R> {
             applications: _,
         } = self;
         let (dir, card) = gate.close();
-        let files = with_dir(dir, files);
+        let files = put_together(spare, files, dir);
         Bench { files, card }
     }
 }

@@ -1,8 +1,9 @@
 //! The end of a phase.
 
-ghost use Rattle.std.specs.Prelude.{◌≡◌, ◌∷◌, ◌+◌, ◌≤◌, ◌<◌, ℕ, All, IsSome, drop, false, true, vec_len};
+ghost use Rattle.std.specs.Prelude.{◌≡◌, ◌+◌, ◌≤◌, ◌<◌, ℕ, All, IsSome, false, true, vec_len};
 ghost use Rattle.std.specs.Option.{option_map};
 ghost use Rattle.std.specs.Vec.{vec_capacity};
+ghost use Rattle.tee_types.specs.Limits.{directory_file, file_count, last_file, old_directory_file};
 ghost use Rattle.store_model.specs.Record.{events_of};
 ghost use Rattle.history_seats.specs.Numbers.{is_in, without};
 ghost use Rattle.history_seats.specs.Tags.{AreTagged};
@@ -14,7 +15,7 @@ ghost use Rattle.object_calls.specs.Services.{HasSoundOpening};
 ghost use Rattle.object_calls.specs.OpeningSessions.{AreCallers};
 ghost use Rattle.serial_calls.specs.Slots.{AreOfObjectFiles};
 
-use crate::bench::{Bench, with_dir};
+use crate::bench::{Bench, put_together};
 use crate::file_places::{put_file, taken_files};
 use crate::service::Service;
 use core_laws::StoreName;
@@ -73,13 +74,13 @@ fn retire_slots<F: StoreFile + Drop, L: StoreName>(
     slots: Vec<GuardedSlot<F, L>>,
     places: Vec<Option<F>>,
 ) -> Vec<Option<F>>
-    requires many { vec_len slots ≡ 272 }
+    requires many { vec_len slots ≡ last_file }
     requires objects { AreObjectSlots slots.items }
     requires free { AreFree places.items }
     ensures journal { journal.new ≡ record journal.old { knows = record journal.old.knows { files = journal.new.knows.files } } }
-    ensures many { vec_len result ≡ 272 }
+    ensures many { vec_len result ≡ last_file }
     ensures full { All (λ place. IsSome place) result.items }
-    ensures placed { ArePlaced L.store journal.old.knows slots.items (place_state F.state) 272 result.items }
+    ensures placed { ArePlaced L.store journal.old.knows slots.items (place_state F.state) last_file result.items }
     ensures recorded { AreRecorded journal.old.knows }
 {
     let mut left = slots;
@@ -93,30 +94,32 @@ fn retire_slots<F: StoreFile + Drop, L: StoreName>(
 }
 
 /// Ends the phase of a store: takes all seats in, and gives back the bench and the history. The slots may come in any order: each file
-/// goes to the place of its number. No device is called, and no memory is taken.
+/// goes to the place of its number, and `spare` is that of an old directory. No device is called, and no memory is taken.
 pub fn close_slots<F: StoreFile + Drop, R: RpmbPort + Drop, E: Entropy + Drop, L: StoreName>(
     gate: GuardedGate<F, R, L>,
     slots: Vec<GuardedSlot<F, L>>,
     places: Vec<Option<F>>,
     room: Vec<F>,
+    spare: F,
     sessions: Vec<Session<E>>,
 ) -> Closed<F, R>
-    requires many { vec_len slots ≡ 272 }
+    requires many { vec_len slots ≡ last_file }
     requires objects { AreObjectSlots slots.items }
     requires free { AreFree places.items }
     requires empty { vec_len room ≡ 0 }
-    requires room { 273 ≤ vec_capacity room }
+    requires room { file_count ≤ vec_capacity room }
     requires tagged { AreOfObjectFiles gate.journal.knows.all }
     requires opens { HasSoundOpening L.store }
     requires sessions { AreCallers L.store sessions.items }
     ensures events { result.history.events ≡ events_of gate.journal.knows.all }
     ensures counted { HaveCounted gate.journal.knows sessions.items }
     ensures doubt { result.doubt ≡ option_map (λ d. d.number) gate.gate.doubt }
-    ensures whole { vec_len result.bench.files ≡ 273 }
-    ensures dir { result.bench.files.items ≡ gate.gate.dir.file ∷ drop 1 result.bench.files.items }
+    ensures whole { vec_len result.bench.files ≡ file_count }
+    ensures dir { files_of F.state result.bench.files.items directory_file ≡ F.state gate.gate.dir.file }
+    ensures spare { files_of F.state result.bench.files.items old_directory_file ≡ F.state spare }
     ensures card { result.bench.card ≡ gate.gate.host.port }
     // Each file of an object is as the slot of its number left it.
-    ensures placed { (i : ℕ) → i < 272
+    ensures placed { (i : ℕ) → i < last_file
         → IsPlaced L.store gate.journal.knows slots.items (i + 1) (files_of F.state result.bench.files.items (i + 1)) }
     // Faults and commits have their tags.
     ensures tagged { AreTagged gate.journal.knows.all }
@@ -128,7 +131,7 @@ pub fn close_slots<F: StoreFile + Drop, R: RpmbPort + Drop, E: Entropy + Drop, L
     let files = taken_files(places, room);
     let doubt = gate.doubt();
     let (dir, card) = gate.close();
-    let files = with_dir(dir, files);
+    let files = put_together(spare, files, dir);
     Closed {
         bench: Bench { files, card },
         history: journal.close(),
@@ -143,7 +146,7 @@ impl<F: StoreFile + Drop, R: RpmbPort + Drop, L: StoreName> Service<F, R, L> {
         ensures events { result.history.events ≡ events_of self.gate.journal.knows.all }
         ensures counted { HaveCounted self.gate.journal.knows sessions.items }
         ensures doubt { result.doubt ≡ option_map (λ d. d.number) self.gate.gate.doubt }
-        ensures whole { vec_len result.bench.files ≡ 273 }
+        ensures whole { vec_len result.bench.files ≡ file_count }
         // Its devices are those of the service, with what they counted.
         ensures gives { GivesBack F.state self result.bench.files.items result.bench.card }
         ensures leaves { LeavesStore L.store self.gate.journal.knows (files_of F.state result.bench.files.items) (R.state result.bench.card) result.doubt }
@@ -154,8 +157,9 @@ impl<F: StoreFile + Drop, R: RpmbPort + Drop, L: StoreName> Service<F, R, L> {
             storage_key: _,
             places,
             room,
+            spare,
             alloc: _,
         } = self;
-        close_slots(gate, slots, places, room, sessions)
+        close_slots(gate, slots, places, room, spare, sessions)
     }
 }

@@ -2,6 +2,7 @@
 
 ghost use Rattle.std.specs.Prelude.{◌≡◌, ◌+◌, ◌-◌, ◌≤◌, ◌<◌, ℕ, [], length, reverse, vec_len};
 ghost use Rattle.std.specs.Vec.{vec_capacity};
+ghost use Rattle.tee_types.specs.Limits.{last_file};
 ghost use Rattle.serial_calls.specs.GuardedSlots.{SlotInvariant};
 ghost use Rattle.serial_calls.specs.FirstSlots.{first_slot};
 ghost use Rattle.object_calls.specs.Generations.{generation_in};
@@ -82,12 +83,12 @@ pub(crate) fn split_slots<F: StoreFile + Drop, R: RpmbPort + Drop, L: StoreName>
     requires entries { length gate.now.dir.dir.entries ≡ 256 }
     requires table { (table.now ≡ L.store.table) × (seat.old.table ≡ L.store.table) }
     requires splitting { IsSplitting L.store seat.old.knows 1 }
-    requires files { vec_len files ≡ 272 }
+    requires files { vec_len files ≡ last_file }
     requires empty { vec_len slots ≡ 0 }
-    requires room { 272 ≤ vec_capacity slots }
+    requires room { last_file ≤ vec_capacity slots }
     requires guarded { MayBeFirst L.store gate.now.dir.dir.entries F.state files.items }
-    ensures slots { AreFirstSlots L.store gate.now.dir.dir.entries F.state files.items 272 result.slots.items }
-    ensures many { vec_len result.slots ≡ 272 }
+    ensures slots { AreFirstSlots L.store gate.now.dir.dir.entries F.state files.items last_file result.slots.items }
+    ensures many { vec_len result.slots ≡ last_file }
     ensures table { seat.new.table ≡ L.store.table }
     ensures told { HasTold L.store seat.new.knows 0 }
     ensures room { vec_capacity result.room ≡ vec_capacity files }

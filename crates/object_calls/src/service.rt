@@ -17,7 +17,7 @@ use std::alloc::Global;
 use std::marker::Model;
 use store_model::History;
 use tee_ports::{Entropy, StoreFile};
-use tee_types::FILES;
+use tee_types::MAX_FILE;
 
 /// A mounted store that is served: the gate, and a slot of each file of an object. `L` names the store.
 #[derive(Drop)]
@@ -31,20 +31,23 @@ pub struct Service<F: StoreFile + Drop, R: RpmbPort + Drop, L: StoreName> {
     pub(crate) places: Vec<Option<F>>,
     // Where all files go then: it has room for them, and no file.
     pub(crate) room: Vec<F>,
+    // The file of an old directory.
+    pub(crate) spare: F,
     pub(crate) alloc: Global,
 }
 
 impl<F: StoreFile + Drop, R: RpmbPort + Drop, L: StoreName> Model for Service<F, R, L> {
     ghost use Rattle.std.specs.Prelude.{◌≡◌, ◌≤◌, vec_len};
     ghost use Rattle.std.specs.Vec.{vec_capacity};
+    ghost use Rattle.tee_types.specs.Limits.{file_count};
     ghost use Rattle.object_calls.specs.SlotPlaces.{AreFree};
     ghost use Rattle.object_calls.specs.Services.{IsService, ServiceValue};
 
     ghost Value = { ServiceValue F R };
 
-    ghost view = { λ s. record { gate = s.gate; slots = s.slots.items; storage_key = s.storage_key } };
+    ghost view = { λ s. record { gate = s.gate; slots = s.slots.items; storage_key = s.storage_key; spare = s.spare } };
 
-    ghost invariant = { λ s. IsService L.store s.gate s.slots.items s.storage_key × (vec_len s.room ≡ 0) × (273 ≤ vec_capacity s.room) × AreFree s.places.items };
+    ghost invariant = { λ s. IsService L.store s.gate s.slots.items s.storage_key × (vec_len s.room ≡ 0) × (file_count ≤ vec_capacity s.room) × AreFree s.places.items };
 }
 
 impl<F: StoreFile + Drop, R: RpmbPort + Drop> Opening<F, R> {
@@ -67,7 +70,7 @@ impl<F: StoreFile + Drop, R: RpmbPort + Drop> Opening<F, R> {
         ensures refused { IfErr result (λ opening. opening ≡ self) }
         ensures unseated { OnErr result (sessions.new ≡ sessions.old) }
     {
-        let Ok(slots) = Vec::with_capacity(self.alloc, FILES - 1) else {
+        let Ok(slots) = Vec::with_capacity(self.alloc, usize::from(MAX_FILE)) else {
             return Err(self)
         };
         let Ok(places) = free_places(self.alloc) else {
@@ -76,6 +79,7 @@ impl<F: StoreFile + Drop, R: RpmbPort + Drop> Opening<F, R> {
         let Opening {
             gate,
             files,
+            spare,
             storage_key,
             alloc,
             table,
@@ -93,6 +97,7 @@ impl<F: StoreFile + Drop, R: RpmbPort + Drop> Opening<F, R> {
             storage_key,
             places,
             room,
+            spare,
             alloc,
         })
     }

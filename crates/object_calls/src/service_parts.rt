@@ -2,6 +2,7 @@
 
 ghost use Rattle.std.specs.Prelude.{◌≡◌, ◌≤◌, vec_len};
 ghost use Rattle.std.specs.Vec.{vec_capacity};
+ghost use Rattle.tee_types.specs.Limits.{file_count};
 ghost use Rattle.object_calls.specs.SlotPlaces.{AreFree};
 ghost use Rattle.object_calls.specs.Services.{IsService};
 
@@ -22,8 +23,10 @@ pub struct ServiceParts<F: StoreFile + Drop, R: RpmbPort + Drop, L: StoreName> {
     pub storage_key: [u8; 32],
     /// A place for each file of an object, all of them free.
     pub places: Vec<Option<F>>,
-    /// A list without a file, that has room for all 273.
+    /// A list without a file, that has room for all of a bench.
     pub room: Vec<F>,
+    /// The file of an old directory.
+    pub spare: F,
 }
 
 impl<F: StoreFile + Drop, R: RpmbPort + Drop, L: StoreName> Service<F, R, L> {
@@ -32,11 +35,12 @@ impl<F: StoreFile + Drop, R: RpmbPort + Drop, L: StoreName> Service<F, R, L> {
         ensures gate { result.gate ≡ self.gate }
         ensures slots { result.slots.items ≡ self.slots }
         ensures storage_key { result.storage_key ≡ self.storage_key }
+        ensures spare { result.spare ≡ self.spare }
         // What always holds of a service.
         ensures service { IsService L.store self.gate self.slots self.storage_key }
         ensures free { AreFree result.places.items }
         ensures empty { vec_len result.room ≡ 0 }
-        ensures room { 273 ≤ vec_capacity result.room }
+        ensures room { file_count ≤ vec_capacity result.room }
     {
         let Service {
             gate,
@@ -44,6 +48,7 @@ impl<F: StoreFile + Drop, R: RpmbPort + Drop, L: StoreName> Service<F, R, L> {
             storage_key,
             places,
             room,
+            spare,
             alloc: _,
         } = self;
         ServiceParts {
@@ -52,6 +57,7 @@ impl<F: StoreFile + Drop, R: RpmbPort + Drop, L: StoreName> Service<F, R, L> {
             storage_key,
             places,
             room,
+            spare,
         }
     }
 }

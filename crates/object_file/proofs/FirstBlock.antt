@@ -36,7 +36,7 @@ page_length key h node k ciphertext page opens =
 
 -- a block has 4,096 bytes
 block_length : (image : List ℕ) (tree : Loaded) (k : ℕ) → length (block_in image tree k) ≡ 4096
-block_length image tree k = length-bytes_at image (start (block k (block_version tree.nodes k))) 4096
+block_length image tree k = length-bytes_at image (start tree.layout (block k (block_version tree.nodes k))) 4096
 
 -- the bytes that were read of block 0 are its page
 pub first_stands : (key : List ℕ) (tree : Loaded) (old new : FileState) (n : ℕ) (into before : List ℕ) → n ≡ 4096 → length into ≡ n → Told old new → WasRead key tree old new 0

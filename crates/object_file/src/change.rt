@@ -42,6 +42,7 @@ impl<F: StoreFile> ObjectFile<F> {
         entropy: &mut E,
     ) -> Result<(), TreeFault>
         requires idle { self.old.tree.stage ≡ None }
+        requires format { self.old.tree.root.format ≡ 2 }
         requires few { at + length bytes.now ≤ 1044480 }
         ensures staged { StageAnswer F.state self.old.tree self.new.tree (4096 + max (size_in self.old) (at + length bytes.now)) result }
         ensures attributes { self.new.attributes ≡ self.old.attributes }
@@ -104,6 +105,7 @@ impl<F: StoreFile> ObjectFile<F> {
         entropy: &mut E,
     ) -> Result<(), TreeFault>
         requires idle { self.old.tree.stage ≡ None }
+        requires format { self.old.tree.root.format ≡ 2 }
         requires few { size ≤ 1044480 }
         ensures staged { StageAnswer F.state self.old.tree self.new.tree (4096 + size) result }
         ensures attributes { self.new.attributes ≡ self.old.attributes }

@@ -18,7 +18,7 @@ ghost use Rattle.object_file.specs.Making.{AreObjectPages, IsObjectPage};
 use crate::object::{FIRST_BLOCK, ObjectFile};
 use block_file::BlockFile;
 use htree_file::{Broken, Page, Tree, TreeFault};
-use node_image::{RootRef, greatest_node};
+use node_image::{FORMAT, RootRef, greatest_node};
 use page_bytes::ByteRange;
 use std::alloc::Global;
 use tee_ports::{Entropy, NoMemory, StoreFile};
@@ -102,7 +102,7 @@ impl<F: StoreFile> ObjectFile<F> {
     ) -> Result<(ObjectFile<F>, RootRef), Broken<F>>
         requires attributes { length attributes.now ≤ 2048 }
         requires few { length bytes.now ≤ 1044480 }
-        ensures root { IfOk result (λ made. (made.1 ≡ made.0.tree.root) × (made.1.version ≡ 0)) }
+        ensures root { IfOk result (λ made. (made.1 ≡ made.0.tree.root) × (made.1.version ≡ 0) × (made.1.format ≡ 2)) }
         ensures idle { IfOk result (λ made. made.0.tree.stage ≡ None) }
         ensures attributes { IfOk result (λ made. made.0.attributes ≡ attributes.now) }
         ensures size { IfOk result (λ made. made.0.tree.tree.head.length ≡ 4096 + length bytes.now) }
@@ -153,7 +153,7 @@ impl<F: StoreFile> ObjectFile<F> {
                 });
             }
         };
-        match Tree::make(alloc, file, tsk, size, &pages, entropy) {
+        match Tree::make(alloc, file, FORMAT, tsk, size, &pages, entropy) {
             Ok((tree, root)) => {
                 let object = ObjectFile {
                     file: BlockFile::new(tree),

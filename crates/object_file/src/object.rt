@@ -96,7 +96,7 @@ impl<F: StoreFile> ObjectFile<F> {
         ensures damaged { IfErr result (λ b. IsOutsideObject b.fault ⊎ (Told (F.state file) (F.state b.file) →
             mounted_object tsk.now (F.state b.file).reads entry.now ≡ Damaged entry.now.size)) }
         // Of any file.
-        ensures seen { IfOk result (λ o. WasSeen (Lies o.tree.tree.nodes o.tree.root.version) (F.state file) (F.state o.tree.file)
+        ensures seen { IfOk result (λ o. WasSeen (Lies o.tree.tree.layout o.tree.tree.nodes o.tree.root.version) (F.state file) (F.state o.tree.file)
             (λ image. table_of image o.tree.root ≡ Result.Ok o.tree.tree)) }
         ensures differs { IfErr result (λ b. ObjectDiffers tsk.now (F.state b.file) entry.now b.fault) }
         ensures kind { IfErr result (λ b. IsObjectFault b.fault) }
@@ -111,6 +111,7 @@ impl<F: StoreFile> ObjectFile<F> {
         let root = RootRef {
             hash: entry.hash,
             version: entry.version,
+            format: entry.format,
         };
         let tree = match Tree::load(alloc, file, tsk, root) {
             Ok(tree) => tree,

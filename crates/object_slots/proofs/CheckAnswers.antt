@@ -5,6 +5,7 @@ use Rattle.disk_model.specs.Calls.{Rests}
 use Rattle.disk_model.specs.State.{FileState, Sound}
 use Rattle.disk_model.specs.Keeps.{Keeps}
 use Rattle.disk_model.proofs.Laws.{rest_keeps}
+use Rattle.node_image.specs.References.{IsCurrent}
 use Rattle.node_image.specs.declared.node.RootRef.{RootRef}
 use Rattle.htree_file.specs.Selected.{Lies}
 use Rattle.htree_file.proofs.Firmness.{keeps_selected, stays_firm}
@@ -47,9 +48,9 @@ corrupt_by A c asked (Err (NoEntropy count)) answer = answer
 corrupt_by A c asked (Err (Failed count)) answer = tt
 corrupt_by A c asked (Err NoMemory) answer = tt
 
-module _ (A : Type 0) (old new : FileState) (o : HeldObject) (c : DataChange) (now : Holding) (sound : Sound old) (still : Sound new) (bit : o.tree.root.version < 2) where
-  keeps : (result : Result A SlotFault) → ChecksObject old new o c now result → Keeps (Lies o.tree.tree.nodes o.tree.root.version) old new
-  keeps result checks = keeps_selected o.tree.tree.nodes o.tree.root.version old new (rest_keeps old new sound checks.rests)
+module _ (A : Type 0) (old new : FileState) (o : HeldObject) (c : DataChange) (now : Holding) (sound : Sound old) (still : Sound new) (current : IsCurrent o.tree.root) where
+  keeps : (result : Result A SlotFault) → ChecksObject old new o c now result → Keeps (Lies o.tree.tree.layout o.tree.tree.nodes o.tree.root.version) old new
+  keeps result checks = keeps_selected o.tree.tree.layout o.tree.tree.nodes o.tree.root.version old new (rest_keeps old new sound checks.rests)
 
   stage_fault : (fault : SlotFault) → ChecksObject old new o c now {A = A} (Err fault) → ReadFault old new o (needs c.range) fault → StageFault old new o (needs c.range) (Unit {0}) fault
   stage_fault Corrupt checks refused = (refused, checks.rests, tt)
@@ -63,7 +64,7 @@ module _ (A : Type 0) (old new : FileState) (o : HeldObject) (c : DataChange) (n
     refused = (checks.rests, checks.read);
     corrupt = checks.corrupt;
     keeps = keeps (Ok done) checks;
-    firm = stays_firm old new o.tree.root o.tree.tree sound still bit (keeps (Ok done) checks);
+    firm = stays_firm old new o.tree.root o.tree.tree sound still current.0 (keeps (Ok done) checks);
     verified = checks.verified;
     steps = stage_steps old new o still (keeps (Ok done) checks);
   }
@@ -72,7 +73,7 @@ module _ (A : Type 0) (old new : FileState) (o : HeldObject) (c : DataChange) (n
     refused = stage_fault fault checks checks.refused;
     corrupt = λ told. corrupt_as A (held_in o old.reads) c.asked (Err fault) (checks.corrupt told);
     keeps = keeps (Err fault) checks;
-    firm = stays_firm old new o.tree.root o.tree.tree sound still bit (keeps (Err fault) checks);
+    firm = stays_firm old new o.tree.root o.tree.tree sound still current.0 (keeps (Err fault) checks);
     verified = checks.verified;
     steps = stage_steps old new o still (keeps (Err fault) checks);
   }

@@ -1,7 +1,9 @@
--- The file of a content, and a stage's version.
-use Rattle.std.proofs.Common.{◌≡◌, ◌-◌, ◌<◌, ℕ, Option, Some, None, IfSome, false, arith}
+-- The file of a content, and a stage's reference.
+use Rattle.std.proofs.Common.{◌≡◌, ◌∙◌, ◌-◌, Option, Some, None, IfSome, false, arith}
 use Rattle.disk_model.specs.State.{FileState, Sound}
+use Rattle.node_image.specs.References.{IsCurrent}
 use Rattle.node_image.specs.declared.head.Head.{Head}
+use Rattle.node_image.specs.declared.node.RootRef.{RootRef}
 use Rattle.htree_file.specs.Value.{Staged}
 use Rattle.object_slots.specs.declared.content.Content.{Content}
 use Rattle.object_slots.specs.declared.content.Content.TheVariants.{Free, Made, Live, Staged as Kept}
@@ -18,7 +20,8 @@ pub sound_of : {F : Type 0} (state : F → FileState) → ((file : F) → Sound 
 sound_of state sound None filled = absurd filled
 sound_of state sound (Some content) filled = sound_in state sound content
 
--- the other version is 0 or 1
-pub next_bit : (stage : Option Staged) (v : ℕ) (head : Head) → IfSome stage (λ s. (s.root.version ≡ 1 - v) × (s.settled ≡ false) × (s.tree.head ≡ head)) → IfSome stage (λ s. s.root.version < 2)
-next_bit None v head next = tt
-next_bit (Some s) v head next = omega (arith, next.0)
+-- the reference of a stage is current where the committed one is
+pub next_current : (stage : Option Staged) (root : RootRef) (head : Head) → IsCurrent root → IfSome stage (λ s. (s.root.version ≡ 1 - root.version) × (s.settled ≡ false) × (s.tree.head ≡ head))
+    → IfSome stage (λ s. s.root.format ≡ root.format) → IfSome stage (λ s. IsCurrent s.root)
+next_current None root head current next format = tt
+next_current (Some s) root head current next format = (omega (arith, next.0), format ∙ current.1)

@@ -49,7 +49,7 @@ pub own_rests : (store : Store) (number : ℕ) (old new : FileState) (seat : Sig
 own_rests store number old new seat rests steps own =
     file_moves store number old new seat rests.goes_on (read_holds store old new seat.knows own.holds steps)
     (λ v known.
-    stands_later store.keys old new v rests.goes_on (λ taints tree told one. runs_one (Lies tree.nodes v.root.version) rest old new (own.holds None).sound rests tt) (own.masked v known))
+    stands_later store.keys old new v rests.goes_on (λ taints tree told one. runs_one (Lies tree.layout tree.nodes v.root.version) rest old new (own.holds None).sound rests tt) (own.masked v known))
     own
 
 module _ (keys : Keys) (old new : FileState) (stays : (o : HeldObject) (v : Version) → IsObjectOf keys old o v → IsObjectOf keys new o v) where

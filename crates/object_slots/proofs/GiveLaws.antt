@@ -88,11 +88,11 @@ module _ (wrap : List ℕ) (old new : FileState) (o : HeldObject) (key : o.tree.
 
   -- each other block that was asked was seen
   pub block_seen : (k : ℕ) → ((k == 0) || asked k) ≡ true → 1 ≤ k
-      → WasSeen (In (block_part k (block_version o.tree.tree.nodes k))) old new (λ image. block k ≡ block_in image o.tree.tree k)
+      → WasSeen (In o.tree.tree.layout (block_part k (block_version o.tree.tree.nodes k))) old new (λ image. block k ≡ block_in image o.tree.tree k)
   block_seen k any behind = elim (or_true (k == 0) (asked k) any) [
     | inl zero ↦ absurd (omega (arith, behind, eqb-true k 0 zero))
     | inr one ↦
-        block_each (λ c. WasSeen (In (block_part k (block_version o.tree.tree.nodes k))) old new (λ image. c ≡ block_in image o.tree.tree k)) k behind
+        block_each (λ c. WasSeen (In o.tree.tree.layout (block_part k (block_version o.tree.tree.nodes k))) old new (λ image. c ≡ block_in image o.tree.tree k)) k behind
         (λ e. (read k e).1.seen) one
   ]
 

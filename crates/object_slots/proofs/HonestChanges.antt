@@ -19,6 +19,7 @@ use Rattle.htree_file.specs.Opening.{load_of}
 use Rattle.htree_file.specs.Pages.{Opened, opened_in, opened_of, page_in, page_of}
 use Rattle.htree_file.specs.Standing.{Told}
 use Rattle.htree_file.specs.Value.{Staged}
+use Rattle.htree_file.proofs.SelectedBlocks.{selected_block}
 use Rattle.htree_file.proofs.Sizes.{sized_greatest}
 use Rattle.page_bytes.specs.declared.range.ByteRange.{ByteRange}
 use Rattle.page_bytes.specs.Changed.{HasRewritten}
@@ -33,14 +34,14 @@ use Rattle.core_laws.specs.Decodings.{Decoding, block_of, page_decoded, tree_dec
 use Rattle.object_slots.specs.SlotStages.{DataChange, HoldsStage, IsStageOf}
 use Rattle.object_slots.specs.SlotValues.{HeldObject}
 use Rattle.object_slots.specs.SlotObjects.{IsObjectOf}
-use Rattle.object_slots.proofs.HonestPages.{Lays, page_rewritten, selected_block}
+use Rattle.object_slots.proofs.HonestPages.{Lays, page_rewritten}
 
 -- what a version spells by the tree of its object, and the next one by the stage's
 abbrev pub page_decoding : Keys → Version → HeldObject → Decoding
 page_decoding keys v o = tree_decoding (object_key keys v.app) (block_of v) o.tree.tree
 
 abbrev pub next_decoding : Keys → (new : FileState) → Version → Staged → Decoding
-next_decoding keys new v s = tree_decoding (object_key keys v.app) (λ k. get_or (selected_tree new.reads s.root.version).blocks k []) s.tree
+next_decoding keys new v s = tree_decoding (object_key keys v.app) (λ k. get_or (selected_tree new.reads s.root).blocks k []) s.tree
 
 pub needed_old : (r : ByteRange) (k : ℕ) → needs r k ≡ true → 4096 * k < r.size
 needed_old r k is = grind (arith, is)
@@ -92,8 +93,8 @@ module _ (keys : Keys) (old new : FileState) (o : HeldObject) (v : Version) (c :
   -- the pages of the old tree, and of the new one
   page_was : (k : ℕ) → k < length o.tree.tree.nodes → page_decoded was k ≡ page_at opened_was.pages k
   page_was k lt =
-      let text : block_of v k ≡ get_or (selected_tree old.reads o.tree.root.version).blocks k [] =
-      ap (λ (t : SelectedTree). get_or t.blocks k []) (sym shown.selects) ∙ ap (λ (x : RootRef). get_or (selected_tree old.reads x.version).blocks k []) is.root in
+      let text : block_of v k ≡ get_or (selected_tree old.reads o.tree.root).blocks k [] =
+      ap (λ (t : SelectedTree). get_or t.blocks k []) (sym shown.selects) ∙ ap (λ (x : RootRef). get_or (selected_tree old.reads x).blocks k []) is.root in
       ap (page_of (unwrapped_of wrap o.tree.tree.head.wrapped) o.tree.tree.head (at_node o.tree.tree.nodes (k + 1)) k) (text ∙ selected_block old.reads o.tree.root o.tree.tree loads k lt)
       ∙ sym (row_at (page_in old.reads (unwrapped_of wrap o.tree.tree.head.wrapped) o.tree.tree) (length o.tree.tree.nodes) k None lt)
 

@@ -1,18 +1,8 @@
 -- How the pages of a version in an honest file become those of the next.
-use Rattle.std.proofs.Common.{◌≡◌, ◌∙◌, ◌⊎◌, ◌+◌, ◌*◌, ◌/◌, ◌%◌, ◌<◌, ◌≤◌, ℕ, true, List, [], length, get_or, Option, Some, Ok, inl, inr, sym, ap, arith}
+use Rattle.std.proofs.Common.{◌≡◌, ◌∙◌, ◌⊎◌, ◌+◌, ◌*◌, ◌/◌, ◌%◌, ◌<◌, ◌≤◌, ℕ, true, List, [], length, get_or, Option, Some, inl, inr, sym, ap, arith}
 use Rattle.std.proofs.lemmas.Bool.{cases_lt}
 use Rattle.std.proofs.lemmas.List.{get_or_past}
 use Rattle.disk_model.specs.Bytes.{after_resize, after_write}
-use Rattle.node_image.specs.declared.node.RootRef.{RootRef}
-use Rattle.node_image.specs.declared.node.NodeImage.{NodeImage}
-use Rattle.node_image.specs.declared.head.Head.{Head}
-use Rattle.node_image.specs.Parts.Part.{block}
-use Rattle.node_image.specs.Selection.{head_in, part_in, selected_node, selected_tree}
-use Rattle.node_image.specs.Tables.{block_bit}
-use Rattle.node_image.proofs.Matching.{node_is, row_at}
-use Rattle.htree_file.specs.Opening.{Loaded, load_of}
-use Rattle.htree_file.specs.Pages.{block_in}
-use Rattle.htree_file.proofs.Loadings.{loaded_from}
 use Rattle.page_bytes.specs.declared.range.ByteRange.{ByteRange}
 use Rattle.page_bytes.specs.Pages.{byte_at, byte_in, bytes_from}
 use Rattle.page_bytes.specs.Ranges.{meets, needs, resize_range, write_range}
@@ -87,12 +77,3 @@ module _ (r : ByteRange) (at : ℕ) (bytes : List ℕ) (left : List ℕ → List
       ∙ get_or-bytes_from-zero was r.size (4096 * k + i) within
       ∙ at_place was i small
       ∙ ap (λ (o : Option (List ℕ)). byte_in o i) (needed (needs_outside r k i small met outside within)))
-
--- The ciphertexts of a tree that loads from an image are those that its reference selects there.
-pub selected_block : (image : List ℕ) (root : RootRef) (tree : Loaded) → load_of image root ≡ Ok tree → (k : ℕ) → k < length tree.nodes → get_or (selected_tree image root.version).blocks k [] ≡ block_in image tree k
-selected_block image root tree is k lt =
-    let l = loaded_from image root tree is in
-    row_at (λ j. part_in image (block j (block_bit (selected_node image root.version (j + 1)).flags))) (head_in image root.version).greatest k []
-    (omega (arith, lt, l.hashed.all, ap (λ (h : Head). h.greatest) l.top))
-    ∙ ap (λ (n : NodeImage). part_in image (block k (block_bit n.flags)))
-    (node_is image root.version tree.nodes (length tree.nodes) l.matches (k + 1) (omega arith) (omega (arith, lt)))

@@ -30,7 +30,7 @@ module _ (key : List ℕ) (tree : Loaded) (a b : FileState) (k : ℕ) (page : Li
   page_now read = record {
     among = read.among;
     ciphertext = read.ciphertext;
-    seen = seen_anew (In (block k (block_version tree.nodes k))) a b (λ image. read.ciphertext ≡ block_in image tree k) rests read.seen;
+    seen = seen_anew (In tree.layout (block k (block_version tree.nodes k))) a b (λ image. read.ciphertext ≡ block_in image tree k) rests read.seen;
     stands = λ told.
         let through = told_through a b rests.goes_on told in
         read.stands through ∙ ap (λ (bytes : List ℕ). block_in bytes tree k) (sym (rests.reads through.1));
@@ -40,7 +40,7 @@ module _ (key : List ℕ) (tree : Loaded) (a b : FileState) (k : ℕ) (page : Li
 
   -- one that stood before it stands still
   page_still : Sound a → IsPage key tree a a k page → IsPage key tree b b k page
-  page_still sound stood = page_now (page_first key tree a a b k page (rests_keep tree.nodes a b sound rests) stood)
+  page_still sound stood = page_now (page_first key tree a a b k page (rests_keep tree.layout tree.nodes a b sound rests) stood)
 
 -- no page is kept
 pub kept_none : {F : Type 0} (state : F → FileState) (t : TreeValue F) (pages : List (ℕ × List ℕ)) → pages ≡ [] → AreKept state t pages

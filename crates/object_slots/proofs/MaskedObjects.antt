@@ -51,14 +51,14 @@ pub own_masked : (keys : Keys) (told : Option (List Taint)) (v : Version) (tree 
 own_masked keys told v tree asked loads within taints own is one = record {
   same = λ differs. differs (ok_same v tree own loads one.loads);
   blocks = λ k any.
-      own_shown keys v tree one.image one.shows loads taints (λ place. In (block k (block_version tree.nodes k)) place × Lies own.nodes v.root.version place) k (within k any);
+      own_shown keys v tree one.image one.shows loads taints (λ place. In tree.layout (block k (block_version tree.nodes k)) place × Lies own.layout own.nodes v.root.version place) k (within k any);
 }
 
 -- What was given of the blocks of a version's object.
 module _ (keys : Keys) (old new : FileState) (goes : GoesOn old new) (o : HeldObject) (v : Version) (is : IsObjectOf keys old o v) where
   abbrev Shows : List Taint → Loaded → ℕ → Loaded → List ℕ → Type 0
   Shows taints own k t c =
-      ShowsMasked keys taints v (λ place. In (block k (block_version t.nodes k)) place × Lies own.nodes v.root.version place) (λ image. c ≡ block_in image t k)
+      ShowsMasked keys taints v (λ place. In t.layout (block k (block_version t.nodes k)) place × Lies own.layout own.nodes v.root.version place) (λ image. c ≡ block_in image t k)
 
   pub given_masked : (wrap : List ℕ) (size : ℕ) (asked : ℕ → Bool) (gave : Gave wrap o.tree.root size asked) → IsGivenBy old new o is.front gave
       → IsMaskedOf keys (told_taints new) v asked gave.tree gave.block
@@ -69,7 +69,7 @@ module _ (keys : Keys) (old new : FileState) (goes : GoesOn old new) (o : HeldOb
         same = λ differs. front.same (λ e. differs (by.tree ∙ e));
         blocks = λ k any.
             subst (λ (t : Loaded). Shows taints own k t (gave.block k)) (sym by.tree) (elim (cases_lt 0 k) [
-              | inl behind ↦ seen_masked keys taints v own (In (block k (block_version o.tree.tree.nodes k))) old new (λ image. gave.block k ≡ block_in image o.tree.tree k) told goes (is.bytes taints own told one) (by.seen k any behind)
+              | inl behind ↦ seen_masked keys taints v own (In o.tree.tree.layout (block k (block_version o.tree.tree.nodes k))) old new (λ image. gave.block k ≡ block_in image o.tree.tree k) told goes (is.bytes taints own told one) (by.seen k any behind)
               | inr low ↦
                   let e : 0 ≡ k = omega (arith, low) in
                   subst (λ (j : ℕ). Shows taints own j o.tree.tree (gave.block j)) e (subst (λ (c : List ℕ). Shows taints own 0 o.tree.tree c) (sym by.first) (front.blocks 0 refl))
@@ -77,17 +77,17 @@ module _ (keys : Keys) (old new : FileState) (goes : GoesOn old new) (o : HeldOb
       }
 
   -- a run off the object's tree is off the version's
-  pub object_runs : Runs (Lies o.tree.tree.nodes o.tree.root.version) old new → (taints : List Taint) (tree : Loaded) → told_taints new ≡ Some taints
-      → HasOneTree keys taints v tree → Runs (Lies tree.nodes v.root.version) old new
+  pub object_runs : Runs (Lies o.tree.tree.layout o.tree.tree.nodes o.tree.root.version) old new → (taints : List Taint) (tree : Loaded) → told_taints new ≡ Some taints
+      → HasOneTree keys taints v tree → Runs (Lies tree.layout tree.nodes v.root.version) old new
   object_runs runs taints tree still one =
-      runs_within (Lies o.tree.tree.nodes o.tree.root.version) (Lies tree.nodes v.root.version)
-      (λ p lies off. (is.masked taints tree (sym (told_stays old new goes) ∙ still) one).same (λ e. off (subst (λ (x : Loaded × RootRef). Lies x.0.nodes x.1.version p) (λ i. (sym e i, is.root i)) lies)))
+      runs_within (Lies o.tree.tree.layout o.tree.tree.nodes o.tree.root.version) (Lies tree.layout tree.nodes v.root.version)
+      (λ p lies off. (is.masked taints tree (sym (told_stays old new goes) ∙ still) one).same (λ e. off (subst (λ (x : Loaded × RootRef). Lies x.0.layout x.0.nodes x.1.version p) (λ i. (sym e i, is.root i)) lies)))
       old new runs
 
 -- What is loaded of a version, from a file where that stands.
 pub loaded_masked : (keys : Keys) (old new : FileState) → GoesOn old new → (o : HeldObject) (v : Version) (ciphertext : List ℕ) → v.root ≡ o.tree.root → StandsMasked keys old v
-    → WasSeen (Lies o.tree.tree.nodes o.tree.root.version) old new (λ image. table_of image o.tree.root ≡ Ok o.tree.tree)
-    → WasSeen (In (block 0 (block_version o.tree.tree.nodes 0))) old new (λ image. ciphertext ≡ block_in image o.tree.tree 0)
+    → WasSeen (Lies o.tree.tree.layout o.tree.tree.nodes o.tree.root.version) old new (λ image. table_of image o.tree.root ≡ Ok o.tree.tree)
+    → WasSeen (In o.tree.tree.layout (block 0 (block_version o.tree.tree.nodes 0))) old new (λ image. ciphertext ≡ block_in image o.tree.tree 0)
     → IsMaskedOf keys (told_taints new) v (λ k. k == 0) o.tree.tree (λ k. ciphertext)
 loaded_masked keys old new goes o v ciphertext root stands tree front taints own still one =
     let told : told_taints old ≡ Some taints = sym (told_stays old new goes) ∙ still in
@@ -98,13 +98,13 @@ loaded_masked keys old new goes o v ciphertext root stands tree front taints own
             other = o.tree.tree;
             differs = differs;
             shown =
-                seen_masked keys taints v own (Lies o.tree.tree.nodes v.root.version) old new (HasTable v o.tree.tree) told goes at
-                (subst (λ (r : RootRef). WasSeen (Lies o.tree.tree.nodes r.version) old new (λ image. table_of image r ≡ Ok o.tree.tree)) (sym root) tree);
+                seen_masked keys taints v own (Lies o.tree.tree.layout o.tree.tree.nodes v.root.version) old new (HasTable v o.tree.tree) told goes at
+                (subst (λ (r : RootRef). WasSeen (Lies o.tree.tree.layout o.tree.tree.nodes r.version) old new (λ image. table_of image r ≡ Ok o.tree.tree)) (sym root) tree);
           });
       blocks = λ k zero.
-          subst (λ (j : ℕ). ShowsMasked keys taints v (λ place. In (block j (block_version o.tree.tree.nodes j)) place × Lies own.nodes v.root.version place)
+          subst (λ (j : ℕ). ShowsMasked keys taints v (λ place. In o.tree.tree.layout (block j (block_version o.tree.tree.nodes j)) place × Lies own.layout own.nodes v.root.version place)
           (λ image. ciphertext ≡ block_in image o.tree.tree j))
-          (sym (eqb-true k 0 zero)) (seen_masked keys taints v own (In (block 0 (block_version o.tree.tree.nodes 0))) old new (λ image. ciphertext ≡ block_in image o.tree.tree 0) told goes at front);
+          (sym (eqb-true k 0 zero)) (seen_masked keys taints v own (In o.tree.tree.layout (block 0 (block_version o.tree.tree.nodes 0))) old new (λ image. ciphertext ≡ block_in image o.tree.tree 0) told goes at front);
     }
 
 -- The front of an object of a version that is shown and sound: the block that is committed in it.
@@ -127,7 +127,7 @@ module _ (keys : Keys) (o : HeldObject) (v : Version) (c : Contents) (image : Li
         long =
             page_length o.tree.key o.tree.tree.head (at_node o.tree.tree.nodes 1) 0 (block_of v 0) first.page opens
             ∙ ap length (sym (block_is keys v o.tree.tree image shows loads 0 some_node))
-            ∙ length-bytes_at image (start (block 0 (block_version o.tree.tree.nodes 0))) 4096;
+            ∙ length-bytes_at image (start o.tree.tree.layout (block 0 (block_version o.tree.tree.nodes 0))) 4096;
         seals = (block_of v 0, opens);
         front = λ i lt.
             ap (λ (l : List ℕ). get_or l i 0) (sym attributes ∙ first.attributes_are) ∙ get_or-take v.attributes first.page i 0 (omega (arith, lt, long_attributes));
@@ -140,7 +140,7 @@ module _ (keys : Keys) (o : HeldObject) (v : Version) (c : Contents) (image : Li
       record {
         same = m.same;
         blocks = λ k zero.
-            subst (λ (j : ℕ). ShowsMasked keys taints v (λ place. In (block k (block_version o.tree.tree.nodes k)) place × Lies own.nodes v.root.version place)
+            subst (λ (j : ℕ). ShowsMasked keys taints v (λ place. In o.tree.tree.layout (block k (block_version o.tree.tree.nodes k)) place × Lies own.layout own.nodes v.root.version place)
             (λ other. block_of v j ≡ block_in other o.tree.tree k))
             (eqb-true k 0 zero) (m.blocks k zero);
       }

@@ -8,7 +8,7 @@ use Rattle.hmac_keys.specs.declared.Keys.{Keys}
 use Rattle.node_image.specs.declared.node.RootRef.{RootRef}
 use Rattle.node_image.specs.declared.head.Head.{Head}
 use Rattle.node_image.specs.Selection.{SelectedTree, part_in, row, selected_tree}
-use Rattle.node_image.specs.Parts.{start}
+use Rattle.node_image.specs.Parts.{start, layout_of}
 use Rattle.node_image.specs.Parts.Part.{head}
 use Rattle.node_image.proofs.ImageBytes.{length-bytes_at}
 use Rattle.disk_model.specs.Arms.{Taint}
@@ -67,17 +67,17 @@ decoded_block keys root tree app size attributes block k lt = row_at block (leng
 pub decoded_unshown : (keys : Keys) (root : RootRef) (tree : Loaded) (app : List ℕ) (size attributes : ℕ) (block : ℕ → List ℕ) (taints : List Taint) (own : Loaded)
     → HasOneTree keys taints (version_decoded keys root tree app size attributes block) own → ⊥
 decoded_unshown keys root tree app size attributes block taints own one =
-    let none : length (part_in one.image (head root.version)) ≡ 0 = ap (λ (t : SelectedTree). length t.head_bytes) one.shows.selects in
-    omega (arith, none, length-bytes_at one.image (start (head root.version)) 32)
+    let none : length (part_in (layout_of root.format) one.image (head root.version)) ≡ 0 = ap (λ (t : SelectedTree). length t.head_bytes) one.shows.selects in
+    omega (arith, none, length-bytes_at one.image (start (layout_of root.format) (head root.version)) 32)
 
 -- A version that stands in a file, with its tree selected there, is real.
 pub replay_real : (keys : Keys) (s : FileState) (root : RootRef) (tree : Loaded) (app : List ℕ) (size attributes : ℕ) (object : Object) → SoundFile s
-    → VersionStands keys s (record { root = root; tree = selected_tree s.reads root.version; loads = Ok tree; app = app; size = size; attributes = attributes; object = object })
-    → IsReal keys (record { root = root; tree = selected_tree s.reads root.version; loads = Ok tree; app = app; size = size; attributes = attributes; object = object })
+    → VersionStands keys s (record { root = root; tree = selected_tree s.reads root; loads = Ok tree; app = app; size = size; attributes = attributes; object = object })
+    → IsReal keys (record { root = root; tree = selected_tree s.reads root; loads = Ok tree; app = app; size = size; attributes = attributes; object = object })
 replay_real keys s root tree app size attributes object sound stands =
     let shown = stands.shown s.reads (reads_left s sound) in
     subst (IsReal keys)
-    (λ i. record { root = root; tree = selected_tree s.reads root.version; loads = shown.loads i; app = app; size = size; attributes = attributes; object = shown.object i })
+    (λ i. record { root = root; tree = selected_tree s.reads root; loads = shown.loads i; app = app; size = size; attributes = attributes; object = shown.object i })
     (image_real keys s.reads root app size attributes sound.reads)
 
 -- What a stage leaves of an object of a version, with these ciphertexts where the file is not honest.

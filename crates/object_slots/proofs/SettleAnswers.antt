@@ -3,6 +3,7 @@ use Rattle.std.proofs.Common.{◌≡◌, ◌∙◌, ◌<◌, true, Option, Some,
 use Rattle.disk_model.specs.State.{FileState}
 use Rattle.disk_model.specs.Calls.{Known, Syncs}
 use Rattle.disk_model.specs.Keeps.{Anywhere, Keeps}
+use Rattle.node_image.specs.References.{IsCurrent}
 use Rattle.node_image.specs.declared.node.RootRef.{RootRef}
 use Rattle.htree_file.specs.declared.fault.TreeFault.{TreeFault}
 use Rattle.htree_file.specs.declared.fault.TreeFault.TheVariants.{BadHead, BadTag, Damaged, Failed, NoEntropy, NoMemory, Short}
@@ -51,10 +52,10 @@ module _ {F : Type 0} (o p : ObjectValue F) (same : p ≡ record o { tree = reco
     held_is : with_own_stage (apart p) p.tree.stage ≡ staged (apart o) (record stage { settled = true })
     held_is = λ i. with_own_stage (apart_same o p same i) (stage_is.1 i)
 
-    pub settled_content : o.tree.root.version < 2 → IfSome o.tree.stage (λ s. s.root.version < 2) → IsStageKept p.tree.stage × IsHolding (with_own_stage (apart p) p.tree.stage)
-    settled_content bit bits = (
+    pub settled_content : IsCurrent o.tree.root → IfSome o.tree.stage (λ s. IsCurrent s.root) → IsStageKept p.tree.stage × IsHolding (with_own_stage (apart p) p.tree.stage)
+    settled_content current nexts = (
       subst IsStageKept (sym stage_is.1) tt,
-      subst IsHolding (sym held_is) (bit, refl, at_some o.tree.stage (λ s. s.root.version < 2) stage (opened o.tree.stage is_open).1 bits),
+      subst IsHolding (sym held_is) (current, refl, at_some o.tree.stage (λ s. IsCurrent s.root) stage (opened o.tree.stage is_open).1 nexts),
     )
 
     pub settles_ok : (old new : FileState) → Syncs old new → (Known old new → new.reads ≡ old.reads) → Keeps Anywhere old new → FilePassed old new

@@ -26,15 +26,16 @@ use Rattle.object_slots.specs.SlotValues.{apart, free}
 use Rattle.object_slots.proofs.StepLaws.{taker_steps}
 
 module _ {F : Type 0} (old mid new : FileState) (o : ObjectValue F) (root : RootRef) (tsk attributes bytes : List ℕ) (goes : GoesOn old mid) where
-  pub is_made : root ≡ o.tree.root → root.version ≡ 0 → o.attributes ≡ attributes → o.tree.tree.head.length ≡ 4096 + length bytes → o.tree.key ≡ unwrapped_of tsk o.tree.tree.head.wrapped
+  pub is_made : root ≡ o.tree.root → root.version ≡ 0 → root.format ≡ 2 → o.attributes ≡ attributes → o.tree.tree.head.length ≡ 4096 + length bytes → o.tree.key ≡ unwrapped_of tsk o.tree.tree.head.wrapped
       → IsVerified root o.tree.tree → NamesVersionZero o.tree.tree
       → ((k : ℕ) → k < length o.tree.tree.nodes → (page : List ℕ) × IsObjectPage attributes bytes k page × Seals o.tree.key o.tree.tree k page)
       → (Known mid new → load_of new.reads root ≡ Ok o.tree.tree)
       → (Known mid new → object_in tsk new.reads root (length bytes) (length attributes) ≡ Sound (new_contents attributes bytes))
       → (IsTrue new.honest → IsFirm new root o.tree.tree) → IsMade old new tsk attributes bytes root (apart o)
-  is_made root_is version own long key verified flags seals loads object firm = record {
+  is_made root_is version format own long key verified flags seals loads object firm = record {
     root_is = root_is;
     version = version;
+    format = format;
     attributes_are = own;
     size = long;
     key = key;

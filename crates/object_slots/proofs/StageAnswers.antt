@@ -5,6 +5,7 @@ use Rattle.disk_model.specs.Calls.{Known, Rests}
 use Rattle.disk_model.specs.Keeps.{Anywhere, Keeps}
 use Rattle.disk_model.proofs.Goings.{then_known}
 use Rattle.disk_model.proofs.Laws.{keeps_then}
+use Rattle.node_image.specs.References.{IsCurrent}
 use Rattle.node_image.specs.declared.node.RootRef.{RootRef}
 use Rattle.node_image.specs.Layout.{greatest_of}
 use Rattle.htree_file.specs.declared.fault.TreeFault.{TreeFault}
@@ -73,6 +74,7 @@ module _ {F : Type 0} (state : F → FileState) (old new : ObjectValue F) (c : D
     opens = answer.opens;
     none = answer.none;
     next = answer.next;
+    format = answer.format;
     verifies = answer.verified;
     spares = answer.spares;
     seals = seals;
@@ -105,20 +107,20 @@ module _ (o : HeldObject) (c : DataChange) (Undrawn : Type 0) where
       (record { block = k; want = want; found = found; bad = opens.blocks }, early.0, early.1)
 
   -- no stage was opened
-  pub stages_refused : (old new : FileState) (stage : Option Staged) (now : Holding) (A : Type 0) (fault : TreeFault) → Sound old → Sound new → o.tree.root.version < 2
+  pub stages_refused : (old new : FileState) (stage : Option Staged) (now : Holding) (A : Type 0) (fault : TreeFault) → Sound old → Sound new → IsCurrent o.tree.root
       → IsChangeFault fault → now ≡ live o → OpensStage old new o c stage Undrawn {A = A} (Err fault) → StagesObject old new o c now Undrawn (Err (slot_fault fault))
-  stages_refused old new stage now A fault sound still bit kind same opens = record {
+  stages_refused old new stage now A fault sound still current kind same opens = record {
     leaves = same;
     refused = stage_fault old new stage A fault kind opens;
     corrupt = λ told. corrupt_fault (held_in o old.reads) c.asked A RootRef fault kind (opens.corrupt told);
     keeps = opens.keeps;
-    firm = stays_firm old new o.tree.root o.tree.tree sound still bit opens.keeps;
+    firm = stays_firm old new o.tree.root o.tree.tree sound still current.0 opens.keeps;
     verified = opens.verified;
     steps = stage_steps old new o still opens.keeps;
   }
 
   -- what the new nodes seal, in the course of further calls
-  seals_first : (a b d : FileState) (next : Loaded) → Keeps (Lies o.tree.tree.nodes o.tree.root.version) b d → SealsRange o.tree.key o.tree.tree next a b c.range c.at c.bytes (4096 + c.size)
+  seals_first : (a b d : FileState) (next : Loaded) → Keeps (Lies o.tree.tree.layout o.tree.tree.nodes o.tree.root.version) b d → SealsRange o.tree.key o.tree.tree next a b c.range c.at c.bytes (4096 + c.size)
       → SealsRange o.tree.key o.tree.tree next a d c.range c.at c.bytes (4096 + c.size)
   seals_first a b d next keeps seals = record {
     met = λ k lt first last.
@@ -131,8 +133,8 @@ module _ (o : HeldObject) (c : DataChange) (Undrawn : Type 0) where
   }
 
   module _ (old mid new : FileState) (stage : Option Staged) (now : Holding) (opens : OpensStage old mid o c stage Undrawn {A = Unit {0}} (Ok tt)) where
-    both_keep : Keeps Anywhere mid new → Keeps (Lies o.tree.tree.nodes o.tree.root.version) old new
-    both_keep keeps = keeps_then (Lies o.tree.tree.nodes o.tree.root.version) old mid new opens.keeps (keeps_selected o.tree.tree.nodes o.tree.root.version mid new keeps)
+    both_keep : Keeps Anywhere mid new → Keeps (Lies o.tree.tree.layout o.tree.tree.nodes o.tree.root.version) old new
+    both_keep keeps = keeps_then (Lies o.tree.tree.layout o.tree.tree.nodes o.tree.root.version) old mid new opens.keeps (keeps_selected o.tree.tree.layout o.tree.tree.nodes o.tree.root.version mid new keeps)
 
     module _ (root : RootRef) (settles : SettlesObject mid new o stage now (Ok root)) where
       abbrev s : Staged
@@ -175,14 +177,15 @@ module _ (o : HeldObject) (c : DataChange) (Undrawn : Type 0) where
       next_is : IsNext s
       next_is = at_some stage IsNext s is opens.next
 
-      kept : Keeps (Lies o.tree.tree.nodes o.tree.root.version) mid new
-      kept = keeps_selected o.tree.tree.nodes o.tree.root.version mid new settles.keeps
+      kept : Keeps (Lies o.tree.tree.layout o.tree.tree.nodes o.tree.root.version) mid new
+      kept = keeps_selected o.tree.tree.layout o.tree.tree.nodes o.tree.root.version mid new settles.keeps
 
       stage_of : IsStageOf old new o c root after
       stage_of = record {
         root_is = sym leaves_is.0;
         settled = refl;
         version = next_is.0;
+        format = at_some stage (λ x. x.root.format ≡ o.tree.root.format) s is opens.format;
         head = next_is.2;
         synced = (mid, opens.keeps, settles.synced);
         verified = at_some stage (λ x. IsVerified x.root x.tree) s is opens.verifies;
@@ -196,13 +199,13 @@ module _ (o : HeldObject) (c : DataChange) (Undrawn : Type 0) where
             (at_some stage (λ x. load_of mid.reads x.root ≡ Ok x.tree) s is (opens.loads (inl (settles.keeps.goes_on.honest honest)) loads));
       }
 
-      stages_settled : Sound old → Sound new → o.tree.root.version < 2 → StagesObject old new o c now Undrawn (Ok root)
-      stages_settled sound still bit = record {
+      stages_settled : Sound old → Sound new → IsCurrent o.tree.root → StagesObject old new o c now Undrawn (Ok root)
+      stages_settled sound still current = record {
         leaves = (after, leaves_is.1, stage_of);
         refused = tt;
         corrupt = λ told. opens.corrupt (told_before told);
         keeps = both_keep settles.keeps;
-        firm = stays_firm old new o.tree.root o.tree.tree sound still bit (both_keep settles.keeps);
+        firm = stays_firm old new o.tree.root o.tree.tree sound still current.0 (both_keep settles.keeps);
         verified = opens.verified;
         steps = stage_steps old new o still (both_keep settles.keeps);
       }
@@ -220,15 +223,15 @@ module _ (o : HeldObject) (c : DataChange) (Undrawn : Type 0) where
     file_refused NoMemory kind = absurd kind
 
     -- the stage was opened, and settled or given up
-    pub stages_then : (result : Result RootRef SlotFault) → Sound old → Sound new → o.tree.root.version < 2 → SettlesObject mid new o stage now result
+    pub stages_then : (result : Result RootRef SlotFault) → Sound old → Sound new → IsCurrent o.tree.root → SettlesObject mid new o stage now result
         → StagesObject old new o c now Undrawn result
-    stages_then (Ok root) sound still bit settles = stages_settled root settles sound still bit
-    stages_then (Err fault) sound still bit settles = record {
+    stages_then (Ok root) sound still current settles = stages_settled root settles sound still current
+    stages_then (Err fault) sound still current settles = record {
       leaves = settles.leaves;
       refused = file_refused fault settles.kind;
       corrupt = λ told. file_corrupt (held_in o old.reads) fault settles.kind;
       keeps = both_keep settles.keeps;
-      firm = stays_firm old new o.tree.root o.tree.tree sound still bit (both_keep settles.keeps);
+      firm = stays_firm old new o.tree.root o.tree.tree sound still current.0 (both_keep settles.keeps);
       verified = opens.verified;
       steps = stage_steps old new o still (both_keep settles.keeps);
     }

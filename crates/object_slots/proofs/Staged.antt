@@ -25,7 +25,7 @@ use Rattle.object_slots.proofs.Stays.{object_stays, run_stands}
 
 -- A slot of the store, whose view gives the version of its object, and a run of calls off the object's tree.
 module _ (store : Store) (number : ℕ) (old new : FileState) (seat : Sight SlotView) (o : HeldObject) (v : Version) (own : IsSlotOf store number old seat)
-    (gives : own_version seat.knows ≡ calm (Some v)) (is : IsObjectOf store.keys old o v) (steps : StageSteps old new o) (keeps : Keeps (Lies o.tree.tree.nodes o.tree.root.version) old new) where
+    (gives : own_version seat.knows ≡ calm (Some v)) (is : IsObjectOf store.keys old o v) (steps : StageSteps old new o) (keeps : Keeps (Lies o.tree.tree.layout o.tree.tree.nodes o.tree.root.version) old new) where
   knows_one : IsTrue old.honest → KnowsOne o.tree.root o.tree.tree seat.knows
   knows_one honest w known =
       let one : v ≡ w = some_same v w (known_one seat.knows (Some v) gives own.single w known) in
@@ -50,7 +50,7 @@ module _ (store : Store) (number : ℕ) (old new : FileState) (seat : Sight Slot
   pub version_keeps : IsTrue new.honest → VersionStands store.keys new v
   version_keeps honest =
       let was : IsTrue old.honest = keeps.goes_on.honest honest in
-      let run : Runs (Lies o.tree.tree.nodes v.root.version) old new = subst (λ (r : RootRef). Runs (Lies o.tree.tree.nodes r.version) old new) (sym is.root) keeps.run in
+      let run : Runs (Lies o.tree.tree.layout o.tree.tree.nodes v.root.version) old new = subst (λ (r : RootRef). Runs (Lies o.tree.tree.layout o.tree.tree.nodes r.version) old new) (sym is.root) keeps.run in
       run_stands store.keys v o.tree.tree (is.loads was) old run.calls new run.run own_stays_sound honest (is.stands was)
     where
       own_stays_sound : SoundFile new

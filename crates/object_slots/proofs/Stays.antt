@@ -36,7 +36,7 @@ has_version keys s o v is honest = record {
 }
 
 -- While its version stands, the object holds what it held.
-pub object_stays : (keys : Keys) (old new : FileState) (o : HeldObject) (v : Version) → SoundFile new → Runs (Lies o.tree.tree.nodes o.tree.root.version) old new
+pub object_stays : (keys : Keys) (old new : FileState) (o : HeldObject) (v : Version) → SoundFile new → Runs (Lies o.tree.tree.layout o.tree.tree.nodes o.tree.root.version) old new
     → (IsTrue new.honest → VersionStands keys new v)
     → IsObjectOf keys old o v → IsObjectOf keys new o v
 object_stays keys old new o v sound runs stands is = record {
@@ -58,7 +58,7 @@ object_stays keys old new o v sound runs stands is = record {
 }
   where
     goes : GoesOn old new
-    goes = runs_go_on (Lies o.tree.tree.nodes o.tree.root.version) old new runs
+    goes = runs_go_on (Lies o.tree.tree.layout o.tree.tree.nodes o.tree.root.version) old new runs
 
     same : told_taints old ≡ told_taints new
     same = sym (told_stays old new goes)
@@ -66,7 +66,7 @@ object_stays keys old new o v sound runs stands is = record {
 -- a call that changes nothing
 pub object_rests : (keys : Keys) (old new : FileState) (o : HeldObject) (v : Version) → SoundFile old → SoundFile new → Rests old new → IsObjectOf keys old o v → IsObjectOf keys new o v
 object_rests keys old new o v sound still rests is =
-    object_stays keys old new o v still (runs_one (Lies o.tree.tree.nodes o.tree.root.version) rest old new sound rests tt) (λ honest. version_stays keys rest old new v sound still honest rests tt (is.stands (rests.goes_on.honest honest))) is
+    object_stays keys old new o v still (runs_one (Lies o.tree.tree.layout o.tree.tree.nodes o.tree.root.version) rest old new sound rests tt) (λ honest. version_stays keys rest old new v sound still honest rests tt (is.stands (rests.goes_on.honest honest))) is
 
 first_sound : (Kept : ℕ → Type 0) (old : FileState) (calls : List FileCall) (new : FileState) → IsFileRun Kept old calls new → SoundFile new → SoundFile old
 first_sound Kept old [] new run sound = subst SoundFile run sound
@@ -79,7 +79,7 @@ outside_misses from upto place (inr above) first last = absurd (omega (arith, ab
 -- a version whose tree is not met by calls of its file stands behind them
 module _ (keys : Keys) (v : Version) (tree : Loaded) (loads : v.loads ≡ Ok tree) where
   abbrev Kept : ℕ → Type 0
-  Kept = Lies tree.nodes v.root.version
+  Kept = Lies tree.layout tree.nodes v.root.version
 
   missed : (s : FileState) (call : FileCall) → SoundFile s → VersionStands keys s v → CallOff Kept call → CallMisses call s.reads v.root
   missed s (write from upto) sound stands off = record {

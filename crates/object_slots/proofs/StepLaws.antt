@@ -14,7 +14,7 @@ pub read_steps : (old new : FileState) → Sound new → Rests old new → ReadS
 read_steps old new sound rests view stage =
     record { steps = CallFile rest ∷ []; run = (part new view stage, record { called = rests; sound = sound; spares = λ honest. tt; stage = refl; view = refl }, refl) }
 
-pub stage_steps : (old new : FileState) (o : HeldObject) → Sound new → Keeps (Lies o.tree.tree.nodes o.tree.root.version) old new → StageSteps old new o
+pub stage_steps : (old new : FileState) (o : HeldObject) → Sound new → Keeps (Lies o.tree.tree.layout o.tree.tree.nodes o.tree.root.version) old new → StageSteps old new o
 stage_steps old new o sound keeps actor view stage may knows = file_runs_are_steps (Stager actor) (part old view stage) o.tree.root o.tree.tree new may knows keeps.run sound
 
 pub taker_steps : (old new : FileState) → Sound new → Keeps Nowhere old new → TakerSteps old new

@@ -4,6 +4,7 @@ use Rattle.disk_model.specs.State.{FileState, Sound as SoundFile}
 use Rattle.disk_model.proofs.ImageLaws.{reads_left}
 use Rattle.aes_block.specs.WrappedKey.{unwrapped_of}
 use Rattle.hmac_keys.specs.declared.Keys.{Keys}
+use Rattle.node_image.specs.References.{IsCurrent}
 use Rattle.node_image.specs.declared.head.Head.{Head}
 use Rattle.node_image.specs.declared.node.RootRef.{RootRef}
 use Rattle.node_image.specs.Selection.{selected_tree}
@@ -76,15 +77,15 @@ versions_are_held keys s o v c sound stands has =
     held-is {F = Unit {0}} o s.reads (object_key keys v.app) (length o.attributes) c (held_loads keys s.reads o v c has shown) has.key has.own (held_object keys s.reads o v c has shown)
 
 -- a reference that is firm, and opens to an object in what the file reads as, makes a version that stands
-firm_stands : (keys : Keys) (s : FileState) (root : RootRef) (tree : Loaded) (app : List ℕ) (size attributes : ℕ) (object : Object) → root.version < 2 → SoundFile s → IsFirm s root tree
+firm_stands : (keys : Keys) (s : FileState) (root : RootRef) (tree : Loaded) (app : List ℕ) (size attributes : ℕ) (object : Object) → IsCurrent root → SoundFile s → IsFirm s root tree
     → object_in (object_key keys app) s.reads root size attributes ≡ object
-    → VersionStands keys s (record { root = root; tree = selected_tree s.reads root.version; loads = Ok tree; app = app; size = size; attributes = attributes; object = object })
-firm_stands keys s root tree app size attributes object bit sound firm is =
-    let here : OpensTo root tree (selected_tree s.reads root.version) s.reads = firm s.reads (reads_left s sound) in
+    → VersionStands keys s (record { root = root; tree = selected_tree s.reads root; loads = Ok tree; app = app; size = size; attributes = attributes; object = object })
+firm_stands keys s root tree app size attributes object current sound firm is =
+    let here : OpensTo root tree (selected_tree s.reads root) s.reads = firm s.reads (reads_left s sound) in
     record {
-      bit = bit;
+      current = current;
       shown = λ image left.
-          let there : OpensTo root tree (selected_tree s.reads root.version) image = firm image left in
+          let there : OpensTo root tree (selected_tree s.reads root) image = firm image left in
           record {
             selects = there.selects;
             loads = there.opens;
@@ -98,12 +99,11 @@ stages_are_versions keys old new o v was c root s keeps sound still honest stand
     let shown : IsShownIn keys old.reads v = shown_now keys old v sound stands in
     let loads : load_of old.reads o.tree.root ≡ Ok o.tree.tree = held_loads keys old.reads o v was has shown in
     let holds : HoldsStage old new o c s = stage.stands (told_now old new still honest) loads in
-    let old_bit : o.tree.root.version < 2 = omega (arith, stands.bit, ap (λ (r : RootRef). r.version) has.root) in
-    let bit : s.root.version < 2 = omega (arith, stage.version, old_bit) in
+    let current : IsCurrent s.root = (omega (arith, stage.version), stage.format ∙ ap (λ (r : RootRef). r.format) (sym has.root) ∙ stands.current.1) in
     let object : object_in wrap new.reads s.root c.size (length o.attributes) ≡ Sound (c.contents was) = holds.object wrap was has.key (held_object keys old.reads o v was has shown) in
     let long : s.tree.head.length ≡ 4096 + c.size = ap (λ (h : Head). h.length) stage.head in
     let size : size_in (adopted o s) ≡ c.size = omega (arith, long) in (
-      firm_stands keys new s.root s.tree v.app c.size v.attributes (Sound (c.contents was)) bit still (stage.firm honest loads)
+      firm_stands keys new s.root s.tree v.app c.size v.attributes (Sound (c.contents was)) current still (stage.firm honest loads)
           (ap (λ (n : ℕ). object_in wrap new.reads s.root c.size n) has.attributes ∙ object),
       record {
         root = refl;
@@ -119,12 +119,12 @@ stages_are_versions keys old new o v was c root s keeps sound still honest stand
 pub made_are_versions : MadeAreVersions
 made_are_versions keys old new app attributes bytes root o sound honest made =
     let wrap : List ℕ = object_key keys app in
-    let bit : o.tree.root.version < 2 = omega (arith, made.version, ap (λ (r : RootRef). r.version) made.root_is) in
+    let current : IsCurrent o.tree.root = subst IsCurrent made.root_is (omega (arith, made.version), made.format) in
     let object : object_in wrap new.reads o.tree.root (length bytes) (length attributes) ≡ Sound (new_contents attributes bytes) =
     ap (λ (r : RootRef). object_in wrap new.reads r (length bytes) (length attributes)) (sym made.root_is) ∙ made.object (inl honest) in
     let firm : IsFirm new o.tree.root o.tree.tree = subst (λ (r : RootRef). IsFirm new r o.tree.tree) made.root_is (made.firm honest) in
     let size : size_in o ≡ length bytes = omega (arith, made.size) in (
-      firm_stands keys new o.tree.root o.tree.tree app (length bytes) (length attributes) (Sound (new_contents attributes bytes)) bit sound firm object,
+      firm_stands keys new o.tree.root o.tree.tree app (length bytes) (length attributes) (Sound (new_contents attributes bytes)) current sound firm object,
       record {
         root = refl;
         loads = refl;

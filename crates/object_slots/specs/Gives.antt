@@ -25,7 +25,7 @@ pub record IsGivenBy {wrap : List ℕ} {size : ℕ} {asked : ℕ → Bool} (old 
   pub tree : gave.tree ≡ o.tree.tree
   pub first : gave.block 0 ≡ front.seals.0
   pub seen : (k : ℕ) → asked k ≡ true → 1 ≤ k
-      → WasSeen (In (block k (block_version o.tree.tree.nodes k))) old new (λ image. gave.block k ≡ block_in image o.tree.tree k)
+      → WasSeen (In o.tree.tree.layout (block k (block_version o.tree.tree.nodes k))) old new (λ image. gave.block k ≡ block_in image o.tree.tree k)
 
 -- A read that succeeds was given each block that it asked, and block 0 when the object was loaded or made; and the bytes are those that
 -- these tell. `wrap` is the key that wraps the file's.

@@ -28,7 +28,7 @@ pub record IsLoadedBy (old new : FileState) (tsk : List ℕ) (e : DirEntry) (o :
   pub attributes : length o.attributes ≡ e.attributes
   -- of any file
   pub verified : IsVerified o.tree.root o.tree.tree
-  pub seen : WasSeen (Lies o.tree.tree.nodes o.tree.root.version) old new (λ image. table_of image o.tree.root ≡ Ok o.tree.tree)
+  pub seen : WasSeen (Lies o.tree.tree.layout o.tree.tree.nodes o.tree.root.version) old new (λ image. table_of image o.tree.root ≡ Ok o.tree.tree)
   pub bytes : AreReadBytes o.tree.key o.tree.tree old new 0 o.attributes e.attributes
   pub first : IsFirstRead o.tree.key o.tree.tree old new o.attributes e.attributes
   -- of one that can be followed

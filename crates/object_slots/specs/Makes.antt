@@ -27,6 +27,7 @@ new_contents attributes bytes = record { attributes = attributes; bytes = bytes;
 pub record IsMade (old new : FileState) (tsk attributes bytes : List ℕ) (root : RootRef) (o : HeldObject) : Type 0 where
   pub root_is : root ≡ o.tree.root
   pub version : root.version ≡ 0
+  pub format : root.format ≡ 2
   pub attributes_are : o.attributes ≡ attributes
   pub size : o.tree.tree.head.length ≡ 4096 + length bytes
   pub key : o.tree.key ≡ unwrapped_of tsk o.tree.tree.head.wrapped

@@ -76,13 +76,14 @@ pub record HoldsStage (old new : FileState) (o : HeldObject) (c : DataChange) (s
 
 -- it was written off the committed parts, and then synced
 abbrev pub IsSyncedBehind : (old new : FileState) → HeldObject → Type 0
-IsSyncedBehind old new o = (mid : FileState) × Keeps (Lies o.tree.tree.nodes o.tree.root.version) old mid × Syncs mid new
+IsSyncedBehind old new o = (mid : FileState) × Keeps (Lies o.tree.tree.layout o.tree.tree.nodes o.tree.root.version) old mid × Syncs mid new
 
 -- The stage is of the change, in the version that the committed tree does not select, and settled.
 pub record IsStageOf (old new : FileState) (o : HeldObject) (c : DataChange) (root : RootRef) (s : Staged) : Type 0 where
   pub root_is : s.root ≡ root
   pub settled : IsTrue s.settled
   pub version : s.root.version ≡ 1 - o.tree.root.version
+  pub format : s.root.format ≡ o.tree.root.format
   pub head : s.tree.head ≡ record o.tree.tree.head { length = 4096 + c.size; greatest = greatest_of (4096 + c.size) }
   pub synced : IsSyncedBehind old new o
   -- of any file
@@ -113,7 +114,7 @@ pub record StagesObject (old new : FileState) (o : HeldObject) (c : DataChange) 
   pub refused : IfErr result (StageFault old new o (needs c.range) Undrawn)
   pub corrupt : Told old new → CorruptAnswer (held_in o old.reads) c.asked result
   -- the committed tree stays
-  pub keeps : Keeps (Lies o.tree.tree.nodes o.tree.root.version) old new
+  pub keeps : Keeps (Lies o.tree.tree.layout o.tree.tree.nodes o.tree.root.version) old new
   pub firm : KeepsFirm old new o.tree.root o.tree.tree
   pub verified : IsVerified o.tree.root o.tree.tree
   pub steps : StageSteps old new o
@@ -124,6 +125,7 @@ pub record OpensStage (old new : FileState) (o : HeldObject) (c : DataChange) (s
   pub none : OnErr result (stage ≡ None)
   pub next : OnOk result (IfSome stage (λ s. (s.root.version ≡ 1 - o.tree.root.version) × (s.settled ≡ false)
       × (s.tree.head ≡ record o.tree.tree.head { length = 4096 + c.size; greatest = greatest_of (4096 + c.size) })))
+  pub format : OnOk result (IfSome stage (λ s. s.root.format ≡ o.tree.root.format))
   pub verifies : OnOk result (IfSome stage (λ s. IsVerified s.root s.tree))
   pub spares : OnOk result (IfSome stage (λ s. SparesZero o.tree.tree s.tree))
   pub seals : OnOk result (IfSome stage (λ s. SealsRange o.tree.key o.tree.tree s.tree old new c.range c.at c.bytes (4096 + c.size)))
@@ -137,7 +139,7 @@ pub record OpensStage (old new : FileState) (o : HeldObject) (c : DataChange) (s
   pub corrupt : Told old new → TreeCorrupt (held_in o old.reads) c.asked result
   pub early : IfErr result (λ e. IsEarlyFault e → Rests old new × Undrawn)
   pub undrawn : IfErr result (λ e. IsDrawFault e → Rests old new)
-  pub keeps : Keeps (Lies o.tree.tree.nodes o.tree.root.version) old new
+  pub keeps : Keeps (Lies o.tree.tree.layout o.tree.tree.nodes o.tree.root.version) old new
   pub verified : IsVerified o.tree.root o.tree.tree
 
 -- what settling leaves

@@ -1,4 +1,5 @@
 -- What a contract sees of a slot.
+use Rattle.node_image.specs.References.{IsCurrent}
 use Rattle.std.specs.Prelude.{ℕ, ◌<◌, Option, None, Some, IsTrue}
 use Rattle.disk_model.specs.State.{FileState}
 use Rattle.htree_file.specs.Value.{Staged}
@@ -88,9 +89,9 @@ without_stage (made o) = free
 without_stage (live o) = live o
 without_stage (staged o s) = live o
 
--- what always holds of it: each reference names version 0 or 1, and each stage is settled
+-- what always holds of it: each reference is current, and each stage is settled
 abbrev pub IsHolding : Holding → Type 0
 IsHolding free = Unit {0}
-IsHolding (made o) = o.tree.root.version < 2
-IsHolding (live o) = o.tree.root.version < 2
-IsHolding (staged o s) = (o.tree.root.version < 2) × IsTrue s.settled × (s.root.version < 2)
+IsHolding (made o) = IsCurrent o.tree.root
+IsHolding (live o) = IsCurrent o.tree.root
+IsHolding (staged o s) = IsCurrent o.tree.root × IsTrue s.settled × IsCurrent s.root

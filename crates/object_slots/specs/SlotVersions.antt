@@ -35,7 +35,7 @@ pub record HasVersion (keys : Keys) (o : HeldObject) (v : Version) (c : Contents
 abbrev pub changed_version : (new : FileState) → Version → Contents → DataChange → Staged → Version
 changed_version new v was c s = record {
   root = s.root;
-  tree = selected_tree new.reads s.root.version;
+  tree = selected_tree new.reads s.root;
   loads = Ok s.tree;
   app = v.app;
   size = c.size;
@@ -47,7 +47,7 @@ changed_version new v was c s = record {
 abbrev pub new_version : (new : FileState) → (app attributes bytes : List ℕ) → HeldObject → Version
 new_version new app attributes bytes o = record {
   root = o.tree.root;
-  tree = selected_tree new.reads o.tree.root.version;
+  tree = selected_tree new.reads o.tree.root;
   loads = Ok o.tree.tree;
   app = app;
   size = length bytes;

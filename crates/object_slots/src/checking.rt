@@ -1,4 +1,5 @@
 // What a change of an object's data needs, read without the change.
+ghost use Rattle.node_image.specs.References.{IsCurrent};
 ghost use Rattle.std.specs.Prelude.{◌≡◌, ◌+◌, ◌<◌, ◌≤◌, length, None};
 ghost use Rattle.object_slots.specs.SlotChecks.{ChecksObject};
 ghost use Rattle.object_slots.specs.SlotInside.{IsContent, file_in, holding_in};
@@ -20,7 +21,7 @@ pub(crate) fn check_written<F: StoreFile + Drop>(
     bytes: &[u8],
 ) -> (Content<F>, Result<(), SlotFault>)
     requires idle { object.tree.stage ≡ None }
-    requires bit { object.tree.root.version < 2 }
+    requires current { IsCurrent object.tree.root }
     requires few { at + length bytes.now ≤ 1044480 }
     ensures content { IsContent result.0 }
     ensures checks { ChecksObject (F.state object.tree.file) (file_in F.state result.0) (apart object)
@@ -42,7 +43,7 @@ pub(crate) fn check_resized<F: StoreFile + Drop>(
     size: u32,
 ) -> (Content<F>, Result<(), SlotFault>)
     requires idle { object.tree.stage ≡ None }
-    requires bit { object.tree.root.version < 2 }
+    requires current { IsCurrent object.tree.root }
     requires few { size ≤ 1044480 }
     ensures content { IsContent result.0 }
     ensures checks { ChecksObject (F.state object.tree.file) (file_in F.state result.0) (apart object)

@@ -1,5 +1,6 @@
 // Loading the object of a locked slot.
 ghost use Rattle.std.specs.Prelude.{◌≡◌, None};
+ghost use Rattle.node_image.specs.References.{current_format};
 ghost use Rattle.object_file.specs.DeviceKeys.{object_key};
 ghost use Rattle.dir_records.specs.Form.{HasForm};
 ghost use Rattle.history_seats.specs.Records.{Version};
@@ -31,6 +32,7 @@ pub fn fill<F: StoreFile + Drop, L: StoreName>(
     requires guarded { SlotInvariant L.store slot.old }
     requires vacant { IsFree slot.old.holds }
     requires form { HasForm entry.now }
+    requires current { entry.now.format ≡ current_format }
     requires key { tsk.now ≡ object_key L.store.keys entry.now.app }
     requires given { GivesEntry slot.old entry.now }
     ensures same { slot.new ≡ record slot.old { file = slot.new.file; holds = slot.new.holds } }

@@ -1,4 +1,6 @@
 // Objects that are loaded.
+ghost use Rattle.std.specs.Prelude.{◌≡◌};
+ghost use Rattle.node_image.specs.References.{current_format};
 ghost use Rattle.dir_records.specs.Form.{HasForm};
 ghost use Rattle.object_slots.specs.SlotInside.{IsContent, file_in, holding_in};
 ghost use Rattle.object_slots.specs.Loads.{LoadsObject};
@@ -18,7 +20,8 @@ pub(crate) fn load_object<F: StoreFile + Drop>(
     tsk: &[u8; 32],
     entry: &DirEntry,
 ) -> (Content<F>, Result<(), SlotFault>)
-    requires { HasForm entry.now }
+    requires form { HasForm entry.now }
+    requires current { entry.now.format ≡ current_format }
     ensures content { IsContent result.0 }
     ensures loads { LoadsObject (F.state file) (file_in F.state result.0) tsk.now entry.now (holding_in result.0) result.1 }
 {

@@ -1,6 +1,7 @@
 // Slots.
 ghost use Rattle.std.specs.Prelude.{◌≡◌, ◌⊎◌, ◌↔◌, ◌+◌, ◌≤◌, length, IfSome, IsSome, IsTrue, None, Some};
 ghost use Rattle.disk_model.specs.State.{Sound};
+ghost use Rattle.node_image.specs.References.{current_format};
 ghost use Rattle.htree_file.specs.Opening.{IsVerified};
 ghost use Rattle.dir_records.specs.Form.{HasForm};
 ghost use Rattle.object_file.specs.Value.{size_in};
@@ -202,6 +203,7 @@ impl<F: StoreFile + Drop> Slot<F> {
     pub fn fill(&mut self, alloc: Global, entry: &DirEntry, tsk: &[u8; 32]) -> Result<(), SlotFault>
         requires vacant { IsFree self.old.holds }
         requires form { HasForm entry.now }
+        requires current { entry.now.format ≡ current_format }
         ensures same { self.new ≡ record self.old { file = self.new.file; holds = self.new.holds } }
         ensures loads { LoadsObject self.old.file self.new.file tsk.now entry.now self.new.holds result }
     {

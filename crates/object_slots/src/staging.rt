@@ -1,4 +1,5 @@
 // Changes of an object's data, settled in the same call.
+ghost use Rattle.node_image.specs.References.{IsCurrent};
 ghost use Rattle.std.specs.Prelude.{◌≡◌, ◌+◌, ◌<◌, ◌≤◌, length, IfSome, IsSome, None};
 ghost use Rattle.block_file.specs.Reads.{IsChangeFault};
 ghost use Rattle.htree_file.specs.Making.{HasCauses as HasTreeCauses};
@@ -25,6 +26,7 @@ fn open_write<F: StoreFile, E: Entropy>(
     entropy: &mut E,
 ) -> Result<(), TreeFault>
     requires idle { object.old.tree.stage ≡ None }
+    requires format { object.old.tree.root.format ≡ 2 }
     requires few { at + length bytes.now ≤ 1044480 }
     ensures same { object.new ≡ record object.old { tree = record object.old.tree { file = object.new.tree.file; stage = object.new.tree.stage } } }
     ensures opens { OpensStage (F.state object.old.tree.file) (F.state object.new.tree.file) (apart object.old)
@@ -45,6 +47,7 @@ fn open_truncate<F: StoreFile, E: Entropy>(
     entropy: &mut E,
 ) -> Result<(), TreeFault>
     requires idle { object.old.tree.stage ≡ None }
+    requires format { object.old.tree.root.format ≡ 2 }
     requires few { size ≤ 1044480 }
     ensures same { object.new ≡ record object.old { tree = record object.old.tree { file = object.new.tree.file; stage = object.new.tree.stage } } }
     ensures opens { OpensStage (F.state object.old.tree.file) (F.state object.new.tree.file) (apart object.old)
@@ -63,8 +66,8 @@ fn settle_object<F: StoreFile + Drop>(
     mut object: ObjectFile<F>,
 ) -> (Content<F>, Result<RootRef, SlotFault>)
     requires open { IsSome object.tree.stage }
-    requires bit { object.tree.root.version < 2 }
-    requires next_bit { IfSome object.tree.stage (λ s. s.root.version < 2) }
+    requires current { IsCurrent object.tree.root }
+    requires next_current { IfSome object.tree.stage (λ s. IsCurrent s.root) }
     ensures content { IsContent result.0 }
     ensures settles { SettlesObject (F.state object.tree.file) (file_in F.state result.0) (apart object) object.tree.stage (holding_in result.0) result.1 }
 {
@@ -89,7 +92,7 @@ pub(crate) fn write_object<F: StoreFile + Drop, E: Entropy>(
     entropy: &mut E,
 ) -> (Content<F>, Result<RootRef, SlotFault>)
     requires idle { object.tree.stage ≡ None }
-    requires bit { object.tree.root.version < 2 }
+    requires current { IsCurrent object.tree.root }
     requires few { at + length bytes.now ≤ 1044480 }
     ensures content { IsContent result.0 }
     ensures stages { StagesObject (F.state object.tree.file) (file_in F.state result.0) (apart object)
@@ -114,7 +117,7 @@ pub(crate) fn truncate_object<F: StoreFile + Drop, E: Entropy>(
     entropy: &mut E,
 ) -> (Content<F>, Result<RootRef, SlotFault>)
     requires idle { object.tree.stage ≡ None }
-    requires bit { object.tree.root.version < 2 }
+    requires current { IsCurrent object.tree.root }
     requires few { size ≤ 1044480 }
     ensures content { IsContent result.0 }
     ensures stages { StagesObject (F.state object.tree.file) (file_in F.state result.0) (apart object)

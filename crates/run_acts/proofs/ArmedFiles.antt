@@ -3,6 +3,7 @@ use Rattle.std.proofs.Common.{◌≡◌, ℕ, List, [], ◌∷◌, sym, subst}
 use Rattle.disk_model.specs.Controls.{failure_armed, stop_armed, taint_armed}
 use Rattle.disk_model.specs.Arms.{Taint}
 use Rattle.disk_model.specs.State.{FileState}
+use Rattle.tee_types.specs.Limits.{directory_file}
 use Rattle.tee_types.specs.declared.reply.Device.{Device}
 use Rattle.tee_types.specs.declared.reply.Device.TheVariants.{Dir, File, Card, Entropy}
 use Rattle.crash_core.specs.CoreState.{put}
@@ -20,13 +21,13 @@ module _ (P : FileState → Type 0) (stops : (s : FileState) (calls : ℕ) → P
   put_armed old new n s is armed k = subst (λ (x : FileState). P (old k) → P x) (sym (is k)) (put_each (λ j x. P (old j) → P x) old n s k armed (λ p. p))
 
   stop_keeps : (device : Device) (calls : ℕ) (old new : BenchState) → ArmsOneOf (Stop device calls) old new → (k : ℕ) → P (old.files k) → P (new.files k)
-  stop_keeps Dir calls old new s = put_armed old.files new.files 0 (stop_armed (old.files 0) calls) s.files (stops (old.files 0) calls)
+  stop_keeps Dir calls old new s = put_armed old.files new.files directory_file (stop_armed (old.files directory_file) calls) s.files (stops (old.files directory_file) calls)
   stop_keeps (File n) calls old new s = put_armed old.files new.files n (stop_armed (old.files n) calls) s.files (stops (old.files n) calls)
   stop_keeps Card calls old new s = λ k. subst P (sym (s.0 k))
   stop_keeps Entropy calls old new s = λ k. subst P (sym (s.files k))
 
   fail_keeps : (device : Device) (call : ℕ) (old new : BenchState) → ArmsOneOf (Fail device call) old new → (k : ℕ) → P (old.files k) → P (new.files k)
-  fail_keeps Dir call old new s = put_armed old.files new.files 0 (failure_armed (old.files 0) call) s.files (fails (old.files 0) call)
+  fail_keeps Dir call old new s = put_armed old.files new.files directory_file (failure_armed (old.files directory_file) call) s.files (fails (old.files directory_file) call)
   fail_keeps (File n) call old new s = put_armed old.files new.files n (failure_armed (old.files n) call) s.files (fails (old.files n) call)
   fail_keeps Card call old new s = λ k. subst P (sym (s.0 k))
   fail_keeps Entropy call old new s = λ k. subst P (sym (s.files k))
@@ -45,7 +46,7 @@ module _ (P : FileState → Type 0) (stops : (s : FileState) (calls : ℕ) → P
   -- or if it holds too of a file for which a mask is armed
   module _ (taints : (s : FileState) (taint : Taint) → P s → P (taint_armed s taint)) where
     taint_keeps : (file : Device) (taint : Taint) (old new : BenchState) → TaintsOnBench file taint old.files new.files old.card new.card → (k : ℕ) → P (old.files k) → P (new.files k)
-    taint_keeps Dir taint old new s = put_armed old.files new.files 0 (taint_armed (old.files 0) taint) s.files (taints (old.files 0) taint)
+    taint_keeps Dir taint old new s = put_armed old.files new.files directory_file (taint_armed (old.files directory_file) taint) s.files (taints (old.files directory_file) taint)
     taint_keeps (File n) taint old new s = put_armed old.files new.files n (taint_armed (old.files n) taint) s.files (taints (old.files n) taint)
     taint_keeps Card taint old new s = λ k. subst P (sym (s.files k))
     taint_keeps Entropy taint old new s = λ k. subst P (sym (s.files k))

@@ -1,8 +1,11 @@
 -- A store that was served is closed: what its devices are, before its calls and behind them.
-use Rattle.std.proofs.Common.{◌≡◌, ◌∙◌, ◌+◌, ◌-◌, ◌<◌, ℕ, zero, suc, List, [], ◌∷◌, ◌++◌, length, Option, refl, sym, ap, subst, arith}
+use Rattle.std.proofs.Common.{◌≡◌, ◌∙◌, ◌+◌, ◌-◌, ◌<◌, ℕ, suc, List, [], ◌++◌, length, Option, inl, inr, refl, sym, ap, subst, arith}
+use Rattle.std.proofs.lemmas.Bool.{cases_eq}
 use Rattle.disk_model.specs.Calls.{GoesOn}
 use Rattle.disk_model.specs.State.{FileState}
 use Rattle.hmac_keys.specs.KeyTable.{rpmb_key}
+use Rattle.tee_types.specs.Limits.{IsObjectFile, directory_file, file_count, last_file, old_directory_file}
+use Rattle.tee_types.proofs.FileNumbers.{other_on_bench}
 use Rattle.rpmb_card.specs.Port.{PortState}
 use Rattle.tee_types.specs.declared.reply.Device.{Device}
 use Rattle.tee_types.specs.declared.reply.Device.TheVariants.{Dir, File, Card, Entropy}
@@ -19,14 +22,15 @@ use Rattle.shared_store.specs.EventCounts.{events_at}
 use Rattle.shared_store.specs.Cards.{TellsCard}
 use Rattle.shared_store.specs.DeviceCounts.{Rise, counts_of, draws_of}
 use Rattle.shared_store.specs.Devices.{PortGoesOn, file_in, no_slot}
+use Rattle.shared_store.proofs.CountGrowth.{same_file_goes_on}
 use Rattle.object_calls.specs.declared.bench.Bench.{Bench}
 use Rattle.object_calls.specs.OpeningArms.{IsOnBench}
 use Rattle.object_calls.specs.OpeningFiles.{files_of}
 use Rattle.object_calls.specs.FinishedPhase.{GivesBack, LeavesStore}
-use Rattle.object_calls.specs.Opening.{OpeningValue}
+use Rattle.object_calls.specs.Opening.{OpeningValue, bench_files}
 use Rattle.object_calls.specs.Services.{ServiceValue}
 use Rattle.object_calls.specs.ServedPhases.{ServesOpening}
-use Rattle.object_calls.proofs.Files.{files_behind}
+use Rattle.object_calls.proofs.Files.{directory_here, object_numbered, spare_here}
 use Rattle.run_acts.specs.MadeCalls.{MakesCalls, faults_at}
 use Rattle.run_acts.specs.Reliable.{AreFresh, AreReliable, StayReliable}
 use Rattle.run_acts.specs.ServedSteps.{ServesSteps}
@@ -36,38 +40,42 @@ use Rattle.run_acts.specs.PhaseServing.{HasDevices}
 use Rattle.run_acts.proofs.Phases.{serves_made}
 use Rattle.run_acts.proofs.Draws.{drawn_from_0, undrawn_from_0}
 
+-- the file of an object as a store is mounted
+pub file_opened : {F R : Type 0} (of_file : F → FileState) (o : OpeningValue F R) (i : ℕ) → i < last_file → bench_files of_file o (i + 1) ≡ files_of of_file o.files i
+file_opened of_file o i within =
+    let next : i + 1 ≡ suc i = omega arith in
+    ap (bench_files of_file o) next ∙ object_numbered of_file o.spare o.gate.dir.file o.files (suc i) (omega arith, omega (arith, within))
+
 -- as the store begins to be served, its devices are those of the mounted store
 pub begins_devices : {F R : Type 0} (of_file : F → FileState) (of_port : R → PortState) (store : Store) (o : OpeningValue F R) (s : ServiceValue F R) → ServesOpening of_file store o s
     → HasDevices of_file of_port s (opening_state of_file of_port o)
 begins_devices of_file of_port store o s serves = record {
-  dir = sym (ap (λ (g : GateValue _ _). of_file g.dir.file) serves.gate);
-  each = λ i d within. files_behind of_file o.gate.dir.file o.files (i + 1) (omega arith) ∙ behind i ∙ sym (ap (λ (x : SlotValue). x.file) (serves.slots i d within));
+  dir = directory_here of_file o.spare o.gate.dir.file o.files ∙ sym (ap (λ (g : GateValue _ _). of_file g.dir.file) serves.gate);
+  spare = spare_here of_file o.spare o.gate.dir.file o.files ∙ sym (ap of_file serves.spare);
+  each = λ i d within. file_opened of_file o i within ∙ sym (ap (λ (x : SlotValue). x.file) (serves.slots i d within));
   card = sym (ap (λ (g : GateValue _ _). of_port g.host.port) serves.gate);
 }
-  where
-    behind : (i : ℕ) → files_of of_file o.files (i + 1 - 1) ≡ files_of of_file o.files i
-    behind i = let same : i + 1 - 1 ≡ i = omega arith in ap (files_of of_file o.files) same
 
 -- as it is closed, the bench has them
 pub ends_devices : {F R : Type 0} (of_file : F → FileState) (of_port : R → PortState) (s : ServiceValue F R) (files : List F) (card : R) → GivesBack of_file s files card
     → HasDevices of_file of_port s (record { files = files_of of_file files; card = of_port card })
 ends_devices of_file of_port s files card gives = record {
-  dir = ap (λ (l : List _). files_of of_file l 0) gives.dir;
+  dir = gives.dir;
+  spare = gives.spare;
   each = gives.each;
   card = ap of_port gives.port;
 }
 
 module _ {F R E : Type 0} (of_file : F → FileState) (of_port : R → PortState) (draws : E → ℕ) (is_reliable : E → Type 0) where
   -- the file of that number
-  file_of_number : (s : ServiceValue F R) (bench : BenchState) → HasDevices of_file of_port s bench → (k : ℕ) → suc k < 273 → bench.files (suc k) ≡ file_in s.slots (suc k)
-  file_of_number s bench has k below =
-      let number : suc k - 1 + 1 ≡ suc k = omega arith in
-      ap bench.files (sym number) ∙ has.each (suc k - 1) no_slot (omega (arith, below))
+  file_of_number : (s : ServiceValue F R) (bench : BenchState) → HasDevices of_file of_port s bench → (file : ℕ) → IsObjectFile file → bench.files file ≡ file_in s.slots file
+  file_of_number s bench has file object =
+      let number : file - 1 + 1 ≡ file = omega (arith, object.0) in
+      ap bench.files (sym number) ∙ has.each (file - 1) no_slot (omega (arith, object.0, object.1))
 
   faults_same : (s : ServiceValue F R) (bench : BenchState) → HasDevices of_file of_port s bench → (device : Device) → IsOnBench device → faults_at of_file of_port draws s device ≡ faults_on bench device
   faults_same s bench has Dir on = sym (ap (λ (f : FileState). f.faults) has.dir)
-  faults_same s bench has (File zero) on = absurd (omega (arith, on.0))
-  faults_same s bench has (File (suc k)) on = sym (ap (λ (f : FileState). f.faults) (file_of_number s bench has k (omega (arith, on.1))))
+  faults_same s bench has (File n) on = sym (ap (λ (f : FileState). f.faults) (file_of_number s bench has n on))
   faults_same s bench has Card on = sym (ap (λ (p : PortState). p.faults) has.card)
   faults_same s bench has Entropy on = absurd on
 
@@ -76,11 +84,20 @@ module _ {F R E : Type 0} (of_file : F → FileState) (of_port : R → PortState
     abbrev key : List ℕ
     key = rpmb_key store.keys.huk
 
-    file_goes_on : (file : ℕ) → file < 273 → GoesOn (before.files file) (closed.files file)
-    file_goes_on zero below = subst (λ (p : FileState × FileState). GoesOn p.0 p.1) (λ i. (sym has_before.dir i, sym has_closed.dir i)) makes.devices.dir
-    file_goes_on (suc k) below =
-        subst (λ (p : FileState × FileState). GoesOn p.0 p.1) (λ i. (sym (file_of_number old before has_before k below) i, sym (file_of_number new closed has_closed k below) i))
-        (makes.devices.file (suc k))
+    file_goes_on : (file : ℕ) → file < file_count → GoesOn (before.files file) (closed.files file)
+    file_goes_on file below = elim (cases_eq file directory_file) [
+      | inl is ↦
+          subst (λ (n : ℕ). GoesOn (before.files n) (closed.files n)) (sym is)
+          (subst (λ (p : FileState × FileState). GoesOn p.0 p.1) (λ i. (sym has_before.dir i, sym has_closed.dir i)) makes.devices.dir)
+      | inr other ↦ elim (other_on_bench file below other) [
+        | inl old_dir ↦
+            subst (λ (n : ℕ). GoesOn (before.files n) (closed.files n)) (sym old_dir)
+            (same_file_goes_on (before.files old_directory_file) (closed.files old_directory_file) (has_closed.spare ∙ ap of_file makes.spare ∙ sym has_before.spare))
+        | inr object ↦
+            subst (λ (p : FileState × FileState). GoesOn p.0 p.1) (λ i. (sym (file_of_number old before has_before file object) i, sym (file_of_number new closed has_closed file object) i))
+            (makes.devices.file file)
+      ]
+    ]
 
     pub goes_on : BenchGoesOn key before closed
     goes_on = record {
@@ -141,6 +158,6 @@ closes_where Streams Generator store before mode calls closed events never c = r
 
 -- a store that was closed as it was, has the devices of its opening
 pub closed_state : {F R : Type 0} (of_file : F → FileState) (of_port : R → PortState) (o left : OpeningValue F R) (bench : Bench F R) → left ≡ o
-    → bench.files.items ≡ left.gate.dir.file ∷ left.files → bench.card ≡ left.gate.host.port → bench_state of_file of_port bench ≡ opening_state of_file of_port o
+    → files_of of_file bench.files.items ≡ bench_files of_file left → bench.card ≡ left.gate.host.port → bench_state of_file of_port bench ≡ opening_state of_file of_port o
 closed_state of_file of_port o left bench same files card =
-    (λ i. record { files = files_of of_file (files i); card = of_port (card i) }) ∙ ap (opening_state of_file of_port) same
+    (λ i. record { files = files i; card = of_port (card i) }) ∙ ap (opening_state of_file of_port) same

@@ -4,6 +4,7 @@ use Rattle.std.proofs.lemmas.Bool.{cases_lt}
 use Rattle.disk_model.specs.Controls.{disarmed, renamed_as}
 use Rattle.disk_model.specs.State.{FileState, LeftNow}
 use Rattle.hmac_keys.specs.KeyTable.{rpmb_key}
+use Rattle.tee_types.specs.Limits.{file_count}
 use Rattle.rpmb_card.specs.Card.{CardState}
 use Rattle.rpmb_card.specs.Port.{PortState}
 use Rattle.rpmb_host.specs.Honest.{HasCard}
@@ -20,7 +21,7 @@ card_of p q key card same has = record { told = sym same ∙ has.told; keyed = h
 image_left : (old new : FileState) (image : List ℕ) → TakesImage old new → LeftNow new image → LeftNow old image
 image_left old new image takes left =
     let there : LeftNow (renamed_as old takes.0) image = subst (λ (s : FileState). LeftNow s image) takes.2 left in
-    subst (LeftNow old) (sym ((there refl).exact refl)) takes.1
+    subst (LeftNow old) (sym ((there refl).exact (λ p. refl))) takes.1
 
 pub crashed_left : (old new : FileState) (image : List ℕ) → (new ≡ old) ⊎ TakesImage old new → LeftNow new image → LeftNow old image
 crashed_left old new image (inl same) left = subst (λ (s : FileState). LeftNow s image) same left
@@ -36,6 +37,9 @@ crashes_keep keys s old new holds may = record {
   mounts = λ card picture has is.
       holds.mounts card picture (card_of old.card new.card (rpmb_key keys.huk) card (ap (λ (p : PortState). p.card) may.card) has)
       (record { left = λ file. crashed_left (old.files file) (new.files file) (picture.images file) (may.files file) (is.left file); same = is.same });
+  current = λ card picture has is.
+      holds.current card picture (card_of old.card new.card (rpmb_key keys.huk) card (ap (λ (p : PortState). p.card) may.card) has)
+      (record { left = λ file. crashed_left (old.files file) (new.files file) (picture.images file) (may.files file) (is.left file); same = is.same });
 }
 
 -- so do reads and syncs
@@ -44,6 +48,9 @@ kept_devices_hold keys s old new holds keeps honest = record {
   honest = honest;
   mounts = λ card picture has is.
       holds.mounts card picture (card_of old.card new.card (rpmb_key keys.huk) card keeps.card has)
+      (record { left = λ file. (keeps.files file).left (honest file) (picture.images file) (is.left file); same = is.same });
+  current = λ card picture has is.
+      holds.current card picture (card_of old.card new.card (rpmb_key keys.huk) card keeps.card has)
       (record { left = λ file. (keeps.files file).left (honest file) (picture.images file) (is.left file); same = is.same });
 }
 
@@ -59,7 +66,7 @@ nothing_may_be bench = record { files = λ file. inl refl; card = refl }
 
 pub crashes_may_be : CrashesMayBe
 crashes_may_be image seed old new crashes = record {
-  files = λ file. elim (cases_lt file 273) [
+  files = λ file. elim (cases_lt file file_count) [
     | inl below ↦ inr (image (old.files file) seed file, (crashes.files).left file below, (crashes.files).each file below)
     | inr past ↦ inl ((crashes.files).others file past)
   ];

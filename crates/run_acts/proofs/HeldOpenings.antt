@@ -5,6 +5,7 @@ use Rattle.disk_model.specs.State.{pending}
 use Rattle.hmac_keys.specs.declared.Keys.{Keys}
 use Rattle.hmac_keys.specs.KeyTable.{rpmb_key}
 use Rattle.node_image.specs.declared.node.RootRef.{RootRef}
+use Rattle.tee_types.specs.Limits.{directory_file}
 use Rattle.rpmb_card.specs.Card.{CardState}
 use Rattle.rpmb_host.specs.Honest.{HasCard}
 use Rattle.store_model.specs.ReplayState.{ReplayState}
@@ -13,7 +14,7 @@ use Rattle.crash_core.specs.Mounting.{directory_by, mounted_directory}
 use Rattle.crash_core.specs.Pictures.{IsPictureOf, Picture, block_zero}
 use Rattle.crash_core.specs.Refusal.{Refusal, NoStore as BlankBlock}
 use Rattle.store_commit.specs.declared.fault.MountFault.{MountFault}
-use Rattle.store_commit.specs.declared.fault.MountFault.TheVariants.{CardBlock, CardResult, Directory, Failed, Frame, NoMemory, NoStore, Spent}
+use Rattle.store_commit.specs.declared.fault.MountFault.TheVariants.{CardBlock, CardResult, Directory, Failed, Frame, NoMemory, NoStore, OldFormat, Spent}
 use Rattle.store_commit.specs.Mounts.{CardRefused}
 use Rattle.run_acts.specs.Benches.{BenchState}
 use Rattle.run_acts.specs.Left.{HoldsLeft}
@@ -46,7 +47,7 @@ module _ (keys : Keys) (s : ReplayState) (old : BenchState) (card : CardState) (
   not_blank block is blank =
       let read = directory_read keys settled s (holds.mounts card settled has settled_picture) in
       let none : root_in (block_zero card) ≡ Err BlankBlock = ap root_in is ∙ blank_root block blank in
-      ok_err read.0 BlankBlock (mounted_directory keys settled) read.1 (ap (λ (r : Result RootRef Refusal). directory_by keys (settled.images 0) r) none)
+      ok_err read.0 BlankBlock (mounted_directory keys settled) read.1 (ap (λ (r : Result RootRef Refusal). directory_by keys settled.images r) none)
 
   pub opens_same : (new : BenchState) → OpensBench keys old new → IsSame old new
   opens_same new (found block there reads) = record { files = reads.files; card = reads.card }
@@ -62,6 +63,7 @@ module _ (keys : Keys) (s : ReplayState) (old : BenchState) (card : CardState) (
   card_failure new drew draws (CardBlock offset) refused = absurd refused
   card_failure new drew draws (Directory fault) refused = absurd refused
   card_failure new drew draws Spent refused = absurd refused
+  card_failure new drew draws (OldFormat file) refused = absurd refused
 
   stops_same : (new : BenchState) (drew draws : ℕ) (fault : MountFault) → StopsOpening keys old new drew draws fault → IsSame old new × IsOfDevice fault
   stops_same new drew draws fault (unread u) = (record { files = u.files; card = u.card }, card_failure new drew draws fault u.refused)

@@ -11,7 +11,7 @@ use Rattle.script_text.specs.declared.script.Arm.{Arm}
 use Rattle.script_text.specs.declared.script.Mode.{Mode}
 use Rattle.script_text.specs.declared.script.Step.{Step}
 use Rattle.store_commit.specs.declared.fault.MountFault.{MountFault}
-use Rattle.store_commit.specs.declared.fault.MountFault.TheVariants.{CardBlock, CardResult, Directory, Failed, Frame, NoMemory, NoStore, Spent}
+use Rattle.store_commit.specs.declared.fault.MountFault.TheVariants.{CardBlock, CardResult, Directory, Failed, Frame, NoMemory, NoStore, OldFormat, Spent}
 use Rattle.run_acts.specs.Benches.{BenchState}
 use Rattle.run_acts.specs.Left.{HoldsLeft}
 use Rattle.run_acts.specs.ListedBenches.{IsListRefused, ListRefusal, ShowCounts, StopsListing, starved, stopped, unasked, unmounted, unshown}
@@ -35,6 +35,7 @@ counted_of_device old new (Frame fault) counts = absurd counts
 counted_of_device old new (CardResult number) counts = absurd counts
 counted_of_device old new (Failed cause) counts = tt
 counted_of_device old new Spent counts = absurd counts
+counted_of_device old new (OldFormat file) counts = absurd counts
 counted_of_device old new NoMemory counts = tt
 
 module _ {F R : Type 0} (of_file : F → FileState) (of_port : R → PortState) (keys : Keys) (s : ReplayState) (old new : BenchState) (drew draws : ℕ) (card : CardState)

@@ -15,7 +15,6 @@ pub mod ListedBenches
 pub mod ListedEntries
 mod Lists
 pub mod MountedBenches
-pub mod ObjectFiles
 pub mod OpenedBenches
 pub mod ShownFiles
 pub mod ShownMaps
@@ -33,6 +32,7 @@ pub mod Sharings
 pub mod ThreadClosings
 pub mod Replays
 pub mod CrashedLaws
+pub mod FormedFiles
 pub mod Opened
 pub mod PhasesLeft
 pub mod PhaseChains
@@ -46,6 +46,8 @@ pub mod HeldOpenings
 pub mod NotDrawn
 pub mod QuietRefusals
 pub mod NotRefused
+pub mod OldBenches
+pub mod MigrationEnds
 pub mod HeldRefusals
 pub mod BadTexts
 pub mod ShownObjects

@@ -9,13 +9,14 @@ use Rattle.htree_file.specs.Answers.{FileFailed, FilePassed}
 use Rattle.htree_file.specs.declared.fault.TreeFault.TheVariants.{Failed as FileFault}
 use Rattle.htree_file.proofs.Causes.{fault_then, passed_then, rests_none, rests_then}
 use Rattle.hmac_keys.specs.declared.Keys.{Keys}
+use Rattle.tee_types.specs.Limits.{file_count}
 use Rattle.rpmb_card.specs.Port.{PortState}
 use Rattle.tee_types.specs.declared.reply.Cause.TheVariants.{Fault, Frame as FrameCause, CardResult as ResultCause}
 use Rattle.tee_types.specs.declared.reply.Device.TheVariants.{Dir, File, Card, Entropy}
 use Rattle.store_model.specs.declared.name.ObjectName.{ObjectName}
 use Rattle.store_model.specs.Object.{Object, ObjectMap}
 use Rattle.store_commit.specs.declared.fault.MountFault.{MountFault}
-use Rattle.store_commit.specs.declared.fault.MountFault.TheVariants.{NoStore, CardBlock, Directory, Frame, CardResult, Failed, Spent, NoMemory}
+use Rattle.store_commit.specs.declared.fault.MountFault.TheVariants.{NoStore, CardBlock, Directory, Frame, CardResult, Failed, Spent, NoMemory, OldFormat}
 use Rattle.store_commit.specs.Counts.{RefusalNotDrawn}
 use Rattle.crash_core.specs.Mounting.{held_in}
 use Rattle.crash_core.specs.Opening.{reads_of}
@@ -62,7 +63,7 @@ module _ {F R : Type 0} (state : F → FileState) (port : R → PortState) (keys
   honest_told : ((file : ℕ) → Sound (new.files file)) → ((file : ℕ) → IsTrue (new.files file).honest) → (file : ℕ) → Told (bench_files state o file) (new.files file)
   honest_told sound_new honest file = ((sound_new file).told (honest file), inl (honest file))
 
-  pub listed_bench : (lines : List ℕ) → AreSound old.files → ((file : ℕ) → Sound (new.files file)) → ((file : ℕ) → 273 ≤ file → new.files file ≡ no_file) → IsListed (entries_in o) o.storage_key (bench_files state o) new.files lines
+  pub listed_bench : (lines : List ℕ) → AreSound old.files → ((file : ℕ) → Sound (new.files file)) → ((file : ℕ) → file_count ≤ file → new.files file ≡ no_file) → IsListed (entries_in o) o.storage_key (bench_files state o) new.files lines
       → (objects : ObjectMap) × (length objects ≡ length (objects_in state port keys o)) × ListsBench state port keys old new objects lines
   listed_bench lines sound_old sound_new past shows = (
     objects,
@@ -140,6 +141,7 @@ module _ {F R : Type 0} (state : F → FileState) (port : R → PortState) (keys
   show_counts between n (Failed (FrameCause fault)) failed others goes before = absurd failed
   show_counts between n (Failed (ResultCause value)) failed others goes before = absurd failed
   show_counts between n Spent failed others goes before = absurd failed
+  show_counts between n (OldFormat file) failed others goes before = absurd failed
 
   not_counts : (last : Option ObjectName) (between : ℕ → FileState) (fault : MountFault) → IsNotListed (entries_in o) o.storage_key last between new.files fault
       → ((file : ℕ) → GoesOn (old.files file) (between file)) → ((file : ℕ) → FilePassed (old.files file) (between file)) → ShowCounts old.files new.files fault

@@ -1,10 +1,12 @@
 -- A mount of a bench that holds what is left.
-use Rattle.std.proofs.Common.{◌≡◌, ◌∙◌, ℕ, zero, suc, [], Bool, Some, Result, Ok, Err, IsTrue, inl, inr, refl, sym, ap, subst, arith}
+use Rattle.std.proofs.Common.{◌≡◌, ◌∙◌, ℕ, [], Bool, Some, Result, Ok, Err, IsTrue, inl, inr, refl, sym, ap, subst}
+use Rattle.std.proofs.lemmas.Bool.{cases_eq}
 use Rattle.disk_model.specs.State.{FileState, LeftNow}
 use Rattle.disk_model.specs.Calls.{GoesOn, Known}
 use Rattle.disk_model.proofs.ImageLaws.{reads_left}
 use Rattle.hmac_keys.specs.declared.Keys.{Keys}
 use Rattle.hmac_keys.specs.KeyTable.{rpmb_key}
+use Rattle.tee_types.specs.Limits.{directory_file}
 use Rattle.rpmb_card.specs.Card.{CardState}
 use Rattle.rpmb_card.specs.Port.{PortState}
 use Rattle.rpmb_host.specs.Honest.{HasCard}
@@ -16,6 +18,7 @@ use Rattle.crash_core.specs.Pictures.{IsPictureOf, Picture}
 use Rattle.crash_core.specs.Refusal.{Refusal}
 use Rattle.object_calls.specs.FinishedPhase.{IsMapLeft}
 use Rattle.object_calls.specs.Opening.{OpeningValue, bench_files}
+use Rattle.object_calls.proofs.Files.{directory_here}
 use Rattle.run_acts.specs.Benches.{BenchState}
 use Rattle.run_acts.specs.MountedDevices.{IsMounted, objects_in}
 use Rattle.run_acts.specs.Between.{AreReadable, AreSound}
@@ -42,12 +45,17 @@ module _ {F R : Type 0} (of_file : F → FileState) (of_port : R → PortState) 
 
   -- a mount only reads and syncs
   pub mount_goes_on : (file : ℕ) → GoesOn (old.files file) (opened file)
-  mount_goes_on zero = (((m.gate).devices).keeps).goes_on
-  mount_goes_on (suc k) = (((m.files).each (suc k) (omega arith)).keeps).goes_on
+  mount_goes_on file = elim (cases_eq file directory_file) [
+    | inl is ↦ subst (λ (n : ℕ). GoesOn (old.files n) (opened n)) (sym is) (subst (GoesOn (old.files directory_file)) (sym (directory_here of_file o.spare o.gate.dir.file o.files)) (((m.gate).devices).keeps).goes_on)
+    | inr other ↦ (((m.files).each file other).keeps).goes_on
+  ]
 
   pub mount_reads : (file : ℕ) → Known (old.files file) (opened file) → (opened file).reads ≡ (old.files file).reads
-  mount_reads zero known = ((m.gate).devices).reads known
-  mount_reads (suc k) known = ((m.files).each (suc k) (omega arith)).reads known
+  mount_reads file = elim (cases_eq file directory_file) [
+    | inl is ↦ subst (λ (n : ℕ). Known (old.files n) (opened n) → (opened n).reads ≡ (old.files n).reads) (sym is)
+        (subst (λ (s : FileState). Known (old.files directory_file) s → s.reads ≡ (old.files directory_file).reads) (sym (directory_here of_file o.spare o.gate.dir.file o.files)) ((m.gate).devices).reads)
+    | inr other ↦ ((m.files).each file other).reads
+  ]
 
   -- it tells its bytes as before
   pub mount_tells : (file : ℕ) → IsTrue (old.files file).tells → IsTrue (opened file).tells
@@ -65,7 +73,7 @@ module _ {F R : Type 0} (of_file : F → FileState) (of_port : R → PortState) 
 
     pub opens_with_left : AreLeft s (objects_in of_file of_port keys o)
     opens_with_left = map_left keys as_read s (objects_in of_file of_port keys o)
-        (m.mounted (mount_tells 0 ((sound 0).told (holds.honest 0)), readable 0) card has) (holds.mounts card as_read has read_picture)
+        (m.mounted (mount_tells directory_file ((sound directory_file).told (holds.honest directory_file)), readable directory_file) card has) (holds.mounts card as_read has read_picture)
 
 pub mounts_open_with_left : {F R : Type 0} (of_file : F → FileState) (of_port : R → PortState) → MountsOpenWithLeft of_file of_port
 mounts_open_with_left of_file of_port keys s old o card holds sound m readable has = opens_with_left of_file of_port keys old o m s card holds sound readable has

@@ -5,7 +5,7 @@ use Rattle.tee_types.specs.declared.reply.Cause.TheVariants.{Fault, Frame as Fra
 use Rattle.tee_types.specs.declared.reply.Device.TheVariants.{Dir, File, Card, Entropy}
 use Rattle.store_commit.specs.Counts.{RefusalNotDrawn}
 use Rattle.store_commit.specs.declared.fault.MountFault.{MountFault}
-use Rattle.store_commit.specs.declared.fault.MountFault.TheVariants.{NoStore, CardBlock, Directory, Frame, CardResult, Failed, Spent, NoMemory}
+use Rattle.store_commit.specs.declared.fault.MountFault.TheVariants.{NoStore, CardBlock, Directory, Frame, CardResult, Failed, Spent, NoMemory, OldFormat}
 use Rattle.run_acts.specs.Benches.{BenchState, TellsFault}
 use Rattle.run_acts.specs.ListedBenches.{ShowCounts}
 
@@ -31,3 +31,4 @@ shown_not_drawn old new (Directory fault) counts = tt
 shown_not_drawn old new (Frame fault) counts = tt
 shown_not_drawn old new (CardResult value) counts = tt
 shown_not_drawn old new Spent counts = tt
+shown_not_drawn old new (OldFormat file) counts = tt

@@ -118,6 +118,7 @@ module _ {F R E : Type 0} (of_file : F → FileState) (of_port : R → PortState
         devices = bench_goes_on answered.devices;
         card = TellsCard-call key before behind goes_on.landed app caller.made call reply goes_on.mark answered.at.accuses answered.at.costs;
         storage_key = answered.storage_key;
+        spare = answered.spare;
       }
 
   -- memory ran out, and the call has none
@@ -137,6 +138,7 @@ module _ {F R E : Type 0} (of_file : F → FileState) (of_port : R → PortState
         devices = bench_goes_on answered.devices;
         card = TellsCard-landing key (of_port old.gate.gate.host.port) goes_on.landed;
         storage_key = answered.storage_key;
+        spare = answered.spare;
       }
     where
       either_way : (own : Bool) (counts : List ℕ) → cond own counts counts ≡ counts

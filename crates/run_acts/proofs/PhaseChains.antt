@@ -3,6 +3,7 @@ use Rattle.std.proofs.Common.{◌≡◌, ◌∙◌, ◌<◌, ◌≤◌, ℕ, zer
 use Rattle.std.proofs.lemmas.Bool.{cases_lt}
 use Rattle.disk_model.specs.Arms.{Taint}
 use Rattle.disk_model.specs.State.{FileState}
+use Rattle.tee_types.specs.Limits.{file_count}
 use Rattle.object_calls.specs.OpeningArms.{TaintsOnBench}
 use Rattle.hmac_keys.specs.declared.Keys.{Keys}
 use Rattle.hmac_keys.specs.KeyTable.{rpmb_key}
@@ -78,13 +79,13 @@ module _ {F R : Type 0} (of_file : F → FileState) (of_port : R → PortState) 
 
   module _ (honest : AreAllHonest new.files) where
     -- each file of the bench was honest as the calls began
-    began_honest : (file : ℕ) → file < 273 → IsTrue (armed.files file).honest
+    began_honest : (file : ℕ) → file < file_count → IsTrue (armed.files file).honest
     began_honest file within =
         ((((r.serves).closes).devices).files file within).honest (subst (λ (x : FileState). IsTrue x.honest) (disarms.files file) (honest file))
 
     -- and as the bench was mounted
     opened_honest : (file : ℕ) → IsTrue (bench_files of_file r.opened file).honest
-    opened_honest file = elim (cases_lt file 273) [
+    opened_honest file = elim (cases_lt file file_count) [
       | inl within ↦ subst IsTrue (all_honest arms (opening_state of_file of_port r.opened) armed ((r.serves).ready).arms_are file) (began_honest file within)
       | inr past ↦ subst (λ (x : FileState). IsTrue x.honest) (sym (r.none file past)) refl
     ]

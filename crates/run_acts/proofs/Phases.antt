@@ -38,6 +38,7 @@ module _ {F R E : Type 0} (of_file : F → FileState) (of_port : R → PortState
     devices = devices_go_on_none (rpmb_key store.keys.huk) (bench_devices of_file of_port s);
     card = TellsCard-none (rpmb_key store.keys.huk) (of_port s.gate.gate.host.port);
     storage_key = refl;
+    spare = refl;
   }
 
   module _ (old between new : ServiceValue F R) (was middle now : List (CallerSession E)) where
@@ -55,6 +56,7 @@ module _ {F R E : Type 0} (of_file : F → FileState) (of_port : R → PortState
       devices = devices_go_on_then (rpmb_key store.keys.huk) (bench_devices of_file of_port old) (bench_devices of_file of_port between) (bench_devices of_file of_port new) a.devices b.devices;
       card = TellsCard-append (rpmb_key store.keys.huk) (of_port old.gate.gate.host.port) (of_port between.gate.gate.host.port) a.added b.added a.devices.card (a.counted Card tt) a.card b.card;
       storage_key = b.storage_key ∙ a.storage_key;
+      spare = b.spare ∙ a.spare;
     }
 
     -- one more of these calls

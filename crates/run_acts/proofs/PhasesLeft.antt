@@ -3,6 +3,7 @@ use Rattle.std.proofs.Common.{◌≡◌, ◌∙◌, ℕ, List, IsTrue, None, Opt
 use Rattle.disk_model.specs.State.{FileState, LeftNow}
 use Rattle.hmac_keys.specs.declared.Keys.{Keys}
 use Rattle.hmac_keys.specs.KeyTable.{rpmb_key}
+use Rattle.tee_types.specs.Limits.{directory_file}
 use Rattle.rpmb_card.specs.Card.{CardState}
 use Rattle.rpmb_card.specs.Port.{PortState}
 use Rattle.rpmb_host.specs.Honest.{HasCard}
@@ -13,6 +14,7 @@ use Rattle.store_model.specs.declared.event.Event.{Event}
 use Rattle.store_model.specs.Machine.{opened_store}
 use Rattle.store_model.specs.Object.{ObjectMap}
 use Rattle.store_model.specs.ReplayState.{ReplayState, opening as opening_of}
+use Rattle.crash_core.specs.OldFormats.{old_file}
 use Rattle.crash_core.specs.Pictures.{IsPictureOf, Picture}
 use Rattle.core_laws.specs.Stores.{Store, phase_of}
 use Rattle.object_calls.specs.Opening.{OpeningValue}
@@ -86,6 +88,9 @@ module _ {F R : Type 0} (of_file : F → FileState) (of_port : R → PortState) 
           (subst (λ (k : Keys). IsMapLeft k picture (end_replay s ((r.serves).closes).view)) (r.serves).keys_are
           (left_of (s.keys) picture (end_replay s ((r.serves).closes).view) ((r.serves).closes).doubt
           (((((r.serves).closes).leaves).honest closed_honest).mounts card picture (closed_card card has) (closed_picture card picture is))));
+      current = λ card picture has is.
+          subst (λ (k : Keys). old_file k picture ≡ None) (r.serves).keys_are
+          ((((r.serves).closes).leaves).current (closed_honest directory_file) card picture (closed_card card has) (closed_picture card picture is));
     }
 
 pub phases_leave : {F R : Type 0} (of_file : F → FileState) (of_port : R → PortState) (Reliable : Type 0) → PhasesLeave of_file of_port Reliable

@@ -9,6 +9,8 @@ use Rattle.disk_model.specs.Faults.{Rose}
 use Rattle.disk_model.specs.State.{FileState}
 use Rattle.hmac_keys.specs.declared.Keys.{Keys}
 use Rattle.hmac_keys.specs.KeyTable.{rpmb_key}
+use Rattle.tee_types.specs.Limits.{directory_file, file_count}
+use Rattle.tee_types.proofs.FileNumbers.{directory_on_bench}
 use Rattle.rpmb_card.specs.Port.{PortState}
 use Rattle.rpmb_host.specs.Honest.{HadCard}
 use Rattle.tee_types.specs.declared.reply.Device.{Device}
@@ -54,7 +56,7 @@ module _ {F R : Type 0} (of_file : F → FileState) (of_port : R → PortState) 
   abbrev opened : BenchState
   opened = opening_state of_file of_port r.opened
 
-  opened_file : (file : ℕ) → file < 273 → IsQuietFile (opened.files file)
+  opened_file : (file : ℕ) → file < file_count → IsQuietFile (opened.files file)
   opened_file file within =
       let was = was_quiet.files file within in record {
         calm = (mount_goes_on of_file of_port keys old r.opened r.mounts file).calm was.calm;
@@ -85,14 +87,14 @@ module _ {F R : Type 0} (of_file : F → FileState) (of_port : R → PortState) 
       ∙ sym (ap (λ (f : FileState). f.starved) ((((r.serves).ready).arms_are).0 file))
 
   -- so none counted a fault
-  file_same : (file : ℕ) → file < 273 → (closed.files file).faults ≡ (armed.files file).faults
+  file_same : (file : ℕ) → file < file_count → (closed.files file).faults ≡ (armed.files file).faults
   file_same file within = elim (((((r.serves).closes).devices).files file within).quiet (quiet.files file within).calm) [
     | inl same ↦ same
     | inr rose ↦ absurd (not_risen (armed.files file).starved (closed.files file).starved (starved_same file) (quiet.files file within).starved rose)
   ]
 
   still : (device : Device) → IsOnBench device → (faults_on closed device ≡ faults_on armed device) × (faults_on armed device < 2 ^ 64 - 1)
-  still Dir on = (file_same 0 (omega arith), (quiet.files 0 (omega arith)).faults)
+  still Dir on = (file_same directory_file directory_on_bench, (quiet.files directory_file directory_on_bench).faults)
   still (File n) on = (file_same n (omega (arith, on.1)), (quiet.files n (omega (arith, on.1))).faults)
   still Card on = (((((r.serves).closes).devices).card.calm quiet.calm).faults, quiet.faults)
   still Entropy on = absurd on
@@ -133,7 +135,7 @@ module _ {F R : Type 0} (of_file : F → FileState) (of_port : R → PortState) 
   before_quiet : IsQuiet keys before
   before_quiet = quiet of_file of_port Reliable keys applications mode calls old new objects events r was_quiet
 
-  left_file : (file : ℕ) → file < 273 → IsQuietFile (new.files file)
+  left_file : (file : ℕ) → file < file_count → IsQuietFile (new.files file)
   left_file file within =
       let began = before_quiet.files file within in
       let same = file_same of_file of_port Reliable keys applications mode calls old new objects events r was_quiet file within in

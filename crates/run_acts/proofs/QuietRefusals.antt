@@ -5,6 +5,8 @@ use Rattle.disk_model.specs.Faults.{Rose}
 use Rattle.disk_model.specs.State.{FileState}
 use Rattle.htree_file.specs.Answers.{FileFailed}
 use Rattle.hmac_keys.specs.declared.Keys.{Keys}
+use Rattle.tee_types.specs.Limits.{directory_file, file_count}
+use Rattle.tee_types.proofs.FileNumbers.{directory_on_bench}
 use Rattle.rpmb_card.specs.Port.{PortState}
 use Rattle.script_text.specs.declared.script.Arm.{Arm}
 use Rattle.script_text.specs.declared.script.Mode.{Mode}
@@ -32,7 +34,7 @@ quiet_file old new count quiet same failed = not_risen old.starved new.starved s
 module _ (keys : Keys) (old new : BenchState) (drew draws : ℕ) (quiet : IsQuiet keys old) (undrawn : Rose drew draws → ⊥) where
   -- a mount
   pub quiet_mount : (cause : Cause) → IsMountRefused keys old new drew draws (Failed cause) → HadMemory old new → ⊥
-  quiet_mount (Fault Dir count) m memory = quiet_file (old.files 0) (new.files 0) count (quiet.files 0 (omega arith)) (memory 0) (m.counted).0
+  quiet_mount (Fault Dir count) m memory = quiet_file (old.files directory_file) (new.files directory_file) count (quiet.files directory_file directory_on_bench) (memory directory_file) (m.counted).0
   quiet_mount (Fault (File n) count) m memory =
       let failed = (m.refused).failed in
       quiet_file (old.files n) (new.files n) count (quiet.files n (omega (arith, failed.1))) (memory n) failed.2
@@ -44,7 +46,7 @@ module _ (keys : Keys) (old new : BenchState) (drew draws : ℕ) (quiet : IsQuie
   -- an object that is shown
   module _ (untainted : AreUntainted old.files) where
     some_quiet : (n : ℕ) → IsQuietFile (old.files n)
-    some_quiet n = elim (cases_lt n 273) [
+    some_quiet n = elim (cases_lt n file_count) [
       | inl within ↦ quiet.files n within
       | inr beyond ↦ subst IsQuietFile (sym (untainted.past n beyond)) (record { calm = refl; faults = omega arith; starved = omega arith })
     ]

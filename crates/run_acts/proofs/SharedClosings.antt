@@ -1,7 +1,10 @@
 -- A store that threads served beside each other, and that was closed.
-use Rattle.std.proofs.Common.{◌≡◌, ◌<◌, ℕ, zero, suc, List, arith}
+use Rattle.std.proofs.Common.{◌≡◌, ◌<◌, ℕ, List, inl, inr, sym, subst}
+use Rattle.std.proofs.lemmas.Bool.{cases_eq}
 use Rattle.disk_model.specs.Calls.{GoesOn}
 use Rattle.disk_model.specs.State.{FileState}
+use Rattle.tee_types.specs.Limits.{directory_file, file_count, old_directory_file}
+use Rattle.tee_types.proofs.FileNumbers.{other_on_bench}
 use Rattle.rpmb_card.specs.Port.{PortState}
 use Rattle.tee_types.specs.declared.reply.Device.{Device}
 use Rattle.tee_types.specs.declared.reply.Device.TheVariants.{Card, Dir, Entropy, File}
@@ -12,6 +15,8 @@ use Rattle.script_text.specs.declared.script.Step.{Step}
 use Rattle.shared_store.specs.DeviceCounts.{Rise, counts_of}
 use Rattle.object_calls.specs.OpeningArms.{IsOnBench}
 use Rattle.object_calls.specs.Opening.{OpeningValue}
+use Rattle.object_calls.proofs.Files.{directory_here}
+use Rattle.shared_store.proofs.CountGrowth.{same_file_goes_on}
 use Rattle.run_acts.specs.Benches.{BenchState, opening_state}
 use Rattle.run_acts.specs.Closing.{ClosesStore, faults_on}
 use Rattle.run_acts.specs.SharedClosing.{ClosesShared}
@@ -26,14 +31,19 @@ module _ {F R : Type 0} (of_file : F → FileState) (of_port : R → PortState) 
   before = opening_state of_file of_port o
 
   counted : (device : Device) → IsOnBench device → Rise (faults_on before device) (faults_on closed device) (counts_of device events)
-  counted Dir on = c.dir_counted
+  counted Dir on = subst (λ (s : FileState). Rise s.faults (faults_on closed Dir) (counts_of Dir events)) (sym (directory_here of_file o.spare o.gate.dir.file o.files)) c.dir_counted
   counted (File n) on = c.each_counted n on
   counted Card on = c.port_counted
   counted Entropy on = absurd on
 
-  goes_on : (file : ℕ) → file < 273 → GoesOn (before.files file) (closed.files file)
-  goes_on zero within = c.dir
-  goes_on (suc i) within = c.each (suc i) (omega arith, omega (arith, within))
+  goes_on : (file : ℕ) → file < file_count → GoesOn (before.files file) (closed.files file)
+  goes_on file within = elim (cases_eq file directory_file) [
+    | inl is ↦ subst (λ (n : ℕ). GoesOn (before.files n) (closed.files n)) (sym is) (subst (λ (s : FileState). GoesOn s (closed.files directory_file)) (sym (directory_here of_file o.spare o.gate.dir.file o.files)) c.dir)
+    | inr other ↦ elim (other_on_bench file within other) [
+      | inl old_dir ↦ subst (λ (n : ℕ). GoesOn (before.files n) (closed.files n)) (sym old_dir) (same_file_goes_on (before.files old_directory_file) (closed.files old_directory_file) c.spare)
+      | inr object ↦ c.each file object
+    ]
+  ]
 
   pub shared_closes : ClosesStore Reliable store before Threads calls closed events
   shared_closes = record {

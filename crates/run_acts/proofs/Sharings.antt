@@ -6,12 +6,12 @@ use Rattle.std.specs.List.{list_any}
 use Rattle.disk_model.specs.Calls.{GoesOn}
 use Rattle.disk_model.specs.State.{FileState}
 use Rattle.hmac_keys.specs.KeyTable.{rpmb_key}
+use Rattle.tee_types.specs.Limits.{IsObjectFile, last_file}
 use Rattle.rpmb_card.specs.Port.{PortState}
 use Rattle.tee_types.specs.declared.reply.Device.TheVariants.{Card, Dir, File}
 use Rattle.store_model.specs.Record.{concerns_file, events_of}
 use Rattle.history_seats.specs.Records.{HistoryRecord}
 use Rattle.history_seats.specs.Views.{GateView, Sight, SlotView}
-use Rattle.core_laws.specs.Joined.{IsObjectFile}
 use Rattle.core_laws.specs.Stores.{Store}
 use Rattle.core_laws.proofs.Mending.{some_same}
 use Rattle.shared_store.specs.SlotValues.{SlotValue}
@@ -23,7 +23,7 @@ use Rattle.object_calls.specs.Opening.{OpeningValue, bench_files, entries_in}
 use Rattle.object_calls.specs.Retiring.{IsPlaced}
 use Rattle.object_calls.specs.Services.{ServiceValue, slot_for}
 use Rattle.object_calls.specs.ServedPhases.{ServesOpening}
-use Rattle.object_calls.proofs.Files.{files_behind}
+use Rattle.run_acts.proofs.Closings.{file_opened}
 use Rattle.object_calls.proofs.FirstParts.{none_tagged}
 use Rattle.shared_store.specs.Cards.{TellsCard}
 use Rattle.shared_store.specs.DeviceCounts.{Rise, counts_of}
@@ -53,11 +53,9 @@ module _ (before : Devices) (count : ℕ) (slots : List SlotValue) (kept : AreKe
 -- AS THE STORE IS SHARED
 module _ {F R : Type 0} (of_file : F → FileState) (of_port : R → PortState) (store : Store) (o : OpeningValue F R) where
   -- A slot that is free still.
-  first_slot_kept : (i : ℕ) → i < 272 → KeepsSlot (opening_devices of_file of_port o) (slot_for store (entries_in o) of_file o.files i) []
+  first_slot_kept : (i : ℕ) → i < last_file → KeepsSlot (opening_devices of_file of_port o) (slot_for store (entries_in o) of_file o.files i) []
   first_slot_kept i within =
-      let place : i + 1 - 1 ≡ i = omega arith in
-      let same : bench_files of_file o (i + 1) ≡ files_of of_file o.files i =
-      files_behind of_file o.gate.dir.file o.files (i + 1) (omega arith) ∙ ap (files_of of_file o.files) place in
+      let same : bench_files of_file o (i + 1) ≡ files_of of_file o.files i = file_opened of_file o i within in
       record {
         object = (omega arith, omega (arith, within));
         goes_on = same_file_goes_on (bench_files of_file o (i + 1)) (files_of of_file o.files i) (sym same);
@@ -80,7 +78,7 @@ module _ {F R : Type 0} (of_file : F → FileState) (of_port : R → PortState) 
           (TellsCard-none (rpmb_key store.keys.huk) (of_port o.gate.host.port));
     }
 
-    pub first_slots_kept : AreKept (opening_devices of_file of_port o) 272 s.slots
+    pub first_slots_kept : AreKept (opening_devices of_file of_port o) last_file s.slots
     first_slots_kept i d within =
         subst (λ (slot : SlotValue). KeepsSlot (opening_devices of_file of_port o) slot []) (sym (served.slots i d within)) (first_slot_kept i within)
 
@@ -110,7 +108,7 @@ module _ (store : Store) (before : Devices) (slots : List SlotValue) (kept : Are
         (append-nil seen ∙ sym (counts-seen file placed.seat.knows.seen begins.rest view.all begins.is tagged lacks))
         (subst (λ (f : FileState). Rise (before.file file).faults f.faults (seen ++ [])) (sym placed.file) was)
 
-  module _ (files : ℕ → FileState) (placed : (i : ℕ) → i < 272 → IsPlaced store view slots (i + 1) (files (i + 1))) where
+  module _ (files : ℕ → FileState) (placed : (i : ℕ) → i < last_file → IsPlaced store view slots (i + 1) (files (i + 1))) where
     placed_at : (file : ℕ) → IsObjectFile file → IsPlaced store view slots file (files file)
     placed_at file is =
         let i = file - 1 in

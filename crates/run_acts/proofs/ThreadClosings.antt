@@ -1,11 +1,13 @@
 -- What a store that was shared is, once it is closed.
-use Rattle.std.proofs.Common.{◌≤◌, ◌≡◌, ◌∙◌, ◌+◌, ◌<◌, ◌⊎◌, ℕ, zero, suc, List, [], ◌∷◌, ◌++◌, drop, length, slice_index_or, true, Option, refl, sym, ap, subst, inl, inr, arith}
+use Rattle.std.proofs.Common.{◌≤◌, ◌≡◌, ◌∙◌, ◌+◌, ◌<◌, ◌⊎◌, ℕ, List, [], ◌∷◌, ◌++◌, length, slice_index_or, true, Option, refl, sym, ap, subst, inl, inr, arith}
 use Rattle.std.specs.List.{list_all}
-use Rattle.std.proofs.lemmas.Bool.{cases_lt, eqb-true}
+use Rattle.std.proofs.lemmas.Bool.{cases_eq, cases_lt, eqb-true}
 use Rattle.std.proofs.lemmas.List.Sums.{AllPass-from_list_all}
 use Rattle.disk_model.specs.Calls.{GoesOn}
 use Rattle.disk_model.specs.State.{FileState}
 use Rattle.hmac_keys.specs.KeyTable.{rpmb_key}
+use Rattle.tee_types.specs.Limits.{directory_file, file_count, last_file, old_directory_file}
+use Rattle.tee_types.proofs.FileNumbers.{other_on_bench}
 use Rattle.rpmb_card.specs.Port.{PortState}
 use Rattle.tee_types.specs.declared.call.Call.{Call}
 use Rattle.store_model.specs.declared.event.Event.{Event}
@@ -23,6 +25,7 @@ use Rattle.tee_types.specs.declared.reply.Device.TheVariants.{Card, Dir, File}
 use Rattle.shared_store.specs.Cards.{TellsCard}
 use Rattle.shared_store.specs.DeviceCounts.{Rise, counts_of, draws_of}
 use Rattle.shared_store.specs.Devices.{Devices, PortGoesOn}
+use Rattle.shared_store.proofs.CountGrowth.{same_file_goes_on}
 use Rattle.shared_store.proofs.Rises.{Rise-still}
 use Rattle.object_calls.specs.OpeningFiles.{files_of}
 use Rattle.object_calls.specs.FinishedPhase.{HasCounted, HaveCounted, LeavesStore}
@@ -187,18 +190,25 @@ worked_callers is_reliable draws store steps was now many worked i d within = el
 
 -- The store was closed.
 module _ {F R : Type 0} (of_file : F → FileState) (of_port : R → PortState) (store : Store) (before : Devices) (gate : GuardedGateValue F R) (keeps : KeepsGate of_file of_port store before gate)
-    (slots : List SlotValue) (kept : AreKept before (length slots) slots) (files : List F) (card : R) (front : files ≡ gate.gate.dir.file ∷ drop 1 files)
-    (placed : (i : ℕ) → i < 272 → IsPlaced store gate.journal.knows slots (i + 1) (files_of of_file files (i + 1))) (tagged : AreTagged gate.journal.knows.all) where
+    (slots : List SlotValue) (kept : AreKept before (length slots) slots) (files : List F) (card : R) (dir_is : files_of of_file files directory_file ≡ of_file gate.gate.dir.file)
+    (spare_is : files_of of_file files old_directory_file ≡ before.file old_directory_file)
+    (placed : (i : ℕ) → i < last_file → IsPlaced store gate.journal.knows slots (i + 1) (files_of of_file files (i + 1))) (tagged : AreTagged gate.journal.knows.all) where
   abbrev all : List Event
   all = events_of gate.journal.knows.all
 
   module _ (bench : BenchState) (is : IsBenchOf before bench) where
-    file_shared : (file : ℕ) → file < 273 → GoesOn (bench.files file) (files_of of_file files file)
-    file_shared zero within =
-        subst (λ (f : FileState). GoesOn f (files_of of_file files 0)) (sym is.dir) (subst (λ (l : List F). GoesOn before.dir (files_of of_file l 0)) (sym front) keeps.dir)
-    file_shared (suc k) within =
-        subst (λ (f : FileState). GoesOn f (files_of of_file files (suc k))) (sym (is.each (suc k) (omega arith)))
-        (each_goes_on store before slots kept gate.journal.knows tagged (files_of of_file files) placed (suc k) (omega arith, omega (arith, within)))
+    file_shared : (file : ℕ) → file < file_count → GoesOn (bench.files file) (files_of of_file files file)
+    file_shared file within = elim (cases_eq file directory_file) [
+      | inl own ↦
+          subst (λ (n : ℕ). GoesOn (bench.files n) (files_of of_file files n)) (sym own)
+          (subst (λ (f : FileState). GoesOn f (files_of of_file files directory_file)) (sym is.dir) (subst (GoesOn before.dir) (sym dir_is) keeps.dir))
+      | inr other ↦
+          subst (λ (f : FileState). GoesOn f (files_of of_file files file)) (sym (is.each file other))
+          (elim (other_on_bench file within other) [
+            | inl old_dir ↦ subst (λ (n : ℕ). GoesOn (before.file n) (files_of of_file files n)) (sym old_dir) (same_file_goes_on (before.file old_directory_file) (files_of of_file files old_directory_file) spare_is)
+            | inr object ↦ each_goes_on store before slots kept gate.journal.knows tagged (files_of of_file files) placed file object
+          ])
+    ]
 
     -- what is known of the bench goes on
     pub bench_shared : card ≡ gate.gate.host.port → BenchGoesOn (rpmb_key store.keys.huk) bench (record { files = files_of of_file files; card = of_port card })
@@ -218,9 +228,10 @@ module _ {F R : Type 0} (of_file : F → FileState) (of_port : R → PortState) 
     serves = λ app. ap (calls_of app) is ∙ serve app;
     doubt = doubt;
     leaves = leaves;
-    dir = subst (λ (l : List F). GoesOn before.dir (files_of of_file l 0)) (sym front) keeps.dir;
-    dir_counted = subst (λ (p : List F × List Event). Rise (before.dir).faults (files_of of_file p.0 0).faults (counts_of Dir p.1)) (λ i. (sym front i, sym is i)) keeps.dir_counted;
+    dir = subst (GoesOn before.dir) (sym dir_is) keeps.dir;
+    dir_counted = subst (λ (p : FileState × List Event). Rise (before.dir).faults (p.0).faults (counts_of Dir p.1)) (λ i. (sym dir_is i, sym is i)) keeps.dir_counted;
     each = each_goes_on store before slots kept gate.journal.knows tagged (files_of of_file files) placed;
+    spare = spare_is;
     each_counted = λ file own. subst (λ (l : List Event). Rise (before.file file).faults (files_of of_file files file).faults (counts_of (File file) l)) (sym is)
         (each_counted store before slots kept gate.journal.knows tagged (files_of of_file files) placed file own);
     port = subst (λ (r : R). PortGoesOn (rpmb_key store.keys.huk) before.card (of_port r)) (sym port) keeps.card;
@@ -242,6 +253,7 @@ closes_where A B store before calls files card events narrower c = record {
   dir = c.dir;
   dir_counted = c.dir_counted;
   each = c.each;
+  spare = c.spare;
   each_counted = c.each_counted;
   port = c.port;
   port_counted = c.port_counted;

@@ -1,5 +1,5 @@
 -- Files stay untainted.
-use Rattle.std.proofs.Common.{◌≡◌, ◌⊎◌, ◌∙◌, ◌<◌, ◌≤◌, ℕ, zero, suc, List, Bool, IsTrue, inl, inr, refl, sym, ap, subst, arith}
+use Rattle.std.proofs.Common.{◌≡◌, ◌⊎◌, ◌∙◌, ◌<◌, ◌≤◌, ℕ, List, Bool, IsTrue, inl, inr, refl, sym, ap, subst, arith}
 use Rattle.std.proofs.lemmas.Bool.{cases_eq, cases_lt}
 use Rattle.disk_model.specs.Bytes.{after_mask}
 use Rattle.disk_model.specs.Calls.{GoesOn}
@@ -7,6 +7,8 @@ use Rattle.disk_model.specs.Controls.{disarmed, failure_armed, renamed_as, settl
 use Rattle.disk_model.specs.State.{FileState, LeftNow}
 use Rattle.hmac_keys.specs.declared.Keys.{Keys}
 use Rattle.hmac_keys.specs.KeyTable.{rpmb_key}
+use Rattle.tee_types.specs.Limits.{directory_file, file_count}
+use Rattle.tee_types.proofs.FileNumbers.{directory_on_bench}
 use Rattle.rpmb_card.specs.Port.{PortState}
 use Rattle.rpmb_host.specs.Honest.{HasCard}
 use Rattle.script_text.specs.declared.script.Arm.{Arm}
@@ -51,7 +53,7 @@ untainted_failure : (s : FileState) (call : ℕ) → IsUntainted s → IsUntaint
 untainted_failure s call u = record { honest = u.honest; tells_arms = u.tells_arms; none = u.none }
 
 pub untainted_files_are_honest : UntaintedFilesAreHonest
-untainted_files_are_honest files u file = elim (cases_lt file 273) [
+untainted_files_are_honest files u file = elim (cases_lt file file_count) [
   | inl within ↦ (u.each file within).honest
   | inr beyond ↦ subst (λ (s : FileState). IsTrue s.honest) (sym (u.past file beyond)) refl
 ]
@@ -64,7 +66,7 @@ crashed_past : (old new : FileState) → (new ≡ old) ⊎ TakesImage old new �
 crashed_past old new (inl same) none = same ∙ none
 crashed_past old new (inr (image, left, is)) none =
     let there : LeftNow no_file image = subst (λ (s : FileState). LeftNow s image) none left in
-    is ∙ ap (λ (s : FileState). renamed_as s image) none ∙ ap (renamed_as no_file) ((there refl).exact refl)
+    is ∙ ap (λ (s : FileState). renamed_as s image) none ∙ ap (renamed_as no_file) ((there refl).exact (λ p. refl))
 
 pub crashes_stay_untainted : CrashesStayUntainted
 crashes_stay_untainted old new u may = record {
@@ -75,13 +77,13 @@ crashes_stay_untainted old new u may = record {
 altered_untainted : (file : ℕ) (altered : FileState) (old new : BenchState) → (IsUntainted (old.files file) → IsUntainted altered) → AltersFile file altered old new → AreUntainted old.files → AreUntainted new.files
 altered_untainted file altered old new stays a u = record { each = each; past = past }
   where
-    each : (k : ℕ) → k < 273 → IsUntainted (new.files k)
+    each : (k : ℕ) → k < file_count → IsUntainted (new.files k)
     each k below = elim (cases_eq k file) [
       | inl same ↦ subst (λ (n : ℕ). IsUntainted (new.files n)) (sym same) (subst IsUntainted (sym a.here) (stays (u.each file a.within)))
       | inr other ↦ subst IsUntainted (sym (a.others k other)) (u.each k below)
     ]
 
-    past : (k : ℕ) → 273 ≤ k → new.files k ≡ no_file
+    past : (k : ℕ) → file_count ≤ k → new.files k ≡ no_file
     past k beyond = a.others k (λ same. omega (arith, same, a.within, beyond)) ∙ u.past k beyond
 
 pub restores_stay_untainted : RestoresStayUntainted
@@ -99,11 +101,13 @@ same_untainted old new same u = record {
 }
 
 formed_untainted : (keys : Keys) (old new : BenchState) → FormsBench keys old new → AreUntainted old.files → AreUntainted new.files
-formed_untainted keys old new forms u = record { each = each; past = λ file beyond. forms.others file (omega (arith, beyond)) ∙ u.past file beyond }
+formed_untainted keys old new forms u = record { each = each; past = λ file beyond. forms.others file (λ is. omega (arith, is, beyond, directory_on_bench)) ∙ u.past file beyond }
   where
-    each : (file : ℕ) → file < 273 → IsUntainted (new.files file)
-    each zero within = untainted_then (old.files 0) (new.files 0) (forms.goes_on).file (u.each 0 within)
-    each (suc file) within = subst IsUntainted (sym (forms.others (suc file) (omega arith))) (u.each (suc file) within)
+    each : (file : ℕ) → file < file_count → IsUntainted (new.files file)
+    each file within = elim (cases_eq file directory_file) [
+      | inl is ↦ subst (λ (n : ℕ). IsUntainted (new.files n)) (sym is) (untainted_then (old.files directory_file) (new.files directory_file) (forms.goes_on).file (u.each directory_file directory_on_bench))
+      | inr other ↦ subst IsUntainted (sym (forms.others file other)) (u.each file within)
+    ]
 
 pub openings_stay_untainted : OpeningsStayUntainted
 openings_stay_untainted keys old new (found block some reads) u = same_untainted old.files new.files reads.files u
@@ -111,7 +115,7 @@ openings_stay_untainted keys old new (made block between blank reads forms) u =
     formed_untainted keys between new forms (same_untainted old.files between.files reads.files u)
 
 pub refusals_stay_honest : RefusalsStayHonest
-refusals_stay_honest keys old new drew draws fault u m = (untainted_then (old.files 0) (new.files 0) ((m.leaves).keeps).goes_on (u.each 0 (omega arith))).honest
+refusals_stay_honest keys old new drew draws fault u m = (untainted_then (old.files directory_file) (new.files directory_file) ((m.leaves).keeps).goes_on (u.each directory_file directory_on_bench)).honest
 
 pub lists_stay_untainted : {F R : Type 0} (of_file : F → FileState) (of_port : R → PortState) → ListsStayUntainted of_file of_port
 lists_stay_untainted of_file of_port keys old new objects lines l u = record {
@@ -122,7 +126,7 @@ lists_stay_untainted of_file of_port keys old new objects lines l u = record {
 -- a bench that is mounted can be followed
 pub untainted_readable : {F R : Type 0} (of_file : F → FileState) (of_port : R → PortState) (keys : Keys) (old : BenchState) (o : OpeningValue F R) → IsMounted of_file of_port keys old o → AreUntainted old.files
     → AreReadable old.files (bench_files of_file o)
-untainted_readable of_file of_port keys old o m u file = elim (cases_lt file 273) [
+untainted_readable of_file of_port keys old o m u file = elim (cases_lt file file_count) [
   | inl within ↦ inl (untainted_then (old.files file) (bench_files of_file o file) (mount_goes_on of_file of_port keys old o m file) (u.each file within)).honest
   | inr beyond ↦ inr (subst (λ (s : FileState). IsTrue s.steady) (sym (u.past file beyond)) refl)
 ]
@@ -137,7 +141,7 @@ module _ {F R : Type 0} (of_file : F → FileState) (of_port : R → PortState) 
   abbrev armed : BenchState
   armed = opening_state of_file of_port (r.serves).armed
 
-  left_untainted : (file : ℕ) → file < 273 → IsUntainted (new.files file)
+  left_untainted : (file : ℕ) → file < file_count → IsUntainted (new.files file)
   left_untainted file within =
       let mounted = untainted_then (old.files file) (opened.files file) (((r.keeps).files file).keeps).goes_on (u.each file within) in
       let ready = unmasked_keep IsUntainted untainted_stop untainted_failure arms opened armed unmasked ((r.serves).ready).arms_are file mounted in

@@ -1,7 +1,8 @@
 -- What is known of the devices of a bench.
-use Rattle.std.specs.Prelude.{◌≡◌, ◌≤◌, ◌⊎◌, ℕ}
+use Rattle.std.specs.Prelude.{◌≡◌, ◌≢◌, ◌⊎◌, ℕ}
 use Rattle.disk_model.specs.State.{FileState}
 use Rattle.htree_file.specs.Answers.{FilePassed}
+use Rattle.tee_types.specs.Limits.{directory_file}
 use Rattle.rpmb_card.specs.Port.{PortState}
 use Rattle.store_commit.specs.declared.fault.MountFault.{MountFault}
 use Rattle.store_commit.specs.declared.fault.MountFault.TheVariants.{NoMemory}
@@ -36,7 +37,7 @@ TellsFault old new answered told = ((told ≡ answered) × HadMemory old new) �
 
 -- the files of objects are as they were
 abbrev pub KeepsObjectFiles : (old new : BenchState) → Type 0
-KeepsObjectFiles old new = (file : ℕ) → 1 ≤ file → new.files file ≡ old.files file
+KeepsObjectFiles old new = (file : ℕ) → file ≢ directory_file → new.files file ≡ old.files file
 
 -- No device has other contents: nothing was asked of the files but reads and syncs, and the card was not written.
 pub record KeepsDevices (old new : BenchState) : Type 0 where

@@ -2,6 +2,7 @@
 use Rattle.std.specs.Prelude.{◌≡◌, ◌<◌, ℕ, List, [], length, Option}
 use Rattle.disk_model.specs.Calls.{GoesOn}
 use Rattle.hmac_keys.specs.KeyTable.{rpmb_key}
+use Rattle.tee_types.specs.Limits.{directory_file, file_count}
 use Rattle.tee_types.specs.declared.reply.Device.{Device}
 use Rattle.tee_types.specs.declared.reply.Device.TheVariants.{Card, Dir, Entropy, File}
 use Rattle.store_model.specs.declared.event.Event.{Event}
@@ -20,14 +21,14 @@ use Rattle.run_acts.specs.ServedSteps.{ServesFront, ServesSteps}
 
 -- how many faults a device of the bench counted
 abbrev pub faults_on : BenchState → Device → ℕ
-faults_on bench Dir = (bench.files 0).faults
+faults_on bench Dir = (bench.files directory_file).faults
 faults_on bench (File number) = (bench.files number).faults
 faults_on bench Card = bench.card.faults
 faults_on bench Entropy = 0
 
 -- What is known of the devices goes on: honesty is only lost, a calm file counted a fault only where it found no memory, and a calm port none.
 pub record BenchGoesOn (key : List ℕ) (old new : BenchState) : Type 0 where
-  pub files : (file : ℕ) → file < 273 → GoesOn (old.files file) (new.files file)
+  pub files : (file : ℕ) → file < file_count → GoesOn (old.files file) (new.files file)
   pub card : PortGoesOn key old.card new.card
 
 -- The calls were made and the store was closed. Its devices were those before the first call. `Reliable` says that no generator of its

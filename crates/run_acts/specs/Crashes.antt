@@ -2,6 +2,7 @@
 use Rattle.std.specs.Prelude.{◌≡◌, ◌<◌, ◌≤◌, ℕ, List}
 use Rattle.disk_model.specs.Controls.{renamed_as}
 use Rattle.disk_model.specs.State.{FileState, LeftNow}
+use Rattle.tee_types.specs.Limits.{file_count}
 use Rattle.run_acts.specs.Benches.{BenchState}
 
 module _ (image : FileState → ℕ → ℕ → List ℕ) (seed : ℕ) where
@@ -17,12 +18,12 @@ module _ (image : FileState → ℕ → ℕ → List ℕ) (seed : ℕ) where
 
   -- So all files of a bench, whose card stays.
   pub record Crashes (old new : BenchState) : Type 0 where
-    pub files : CrashesBelow 273 old.files new.files
+    pub files : CrashesBelow file_count old.files new.files
     pub card : new.card ≡ old.card
 
   -- Memory ran out in the crash: the files below some number took their images, the others are as they were.
   pub record CrashesInPart (old new : BenchState) : Type 0 where
     pub count : ℕ
-    pub within : count ≤ 273
+    pub within : count ≤ file_count
     pub files : CrashesBelow count old.files new.files
     pub card : new.card ≡ old.card

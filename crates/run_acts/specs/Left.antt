@@ -11,6 +11,7 @@ use Rattle.store_model.specs.Record.{untagged}
 use Rattle.store_model.specs.ReplayState.{ReplayState, opening, replay}
 use Rattle.crash_core.specs.Pictures.{IsPictureOf, Picture}
 use Rattle.object_calls.specs.FinishedPhase.{AreAllHonest, IsMapLeft}
+use Rattle.object_calls.specs.OldStores.{HasNoOldFile}
 use Rattle.run_acts.specs.Benches.{BenchState}
 
 -- where these events leave a phase that opened with these objects, with a session for each application
@@ -22,7 +23,9 @@ replay_left objects applications events =
 abbrev pub AreLeft : ReplayState → ObjectMap → Type 0
 AreLeft s objects = (objects ≡ (s.state).objects) ⊎ (with_doubt s ≡ Some objects)
 
--- Every file is honest, and every picture that a crash may leave of the bench mounts to objects that are left.
+-- Every file is honest, every picture that a crash may leave of the bench mounts to objects that are left, and none has a file of the old
+-- format.
 pub record HoldsLeft (keys : Keys) (bench : BenchState) (s : ReplayState) : Type 0 where
   pub honest : AreAllHonest bench.files
   pub mounts : (card : CardState) (picture : Picture) → HasCard bench.card (rpmb_key keys.huk) card → IsPictureOf bench.files card picture → IsMapLeft keys picture s
+  pub current : HasNoOldFile keys bench.files bench.card

@@ -23,9 +23,11 @@ pub mod SharedClosing
 pub mod Left
 pub mod Between
 pub mod DeviceLaws
+pub mod MigratedBenches
 pub mod Untainted
 pub mod Quiet
 pub mod MountingLaws
+pub mod MigrationLaws
 pub mod Lines
 pub mod LineObjects
 pub mod LineLaws

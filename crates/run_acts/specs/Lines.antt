@@ -10,7 +10,7 @@ use Rattle.htree_file.specs.declared.fault.TreeFault.{TreeFault}
 use Rattle.htree_file.specs.declared.fault.TreeFault.TheVariants.{BadHead, Short, Damaged as DamagedNode, BadTag, Failed as FileFailed, NoEntropy, NoMemory as NoRoom}
 use Rattle.script_text.specs.Forms.{bytes_text}
 use Rattle.store_commit.specs.declared.fault.MountFault.{MountFault}
-use Rattle.store_commit.specs.declared.fault.MountFault.TheVariants.{NoStore, CardBlock, Directory, Frame, CardResult, Failed, Spent, NoMemory}
+use Rattle.store_commit.specs.declared.fault.MountFault.TheVariants.{NoStore, CardBlock, Directory, Frame, CardResult, Failed, Spent, NoMemory, OldFormat}
 use Rattle.store_model.specs.declared.name.ObjectName.{ObjectName}
 use Rattle.store_model.specs.Object.{Object, ObjectMap, Damaged, Sound, size_of}
 
@@ -74,6 +74,7 @@ directory_text (Double index first) = Some (codes "double " ++ decimal index ++ 
 unfoldable pub why_text : MountFault → Option (List ℕ)
 why_text NoStore = Some (codes "no-store")
 why_text (CardBlock byte) = Some (codes "card " ++ decimal byte)
+why_text (OldFormat file) = Some (codes "old " ++ decimal file)
 why_text (Directory fault) = directory_text fault
 why_text (Frame fault) = Some (codes "frame")
 why_text (CardResult value) = Some (codes "result 0x" ++ encode_lower (to_be_bytes w16 value))

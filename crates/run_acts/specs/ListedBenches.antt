@@ -5,6 +5,7 @@ use Rattle.disk_model.specs.State.{FileState}
 use Rattle.htree_file.specs.Answers.{FileFailed, FilePassed}
 use Rattle.htree_file.specs.Standing.{Told}
 use Rattle.hmac_keys.specs.declared.Keys.{Keys}
+use Rattle.tee_types.specs.Limits.{file_count}
 use Rattle.rpmb_card.specs.Port.{PortState}
 use Rattle.store_model.specs.Object.{ObjectMap}
 use Rattle.tee_types.specs.declared.reply.Cause.TheVariants.{Fault}
@@ -46,7 +47,7 @@ module _ {F R : Type 0} (of_file : F → FileState) (of_port : R → PortState) 
     pub keeps : KeepsDevices old new
     pub passed : HasPassed old new
     -- there is no file past the last
-    pub past : (file : ℕ) → 273 ≤ file → new.files file ≡ no_file
+    pub past : (file : ℕ) → file_count ≤ file → new.files file ≡ no_file
 
   -- the bench was mounted, and the listing ended at an object
   pub record IsCutShort (keys : Keys) (old new : BenchState) (drew draws : ℕ) (fault : MountFault) : Type 0 where

@@ -38,6 +38,7 @@ module _ {F R E : Type 0} (of_file : F → FileState) (of_port : R → PortState
     pub devices : DevicesGoOn (rpmb_key store.keys.huk) (bench_devices of_file of_port old) (bench_devices of_file of_port new)
     pub card : TellsCard (rpmb_key store.keys.huk) (of_port old.gate.gate.host.port) added
     pub storage_key : new.storage_key ≡ old.storage_key
+    pub spare : new.spare ≡ old.spare
 
   -- Memory ran out in a call: so much holds of the calls before it. A commit that was in doubt may have landed in it.
   abbrev pub MakesFront : Store → (old new : ServiceValue F R) → (was now : List (CallerSession E)) → List Step → Type 0

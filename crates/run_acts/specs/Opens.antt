@@ -5,6 +5,7 @@ use Rattle.disk_model.specs.State.{FileState}
 use Rattle.htree_file.specs.Answers.{FilePassed}
 use Rattle.hmac_keys.specs.declared.Keys.{Keys}
 use Rattle.hmac_keys.specs.KeyTable.{rpmb_key}
+use Rattle.tee_types.specs.Limits.{directory_file}
 use Rattle.rpmb_card.specs.Card.{CardState}
 use Rattle.rpmb_host.specs.Honest.{HasCard}
 use Rattle.crash_core.specs.Mounting.{mounted}
@@ -46,27 +47,27 @@ pub record IsBlockUnread (keys : Keys) (old new : BenchState) (drew draws : ℕ)
 abbrev pub HasNoObjects : Keys → (old new : BenchState) → Type 0
 HasNoObjects keys old new =
     (before card : CardState) (picture : Picture) → HasCard old.card (rpmb_key keys.huk) before → HasCard new.card (rpmb_key keys.huk) card
-    → IsPictureOf new.files card picture → IsTrue (new.files 0).honest → mounted keys picture ≡ Ok []
+    → IsPictureOf new.files card picture → IsTrue (new.files directory_file).honest → mounted keys picture ≡ Ok []
 
 -- The bench was formatted.
 pub record FormsBench (keys : Keys) (old new : BenchState) : Type 0 where
-  pub formed : Formats (new.files 0) old.card new.card keys
+  pub formed : Formats (new.files directory_file) old.card new.card keys
   pub empty : HasNoObjects keys old new
-  pub written : IsFormatWritten (new.files 0) old.card new.card keys
-  pub goes_on : FormatGoesOn (old.files 0) (new.files 0) old.card new.card
+  pub written : IsFormatWritten (new.files directory_file) old.card new.card keys
+  pub goes_on : FormatGoesOn (old.files directory_file) (new.files directory_file) old.card new.card
   pub others : KeepsObjectFiles old new
-  pub dir_passed : FilePassed (old.files 0) (new.files 0)
+  pub dir_passed : FilePassed (old.files directory_file) (new.files directory_file)
   pub card_passed : new.card.faults ≡ old.card.faults
   -- what holds of every file
   pub sound : AreSound new.files
 
 -- It could not be.
 pub record IsNotFormed (keys : Keys) (old new : BenchState) (drew draws : ℕ) (fault : MountFault) : Type 0 where
-  pub refused : FormatRefused (old.files 0) (new.files 0) old.card new.card keys drew draws fault
-  pub heard : FormatHeard (old.files 0) (new.files 0) old.card new.card keys fault
-  pub counted : RefusalCounts (counts (old.files 0) old.card drew) (counts (new.files 0) new.card draws) fault
-  pub left : LeavesFormat (new.files 0) old.card new.card keys
-  pub goes_on : FormatGoesOn (old.files 0) (new.files 0) old.card new.card
+  pub refused : FormatRefused (old.files directory_file) (new.files directory_file) old.card new.card keys drew draws fault
+  pub heard : FormatHeard (old.files directory_file) (new.files directory_file) old.card new.card keys fault
+  pub counted : RefusalCounts (counts (old.files directory_file) old.card drew) (counts (new.files directory_file) new.card draws) fault
+  pub left : LeavesFormat (new.files directory_file) old.card new.card keys
+  pub goes_on : FormatGoesOn (old.files directory_file) (new.files directory_file) old.card new.card
   pub others : KeepsObjectFiles old new
 
 -- The bench has a store as it was found, or a new one.

@@ -2,6 +2,7 @@
 use Rattle.std.specs.Prelude.{◌≡◌, ◌≤◌, ℕ, List}
 use Rattle.disk_model.specs.State.{FileState}
 use Rattle.hmac_keys.specs.declared.Keys.{Keys}
+use Rattle.tee_types.specs.Limits.{file_count}
 use Rattle.rpmb_card.specs.Port.{PortState}
 use Rattle.store_model.specs.declared.event.Event.{Event}
 use Rattle.store_model.specs.Object.{ObjectMap}
@@ -38,7 +39,7 @@ module _ {F R : Type 0} (of_file : F → FileState) (of_port : R → PortState) 
     pub mounts : IsMounted of_file of_port keys old opened
     -- what holds of every file, and there is none past the last
     pub sound : AreSound old.files
-    pub none : (file : ℕ) → 273 ≤ file → bench_files of_file opened file ≡ no_file
+    pub none : (file : ℕ) → file_count ≤ file → bench_files of_file opened file ≡ no_file
     -- the mount changed no bytes, and no call of it failed
     pub keeps : KeepsDevices old (opening_state of_file of_port opened)
     pub passed : HasPassed old (opening_state of_file of_port opened)
@@ -49,4 +50,4 @@ module _ {F R : Type 0} (of_file : F → FileState) (of_port : R → PortState) 
     pub with_memory : HadMemory old new
     -- what holds of every file then, and there is none past the last
     pub sound_left : AreSound new.files
-    pub past : (file : ℕ) → 273 ≤ file → new.files file ≡ no_file
+    pub past : (file : ℕ) → file_count ≤ file → new.files file ≡ no_file

@@ -3,6 +3,7 @@ use Rattle.std.specs.Prelude.{◌<◌, ◌-◌, ◌^◌, ◌⊎◌, ℕ, List, [
 use Rattle.disk_model.specs.State.{FileState}
 use Rattle.hmac_keys.specs.declared.Keys.{Keys}
 use Rattle.hmac_keys.specs.KeyTable.{rpmb_key}
+use Rattle.tee_types.specs.Limits.{file_count}
 use Rattle.rpmb_card.specs.Port.{PortState}
 use Rattle.rpmb_host.specs.Honest.{HadCard}
 use Rattle.store_model.specs.declared.event.Event.{Event}
@@ -28,7 +29,7 @@ pub record IsQuietFile (file : FileState) : Type 0 where
 
 -- So is each file of the bench; and the port to the card, which tells one that has the key.
 pub record IsQuiet (keys : Keys) (bench : BenchState) : Type 0 where
-  pub files : (file : ℕ) → file < 273 → IsQuietFile (bench.files file)
+  pub files : (file : ℕ) → file < file_count → IsQuietFile (bench.files file)
   pub calm : IsTrue bench.card.calm
   pub faults : bench.card.faults < 2 ^ 64 - 1
   pub card : HadCard bench.card (rpmb_key keys.huk)

@@ -3,13 +3,13 @@ use Rattle.std.specs.Prelude.{◌≡◌, ◌<◌, ℕ, List, [], length, Option}
 use Rattle.disk_model.specs.Calls.{GoesOn}
 use Rattle.disk_model.specs.State.{FileState}
 use Rattle.hmac_keys.specs.KeyTable.{rpmb_key}
+use Rattle.tee_types.specs.Limits.{IsObjectFile, directory_file, old_directory_file}
 use Rattle.rpmb_card.specs.Port.{PortState}
 use Rattle.tee_types.specs.declared.reply.Device.TheVariants.{Card, Dir, File}
 use Rattle.store_model.specs.declared.event.Event.{Event}
 use Rattle.store_model.specs.History.{calls_of}
 use Rattle.store_model.specs.Record.{events_of}
 use Rattle.history_seats.specs.Views.{GateView}
-use Rattle.core_laws.specs.Joined.{IsObjectFile}
 use Rattle.core_laws.specs.Stores.{Store}
 use Rattle.script_text.specs.declared.script.Step.{Step}
 use Rattle.shared_store.specs.Cards.{TellsCard}
@@ -29,9 +29,10 @@ pub record ClosesShared (Reliable : Type 0) (store : Store) (before : Devices) (
   pub doubt : Option ℕ
   pub leaves : LeavesStore store view files card doubt
   -- the meanings of the devices go on, and each count that a reply carries is of a fault that its device counted in the phase
-  pub dir : GoesOn before.dir (files 0)
-  pub dir_counted : Rise (before.dir).faults (files 0).faults (counts_of Dir events)
+  pub dir : GoesOn before.dir (files directory_file)
+  pub dir_counted : Rise (before.dir).faults (files directory_file).faults (counts_of Dir events)
   pub each : (file : ℕ) → IsObjectFile file → GoesOn (before.file file) (files file)
+  pub spare : files old_directory_file ≡ before.file old_directory_file
   pub each_counted : (file : ℕ) → IsObjectFile file → Rise (before.file file).faults (files file).faults (counts_of (File file) events)
   pub port : PortGoesOn (rpmb_key store.keys.huk) before.card card
   pub port_counted : Rise (before.card).faults card.faults (counts_of Card events)

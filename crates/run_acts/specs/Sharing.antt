@@ -1,6 +1,7 @@
 -- A store as it is shared: its devices, and what holds of its slots.
-use Rattle.std.specs.Prelude.{◌≡◌, ◌<◌, ◌≤◌, ℕ, List, [], slice_index_or}
+use Rattle.std.specs.Prelude.{◌≡◌, ◌≢◌, ◌<◌, ℕ, List, [], slice_index_or}
 use Rattle.disk_model.specs.State.{FileState}
+use Rattle.tee_types.specs.Limits.{directory_file}
 use Rattle.rpmb_card.specs.Port.{PortState}
 use Rattle.shared_store.specs.SlotValues.{SlotValue}
 use Rattle.shared_store.specs.Devices.{Devices}
@@ -14,8 +15,8 @@ opening_devices of_file of_port o = record { dir = of_file o.gate.dir.file; file
 
 -- These are the devices of the bench.
 pub record IsBenchOf (devices : Devices) (bench : BenchState) : Type 0 where
-  pub dir : bench.files 0 ≡ devices.dir
-  pub each : (file : ℕ) → 1 ≤ file → bench.files file ≡ devices.file file
+  pub dir : bench.files directory_file ≡ devices.dir
+  pub each : (file : ℕ) → file ≢ directory_file → bench.files file ≡ devices.file file
   pub card : bench.card ≡ devices.card
 
 -- each of the first so many slots may stand behind its lock

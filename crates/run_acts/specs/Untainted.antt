@@ -2,6 +2,7 @@
 use Rattle.std.specs.Prelude.{◌≡◌, ◌≤◌, ◌<◌, ℕ, List, [], ◌∷◌, IsTrue}
 use Rattle.disk_model.specs.State.{FileState}
 use Rattle.hmac_keys.specs.declared.Keys.{Keys}
+use Rattle.tee_types.specs.Limits.{directory_file, file_count}
 use Rattle.rpmb_card.specs.Port.{PortState}
 use Rattle.script_text.specs.declared.script.Arm.{Arm}
 use Rattle.script_text.specs.declared.script.Arm.TheVariants.{Taint}
@@ -28,8 +29,8 @@ pub record IsUntainted (file : FileState) : Type 0 where
 
 -- So is each file of a bench, and there is none past the last.
 pub record AreUntainted (files : ℕ → FileState) : Type 0 where
-  pub each : (file : ℕ) → file < 273 → IsUntainted (files file)
-  pub past : (file : ℕ) → 273 ≤ file → files file ≡ no_file
+  pub each : (file : ℕ) → file < file_count → IsUntainted (files file)
+  pub past : (file : ℕ) → file_count ≤ file → files file ≡ no_file
 
 -- none of these arms is a mask
 abbrev pub ArmNoMask : List Arm → Type 0
@@ -60,7 +61,7 @@ OpeningsStayUntainted = (keys : Keys) (old new : BenchState) → OpensBench keys
 -- The directory's file stays honest where a mount is refused.
 abbrev pub RefusalsStayHonest : Type 0
 RefusalsStayHonest =
-    (keys : Keys) (old new : BenchState) (drew draws : ℕ) (fault : MountFault) → AreUntainted old.files → IsMountRefused keys old new drew draws fault → IsTrue (new.files 0).honest
+    (keys : Keys) (old new : BenchState) (drew draws : ℕ) (fault : MountFault) → AreUntainted old.files → IsMountRefused keys old new drew draws fault → IsTrue (new.files directory_file).honest
 
 module _ {F R : Type 0} (of_file : F → FileState) (of_port : R → PortState) where
   -- They stay untainted in a phase that arms no mask.

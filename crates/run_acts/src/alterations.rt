@@ -3,6 +3,7 @@
 ghost use Rattle.std.specs.Prelude.{◌≡◌, ◌≢◌, ◌<◌, ℕ, length, slice_get, vec_len, Some, IfOk, OnErr, OnOk};
 ghost use Rattle.disk_model.specs.Bytes.{after_mask};
 ghost use Rattle.disk_model.specs.Controls.{renamed_as, settled_as};
+ghost use Rattle.tee_types.specs.Limits.{directory_file, file_count};
 ghost use Rattle.script_text.specs.Laws.{IsFileDevice};
 ghost use Rattle.object_calls.specs.OpeningFiles.{files_of};
 ghost use Rattle.run_acts.specs.Alterations.{FlipsFile, RestoresFile, SavesFiles, file_number};
@@ -12,17 +13,18 @@ use object_calls::Bench;
 use rpmb_card::RpmbPort;
 use std::alloc::Global;
 use tee_ports::{FileRig, Image, NoMemory};
-use tee_types::Device;
+use tee_types::{DIRECTORY_FILE, Device};
 
-/// The number of a file: the directory's is 0.
+/// The number of a file: the directory's is `DIRECTORY_FILE`.
+#[tactic(auto, unfolding(tee_types::specs::Limits::directory_file))]
 pub fn file_number(file: Device) -> usize
     requires { IsFileDevice file }
     ensures number { result ≡ file_number file }
-    ensures within { result < 273 }
+    ensures within { result < file_count }
 {
     match file {
         Device::File(number) => number as usize,
-        Device::Dir | Device::Card | Device::Entropy => 0,
+        Device::Dir | Device::Card | Device::Entropy => usize::from(DIRECTORY_FILE),
     }
 }
 
@@ -66,7 +68,7 @@ pub fn save_files<F: FileRig + Drop, R: RpmbPort + Drop>(
     alloc: Global,
     bench: &Bench<F, R>,
 ) -> Result<Vec<Image>, NoMemory>
-    requires { vec_len bench.now.files ≡ 273 }
+    requires { vec_len bench.now.files ≡ file_count }
     ensures { IfOk result (λ images. SavesFiles (bench_state F.state R.state bench.now) images.items) }
 {
     save_all(alloc, &bench.files)
@@ -82,11 +84,11 @@ pub fn restore_file<F: FileRig + Drop, R: RpmbPort + Drop>(
     file: Device,
     image: &Image,
 ) -> Result<(), NoMemory>
-    requires whole { vec_len bench.old.files ≡ 273 }
+    requires whole { vec_len bench.old.files ≡ file_count }
     requires file { IsFileDevice file }
     ensures restored { OnOk result (RestoresFile (file_number file) image.now (bench_state F.state R.state bench.old) (bench_state F.state R.state bench.new)) }
     ensures refused { OnErr result (bench_state F.state R.state bench.new ≡ bench_state F.state R.state bench.old) }
-    ensures whole { vec_len bench.new.files ≡ 273 }
+    ensures whole { vec_len bench.new.files ≡ file_count }
     ensures card { bench.new.card ≡ bench.old.card }
 {
     restore_one(&mut bench.files, file_number(file), image)
@@ -99,10 +101,10 @@ pub fn flip_file<F: FileRig + Drop, R: RpmbPort + Drop>(
     at: u32,
     mask: &[u8],
 )
-    requires whole { vec_len bench.old.files ≡ 273 }
+    requires whole { vec_len bench.old.files ≡ file_count }
     requires file { IsFileDevice file }
     ensures flipped { FlipsFile (file_number file) at mask.now (bench_state F.state R.state bench.old) (bench_state F.state R.state bench.new) }
-    ensures whole { vec_len bench.new.files ≡ 273 }
+    ensures whole { vec_len bench.new.files ≡ file_count }
     ensures card { bench.new.card ≡ bench.old.card }
 {
     flip_one(&mut bench.files, file_number(file), u64::from(at), mask)

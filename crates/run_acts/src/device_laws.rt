@@ -3,7 +3,8 @@
 ghost use Rattle.object_calls.specs.declared.bench.Bench.{Bench};
 ghost use Rattle.run_acts.specs.Benches.{bench_state};
 ghost use Rattle.run_acts.specs.Between.{AreSound};
-ghost use Rattle.run_acts.specs.MountingLaws.{HeldBenchesAreNotRefused, MountingBenchesAreNotRefused};
+ghost use Rattle.run_acts.specs.MigrationLaws.{MigratedBenchesStayCurrent, MovedBenchesAreCurrent, MovedBenchesAreListed, UndisturbedBenchesAreMoved};
+ghost use Rattle.run_acts.specs.MountingLaws.{HeldBenchesAreNotRefused, MountingBenchesAreNotRefused, OldBenchesAreNotMounted, OldBenchesAreRefused};
 ghost use Rattle.run_acts.specs.Quiet.{OpeningsStayQuiet, QuietPhasesAreOfMachine, QuietPhasesStayQuiet};
 ghost use Rattle.run_acts.specs.DeviceLaws.{BlockReadsKeep, CountersAreOfCards, CrashesKeep, CrashesKeepSteady, CrashesMayBe, DisarmedFilesAreSteady, FormedBenchesHoldNone, KeptDevicesHold, ListsKeep, ListsShowLeft, MountsOpenWithLeft, NextOpeningsAreLeft, NextPhasesOpenWithLeft, NothingMayBe, PhasesLeave, RefusedListsKeep, RefusedMountsKeep};
 
@@ -29,13 +30,11 @@ pub fn nothing_may_be()
 {}
 
 /// A crash leaves what the bench holds.
-#[tactic(auto, using(crate::proofs::CrashedLaws::crashes_keep))]
 pub fn crashes_keep()
     ensures { CrashesKeep }
 {}
 
 /// Devices that keep their contents hold what they held.
-#[tactic(auto, using(crate::proofs::CrashedLaws::kept_devices_hold))]
 pub fn kept_devices_hold()
     ensures { KeptDevicesHold }
 {}
@@ -46,7 +45,6 @@ pub fn refused_mounts_keep()
 {}
 
 /// Reading the card's block leaves what the bench holds.
-#[tactic(auto, using(crate::proofs::Opened::block_reads_keep))]
 pub fn block_reads_keep()
     ensures { BlockReadsKeep }
 {}
@@ -125,7 +123,6 @@ pub fn quiet_phases_stay_quiet<F: StoreFile, R: RpmbPort, E: Entropy>(entropy: &
 {}
 
 /// A bench that mounts is not refused.
-#[tactic(auto, using(crate::proofs::NotRefused::mounting_benches_are_not_refused))]
 pub fn mounting_benches_are_not_refused()
     ensures { MountingBenchesAreNotRefused }
 {}
@@ -133,4 +130,34 @@ pub fn mounting_benches_are_not_refused()
 /// Nor is one that holds objects.
 pub fn held_benches_are_not_refused()
     ensures { HeldBenchesAreNotRefused }
+{}
+
+/// A bench that has a file of the old format is refused for it.
+pub fn old_benches_are_refused()
+    ensures { OldBenchesAreRefused }
+{}
+
+/// And it is not mounted.
+pub fn old_benches_are_not_mounted<F: StoreFile, R: RpmbPort>()
+    ensures { OldBenchesAreNotMounted F.state R.state }
+{}
+
+/// A bench whose migration is not disturbed is migrated, unless memory runs out.
+pub fn undisturbed_benches_are_moved()
+    ensures { UndisturbedBenchesAreMoved }
+{}
+
+/// And then its objects are listed.
+pub fn moved_benches_are_listed<F: StoreFile, R: RpmbPort>()
+    ensures { MovedBenchesAreListed F.state R.state }
+{}
+
+/// No file of the old format is found behind a migration.
+pub fn moved_benches_are_current<F: StoreFile, R: RpmbPort>()
+    ensures { MovedBenchesAreCurrent F.state R.state }
+{}
+
+/// Once its objects were listed, all files of a bench that was migrated are of the current format still.
+pub fn migrated_benches_stay_current<F: StoreFile, R: RpmbPort>()
+    ensures { MigratedBenchesStayCurrent F.state R.state }
 {}

@@ -1,6 +1,7 @@
 //! The bench that a run begins with.
 
 ghost use Rattle.std.specs.Prelude.{◌≡◌, vec_len, IfErr, IfOk, MatchResult};
+ghost use Rattle.tee_types.specs.Limits.{file_count};
 ghost use Rattle.store_commit.specs.Counts.{RefusalNotDrawn};
 ghost use Rattle.run_acts.specs.Benches.{HasPassed, HadMemory, bench_state};
 ghost use Rattle.run_acts.specs.Opens.{FormsBench, IsBlockUnread, IsNotFormed, IsOpenRefused, OpensBench, ReadsBlock, StopsOpening, is_blank};
@@ -26,12 +27,12 @@ fn ask_block<F: FileRig + Drop, R: RpmbPort + Drop, E: Entropy>(
     keys: &Keys,
     entropy: &mut E,
 ) -> Result<BlockRead<F, R>, Halted<F, R>>
-    requires { vec_len bench.files ≡ 273 }
+    requires { vec_len bench.files ≡ file_count }
     ensures answer { MatchResult result (λ r. ReadsBlock keys.now (bench_state F.state R.state bench) (bench_state F.state R.state r.bench) r.block)
         (λ h. IsBlockUnread keys.now (bench_state F.state R.state bench) (bench_state F.state R.state h.bench) (E.faults entropy.old) (E.faults entropy.new) h.fault) }
     ensures undrawn { IfOk result (λ r. E.faults entropy.new ≡ E.faults entropy.old) }
-    ensures whole { IfOk result (λ r. vec_len r.bench.files ≡ 273) }
-    ensures whole_err { IfErr result (λ h. vec_len h.bench.files ≡ 273) }
+    ensures whole { IfOk result (λ r. vec_len r.bench.files ≡ file_count) }
+    ensures whole_err { IfErr result (λ h. vec_len h.bench.files ≡ file_count) }
     ensures drawn { E.is_reliable entropy.old → IfErr result (λ h. RefusalNotDrawn h.fault) }
     ensures reliable { E.is_reliable entropy.old → E.is_reliable entropy.new }
 {
@@ -48,12 +49,12 @@ fn form_bench<F: FileRig + Drop, R: RpmbPort + Drop, E: Entropy>(
     keys: &Keys,
     entropy: &mut E,
 ) -> Result<Bench<F, R>, Halted<F, R>>
-    requires { vec_len bench.files ≡ 273 }
+    requires { vec_len bench.files ≡ file_count }
     ensures answer { MatchResult result (λ b. FormsBench keys.now (bench_state F.state R.state bench) (bench_state F.state R.state b))
         (λ h. IsNotFormed keys.now (bench_state F.state R.state bench) (bench_state F.state R.state h.bench) (E.faults entropy.old) (E.faults entropy.new) h.fault) }
     ensures undrawn { IfOk result (λ b. E.faults entropy.new ≡ E.faults entropy.old) }
-    ensures whole { IfOk result (λ b. vec_len b.files ≡ 273) }
-    ensures whole_err { IfErr result (λ h. vec_len h.bench.files ≡ 273) }
+    ensures whole { IfOk result (λ b. vec_len b.files ≡ file_count) }
+    ensures whole_err { IfErr result (λ h. vec_len h.bench.files ≡ file_count) }
     ensures drawn { E.is_reliable entropy.old → IfErr result (λ h. RefusalNotDrawn h.fault) }
     ensures reliable { E.is_reliable entropy.old → E.is_reliable entropy.new }
 {
@@ -70,12 +71,12 @@ fn open_or_form<F: FileRig + Drop, R: RpmbPort + Drop, E: Entropy>(
     keys: &Keys,
     entropy: &mut E,
 ) -> Result<Bench<F, R>, Halted<F, R>>
-    requires { vec_len bench.files ≡ 273 }
+    requires { vec_len bench.files ≡ file_count }
     ensures answer { MatchResult result (λ b. OpensBench keys.now (bench_state F.state R.state bench) (bench_state F.state R.state b))
         (λ h. StopsOpening keys.now (bench_state F.state R.state bench) (bench_state F.state R.state h.bench) (E.faults entropy.old) (E.faults entropy.new) h.fault) }
     ensures undrawn { IfOk result (λ b. E.faults entropy.new ≡ E.faults entropy.old) }
-    ensures whole { IfOk result (λ b. vec_len b.files ≡ 273) }
-    ensures whole_err { IfErr result (λ h. vec_len h.bench.files ≡ 273) }
+    ensures whole { IfOk result (λ b. vec_len b.files ≡ file_count) }
+    ensures whole_err { IfErr result (λ h. vec_len h.bench.files ≡ file_count) }
     ensures drawn { E.is_reliable entropy.old → IfErr result (λ h. RefusalNotDrawn h.fault) }
     ensures reliable { E.is_reliable entropy.old → E.is_reliable entropy.new }
 {
@@ -102,15 +103,15 @@ pub fn open_bench<F: FileRig + Drop, R: RpmbPort + Drop, E: Entropy>(
     keys: &Keys,
     entropy: &mut E,
 ) -> Result<Bench<F, R>, Halted<F, R>>
-    requires { vec_len bench.files ≡ 273 }
+    requires { vec_len bench.files ≡ file_count }
     ensures opens { IfOk result (λ b. OpensBench keys.now (bench_state F.state R.state bench) (bench_state F.state R.state b)) }
     ensures passed { IfOk result (λ b. HasPassed (bench_state F.state R.state bench) (bench_state F.state R.state b)) }
     ensures with_memory { IfOk result (λ b. HadMemory (bench_state F.state R.state bench) (bench_state F.state R.state b)) }
     ensures undrawn { IfOk result (λ b. E.faults entropy.new ≡ E.faults entropy.old) }
     ensures refused { IfErr result (λ h. IsOpenRefused keys.now (bench_state F.state R.state bench) (bench_state F.state R.state h.bench)
         (E.faults entropy.old) (E.faults entropy.new) h.fault) }
-    ensures whole { IfOk result (λ b. vec_len b.files ≡ 273) }
-    ensures whole_err { IfErr result (λ h. vec_len h.bench.files ≡ 273) }
+    ensures whole { IfOk result (λ b. vec_len b.files ≡ file_count) }
+    ensures whole_err { IfErr result (λ h. vec_len h.bench.files ≡ file_count) }
     ensures drawn { E.is_reliable entropy.old → IfErr result (λ h. RefusalNotDrawn h.fault) }
     ensures reliable { E.is_reliable entropy.old → E.is_reliable entropy.new }
 {

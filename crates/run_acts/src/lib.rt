@@ -1,5 +1,5 @@
 //! What a run does to its devices, act by act: a store is formatted or found, phases are served, files crash or are
-//! altered, and objects are listed.
+//! altered, objects are listed, and a store of an old format is migrated.
 //!
 //! A phase mounts the devices, opens a session for each application, arms the devices, serves the calls as its mode says, closes the store
 //! and disarms. In a serial phase the calls are made one after another (`make_calls`); in a phase on threads each application's on a thread
@@ -12,6 +12,7 @@
 
 mod alterations;
 mod arming;
+mod bench_moving;
 mod crash;
 pub mod device_laws;
 mod disarming;
@@ -34,12 +35,13 @@ mod threads_phase;
 pub mod untainted_laws;
 
 pub use alterations::{file_number, flip_file, restore_file, save_files};
+pub use bench_moving::migrate_bench;
 pub use crash::crash_files;
 pub use first_opening::open_bench;
 pub use line_laws::shown_lines_are_of_objects;
 pub use memory_failures::{had_memory, starved_counts};
 pub use mounting::mount_bench;
-pub use object_calls::{Bench, Halted, Shown, ShownObject, card_block};
+pub use object_calls::{Bench, Halted, Migrated, Shown, ShownObject, card_block};
 pub use object_line::print_object;
 pub use object_list::{Listing, list_objects};
 pub use phase::{PhaseEnd, run_phase};

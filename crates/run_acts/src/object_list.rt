@@ -1,6 +1,7 @@
 //! The objects of a bench, listed.
 
 ghost use Rattle.std.specs.Prelude.{◌≡◌, length, vec_len, IfErr, IfOk, MatchResult};
+ghost use Rattle.tee_types.specs.Limits.{file_count};
 ghost use Rattle.store_model.specs.Object.{ObjectMap};
 ghost use Rattle.object_calls.specs.Opening.{bench_files, entries_in};
 ghost use Rattle.store_commit.specs.Counts.{RefusalNotDrawn};
@@ -84,15 +85,15 @@ fn list_mounted<F: FileRig + Drop, R: RpmbPort + Drop, E: Entropy>(
     keys: &Keys,
     entropy: &mut E,
 ) -> Result<Listing<F, R>, Halted<F, R>>
-    requires { vec_len bench.files ≡ 273 }
+    requires { vec_len bench.files ≡ file_count }
     ensures answer { MatchResult result
         (λ l. (objects : ObjectMap) × (length objects ≡ l.objects)
         × ListsBench F.state R.state keys.now (bench_state F.state R.state bench) (bench_state F.state R.state l.bench) objects l.lines.items)
         (λ h. StopsListing F.state R.state keys.now (bench_state F.state R.state bench) (bench_state F.state R.state h.bench) (E.faults entropy.old) (E.faults entropy.new) h.fault) }
     ensures keeps { IfErr result (λ h. KeepsDevices (bench_state F.state R.state bench) (bench_state F.state R.state h.bench)) }
     ensures undrawn { IfOk result (λ l. E.faults entropy.new ≡ E.faults entropy.old) }
-    ensures whole { IfOk result (λ l. vec_len l.bench.files ≡ 273) }
-    ensures whole_err { IfErr result (λ h. vec_len h.bench.files ≡ 273) }
+    ensures whole { IfOk result (λ l. vec_len l.bench.files ≡ file_count) }
+    ensures whole_err { IfErr result (λ h. vec_len h.bench.files ≡ file_count) }
     ensures drawn { E.is_reliable entropy.old → IfErr result (λ h. RefusalNotDrawn h.fault) }
     ensures reliable { E.is_reliable entropy.old → E.is_reliable entropy.new }
 {
@@ -131,15 +132,15 @@ pub fn list_objects<F: FileRig + Drop, R: RpmbPort + Drop, E: Entropy>(
     keys: &Keys,
     entropy: &mut E,
 ) -> Result<Listing<F, R>, Halted<F, R>>
-    requires { vec_len bench.files ≡ 273 }
+    requires { vec_len bench.files ≡ file_count }
     ensures lists { IfOk result (λ l. (objects : ObjectMap) × (length objects ≡ l.objects)
         × ListsBench F.state R.state keys.now (bench_state F.state R.state bench) (bench_state F.state R.state l.bench) objects l.lines.items) }
     ensures with_memory { IfOk result (λ l. HadMemory (bench_state F.state R.state bench) (bench_state F.state R.state l.bench)) }
     ensures undrawn { IfOk result (λ l. E.faults entropy.new ≡ E.faults entropy.old) }
     ensures refused { IfErr result (λ h. IsListRefused F.state R.state keys.now (bench_state F.state R.state bench) (bench_state F.state R.state h.bench)
         (E.faults entropy.old) (E.faults entropy.new) h.fault) }
-    ensures whole { IfOk result (λ l. vec_len l.bench.files ≡ 273) }
-    ensures whole_err { IfErr result (λ h. vec_len h.bench.files ≡ 273) }
+    ensures whole { IfOk result (λ l. vec_len l.bench.files ≡ file_count) }
+    ensures whole_err { IfErr result (λ h. vec_len h.bench.files ≡ file_count) }
     ensures drawn { E.is_reliable entropy.old → IfErr result (λ h. RefusalNotDrawn h.fault) }
     ensures reliable { E.is_reliable entropy.old → E.is_reliable entropy.new }
 {

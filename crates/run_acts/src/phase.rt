@@ -1,6 +1,7 @@
 //! A phase.
 
 ghost use Rattle.std.specs.Prelude.{◌≡◌, ◌+◌, ◌*◌, ◌<◌, ◌≤◌, ◌^◌, ℕ, List, [], length, map, vec_len, All, IfErr, IfOk, MatchResult, OnErr, OnOk};
+ghost use Rattle.tee_types.specs.Limits.{file_count};
 ghost use Rattle.script_text.specs.Laws.{IsArm};
 ghost use Rattle.store_commit.specs.Counts.{RefusalNotDrawn};
 ghost use Rattle.store_model.specs.Object.{ObjectMap};
@@ -68,7 +69,7 @@ fn mount_with_memory<F: FileRig + Drop, R: CardRig + Drop, E: Entropy>(
     entropy: &mut E,
     before: &[u64],
 ) -> Result<Opening<F, R>, Halted<F, R>>
-    requires whole { vec_len bench.files ≡ 273 }
+    requires whole { vec_len bench.files ≡ file_count }
     requires counted { before.now ≡ map (λ f. (F.state f).starved) bench.files.items }
     ensures sound { AreSound (bench_state F.state R.state bench).files }
     ensures mounts { IfOk result (IsMounted F.state R.state keys.now (bench_state F.state R.state bench)) }
@@ -78,7 +79,7 @@ fn mount_with_memory<F: FileRig + Drop, R: CardRig + Drop, E: Entropy>(
     ensures unopened { IfOk result (λ o. o.applications ≡ []) }
     ensures refused { (applications : List (List ℕ)) (arms : List Arm) (mode : Mode) (calls : List Step) → IfErr result (λ h. IsGivenUp F.state R.state keys.now applications arms mode calls
         (bench_state F.state R.state bench) (bench_state F.state R.state h.bench) (E.faults entropy.old) (E.faults entropy.new) h.fault) }
-    ensures whole_err { IfErr result (λ h. vec_len h.bench.files ≡ 273) }
+    ensures whole_err { IfErr result (λ h. vec_len h.bench.files ≡ file_count) }
     ensures drawn { E.is_reliable entropy.old → IfErr result (λ h. RefusalNotDrawn h.fault) }
     ensures reliable { E.is_reliable entropy.old → E.is_reliable entropy.new }
 {
@@ -139,7 +140,7 @@ fn serve_opened<
     requires calls { AreCalls (length applications.now) calls.now }
     ensures serves { IfOk result (λ c. ServesOpened F.state R.state (E.is_reliable entropy.now) keys.now applications.now arms.now mode calls.now opening (bench_state F.state R.state c.bench) c.history.events) }
     ensures early { IfErr result (λ b. ClosesOpened F.state R.state keys.now applications.now arms.now mode calls.now opening (bench_state F.state R.state b)) }
-    ensures whole { MatchResult result (λ c. vec_len c.bench.files ≡ 273) (λ b. vec_len b.files ≡ 273) }
+    ensures whole { MatchResult result (λ c. vec_len c.bench.files ≡ file_count) (λ b. vec_len b.files ≡ file_count) }
 {
     let mut opening = opening;
     match make_ready(alloc, &mut opening, entropy, number, applications, arms) {
@@ -172,7 +173,7 @@ pub fn run_phase<
     arms: &[Arm],
     calls: &[Step],
 ) -> Result<PhaseEnd<F, R>, Halted<F, R>>
-    requires whole { vec_len bench.files ≡ 273 }
+    requires whole { vec_len bench.files ≡ file_count }
     requires few { length applications.now ≤ 16 }
     requires number { 16 * number + 16 < 2 ^ 32 }
     requires calls { AreCalls (length applications.now) calls.now }
@@ -182,8 +183,8 @@ pub fn run_phase<
     ensures refused { IfErr result (λ h. IsGivenUp F.state R.state keys.now applications.now arms.now mode calls.now (bench_state F.state R.state bench) (bench_state F.state R.state h.bench)
         (E.faults entropy.old) (E.faults entropy.new) h.fault) }
     ensures undrawn { IfOk result (λ p. E.faults entropy.new ≡ E.faults entropy.old) }
-    ensures whole { IfOk result (λ p. vec_len p.bench.files ≡ 273) }
-    ensures whole_err { IfErr result (λ h. vec_len h.bench.files ≡ 273) }
+    ensures whole { IfOk result (λ p. vec_len p.bench.files ≡ file_count) }
+    ensures whole_err { IfErr result (λ h. vec_len h.bench.files ≡ file_count) }
     ensures drawn { E.is_reliable entropy.old → IfErr result (λ h. RefusalNotDrawn h.fault) }
     ensures reliable { E.is_reliable entropy.old → E.is_reliable entropy.new }
 {

@@ -81,6 +81,7 @@ fn put_why(out: &mut Vec<u8>, fault: &MountFault) -> Result<(), NoMemory>
     match fault {
         MountFault::NoStore => put(out, b"no-store"),
         MountFault::CardBlock { byte } => put_word_number(out, b"card ", *byte as u64),
+        MountFault::OldFormat { file } => put_word_number(out, b"old ", *file as u64),
         MountFault::Directory(fault) => put_directory(out, fault),
         MountFault::Frame(_) => put(out, b"frame"),
         MountFault::CardResult(value) => put_word_hex(out, b"result 0x", &value.to_be_bytes()),

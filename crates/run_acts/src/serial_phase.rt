@@ -1,6 +1,7 @@
 // The calls of a phase, served under a name of its store.
 
 ghost use Rattle.std.specs.Prelude.{◌≡◌, [], length, vec_len, IfErr, IfOk, MatchResult};
+ghost use Rattle.tee_types.specs.Limits.{file_count};
 ghost use Rattle.object_calls.specs.OpenedStores.{IsStoreOf, store_in};
 ghost use Rattle.object_calls.specs.Opening.{IsKeyed};
 ghost use Rattle.object_calls.specs.OpeningSessions.{AreSeated, AreUnseated};
@@ -40,7 +41,7 @@ fn make_and_close<F: StoreFile + Drop, R: RpmbPort + Drop, E: Entropy + Drop, L:
     ensures closed { (mode : Mode) (before : BenchState) → HasDevices F.state R.state service before
         → IfOk result (λ c. ClosesStore (AreReliable E.is_reliable sessions.items) L.store before mode calls.now (bench_state F.state R.state c.bench) c.history.events) }
     ensures early { (before : BenchState) → HasDevices F.state R.state service before → IfErr result (λ b. ClosesEarly L.store before Serial calls.now (bench_state F.state R.state b)) }
-    ensures whole { MatchResult result (λ c. vec_len c.bench.files ≡ 273) (λ b. vec_len b.files ≡ 273) }
+    ensures whole { MatchResult result (λ c. vec_len c.bench.files ≡ file_count) (λ b. vec_len b.files ≡ file_count) }
 {
     let mut service = service;
     let mut sessions = sessions;
@@ -67,7 +68,7 @@ fn serve_calls<F: StoreFile + Drop, R: RpmbPort + Drop, E: Entropy + Drop, L: St
     ensures closed { (mode : Mode) → IfOk result (λ c. ClosesStore (AreReliable E.is_reliable sessions.items) L.store (opening_state F.state R.state opening) mode calls.now
         (bench_state F.state R.state c.bench) c.history.events) }
     ensures early { IfErr result (λ b. ClosesEarly L.store (opening_state F.state R.state opening) Serial calls.now (bench_state F.state R.state b)) }
-    ensures whole { MatchResult result (λ c. vec_len c.bench.files ≡ 273) (λ b. vec_len b.files ≡ 273) }
+    ensures whole { MatchResult result (λ c. vec_len c.bench.files ≡ file_count) (λ b. vec_len b.files ≡ file_count) }
 {
     let mut sessions = sessions;
     match opening.serve::<E, L>(&mut sessions) {
@@ -102,7 +103,7 @@ pub(crate) fn serve_once<
     ensures closed { IfOk result (λ c. ClosesStore (AreReliable E.is_reliable sessions.items) (store_in keys.now F.state opening) (opening_state F.state R.state opening) mode calls.now
         (bench_state F.state R.state c.bench) c.history.events) }
     ensures early { IfErr result (λ b. ClosesEarly (store_in keys.now F.state opening) (opening_state F.state R.state opening) mode calls.now (bench_state F.state R.state b)) }
-    ensures whole { MatchResult result (λ c. vec_len c.bench.files ≡ 273) (λ b. vec_len b.files ≡ 273) }
+    ensures whole { MatchResult result (λ c. vec_len c.bench.files ≡ file_count) (λ b. vec_len b.files ≡ file_count) }
 {
     match mode {
         Mode::Serial => serve_calls::<F, R, E, Brand>(opening, sessions, keys, calls),

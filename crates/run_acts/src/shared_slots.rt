@@ -2,6 +2,7 @@
 
 ghost use Rattle.std.specs.Prelude.{◌≡◌, ◌≤◌, vec_len};
 ghost use Rattle.std.specs.Vec.{vec_capacity};
+ghost use Rattle.tee_types.specs.Limits.{last_file};
 ghost use Rattle.run_acts.specs.Sharing.{AreKept};
 
 use core_laws::StoreName;
@@ -20,13 +21,13 @@ pub(crate) fn share_slots<F: StoreFile + Drop, L: StoreName + DevicesName>(
     slots: Vec<GuardedSlot<F, L>>,
     shared: Vec<Mutex<SharedSlot<F, L>>>,
 ) -> SharedSlots<F, L>
-    requires many { vec_len slots ≡ 272 }
-    requires keep { AreKept L.devices 272 slots.items }
+    requires many { vec_len slots ≡ last_file }
+    requires keep { AreKept L.devices last_file slots.items }
     requires empty { vec_len shared ≡ 0 }
-    requires room { 272 ≤ vec_capacity shared }
-    ensures many { vec_len result.slots ≡ 272 }
+    requires room { last_file ≤ vec_capacity shared }
+    ensures many { vec_len result.slots ≡ last_file }
     ensures vacant { vec_len result.room ≡ 0 }
-    ensures room { 272 ≤ vec_capacity result.room }
+    ensures room { last_file ≤ vec_capacity result.room }
 {
     let mut left = slots;
     let mut shared = shared;
@@ -46,11 +47,11 @@ pub(crate) fn unshare_slots<F: StoreFile + Drop, L: StoreName + DevicesName>(
     slots: Vec<Mutex<SharedSlot<F, L>>>,
     room: Vec<GuardedSlot<F, L>>,
 ) -> Vec<GuardedSlot<F, L>>
-    requires many { vec_len slots ≡ 272 }
+    requires many { vec_len slots ≡ last_file }
     requires empty { vec_len room ≡ 0 }
-    requires room { 272 ≤ vec_capacity room }
-    ensures many { vec_len result ≡ 272 }
-    ensures keep { AreKept L.devices 272 result.items }
+    requires room { last_file ≤ vec_capacity room }
+    ensures many { vec_len result ≡ last_file }
+    ensures keep { AreKept L.devices last_file result.items }
 {
     let mut left = slots;
     let mut slots = room;

@@ -2,6 +2,7 @@
 
 ghost use Rattle.std.specs.Prelude.{◌≡◌, ◌≤◌, length, vec_len, IfErr, IfOk, MatchResult};
 ghost use Rattle.std.specs.Vec.{vec_capacity};
+ghost use Rattle.tee_types.specs.Limits.{file_count, last_file, old_directory_file};
 ghost use Rattle.object_calls.specs.OpeningFiles.{files_of};
 ghost use Rattle.object_calls.specs.OpenedStores.{IsStoreOf, store_in};
 ghost use Rattle.object_calls.specs.Opening.{IsKeyed};
@@ -31,7 +32,7 @@ use std::sync::{Mutex, Wait};
 use std::thread;
 use std::thread::Threads;
 use tee_ports::{Entropy, StoreFile};
-use tee_types::{FILES, MAX_SESSIONS};
+use tee_types::{MAX_FILE, MAX_SESSIONS};
 
 // Makes the calls of all sessions, those of each on a thread of its own. A session in which memory ran out has fewer events than calls.
 fn make_beside<
@@ -70,16 +71,17 @@ fn share_and_close<
     calls: &[Step],
 ) -> Result<Closed<F, R>, Bench<F, R>>
     requires gate { KeepsGate F.state R.state L.store L.devices service.gate }
-    requires slots { AreKept L.devices 272 service.slots }
+    requires slots { AreKept L.devices last_file service.slots }
+    requires spare { F.state service.spare ≡ L.devices.file old_directory_file }
     requires empty { vec_len shared ≡ 0 }
-    requires room { 272 ≤ vec_capacity shared }
+    requires room { last_file ≤ vec_capacity shared }
     requires sessions { AreSeated L.store sessions.items }
     requires unmade { HaveNoEvents sessions.items }
     requires calls { AreCalls (length sessions.items) calls.now }
     requires fresh { AreFresh E.faults sessions.items }
     ensures closed { IfOk result (λ c. ClosesShared (AreReliable E.is_reliable sessions.items) L.store L.devices calls.now (files_of F.state c.bench.files.items) (R.state c.bench.card) c.history.events) }
     ensures early { (before : BenchState) → IsBenchOf L.devices before → IfErr result (λ b. ClosesEarly L.store before Threads calls.now (bench_state F.state R.state b)) }
-    ensures whole { MatchResult result (λ c. vec_len c.bench.files ≡ 273) (λ b. vec_len b.files ≡ 273) }
+    ensures whole { MatchResult result (λ c. vec_len c.bench.files ≡ file_count) (λ b. vec_len b.files ≡ file_count) }
 {
     let ServiceParts {
         gate,
@@ -87,6 +89,7 @@ fn share_and_close<
         storage_key,
         room,
         places,
+        spare,
     } = service.into_parts();
     let SharedSlots {
         slots,
@@ -98,7 +101,7 @@ fn share_and_close<
     let (gate, slots) = store.into_parts();
     let slots = unshare_slots(slots, emptied);
     let done = are_done(&sessions, calls);
-    let closed = close_slots(gate.into_gate(), slots, places, room, sessions);
+    let closed = close_slots(gate.into_gate(), slots, places, room, spare, sessions);
     if done { Ok(closed) } else { Err(closed.bench) }
 }
 
@@ -129,9 +132,9 @@ pub fn serve_shared<
     requires fresh { AreFresh E.faults sessions.items }
     ensures closed { IfOk result (λ c. ClosesShared (AreReliable E.is_reliable sessions.items) L.store L.devices calls.now (files_of F.state c.bench.files.items) (R.state c.bench.card) c.history.events) }
     ensures early { IfErr result (λ b. ClosesEarly L.store (opening_state F.state R.state opening) Threads calls.now (bench_state F.state R.state b)) }
-    ensures whole { MatchResult result (λ c. vec_len c.bench.files ≡ 273) (λ b. vec_len b.files ≡ 273) }
+    ensures whole { MatchResult result (λ c. vec_len c.bench.files ≡ file_count) (λ b. vec_len b.files ≡ file_count) }
 {
-    let Ok(shared) = Vec::with_capacity(alloc, FILES - 1) else {
+    let Ok(shared) = Vec::with_capacity(alloc, usize::from(MAX_FILE)) else {
         return Err(opening.close());
     };
     let mut sessions = sessions;
@@ -166,7 +169,7 @@ pub fn serve_shared_once<
     ensures closed { IfOk result (λ c. ClosesShared (AreReliable E.is_reliable sessions.items) (store_in keys.now F.state opening) (opening_devices F.state R.state opening) calls.now
         (files_of F.state c.bench.files.items) (R.state c.bench.card) c.history.events) }
     ensures early { IfErr result (λ b. ClosesEarly (store_in keys.now F.state opening) (opening_state F.state R.state opening) Threads calls.now (bench_state F.state R.state b)) }
-    ensures whole { MatchResult result (λ c. vec_len c.bench.files ≡ 273) (λ b. vec_len b.files ≡ 273) }
+    ensures whole { MatchResult result (λ c. vec_len c.bench.files ≡ file_count) (λ b. vec_len b.files ≡ file_count) }
 {
     serve_shared::<W, F, R, E, Brand>(rt, alloc, opening, sessions, keys, calls)
 }

@@ -1,6 +1,7 @@
 //! Laws of files that stay honest. Each function does nothing: its contract is the law.
 
 ghost use Rattle.std.specs.Prelude.{◌≡◌, ◌≤◌, ℕ, vec_len};
+ghost use Rattle.tee_types.specs.Limits.{file_count};
 ghost use Rattle.object_calls.specs.OpeningFiles.{no_file};
 ghost use Rattle.run_acts.specs.Benches.{bench_state};
 ghost use Rattle.run_acts.specs.Untainted.{CrashesStayUntainted, FlipsStayUntainted, ListsStayUntainted, OpeningsStayUntainted, PhasesStayUntainted, RefusalsStayHonest, RestoresStayUntainted, UntaintedFilesAreHonest};
@@ -11,8 +12,8 @@ use tee_ports::{Entropy, StoreFile};
 
 /// A bench has no file past the last.
 pub fn benches_end<F: StoreFile, R: RpmbPort>(bench: &Bench<F, R>)
-    requires { vec_len bench.now.files ≡ 273 }
-    ensures { (file : ℕ) → 273 ≤ file → (bench_state F.state R.state bench.now).files file ≡ no_file }
+    requires { vec_len bench.now.files ≡ file_count }
+    ensures { (file : ℕ) → file_count ≤ file → (bench_state F.state R.state bench.now).files file ≡ no_file }
 {}
 
 /// Files that are not tainted are honest.
@@ -50,7 +51,6 @@ pub fn lists_stay_untainted<F: StoreFile, R: RpmbPort>()
 {}
 
 /// Where the bench is opened.
-#[tactic(auto, using(crate::proofs::Untainted::openings_stay_untainted))]
 pub fn openings_stay_untainted()
     ensures { OpeningsStayUntainted }
 {}

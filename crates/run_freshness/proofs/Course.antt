@@ -2,6 +2,7 @@
 use Rattle.std.proofs.Common.{◌≡◌, ℕ, List, [], ◌∷◌, ◌++◌, Option, Some, None, refl, sym, ap, subst, ◌∙◌}
 use Rattle.disk_model.specs.State.{FileState, Sound}
 use Rattle.hmac_keys.specs.declared.Keys.{Keys}
+use Rattle.tee_types.specs.Limits.{directory_file}
 use Rattle.rpmb_card.specs.Port.{PortState}
 use Rattle.script_text.specs.declared.script.Arm.{Arm}
 use Rattle.script_text.specs.declared.script.Mode.{Mode}
@@ -31,7 +32,7 @@ card_then None old new same has = tt
 card_then (Some closed) old new same has = (same ∙ has.0, has.1)
 
 module _ {F R : Type 0} (of_file : F → FileState) (of_port : R → PortState) (all_sound : (file : F) → Sound (of_file file)) (keys : Keys) where
-  mount_since : (closed : Option BenchState) (old : BenchState) (o : OpeningValue F R) → HasItsCard closed old → IsMounted of_file of_port keys old o → IsFreshSince of_file of_port keys closed (old.files 0) o
+  mount_since : (closed : Option BenchState) (old : BenchState) (o : OpeningValue F R) → HasItsCard closed old → IsMounted of_file of_port keys old o → IsFreshSince of_file of_port keys closed (old.files directory_file) o
   mount_since None old o has mounts = tt
   mount_since (Some closed) old o has mounts = λ card there. (
     fresh_mount of_file of_port all_sound keys closed old card o has.1 there has.0 mounts,
@@ -39,7 +40,7 @@ module _ {F R : Type 0} (of_file : F → FileState) (of_port : R → PortState) 
   )
 
   list_since : (closed : Option BenchState) (old new : BenchState) (objects : ObjectMap) (lines : List ℕ) → HasItsCard closed old → (l : ListsBench of_file of_port keys old new objects lines)
-      → IsListedSince of_file of_port keys closed (old.files 0) l.opened ((l.shows).listed).steps
+      → IsListedSince of_file of_port keys closed (old.files directory_file) l.opened ((l.shows).listed).steps
   list_since None old new objects lines has l = tt
   list_since (Some closed) old new objects lines has l = λ card there. (
     fresh_list of_file of_port all_sound keys old new objects lines l closed card has.1 there has.0,

@@ -1,10 +1,10 @@
 -- The objects of a list, beside a bench that was closed.
-use Rattle.std.proofs.Common.{◌≡◌, ◌⊎◌, inl, inr, ℕ, List, [], ◌∷◌, length, unwrap_or, Option, Some, None, Ok, refl, sym, ap, subst, ◌∙◌}
+use Rattle.std.proofs.Common.{◌≡◌, ◌⊎◌, inl, inr, ℕ, List, [], ◌∷◌, unwrap_or, Option, Some, None, refl, sym, ap, subst, ◌∙◌}
 use Rattle.std.specs.Option.{option_map}
 use Rattle.disk_model.specs.State.{FileState, Sound as SoundFile}
-use Rattle.tree_paths.specs.declared.node_set.NodeSet.{NodeSet}
 use Rattle.hmac_keys.specs.declared.Keys.{Keys}
 use Rattle.hmac_keys.specs.KeyTable.{rpmb_key, ssk, tsk}
+use Rattle.tee_types.specs.Limits.{directory_file}
 use Rattle.rpmb_card.specs.Card.{CardState}
 use Rattle.rpmb_card.specs.Port.{PortState}
 use Rattle.rpmb_host.specs.Honest.{HasCard}
@@ -15,16 +15,13 @@ use Rattle.dir_records.specs.Form.{HasForm}
 use Rattle.crash_core.specs.DeviceKeys.{object_key}
 use Rattle.crash_core.specs.Entries.{name_of}
 use Rattle.crash_core.specs.EntryLists.{AreDistinct, entry_at}
-use Rattle.crash_core.specs.MountedObject.{root_of}
-use Rattle.crash_core.specs.Mounting.{mounted, mounted_directory}
 use Rattle.crash_core.specs.Pictures.{block_zero}
-use Rattle.core_laws.specs.Decodings.{object_decoded}
 use Rattle.core_laws.proofs.Mending.{size-object_decoded}
 use Rattle.object_calls.specs.declared.shown_object.ShownObject.{ShownObject}
 use Rattle.object_calls.specs.declared.shown_object.ShownObject.TheVariants.{Damaged, Sound}
 use Rattle.object_calls.specs.OpeningEntries.{IsNonePast}
 use Rattle.object_calls.specs.Next.{IsShown}
-use Rattle.object_calls.specs.Opening.{OpeningValue, bench_files, entries_in}
+use Rattle.object_calls.specs.Opening.{bench_files, entries_in}
 use Rattle.object_calls.specs.ShownObjects.{IsShownFrom}
 use Rattle.run_acts.specs.LineObjects.{entry_shown, object_shown}
 use Rattle.run_acts.specs.Benches.{BenchState}
@@ -33,7 +30,7 @@ use Rattle.run_acts.specs.ListedBenches.{ListsBench}
 use Rattle.run_acts.specs.ListedObjects.{ShownStep, ShowsAll, name_shown, objects_of}
 use Rattle.run_acts.proofs.ShownMaps.{as_map}
 use Rattle.run_acts.proofs.ShownOrder.{HaveAll, IsUnder, shows_absent, shows_rising, shows_under}
-use Rattle.freshness_laws.specs.Readings.{ReadTree, decoding_read}
+use Rattle.freshness_laws.specs.Readings.{decoding_read}
 use Rattle.freshness_laws.specs.Agreement.{MapsAgree, ObjectsAgree}
 use Rattle.freshness_laws.specs.SeenStores.{SeenStore, map_seen, object_read, objects_read, objects_with}
 use Rattle.freshness_laws.proofs.Maps.{maps_or}
@@ -41,7 +38,7 @@ use Rattle.freshness_laws.proofs.Objects.{damaged_behind}
 use Rattle.freshness_laws.proofs.Pictures.{mounts_by}
 use Rattle.freshness_laws.proofs.Stores.{directories_or}
 use Rattle.run_freshness.specs.Seen.{picture_read}
-use Rattle.run_freshness.specs.Shown.{IsFreshList, IsStepOf, ListClash, ShownClash}
+use Rattle.run_freshness.specs.Shown.{IsFreshList, IsStepOf, ShownClash}
 use Rattle.run_freshness.specs.Laws.{KeepsCard, ListsAreFresh}
 use Rattle.object_calls.proofs.EntriesOf.{distinct_names, form_at}
 use Rattle.run_freshness.proofs.Mounts.{closed_holds, mount_sees, moved}
@@ -140,7 +137,7 @@ module _ (keys : Keys) (entries : List (Option DirEntry)) (key : List ℕ) (keye
 
 module _ {F R : Type 0} (of_file : F → FileState) (of_port : R → PortState) (all_sound : (file : F) → SoundFile (of_file file)) (keys : Keys) (old new : BenchState) (objects : ObjectMap) (lines : List ℕ)
     (l : ListsBench of_file of_port keys old new objects lines) where
-  pub fresh_list : (closed : BenchState) (card : CardState) → AreSound closed.files → HasCard closed.card (rpmb_key keys.huk) card → KeepsCard closed old → IsFreshList of_file of_port keys closed card (old.files 0) l.opened ((l.shows).listed).steps
+  pub fresh_list : (closed : BenchState) (card : CardState) → AreSound closed.files → HasCard closed.card (rpmb_key keys.huk) card → KeepsCard closed old → IsFreshList of_file of_port keys closed card (old.files directory_file) l.opened ((l.shows).listed).steps
   fresh_list closed card sound has keeps m is =
       let a = mounts_by keys (picture_read closed card) m is in
       let x = closed_holds of_file of_port all_sound keys closed sound card a.entries a.directory in

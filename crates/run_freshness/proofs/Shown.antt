@@ -1,36 +1,31 @@
 -- An object that a list shows, beside what a tree under its entry's reference decodes out.
-use Rattle.std.proofs.Common.{◌≡◌, ◌⊎◌, inl, inr, ℕ, zero, suc, ◌+◌, ◌-◌, ◌*◌, ◌/◌, ◌%◌, ◌<◌, ◌≤◌, ◌==◌, ◌||◌, min, max, not, List, [], ◌∷◌, ◌++◌, length, get_or, take, Bool, true, false, true≢false, cond, Option, Some, None, refl, sym, ap, subst, ◌∙◌, arith, length-take}
+use Rattle.std.proofs.Common.{◌≡◌, ◌⊎◌, inl, inr, ℕ, zero, suc, ◌+◌, ◌-◌, ◌*◌, ◌/◌, ◌%◌, ◌<◌, ◌≤◌, ◌==◌, ◌||◌, min, not, List, [], ◌∷◌, ◌++◌, length, get_or, take, Bool, true, false, true≢false, cond, Option, Some, None, refl, sym, ap, subst, ◌∙◌, arith, length-take}
 use Rattle.std.specs.List.{list_any}
-use Rattle.std.specs.Option.{option_map}
 use Rattle.std.proofs.lemmas.Bool.{cases_Bool, cases_lt}
 use Rattle.std.proofs.lemmas.List.{ext_get_or, get_or-take}
 use Rattle.disk_model.specs.State.{FileState}
-use Rattle.node_image.specs.declared.head.Head.{Head}
 use Rattle.node_image.specs.Layout.{greatest_of}
 use Rattle.node_image.proofs.Matching.{length-row, row_at}
-use Rattle.htree_file.specs.Opening.{IsVerified, Loaded}
 use Rattle.node_image.specs.Tables.{at_node}
 use Rattle.htree_file.specs.Pages.{Opened, page_of}
 use Rattle.htree_file.proofs.Sizes.{sized_greatest}
 use Rattle.page_bytes.specs.Pages.{byte_in, bytes_from, page_at}
 use Rattle.page_bytes.specs.Ranges.{meets}
 use Rattle.page_bytes.proofs.Content.{get_or-bytes_from, length-bytes_from}
-use Rattle.block_file.specs.Reads.{AreReadBytes, IsPage}
 use Rattle.tree_paths.specs.declared.node_set.NodeSet.{NodeSet}
 use Rattle.tree_paths.specs.Paths.{holds}
 use Rattle.hmac_keys.specs.declared.Keys.{Keys}
-use Rattle.store_model.specs.Object.{Contents, Object, Damaged as DamagedObject, Sound as SoundObject}
+use Rattle.store_model.specs.Object.{Contents, Damaged as DamagedObject, Sound as SoundObject}
 use Rattle.dir_records.specs.declared.entry.DirEntry.{DirEntry}
 use Rattle.dir_records.specs.Form.{HasForm}
 use Rattle.crash_core.specs.DeviceKeys.{object_key}
-use Rattle.crash_core.specs.MountedObject.{bad_blocks, contents_of, object_of, object_with, root_of}
-use Rattle.core_laws.specs.Decodings.{opened_decoded, page_decoded, pages_decoded}
+use Rattle.crash_core.specs.MountedObject.{bad_blocks, object_of, object_with, root_of}
+use Rattle.core_laws.specs.Decodings.{opened_decoded, page_decoded}
 use Rattle.core_laws.specs.Clashes.{Clash}
-use Rattle.object_calls.specs.declared.shown_object.ShownObject.TheVariants.{Sound}
 use Rattle.object_calls.specs.ShownObjects.{IsReadFrom, ShowsBlock, data_blocks}
-use Rattle.run_acts.specs.LineObjects.{members_of, object_shown, passing}
+use Rattle.run_acts.specs.LineObjects.{members_of, passing}
 use Rattle.freshness_laws.specs.Readings.{OpenedAgree, ReadTree, every_block, decoding_read}
-use Rattle.freshness_laws.specs.Agreement.{ObjectsAgree, PartsAgree}
+use Rattle.freshness_laws.specs.Agreement.{ObjectsAgree}
 use Rattle.freshness_laws.specs.SeenStores.{object_read}
 use Rattle.freshness_laws.proofs.Objects.{damaged_before, not_bad}
 use Rattle.freshness_laws.proofs.Pages.{read_or}
@@ -66,6 +61,10 @@ passing-has test (suc n) k one le is = elim (cases_lt k (suc n)) [
     here : suc n ≡ k → list_any (λ j. j == k) (suc n ∷ []) ≡ true
     here e = grind (arith, e)
 
+-- a front that is not empty meets block 0
+front_meets : (n : ℕ) → 0 < n → meets 0 (0 + n) 0 ≡ true
+front_meets n some = grind (arith, some)
+
 module _ (keys : Keys) (e : DirEntry) (form : HasForm e) (old new : FileState) (attributes bytes : List ℕ) (bad : NodeSet) (x : IsReadFrom (object_key keys e.app) old new e attributes bytes bad) where
   abbrev wrap : List ℕ
   wrap = object_key keys e.app
@@ -83,7 +82,7 @@ module _ (keys : Keys) (e : DirEntry) (form : HasForm e) (old new : FileState) (
   front_by false is some = absurd (true≢false (sym met ∙ is))
     where
       met : meets 0 (0 + e.attributes) 0 ≡ true
-      met = grind (arith, some)
+      met = front_meets e.attributes some
 
   front_good : 0 < e.attributes → page_decoded (decoding_read wrap read) 0 ≡ Some ((x.front).pages 0)
   front_good some = front_by (meets 0 (0 + e.attributes) 0) refl some
@@ -92,7 +91,7 @@ module _ (keys : Keys) (e : DirEntry) (form : HasForm e) (old new : FileState) (
   front_long some = ((x.front).read 0 met).long
     where
       met : meets 0 (0 + e.attributes) 0 ≡ true
-      met = grind (arith, some)
+      met = front_meets e.attributes some
 
   -- a data block that is good
   pub record IsDataPage (k : ℕ) : Type 0 where

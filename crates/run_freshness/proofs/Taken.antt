@@ -16,7 +16,6 @@ use Rattle.dir_file.specs.EntryForms.{AreEntriesOf}
 use Rattle.crash_core.specs.Entries.{first_double, name_of}
 use Rattle.crash_core.specs.EntryLists.{AreSingle, IsAlone, entry_at}
 use Rattle.crash_core.specs.MountedObject.{root_of}
-use Rattle.crash_core.specs.Mounting.{mounted}
 use Rattle.crash_core.specs.Opening.{opening_map, reads_of}
 use Rattle.crash_core.specs.Pictures.{block_zero}
 use Rattle.crash_core.proofs.Doubles.{files_single}
@@ -34,7 +33,7 @@ use Rattle.script_text.specs.declared.script.Step.{Step}
 use Rattle.object_calls.specs.MountedEntries.{mounted_entries, mounted_entry, version_in}
 use Rattle.object_calls.specs.Opening.{OpeningValue, bench_files, entries_in}
 use Rattle.object_calls.proofs.EntriesOf.{distinct_names}
-use Rattle.object_calls.proofs.Files.{files_sound}
+use Rattle.object_calls.proofs.Files.{numbered_sound}
 use Rattle.object_calls.proofs.OpeningMaps.{object_at-opening}
 use Rattle.run_acts.specs.Benches.{BenchState}
 use Rattle.run_acts.specs.Between.{AreSound}
@@ -134,7 +133,7 @@ module _ {F R : Type 0} (of_file : F → FileState) (of_port : R → PortState) 
         ∙ (λ i. Some (object_for (keys_are i) scenario (named i) (version_in keys files e).object))
 
     real : IsReal keys (version_in keys files e)
-    real = image_real keys (files e.file).reads (root_of e) e.app e.size e.attributes (files_sound of_file all_sound (armed.gate.dir.file ∷ armed.files) e.file).reads
+    real = image_real keys (files e.file).reads (root_of e) e.app e.size e.attributes (numbered_sound of_file all_sound armed.spare armed.gate.dir.file armed.files e.file).reads
 
   module _ (closed : BenchState) (card : CardState) (objects : ObjectMap) (held_entries : List (Option DirEntry)) (x : HoldsStore keys (block_zero card) (reads_of closed.files) held_entries)
       (are_objects : objects ≡ map_seen x.seen) (same : entries ≡ (x.seen).entries) where

@@ -3,6 +3,7 @@ use Rattle.std.specs.Prelude.{ℕ, List, [], ◌∷◌, ◌++◌, Option, Some, 
 use Rattle.disk_model.specs.State.{FileState}
 use Rattle.hmac_keys.specs.declared.Keys.{Keys}
 use Rattle.hmac_keys.specs.KeyTable.{rpmb_key}
+use Rattle.tee_types.specs.Limits.{directory_file}
 use Rattle.rpmb_card.specs.Card.{CardState}
 use Rattle.rpmb_card.specs.Port.{PortState}
 use Rattle.rpmb_host.specs.Honest.{HasCard}
@@ -44,7 +45,7 @@ module _ {F R : Type 0} (of_file : F → FileState) (of_port : R → PortState) 
     abbrev pub AreFresh : (keys : Keys) (applications : List (List ℕ)) (closed : Option BenchState) (arms : List Arm) (acts : List Act) (records : List RunRecord) (old new : Standing)
         → Goes of_file of_port image Reliable keys applications arms acts records old new → Type 0
     AreFresh keys applications closed arms (Serve mode calls ∷ acts) (Ran phase ∷ records) old new goes =
-        IsFreshSince keys closed ((old.bench).files 0) (goes.1).opened × BeginsSince of_file of_port Reliable closed goes.1
+        IsFreshSince keys closed ((old.bench).files directory_file) (goes.1).opened × BeginsSince of_file of_port Reliable closed goes.1
         × AreFresh keys applications (Some goes.0) [] acts records (with_bench old goes.0) new goes.2
     AreFresh keys applications closed arms (Do (ModeControl mode) ∷ acts) (Controlled ∷ records) old new goes = AreFresh keys applications closed arms acts records old new goes
     AreFresh keys applications closed arms (Do Phase ∷ acts) (Controlled ∷ records) old new goes = AreFresh keys applications closed arms acts records old new goes
@@ -54,7 +55,7 @@ module _ {F R : Type 0} (of_file : F → FileState) (of_port : R → PortState) 
     AreFresh keys applications closed arms (Do (Restore file mark) ∷ acts) (Controlled ∷ records) old new goes = AreFresh keys applications closed arms acts records (with_bench old goes.0) new goes.2
     AreFresh keys applications closed arms (Do (Flip file at mask) ∷ acts) (Controlled ∷ records) old new goes = AreFresh keys applications closed arms acts records (with_bench old goes.0) new goes.2
     AreFresh keys applications closed arms (Do ListControl ∷ acts) (Listed objects ∷ records) old new goes =
-        IsListedSince keys closed ((old.bench).files 0) (goes.1).opened (((goes.1).shows).listed).steps × AreFresh keys applications closed arms acts records (with_bench old goes.0) new goes.2
+        IsListedSince keys closed ((old.bench).files directory_file) (goes.1).opened (((goes.1).shows).listed).steps × AreFresh keys applications closed arms acts records (with_bench old goes.0) new goes.2
     AreFresh keys applications closed arms [] [] old new goes = HasItsCard closed new.bench
     AreFresh keys applications closed arms acts records old new goes = ⊥
 

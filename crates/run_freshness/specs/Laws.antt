@@ -3,6 +3,7 @@ use Rattle.std.specs.Prelude.{◌≡◌, ℕ, List}
 use Rattle.disk_model.specs.State.{FileState}
 use Rattle.hmac_keys.specs.declared.Keys.{Keys}
 use Rattle.hmac_keys.specs.KeyTable.{rpmb_key}
+use Rattle.tee_types.specs.Limits.{directory_file}
 use Rattle.rpmb_card.specs.Card.{CardState}
 use Rattle.rpmb_card.specs.Port.{PortState}
 use Rattle.rpmb_host.specs.Honest.{HasCard}
@@ -23,15 +24,15 @@ module _ {F R : Type 0} (of_file : F → FileState) (of_port : R → PortState) 
   abbrev pub MountsAreFresh : Type 0
   MountsAreFresh =
       (keys : Keys) (closed old : BenchState) (card : CardState) (o : OpeningValue F R) → AreSound closed.files → HasCard closed.card (rpmb_key keys.huk) card → KeepsCard closed old
-      → IsMounted of_file of_port keys old o → IsFreshMount of_file of_port keys closed card (old.files 0) o
+      → IsMounted of_file of_port keys old o → IsFreshMount of_file of_port keys closed card (old.files directory_file) o
 
   abbrev pub MountsHaveSameEntries : Type 0
   MountsHaveSameEntries =
       (keys : Keys) (closed old : BenchState) (card : CardState) (o : OpeningValue F R) → AreSound closed.files → HasCard closed.card (rpmb_key keys.huk) card → KeepsCard closed old
-      → IsMounted of_file of_port keys old o → HasSameEntries of_file of_port keys closed card (old.files 0) o
+      → IsMounted of_file of_port keys old o → HasSameEntries of_file of_port keys closed card (old.files directory_file) o
 
   -- So a list shows them, of any file.
   abbrev pub ListsAreFresh : Type 0
   ListsAreFresh =
       (keys : Keys) (closed old new : BenchState) (card : CardState) (objects : ObjectMap) (lines : List ℕ) → AreSound closed.files → HasCard closed.card (rpmb_key keys.huk) card → KeepsCard closed old
-      → (l : ListsBench of_file of_port keys old new objects lines) → IsFreshList of_file of_port keys closed card (old.files 0) l.opened ((l.shows).listed).steps
+      → (l : ListsBench of_file of_port keys old new objects lines) → IsFreshList of_file of_port keys closed card (old.files directory_file) l.opened ((l.shows).listed).steps

@@ -3,6 +3,7 @@ use Rattle.std.specs.Prelude.{◌≡◌, ◌⊎◌, ◌<◌, ℕ, List, length, 
 use Rattle.disk_model.specs.State.{FileState}
 use Rattle.node_image.specs.declared.node.RootRef.{RootRef}
 use Rattle.hmac_keys.specs.declared.Keys.{Keys}
+use Rattle.tee_types.specs.Limits.{directory_file}
 use Rattle.rpmb_card.specs.Card.{CardState}
 use Rattle.rpmb_card.specs.Port.{PortState}
 use Rattle.htree_file.specs.Standing.{Told}
@@ -39,8 +40,8 @@ module _ {F R : Type 0} (of_file : F → FileState) (of_port : R → PortState) 
   -- The directory is what its file reads as; or, where that cannot be followed, what it was seen to read: its tree is the gate's.
   abbrev pub IsDirectoryOf : {keys : Keys} {block : List ℕ} → (dir : FileState) → OpeningValue F R → SeenStore keys block → Type 0
   IsDirectoryOf dir o seen =
-      IsReadIn (bench_files of_file o 0).reads seen.root seen.dir
-      ⊎ ((Told dir (bench_files of_file o 0) → ⊥) × ((seen.dir).tree ≡ o.gate.dir.dir.tree) × SeesRead dir (bench_files of_file o 0) seen.dir)
+      IsReadIn (bench_files of_file o directory_file).reads seen.root seen.dir
+      ⊎ ((Told dir (bench_files of_file o directory_file) → ⊥) × ((seen.dir).tree ≡ o.gate.dir.dir.tree) × SeesRead dir (bench_files of_file o directory_file) seen.dir)
 
   -- What a mount read: its directory, and of each file what it then reads as. `dir` is the directory's file before the mount.
   pub record MountSees (keys : Keys) (block : List ℕ) (dir : FileState) (o : OpeningValue F R) : Type 0 where

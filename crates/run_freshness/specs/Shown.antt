@@ -1,5 +1,5 @@
 -- What a list shows of an object, as a tree that was read.
-use Rattle.std.specs.Prelude.{◌≡◌, ◌⊎◌, ◌+◌, ◌<◌, ◌≤◌, ℕ, zero, suc, List, [], ◌∷◌, Bool, true, false, not, Option, Some, Ok}
+use Rattle.std.specs.Prelude.{◌≡◌, ◌⊎◌, ◌+◌, ◌<◌, ◌≤◌, ℕ, zero, suc, List, [], ◌∷◌, Bool, true, false, not, Some, Ok}
 use Rattle.std.proofs.Common.{inl, inr, refl}
 use Rattle.std.proofs.lemmas.Bool.{cases_lt}
 use Rattle.disk_model.specs.State.{FileState}
@@ -19,7 +19,7 @@ use Rattle.crash_core.specs.EntryLists.{entry_at}
 use Rattle.crash_core.specs.MountedObject.{root_of}
 use Rattle.crash_core.specs.Mounting.{mounted}
 use Rattle.crash_core.specs.Pictures.{block_zero}
-use Rattle.object_calls.specs.declared.shown_object.ShownObject.TheVariants.{Damaged, Sound}
+use Rattle.object_calls.specs.declared.shown_object.ShownObject.TheVariants.{Sound}
 use Rattle.object_calls.specs.Opening.{OpeningValue, bench_files}
 use Rattle.object_calls.specs.ShownObjects.{IsReadFrom, ShowsBlock, ShowsData, data_blocks}
 use Rattle.run_acts.specs.LineObjects.{object_shown}

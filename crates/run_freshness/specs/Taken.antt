@@ -3,6 +3,7 @@ use Rattle.std.specs.Prelude.{◌≡◌, ◌⊎◌, ℕ, List, true, Ok, Option,
 use Rattle.disk_model.specs.State.{FileState}
 use Rattle.hmac_keys.specs.declared.Keys.{Keys}
 use Rattle.hmac_keys.specs.KeyTable.{rpmb_key}
+use Rattle.tee_types.specs.Limits.{directory_file}
 use Rattle.rpmb_card.specs.Card.{CardState}
 use Rattle.rpmb_card.specs.Port.{PortState}
 use Rattle.rpmb_host.specs.Honest.{HasCard}
@@ -63,7 +64,7 @@ module _ {F R : Type 0} (of_file : F → FileState) (of_port : R → PortState) 
     abbrev pub BeginsBeside : (closed : BenchState) → RunsPhase of_file of_port Reliable keys applications arms mode calls old new opening events → Type 0
     BeginsBeside closed p =
         (card : CardState) (objects : ObjectMap) → HasCard closed.card (rpmb_key keys.huk) card → mounted keys (picture_read closed card) ≡ Ok objects
-        → BeginsTaken closed card objects p ⊎ MountedDirectoryClash of_file of_port keys closed card (old.files 0) p.opened
+        → BeginsTaken closed card objects p ⊎ MountedDirectoryClash of_file of_port keys closed card (old.files directory_file) p.opened
 
     -- beside the bench that was closed last, if one was
     abbrev pub BeginsSince : (closed : Option BenchState) → RunsPhase of_file of_port Reliable keys applications arms mode calls old new opening events → Type 0

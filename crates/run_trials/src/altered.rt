@@ -4,7 +4,7 @@ use crate::devices::new_bench;
 use crate::runs::{reliable, try_script};
 use crate::table::{altered_head_line, altered_line};
 use anyhow::Context;
-use node_image::{block_offset, head_offset, node_offset};
+use node_image::{FORMAT, block_offset, head_offset, node_offset};
 use std::alloc::{AllocError, Global};
 use std::sync::Wait;
 use std::thread::Threads;
@@ -203,10 +203,14 @@ fn places(
 ) -> Result<Vec<u64>, AllocError> {
     let mut places = Vec::new(alloc);
     for version in [0, 1] {
-        push_fields(&mut places, head_offset(version), head)?;
+        push_fields(&mut places, head_offset(FORMAT, version), head)?;
         for k in 0..blocks {
-            push_fields(&mut places, node_offset(k.saturating_add(1), version), node)?;
-            push_fields(&mut places, block_offset(k, version), block)?;
+            push_fields(
+                &mut places,
+                node_offset(FORMAT, k.saturating_add(1), version),
+                node,
+            )?;
+            push_fields(&mut places, block_offset(FORMAT, k, version), block)?;
         }
     }
     Ok(places)

@@ -1,6 +1,7 @@
 // The devices of the runs.
 
 ghost use Rattle.std.specs.Prelude.{◌≡◌, vec_len, IfOk, OnOk};
+ghost use Rattle.tee_types.specs.Limits.{file_count};
 
 use crate::kept_port::KeptPort;
 use crate::mishaps::{Arm, Device, Trouble};
@@ -9,14 +10,14 @@ use rpmb_card::{CardRig, NoMemory};
 use script_runner::{Bench, blank_bench};
 use std::alloc::{AllocError, Global};
 use tee_ports::FileRig;
-use tee_types::FILES;
+use tee_types::{BENCH_FILES, DIRECTORY_FILE};
 
 /// Files in memory, and a card that keeps its frames.
 pub type KeptBench = Bench<MemFile, KeptPort>;
 
 /// Devices that were never used.
 pub fn new_bench(alloc: Global) -> Result<KeptBench, AllocError>
-    ensures { IfOk result (λ bench. vec_len bench.files ≡ 273) }
+    ensures { IfOk result (λ bench. vec_len bench.files ≡ file_count) }
 {
     let Bench { files, card } = blank_bench(alloc)?;
     Ok(Bench {
@@ -50,15 +51,23 @@ fn arm_card(card: &mut KeptPort, arm: Arm) -> Result<(), NoMemory> {
     }
 }
 
+// Arms the file of a number.
+fn arm_numbered(bench: &mut KeptBench, number: usize, arm: Arm) -> Result<(), NoMemory>
+    ensures { vec_len bench.new.files ≡ vec_len bench.old.files }
+{
+    match bench.files.get_mut(number) {
+        Some(file) => arm_file(file, arm),
+        None => Ok(()),
+    }
+}
+
 // Arms a device.
 fn arm_device(bench: &mut KeptBench, device: Device, arm: Arm) -> Result<(), NoMemory>
     ensures { vec_len bench.new.files ≡ vec_len bench.old.files }
 {
     match device {
-        Device::File(number) => match bench.files.get_mut(number) {
-            Some(file) => arm_file(file, arm),
-            None => Ok(()),
-        },
+        Device::Dir => arm_numbered(bench, usize::from(DIRECTORY_FILE), arm),
+        Device::File(number) => arm_numbered(bench, number, arm),
         Device::Card => arm_card(&mut bench.card, arm),
         Device::Draws => Ok(()),
     }
@@ -84,7 +93,7 @@ pub fn crash(bench: &mut KeptBench, seed: u64) -> Result<(), NoMemory>
     for number in 0..bench.files.len() {
         if let Some(file) = bench.files.get_mut(number) {
             file.disarm();
-            file.crash(seed, (number % FILES) as u16)?;
+            file.crash(seed, (number % BENCH_FILES) as u16)?;
         }
     }
     Ok(())

@@ -1,6 +1,7 @@
 // What was drawn for a store, as its devices have it.
 
 ghost use Rattle.std.specs.Prelude.{◌≡◌, vec_len, IfOk};
+ghost use Rattle.tee_types.specs.Limits.{file_count};
 
 use crate::devices::KeptBench;
 use crate::kept_port::KeptPort;
@@ -10,12 +11,13 @@ use aes_block::unwrap_key;
 use anyhow::{Context, bail};
 use dir_records::DirEntry;
 use hmac_keys::{dir_tsk, ssk, tsk};
-use node_image::RootRef;
+use node_image::{FORMAT, RootRef};
 use rpmb_frame::Frame;
 use script_runner::{Bench, card_block, simulator_keys};
 use std::alloc::Global;
 use store_commit::{Gate, root_in};
 use tee_ports::FileRig;
+use tee_types::DIRECTORY_FILE;
 
 /// The requests that carry a nonce: a read of the counter, and of a block.
 const WITH_NONCE: [u16; 2] = [2, 4];
@@ -69,7 +71,7 @@ fn first_entry(alloc: Global, bench: KeptBench) -> anyhow::Result<DirEntry> {
 
 /// Reads what was drawn for a store with one object, in file 1.
 pub fn facts_of(alloc: Global, bench: KeptBench) -> anyhow::Result<Facts>
-    requires { vec_len bench.files ≡ 273 }
+    requires { vec_len bench.files ≡ file_count }
 {
     let nonces = nonces_of(alloc, &bench.card)?;
     let Ok(read) = card_block(bench, &simulator_keys(), &mut reliable()) else {
@@ -78,14 +80,14 @@ pub fn facts_of(alloc: Global, bench: KeptBench) -> anyhow::Result<Facts>
     let Ok(root) = root_in(&read.block) else {
         bail!("no store");
     };
-    let mut bench = read.bench;
-    let directory = drawn_of(alloc, &bench, 0, &root)?;
+    let bench = read.bench;
+    let directory = drawn_of(alloc, &bench, usize::from(DIRECTORY_FILE), &root)?;
     let object_file = bench.files.get(1).context("no file")?.save()?;
-    bench.files.truncate(1);
     let entry = first_entry(alloc, bench)?;
     let root = RootRef {
         hash: entry.hash,
         version: entry.version,
+        format: FORMAT,
     };
     let object = drawn_in(alloc, object_file.bytes(), &root)?;
     let storage_key = ssk(&simulator_keys());

@@ -30,6 +30,9 @@
 //! run once more as a serial script over new devices, but for those that a device kept from being done; or these with the one call that the
 //! card did not confirm. A list that shows neither has lost an object, or invented one.
 //!
+//! The line behind it is of migrations: a store of the old format is migrated while a device stops at one of its calls, crashed by four seeds,
+//! and migrated once more. Then all files are of the current format, and the objects are listed as they were, bad blocks and damage included.
+//!
 //! The last table is of files that are altered: the directory's, those of two objects, and the one that a create takes. They are put back as they
 //! were at each of five moments, and a byte of each field of their heads, nodes and blocks is changed, before a phase or before one of the first twenty
 //! calls in it. Each answer behind that is the one of the file that was not altered, or tells of damage.
@@ -39,6 +42,7 @@ use acts::ACTS;
 use altered::altered_lines;
 use draws::draw_lines;
 use meetings::meeting_line;
+use migrations::migration_line;
 use mishaps::{Device, Mishap};
 use openings::Opening;
 use power_cuts::cut_lines;
@@ -62,7 +66,9 @@ mod kept_port;
 mod machine;
 mod meeting_file;
 mod meetings;
+mod migrations;
 mod mishaps;
+mod old_stores;
 mod openings;
 mod power_cuts;
 mod replays;
@@ -134,5 +140,6 @@ fn main(rt: HostRuntime) -> anyhow::Result<()> {
     print_line(&rt, meeting_line(&rt, rt.alloc())?.as_str())?;
     print_line(&rt, soak_line(&rt, rt.alloc())?.as_str())?;
     print_line(&rt, cut_lines(&rt, rt.alloc())?.trim_end())?;
+    print_line(&rt, migration_line(&rt, rt.alloc())?.as_str())?;
     print_line(&rt, altered_lines(&rt, rt.alloc())?.as_str())
 }

@@ -102,10 +102,11 @@ impl StoreFile for MeetingFile {
 impl FileRig for MeetingFile {
     ghost use Rattle.std.specs.Prelude.{refl};
     ghost use Rattle.mem_files.specs.Memory.{file_state, file_sound};
+    ghost use Rattle.disk_model.specs.State.{pending};
     ghost use Rattle.mem_files.specs.Crash.{crash_of};
     ghost use Rattle.mem_files.specs.CrashLaws.{crash_left};
 
-    ghost crash_image = { λ s seed file. crash_of s.settled s.reads seed file };
+    ghost crash_image = { λ s seed file. crash_of s.settled s.reads (pending s) seed file };
 
     fn stop_after(&mut self, calls: u64) {
         self.file.stop_after(calls);

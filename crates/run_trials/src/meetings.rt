@@ -1,6 +1,7 @@
 // Two applications whose files wait for each other: both calls have to be under way at once.
 
 ghost use Rattle.std.specs.Prelude.{◌≡◌, vec_len, IfOk};
+ghost use Rattle.tee_types.specs.Limits.{file_count};
 
 use crate::meeting_file::{Meeting, MeetingFile};
 use crate::runs::{reliable, run_script};
@@ -9,7 +10,7 @@ use script_runner::{Bench, CardPort, blank_bench};
 use std::alloc::{AllocError, Global};
 use std::sync::{Arc, Wait};
 use std::thread::Threads;
-use tee_types::FILES;
+use tee_types::BENCH_FILES;
 
 /// Files that may wait, and a card.
 type MeetingBench = Bench<MeetingFile, CardPort>;
@@ -40,9 +41,9 @@ fn new_bench(alloc: Global) -> Result<MeetingBench, AllocError> {
 
 // The bench, which has all its files.
 fn whole(bench: MeetingBench) -> anyhow::Result<MeetingBench>
-    ensures { IfOk result (λ bench. vec_len bench.files ≡ 273) }
+    ensures { IfOk result (λ bench. vec_len bench.files ≡ file_count) }
 {
-    if bench.files.len() == FILES {
+    if bench.files.len() == BENCH_FILES {
         Ok(bench)
     } else {
         bail!("a bench without all its files")

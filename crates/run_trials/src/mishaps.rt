@@ -3,7 +3,9 @@
 /// A device that may go wrong.
 #[derive(Clone, Copy, PartialEq, Eq)]
 pub enum Device {
-    /// A file of the store; file 0 is the directory's.
+    /// The directory's file.
+    Dir,
+    /// The file of an object.
     File(usize),
     Card,
     /// The draws of the generator.
@@ -49,7 +51,7 @@ pub struct Trouble {
 impl Device {
     /// All of them, in the order of the table.
     pub const ALL: [Device; 6] = [
-        Device::File(0),
+        Device::Dir,
         Device::File(1),
         Device::File(2),
         Device::File(3),
@@ -60,7 +62,7 @@ impl Device {
     /// The device as a script names it.
     pub fn name(self) -> &'static str {
         match self {
-            Device::File(0) => "dir",
+            Device::Dir => "dir",
             Device::File(1) => "1",
             Device::File(2) => "2",
             Device::File(_) => "3",
@@ -106,7 +108,9 @@ impl Mishap {
     /// Whether it is tried with that device.
     pub fn is_tried_with(self, device: Device) -> bool {
         match device {
-            Device::File(_) => { matches!(self, Mishap::Stops | Mishap::Fails | Mishap::Passes) }
+            Device::Dir | Device::File(_) => {
+                matches!(self, Mishap::Stops | Mishap::Fails | Mishap::Passes)
+            }
             Device::Card => true,
             Device::Draws => self == Mishap::Fails,
         }

@@ -1,6 +1,7 @@
 // The tries of a format and of a mount, whose calls come before the ones that a script can arm.
 
 ghost use Rattle.std.specs.Prelude.{◌≡◌, vec_len, IfOk};
+ghost use Rattle.tee_types.specs.Limits.{file_count};
 
 use crate::devices::{KeptBench, arm, crash, new_bench};
 use crate::mishaps::{Device, Trouble};
@@ -60,7 +61,7 @@ impl Opening {
 
     // The devices that are opened.
     fn bench<W: Threads + Wait + Sync>(self, rt: &W, alloc: Global) -> anyhow::Result<KeptBench>
-        ensures { IfOk result (λ bench. vec_len bench.files ≡ 273) }
+        ensures { IfOk result (λ bench. vec_len bench.files ≡ file_count) }
     {
         let bench = new_bench(alloc)?;
         match self {
@@ -99,7 +100,7 @@ fn outcome_in<W: Threads + Wait + Sync>(
     opened: bool,
     bench: KeptBench,
 ) -> anyhow::Result<Outcome>
-    requires { vec_len bench.files ≡ 273 }
+    requires { vec_len bench.files ≡ file_count }
 {
     let writes = bench.card.writes();
     let ran = run_script(rt, alloc, "list\n", bench, &mut reliable())?;

@@ -8,7 +8,7 @@ use std::sync::Wait;
 use std::thread::Threads;
 
 /// The devices that go wrong.
-const DEVICES: [Device; 2] = [Device::File(0), Device::Card];
+const DEVICES: [Device; 2] = [Device::Dir, Device::Card];
 
 /// What goes wrong with them.
 const MISHAPS: [Mishap; 2] = [Mishap::Stops, Mishap::Fails];

@@ -7,8 +7,8 @@
 //
 // A setting is `= words WORD..` (the command line, else `run`), `= source fails N` (its call N), `= sink holds N` (so many bytes),
 // `= padded to N` (empty lines behind the script, up to so many bytes), `= card fails N` (its exchange N), `= same bench` (the one that the row
-// before left, else devices that were never used), `= worn` (the card's write counter is at its end), or `= exchanged` (files 1 and 2 of the
-// bench are exchanged).
+// before left, else devices that were never used), `= old store` (a store of the old format, with three objects, one of which has a bad block
+// and one is damaged), `= worn` (the card's write counter is at its end), or `= exchanged` (files 1 and 2 of the bench are exchanged).
 //
 // In a line `{TEXT*N}` stands for N times that text, `{xNN}` for the byte of two hex digits, and `{end}` at its end says that no
 // newline follows. A line `for A to B: TEXT` stands for one line for each number, where `{n}` is the number and `{n:04x}` its

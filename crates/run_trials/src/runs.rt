@@ -1,6 +1,7 @@
 // The run of a script over devices in memory.
 
 ghost use Rattle.std.specs.Prelude.{◌≡◌, vec_len, IfOk};
+ghost use Rattle.tee_types.specs.Limits.{file_count};
 
 use crate::kept_port::KeptPort;
 use anyhow::{Context, bail};
@@ -70,8 +71,8 @@ pub fn run_words<W: Threads + Wait + Sync, F: FileRig + Drop + Send, R: CardRig 
     bench: Bench<F, R>,
     entropy: &mut ListEntropy,
 ) -> anyhow::Result<RanOver<F, R>>
-    requires { vec_len bench.files ≡ 273 }
-    ensures { IfOk result (λ ran. vec_len ran.bench.files ≡ 273) }
+    requires { vec_len bench.files ≡ file_count }
+    ensures { IfOk result (λ ran. vec_len ran.bench.files ≡ file_count) }
 {
     let mut source = MemSource::new(alloc, script.as_bytes(), &[])?;
     let mut sink = MemSink::new(alloc, 65_536, &[])?;
@@ -102,8 +103,8 @@ pub fn try_script<W: Threads + Wait + Sync, F: FileRig + Drop + Send, R: CardRig
     bench: Bench<F, R>,
     entropy: &mut ListEntropy,
 ) -> anyhow::Result<RanOver<F, R>>
-    requires { vec_len bench.files ≡ 273 }
-    ensures { IfOk result (λ ran. vec_len ran.bench.files ≡ 273) }
+    requires { vec_len bench.files ≡ file_count }
+    ensures { IfOk result (λ ran. vec_len ran.bench.files ≡ file_count) }
 {
     let words = vec![in alloc; String::from_str(alloc, "run")?]?;
     run_words(rt, alloc, &words, script, bench, entropy)
@@ -117,8 +118,8 @@ pub fn run_script<W: Threads + Wait + Sync, F: FileRig + Drop + Send, R: CardRig
     bench: Bench<F, R>,
     entropy: &mut ListEntropy,
 ) -> anyhow::Result<RanOver<F, R>>
-    requires { vec_len bench.files ≡ 273 }
-    ensures { IfOk result (λ ran. vec_len ran.bench.files ≡ 273) }
+    requires { vec_len bench.files ≡ file_count }
+    ensures { IfOk result (λ ran. vec_len ran.bench.files ≡ file_count) }
 {
     let ran = try_script(rt, alloc, script, bench, entropy)?;
     if !ran.is_done {

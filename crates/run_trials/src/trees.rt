@@ -41,13 +41,16 @@ fn version_of(nodes: &[NodeImage], root: &RootRef, number: u32) -> Option<u8> {
 
 /// Reads the tree of that reference.
 pub fn drawn_in(alloc: Global, image: &[u8], root: &RootRef) -> anyhow::Result<Drawn> {
-    let bytes = part::<32>(image, head_offset(root.version))?;
+    let bytes = part::<32>(image, head_offset(root.format, root.version))?;
     let head = Head::from_bytes(&bytes).ok().context("a bad head")?;
     let mut nodes: Vec<NodeImage> = Vec::new(alloc);
     let mut vectors = Vec::new(alloc);
     for number in 1..=head.greatest {
         let version = version_of(&nodes, root, number).context("no parent")?;
-        let node = NodeImage::from_bytes(&part::<66>(image, node_offset(number, version))?);
+        let node = NodeImage::from_bytes(&part::<66>(
+            image,
+            node_offset(root.format, number, version),
+        )?);
         vectors.push(node.iv)?;
         nodes.push(node)?;
     }

@@ -9,6 +9,7 @@ use Rattle.disk_model.specs.Controls.{disarmed, renamed_as, settled_as, taint_ar
 use Rattle.disk_model.specs.Faults.{Rose}
 use Rattle.disk_model.specs.State.{FileState}
 use Rattle.hmac_keys.specs.declared.Keys.{Keys}
+use Rattle.tee_types.specs.Limits.{directory_file, file_count}
 use Rattle.rpmb_card.specs.Port.{PortState}
 use Rattle.tee_types.specs.declared.reply.Device.TheVariants.{Card, Dir, Entropy, File}
 use Rattle.crash_core.proofs.Lists.{put_else, put_here}
@@ -164,7 +165,7 @@ stands_crashed image seed count old new c a file stands = elim (cases_lt file co
 ]
 
 pub stands_crash : (image : FileState → ℕ → ℕ → List ℕ) (seed : ℕ) (old new : BenchState) → Crashes image seed old new → (a : FileState) (file : ℕ) → StandsCalm a (old.files file) → StandsCalm a (new.files file)
-stands_crash image seed old new c = stands_crashed image seed 273 old.files new.files c.files
+stands_crash image seed old new c = stands_crashed image seed file_count old.files new.files c.files
 
 pub stands_part : (image : FileState → ℕ → ℕ → List ℕ) (seed : ℕ) (old new : BenchState) → CrashesInPart image seed old new → (a : FileState) (file : ℕ) → StandsCalm a (old.files file) → StandsCalm a (new.files file)
 stands_part image seed old new c = stands_crashed image seed c.count old.files new.files c.files
@@ -184,16 +185,16 @@ stands_same : (old new : BenchState) → ((file : ℕ) → new.files file ≡ ol
 stands_same old new same a file = subst (StandsCalm a) (sym (same file))
 
 stands_armed : (arm : Arm) (old new : BenchState) → ArmsOneOf arm old new → (a : FileState) (file : ℕ) → (ArmsFile file arm → ⊥) → StandsCalm a (old.files file) → StandsCalm a (new.files file)
-stands_armed (Stop Dir calls) old new s a file other = stands_beside old.files new.files 0 _ s.files a file other
+stands_armed (Stop Dir calls) old new s a file other = stands_beside old.files new.files directory_file _ s.files a file other
 stands_armed (Stop (File n) calls) old new s a file other = stands_beside old.files new.files n _ s.files a file other
 stands_armed (Stop Card calls) old new s a file other = stands_same old new s.0 a file
 stands_armed (Stop Entropy calls) old new s a file other = stands_same old new s.files a file
-stands_armed (Fail Dir call) old new s a file other = stands_beside old.files new.files 0 _ s.files a file other
+stands_armed (Fail Dir call) old new s a file other = stands_beside old.files new.files directory_file _ s.files a file other
 stands_armed (Fail (File n) call) old new s a file other = stands_beside old.files new.files n _ s.files a file other
 stands_armed (Fail Card call) old new s a file other = stands_same old new s.0 a file
 stands_armed (Fail Entropy call) old new s a file other = stands_same old new s.files a file
 stands_armed (Lose call) old new s a file other = stands_same old new s.0 a file
-stands_armed (Taint Dir call at mask) old new s a file other = stands_tainted old.files new.files 0 _ s.files a file
+stands_armed (Taint Dir call at mask) old new s a file other = stands_tainted old.files new.files directory_file _ s.files a file
 stands_armed (Taint (File n) call at mask) old new s a file other = stands_tainted old.files new.files n _ s.files a file
 stands_armed (Taint Card call at mask) old new s a file other = stands_same old new s.files a file
 stands_armed (Taint Entropy call at mask) old new s a file other = stands_same old new s.files a file
@@ -213,7 +214,7 @@ module _ {F R : Type 0} (of_file : F → FileState) (of_port : R → PortState) 
     abbrev opened : BenchState
     opened = opening_state of_file of_port r.opened
 
-    pub phase_stands : (a : FileState) (file : ℕ) → file < 273 → NoneOf (ArmsFile file) arms → StandsCalm a (old.files file) → StandsCalm a (new.files file)
+    pub phase_stands : (a : FileState) (file : ℕ) → file < file_count → NoneOf (ArmsFile file) arms → StandsCalm a (old.files file) → StandsCalm a (new.files file)
     phase_stands a file within none stands =
         let first = stands_then a (old.files file) (opened.files file) stands (mount_goes_on of_file of_port keys old r.opened r.mounts file) in
         let second = stands_all_armed arms opened armed ((r.serves).ready).arms_are a file none first in
@@ -235,7 +236,7 @@ module _ {F R : Type 0} (of_file : F → FileState) (of_port : R → PortState) 
     unready_calm : ArmsFront arms opened closed → NoneOf ArmsCard arms → CalmStep opened.card closed.card
     unready_calm (front, rest, is, all) none = calm_same opened.card closed.card (card_of_arms front opened closed all (none_of-front ArmsCard front rest (subst (NoneOf ArmsCard) is none)))
 
-    early_stands : (store : Store) → ClosesEarly store opened mode calls closed → (a : FileState) (file : ℕ) → file < 273 → StandsCalm a (opened.files file) → StandsCalm a (closed.files file)
+    early_stands : (store : Store) → ClosesEarly store opened mode calls closed → (a : FileState) (file : ℕ) → file < file_count → StandsCalm a (opened.files file) → StandsCalm a (closed.files file)
     early_stands store (unserved same) a file within stands = subst (λ (b : BenchState). StandsCalm a (b.files file)) (sym same) stands
     early_stands store (served view doubt front leaves goes) a file within stands = stands_then a (opened.files file) (closed.files file) stands (goes.files file within)
 
@@ -247,7 +248,7 @@ module _ {F R : Type 0} (of_file : F → FileState) (of_port : R → PortState) 
     abbrev was : BenchState
     was = opening_state of_file of_port o
 
-    closes_stands : ClosesOpened of_file of_port keys applications arms mode calls o closed → (a : FileState) (file : ℕ) → file < 273 → NoneOf (ArmsFile file) arms → StandsCalm a (was.files file) → StandsCalm a (closed.files file)
+    closes_stands : ClosesOpened of_file of_port keys applications arms mode calls o closed → (a : FileState) (file : ℕ) → file < file_count → NoneOf (ArmsFile file) arms → StandsCalm a (was.files file) → StandsCalm a (closed.files file)
     closes_stands (unready front) a file within none stands = unready_stands was closed front a file none stands
     closes_stands (in_part p) a file within none stands =
         let armed = opening_state of_file of_port p.armed in
@@ -260,7 +261,7 @@ module _ {F R : Type 0} (of_file : F → FileState) (of_port : R → PortState) 
         calm_then was.card armed.card closed.card (calm_same was.card armed.card (card_of_arms arms was armed (p.ready).arms_are none)) (early_calm armed closed p.store p.closes)
 
   module _ (old : BenchState) (drew draws : ℕ) where
-    leaves_stands : (left : BenchState) → LeavesStarved of_file of_port keys applications arms mode calls old left drew draws → (a : FileState) (file : ℕ) → file < 273 → NoneOf (ArmsFile file) arms
+    leaves_stands : (left : BenchState) → LeavesStarved of_file of_port keys applications arms mode calls old left drew draws → (a : FileState) (file : ℕ) → file < file_count → NoneOf (ArmsFile file) arms
         → StandsCalm a (old.files file) → StandsCalm a (left.files file)
     leaves_stands left (uncalled same undrawn) a file within none stands = subst (λ (b : BenchState). StandsCalm a (b.files file)) (sym same) stands
     leaves_stands left (unmounted fault refused keeps) a file within none stands = stands_then a (old.files file) (left.files file) stands (((keeps.files file).keeps).goes_on)
@@ -273,7 +274,7 @@ module _ {F R : Type 0} (of_file : F → FileState) (of_port : R → PortState) 
     leaves_calm left (mounted opened mounts keeps undrawn closes) none =
         calm_then old.card (opening_state of_file of_port opened).card left.card (calm_mounted keys of_file of_port old opened mounts) (closes_calm opened left closes none)
 
-    pub given_up_stands : (new : BenchState) (fault : MountFault) → IsGivenUp of_file of_port keys applications arms mode calls old new drew draws fault → (a : FileState) (file : ℕ) → file < 273 → NoneOf (ArmsFile file) arms
+    pub given_up_stands : (new : BenchState) (fault : MountFault) → IsGivenUp of_file of_port keys applications arms mode calls old new drew draws fault → (a : FileState) (file : ℕ) → file < file_count → NoneOf (ArmsFile file) arms
         → StandsCalm a (old.files file) → StandsCalm a (new.files file)
     given_up_stands new fault (inl (refused, memory)) a file within none stands = stands_then a (old.files file) (new.files file) stands (goes_refused keys old new drew draws fault refused file)
     given_up_stands new fault (inr ends) a file within none stands =

@@ -5,6 +5,7 @@ use Rattle.tee_ports.specs.declared.failed.Failed.{Failed as FailedCall}
 use Rattle.hmac_keys.specs.declared.Keys.{Keys}
 use Rattle.hmac_keys.specs.KeyTable.{rpmb_key}
 use Rattle.node_image.specs.declared.node.RootRef.{RootRef}
+use Rattle.tee_types.specs.Limits.{directory_file}
 use Rattle.rpmb_frame.specs.declared.frame.Frame.{Frame as CardFrame}
 use Rattle.rpmb_card.specs.Arms.{no_arms}
 use Rattle.rpmb_card.specs.Port.{Exchanged, PortState, Rearmed}
@@ -17,7 +18,7 @@ use Rattle.tee_types.specs.declared.reply.Device.TheVariants.{Card, Dir, Entropy
 use Rattle.store_commit.specs.Causes.{Counted, StaysCalm, counts}
 use Rattle.store_commit.specs.Counts.{CauseCounts, RefusalCounts, RefusalNotOfCard}
 use Rattle.store_commit.specs.declared.fault.MountFault.{MountFault}
-use Rattle.store_commit.specs.declared.fault.MountFault.TheVariants.{CardBlock, CardResult, Directory, Failed, Frame, NoMemory, NoStore, Spent}
+use Rattle.store_commit.specs.declared.fault.MountFault.TheVariants.{CardBlock, CardResult, Directory, Failed, Frame, NoMemory, NoStore, OldFormat, Spent}
 use Rattle.store_commit.specs.Formats.{FormatHeard, IsFormatRefused}
 use Rattle.store_commit.specs.Reads.{AsksBlock, AsksCounter, IsCardRead, IsRootWritten, OfHost}
 use Rattle.store_model.specs.Object.{ObjectMap}
@@ -91,6 +92,7 @@ refusal_still old new (Directory fault) counted other = counted.card
 refusal_still old new (Frame fault) counted other = counted.card
 refusal_still old new (CardResult result) counted other = counted.card
 refusal_still old new Spent counted other = counted.card
+refusal_still old new (OldFormat file) counted other = counted.card
 refusal_still old new NoMemory counted other = counted.card
 
 bench_still : (old new : Counted) (fault : MountFault) → BenchCounts old new fault → RefusalNotOfCard fault → new.port.faults ≡ old.port.faults
@@ -106,6 +108,7 @@ bench_still old new (Directory fault) counted other = counted.card
 bench_still old new (Frame fault) counted other = counted.card
 bench_still old new (CardResult result) counted other = counted.card
 bench_still old new Spent counted other = counted.card
+bench_still old new (OldFormat file) counted other = counted.card
 bench_still old new NoMemory counted other = counted.card
 
 -- it is a failure of the card, or another one
@@ -122,6 +125,7 @@ of_card (Directory fault) = inl tt
 of_card (Frame fault) = inl tt
 of_card (CardResult result) = inl tt
 of_card Spent = inl tt
+of_card (OldFormat file) = inl tt
 of_card NoMemory = inl tt
 
 module _ (keys : Keys) where
@@ -147,8 +151,8 @@ module _ (keys : Keys) where
 
   calm_unformed : (old new : BenchState) (drew draws : ℕ) (fault : MountFault) → IsNotFormed keys old new drew draws fault → CalmStep old.card new.card
   calm_unformed old new drew draws fault u calm = elim (of_card fault) [
-    | inl other ↦ record { calm = ((u.goes_on).port).calm calm; faults = refusal_still (counts (old.files 0) old.card drew) (counts (new.files 0) new.card draws) fault u.counted other }
-    | inr accused ↦ calm_refused_format (old.files 0) (new.files 0) old.card new.card (NoAnswer accused.0) (subst (FormatHeard (old.files 0) (new.files 0) old.card new.card keys) accused.1 u.heard) calm
+    | inl other ↦ record { calm = ((u.goes_on).port).calm calm; faults = refusal_still (counts (old.files directory_file) old.card drew) (counts (new.files directory_file) new.card draws) fault u.counted other }
+    | inr accused ↦ calm_refused_format (old.files directory_file) (new.files directory_file) old.card new.card (NoAnswer accused.0) (subst (FormatHeard (old.files directory_file) (new.files directory_file) old.card new.card keys) accused.1 u.heard) calm
   ]
 
   pub calm_opened : (old new : BenchState) → OpensBench keys old new → CalmStep old.card new.card
@@ -169,7 +173,7 @@ module _ (keys : Keys) where
   pub calm_refused : (old new : BenchState) (drew draws : ℕ) (fault : MountFault) → IsMountRefused keys old new drew draws fault → CalmStep old.card new.card
   calm_refused old new drew draws fault m calm =
       let found = m.calm calm in
-      record { calm = found.0; faults = bench_still (counts (old.files 0) old.card drew) (counts (new.files 0) new.card draws) fault m.counted found.1 }
+      record { calm = found.0; faults = bench_still (counts (old.files directory_file) old.card drew) (counts (new.files directory_file) new.card draws) fault m.counted found.1 }
 
   module _ {F R : Type 0} (of_file : F → FileState) (of_port : R → PortState) where
     pub calm_mounted : (old : BenchState) (o : OpeningValue F R) → IsMounted of_file of_port keys old o → CalmStep old.card ((opening_state of_file of_port o).card)

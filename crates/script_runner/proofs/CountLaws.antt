@@ -2,6 +2,7 @@
 use Rattle.std.proofs.Common.{ℕ, ◌≡◌, ◌∙◌, ◌<◌, List, [], ◌∷◌, ◌++◌, IsTrue, inl, refl, sym, subst}
 use Rattle.disk_model.specs.State.{FileState}
 use Rattle.hmac_keys.specs.declared.Keys.{Keys}
+use Rattle.tee_types.specs.Limits.{file_count}
 use Rattle.rpmb_card.specs.Port.{PortState}
 use Rattle.script_text.specs.declared.script.Arm.{Arm}
 use Rattle.script_text.specs.declared.script.Control.TheVariants.{Arm as ArmControl, Crash, Flip, List as ListControl, Mode as ModeControl, Phase, Restore, Save}
@@ -49,7 +50,7 @@ none_last Arms (Do ListControl ∷ before) arm none = none_last Arms before arm 
 module _ (handed : BenchState) where
   -- A device that was calm and that no act armed has no arms that wait, and stands so.
   pub record StandsUnarmed (before : List Act) (arms : List Arm) (bench : BenchState) : Type 0 where
-    pub files : (file : ℕ) → file < 273 → IsTrue (handed.files file).calm → NoneArms (ArmsFile file) before → NoneOf (ArmsFile file) arms × StandsCalm (handed.files file) (bench.files file)
+    pub files : (file : ℕ) → file < file_count → IsTrue (handed.files file).calm → NoneArms (ArmsFile file) before → NoneOf (ArmsFile file) arms × StandsCalm (handed.files file) (bench.files file)
     pub card : IsTrue handed.card.calm → NoneArms ArmsCard before → NoneOf ArmsCard arms × StaysCalm handed.card bench.card
 
   stays_then : (p q : PortState) → StaysCalm handed.card p → CalmStep p q → StaysCalm handed.card q
@@ -66,7 +67,7 @@ module _ (handed : BenchState) where
   -- one more act
   acted : (before : List Act) (act : Act) (arms later : List Arm) (old new : BenchState) → StandsUnarmed before arms old
       → ((Arms : Arm → Type 0) → NoneArms Arms (before ++ act ∷ []) → NoneOf Arms arms → NoneOf Arms later)
-      → ((a : FileState) (file : ℕ) → file < 273 → NoneOf (ArmsFile file) arms → StandsCalm a (old.files file) → StandsCalm a (new.files file))
+      → ((a : FileState) (file : ℕ) → file < file_count → NoneOf (ArmsFile file) arms → StandsCalm a (old.files file) → StandsCalm a (new.files file))
       → (NoneOf ArmsCard arms → CalmStep old.card new.card) → StandsUnarmed (before ++ act ∷ []) later new
   acted before act arms later old new s waits file card = record {
     files = λ k within calm none.

@@ -4,6 +4,7 @@ use Rattle.disk_model.specs.Calls.{GoesOn}
 use Rattle.disk_model.specs.State.{FileState}
 use Rattle.hmac_keys.specs.declared.Keys.{Keys}
 use Rattle.hmac_keys.specs.KeyTable.{rpmb_key}
+use Rattle.tee_types.specs.Limits.{directory_file}
 use Rattle.rpmb_card.specs.Card.{CardState}
 use Rattle.rpmb_card.specs.Port.{PortState}
 use Rattle.rpmb_host.specs.Honest.{HasCard}
@@ -19,7 +20,7 @@ use Rattle.store_commit.specs.Formats.{FormatRefused}
 use Rattle.store_commit.specs.Mounts.{CardRefused}
 use Rattle.run_acts.specs.Benches.{BenchState}
 use Rattle.run_acts.specs.declared.MountFault.{MountFault}
-use Rattle.run_acts.specs.declared.MountFault.TheVariants.{CardBlock, CardResult, Directory, Failed, Frame, NoMemory as NoMemoryFault, NoStore, Spent}
+use Rattle.run_acts.specs.declared.MountFault.TheVariants.{CardBlock, CardResult, Directory, Failed, Frame, NoMemory as NoMemoryFault, NoStore, OldFormat, Spent}
 use Rattle.run_acts.specs.Left.{replay_left}
 use Rattle.run_acts.specs.Opens.{IsOpenRefused, OpensBench, StopsOpening, found, is_blank, made, starved, stopped, unasked, unformed, unread}
 use Rattle.run_acts.specs.Untainted.{ArmNoMask, AreUntainted}
@@ -219,6 +220,7 @@ module _ (keys : Keys) where
   unread_devices p q drew draws card has (CardBlock offset) refused = absurd refused
   unread_devices p q drew draws card has (Directory fault) refused = absurd refused
   unread_devices p q drew draws card has Spent refused = absurd refused
+  unread_devices p q drew draws card has (OldFormat file) refused = absurd refused
 
   unformed_devices : (old new : FileState) (p q : PortState) (drew draws : ℕ) (card : CardState) → HasCard p (rpmb_key keys.huk) card → (fault : MountFault) → FormatRefused old new p q keys drew draws fault → OfDevices fault
   unformed_devices old new p q drew draws card has (Failed cause) refused = inl tt
@@ -229,11 +231,12 @@ module _ (keys : Keys) where
   unformed_devices old new p q drew draws card has NoStore refused = absurd refused
   unformed_devices old new p q drew draws card has (CardBlock offset) refused = absurd refused
   unformed_devices old new p q drew draws card has (Directory fault) refused = absurd refused
+  unformed_devices old new p q drew draws card has (OldFormat file) refused = absurd refused
 
   stops_devices : (old new : BenchState) (drew draws : ℕ) (card : CardState) → HasCard old.card (rpmb_key keys.huk) card → (fault : MountFault) → StopsOpening keys old new drew draws fault → OfDevices fault
   stops_devices old new drew draws card has fault (unread u) = unread_devices old.card new.card drew draws card has fault u.refused
   stops_devices old new drew draws card has fault (unformed block between blank reads not) =
-      unformed_devices (between.files 0) (new.files 0) between.card new.card drew draws card (record { told = reads.card ∙ has.told; keyed = has.keyed }) fault not.refused
+      unformed_devices (between.files directory_file) (new.files directory_file) between.card new.card drew draws card (record { told = reads.card ∙ has.told; keyed = has.keyed }) fault not.refused
 
   open_devices : (old new : BenchState) (drew draws : ℕ) (card : CardState) → HasCard old.card (rpmb_key keys.huk) card → (fault : MountFault) → IsOpenRefused keys old new drew draws fault → OfDevices fault
   open_devices old new drew draws card has fault (stopped stops memory) = stops_devices old new drew draws card has fault stops
@@ -246,6 +249,7 @@ module _ (keys : Keys) where
   no_refusal (Directory why) (inl is) refusal = is
   no_refusal (Frame why) (inl is) refusal = is
   no_refusal (CardResult result) (inl is) refusal = is
+  no_refusal (OldFormat file) (inl is) refusal = is
   no_refusal (Failed cause) (inl is) refusal = refusal
   no_refusal Spent (inl is) refusal = refusal
   no_refusal NoMemoryFault (inl is) refusal = refusal

@@ -17,6 +17,8 @@ pub mod RecordLaws
 pub mod QuietRuns
 pub mod RunLaws
 pub mod QuietEnds
+pub mod MigrationEnds
+pub mod MigrationTexts
 pub mod RunBenches
 pub mod CalmPorts
 pub mod CalmFiles

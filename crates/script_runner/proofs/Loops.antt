@@ -4,6 +4,7 @@ use Rattle.std.proofs.lemmas.List.Elements.{All-nil}
 use Rattle.disk_model.specs.Faults.{Rose}
 use Rattle.disk_model.specs.State.{FileState}
 use Rattle.hmac_keys.specs.declared.Keys.{Keys}
+use Rattle.tee_types.specs.Limits.{file_count}
 use Rattle.rpmb_card.specs.Port.{PortState}
 use Rattle.script_text.specs.Laws.{IsArm}
 use Rattle.script_text.specs.Script.{ScriptValue}
@@ -70,5 +71,5 @@ failed-earlier old mid new full le (inl rose) = inl (Rose-earlier old mid new le
 failed-earlier old mid new full le (inr x) = inr x
 
 -- a run that has done nothing yet
-pub IsReady-first : {F R : Type 0} (script : ScriptValue) (run : Run F R) → run.at ≡ 0 → run.number ≡ 0 → run.arms.items ≡ [] → vec_len run.bench.files ≡ 273 → IsReady script run
+pub IsReady-first : {F R : Type 0} (script : ScriptValue) (run : Run F R) → run.at ≡ 0 → run.number ≡ 0 → run.arms.items ≡ [] → vec_len run.bench.files ≡ file_count → IsReady script run
 IsReady-first script run at number arms whole = record { within = omega (arith, at); phases = omega (arith, at, number); arms = subst (All IsArm) (sym arms) (All-nil IsArm); whole = whole }

@@ -2,6 +2,7 @@
 use Rattle.std.proofs.Common.{◌≡◌, ◌≢◌, ◌<◌, ◌+◌, ℕ, List, [], ◌∷◌, ◌++◌, refl, sym, ap, ◌∙◌, subst, arith, All, Option, drop, length, vec_len, append-nil}
 use Rattle.disk_model.specs.State.{FileState}
 use Rattle.hmac_keys.specs.declared.Keys.{Keys}
+use Rattle.tee_types.specs.Limits.{file_count}
 use Rattle.rpmb_card.specs.Port.{PortState}
 use Rattle.run_acts.specs.declared.MountFault.{MountFault}
 use Rattle.script_text.specs.declared.script.Control.{Control}
@@ -64,7 +65,7 @@ module _ {F R : Type 0} (of_file : F → FileState) (of_port : R → PortState) 
   -- a control was done: the place is the next one, and the bench, the arms and the mode are as the control says
   pub HasDone-control : (control : Control) (records : List RunRecord) (run behind : Run F R) → IsReady script run → IsNext script run (ControlStep control)
       → Goes of_file of_port image Reliable keys (applications_of script) run.arms.items (Do control ∷ []) records (standing_of of_file of_port run) (standing_of of_file of_port behind)
-      → behind.arms.items ≡ arms_behind run.arms.items (Do control ∷ []) → All IsArm behind.arms.items → vec_len behind.bench.files ≡ 273
+      → behind.arms.items ≡ arms_behind run.arms.items (Do control ∷ []) → All IsArm behind.arms.items → vec_len behind.bench.files ≡ file_count
       → behind.number ≡ run.number → behind.mode ≡ mode_behind run.mode control → behind.kept.items ≡ run.kept.items → behind.at ≡ run.at + 1 → HasDone (Do control) records run behind
   HasDone-control control records run behind ready next goes arms_are arms whole number mode kept at =
       let inside = place-lt script.steps (drop (run.at + 1) script.steps) run.at (ControlStep control) next in record {
@@ -110,14 +111,14 @@ module _ {F R : Type 0} (of_file : F → FileState) (of_port : R → PortState) 
     whole = rw s.bench d.ready.whole;
   }
 
-  pub EndsAt-refused : (failed : Type 0) (held_old held_new : Option (List ℕ)) (run : Run F R) (end : RunEnd F R) (fault : MountFault) → RefusesFirst of_file of_port image Reliable drew draws keys (applications_of script) run.arms.items (acts_of run.mode (drop run.at script.steps)) (bench_state of_file of_port run.bench) (bench_state of_file of_port end.bench) fault → PrintsRefusal failed held_old held_new run.kept.items fault end.status → vec_len end.bench.files ≡ 273 → EndsAt of_file of_port image Reliable drew draws keys script failed held_old held_new run end
+  pub EndsAt-refused : (failed : Type 0) (held_old held_new : Option (List ℕ)) (run : Run F R) (end : RunEnd F R) (fault : MountFault) → RefusesFirst of_file of_port image Reliable drew draws keys (applications_of script) run.arms.items (acts_of run.mode (drop run.at script.steps)) (bench_state of_file of_port run.bench) (bench_state of_file of_port end.bench) fault → PrintsRefusal failed held_old held_new run.kept.items fault end.status → vec_len end.bench.files ≡ file_count → EndsAt of_file of_port image Reliable drew draws keys script failed held_old held_new run end
   EndsAt-refused failed held_old held_new run end fault h t whole = record {
     ends = EndsFrom-refused of_file of_port image Reliable drew draws keys script failed (point_of of_file of_port script held_old run) held_new (bench_state of_file of_port end.bench) fault end.status h t;
     whole = whole;
   }
 
   -- there is no memory, and nothing was done
-  pub EndsAt-no_memory : (failed : Type 0) (held : Option (List ℕ)) (run : Run F R) (end : RunEnd F R) → end.status ≡ NoMemory → bench_state of_file of_port end.bench ≡ bench_state of_file of_port run.bench → vec_len end.bench.files ≡ 273
+  pub EndsAt-no_memory : (failed : Type 0) (held : Option (List ℕ)) (run : Run F R) (end : RunEnd F R) → end.status ≡ NoMemory → bench_state of_file of_port end.bench ≡ bench_state of_file of_port run.bench → vec_len end.bench.files ≡ file_count
       → EndsAt of_file of_port image Reliable drew draws keys script failed held held run end
   EndsAt-no_memory failed held run end is same whole =
       let here = point_of of_file of_port script held run in
@@ -130,7 +131,7 @@ module _ {F R : Type 0} (of_file : F → FileState) (of_port : R → PortState) 
 
   -- there is no memory for all of a crash
   pub EndsAt-crashed : (failed : Type 0) (held : Option (List ℕ)) (run : Run F R) (end : RunEnd F R) (seed : ℕ) → IsNext script run (ControlStep (Crash seed)) → end.status ≡ NoMemory
-      → CrashesInPart image seed (bench_state of_file of_port run.bench) (bench_state of_file of_port end.bench) → vec_len end.bench.files ≡ 273 → EndsAt of_file of_port image Reliable drew draws keys script failed held held run end
+      → CrashesInPart image seed (bench_state of_file of_port run.bench) (bench_state of_file of_port end.bench) → vec_len end.bench.files ≡ file_count → EndsAt of_file of_port image Reliable drew draws keys script failed held held run end
   EndsAt-crashed failed held run end seed next is crashes whole = record {
     ends = rw is
         (EndsFrom-crashed of_file of_port image Reliable drew draws keys script failed (point_of of_file of_port script held run) (bench_state of_file of_port end.bench) seed

@@ -13,7 +13,7 @@ use Rattle.store_model.specs.ReplayState.{ReplayState}
 use Rattle.tee_types.specs.declared.reply.Cause.{Cause}
 use Rattle.run_acts.specs.Benches.{BenchState}
 use Rattle.run_acts.specs.declared.MountFault.{MountFault}
-use Rattle.run_acts.specs.declared.MountFault.TheVariants.{CardBlock, CardResult, Directory, Failed, Frame, NoMemory as NoMemoryFault, NoStore, Spent}
+use Rattle.run_acts.specs.declared.MountFault.TheVariants.{CardBlock, CardResult, Directory, Failed, Frame, NoMemory as NoMemoryFault, NoStore, OldFormat, Spent}
 use Rattle.run_acts.specs.MountingLaws.{IsOfDevice}
 use Rattle.run_acts.specs.Opens.{OpensBench}
 use Rattle.run_acts.specs.Quiet.{IsQuiet}
@@ -80,6 +80,7 @@ module _ {F R : Type 0} (of_file : F → FileState) (of_port : R → PortState) 
     none_failed : (fault : MountFault) → IsDeviceFault fault → RecordsRefusal of_file of_port image Reliable drew draws keys apps [] acts records (begins_with between) given fault → IsOfDevice fault → ⊥
     none_failed (Failed cause) is refusal device = quiet_refused cause refusal
     none_failed Spent is refusal device = device
+    none_failed (OldFormat file) is refusal device = is
     none_failed NoStore is refusal device = is
     none_failed (CardBlock offset) is refusal device = is
     none_failed (Directory why) is refusal device = is

@@ -14,7 +14,7 @@ use Rattle.store_model.specs.ReplayState.{ReplayState}
 use Rattle.run_acts.specs.Benches.{BenchState}
 use Rattle.run_acts.specs.Left.{replay_left}
 use Rattle.run_acts.specs.declared.MountFault.{MountFault}
-use Rattle.run_acts.specs.declared.MountFault.TheVariants.{CardBlock, CardResult, Directory, Failed, Frame, NoMemory as NoMemoryFault, NoStore, Spent}
+use Rattle.run_acts.specs.declared.MountFault.TheVariants.{CardBlock, CardResult, Directory, Failed, Frame, NoMemory as NoMemoryFault, NoStore, OldFormat, Spent}
 use Rattle.run_acts.specs.MountingLaws.{IsOfDevice}
 use Rattle.run_acts.proofs.CrashedLaws.{card_of, crashes_keep, part_may_be}
 use Rattle.run_acts.proofs.HeldOpenings.{IsSame, opens_same, refused_same}
@@ -75,6 +75,7 @@ not_both (CardBlock offset) is refusal = is
 not_both (Directory why) is refusal = is
 not_both (Frame why) is refusal = is
 not_both (CardResult result) is refusal = is
+not_both (OldFormat file) is refusal = is
 not_both (Failed cause) is refusal = refusal
 not_both Spent is refusal = is
 not_both NoMemoryFault is refusal = refusal

@@ -7,6 +7,7 @@ use Rattle.std.proofs.lemmas.Bool.{cases_lt, false≢true}
 use Rattle.std.proofs.lemmas.Bool.Decides.{nat_tests}
 use Rattle.std.proofs.lemmas.Option.{slice_get_past}
 use Rattle.indexmap.specs.IndexMap.{insert_entry}
+use Rattle.tee_types.specs.Limits.{file_count}
 use Rattle.script_text.specs.Words.{same_word}
 use Rattle.run_acts.specs.Alterations.{SavesFiles}
 use Rattle.run_acts.specs.Benches.{BenchState}
@@ -71,7 +72,7 @@ pub images-kept : (bench : BenchState) (images : List (List ℕ)) → SavesFiles
 images-kept bench images saves = λ i file. each file i
   where
     each : (file : ℕ) → slice_get images file ≡ reads_saved bench.files file
-    each file = elim (cases_lt file 273) [
-      | inl within ↦ let below : nat_lt file 273 ≡ true = grind (arith, nat_tests, within) in saves.each file within ∙ sym (ap (λ b. cond b (Some (bench.files file).reads) None) below)
-      | inr past ↦ let not_below : nat_lt file 273 ≡ false = grind (arith, nat_tests, past) in slice_get_past images file (omega (arith, saves.count, past)) ∙ sym (ap (λ b. cond b (Some (bench.files file).reads) None) not_below)
+    each file = elim (cases_lt file file_count) [
+      | inl within ↦ let below : nat_lt file file_count ≡ true = grind (arith, nat_tests, within) in saves.each file within ∙ sym (ap (λ b. cond b (Some (bench.files file).reads) None) below)
+      | inr past ↦ let not_below : nat_lt file file_count ≡ false = grind (arith, nat_tests, past) in slice_get_past images file (omega (arith, saves.count, past)) ∙ sym (ap (λ b. cond b (Some (bench.files file).reads) None) not_below)
     ]

@@ -6,6 +6,7 @@ use Rattle.std.proofs.lemmas.List.Elements.{All-drop, All-nil, All-push}
 use Rattle.std.proofs.lemmas.Result.{IfErr-weaker, IfOk-weaker}
 use Rattle.disk_model.specs.State.{FileState}
 use Rattle.hmac_keys.specs.declared.Keys.{Keys}
+use Rattle.tee_types.specs.Limits.{file_count}
 use Rattle.rpmb_card.specs.Port.{PortState}
 use Rattle.script_text.specs.declared.script.Arm.{Arm}
 use Rattle.script_text.specs.declared.script.Control.TheVariants.{Arm as ArmControl, Crash, Flip, List as ListControl, Mode as ModeControl, Phase, Restore, Save}
@@ -68,7 +69,7 @@ module _ {F R : Type 0} (of_file : F → FileState) (of_port : R → PortState) 
       (ap (λ b. vec_len b.files) bench ∙ ready.whole) (ap (λ (r : Run F R). r.number) same) (ap (λ (r : Run F R). r.mode) same) (ap (λ (r : Run F R). r.kept.items) same) (ap (λ (r : Run F R). r.at + 1) same)
 
   -- a control that changes the bench alone
-  pub HasDone-bench : (control : Control) (run altered : Run F R) → IsReady script run → IsNext script run (ControlStep control) → altered ≡ record run { bench = altered.bench } → vec_len altered.bench.files ≡ 273
+  pub HasDone-bench : (control : Control) (run altered : Run F R) → IsReady script run → IsNext script run (ControlStep control) → altered ≡ record run { bench = altered.bench } → vec_len altered.bench.files ≡ file_count
       → Goes of_file of_port image Reliable keys (applications_of script) run.arms.items (Do control ∷ []) (Controlled ∷ []) (standing_of of_file of_port run) (standing_of of_file of_port altered)
       → arms_behind run.arms.items (Do control ∷ []) ≡ run.arms.items → mode_behind run.mode control ≡ run.mode
       → HasDone of_file of_port image Reliable keys script (Do control) (Controlled ∷ []) run (next_place altered)
@@ -78,7 +79,7 @@ module _ {F R : Type 0} (of_file : F → FileState) (of_port : R → PortState) 
       goes (arms ∙ sym no_arms) (subst (All IsArm) (sym arms) ready.arms)
       whole (ap (λ (r : Run F R). r.number) same) (ap (λ (r : Run F R). r.mode) same ∙ sym no_mode) (ap (λ (r : Run F R). r.kept.items) same) (ap (λ (r : Run F R). r.at + 1) same)
 
-  pub HasDone-crash : (seed : ℕ) (run crashed : Run F R) → IsReady script run → IsNext script run (ControlStep (Crash seed)) → crashed ≡ record run { bench = crashed.bench } → vec_len crashed.bench.files ≡ 273
+  pub HasDone-crash : (seed : ℕ) (run crashed : Run F R) → IsReady script run → IsNext script run (ControlStep (Crash seed)) → crashed ≡ record run { bench = crashed.bench } → vec_len crashed.bench.files ≡ file_count
       → Crashes image seed (bench_state of_file of_port run.bench) (bench_state of_file of_port crashed.bench) → HasDone of_file of_port image Reliable keys script (Do (Crash seed)) (Controlled ∷ []) run (next_place crashed)
   HasDone-crash seed run crashed ready next same whole crashes =
       HasDone-bench (Crash seed) run crashed ready next same whole (bench_state of_file of_port crashed.bench, crashes, standing_with run crashed (ap (λ (r : Run F R). r.saved) same)) refl refl
@@ -92,19 +93,19 @@ module _ {F R : Type 0} (of_file : F → FileState) (of_port : R → PortState) 
       (λ i. record { bench = ap (λ (r : Run F R). bench_state of_file of_port r.bench) same i; saved = kept i }) arms (subst (All IsArm) (sym arms) ready.arms)
       (ap (λ (r : Run F R). vec_len r.bench.files) same ∙ ready.whole) (ap (λ (r : Run F R). r.number) same) (ap (λ (r : Run F R). r.mode) same) (ap (λ (r : Run F R). r.kept.items) same) (ap (λ (r : Run F R). r.at + 1) same)
 
-  pub HasDone-restore : (file : Device) (mark : List ℕ) (run altered : Run F R) → IsReady script run → IsNext script run (ControlStep (Restore file mark)) → altered ≡ record run { bench = altered.bench } → vec_len altered.bench.files ≡ 273
+  pub HasDone-restore : (file : Device) (mark : List ℕ) (run altered : Run F R) → IsReady script run → IsNext script run (ControlStep (Restore file mark)) → altered ≡ record run { bench = altered.bench } → vec_len altered.bench.files ≡ file_count
       → PutsBack (file_number file) (saved_of run.saved mark (file_number file)) (bench_state of_file of_port run.bench) (bench_state of_file of_port altered.bench)
       → HasDone of_file of_port image Reliable keys script (Do (Restore file mark)) (Controlled ∷ []) run (next_place altered)
   HasDone-restore file mark run altered ready next same whole puts =
       HasDone-bench (Restore file mark) run altered ready next same whole (bench_state of_file of_port altered.bench, puts, standing_with run altered (ap (λ (r : Run F R). r.saved) same)) refl refl
 
-  pub HasDone-flip : (file : Device) (at : ℕ) (mask : List ℕ) (run altered : Run F R) → IsReady script run → IsNext script run (ControlStep (Flip file at mask)) → altered ≡ record run { bench = altered.bench } → vec_len altered.bench.files ≡ 273
+  pub HasDone-flip : (file : Device) (at : ℕ) (mask : List ℕ) (run altered : Run F R) → IsReady script run → IsNext script run (ControlStep (Flip file at mask)) → altered ≡ record run { bench = altered.bench } → vec_len altered.bench.files ≡ file_count
       → FlipsFile (file_number file) at mask (bench_state of_file of_port run.bench) (bench_state of_file of_port altered.bench)
       → HasDone of_file of_port image Reliable keys script (Do (Flip file at mask)) (Controlled ∷ []) run (next_place altered)
   HasDone-flip file at mask run altered ready next same whole flips =
       HasDone-bench (Flip file at mask) run altered ready next same whole (bench_state of_file of_port altered.bench, flips, standing_with run altered (ap (λ (r : Run F R). r.saved) same)) refl refl
 
-  pub HasDone-list : (run listed : Run F R) (objects : ObjectMap) (lines : List ℕ) → IsReady script run → IsNext script run (ControlStep ListControl) → listed ≡ record run { bench = listed.bench; at = run.at + 1 } → vec_len listed.bench.files ≡ 273
+  pub HasDone-list : (run listed : Run F R) (objects : ObjectMap) (lines : List ℕ) → IsReady script run → IsNext script run (ControlStep ListControl) → listed ≡ record run { bench = listed.bench; at = run.at + 1 } → vec_len listed.bench.files ≡ file_count
       → ListsBench of_file of_port keys (bench_state of_file of_port run.bench) (bench_state of_file of_port listed.bench) objects lines → HasDone of_file of_port image Reliable keys script (Do ListControl) (Listed objects ∷ []) run listed
   HasDone-list run listed objects lines ready next same whole lists =
       let arms : listed.arms.items ≡ run.arms.items = ap (λ (r : Run F R). r.arms.items) same in
@@ -118,7 +119,7 @@ module _ {F R : Type 0} (of_file : F → FileState) (of_port : R → PortState) 
 
   pub HasDone-calls : (run ran : Run F R) (phase : PhaseRecord) → IsReady script run → IsCallFirst (drop run.at script.steps)
       → RunsPhase of_file of_port Reliable keys (applications_of script) run.arms.items run.mode (take (calls_length run) (drop run.at script.steps)) (bench_state of_file of_port run.bench) (bench_state of_file of_port ran.bench) phase.opening phase.events
-      → ran.arms.items ≡ [] → ran.saved ≡ run.saved → vec_len ran.bench.files ≡ 273 → ran.number ≡ run.number + 1 → ran.mode ≡ run.mode → ran.kept.items ≡ run.kept.items → ran.at ≡ run.at + calls_length run → calls_length run ≤ length (drop run.at script.steps)
+      → ran.arms.items ≡ [] → ran.saved ≡ run.saved → vec_len ran.bench.files ≡ file_count → ran.number ≡ run.number + 1 → ran.mode ≡ run.mode → ran.kept.items ≡ run.kept.items → ran.at ≡ run.at + calls_length run → calls_length run ≤ length (drop run.at script.steps)
       → HasDone of_file of_port image Reliable keys script (Serve run.mode (take (calls_length run) (drop run.at script.steps))) (Ran phase ∷ []) run ran
   HasDone-calls run ran phase ready first runs arms saved whole number mode kept at within =
       let count = calls_length run in
@@ -148,14 +149,14 @@ module _ {F R : Type 0} (of_file : F → FileState) (of_port : R → PortState) 
         (λ end cut. EndsAt-act of_file of_port image Reliable drew draws keys script failed held_old held_new act records run behind end done (subst (λ t. IsCutOff failed held_old held_new t behind end) (sym same) cut))
 
   pub EndsAt-list : (drew draws : ℕ) (failed : Type 0) (held_old held_new : Option (List ℕ)) (run : Run F R) (end : RunEnd F R) (fault : MountFault) → IsNext script run (ControlStep ListControl)
-      → IsListRefused of_file of_port keys (bench_state of_file of_port run.bench) (bench_state of_file of_port end.bench) drew draws fault → PrintsRefusal failed held_old held_new run.kept.items fault end.status → vec_len end.bench.files ≡ 273
+      → IsListRefused of_file of_port keys (bench_state of_file of_port run.bench) (bench_state of_file of_port end.bench) drew draws fault → PrintsRefusal failed held_old held_new run.kept.items fault end.status → vec_len end.bench.files ≡ file_count
       → EndsAt of_file of_port image Reliable drew draws keys script failed held_old held_new run end
   EndsAt-list drew draws failed held_old held_new run end fault next refused prints whole =
       EndsAt-refused of_file of_port image Reliable drew draws keys script failed held_old held_new run end fault
       (subst (λ (acts : List Act). RefusesFirst of_file of_port image Reliable drew draws keys (applications_of script) run.arms.items acts (bench_state of_file of_port run.bench) (bench_state of_file of_port end.bench) fault) (sym (ap (acts_of run.mode) next)) refused) prints whole
 
   pub EndsAt-calls : (drew draws : ℕ) (failed : Type 0) (held_old held_new : Option (List ℕ)) (run : Run F R) (end : RunEnd F R) (fault : MountFault) → IsCallFirst (drop run.at script.steps)
-      → IsGivenUp of_file of_port keys (applications_of script) run.arms.items run.mode (take (prefix_len is_call (drop run.at script.steps)) (drop run.at script.steps)) (bench_state of_file of_port run.bench) (bench_state of_file of_port end.bench) drew draws fault → PrintsRefusal failed held_old held_new run.kept.items fault end.status → vec_len end.bench.files ≡ 273
+      → IsGivenUp of_file of_port keys (applications_of script) run.arms.items run.mode (take (prefix_len is_call (drop run.at script.steps)) (drop run.at script.steps)) (bench_state of_file of_port run.bench) (bench_state of_file of_port end.bench) drew draws fault → PrintsRefusal failed held_old held_new run.kept.items fault end.status → vec_len end.bench.files ≡ file_count
       → EndsAt of_file of_port image Reliable drew draws keys script failed held_old held_new run end
   EndsAt-calls drew draws failed held_old held_new run end fault first refused prints whole =
       EndsAt-refused of_file of_port image Reliable drew draws keys script failed held_old held_new run end fault

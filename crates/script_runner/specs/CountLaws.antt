@@ -3,6 +3,7 @@ use Rattle.std.specs.Prelude.{ℕ, ◌≡◌, ◌⊎◌, ◌<◌, List, [], ◌�
 use Rattle.disk_model.specs.Faults.{Rose}
 use Rattle.disk_model.specs.State.{FileState}
 use Rattle.hmac_keys.specs.declared.Keys.{Keys}
+use Rattle.tee_types.specs.Limits.{directory_file, file_count}
 use Rattle.rpmb_card.specs.Port.{PortState}
 use Rattle.tee_types.specs.declared.reply.Device.{Device}
 use Rattle.tee_types.specs.declared.reply.Device.TheVariants.{Card, Dir, Entropy, File}
@@ -16,12 +17,12 @@ use Rattle.script_runner.specs.RunCauses.{World}
 use Rattle.script_runner.specs.Runs.{RunsSource}
 use Rattle.script_runner.specs.Text.{Act, Do}
 
--- the number of a device's file: the directory's is 0
-abbrev pub file_number : Device → Option ℕ
-file_number Dir = Some 0
-file_number (File number) = Some number
-file_number Card = None
-file_number Entropy = None
+-- the number of a device's file
+abbrev pub file_of_device : Device → Option ℕ
+file_of_device Dir = Some directory_file
+file_of_device (File number) = Some number
+file_of_device Card = None
+file_of_device Entropy = None
 
 -- the device that is armed to fail; a mask fails no call
 abbrev pub armed_device : Arm → Option Device
@@ -31,7 +32,7 @@ armed_device (Lose call) = Some Card
 armed_device (Taint file call at mask) = None
 
 abbrev pub ArmsFile : (file : ℕ) → Arm → Type 0
-ArmsFile file arm = option_and_then file_number (armed_device arm) ≡ Some file
+ArmsFile file arm = option_and_then file_of_device (armed_device arm) ≡ Some file
 
 abbrev pub ArmsCard : Arm → Type 0
 ArmsCard arm = armed_device arm ≡ Some Card
@@ -44,7 +45,7 @@ NoneArms Arms (act ∷ acts) = NoneArms Arms acts
 
 -- A file that was calm, and that none of these acts armed, counted a fault only where a call of it found no memory. Such a port counted none.
 pub record CountsAsArmed (handed : BenchState) (done : List Act) (bench : BenchState) : Type 0 where
-  pub files : (file : ℕ) → file < 273 → IsTrue (handed.files file).calm → NoneArms (ArmsFile file) done
+  pub files : (file : ℕ) → file < file_count → IsTrue (handed.files file).calm → NoneArms (ArmsFile file) done
       → ((bench.files file).faults ≡ (handed.files file).faults) ⊎ Rose (handed.files file).starved (bench.files file).starved
   pub card : IsTrue handed.card.calm → NoneArms ArmsCard done → bench.card.faults ≡ handed.card.faults
 

@@ -17,7 +17,7 @@ status_number NoMemory = 9
 
 abbrev pub status_text : Status → List ℕ
 status_text Done = codes ""
-status_text Usage = codes "usage: tee_run run | tee_run soak N"
+status_text Usage = codes "usage: tee_run run | tee_run soak N | tee_run migrate"
 status_text (BadLine line) = codes "bad line"
 status_text ReadFault = codes "read fault"
 status_text WriteFault = codes "write fault"

@@ -3,6 +3,7 @@ use Rattle.std.specs.Prelude.{ℕ, ◌≡◌, ◌⊎◌, ◌≤◌, List, [], �
 use Rattle.disk_model.specs.State.{FileState}
 use Rattle.hmac_keys.specs.declared.Keys.{Keys}
 use Rattle.hmac_keys.specs.KeyTable.{rpmb_key}
+use Rattle.tee_types.specs.Limits.{file_count}
 use Rattle.rpmb_card.specs.Card.{CardState}
 use Rattle.rpmb_card.specs.Port.{PortState}
 use Rattle.rpmb_host.specs.Honest.{HasCard}
@@ -52,7 +53,7 @@ NoneStarved (done ∷ records) = NoneStarved records
 
 -- there is no file past the last
 abbrev pub IsWhole : BenchState → Type 0
-IsWhole bench = (file : ℕ) → 273 ≤ file → bench.files file ≡ no_file
+IsWhole bench = (file : ℕ) → file_count ≤ file → bench.files file ≡ no_file
 
 module _ {F R : Type 0} (of_file : F → FileState) (of_port : R → PortState) (image : FileState → ℕ → ℕ → List ℕ) (Reliable : Type 0) (w : World) where
   -- Each bench of a run that was opened holds what the records down to there leave, as long as no act altered a file: every picture of it mounts to

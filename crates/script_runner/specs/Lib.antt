@@ -18,6 +18,8 @@ pub mod RunReady
 pub mod Prints
 pub mod Running
 pub mod Soaks
+pub mod Migrations
+pub mod MigrationLaws
 pub mod Exit
 pub mod ScriptReading
 pub mod Sending

@@ -1,5 +1,6 @@
 -- What the next act of a run needs.
 use Rattle.std.specs.Prelude.{◌≡◌, ◌≤◌, ◌+◌, List, [], ◌∷◌, drop, length, true, All, vec_len}
+use Rattle.tee_types.specs.Limits.{file_count}
 use Rattle.script_text.specs.declared.script.Step.{Step}
 use Rattle.script_text.specs.Script.{ScriptValue, is_call}
 use Rattle.script_text.specs.Laws.{IsArm, IsFormed}
@@ -16,7 +17,7 @@ pub record IsReady {F R : Type 0} (script : ScriptValue) (run : Run F R) : Type 
   pub within : run.at ≤ length script.steps
   pub phases : run.number ≤ run.at
   pub arms : All IsArm run.arms.items
-  pub whole : vec_len run.bench.files ≡ 273
+  pub whole : vec_len run.bench.files ≡ file_count
 
 -- the first of these steps is a call
 abbrev pub IsCallFirst : List Step → Type 0

@@ -2,6 +2,7 @@
 use Rattle.std.specs.Prelude.{ℕ, ◌≡◌, ◌+◌, ◌<◌, List, ◌++◌, Option, vec_len}
 use Rattle.disk_model.specs.State.{FileState}
 use Rattle.hmac_keys.specs.declared.Keys.{Keys}
+use Rattle.tee_types.specs.Limits.{file_count}
 use Rattle.rpmb_card.specs.Port.{PortState}
 use Rattle.script_text.specs.declared.script.Mode.TheVariants.{Serial}
 use Rattle.script_text.specs.Script.{ScriptValue}
@@ -49,7 +50,7 @@ module _ {F R : Type 0} (of_file : F → FileState) (of_port : R → PortState) 
   -- The run ended, on a whole bench.
   pub record EndsAt (drew draws : ℕ) (keys : Keys) (script : ScriptValue) (failed : Type 0) (held_old held_new : Option (List ℕ)) (run : Run F R) (end : RunEnd F R) : Type 0 where
     pub ends : EndsFrom drew draws keys script failed (point_of of_file of_port script held_old run) held_new (bench_state of_file of_port end.bench) end.status
-    pub whole : vec_len end.bench.files ≡ 273
+    pub whole : vec_len end.bench.files ≡ file_count
 
   -- A bench was opened, acts were done on it, and their text was put. `output` is the text, by what was recorded.
   pub record RunsActs (drew draws : ℕ) (keys : Keys) (applications : List (List ℕ)) (acts : List Act) (output : Option MountFault → List RunRecord → List ℕ) (failed : Type 0) (held_old held_new : Option (List ℕ)) (handed given : BenchState) (status : Status) : Type 0 where

@@ -3,6 +3,7 @@ use Rattle.std.specs.Prelude.{◌≡◌, ℕ, nat_lt, if◌then◌else◌, List,
 use Rattle.std.specs.Map.{lookup}
 use Rattle.std.proofs.Common.{Vec, Global}
 use Rattle.disk_model.specs.State.{FileState}
+use Rattle.tee_types.specs.Limits.{file_count}
 use Rattle.tee_types.specs.declared.reply.Device.{Device}
 use Rattle.script_text.specs.Words.{same_word}
 use Rattle.run_acts.specs.Alterations.{RestoresFile, file_number}
@@ -25,7 +26,7 @@ saved_of s = saved_in s.kept.entries
 
 -- what the files of a bench read as
 abbrev pub reads_saved : (ℕ → FileState) → (file : ℕ) → Option (List ℕ)
-reads_saved files file = if nat_lt file 273 then Some (files file).reads else None
+reads_saved files file = if nat_lt file file_count then Some (files file).reads else None
 
 -- that is kept too; under the same mark it replaces what was
 abbrev pub with_saved : Saved → (mark : List ℕ) → (ℕ → Option (List ℕ)) → Saved

@@ -92,7 +92,7 @@ pub(crate) fn print_phase_act<K: Sink, F: Drop, R: Drop>(
 }
 
 /// Puts the last lines of a run, and says how it ends.
-pub(crate) fn print_soak_lines<K: Sink>(lines: Vec<u8>, sink: &mut K) -> Status
+pub(crate) fn print_last_lines<K: Sink>(lines: Vec<u8>, sink: &mut K) -> Status
     ensures prints { PrintsLines (Rose (K.faults sink.old) (K.faults sink.new) ⊎ K.is_full sink.new) (K.held sink.old) (K.held sink.new) lines.items result }
     ensures counted { K.faults sink.old ≤ K.faults sink.new }
 {

@@ -2,11 +2,12 @@
 
 ghost use Rattle.std.specs.Prelude.{◌≡◌, ◌⊎◌, ◌≤◌, ◌<◌, ℕ, length, vec_len, IfErr, IfOk};
 ghost use Rattle.tee_ports.specs.Faults.{Rose};
+ghost use Rattle.tee_types.specs.Limits.{file_count};
 ghost use Rattle.run_acts.specs.Benches.{bench_state};
 ghost use Rattle.script_runner.specs.RunReady.{IsReady, IsSound};
 ghost use Rattle.script_runner.specs.Running.{EndsAt, GoesOn, RunsScript};
 
-use crate::act_text::print_soak_lines;
+use crate::act_text::print_last_lines;
 use crate::controls::do_control;
 use crate::mount_refusal::print_mount_refusal;
 use crate::phase_act::do_phase;
@@ -65,7 +66,7 @@ fn finish<K: Sink, F: FileRig + Drop, R: CardRig + Drop, E: Entropy>(
     ensures { (drew draws : ℕ) (first : E) → EndsAt F.state R.state F.crash_image (E.is_reliable first) drew draws keys.now script.now (Rose (K.faults sink.old) (K.faults sink.new) ⊎ K.is_full sink.new) (K.held sink.old) (K.held sink.new) run result }
 {
     let Run { bench, kept, .. } = run;
-    let status = print_soak_lines(kept, sink);
+    let status = print_last_lines(kept, sink);
     RunEnd { status, bench }
 }
 
@@ -116,10 +117,10 @@ pub(crate) fn run_script<
     entropy: &mut E,
 ) -> RunEnd<F, R>
     requires sound { IsSound script.now }
-    requires whole { vec_len bench.files ≡ 273 }
+    requires whole { vec_len bench.files ≡ file_count }
     ensures ran { RunsScript F.state R.state F.crash_image (E.is_reliable entropy.old) (E.faults entropy.old) (E.faults entropy.new) keys.now script.now (Rose (K.faults sink.old) (K.faults sink.new) ⊎ K.is_full sink.new) (K.held sink.old) (K.held sink.new)
         (bench_state F.state R.state bench) (bench_state F.state R.state result.bench) result.status }
-    ensures whole { vec_len result.bench.files ≡ 273 }
+    ensures whole { vec_len result.bench.files ≡ file_count }
 {
     match open_bench(alloc, bench, keys, entropy) {
         Ok(bench) => {

@@ -1,6 +1,7 @@
 //! Doing the controls of a script.
 
 ghost use Rattle.std.specs.Prelude.{◌≡◌, ◌⊎◌, ◌≤◌, ◌+◌, ◌<◌, ◌++◌, ◌∷◌, [], length, vec_len, IfErr, IfOk, OnErr, OnOk};
+ghost use Rattle.tee_types.specs.Limits.{file_count};
 ghost use Rattle.script_text.specs.Script.{ScriptValue};
 ghost use Rattle.script_text.specs.declared.script.Control.TheVariants.{List as ListControl};
 ghost use Rattle.script_text.specs.declared.script.Step.TheVariants.{Control as ControlStep};
@@ -64,7 +65,7 @@ fn save_under<F: FileRig + Drop, R: CardRig + Drop>(
     bench: &Bench<F, R>,
     saved: &mut SavedFiles,
 ) -> Result<(), NoMemory>
-    requires { vec_len bench.now.files ≡ 273 }
+    requires { vec_len bench.now.files ≡ file_count }
     ensures { OnOk result (saved_of saved.new ≡ with_saved (saved_of saved.old) mark.now (reads_saved (bench_state F.state R.state bench.now).files)) }
 {
     let images = save_files(alloc, bench)?;
@@ -77,7 +78,7 @@ fn save_bench<F: FileRig + Drop, R: CardRig + Drop>(
     mark: &Bytes,
     run: Run<F, R>,
 ) -> Result<Run<F, R>, RunEnd<F, R>>
-    requires { vec_len run.bench.files ≡ 273 }
+    requires { vec_len run.bench.files ≡ file_count }
     ensures saves { IfOk result (λ next. saved_of next.saved ≡ with_saved (saved_of run.saved) mark.now (reads_saved (bench_state F.state R.state run.bench).files)) }
     ensures others { IfOk result (λ next. next ≡ record run { saved = next.saved }) }
     ensures err { IfErr result (λ end. end ≡ record { status = Status.NoMemory; bench = run.bench }) }
@@ -99,11 +100,11 @@ fn restore_from<F: FileRig + Drop, R: CardRig + Drop>(
     file: Device,
     bench: &mut Bench<F, R>,
 ) -> Result<(), NoMemory>
-    requires whole { vec_len bench.old.files ≡ 273 }
+    requires whole { vec_len bench.old.files ≡ file_count }
     requires file { IsFileDevice file }
     ensures restores { OnOk result (PutsBack (file_number file) (saved_of saved.now mark.now (file_number file)) (bench_state F.state R.state bench.old) (bench_state F.state R.state bench.new)) }
     ensures refused { OnErr result (bench_state F.state R.state bench.new ≡ bench_state F.state R.state bench.old) }
-    ensures whole { vec_len bench.new.files ≡ 273 }
+    ensures whole { vec_len bench.new.files ≡ file_count }
 {
     let Some(image) = saved.image(mark.as_slice(), file_number(file)) else {
         return Ok(());
@@ -117,14 +118,14 @@ fn restore_bench<F: FileRig + Drop, R: CardRig + Drop>(
     file: Device,
     run: Run<F, R>,
 ) -> Result<Run<F, R>, RunEnd<F, R>>
-    requires whole { vec_len run.bench.files ≡ 273 }
+    requires whole { vec_len run.bench.files ≡ file_count }
     requires file { IsFileDevice file }
     ensures restores { IfOk result (λ next. PutsBack (file_number file) (saved_of run.saved mark.now (file_number file)) (bench_state F.state R.state run.bench) (bench_state F.state R.state next.bench)) }
-    ensures whole { IfOk result (λ next. vec_len next.bench.files ≡ 273) }
+    ensures whole { IfOk result (λ next. vec_len next.bench.files ≡ file_count) }
     ensures others { IfOk result (λ next. next ≡ record run { bench = next.bench }) }
     ensures err { IfErr result (λ end. end.status ≡ Status.NoMemory) }
     ensures same { IfErr result (λ end. bench_state F.state R.state end.bench ≡ bench_state F.state R.state run.bench) }
-    ensures whole_err { IfErr result (λ end. vec_len end.bench.files ≡ 273) }
+    ensures whole_err { IfErr result (λ end. vec_len end.bench.files ≡ file_count) }
 {
     let mut run = run;
     match restore_from(&run.saved, mark, file, &mut run.bench) {
@@ -143,10 +144,10 @@ fn flip_bench<F: FileRig + Drop, R: CardRig + Drop>(
     mask: &Bytes,
     run: Run<F, R>,
 ) -> Run<F, R>
-    requires whole { vec_len run.bench.files ≡ 273 }
+    requires whole { vec_len run.bench.files ≡ file_count }
     requires file { IsFileDevice file }
     ensures flips { FlipsFile (file_number file) at mask.now (bench_state F.state R.state run.bench) (bench_state F.state R.state result.bench) }
-    ensures whole { vec_len result.bench.files ≡ 273 }
+    ensures whole { vec_len result.bench.files ≡ file_count }
     ensures others { result ≡ record run { bench = result.bench } }
 {
     let mut run = run;
@@ -159,13 +160,13 @@ fn crash_bench<F: FileRig + Drop, R: CardRig + Drop>(
     seed: u64,
     run: Run<F, R>,
 ) -> Result<Run<F, R>, RunEnd<F, R>>
-    requires { vec_len run.bench.files ≡ 273 }
+    requires { vec_len run.bench.files ≡ file_count }
     ensures crashes { IfOk result (λ next. Crashes F.crash_image seed (bench_state F.state R.state run.bench) (bench_state F.state R.state next.bench)) }
-    ensures whole { IfOk result (λ next. vec_len next.bench.files ≡ 273) }
+    ensures whole { IfOk result (λ next. vec_len next.bench.files ≡ file_count) }
     ensures others { IfOk result (λ next. next ≡ record run { bench = next.bench }) }
     ensures err { IfErr result (λ end. end.status ≡ Status.NoMemory) }
     ensures in_part { IfErr result (λ end. CrashesInPart F.crash_image seed (bench_state F.state R.state run.bench) (bench_state F.state R.state end.bench)) }
-    ensures whole_err { IfErr result (λ end. vec_len end.bench.files ≡ 273) }
+    ensures whole_err { IfErr result (λ end. vec_len end.bench.files ≡ file_count) }
 {
     let mut run = run;
     match crash_files(&mut run.bench, seed) {
@@ -185,7 +186,7 @@ fn do_list<K: Sink, F: FileRig + Drop, R: CardRig + Drop, E: Entropy + Drop>(
     keys: &Keys,
     entropy: &mut E,
 ) -> Result<Run<F, R>, RunEnd<F, R>>
-    requires whole { vec_len run.bench.files ≡ 273 }
+    requires whole { vec_len run.bench.files ≡ file_count }
     requires place { run.at < 16777216 }
     ensures ok { (first : E) → (E.is_reliable first → E.is_reliable entropy.old) → (script : ScriptValue) → IsReady script run → IsNext script run (ControlStep ListControl)
         → IfOk result (GoesOn F.state R.state F.crash_image (E.is_reliable first) keys.now script (K.held sink.old) (K.held sink.new) run) }

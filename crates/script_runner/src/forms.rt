@@ -14,6 +14,8 @@ pub enum Form {
     Run,
     /// `soak N`: the script follows from the number.
     Soak(u32),
+    /// `migrate`: the store is moved into files of the current format.
+    Migrate,
 }
 
 /// The soak of the number that the word is.
@@ -29,13 +31,15 @@ pub fn form_of(words: &[String]) -> Option<Form>
 {
     match words {
         [word] if word.as_bytes() == b"run".as_slice() => Some(Form::Run),
+        [word] if word.as_bytes() == b"migrate".as_slice() => Some(Form::Migrate),
         [word, number] if word.as_bytes() == b"soak".as_slice() => soak_of(number),
         _ => None,
     }
 }
 
-/// `run` is a form of the command line, and so is `soak 1`.
+/// `run` is a form of the command line, and so are `migrate` and `soak 1`.
 pub fn words_have_forms()
     ensures run { form_of (codes "run" ∷ []) ≡ Some Form.Run }
+    ensures migrate { form_of (codes "migrate" ∷ []) ≡ Some Form.Migrate }
     ensures soak { form_of (codes "soak" ∷ codes "1" ∷ []) ≡ Some (Form.Soak 1) }
 {}

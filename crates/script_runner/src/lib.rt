@@ -1,5 +1,6 @@
 //! The whole run of trusted storage: a script is read from a source, its acts are done on the files and the card, and the history of calls
-//! and replies goes to a sink. Or the script follows from a number, and five lines say what came of it.
+//! and replies goes to a sink. Or the script follows from a number, and five lines say what came of it. Or a store of an old format is
+//! migrated, and its objects are listed.
 //!
 //! The program `tee_run` is `run` over the standard streams and the simulated devices (`blank_bench`): files in memory, and a card that has
 //! its key.
@@ -10,6 +11,7 @@ mod acts;
 mod card_port;
 mod controls;
 mod forms;
+mod migration_run;
 mod mount_refusal;
 mod phase_act;
 mod phase_text;
@@ -27,9 +29,9 @@ pub use card_port::CardPort;
 pub use forms::{Form, form_of, words_have_forms};
 pub use phase_text::{send_control, send_lines, send_phase};
 pub use record_laws::{
-    formatted_runs_stand, opened_runs_are_of_machine, quiet_runs_are_of_machine, quiet_runs_end,
-    records_find_left, refusals_are_of_devices, runs_count_as_armed, runs_hold_left,
-    runs_stand_behind,
+    formatted_runs_stand, migrations_end, opened_runs_are_of_machine, quiet_runs_are_of_machine,
+    quiet_runs_end, records_find_left, refusals_are_of_devices, runs_count_as_armed,
+    runs_hold_left, runs_stand_behind,
 };
 pub use run_acts::{Bench, Shown, ShownObject, card_block, print_object};
 pub use run_state::RunEnd;

@@ -36,6 +36,7 @@ pub(crate) fn print_mount_refusal<K: Sink>(fault: MountFault, sink: &mut K, kept
         }
         MountFault::NoStore
         | MountFault::CardBlock { .. }
+        | MountFault::OldFormat { .. }
         | MountFault::Directory(_)
         | MountFault::Frame(_)
         | MountFault::CardResult(_) => match put_refusal(&fault, sink, &mut kept) {

@@ -1,8 +1,10 @@
 //! Laws of runs. Each function does nothing: its contract is the law.
 
+ghost use Rattle.std.specs.Prelude.{◌⊎◌};
 ghost use Rattle.tee_ports.specs.Faults.{Rose};
 ghost use Rattle.script_runner.specs.CountLaws.{RunsCountAsArmed};
 ghost use Rattle.script_runner.specs.HeldRuns.{FormattedRunsStand, RunsHoldLeft};
+ghost use Rattle.script_runner.specs.MigrationLaws.{MigrationsEnd};
 ghost use Rattle.script_runner.specs.QuietLaws.{OpenedRunsAreOfMachine, QuietRunsAreOfMachine};
 ghost use Rattle.script_runner.specs.RecordLaws.{RecordsFindLeft, RefusalsAreOfDevices};
 ghost use Rattle.script_runner.specs.RunLaws.{QuietRunsEnd, RunsStandBehind};
@@ -82,4 +84,10 @@ pub fn formatted_runs_stand<S: Source, K: Sink, F: FileRig, R: RpmbPort, E: Entr
       sink_failed = Rose (K.faults held) (K.faults sink);
       sink_full = K.is_full sink;
     }) }
+{}
+
+/// A migration over files that stay honest and a card that has the key, and room for what there is to move, of which no count of faults rose,
+/// ends with the status 0, or for want of memory: whatever a crash might leave of the bench mounted.
+pub fn migrations_end<K: Sink, F: FileRig, R: RpmbPort>()
+    ensures { (held sink : K) → MigrationsEnd F.state R.state (Rose (K.faults held) (K.faults sink) ⊎ K.is_full sink) }
 {}

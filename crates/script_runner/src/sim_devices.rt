@@ -2,6 +2,7 @@
 
 ghost use Rattle.std.specs.Prelude.{◌≡◌, vec_len, All, IfOk, IsTrue, Some};
 ghost use Rattle.hmac_keys.specs.KeyTable.{rpmb_key};
+ghost use Rattle.tee_types.specs.Limits.{file_count};
 ghost use Rattle.mem_files.specs.Machine.{fresh};
 ghost use Rattle.mem_files.specs.Memory.{file_state};
 ghost use Rattle.rpmb_card.specs.Arms.{no_arms};
@@ -18,7 +19,7 @@ use rpmb_card::{PROGRAM_KEY, SimCard, empty_frame};
 use rpmb_frame::Frame;
 use run_acts::Bench;
 use std::alloc::{AllocError, Global};
-use tee_types::FILES;
+use tee_types::BENCH_FILES;
 
 /// A bench of the simulator.
 pub type SimBench = Bench<MemFile, CardPort>;
@@ -59,21 +60,21 @@ fn empty_files(alloc: Global, count: usize) -> Result<Vec<MemFile>, AllocError>
     Ok(files)
 }
 
-/// The devices as they are made: 273 empty files, and a card that has the key, whose counter is 0 and whose blocks are zero. No fault is armed,
+/// The devices as they are made: 274 empty files, and a card that has the key, whose counter is 0 and whose blocks are zero. No fault is armed,
 /// and none was counted.
 ///
 /// # Errors
 ///
 /// Memory ran out.
 pub fn blank_bench(alloc: Global) -> Result<SimBench, AllocError>
-    ensures whole { IfOk result (λ bench. vec_len bench.files ≡ 273) }
+    ensures whole { IfOk result (λ bench. vec_len bench.files ≡ file_count) }
     ensures files { IfOk result (λ bench. All (λ file. file_state file ≡ fresh) bench.files.items) }
     ensures card { IfOk result (λ bench. HasCard (card_port_state bench.card) (rpmb_key simulator_keys.huk) keyed_card) }
     ensures calm { IfOk result (λ bench. IsTrue (card_port_state bench.card).calm) }
     ensures arms { IfOk result (λ bench. (card_port_state bench.card).arms ≡ no_arms) }
     ensures faults { IfOk result (λ bench. (card_port_state bench.card).faults ≡ 0) }
 {
-    let files = empty_files(alloc, FILES)?;
+    let files = empty_files(alloc, BENCH_FILES)?;
     let card = CardPort::new(alloc, keyed_card())?;
     Ok(Bench { files, card })
 }

@@ -2,12 +2,13 @@
 
 ghost use Rattle.std.specs.Prelude.{◌≡◌, ◌⊎◌, ◌≤◌, ℕ, List, vec_len, IfErr, IfOk};
 ghost use Rattle.tee_ports.specs.Faults.{Rose};
+ghost use Rattle.tee_types.specs.Limits.{file_count};
 ghost use Rattle.run_acts.specs.Benches.{bench_state};
 ghost use Rattle.store_model.specs.Object.{ObjectMap};
 ghost use Rattle.run_acts.specs.ListedBenches.{IsListRefused, ListsBench};
 ghost use Rattle.script_runner.specs.Soaks.{GoesThrough, IsBroken, RunsSoak, PrintsObjects};
 
-use crate::act_text::print_soak_lines;
+use crate::act_text::print_last_lines;
 use crate::mount_refusal::print_mount_refusal;
 use crate::phase_act::calls_from;
 use crate::run_state::RunEnd;
@@ -40,13 +41,13 @@ fn print_soak<F: FileRig + Drop, R: CardRig + Drop, E: Entropy + Drop>(
     keys: &Keys,
     entropy: &mut E,
 ) -> Result<Soaked<F, R>, Halted<F, R>>
-    requires { vec_len bench.files ≡ 273 }
+    requires { vec_len bench.files ≡ file_count }
     ensures ok { IfOk result (λ s. PrintsObjects F.state R.state keys.now number history.now.events (bench_state F.state R.state bench) (bench_state F.state R.state s.bench) s.lines.items) }
     ensures err { IfErr result (λ h. ((h.fault ≡ MountFault.NoMemory) × ((objects : ObjectMap) × (lines : List ℕ)
         × ListsBench F.state R.state keys.now (bench_state F.state R.state bench) (bench_state F.state R.state h.bench) objects lines))
         ⊎ IsListRefused F.state R.state keys.now (bench_state F.state R.state bench) (bench_state F.state R.state h.bench) (E.faults entropy.old) (E.faults entropy.new) h.fault) }
-    ensures whole { IfOk result (λ s. vec_len s.bench.files ≡ 273) }
-    ensures whole_err { IfErr result (λ h. vec_len h.bench.files ≡ 273) }
+    ensures whole { IfOk result (λ s. vec_len s.bench.files ≡ file_count) }
+    ensures whole_err { IfErr result (λ h. vec_len h.bench.files ≡ file_count) }
 {
     match list_objects(alloc, bench, keys, entropy) {
         Ok(
@@ -80,13 +81,13 @@ fn soak_opened<
     keys: &Keys,
     entropy: &mut E,
 ) -> Result<Soaked<F, R>, Halted<F, R>>
-    requires { vec_len bench.files ≡ 273 }
+    requires { vec_len bench.files ≡ file_count }
     ensures ok { (first : E) → (E.is_reliable first → E.is_reliable entropy.old) → IfOk result (λ s. GoesThrough F.state R.state F.crash_image (E.is_reliable first) keys.now number
         (bench_state F.state R.state bench) (bench_state F.state R.state s.bench) s.lines.items) }
     ensures err { (first : E) → (E.is_reliable first → E.is_reliable entropy.old) → IfErr result (λ h. IsBroken F.state R.state F.crash_image (E.is_reliable first) keys.now number
         (E.faults entropy.old) (E.faults entropy.new) (bench_state F.state R.state bench) (bench_state F.state R.state h.bench) h.fault) }
-    ensures whole { IfOk result (λ s. vec_len s.bench.files ≡ 273) }
-    ensures whole_err { IfErr result (λ h. vec_len h.bench.files ≡ 273) }
+    ensures whole { IfOk result (λ s. vec_len s.bench.files ≡ file_count) }
+    ensures whole_err { IfErr result (λ h. vec_len h.bench.files ≡ file_count) }
 {
     let Ok(script) = soak_script(alloc, number) else {
         let fault = MountFault::NoMemory;
@@ -129,11 +130,11 @@ pub(crate) fn run_soak<
     keys: &Keys,
     entropy: &mut E,
 ) -> RunEnd<F, R>
-    requires { vec_len bench.files ≡ 273 }
+    requires { vec_len bench.files ≡ file_count }
     ensures soak { RunsSoak F.state R.state F.crash_image (E.is_reliable entropy.old) keys.now number (E.faults entropy.old) (E.faults entropy.new)
         (Rose (K.faults sink.old) (K.faults sink.new) ⊎ K.is_full sink.new) (K.held sink.old) (K.held sink.new)
         (bench_state F.state R.state bench) (bench_state F.state R.state result.bench) result.status }
-    ensures whole { vec_len result.bench.files ≡ 273 }
+    ensures whole { vec_len result.bench.files ≡ file_count }
 {
     let bench = match open_bench(alloc, bench, keys, entropy) {
         Ok(bench) => bench,
@@ -144,7 +145,7 @@ pub(crate) fn run_soak<
     };
     match soak_opened(rt, alloc, number, bench, keys, entropy) {
         Ok(Soaked { bench, lines }) => {
-            let status = print_soak_lines(lines, sink);
+            let status = print_last_lines(lines, sink);
             RunEnd { status, bench }
         }
         Err(Halted { bench, fault }) => {

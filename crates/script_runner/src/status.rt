@@ -55,7 +55,7 @@ pub fn status_text(status: &Status) -> &'static str
 {
     match status {
         Status::Done => "",
-        Status::Usage => "usage: tee_run run | tee_run soak N",
+        Status::Usage => "usage: tee_run run | tee_run soak N | tee_run migrate",
         Status::BadLine(_) => "bad line",
         Status::ReadFault => "read fault",
         Status::WriteFault => "write fault",

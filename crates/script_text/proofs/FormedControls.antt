@@ -5,6 +5,7 @@ use Rattle.std.specs.Option.{option_map}
 use Rattle.std.specs.Str.Parse.{digits_value}
 use Rattle.std.proofs.lemmas.Bool.{and_parts}
 use Rattle.std.proofs.lemmas.Bool.Decides.{nat_tests}
+use Rattle.tee_types.specs.Limits.{IsObjectFile, last_file}
 use Rattle.tee_types.specs.declared.reply.Device.{Device}
 use Rattle.tee_types.specs.declared.reply.Device.TheVariants.{Dir, File, Card, Entropy}
 use Rattle.script_text.specs.declared.controls.ControlVerb.{ControlVerb}
@@ -42,7 +43,7 @@ positive-within greatest word n is =
     let least = positive-least read.0 n read.2 in
     (least.1, subst (λ v. v ≤ greatest) least.0 (numeral-most 10 greatest word read.0 read.1))
 
-numbered-file : (file : Option ℕ) (device : Device) → ((n : ℕ) → file ≡ Some n → (1 ≤ n) × (n ≤ 272)) → option_map File file ≡ Some device → IsFileDevice device
+numbered-file : (file : Option ℕ) (device : Device) → ((n : ℕ) → file ≡ Some n → IsObjectFile n) → option_map File file ≡ Some device → IsFileDevice device
 numbered-file (Some n) device within is = let same : File n ≡ device = cc (is) in subst IsFileDevice same (within n refl)
 numbered-file None device within is = absurd (cc (is))
 
@@ -50,9 +51,9 @@ file-formed : (word : List ℕ) (device : Device) → file_of word ≡ Some devi
 unfolding file_of
 file-formed word device is = one (same_word word (codes "dir")) is
   where
-    one : (a : Bool) → cond a (Some Dir) (option_map File (positive_of 272 word)) ≡ Some device → IsFileDevice device
+    one : (a : Bool) → cond a (Some Dir) (option_map File (positive_of last_file word)) ≡ Some device → IsFileDevice device
     one true is = let same : Dir ≡ device = cc (is) in subst IsFileDevice same tt
-    one false is = numbered-file (positive_of 272 word) device (positive-within 272 word) is
+    one false is = numbered-file (positive_of last_file word) device (positive-within last_file word) is
 
 -- a file can be armed
 file-armable : (device : Device) → IsFileDevice device → IsArmable device

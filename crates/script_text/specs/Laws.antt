@@ -1,5 +1,6 @@
 -- What holds of every script.
 use Rattle.std.specs.Prelude.{◌≡◌, ◌≤◌, ◌<◌, ◌^◌, ℕ, true, List, length, take, slice_get, All, Some, Ok}
+use Rattle.tee_types.specs.Limits.{IsObjectFile}
 use Rattle.tee_types.specs.declared.reply.Device.{Device}
 use Rattle.tee_types.specs.declared.reply.Device.TheVariants.{Dir, File, Card, Entropy}
 use Rattle.store_model.specs.Sound.{AreBytes, IsCall}
@@ -16,14 +17,14 @@ use Rattle.script_text.specs.Grammar.{script_of}
 -- the device can be armed: it is the directory's file, an object's file or the card
 abbrev pub IsArmable : Device → Type 0
 IsArmable Dir = Unit {0}
-IsArmable (File number) = (1 ≤ number) × (number ≤ 272)
+IsArmable (File number) = IsObjectFile number
 IsArmable Card = Unit {0}
 IsArmable Entropy = ⊥
 
 -- the device is a file: the directory's or an object's
 abbrev pub IsFileDevice : Device → Type 0
 IsFileDevice Dir = Unit {0}
-IsFileDevice (File number) = (1 ≤ number) × (number ≤ 272)
+IsFileDevice (File number) = IsObjectFile number
 IsFileDevice Card = ⊥
 IsFileDevice Entropy = ⊥
 

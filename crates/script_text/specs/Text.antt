@@ -1,5 +1,5 @@
 -- The text of a run.
-use Rattle.std.specs.Prelude.{ℕ, ◌+◌, List, [], ◌∷◌, ◌++◌, codes, decimal, slice_get, unwrap_or}
+use Rattle.std.specs.Prelude.{ℕ, ◌+◌, Bool, cond, List, [], ◌∷◌, ◌++◌, codes, decimal, slice_get, unwrap_or}
 use Rattle.std.specs.Option.{option_map}
 use Rattle.store_model.specs.declared.event.Event.{Event}
 use Rattle.store_model.specs.declared.event.Event.TheVariants.{Call as CallEvent, Landed}
@@ -26,6 +26,10 @@ events_text script place (event ∷ events) = event_text script place event ++ e
 -- the line before a phase's history
 unfoldable pub phase_line : ℕ → Mode → ℕ → List ℕ
 phase_line number mode objects = codes "# phase " ++ decimal number ++ codes " " ++ mode_text mode ++ codes " objects " ++ decimal objects ++ codes "\n"
+
+-- the line of a migration: 1 where the directory was moved, else 0, and how many objects were
+unfoldable pub migration_line : Bool → ℕ → List ℕ
+migration_line directory objects = codes "# migrated directory " ++ decimal (cond directory 1 0) ++ codes " objects " ++ decimal objects ++ codes "\n"
 
 -- the line of a control that is done
 abbrev pub control_line : Control → List ℕ

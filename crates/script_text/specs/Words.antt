@@ -9,6 +9,7 @@ use Rattle.std.specs.Result.{result_ok}
 use Rattle.std.specs.Str.Parse.{digits_value, starts_with_minus, without_leading_plus}
 use Rattle.hex.specs.Hex.{decode_of}
 use Rattle.uuid.specs.Text.{parsed}
+use Rattle.tee_types.specs.Limits.{last_file}
 use Rattle.tee_types.specs.declared.flags.Flags.{Flags}
 use Rattle.tee_types.specs.Rights.{read_bit, write_bit, write_meta_bit, share_read_bit, share_write_bit, overwrite_bit}
 use Rattle.tee_types.specs.declared.reply.Device.{Device}
@@ -103,7 +104,7 @@ seed_of word = numeral_of 10 18446744073709551615 word
 
 -- FILE: `dir`, or the number of an object's file, 1 to 272
 unfoldable pub file_of : List ℕ → Option Device
-file_of word = if same_word word (codes "dir") then Some Dir else option_map File (positive_of 272 word)
+file_of word = if same_word word (codes "dir") then Some Dir else option_map File (positive_of last_file word)
 
 -- DEVICE: a file, or `card`
 unfoldable pub device_of : List ℕ → Option Device

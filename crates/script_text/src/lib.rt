@@ -1,7 +1,7 @@
 //! Scripts of applications and the text of a run: the grammar both ways.
 //!
-//! `parse` reads a script. `print_phase`, `print_event` and `print_control` write the lines of a run, and the `put_` functions the words of a
-//! line.
+//! `parse` reads a script. `print_phase`, `print_event`, `print_control` and `print_migration` write the lines of a run, and the `put_`
+//! functions the words of a line.
 #![tactic(auto)]
 
 mod append_text;
@@ -19,6 +19,6 @@ mod words;
 pub use append_text::{
     put, put_bytes, put_hex, put_number, put_word_bytes, put_word_hex, put_word_number,
 };
-pub use print_lines::{print_control, print_event, print_phase};
+pub use print_lines::{print_control, print_event, print_migration, print_phase};
 pub use reading::{ScriptFault, parse};
 pub use script::{Arm, Control, Mode, Script, Step};

@@ -2,7 +2,7 @@
 
 ghost use Rattle.std.specs.Prelude.{◌≡◌, ◌++◌, length, take, codes, decimal, OnOk, OnErr};
 ghost use Rattle.script_text.specs.Forms.{reply_text};
-ghost use Rattle.script_text.specs.Text.{event_text, phase_line, control_line, name_at};
+ghost use Rattle.script_text.specs.Text.{event_text, phase_line, control_line, migration_line, name_at};
 
 use crate::append_text::{put, put_number, put_two, put_word_number};
 use crate::print_call::{mode_name, put_call, put_control};
@@ -107,6 +107,30 @@ pub fn print_phase(number: u64, mode: Mode, objects: u16, out: &mut Vec<u8>) -> 
 {
     let before = out.len();
     let printed = put_phase(out, number, mode, objects);
+    if printed.is_err() {
+        out.truncate(before);
+    }
+    printed
+}
+
+/// Appends the line of a migration. A refusal may leave a part of it behind the old text.
+#[tactic(auto, unfolding(crate::specs::Text::migration_line))]
+fn put_migration(out: &mut Vec<u8>, directory: bool, objects: u16) -> Result<(), NoMemory>
+    ensures ok { OnOk result (out.new.items ≡ out.old.items ++ migration_line directory objects) }
+    ensures kept { take (length out.old.items) out.new.items ≡ out.old.items }
+{
+    put_word_number(out, b"# migrated directory ", u64::from(directory))?;
+    put_word_number(out, b" objects ", u64::from(objects))?;
+    put(out, b"\n")
+}
+
+/// Appends the line of a migration. A refusal leaves the text as it was.
+pub fn print_migration(directory: bool, objects: u16, out: &mut Vec<u8>) -> Result<(), NoMemory>
+    ensures ok { OnOk result (out.new.items ≡ out.old.items ++ migration_line directory objects) }
+    ensures err { OnErr result (out.new.items ≡ out.old.items) }
+{
+    let before = out.len();
+    let printed = put_migration(out, directory, objects);
     if printed.is_err() {
         out.truncate(before);
     }

@@ -1,5 +1,5 @@
 -- An object that was made may be brought to the gate, with the slot's new seat.
-use Rattle.std.proofs.Common.{List, None, Option, Some, subst, sym, ℕ, ◌+◌, ◌<◌, ◌∙◌, ◌≡◌, ◌≤◌}
+use Rattle.std.proofs.Common.{List, None, Option, Some, subst, sym, ℕ, ◌+◌, ◌<◌, ◌∙◌, ◌≡◌}
 use Rattle.std.specs.Prelude.{IfSome, length}
 use Rattle.call_steps.specs.CallerSessions.{CallerSession}
 use Rattle.call_rules.specs.declared.decision.NewPlace.{NewPlace}
@@ -27,7 +27,7 @@ use Rattle.rpmb_card.specs.Protocol.{last_counter}
 use Rattle.node_image.specs.declared.node.RootRef.{RootRef}
 use Rattle.call_steps.specs.Gates.{GateValue}
 use Rattle.core_laws.specs.Stores.{Store}
-use Rattle.tee_types.specs.Limits.{last_file}
+use Rattle.tee_types.specs.Limits.{IsObjectFile}
 use Rattle.tee_types.specs.declared.reply.Reply.TheVariants.{Handle}
 
 module _ {F R E : Type 0} (store : Store) (gate : GateValue F R) (knows : GateView) (closing : Option Closing) (guarded : GateInvariant store gate knows closing) (idle : gate.doubt ≡ None)
@@ -64,7 +64,7 @@ module _ {F R E : Type 0} (store : Store) (gate : GateValue F R) (knows : GateVi
     rule = may.rule;
     place_is = may.place_is;
     unnamed = subst (IsUnnamed gate.dir.dir.entries) (sym own.own) reserved.unnamed;
-    numbered = subst (λ (n : ℕ). (1 ≤ n) × (n ≤ last_file)) (sym own.own) reserved.numbered;
+    numbered = subst IsObjectFile (sym own.own) reserved.numbered;
     generation = view_generation;
     short = may.short;
     few = may.few;
@@ -85,7 +85,7 @@ module _ {F R E : Type 0} (store : Store) (gate : GateValue F R) (knows : GateVi
     seat = fresh.seat;
     is = fresh.is;
     number = own.own;
-    commit = creates_commit F R E store gate knows closing caller object.id object.flags object.attributes object.bytes place view made.next root slot.file at_place made.of made.real made.bit;
+    commit = creates_commit F R E store gate knows closing caller object.id object.flags object.attributes object.bytes place view made.next root slot.file at_place made.of made.real made.current;
     committable = new_committable store slot fresh.seat made.next staged made.vacant;
     sees = fresh.sees;
   }

@@ -1,7 +1,7 @@
 -- What a commit on an object leaves of the store that serves it.
 use Rattle.std.proofs.Common.{◌≡◌, ℕ, List, None, Option, Some, refl, sym, ap, ◌∙◌, subst}
+use Rattle.tee_types.specs.Limits.{IsObjectFile}
 use Rattle.call_steps.specs.CallerSessions.{CallerSession, session_value}
-use Rattle.core_laws.specs.Joined.{IsObjectFile}
 use Rattle.crash_core.specs.EntryChanges.{file_put}
 use Rattle.disk_model.specs.State.{FileState}
 use Rattle.history_seats.specs.Views.{GateView}

@@ -1,6 +1,7 @@
 -- What a create leaves of the store that serves it.
 use Rattle.std.proofs.Common.{◌≡◌, ◌<◌, ◌++◌, ◌∷◌, ◌+◌, [], ℕ, List, Err, None, Ok, Result, Some, length, slice_index_or, refl, sym, ap, ◌∙◌, subst, inl, inr}
 use Rattle.std.specs.Prelude.{slice_set}
+use Rattle.tee_types.specs.Limits.{IsObjectFile}
 use Rattle.call_steps.specs.CallerSessions.{CallerSession, IsCallerOf}
 use Rattle.call_rules.specs.declared.decision.NewPlace.{NewPlace}
 use Rattle.serial_calls.specs.Created.{Creates, IsAnsweredOrNot, IsUntold}
@@ -24,7 +25,6 @@ use Rattle.call_steps.specs.Holds.{file_held}
 use Rattle.call_steps.specs.declared.EntryChange.{EntryChange}
 use Rattle.call_steps.specs.declared.EntryChange.TheVariants.{Put}
 use Rattle.store_model.specs.declared.event.Mark.{Mark}
-use Rattle.core_laws.specs.Joined.{IsObjectFile}
 use Rattle.core_laws.specs.Stores.{Store}
 use Rattle.tee_types.specs.declared.call.Call.{Call}
 use Rattle.tee_types.specs.declared.reply.Cause.TheVariants.{CardResult, Fault, Frame}

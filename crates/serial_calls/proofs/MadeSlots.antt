@@ -8,6 +8,7 @@ use Rattle.disk_model.specs.State.{FileState}
 use Rattle.history_seats.specs.Records.{Version}
 use Rattle.call_steps.specs.NewObjects.{IsNewVersion, NewLeaves}
 use Rattle.call_steps.specs.GuardedStages.{IsStagedSlot}
+use Rattle.node_image.specs.References.{IsCurrent}
 use Rattle.node_image.specs.declared.node.RootRef.{RootRef}
 use Rattle.call_steps.proofs.CommittableSlots.{next_object}
 use Rattle.call_steps.specs.Makes.{MakesObject}
@@ -22,12 +23,12 @@ made_slot store old slot app attributes bytes tsk root key makes leaves =
     let next : Version = left.0 in
     let staged : IsStagedSlot store slot next = left.1 in
     let of : IsNewVersion next app attributes bytes root = left.2 in
-    let low : root.version < 2 = subst (λ (n : ℕ). n < 2) (sym makes.leaves.2.version) (lit< tt) in
+    let current : IsCurrent root = (subst (λ (n : ℕ). n < 2) (sym makes.leaves.2.version) (lit< tt), makes.leaves.2.format) in
     record {
       next = next;
       of = of;
       real = (next_object store.keys slot.file slot.holds next staged.has staged.after).of_next.real;
-      bit = subst (λ (r : RootRef). r.version < 2) (sym of.root_is) low;
+      current = subst IsCurrent (sym of.root_is) current;
       staged = staged;
       vacant = subst (λ (h : Holding). IsFree (without_stage h)) (sym makes.leaves.1) tt;
     }

@@ -2,8 +2,8 @@
 use Rattle.std.proofs.Common.{◌≡◌, ◌+◌, ◌-◌, ◌<◌, ℕ, List, Err, IfOk, Ok, Result, Some, length, slice_index_or, refl, sym, ap, ◌∙◌, subst, inl, arith}
 use Rattle.std.specs.Prelude.{slice_set}
 use Rattle.std.proofs.lemmas.List.{get_or_default}
+use Rattle.tee_types.specs.Limits.{IsObjectFile}
 use Rattle.call_steps.specs.CallerSessions.{CallerSession, IsCallerOf, session_value}
-use Rattle.core_laws.specs.Joined.{IsObjectFile}
 use Rattle.disk_model.specs.Calls.{GoesOn as FileGoesOn}
 use Rattle.disk_model.specs.Faults.{Rose}
 use Rattle.disk_model.specs.State.{FileState}

@@ -1,7 +1,7 @@
 -- The event that a served call appends.
 use Rattle.std.specs.Prelude.{Some, [], length, ℕ, ◌+◌, ◌++◌, ◌∷◌, ◌≡◌}
+use Rattle.tee_types.specs.Limits.{IsObjectFile}
 use Rattle.call_steps.specs.CallerSessions.{CallerSession, IsCallerOf, session_value}
-use Rattle.core_laws.specs.Joined.{IsObjectFile}
 use Rattle.call_steps.specs.Seen.{GoesOn}
 use Rattle.history_seats.specs.Records.{HistoryRecord}
 use Rattle.call_steps.specs.declared.PlacedReply.{PlacedReply}

@@ -1,18 +1,18 @@
 -- The file of a new object, while the session holds it.
-use Rattle.std.specs.Prelude.{List, None, Option, Some, slice_set, ℕ, ◌<◌, ◌≡◌, ◌≤◌}
+use Rattle.std.specs.Prelude.{List, None, Option, Some, slice_set, ℕ, ◌<◌, ◌≡◌}
 use Rattle.crash_core.specs.EntryLists.{IsUnnamed}
 use Rattle.call_steps.specs.GuardedGates.{GuardedGateValue}
 use Rattle.call_steps.specs.Gates.{GateValue}
 use Rattle.call_steps.specs.Holds.{file_held}
 use Rattle.call_steps.specs.declared.Doubted.{Doubted}
-use Rattle.tee_types.specs.Limits.{last_file}
+use Rattle.tee_types.specs.Limits.{IsObjectFile}
 
 -- The session holds that object's file, which no entry names.
 pub record IsReserved {F R : Type 0} (gate : GateValue F R) (session file : ℕ) : Type 0 where
   pub within : session < 16
   pub held : file_held gate.holds session ≡ Some file
   pub unnamed : IsUnnamed gate.dir.dir.entries file
-  pub numbered : (1 ≤ file) × (file ≤ last_file)
+  pub numbered : IsObjectFile file
 
 -- what is held once the session holds nothing
 abbrev pub released : (session : ℕ) → List (Option ℕ) → List (Option ℕ)

@@ -43,8 +43,8 @@ pub use Rattle.call_steps.specs.Gates
 pub use Rattle.core_laws.specs.Given
 pub use Rattle.call_steps.specs.GuardedReads
 pub use Rattle.call_steps.specs.InfoAnswers
-pub use Rattle.core_laws.specs.Joined
 pub use Rattle.call_steps.specs.Journals
+pub use Rattle.call_steps.specs.CurrentFiles
 pub use Rattle.call_steps.specs.GuardedGates
 pub use Rattle.call_steps.specs.GuardedSlots
 pub use Rattle.call_steps.specs.NameLaws

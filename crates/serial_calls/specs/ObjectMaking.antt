@@ -10,6 +10,7 @@ use Rattle.history_seats.specs.Records.{Version}
 use Rattle.htree_file.specs.Answers.{FilePassed}
 use Rattle.call_steps.specs.NewObjects.{IsNewVersion}
 use Rattle.call_steps.specs.GuardedStages.{IsStagedSlot}
+use Rattle.node_image.specs.References.{IsCurrent, current_format}
 use Rattle.node_image.specs.declared.node.RootRef.{RootRef}
 use Rattle.call_steps.specs.declared.SlotFault.{SlotFault}
 use Rattle.call_steps.specs.SlotValues.{IsFree, SlotValue, without_stage}
@@ -26,7 +27,7 @@ entry_by app id root file generation attributes size = record {
   hash = root.hash;
   size = size;
   attributes = attributes;
-  format = 1;
+  format = current_format;
   generation = generation;
 }
 
@@ -35,7 +36,7 @@ pub record IsMadeSlot (store : Store) (slot : SlotValue) (app attributes bytes :
   pub next : Version
   pub of : IsNewVersion next app attributes bytes root
   pub real : IsReal store.keys next
-  pub bit : next.root.version < 2
+  pub current : IsCurrent next.root
   pub staged : IsStagedSlot store slot next
   pub vacant : IsFree (without_stage slot.holds)
 

@@ -5,6 +5,7 @@ ghost use Rattle.serial_calls.specs.ChangeChecks.{ChecksChange};
 ghost use Rattle.serial_calls.specs.ChangeReplies.{reply_of_check};
 ghost use Rattle.serial_calls.specs.ChangeStaging.{resizing, writing};
 ghost use Rattle.crash_core.specs.DeviceKeys.{object_key};
+ghost use Rattle.node_image.specs.References.{current_format};
 ghost use Rattle.dir_records.specs.Form.{HasForm};
 ghost use Rattle.disk_model.specs.Calls.{Rests};
 ghost use Rattle.history_seats.specs.Records.{Version};
@@ -94,6 +95,7 @@ pub(crate) fn check_write_object<F: StoreFile + Drop, L: StoreName>(
 ) -> Result<Reply, NoMemory>
     requires guarded { SlotInvariant L.store slot.old }
     requires form { HasForm entry.now }
+    requires current { entry.now.format ≡ current_format }
     requires given { GivesEntry slot.old entry.now }
     requires key { tsk.now ≡ object_key L.store.keys entry.now.app }
     requires fits { start + length bytes.now ≤ 1044480 }
@@ -124,6 +126,7 @@ pub(crate) fn check_truncate_object<F: StoreFile + Drop, L: StoreName>(
 ) -> Result<Reply, NoMemory>
     requires guarded { SlotInvariant L.store slot.old }
     requires form { HasForm entry.now }
+    requires current { entry.now.format ≡ current_format }
     requires given { GivesEntry slot.old entry.now }
     requires key { tsk.now ≡ object_key L.store.keys entry.now.app }
     requires fits { size ≤ 1044480 }

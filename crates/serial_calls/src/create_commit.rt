@@ -23,7 +23,7 @@ use call_steps::{
 };
 use core_laws::StoreName;
 use dir_records::DirEntry;
-use node_image::RootRef;
+use node_image::{FORMAT, RootRef};
 use rpmb_card::RpmbPort;
 use store_model::ObjectName;
 use tee_ports::{Entropy, StoreFile};
@@ -62,7 +62,7 @@ fn entry_of<F: StoreFile + Drop>(
         hash,
         size: bytes.len() as u32,
         attributes: attributes.len() as u16,
-        format: 1,
+        format: FORMAT,
         generation: slot.generation(),
     }
 }

@@ -12,6 +12,7 @@ ghost use Rattle.serial_calls.specs.ChangeCauses.{HasStageCause};
 ghost use Rattle.serial_calls.specs.Changed.{AnswersStaged, IsChangedOrNot};
 ghost use Rattle.serial_calls.specs.ChangeStaging.{StagesChange, StagesEntry, resizing};
 ghost use Rattle.crash_core.specs.DeviceKeys.{object_key};
+ghost use Rattle.node_image.specs.References.{current_format};
 ghost use Rattle.dir_records.specs.Form.{HasForm};
 ghost use Rattle.disk_model.specs.Calls.{GoesOn, Rests};
 ghost use Rattle.history_seats.specs.Records.{Version};
@@ -84,6 +85,7 @@ pub fn truncate_object<F: StoreFile + Drop, L: StoreName, E: Entropy>(
 ) -> Result<Staged, NoMemory>
     requires guarded { SlotInvariant L.store slot.old }
     requires form { HasForm entry.now }
+    requires current { entry.now.format ≡ current_format }
     requires given { GivesEntry slot.old entry.now }
     requires key { tsk.now ≡ object_key L.store.keys entry.now.app }
     requires fits { size ≤ 1044480 }

@@ -12,6 +12,7 @@ ghost use Rattle.serial_calls.specs.ChangeCauses.{HasStageCause};
 ghost use Rattle.serial_calls.specs.Changed.{AnswersStaged, IsChangedOrNot};
 ghost use Rattle.serial_calls.specs.ChangeStaging.{StagesChange, StagesEntry, writing};
 ghost use Rattle.crash_core.specs.DeviceKeys.{object_key};
+ghost use Rattle.node_image.specs.References.{current_format};
 ghost use Rattle.dir_records.specs.Form.{HasForm};
 ghost use Rattle.disk_model.specs.Calls.{GoesOn, Rests};
 ghost use Rattle.history_seats.specs.Records.{Version};
@@ -87,6 +88,7 @@ pub fn write_object<F: StoreFile + Drop, L: StoreName, E: Entropy>(
 ) -> Result<Staged, NoMemory>
     requires guarded { SlotInvariant L.store slot.old }
     requires form { HasForm entry.now }
+    requires current { entry.now.format ≡ current_format }
     requires given { GivesEntry slot.old entry.now }
     requires key { tsk.now ≡ object_key L.store.keys entry.now.app }
     requires fits { start + length bytes.now ≤ 1044480 }

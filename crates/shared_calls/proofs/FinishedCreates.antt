@@ -1,8 +1,8 @@
 -- A create that ended at the gate, as a call that was answered, and what always holds behind it.
 use Rattle.std.proofs.Common.{◌≡◌, [], ℕ, Err, IfSome, IsNone, None, Ok, Option, Result, Some, ap, arith, inl, refl, subst, sym}
+use Rattle.tee_types.specs.Limits.{IsObjectFile}
 use Rattle.serial_calls.specs.CallerSessions.{CallerSession}
 use Rattle.call_rules.specs.declared.decision.NewPlace.{NewPlace}
-use Rattle.serial_calls.specs.Joined.{IsObjectFile}
 use Rattle.serial_calls.specs.CreateEnds.{IsCommittableNew, IsFinished, IsToldWhy}
 use Rattle.serial_calls.specs.CreateEnds.IsCommittableOrSpent.{Committable, Uncommittable}
 use Rattle.serial_calls.specs.Rules.{NewObject, create_call}

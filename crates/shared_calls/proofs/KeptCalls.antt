@@ -1,9 +1,9 @@
 -- The gate keeps what always holds of its devices, over each call that is made of it.
 use Rattle.std.proofs.Common.{◌≡◌, ◌<◌, ◌≤◌, ◌++◌, ◌∷◌, [], ℕ, List, None, append_assoc, length, ap, ◌∙◌, inl, refl, subst, sym}
+use Rattle.tee_types.specs.Limits.{IsObjectFile}
 use Rattle.serial_calls.specs.CallerSessions.{CallerSession}
 use Rattle.call_rules.specs.Plain.{IsPlain}
 use Rattle.serial_calls.specs.ChangeReplies.{IsDoneOrRefused}
-use Rattle.serial_calls.specs.Joined.{IsObjectFile}
 use Rattle.disk_model.specs.State.{FileState}
 use Rattle.serial_calls.specs.GateServed.{IsLeft, IsServed, IsServedAlone, IsUnserved}
 use Rattle.history_seats.specs.Records.{HistoryRecord}

@@ -8,7 +8,7 @@ use Rattle.disk_model.specs.Calls.{GoesOn}
 use Rattle.disk_model.specs.Faults.{Rose}
 use Rattle.disk_model.specs.State.{FileState}
 use Rattle.disk_model.proofs.Goings.{goes_on_then}
-use Rattle.serial_calls.specs.Joined.{IsObjectFile}
+use Rattle.tee_types.specs.Limits.{IsObjectFile}
 use Rattle.history_seats.specs.Records.{HistoryRecord}
 use Rattle.history_seats.specs.Tags.{AreTagged, HasDueTag, faulty_file}
 use Rattle.history_seats.specs.Views.{GateView, Sight, SlotView}

@@ -1,12 +1,12 @@
 -- What was brought of a change that was staged, or told of one that was not: the call that was answered, and what always holds behind it.
 use Rattle.std.proofs.Common.{◌≡◌, [], ℕ, List, ap, inl, refl, subst, sym}
+use Rattle.tee_types.specs.Limits.{IsObjectFile}
 use Rattle.serial_calls.specs.CallerSessions.{CallerSession}
 use Rattle.serial_calls.specs.Changed.{AnswersStaged}
 use Rattle.serial_calls.specs.Renewed.{renewal}
 use Rattle.serial_calls.specs.ChangeStaging.{DataCall, IsUnstaged}
 use Rattle.serial_calls.specs.declared.stage_result.Staged.{Staged}
 use Rattle.serial_calls.specs.declared.stage_result.Staged.TheVariants.{Root, Unstaged}
-use Rattle.serial_calls.specs.Joined.{IsObjectFile}
 use Rattle.disk_model.specs.State.{FileState}
 use Rattle.hmac_keys.specs.KeyTable.{rpmb_key}
 use Rattle.serial_calls.specs.GuardedGates.{GuardedGateValue}

@@ -1,8 +1,8 @@
 -- A gate, over the answer of an object's file that accuses no device of the gate.
 use Rattle.std.proofs.Common.{◌≡◌, ◌++◌, ◌∷◌, ◌∙◌, [], ℕ, List, None, ap, inl, refl, subst, sym}
+use Rattle.tee_types.specs.Limits.{IsObjectFile}
 use Rattle.serial_calls.specs.CallerSessions.{CallerSession}
 use Rattle.serial_calls.specs.ChangeReplies.{IsFailure}
-use Rattle.serial_calls.specs.Joined.{IsObjectFile}
 use Rattle.disk_model.specs.State.{FileState}
 use Rattle.history_seats.specs.Records.{HistoryRecord, Version}
 use Rattle.hmac_keys.specs.KeyTable.{rpmb_key}

@@ -1,4 +1,6 @@
 -- A slot that stands at an entry, whose object may be loaded.
+use Rattle.std.specs.Prelude.{◌≡◌}
+use Rattle.node_image.specs.References.{current_format}
 use Rattle.dir_records.specs.declared.entry.DirEntry.{DirEntry}
 use Rattle.dir_records.specs.Form.{HasForm}
 use Rattle.history_seats.specs.Records.{Version}
@@ -13,8 +15,10 @@ pub record IsMet (gate : GateView) (slot : SlotValue) (e : DirEntry) : Type 0 wh
   pub at : IsAtEntry gate slot e version
   pub given : GivesEntry slot e
   pub form : HasForm e
+  pub current : e.format ≡ current_format
 
--- The object of an entry with its form may be loaded into the slot.
+-- The object of an entry with its form, in a file of the current format, may be loaded into the slot.
 pub record MayLoad (slot : SlotValue) (e : DirEntry) : Type 0 where
   pub given : GivesEntry slot e
   pub form : HasForm e
+  pub current : e.format ≡ current_format

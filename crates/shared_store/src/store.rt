@@ -2,6 +2,7 @@
 
 ghost use Rattle.std.specs.Prelude.{◌≡◌, ◌≤◌, length, vec_len, IfOk, IfSome};
 ghost use Rattle.hmac_keys.specs.KeyTable.{ssk};
+ghost use Rattle.tee_types.specs.Limits.{last_file};
 ghost use Rattle.shared_calls.specs.CallerSessions.{IsCallerOf};
 ghost use Rattle.shared_calls.specs.Devices.{Grows};
 ghost use Rattle.shared_calls.specs.SharedCounts.{CarriesDraws};
@@ -26,7 +27,7 @@ pub struct SharedStore<F: StoreFile + Drop, R: RpmbPort + Drop, L: StoreName + D
     storage_key: [u8; 32],
     ghost keyed: { storage_key ≡ ssk L.store.keys.huk L.store.keys.chip },
     ghost few: { length L.store.mounted.applications ≤ 16 },
-    ghost many: { vec_len slots ≡ 272 },
+    ghost many: { vec_len slots ≡ last_file },
 }
 
 impl<F: StoreFile + Drop, R: RpmbPort + Drop, L: StoreName + DevicesName> SharedStore<F, R, L> {
@@ -38,7 +39,7 @@ impl<F: StoreFile + Drop, R: RpmbPort + Drop, L: StoreName + DevicesName> Shared
     ) -> SharedStore<F, R, L>
         requires keyed { storage_key ≡ ssk L.store.keys.huk L.store.keys.chip }
         requires few { length L.store.mounted.applications ≤ 16 }
-        requires many { vec_len slots ≡ 272 }
+        requires many { vec_len slots ≡ last_file }
     {
         SharedStore {
             gate: Mutex::new(gate),
@@ -49,7 +50,7 @@ impl<F: StoreFile + Drop, R: RpmbPort + Drop, L: StoreName + DevicesName> Shared
 
     /// The gate and the slots, once no thread shares the store any more.
     pub fn into_parts(self) -> (SharedGate<F, R, L>, Vec<Mutex<SharedSlot<F, L>>>)
-        ensures many { vec_len result.1 ≡ 272 }
+        ensures many { vec_len result.1 ≡ last_file }
     {
         let SharedStore {
             gate,

@@ -1,13 +1,13 @@
 // An object in a file in memory, and commits of one byte.
 
-ghost use Rattle.std.specs.Prelude.{IfOk, IfSome};
+ghost use Rattle.std.specs.Prelude.{◌≡◌, IfOk, IfSome};
 ghost use Rattle.dir_records.specs.Form.{HasForm};
 
 use anyhow::{Context, bail};
 use dir_records::DirEntry;
 use htree_file::TreeFault;
 use mem_files::MemFile;
-use node_image::RootRef;
+use node_image::{FORMAT, RootRef};
 use object_file::ObjectFile;
 use std::alloc::Global;
 use tee_ports::{FileRig, ListEntropy};
@@ -22,11 +22,13 @@ pub struct TreeBench {
     pub object: ObjectFile<MemFile>,
     calls: u64,
     bytes: u64,
+    ghost format: { object.tree.root.format ≡ 2 },
 }
 
 // The entry of an object of so many blocks of data.
 fn entry_of(root: RootRef, blocks: u8) -> Option<DirEntry>
-    ensures { IfSome result HasForm }
+    ensures form { IfSome result HasForm }
+    ensures format { IfSome result (λ entry. entry.format ≡ 2) }
 {
     if root.version > 1 {
         return None;
@@ -40,14 +42,15 @@ fn entry_of(root: RootRef, blocks: u8) -> Option<DirEntry>
         hash,
         size: 4096 * u32::from(blocks),
         attributes: 0,
-        format: 1,
+        format: FORMAT,
         generation: 0,
     })
 }
 
 // The file of a new object with so many blocks of data, and its entry.
 fn made(alloc: Global, blocks: u8) -> anyhow::Result<(MemFile, DirEntry)>
-    ensures { IfOk result (λ made. HasForm made.1) }
+    ensures form { IfOk result (λ made. HasForm made.1) }
+    ensures format { IfOk result (λ made. made.1.format ≡ 2) }
 {
     let data = vec![in alloc; 0x5a; 4096 * usize::from(blocks)]?;
     let mut entropy = ListEntropy::new([0; 16]);
@@ -67,7 +70,9 @@ fn made(alloc: Global, blocks: u8) -> anyhow::Result<(MemFile, DirEntry)>
 }
 
 fn load(alloc: Global, file: MemFile, entry: &DirEntry) -> anyhow::Result<ObjectFile<MemFile>>
-    requires { HasForm entry.now }
+    requires form { HasForm entry.now }
+    requires format { entry.now.format ≡ 2 }
+    ensures { IfOk result (λ object. object.tree.root.format ≡ 2) }
 {
     match ObjectFile::load(alloc, file, &TSK, entry) {
         Ok(object) => Ok(object),
@@ -111,7 +116,10 @@ fn commit(
     alloc: Global,
     object: &mut ObjectFile<MemFile>,
     entropy: &mut ListEntropy,
-) -> Result<RootRef, TreeFault> {
+) -> Result<RootRef, TreeFault>
+    requires { object.old.tree.root.format ≡ 2 }
+    ensures { object.new.tree.root.format ≡ 2 }
+{
     object.drop_stage();
     let at = object.size().saturating_sub(1);
     object.stage_write(alloc, at, &[0xa5], entropy)?;
@@ -121,7 +129,10 @@ fn commit(
 }
 
 /// Commits so many times.
-pub fn commits(alloc: Global, object: &mut ObjectFile<MemFile>, rounds: u32) -> anyhow::Result<()> {
+pub fn commits(alloc: Global, object: &mut ObjectFile<MemFile>, rounds: u32) -> anyhow::Result<()>
+    requires { object.old.tree.root.format ≡ 2 }
+    ensures { object.new.tree.root.format ≡ 2 }
+{
     let mut entropy = ListEntropy::new([0; 16]);
     for _ in 0..rounds {
         if commit(alloc, object, &mut entropy).is_err() {

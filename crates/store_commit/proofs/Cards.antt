@@ -13,7 +13,7 @@ use Rattle.tee_types.specs.declared.reply.Cause.TheVariants.{Fault, Frame as OfF
 use Rattle.tee_types.specs.declared.reply.Device.{Device}
 use Rattle.tee_types.specs.declared.reply.Device.TheVariants.{Dir, File, Card, Entropy}
 use Rattle.store_commit.specs.declared.fault.MountFault.{MountFault}
-use Rattle.store_commit.specs.declared.fault.MountFault.TheVariants.{NoStore, CardBlock, Directory, Frame, CardResult, Failed, Spent, NoMemory}
+use Rattle.store_commit.specs.declared.fault.MountFault.TheVariants.{NoStore, CardBlock, Directory, Frame, CardResult, Failed, Spent, NoMemory, OldFormat}
 use Rattle.store_commit.specs.Mounts.{CardRefused, NoCardOf, host_answer}
 use Rattle.store_commit.proofs.CardWrites.{write_done}
 
@@ -58,6 +58,7 @@ refused_then p q r key k drew between draws fault faults card same drawn refused
     by_fault (Failed cause) c = by_cause cause c
     by_fault Spent c = absurd c
     by_fault NoMemory c = absurd c
+    by_fault (OldFormat file) c = absurd c
 
 -- a card with that counter writes
 pub card_writes : (card : CardState) (counter : ℕ) → card.counter ≡ counter → counter ≢ last_counter → card_write card 0 counter ≡ Ok (counter + 1)

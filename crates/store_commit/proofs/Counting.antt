@@ -1,5 +1,5 @@
 -- The counts that refusals carry.
-use Rattle.std.proofs.Common.{◌≡◌, ◌∙◌, ℕ, List, Result, Ok, Err, false, refl, sym, subst}
+use Rattle.std.proofs.Common.{◌≡◌, ◌∙◌, ℕ, Bool, List, Result, Ok, Err, false, refl, sym, subst, inl, inr}
 use Rattle.disk_model.specs.Faults.{Rose}
 use Rattle.disk_model.specs.State.{FileState}
 use Rattle.node_image.specs.declared.node.RootRef.{RootRef}
@@ -13,6 +13,7 @@ use Rattle.rpmb_host.specs.declared.fault.HostFault.TheVariants.{Failed as NoAns
 use Rattle.rpmb_host.specs.Calls.{FaultCounts, is_failure}
 use Rattle.crash_core.specs.declared.fault.DirFault.{DirFault}
 use Rattle.crash_core.specs.declared.fault.DirFault.TheVariants.{Tree, WrongLength, Record, Double}
+use Rattle.crash_core.specs.CardBlock.{root_in}
 use Rattle.crash_core.specs.Refusal.{Refusal, NoStore as BlankBlock, CardBlock as BadBlock, NoDirectory}
 use Rattle.dir_file.specs.Loading.{DirCause}
 use Rattle.tee_types.specs.declared.reply.Cause.{Cause}
@@ -20,8 +21,8 @@ use Rattle.tee_types.specs.declared.reply.Cause.TheVariants.{Fault, Frame as OfF
 use Rattle.tee_types.specs.declared.reply.Device.{Device}
 use Rattle.tee_types.specs.declared.reply.Device.TheVariants.{Dir, File, Card, Entropy}
 use Rattle.store_commit.specs.declared.fault.MountFault.{MountFault}
-use Rattle.store_commit.specs.declared.fault.MountFault.TheVariants.{NoStore, CardBlock, Directory, Frame, CardResult, Failed, Spent, NoMemory}
-use Rattle.store_commit.specs.Blocks.{block_answer}
+use Rattle.store_commit.specs.declared.fault.MountFault.TheVariants.{NoStore, CardBlock, Directory, Frame, CardResult, Failed, Spent, NoMemory, OldFormat}
+use Rattle.store_commit.specs.Blocks.{IsRootRefused, block_answer}
 use Rattle.store_commit.specs.Causes.{Counted, counts}
 use Rattle.store_commit.specs.declared.change.CardEnd.TheVariants.{Lost, Unknown}
 use Rattle.store_commit.specs.CardCauses.{CardCounts, PortCause}
@@ -99,6 +100,7 @@ module _ (a b c : Counted) (file : b.file ≡ a.file) (card : b.port.faults ≡ 
   counts_after (Failed cause) is = cause_after cause is
   counts_after Spent is = none_after is
   counts_after NoMemory is = none_after is
+  counts_after (OldFormat file) is = none_after is
 
 -- block 0 refuses
 pub block_counts : (a b : Counted) (r : Result RootRef Refusal) (fault : MountFault) → Err fault ≡ block_answer r → NoneRose a b → RefusalCounts a b fault
@@ -112,6 +114,14 @@ block_not_card (Ok root) fault is = absurd (cc (is))
 block_not_card (Err BlankBlock) fault is = let e : fault ≡ NoStore = cc (is) in subst (λ (f : MountFault). RefusalNotOfCard f × RefusalNotDrawn f) (sym e) (tt, tt)
 block_not_card (Err (BadBlock byte)) fault is = let e : fault ≡ CardBlock byte = cc (is) in subst (λ (f : MountFault). RefusalNotOfCard f × RefusalNotDrawn f) (sym e) (tt, tt)
 block_not_card (Err (NoDirectory d)) fault is = let e : fault ≡ Directory d = cc (is) in subst (λ (f : MountFault). RefusalNotOfCard f × RefusalNotDrawn f) (sym e) (tt, tt)
+
+pub root_counts : (a b : Counted) (block : List ℕ) (fault : MountFault) → IsRootRefused block fault → NoneRose a b → RefusalCounts a b fault
+root_counts a b block fault (inl is) none = block_counts a b (root_in block) fault is none
+root_counts a b block fault (inr is) none = subst (RefusalCounts a b) (sym is.0) none
+
+pub root_not_card : (block : List ℕ) (fault : MountFault) → IsRootRefused block fault → RefusalNotOfCard fault × RefusalNotDrawn fault
+root_not_card block fault (inl is) = block_not_card (root_in block) fault is
+root_not_card block fault (inr is) = subst (λ (f : MountFault). RefusalNotOfCard f × RefusalNotDrawn f) (sym is.0) (tt, tt)
 
 -- the directory refuses
 module _ (a b : Counted) (card : b.port.faults ≡ a.port.faults) (draws : b.draws ≡ a.draws) where

@@ -1,7 +1,7 @@
 -- How a commit ends.
 use Rattle.std.proofs.Common.{◌≡◌, ◌⊎◌, ◌∙◌, ◌+◌, ◌-◌, ◌<◌, ℕ, true, length, List, [], get_or, Option, Some, None, Ok, IfSome, IsTrue, refl, sym, ap, subst, inl, inr, arith}
 use Rattle.std.proofs.lemmas.List.{get_or-set_same}
-use Rattle.disk_model.specs.State.{FileState, LeftSince, Sound, moment}
+use Rattle.disk_model.specs.State.{FileState, LeftNow, LeftSince, Sound, moment}
 use Rattle.disk_model.specs.Keeps.{Keeps}
 use Rattle.disk_model.proofs.ImageLaws.{now_since, reads_left}
 use Rattle.disk_model.proofs.Laws.{synced_pending}
@@ -11,11 +11,12 @@ use Rattle.htree_file.specs.Selected.{Lies}
 use Rattle.htree_file.proofs.Firmness.{stays_firm}
 use Rattle.hmac_keys.specs.declared.Keys.{Keys}
 use Rattle.dir_records.specs.declared.entry.DirEntry.{DirEntry}
+use Rattle.dir_records.specs.Form.{IsFormat}
 use Rattle.rpmb_card.specs.Card.{CardState, IsCard}
 use Rattle.rpmb_card.specs.Port.{PortState, Sound as SoundPort}
 use Rattle.rpmb_host.specs.Honest.{HadCard, HasCard}
 use Rattle.tee_types.specs.declared.reply.Cause.{Cause}
-use Rattle.crash_core.specs.CardBlock.{IsReference, root_block, root_in}
+use Rattle.crash_core.specs.CardBlock.{IsReference, directory_at, root_block, root_in}
 use Rattle.crash_core.specs.DeviceKeys.{directory_key}
 use Rattle.crash_core.specs.Directory.{directory_of}
 use Rattle.crash_core.specs.Mounting.{directory_by, mounted_directory, unless_fault}
@@ -36,33 +37,33 @@ use Rattle.store_commit.specs.Steps.{IsReady, Seals, Steps}
 use Rattle.store_commit.proofs.Preparing.{at_some, opened}
 
 -- in every image since, the committed reference has the same directory
-pub always : (s0 s1 : FileState) (d : DirView) → Sound s0 → Sound s1 → IsReference d.root → Keeps (Lies d.tree.nodes d.root.version) s0 s1
+pub always : (s0 s1 : FileState) (d : DirView) → Sound s0 → Sound s1 → IsReference d.root → Keeps (Lies d.tree.layout d.tree.nodes d.root.version) s0 s1
     → IsDurable s0 d.tsk d.root d.tree d.entries → IsTrue s1.honest → (image : List ℕ) → LeftSince s1 (moment s0) image → directory_of d.tsk image d.root ≡ Ok d.entries
 always s0 s1 d sound still form keeps held honest image left =
-    let stays = stays_firm s0 s1 d.root d.tree sound still form.bit keeps held.firm honest in
-    directory_same image s0.reads d.root d.tree (selected_tree s0.reads d.root.version) (stays.always image left) (held.firm s0.reads (reads_left s0 sound)) d.tsk
+    let stays = stays_firm s0 s1 d.root d.tree sound still form.version keeps held.firm honest in
+    directory_same image s0.reads d.root d.tree (selected_tree s0.reads d.root) (stays.always image left) (held.firm s0.reads (reads_left s0 sound)) d.tsk
     ∙ held.entries_are s0.reads (reads_left s0 sound)
 
-pub kept : (s0 s1 : FileState) (d : DirView) → Sound s0 → Sound s1 → IsReference d.root → Keeps (Lies d.tree.nodes d.root.version) s0 s1
+pub kept : (s0 s1 : FileState) (d : DirView) → Sound s0 → Sound s1 → IsReference d.root → Keeps (Lies d.tree.layout d.tree.nodes d.root.version) s0 s1
     → IsDurable s0 d.tsk d.root d.tree d.entries → IsTrue s1.honest → IsDurable s1 d.tsk d.root d.tree d.entries
 kept s0 s1 d sound still form keeps held honest = record {
-  firm = (stays_firm s0 s1 d.root d.tree sound still form.bit keeps held.firm honest).firm;
+  firm = (stays_firm s0 s1 d.root d.tree sound still form.version keeps held.firm honest).firm;
   entries_are = λ image left. always s0 s1 d sound still form keeps held honest image (now_since s1 (moment s0) image still left);
 }
 
 -- a picture whose card names a root mounts to its directory
 named_mounts : (keys : Keys) (tsk : List ℕ) (picture : Picture) (card : CardState) (root : RootRef) (counter : ℕ) (entries : List (Option DirEntry))
     → directory_key keys ≡ tsk → SameCard picture.card card → Names card root counter
-    → directory_of tsk (picture.images 0) root ≡ Ok entries → mounted_directory keys picture ≡ Ok entries
+    → directory_of tsk (picture.images (directory_at root.format)) root ≡ Ok entries → mounted_directory keys picture ≡ Ok entries
 named_mounts keys tsk picture card root counter entries is_key same names is =
-    ap (λ (b : List (List ℕ)). directory_by keys (picture.images 0) (root_in (get_or b 0 []))) same.blocks
-    ∙ ap (directory_by keys (picture.images 0)) names.block
-    ∙ ap unless_fault (ap (λ (k : List ℕ). directory_of k (picture.images 0) root) is_key ∙ is)
+    ap (λ (b : List (List ℕ)). directory_by keys picture.images (root_in (get_or b 0 []))) same.blocks
+    ∙ ap (directory_by keys picture.images) names.block
+    ∙ ap unless_fault (ap (λ (k : List ℕ). directory_of k (picture.images (directory_at root.format)) root) is_key ∙ is)
 
 pub settled_pictures : (g : Sides) → IsSettled g → EachPicture g (λ m. m ≡ Ok g.dir.entries)
 settled_pictures g settled honest keys picture is_key of =
     named_mounts keys g.dir.tsk picture of.card g.dir.root g.counter g.dir.entries is_key of.same (settled.named of.card of.has)
-    ((settled.held honest).entries_are (picture.images 0) of.left)
+    ((settled.held honest).entries_are (picture.images (directory_at g.dir.root.format)) of.left)
 
 pub doubted_pictures : (g : Sides) (next : StagedDirectory) → IsInDoubt g next → EachPicture g (λ m. (m ≡ Ok g.dir.entries) ⊎ (m ≡ Ok next.entries))
 doubted_pictures g next doubt honest keys picture is_key of = by_name (doubt.named of.card of.has)
@@ -70,15 +71,16 @@ doubted_pictures g next doubt honest keys picture is_key of = by_name (doubt.nam
     by_name : Names of.card g.dir.root g.counter ⊎ Names of.card next.root (g.counter + 1)
         → (mounted_directory keys picture ≡ Ok g.dir.entries) ⊎ (mounted_directory keys picture ≡ Ok next.entries)
     by_name (inl old) = inl (named_mounts keys g.dir.tsk picture of.card g.dir.root g.counter g.dir.entries is_key of.same old
-        ((doubt.held honest).entries_are (picture.images 0) of.left))
+        ((doubt.held honest).entries_are (picture.images (directory_at g.dir.root.format)) of.left))
     by_name (inr new) = inr (named_mounts keys g.dir.tsk picture of.card next.root (g.counter + 1) next.entries is_key of.same new
-        ((doubt.next_held honest).entries_are (picture.images 0) of.left))
+        ((doubt.next_held honest).entries_are (picture.images (directory_at next.root.format))
+        (subst (λ (format : ℕ). LeftNow g.file (picture.images (directory_at format))) (sym doubt.same_format) of.left)))
 
 pub spent : (g : Sides) → IsSettled g → IsSpent g g
 spent g settled = record { same = refl; settled = settled; pictures = settled_pictures g settled }
 
 module _ (s0 s2 : FileState) (d0 : DirView) (p0 p1 : PortState) (k0 k1 : List ℕ) (counter : ℕ) (sound : Sound s0) (still : Sound s2)
-    (settled : IsSettled (sides s0 d0 p0 k0 counter)) (keeps : Keeps (Lies d0.tree.nodes d0.root.version) s0 s2) where
+    (settled : IsSettled (sides s0 d0 p0 k0 counter)) (keeps : Keeps (Lies d0.tree.layout d0.tree.nodes d0.root.version) s0 s2) where
   honest_then : IsTrue s2.honest → IsTrue s0.honest
   honest_then honest = keeps.goes_on.honest honest
 
@@ -119,7 +121,7 @@ module _ (s0 s2 : FileState) (d0 : DirView) (p0 p1 : PortState) (k0 k1 : List �
     next_form : IsReference next.root
     next_form =
         let v : next.root.version ≡ 1 - d0.root.version = next_is.version in
-        record { bit = omega (arith, v); long = sym (ap (λ (r : RootRef). length r.hash) root_is) ∙ long }
+        record { version = omega (arith, v); format = subst IsFormat (sym next_is.format) settled.form.format; long = sym (ap (λ (r : RootRef). length r.hash) root_is) ∙ long }
 
     pub root_form : IsReference root
     root_form = subst IsReference (sym root_is) next_form
@@ -138,6 +140,7 @@ module _ (s0 s2 : FileState) (d0 : DirView) (p0 p1 : PortState) (k0 k1 : List �
           counted = refl;
           entries = next_is.entries_are;
           tsk = refl;
+          format = next_is.format;
           settled = now;
           pictures = subst (λ (e : List (Option DirEntry)). EachPicture g (λ m. m ≡ Ok e)) next_is.entries_are (settled_pictures g now);
         } in
@@ -153,6 +156,7 @@ module _ (s0 s2 : FileState) (d0 : DirView) (p0 p1 : PortState) (k0 k1 : List �
         let doubt : IsInDoubt g next = record {
           form = settled.form;
           next_form = next_form;
+          same_format = next_is.format;
           entries = settled.entries;
           next_entries = next_is.are settled.entries;
           is_open = stage_is.1;
@@ -176,6 +180,7 @@ module _ (s0 s2 : FileState) (d0 : DirView) (p0 p1 : PortState) (k0 k1 : List �
     pub ready : (s3 : FileState) (d3 : DirView) (now : ℕ) → s3 ≡ s2 → IsReady (sides s0 d0 p0 k0 counter) (sides s3 d3 p1 k1 now) change root
     ready s3 d3 now file = subst (λ (s : FileState). IsReady (sides s0 d0 p0 k0 counter) (sides s d3 p1 k1 now) change root) (sym file) (record {
       form = root_form;
+      format = ap (λ (r : RootRef). r.format) root_is ∙ next_is.format;
       mid = prepares.synced.0;
       writes = prepares.synced.1;
       syncs = prepares.synced.2;

@@ -3,9 +3,11 @@ use Rattle.std.proofs.Common.{◌≡◌, ◌≢◌, ◌⊎◌, ◌∙◌, ℕ, �
 use Rattle.std.proofs.lemmas.List.{get_or-set_same}
 use Rattle.disk_model.specs.State.{FileState}
 use Rattle.node_image.specs.declared.node.RootRef.{RootRef}
+use Rattle.node_image.specs.References.{current_format}
 use Rattle.htree_file.specs.Opening.{Loaded}
 use Rattle.hmac_keys.specs.declared.Keys.{Keys}
 use Rattle.hmac_keys.specs.KeyTable.{rpmb_key}
+use Rattle.tee_types.specs.Limits.{directory_file}
 use Rattle.rpmb_card.specs.Protocol.{last_counter}
 use Rattle.rpmb_card.specs.Card.{CardState, IsCard}
 use Rattle.rpmb_card.specs.Port.{PortState, Sound}
@@ -14,14 +16,15 @@ use Rattle.tee_types.specs.declared.reply.Cause.{Cause}
 use Rattle.tee_types.specs.declared.reply.Cause.TheVariants.{Fault, Frame as OfFrame, CardResult as OfResult}
 use Rattle.tee_types.specs.declared.reply.Device.{Device}
 use Rattle.tee_types.specs.declared.reply.Device.TheVariants.{Dir, File, Card, Entropy}
-use Rattle.crash_core.specs.CardBlock.{IsReference, root_block, root_in}
+use Rattle.crash_core.specs.CardBlock.{IsReference, directory_at, root_block, root_in}
 use Rattle.crash_core.specs.DeviceKeys.{directory_key}
+use Rattle.crash_core.specs.Directory.{directory_of}
 use Rattle.crash_core.specs.Mounting.{directory_by, unless_fault}
 use Rattle.crash_core.proofs.CardBlocks.{root_in-block}
 use Rattle.dir_file.specs.EntryForms.{no_entries}
 use Rattle.dir_file.specs.Held.{IsDurable}
 use Rattle.store_commit.specs.declared.fault.MountFault.{MountFault}
-use Rattle.store_commit.specs.declared.fault.MountFault.TheVariants.{NoStore, CardBlock, Directory, Frame, CardResult, Failed, Spent, NoMemory}
+use Rattle.store_commit.specs.declared.fault.MountFault.TheVariants.{NoStore, CardBlock, Directory, Frame, CardResult, Failed, Spent, NoMemory, OldFormat}
 use Rattle.store_commit.specs.CardEnds.{IsSealedCard}
 use Rattle.store_commit.specs.Formats.{FormatRefused, Formats, IsFormatted, LeavesFormat}
 use Rattle.store_commit.specs.Mounts.{CardRefused}
@@ -31,7 +34,7 @@ use Rattle.store_commit.proofs.CardWrites.{next_card}
 module _ (s : FileState) (p0 p1 p2 : PortState) (keys : Keys) (k k2 : List ℕ) (counter : ℕ) (block : List ℕ) (root : RootRef) (tree : Loaded)
     (stays : p1.card ≡ p0.card) (k_is : k ≡ rpmb_key keys.huk) (k2_is : k2 ≡ k)
     (told : (card : CardState) → HasCard p0 (rpmb_key keys.huk) card → card.counter ≡ counter) (unspent : counter ≢ last_counter)
-    (block_is : block ≡ root_block root) (form : IsReference root) (port : Sound p0)
+    (block_is : block ≡ root_block root) (form : IsReference root) (current : root.format ≡ current_format) (port : Sound p0)
     (held : IsTrue s.honest → IsDurable s (directory_key keys) root tree no_entries) where
   still : (card : CardState) → HasCard p0 (rpmb_key keys.huk) card → HasCard p1 k card
   still card has = has_still p0 p1 (rpmb_key keys.huk) k card stays k_is has
@@ -46,10 +49,11 @@ module _ (s : FileState) (p0 p1 p2 : PortState) (keys : Keys) (k k2 : List ℕ) 
         next = sealed.next;
         has = sealed.has;
         counted = sealed.same.counter;
-        mounts = λ honest image left.
-            ap (λ (b : List (List ℕ)). directory_by keys image (root_in (get_or b 0 []))) sealed.same.blocks
-            ∙ ap (directory_by keys image) (ap root_in (get_or-set_same card.blocks 0 (root_block root) [] some) ∙ root_in-block root form)
-            ∙ ap unless_fault ((held honest).entries_are image left);
+        mounts = λ honest images left.
+            ap (λ (b : List (List ℕ)). directory_by keys images (root_in (get_or b 0 []))) sealed.same.blocks
+            ∙ ap (directory_by keys images) (ap root_in (get_or-set_same card.blocks 0 (root_block root) [] some) ∙ root_in-block root form)
+            ∙ ap (λ (format : ℕ). unless_fault (directory_of (directory_key keys) (images (directory_at format)) root)) current
+            ∙ ap unless_fault ((held honest).entries_are (images directory_file) left);
       }
 
   pub formats : ((card : CardState) → HasCard p1 k card → p2.card ≡ Some (written_card card 0 counter block)) → Formats s p0 p2 keys
@@ -83,3 +87,4 @@ module _ (old new : FileState) (p0 p1 : PortState) (keys : Keys) (drew draws : �
   card_formats (Failed cause) c = card_cause cause c
   card_formats Spent c = absurd c
   card_formats NoMemory c = absurd c
+  card_formats (OldFormat file) c = absurd c

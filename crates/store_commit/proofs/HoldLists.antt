@@ -4,6 +4,7 @@ use Rattle.std.specs.Prelude.{slice_set}
 use Rattle.std.proofs.lemmas.Bool.{cases_eq, cases_lt, eq-eqb}
 use Rattle.std.proofs.Math.ListN.{length-set}
 use Rattle.std.proofs.lemmas.List.{get_or-set_other, get_or-set_same, get_or_past}
+use Rattle.tee_types.specs.Limits.{last_file}
 use Rattle.dir_records.specs.declared.entry.DirEntry.{DirEntry}
 use Rattle.crash_core.specs.EntryLists.{IsUnnamed, entry_at}
 use Rattle.crash_core.proofs.Lists.{set_at}
@@ -130,8 +131,8 @@ reserved entries holds session file free are = record {
   single = λ a b f x y. single a b f (set_hold holds session a (Some file) f x) (set_hold holds session b (Some file) f y);
 }
   where
-    within : (s f : ℕ) → ((s ≡ session) × (let some : Option ℕ = Some file in some ≡ Some f)) ⊎ (file_held holds s ≡ Some f) → f < 273
-    within s f (inl own) = let same : file ≡ f = cc (own.1) in subst (λ (n : ℕ). n < 273) same free.below
+    within : (s f : ℕ) → ((s ≡ session) × (let some : Option ℕ = Some file in some ≡ Some f)) ⊎ (file_held holds s ≡ Some f) → f ≤ last_file
+    within s f (inl own) = let same : file ≡ f = cc (own.1) in subst (λ (n : ℕ). n ≤ last_file) same free.upto
     within s f (inr old) = are.within s f old
 
     unnamed : (s f : ℕ) → ((s ≡ session) × (let some : Option ℕ = Some file in some ≡ Some f)) ⊎ (file_held holds s ≡ Some f) → IsUnnamed entries f

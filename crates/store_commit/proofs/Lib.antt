@@ -22,3 +22,5 @@ pub mod Leavings
 pub mod Indexing
 pub mod Marking
 pub mod Rearming
+pub mod OldRoots
+pub mod LookedDirectories

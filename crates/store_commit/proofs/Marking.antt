@@ -5,6 +5,7 @@ use Rattle.std.specs.Option.{option_map}
 use Rattle.std.proofs.lemmas.Bool.{cases_eq, cases_lt}
 use Rattle.std.proofs.lemmas.List.{get_or-set_other, get_or-set_same}
 use Rattle.std.proofs.Math.ListN.{length-set}
+use Rattle.tee_types.specs.Limits.{last_file}
 use Rattle.dir_records.specs.declared.entry.DirEntry.{DirEntry}
 use Rattle.dir_records.specs.Form.{HasForm}
 use Rattle.crash_core.specs.EntryLists.{entry_at}
@@ -39,10 +40,10 @@ count_rest true marks = omega arith
 count_rest false marks = omega arith
 
 -- not all of them from 1 on are marked
-pub some_unmarked : (marks : List Bool) → length marks ≡ 273 → ((file : ℕ) → 1 ≤ file → file < 273 → is_marked marks file ≡ true) → 272 ≤ mark_count marks
+pub some_unmarked : (marks : List Bool) → length marks ≡ suc last_file → ((file : ℕ) → 1 ≤ file → file ≤ last_file → is_marked marks file ≡ true) → last_file ≤ mark_count marks
 some_unmarked [] long each = absurd (omega (arith, long))
 some_unmarked (x ∷ marks) long each =
-    let rest : length marks ≡ 272 = omega (arith, long) in
+    let rest : length marks ≡ last_file = omega (arith, long) in
     let all : length marks ≤ mark_count marks = count_all marks (λ file low. each (suc file) (omega arith) (omega (arith, low, rest))) in
     let more = count_rest x marks in omega (arith, rest, all, more)
 
@@ -171,7 +172,7 @@ module _ (entries : List (Option DirEntry)) (holds : List (Option ℕ)) (blank n
   least_free = record {
     free = record {
       from = is.from;
-      below = is.below;
+      upto = is.upto;
       unnamed = λ i e at same. not_both file (named_marked file i e at same) is.unmarked;
       unheld = λ session held. not_both file (held_marked file session held) is.unmarked;
     };
@@ -183,9 +184,9 @@ blank_unmarked zero k is = absurd (cc (is))
 blank_unmarked (suc n) zero is = absurd (cc (is))
 blank_unmarked (suc n) (suc k) is = blank_unmarked n k is
 
--- at most 271 files are in use where a session holds none
+-- not all files are in use where a session holds none
 pub marks_few : (entries : List (Option DirEntry)) (holds : List (Option ℕ)) (blank named all : List Bool) (session : ℕ) → mark_count blank ≡ 0
-    → AreMarked (file_named entries) 256 blank named → AreMarked (file_held holds) 16 named all → session < 16 → file_held holds session ≡ None → mark_count all ≤ 271
+    → AreMarked (file_named entries) 256 blank named → AreMarked (file_held holds) 16 named all → session < 16 → file_held holds session ≡ None → mark_count all < last_file
 marks_few entries holds blank named all session zero_marks first second low idle =
     let a = uses_most (file_named entries) 256 in
     let b = uses_fewer (file_held holds) 16 session low idle in
@@ -197,6 +198,6 @@ pub below_some : (o : Option ℕ) (n : ℕ) → ((file : ℕ) → o ≡ Some fil
 below_some None n each = tt
 below_some (Some file) n each = each file refl
 
-pub named_below : (o : Option DirEntry) (n : ℕ) → n ≡ 273 → IfSome o HasForm → IfSome (option_map (λ (e : DirEntry). e.file) o) (λ file. file < n)
+pub named_below : (o : Option DirEntry) (n : ℕ) → n ≡ suc last_file → IfSome o HasForm → IfSome (option_map (λ (e : DirEntry). e.file) o) (λ file. file < n)
 named_below None n is form = tt
-named_below (Some e) n is form = let high : e.file ≤ 272 = form.file.1 in omega (arith, high, is)
+named_below (Some e) n is form = let high : e.file ≤ last_file = form.file.1 in omega (arith, high, is)

@@ -31,8 +31,8 @@ use Rattle.dir_file.specs.Held.{IsDurable}
 use Rattle.dir_file.specs.Loading.{DirCause, IsDirFault, IsOutsideDir, SeesDirectory}
 use Rattle.dir_file.specs.Refusals.{DirDiffers}
 use Rattle.store_commit.specs.declared.fault.MountFault.{MountFault}
-use Rattle.store_commit.specs.declared.fault.MountFault.TheVariants.{NoStore, CardBlock, Directory, Frame, CardResult, Failed, Spent, NoMemory}
-use Rattle.store_commit.specs.Blocks.{block_answer, picture_of}
+use Rattle.store_commit.specs.declared.fault.MountFault.TheVariants.{NoStore, CardBlock, Directory, Frame, CardResult, Failed, Spent, NoMemory, OldFormat}
+use Rattle.store_commit.specs.Blocks.{HasOldRoot, IsRootRefused, block_answer, picture_of}
 use Rattle.store_commit.specs.Reads.{IsRootRead}
 use Rattle.store_commit.specs.Mounts.{CardRefused, LeavesDevices, MountDiffers, MountRefused, OpensGate, Tells, TellsFailure, directory_answer}
 use Rattle.store_commit.specs.Sides.{IsSettled, Sides, sides}
@@ -70,6 +70,7 @@ module _ (old new : FileState) (p0 p1 : PortState) (keys : Keys) (drew draws : �
   card_refuses (Failed cause) c = card_cause cause c
   card_refuses Spent c = absurd c
   card_refuses NoMemory c = absurd c
+  card_refuses (OldFormat file) c = absurd c
 
   -- the block refuses
   module _ (counter : ℕ) (block : List ℕ) (tells : (card : CardState) → HasCard p0 (rpmb_key keys.huk) card → Tells card counter block) where
@@ -83,17 +84,22 @@ module _ (old new : FileState) (p0 p1 : PortState) (keys : Keys) (drew draws : �
         subst (MountRefused old new p0 p1 keys drew draws) (sym e) (λ card has. ap root_in (tells card has).stands ∙ is)
     block_refused (Err (NoDirectory d)) fault is answer =
         let e : fault ≡ Directory d = cc (answer) in
-        subst (MountRefused old new p0 p1 keys drew draws) (sym e) (λ card has told. ap (directory_by keys new.reads) (ap root_in (tells card has).stands ∙ is))
+        subst (MountRefused old new p0 p1 keys drew draws) (sym e) (λ card has told. ap (directory_by keys (λ file. new.reads)) (ap root_in (tells card has).stands ∙ is))
 
     pub block_refuses : (fault : MountFault) → Err fault ≡ block_answer (root_in block) → MountRefused old new p0 p1 keys drew draws fault
     block_refuses fault answer = block_refused (root_in block) fault refl answer
+
+    pub root_refuses : (fault : MountFault) → IsRootRefused block fault → MountRefused old new p0 p1 keys drew draws fault
+    root_refuses fault (inl is) = block_refuses fault is
+    root_refuses fault (inr is) =
+        subst (MountRefused old new p0 p1 keys drew draws) (sym is.0) (refl, λ card has. subst HasOldRoot (sym (tells card has).stands) is.1)
 
     -- the directory refuses
     module _ (root : RootRef) (names : Ok root ≡ block_answer (root_in block)) where
       mounts_as : (image : List ℕ) (answer : Result (List (Option DirEntry)) DirFault) → directory_of (directory_key keys) image root ≡ answer → (card : CardState) → HasCard p0 (rpmb_key keys.huk) card
           → mounted_directory keys (picture_of image card) ≡ unless_fault answer
       mounts_as image answer is card has =
-          ap (directory_by keys image) (ap root_in (tells card has).stands ∙ answer_root (root_in block) root names) ∙ ap unless_fault is
+          ap (directory_by keys (λ file. image)) (ap root_in (tells card has).stands ∙ answer_root (root_in block) root names) ∙ ap unless_fault is
 
       shown : (fault : DirFault) → (IsOutsideDir fault → ⊥) → IsOutsideDir fault ⊎ (Told old new → directory_of (directory_key keys) new.reads root ≡ Err fault)
           → (card : CardState) → HasCard p0 (rpmb_key keys.huk) card → Told old new → mounted_directory keys (picture_of new.reads card) ≡ Err (NoDirectory fault)
@@ -124,6 +130,7 @@ module _ (file : FileState) (p0 p1 : PortState) (keys : Keys) (drew draws : ℕ)
   card_differs (Failed cause) c = tt
   card_differs Spent c = tt
   card_differs NoMemory c = tt
+  card_differs (OldFormat n) c = absurd c
 
   -- block 0 alone refuses no directory
   or_differs : (block : List ℕ) (o : Option ℕ) (fault : MountFault) → Err fault ≡ block_answer (root_or block o) → MountDiffers file p0 keys fault
@@ -136,6 +143,10 @@ module _ (file : FileState) (p0 p1 : PortState) (keys : Keys) (drew draws : ℕ)
       by_test : (b : Bool) → list_all (λ x. x == 0) block ≡ b → MountDiffers file p0 keys fault
       by_test true zero_block = let e : fault ≡ NoStore = cc (is ∙ ap block_answer (root_zero block zero_block)) in subst (MountDiffers file p0 keys) (sym e) tt
       by_test false other = or_differs block (first_outside block 0 256) fault (is ∙ ap block_answer (root_other block other))
+
+  pub root_differs : (block : List ℕ) (fault : MountFault) → IsRootRefused block fault → MountDiffers file p0 keys fault
+  root_differs block fault (inl is) = block_differs block fault is
+  root_differs block fault (inr old) = subst (MountDiffers file p0 keys) (sym old.0) tt
 
   pub directory_differs : (root : RootRef) → ((card : CardState) → HasCard p0 (rpmb_key keys.huk) card → root_in (block_zero card) ≡ Ok root)
       → (fault : DirFault) → DirDiffers (directory_key keys) file root fault → MountDiffers file p0 keys (directory_answer fault)
@@ -160,6 +171,7 @@ card_tells p0 p1 key drew draws (CardResult n) c = tt
 card_tells p0 p1 key drew draws (Failed cause) c = tt
 card_tells p0 p1 key drew draws Spent c = tt
 card_tells p0 p1 key drew draws NoMemory c = tt
+card_tells p0 p1 key drew draws (OldFormat file) c = absurd c
 
 or_tells : (block : List ℕ) (o : Option ℕ) (fault : MountFault) → Err fault ≡ block_answer (root_or block o) → TellsFailure fault
 or_tells block None fault is = absurd (cc (is))
@@ -171,6 +183,10 @@ block_tells block fault is = by_test (list_all (λ x. x == 0) block) refl
     by_test : (b : Bool) → list_all (λ x. x == 0) block ≡ b → TellsFailure fault
     by_test true zero_block = let e : fault ≡ NoStore = cc (is ∙ ap block_answer (root_zero block zero_block)) in subst TellsFailure (sym e) tt
     by_test false other = or_tells block (first_outside block 0 256) fault (is ∙ ap block_answer (root_other block other))
+
+pub root_tells : (block : List ℕ) (fault : MountFault) → IsRootRefused block fault → TellsFailure fault
+root_tells block fault (inl is) = block_tells block fault is
+root_tells block fault (inr old) = subst TellsFailure (sym old.0) tt
 
 pub directory_tells : (fault : DirFault) → IsDirFault fault → TellsFailure (directory_answer fault)
 directory_tells (Tree (FileFault count)) kind = tt

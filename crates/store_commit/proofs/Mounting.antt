@@ -3,6 +3,7 @@ use Rattle.std.proofs.Common.{◌≡◌, ◌∙◌, ℕ, [], List, Option, Ok, s
 use Rattle.std.specs.Prelude.{IsTrue}
 use Rattle.disk_model.specs.State.{FileState, pending, spans_of}
 use Rattle.disk_model.specs.Calls.{Rests, Syncs}
+use Rattle.disk_model.proofs.ImageLaws.{exact_none}
 use Rattle.disk_model.proofs.Laws.{synced_pending}
 use Rattle.node_image.specs.declared.node.RootRef.{RootRef}
 use Rattle.htree_file.specs.Making.{IsSynced}
@@ -21,7 +22,7 @@ pub synced_rests : (a b c : FileState) → Syncs a b → Rests b c → IsSynced 
 synced_rests a b c syncs rests honest image left =
     let none : pending c ≡ [] = rests_pending a b c syncs rests in
     let before : IsTrue b.honest = rests.goes_on.honest honest in
-    (left honest).exact none ∙ rests.settled honest ∙ syncs.settled before ∙ sym (rests.reads (inl honest))
+    exact_none c.settled (pending c) image none (left honest) ∙ rests.settled honest ∙ syncs.settled before ∙ sym (rests.reads (inl honest))
 
 -- the directory that is loaded then is held
 pub mounted_held : (s : FileState) (tsk : List ℕ) (root : RootRef) (tree : Loaded) (entries : List (Option DirEntry)) → IsSynced s → IsTrue s.honest

@@ -46,9 +46,9 @@ module _ (old new : FileState) (was now : DirView) where
 
   pub staged_change : (change : EntryChange) → StagesChange old new was now change {A = Unit {0}} (Ok tt) → Prepares false old new was now change {A = Unit {0}} (Ok tt)
   staged_change (Put index entry) staged =
-      staged_entry (Put index entry) index (Some entry) (λ s n. record { version = n.version; entries_are = n.entries_are; is_settled = n.settled; are = n.are }) staged
+      staged_entry (Put index entry) index (Some entry) (λ s n. record { version = n.version; format = n.format; entries_are = n.entries_are; is_settled = n.settled; are = n.are }) staged
   staged_change (Clear index) staged =
-      staged_entry (Clear index) index None (λ s n. record { version = n.version; entries_are = n.entries_are; is_settled = n.settled; are = n.are }) staged
+      staged_entry (Clear index) index None (λ s n. record { version = n.version; format = n.format; entries_are = n.entries_are; is_settled = n.settled; are = n.are }) staged
 
   pub refused_change : (change : EntryChange) (fault : TreeFault) (cause : Cause) → StagesChange old new was now change {A = Unit {0}} (Err fault)
       → Prepares false old new was now change {A = Unit {0}} (Err cause)
@@ -58,8 +58,8 @@ module _ (old new : FileState) (was now : DirView) where
       record { same = staged.same; none = staged.none; opens = tt; next = tt; keeps = staged.keeps; synced = tt; stands = tt }
 
 module _ (old mid new : FileState) (was d now : DirView) (change : EntryChange) (staged : Prepares false old mid was d change {A = Unit {0}} (Ok tt)) where
-  both_keep : Keeps (λ place. Unit {0}) mid new → Keeps (Lies was.tree.nodes was.root.version) old new
-  both_keep keeps = keeps_then (Lies was.tree.nodes was.root.version) old mid new staged.keeps (keeps_selected was.tree.nodes was.root.version mid new keeps)
+  both_keep : Keeps (λ place. Unit {0}) mid new → Keeps (Lies was.tree.layout was.tree.nodes was.root.version) old new
+  both_keep keeps = keeps_then (Lies was.tree.layout was.tree.nodes was.root.version) old mid new staged.keeps (keeps_selected was.tree.layout was.tree.nodes was.root.version mid new keeps)
 
   -- settled
   pub prepared : (root : RootRef) → SettlesDirectory mid new d now {A = RootRef} (Ok root) → Prepares true old new was now change {A = RootRef} (Ok root)
@@ -73,7 +73,7 @@ module _ (old mid new : FileState) (was d now : DirView) (change : EntryChange) 
         same = settles.same ∙ ap (λ (v : DirView). record v { stage = now.stage }) staged.same;
         none = tt;
         opens = subst IsSome (sym is) refl;
-        next = if_some now.stage (IsStageOf true was change) s' is (record { version = next.version; entries_are = next.entries_are; is_settled = refl; are = next.are });
+        next = if_some now.stage (IsStageOf true was change) s' is (record { version = next.version; format = next.format; entries_are = next.entries_are; is_settled = refl; are = next.are });
         keeps = both_keep settles.keeps;
         synced = (mid, staged.keeps, settles.synced);
         stands = λ honest held. if_some now.stage (StageStands true new was.tsk) s' is
@@ -94,7 +94,7 @@ module _ (old mid new : FileState) (was d now : DirView) (change : EntryChange) 
         none = none;
         opens = tt;
         next = tt;
-        keeps = subst (λ (s : FileState). Keeps (Lies was.tree.nodes was.root.version) old s) (sym same) (both_keep settles.keeps);
+        keeps = subst (λ (s : FileState). Keeps (Lies was.tree.layout was.tree.nodes was.root.version) old s) (sym same) (both_keep settles.keeps);
         synced = tt;
         stands = tt;
       }

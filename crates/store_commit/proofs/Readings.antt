@@ -1,5 +1,5 @@
 -- What is heard of the card at a mount and at a format.
-use Rattle.std.proofs.Common.{◌≡◌, ◌≢◌, ◌∙◌, ◌==◌, ℕ, List, Option, Some, None, Result, Ok, Err, Bool, true, false, refl, sym, ap, subst, inl}
+use Rattle.std.proofs.Common.{◌≡◌, ◌≢◌, ◌∙◌, ◌==◌, ℕ, List, Option, Some, None, Result, Ok, Err, Bool, true, false, refl, sym, ap, subst, inl, inr}
 use Rattle.std.specs.List.{list_all}
 use Rattle.disk_model.specs.State.{FileState}
 use Rattle.node_image.specs.declared.node.RootRef.{RootRef}
@@ -21,8 +21,8 @@ use Rattle.tee_types.specs.declared.reply.Cause.{Cause}
 use Rattle.tee_types.specs.declared.reply.Cause.TheVariants.{Fault, Frame as OfFrame, CardResult as OfResult}
 use Rattle.tee_types.specs.declared.reply.Device.TheVariants.{Dir, File, Card, Entropy}
 use Rattle.store_commit.specs.declared.fault.MountFault.{MountFault}
-use Rattle.store_commit.specs.declared.fault.MountFault.TheVariants.{NoStore, CardBlock, Directory, Frame as BadAnswer, CardResult, Failed, Spent, NoMemory}
-use Rattle.store_commit.specs.Blocks.{block_answer}
+use Rattle.store_commit.specs.declared.fault.MountFault.TheVariants.{NoStore, CardBlock, Directory, Frame as BadAnswer, CardResult, Failed, Spent, NoMemory, OldFormat}
+use Rattle.store_commit.specs.Blocks.{IsRootRefused, block_answer}
 use Rattle.store_commit.specs.Formats.{FormatHeard, IsFormatRefused}
 use Rattle.store_commit.specs.Mounts.{CardRefused, MountHeard, directory_answer, host_answer}
 use Rattle.store_commit.specs.Reads.{AsksBlock, AsksCounter, AsksWrite, IsBlockRead, IsCardRead, IsCounterRead, IsReadRefused, IsRootRead, OfHost}
@@ -111,6 +111,7 @@ of_more Says More step (CardResult r) is = step (RefusedBy r) is
 of_more Says More step (Failed cause) is = of_cause Says More step cause is
 of_more Says More step Spent is = tt
 of_more Says More step NoMemory is = tt
+of_more Says More step (OldFormat file) is = tt
 
 -- a mount that the card refuses
 module _ (file : FileState) (p0 p1 : PortState) (keys : Keys) where
@@ -131,6 +132,7 @@ module _ (file : FileState) (p0 p1 : PortState) (keys : Keys) where
   card_heard_so drew draws (Failed cause) c is = heard_cause drew draws cause c is
   card_heard_so drew draws Spent c is = absurd c
   card_heard_so drew draws NoMemory c is = absurd c
+  card_heard_so drew draws (OldFormat n) c is = absurd c
 
   -- or its block 0
   module _ (counter : ℕ) (block : List ℕ) (read : IsCardRead (rpmb_key keys.huk) p0 p1 counter block) where
@@ -151,6 +153,12 @@ module _ (file : FileState) (p0 p1 : PortState) (keys : Keys) where
         by_test false other =
             let refused = root_other block other in
             or_heard (first_outside block 0 256) fault refused (is ∙ ap block_answer refused)
+
+    pub root_heard : (fault : MountFault) → IsRootRefused block fault → MountHeard file p0 p1 keys fault
+    root_heard fault (inl is) = block_heard fault is
+    root_heard fault (inr is) =
+        subst (MountHeard file p0 p1 keys) (sym is.0)
+        (refl, record { counter = counter; root = is.1.root; read = record { block = block; read = read; named = is.1.names }; format = is.1.old })
 
     pub root_read : (root : RootRef) → Ok root ≡ block_answer (root_in block) → IsRootRead (rpmb_key keys.huk) p0 p1 counter root
     root_read root names = record { block = block; read = read; named = answer_root (root_in block) root names }
@@ -196,3 +204,4 @@ module _ (old new : FileState) (p0 p1 : PortState) (keys : Keys) where
   counter_heard_so drew draws (Failed cause) same c is = heard_of_cause drew draws cause same c is
   counter_heard_so drew draws Spent same c is = absurd c
   counter_heard_so drew draws NoMemory same c is = absurd c
+  counter_heard_so drew draws (OldFormat n) same c is = absurd c

@@ -67,6 +67,7 @@ module _ (f : FileState) (d : DirView) (p : PortState) (key : List ℕ) (counter
   in_doubt next is = record {
     form = is.form;
     next_form = is.next_form;
+    same_format = is.same_format;
     entries = is.entries;
     next_entries = is.next_entries;
     is_open = is.is_open;

@@ -74,6 +74,7 @@ module _ (s : FileState) (d : DirView) (p0 p1 : PortState) (k0 k1 : List ℕ) (c
   still_doubted = record {
     form = is.stands.form;
     next_form = is.stands.next_form;
+    same_format = is.stands.same_format;
     entries = is.stands.entries;
     next_entries = is.stands.next_entries;
     is_open = is.stands.is_open;
@@ -93,6 +94,7 @@ module _ (s : FileState) (d : DirView) (p0 p1 : PortState) (k0 k1 : List ℕ) (c
         counted = refl;
         entries = is.entries;
         tsk = refl;
+        format = is.stands.same_format;
         settled = now;
         pictures = subst (λ (e : List (Option DirEntry)). EachPicture g (λ m. m ≡ Ok e)) is.entries (settled_pictures g now);
       } in

@@ -17,6 +17,7 @@ pub record IsMade (old new : Sides) (change : EntryChange) (n : ℕ) : Type 0 wh
   pub counted : new.counter ≡ n
   pub entries : new.dir.entries ≡ entries_after old.dir.entries change
   pub tsk : new.dir.tsk ≡ old.dir.tsk
+  pub format : new.dir.root.format ≡ old.dir.root.format
   pub settled : IsSettled new
   pub pictures : EachPicture new (λ m. m ≡ Ok (entries_after old.dir.entries change))
 
@@ -51,6 +52,6 @@ Leaves old new change Spent = IsSpent old new
 
 -- At every moment of the commit the old reference opens to the old entries, in every image.
 pub record Throughout (old new : Sides) : Type 0 where
-  pub keeps : Keeps (Lies old.dir.tree.nodes old.dir.root.version) old.file new.file
+  pub keeps : Keeps (Lies old.dir.tree.layout old.dir.tree.nodes old.dir.root.version) old.file new.file
   pub key : new.key ≡ old.key
   pub always : IsTrue new.file.honest → (image : List ℕ) → LeftSince new.file (moment old.file) image → directory_of old.dir.tsk image old.dir.root ≡ Ok old.dir.entries

@@ -17,6 +17,7 @@ use Rattle.rpmb_host.specs.Honest.{HasCard}
 use Rattle.rpmb_host.specs.declared.fault.HostFault.{HostFault}
 use Rattle.rpmb_host.specs.declared.fault.HostFault.TheVariants.{Failed as NoAnswer, BadFrame, CardResult as RefusedBy}
 use Rattle.rpmb_frame.specs.declared.frame.Frame.{Frame as CardFrame}
+use Rattle.tee_types.specs.Limits.{directory_file}
 use Rattle.tee_types.specs.declared.reply.Cause.TheVariants.{Fault}
 use Rattle.tee_types.specs.declared.reply.Device.TheVariants.{Dir, Card, Entropy}
 use Rattle.crash_core.specs.DeviceKeys.{directory_key}
@@ -25,7 +26,6 @@ use Rattle.dir_file.specs.EntryForms.{no_entries}
 use Rattle.dir_file.specs.Held.{IsDurable}
 use Rattle.store_commit.specs.declared.fault.MountFault.{MountFault}
 use Rattle.store_commit.specs.declared.fault.MountFault.TheVariants.{Frame, CardResult, Failed, Spent, NoMemory}
-use Rattle.store_commit.specs.Blocks.{picture_of}
 use Rattle.store_commit.specs.Leaving.{KeepsPort}
 use Rattle.store_commit.specs.Reads.{AsksCounter, IsCounterRead, IsRootWritten}
 use Rattle.store_commit.specs.Mounts.{NoCardOf}
@@ -41,7 +41,7 @@ pub record IsFormatted (file : FileState) (p1 : PortState) (keys : Keys) (card :
   pub next : CardState
   pub has : HasCard p1 (rpmb_key keys.huk) next
   pub counted : next.counter ≡ card.counter + 1
-  pub mounts : IsTrue file.honest → (image : List ℕ) → LeftNow file image → mounted_directory keys (picture_of image next) ≡ Ok no_entries
+  pub mounts : IsTrue file.honest → (images : ℕ → List ℕ) → LeftNow file (images directory_file) → mounted_directory keys (record { images = images; card = next }) ≡ Ok no_entries
 
 abbrev pub Formats : FileState → (p0 p1 : PortState) → Keys → Type 0
 Formats file p0 p1 keys = (card : CardState) → HasCard p0 (rpmb_key keys.huk) card → (card.counter ≢ last_counter) × IsFormatted file p1 keys card

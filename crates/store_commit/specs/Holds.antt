@@ -1,5 +1,6 @@
 -- The files that sessions hold: each session at most one, before an entry names it.
 use Rattle.std.specs.Prelude.{◌≡◌, ◌≢◌, ◌⊎◌, ◌<◌, ◌≤◌, ◌==◌, if◌then◌else◌, ℕ, List, Option, Some, None, get_or}
+use Rattle.tee_types.specs.Limits.{last_file}
 use Rattle.dir_records.specs.declared.entry.DirEntry.{DirEntry}
 use Rattle.crash_core.specs.EntryLists.{IsUnnamed, entry_at}
 use Rattle.crash_core.specs.EntryChanges.{file_put}
@@ -16,7 +17,7 @@ IsUnheld holds file = (session : ℕ) → file_held holds session ≢ Some file
 
 -- no entry names a file that is held, and no two sessions hold one file
 pub record AreHolds (entries : List (Option DirEntry)) (holds : List (Option ℕ)) : Type 0 where
-  pub within : (session file : ℕ) → file_held holds session ≡ Some file → file < 273
+  pub within : (session file : ℕ) → file_held holds session ≡ Some file → file ≤ last_file
   pub unnamed : (session file : ℕ) → file_held holds session ≡ Some file → IsUnnamed entries file
   pub single : (a b file : ℕ) → file_held holds a ≡ Some file → file_held holds b ≡ Some file → a ≡ b
 
@@ -55,7 +56,7 @@ EndsHoldOf change old new = EndsHold (file_put (change_of change)) old new
 -- an object's file that no entry names and no session holds
 pub record IsFreeFile (entries : List (Option DirEntry)) (holds : List (Option ℕ)) (file : ℕ) : Type 0 where
   pub from : 1 ≤ file
-  pub below : file < 273
+  pub upto : file ≤ last_file
   pub unnamed : IsUnnamed entries file
   pub unheld : IsUnheld holds file
 

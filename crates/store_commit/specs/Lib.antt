@@ -17,6 +17,8 @@ pub mod Reads
 pub mod Counts
 pub mod Leaving
 pub mod Mounts
+pub mod DirectoryLooks
+pub mod EntryMoves
 pub mod Formats
 pub mod Marks
 pub mod Arming

@@ -1,6 +1,7 @@
 -- Marks of the files that are in use, by their numbers.
 use Rattle.std.specs.Prelude.{◌≡◌, ◌⊎◌, ◌+◌, ◌<◌, ◌≤◌, ℕ, zero, suc, Bool, true, false, List, [], ◌∷◌, length, get_or, slice_set, Option, Some, None}
 use Rattle.std.specs.Option.{option_map}
+use Rattle.tee_types.specs.Limits.{last_file}
 use Rattle.dir_records.specs.declared.entry.DirEntry.{DirEntry}
 
 abbrev pub is_marked : List Bool → (file : ℕ) → Bool
@@ -41,6 +42,6 @@ file_named entries index = option_map (λ e. e.file) (get_or entries index None)
 -- the least file from 1 on that is not marked
 pub record IsFirstUnmarked (marks : List Bool) (file : ℕ) : Type 0 where
   pub from : 1 ≤ file
-  pub below : file < 273
+  pub upto : file ≤ last_file
   pub unmarked : is_marked marks file ≡ false
   pub least : (other : ℕ) → 1 ≤ other → other < file → is_marked marks other ≡ true

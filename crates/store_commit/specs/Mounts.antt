@@ -17,18 +17,19 @@ use Rattle.rpmb_card.specs.Port.{PortState}
 use Rattle.rpmb_host.specs.Honest.{HasCard}
 use Rattle.rpmb_host.specs.declared.fault.HostFault.{HostFault}
 use Rattle.rpmb_host.specs.declared.fault.HostFault.TheVariants.{Failed as NoAnswer, BadFrame, CardResult as RefusedBy, Spent as IsSpent}
+use Rattle.tee_types.specs.Limits.{old_directory_file}
 use Rattle.tee_types.specs.declared.reply.Cause.TheVariants.{Fault}
 use Rattle.tee_types.specs.declared.reply.Device.TheVariants.{Dir, Card, Entropy}
 use Rattle.crash_core.specs.declared.fault.DirFault.{DirFault}
 use Rattle.crash_core.specs.declared.fault.DirFault.TheVariants.{Tree}
 use Rattle.crash_core.specs.Refusal.{Refusal, NoStore as BlankBlock, CardBlock as BadBlock, NoDirectory}
-use Rattle.crash_core.specs.CardBlock.{root_in}
+use Rattle.crash_core.specs.CardBlock.{old_format, root_in}
 use Rattle.crash_core.specs.DeviceKeys.{directory_key}
 use Rattle.crash_core.specs.Mounting.{mounted_directory}
 use Rattle.crash_core.specs.Pictures.{block_zero}
 use Rattle.store_commit.specs.declared.fault.MountFault.{MountFault}
-use Rattle.store_commit.specs.declared.fault.MountFault.TheVariants.{NoStore, CardBlock, Directory, Frame, CardResult, Failed, Spent, NoMemory}
-use Rattle.store_commit.specs.Blocks.{picture_of}
+use Rattle.store_commit.specs.declared.fault.MountFault.TheVariants.{NoStore, CardBlock, Directory, Frame, CardResult, Failed, Spent, NoMemory, OldFormat}
+use Rattle.store_commit.specs.Blocks.{HasOldRoot, picture_of}
 use Rattle.store_commit.specs.Leaving.{KeepsPort, LeavesNoMore}
 use Rattle.store_commit.specs.Reads.{IsCardRead, IsReadRefused, IsRootRead}
 use Rattle.dir_file.specs.Loading.{IsDirFault, IsOutsideDir, SeesDirectory}
@@ -77,7 +78,13 @@ MountRefused old new p0 p1 keys drew draws (Failed (Fault Card count)) = Rose p0
 MountRefused old new p0 p1 keys drew draws (Failed (Fault Entropy count)) = Rose drew draws × (count ≡ draws)
 MountRefused old new p0 p1 keys drew draws (Frame fault) = NoCardOf p0 (rpmb_key keys.huk)
 MountRefused old new p0 p1 keys drew draws (CardResult result) = NoCardOf p0 (rpmb_key keys.huk)
+MountRefused old new p0 p1 keys drew draws (OldFormat file) = (file ≡ old_directory_file) × ((card : CardState) → HasCard p0 (rpmb_key keys.huk) card → HasOldRoot (block_zero card))
 MountRefused old new p0 p1 keys drew draws fault = ⊥
+
+-- a directory that is refused is none of the old format
+abbrev pub IsOfCurrentFormat : PortState → Keys → MountFault → Type 0
+IsOfCurrentFormat p0 keys (Directory fault) = (card : CardState) → HasCard p0 (rpmb_key keys.huk) card → HasOldRoot (block_zero card) → ⊥
+IsOfCurrentFormat p0 keys fault = Unit {0}
 
 -- A directory that is refused differs, whatever its file is: under the reference that a card with the key names.
 pub record DiffersThere (file : FileState) (p0 : PortState) (keys : Keys) (fault : DirFault) : Type 0 where
@@ -102,7 +109,14 @@ pub record HasRootRead (key : List ℕ) (p0 p1 : PortState) : Type 0 where
   pub root : RootRef
   pub read : IsRootRead key p0 p1 counter root
 
--- and the directory of that reference is refused, by what the file reads as or by what a tree holds that is verified under it
+-- and it is of that format
+pub record HasFormatRead (key : List ℕ) (p0 p1 : PortState) (wanted : ℕ) : Type 0 where
+  pub counter : ℕ
+  pub root : RootRef
+  pub read : IsRootRead key p0 p1 counter root
+  pub format : root.format ≡ wanted
+
+-- or the directory of that reference is refused, by what the file reads as or by what a tree holds that is verified under it
 pub record IsDirectoryRefused (file : FileState) (p0 p1 : PortState) (keys : Keys) (fault : DirFault) : Type 0 where
   pub counter : ℕ
   pub root : RootRef
@@ -119,6 +133,7 @@ MountHeard file p0 p1 keys (Failed (Fault Card count)) = IsReadRefused (rpmb_key
 MountHeard file p0 p1 keys (Failed (Fault Dir count)) = HasRootRead (rpmb_key keys.huk) p0 p1
 MountHeard file p0 p1 keys (Failed cause) = Unit {0}
 MountHeard file p0 p1 keys Spent = ⊥
+MountHeard file p0 p1 keys (OldFormat n) = (n ≡ old_directory_file) × HasFormatRead (rpmb_key keys.huk) p0 p1 old_format
 MountHeard file p0 p1 keys NoMemory = HasRootRead (rpmb_key keys.huk) p0 p1
 
 -- Where a device failed or memory ran out, that is told, and never a fault of the directory.

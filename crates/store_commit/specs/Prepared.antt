@@ -33,6 +33,7 @@ StagesChange old new was now (Clear index) result = StagesEntry old new was now 
 -- the stage is of the change, in the version that the committed directory does not use
 pub record IsStageOf (settled : Bool) (was : DirView) (change : EntryChange) (s : StagedDirectory) : Type 0 where
   pub version : s.root.version ≡ 1 - was.root.version
+  pub format : s.root.format ≡ was.root.format
   pub entries_are : s.entries ≡ entries_after was.entries change
   pub is_settled : s.settled ≡ settled
   -- each name and each file stands once still
@@ -46,7 +47,7 @@ StageStands true new tsk s = IsDurable new tsk s.root s.tree s.entries
 -- a stage that is settled was written off the committed parts, and then synced
 abbrev pub IsSyncedBehind : Bool → (old new : FileState) → DirView → Type 0
 IsSyncedBehind false old new was = Unit {0}
-IsSyncedBehind true old new was = (mid : FileState) × Keeps (Lies was.tree.nodes was.root.version) old mid × Syncs mid new
+IsSyncedBehind true old new was = (mid : FileState) × Keeps (Lies was.tree.layout was.tree.nodes was.root.version) old mid × Syncs mid new
 
 -- The stage that is open is of the change; a file that fails leaves none. The committed reference's places are kept.
 pub record Prepares (settled : Bool) (old new : FileState) (was now : DirView) (change : EntryChange) {A : Type 0} (result : Result A Cause) : Type 0 where
@@ -54,7 +55,7 @@ pub record Prepares (settled : Bool) (old new : FileState) (was now : DirView) (
   pub none : OnErr result (now.stage ≡ None)
   pub opens : OnOk result (IsSome now.stage)
   pub next : OnOk result (IfSome now.stage (IsStageOf settled was change))
-  pub keeps : Keeps (Lies was.tree.nodes was.root.version) old new
+  pub keeps : Keeps (Lies was.tree.layout was.tree.nodes was.root.version) old new
   pub synced : OnOk result (IsSyncedBehind settled old new was)
   pub stands : OnOk result (IsTrue new.honest → IsDurable old was.tsk was.root was.tree was.entries → IfSome now.stage (StageStands settled new was.tsk))
 

@@ -68,6 +68,7 @@ pub record IsLanded (old new : Sides) (d : Doubted) (n : ℕ) : Type 0 where
   pub counted : new.counter ≡ n
   pub entries : new.dir.entries ≡ entries_after old.dir.entries d.change
   pub tsk : new.dir.tsk ≡ old.dir.tsk
+  pub format : new.dir.root.format ≡ old.dir.root.format
   pub settled : IsSettled new
   pub pictures : EachPicture new (λ m. m ≡ Ok (entries_after old.dir.entries d.change))
 

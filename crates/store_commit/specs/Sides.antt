@@ -8,7 +8,7 @@ use Rattle.rpmb_card.specs.Card.{CardState}
 use Rattle.rpmb_card.specs.Port.{PortState}
 use Rattle.rpmb_host.specs.Honest.{HasCard}
 use Rattle.crash_core.specs.Refusal.{Refusal}
-use Rattle.crash_core.specs.CardBlock.{IsReference, root_in}
+use Rattle.crash_core.specs.CardBlock.{IsReference, directory_at, root_in}
 use Rattle.crash_core.specs.DeviceKeys.{directory_key}
 use Rattle.crash_core.specs.Pictures.{Picture, SameCard, block_zero}
 use Rattle.crash_core.specs.Mounting.{mounted_directory}
@@ -44,6 +44,7 @@ pub record IsSettled (g : Sides) : Type 0 where
 pub record IsInDoubt (g : Sides) (next : StagedDirectory) : Type 0 where
   pub form : IsReference g.dir.root
   pub next_form : IsReference next.root
+  pub same_format : next.root.format ≡ g.dir.root.format
   pub entries : AreEntriesOf g.dir.entries
   pub next_entries : AreEntriesOf next.entries
   pub is_open : g.dir.stage ≡ Some next
@@ -54,7 +55,7 @@ pub record IsInDoubt (g : Sides) (next : StagedDirectory) : Type 0 where
 
 -- A picture of the directory's file and of the card, which may differ from the present one in the register alone.
 pub record IsGatePicture (g : Sides) (picture : Picture) : Type 0 where
-  pub left : LeftNow g.file (picture.images 0)
+  pub left : LeftNow g.file (picture.images (directory_at g.dir.root.format))
   pub card : CardState
   pub has : HasCard g.port g.key card
   pub same : SameCard picture.card card

@@ -22,8 +22,9 @@ use Rattle.store_commit.specs.Sides.{Sides}
 -- the entries with the change.
 pub record IsReady (old new : Sides) (change : EntryChange) (root : RootRef) : Type 0 where
   pub form : IsReference root
+  pub format : root.format ≡ old.dir.root.format
   pub mid : FileState
-  pub writes : Keeps (Lies old.dir.tree.nodes old.dir.root.version) old.file mid
+  pub writes : Keeps (Lies old.dir.tree.layout old.dir.tree.nodes old.dir.root.version) old.file mid
   pub syncs : Syncs mid new.file
   pub settled : pending new.file ≡ []
   pub holds : IsTrue new.file.honest → directory_of old.dir.tsk new.file.reads root ≡ Ok (entries_after old.dir.entries change)
@@ -42,6 +43,6 @@ MaySeal old new root = (card : CardState) → HasCard old.port old.key card → 
 
 abbrev pub Steps : (old new : Sides) → EntryChange → CommitEnd → Type 0
 Steps old new change (Made n) = IsReady old new change new.dir.root × Seals old new new.dir.root
-Steps old new change (Dropped cause) = Keeps (Lies old.dir.tree.nodes old.dir.root.version) old.file new.file × LeavesCard old new
+Steps old new change (Dropped cause) = Keeps (Lies old.dir.tree.layout old.dir.tree.nodes old.dir.root.version) old.file new.file × LeavesCard old new
 Steps old new change (Doubtful n cause) = (root : RootRef) × IsReady old new change root × MaySeal old new root
 Steps old new change Spent = new ≡ old

@@ -1,24 +1,34 @@
 //! Block 0 of the card.
 
-ghost use Rattle.std.specs.Prelude.{◌≡◌, ◌==◌, IfOk};
+ghost use Rattle.std.specs.Prelude.{◌≡◌, ◌==◌, IfErr, IfOk, Ok};
 ghost use Rattle.std.specs.List.{list_all};
-ghost use Rattle.crash_core.specs.CardBlock.{IsReference, first_outside, has_form_at, root_in};
-ghost use Rattle.store_commit.specs.Blocks.{block_answer};
+ghost use Rattle.crash_core.specs.CardBlock.{IsReference, directory_at, first_outside, has_form_at, root_in};
+ghost use Rattle.node_image.specs.References.{current_format};
+ghost use Rattle.store_commit.specs.Blocks.{IsRootRefused, block_answer};
 
 use crate::fault::MountFault;
 use byte_fields::field;
-use node_image::RootRef;
+use node_image::{FORMAT, RootRef};
+use tee_types::{DIRECTORY_FILE, OLD_DIRECTORY_FILE};
 
-// The byte at an offset has its form.
-fn has_form_at(offset: u16, byte: u8) -> bool
-    ensures { result ≡ has_form_at offset byte }
+/// The number of the directory's file, by its format.
+#[tactic(auto, unfolding(tee_types::specs::Limits::directory_file))]
+pub fn directory_at(format: u8) -> u16
+    ensures { result ≡ directory_at format }
+{
+    if format == 1 { 0 } else { DIRECTORY_FILE }
+}
+
+// The byte at an offset has its form, in a block of that format.
+fn has_form_at(format: u8, offset: u16, byte: u8) -> bool
+    ensures { result ≡ has_form_at format offset byte }
 {
     if offset == 0 {
-        byte == 1
+        1 <= byte && byte <= 2
     } else if offset == 1 {
         byte < 2
     } else if offset < 4 {
-        byte == 0
+        byte == directory_at(format).to_be_bytes()[offset as usize - 2]
     } else {
         offset < 36 || byte == 0
     }
@@ -29,7 +39,7 @@ fn first_outside(block: &[u8; 256]) -> Option<u16>
     ensures { result ≡ first_outside block.now 0 256 }
 {
     for i in 0..256u16 {
-        if !has_form_at(i, block[i as usize]) {
+        if !has_form_at(block[0], i, block[i as usize]) {
             return Some(i);
         }
     }
@@ -41,6 +51,25 @@ fn is_zero(block: &[u8; 256]) -> bool
     ensures { result ≡ list_all (λ x. x == 0) block.now }
 {
     block.iter().all(|x| *x == 0)
+}
+
+/// The reference that the card's block 0 names, of the current format.
+///
+/// # Errors
+///
+/// `OldFormat` of the old directory's file where it names one of the old format. Besides those of `root_in`.
+pub(crate) fn root_served(block: &[u8; 256]) -> Result<RootRef, MountFault>
+    ensures named { IfOk result (λ r. Ok r ≡ block_answer (root_in block.now)) }
+    ensures form { IfOk result IsReference }
+    ensures current { IfOk result (λ r. r.format ≡ current_format) }
+    ensures refused { IfErr result (IsRootRefused block.now) }
+{
+    let root = root_in(block)?;
+    if root.format != FORMAT {
+        let file = OLD_DIRECTORY_FILE;
+        return Err(MountFault::OldFormat { file });
+    }
+    Ok(root)
 }
 
 /// The reference that the card's block 0 names.
@@ -60,6 +89,7 @@ pub fn root_in(block: &[u8; 256]) -> Result<RootRef, MountFault>
         None => Ok(RootRef {
             hash: field(block, 4),
             version: block[1],
+            format: block[0],
         }),
     }
 }

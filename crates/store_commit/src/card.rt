@@ -11,6 +11,7 @@ ghost use Rattle.store_commit.specs.CardEnds.{AskLeft, CardLeft};
 ghost use Rattle.store_commit.specs.CardCauses.{AskCalm, AskCause, CardCalm, CardCounts, FaultIs, IsCardFault};
 ghost use Rattle.store_commit.specs.Heard.{AskHeard, CardHeard, LastStays};
 
+use crate::block::directory_at;
 use crate::change::CardEnd;
 use byte_fields::put;
 use node_image::RootRef;
@@ -23,7 +24,8 @@ pub fn root_block(root: &RootRef) -> [u8; 256]
     ensures { result ≡ root_block root.now }
 {
     let mut block = [0; 256];
-    put(&mut block, 0, &[1, root.version]);
+    put(&mut block, 0, &[root.format, root.version]);
+    put(&mut block, 2, &directory_at(root.format).to_be_bytes());
     put(&mut block, 4, &root.hash);
     block
 }

@@ -21,8 +21,12 @@ use rpmb_host::Host;
 use tee_ports::{Entropy, StoreFile};
 use tee_types::{Cause, Device};
 
-// Draws a nonce.
-pub(crate) fn draw_nonce<E: Entropy>(entropy: &mut E) -> Result<[u8; 16], Cause>
+/// Draws a nonce.
+///
+/// # Errors
+///
+/// The draw failed.
+pub fn draw_nonce<E: Entropy>(entropy: &mut E) -> Result<[u8; 16], Cause>
     ensures reliable { E.is_reliable entropy.old → IsOk result × E.is_reliable entropy.new }
     ensures cause { DrawnCause (E.faults entropy.old) (E.faults entropy.new) result }
 {
@@ -50,6 +54,7 @@ pub fn commit_parts<F: StoreFile, R: RpmbPort, E: Entropy>(
     entropy: &mut E,
 ) -> CommitEnd
     requires settled { IsSettled (sides (F.state dir.old.file) dir.old.dir (R.state host.old.port) host.old.key counter.old) }
+    requires format { dir.old.dir.root.format ≡ 2 }
     requires fits { FitsIn dir.old.dir.entries change.now }
     ensures leaves { Leaves
         (sides (F.state dir.old.file) dir.old.dir (R.state host.old.port) host.old.key counter.old)

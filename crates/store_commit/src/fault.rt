@@ -15,6 +15,11 @@ pub enum MountFault {
         /// The first byte that is outside the form.
         byte: u16,
     },
+    /// A file of the store is of the old format: that of an old directory, or the first that an entry names. It has to be migrated first.
+    OldFormat {
+        /// The file's number.
+        file: u16,
+    },
     /// The card's block 0 names no directory.
     Directory(DirFault),
     /// A frame that came is not the wanted answer.
@@ -27,6 +32,15 @@ pub enum MountFault {
     Spent,
     /// Memory ran out.
     NoMemory,
+}
+
+/// A file whose directory is refused, and why.
+#[derive(Drop)]
+pub struct DirectoryRefused<F: StoreFile> {
+    /// The file.
+    pub file: F,
+    /// Why.
+    pub fault: MountFault,
 }
 
 /// The directory's file and the card of a store that is not mounted or formatted, and why.

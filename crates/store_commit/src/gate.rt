@@ -1,6 +1,6 @@
 //! The gate of a mounted store, and its commits.
 
-ghost use Rattle.std.specs.Prelude.{◌≡◌, ◌≤◌, ◌+◌, ◌↔◌, get_or, None, IsTrue};
+ghost use Rattle.std.specs.Prelude.{◌≡◌, ◌≤◌, ◌+◌, ◌↔◌, get_or, None, Some, IsTrue};
 ghost use Rattle.std.specs.Option.{option_map};
 ghost use Rattle.rpmb_card.specs.Protocol.{last_counter};
 ghost use Rattle.open_table.specs.Table.{allows_on_file, is_file_open};
@@ -13,7 +13,9 @@ ghost use Rattle.store_commit.specs.Counts.{EndCounts};
 ghost use Rattle.store_commit.specs.Heard.{EndHeard};
 ghost use Rattle.store_commit.specs.Gates.{DoubtStands, LeavesHolds, doubt_left, file_in_doubt, gate_sides};
 ghost use Rattle.store_commit.specs.Holds.{AreHolds, IsTaken};
+ghost use Rattle.store_commit.specs.EntryMoves.{IsEntryMove};
 ghost use Rattle.store_commit.specs.declared.change.CommitEnd.TheVariants.{Spent};
+ghost use Rattle.store_commit.specs.declared.change.EntryChange.TheVariants.{Put};
 
 use crate::change::{CommitEnd, EntryChange};
 use crate::commit::commit_parts;
@@ -145,6 +147,7 @@ impl<F: StoreFile + Drop, R: RpmbPort + Drop> Gate<F, R> {
     /// in doubt until `resolve` answers, and a file that was held stays held until then.
     pub fn commit<E: Entropy>(&mut self, change: EntryChange, entropy: &mut E) -> CommitEnd
         requires idle { self.old.doubt ≡ None }
+        requires format { self.old.dir.dir.root.format ≡ 2 }
         requires fits { FitsIn self.old.dir.dir.entries change }
         requires taken { IsTaken self.old.dir.dir.entries self.old.holds (file_put (change_of change)) }
         requires room { 1 ≤ self.old.room }
@@ -192,6 +195,47 @@ impl<F: StoreFile + Drop, R: RpmbPort + Drop> Gate<F, R> {
             CommitEnd::Dropped(cause) => CommitEnd::Dropped(cause),
             CommitEnd::Spent => CommitEnd::Spent,
         }
+    }
+
+    /// Commits that the object of an entry stands in another file, of the current format, which a session holds. It is a commit of that one
+    /// entry, by no session: nothing is added to a history. It takes no memory.
+    ///
+    /// At `Made` the file is no longer held. At `Doubtful` the move is in doubt, and the file stays held.
+    pub fn move_entry<E: Entropy>(
+        &mut self,
+        index: u16,
+        entry: DirEntry,
+        entropy: &mut E,
+    ) -> CommitEnd
+        requires idle { self.old.doubt ≡ None }
+        requires format { self.old.dir.dir.root.format ≡ 2 }
+        requires fits { FitsIn self.old.dir.dir.entries (Put index entry) }
+        requires moves { IsEntryMove self.old.dir.dir.entries index entry }
+        requires taken { IsTaken self.old.dir.dir.entries self.old.holds (Some entry.file) }
+        requires room { 1 ≤ self.old.room }
+        ensures leaves { Leaves (gate_sides F.state R.state self.old) (gate_sides F.state R.state self.new) (Put index entry) result }
+        ensures doubt { self.new.doubt ≡ doubt_left (Put index entry) result }
+        ensures holds { LeavesHolds (Put index entry) result self.old.holds self.new.holds }
+        ensures open_handles { self.new.open_handles ≡ self.old.open_handles }
+        ensures throughout { Throughout (gate_sides F.state R.state self.old) (gate_sides F.state R.state self.new) }
+        ensures steps { Steps (gate_sides F.state R.state self.old) (gate_sides F.state R.state self.new) (Put index entry) result }
+        ensures spent { (result ≡ Spent) ↔ (self.old.counter ≡ last_counter) }
+        ensures reliable { E.is_reliable entropy.old → E.is_reliable entropy.new }
+        ensures drawn { E.is_reliable entropy.old → EndNotDrawn result }
+        ensures untouched { EndIsDrawn result → (self.new.dir ≡ self.old.dir) × (self.new.host ≡ self.old.host) }
+        ensures calm { IsTrue (R.state self.old.host.port).calm
+            → StaysCalm (R.state self.old.host.port) (R.state self.new.host.port) × EndNotOfCard result }
+        ensures heard { EndHeard self.old.host.key self.old.counter (R.state self.new.host.port) result }
+        ensures counts { EndCounts
+            (counts (F.state self.old.dir.file) (R.state self.old.host.port) (E.faults entropy.old))
+            (counts (F.state self.new.dir.file) (R.state self.new.host.port) (E.faults entropy.new)) result }
+        ensures cause { EndCause self.old.host.key self.old.counter
+            (counts (F.state self.old.dir.file) (R.state self.old.host.port) (E.faults entropy.old))
+            (counts (F.state self.new.dir.file) (R.state self.new.host.port) (E.faults entropy.new)) result }
+        ensures doubtful { DoubtIsByCard result }
+        ensures arms { KeepsPortArms (R.state self.old.host.port) (R.state self.new.host.port) }
+    {
+        self.commit(EntryChange::Put { index, entry }, entropy)
     }
 
     /// Gives back the directory's file and the port to the card.

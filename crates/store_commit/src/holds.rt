@@ -7,11 +7,11 @@ ghost use Rattle.store_commit.specs.Holds.{AreApart, AreHolds, EndsHoldOf, Holds
 
 use crate::change::EntryChange;
 use crate::gate::Gate;
-use crate::marks::{first_unmarked, mark_held, mark_named};
+use crate::marks::{MARKS, first_unmarked, mark_held, mark_named};
 use dir_records::DirEntry;
 use rpmb_card::RpmbPort;
 use tee_ports::StoreFile;
-use tee_types::{FILES, MAX_SESSIONS};
+use tee_types::MAX_SESSIONS;
 
 // A hold, unless it is on that file.
 fn unless_file(file: u16, held: Option<u16>) -> Option<u16>
@@ -49,7 +49,7 @@ fn free_file(entries: &[Option<DirEntry>], holds: &[Option<u16>; MAX_SESSIONS], 
     requires idle { (session < 16) × (file_held holds.now session ≡ None) }
     ensures { IsLeastFreeFile entries.now holds.now result }
 {
-    let mut marks = [false; FILES];
+    let mut marks = [false; MARKS];
     mark_named(&mut marks, entries);
     mark_held(&mut marks, holds);
     first_unmarked(&marks)

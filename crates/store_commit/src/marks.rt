@@ -2,16 +2,20 @@
 
 ghost use Rattle.std.specs.Prelude.{◌≡◌, ◌<◌, ◌≤◌, IfSome, Some, length};
 ghost use Rattle.std.specs.Option.{option_map};
+ghost use Rattle.tee_types.specs.Limits.{last_file};
 ghost use Rattle.dir_file.specs.EntryForms.{HasForms};
 ghost use Rattle.store_commit.specs.Holds.{file_held};
 ghost use Rattle.store_commit.specs.Marks.{AreMarked, IsFirstUnmarked, file_named, mark_count, marked};
 
 use dir_records::DirEntry;
-use tee_types::{FILES, MAX_SESSIONS};
+use tee_types::{MAX_FILE, MAX_SESSIONS};
+
+/// A mark of each number up to that of the last file of an object.
+pub(crate) const MARKS: usize = MAX_FILE as usize + 1;
 
 // Marks a file, if there is one.
-fn mark(marks: &mut [bool; FILES], file: Option<u16>)
-    requires { IfSome file (λ n. n < 273) }
+fn mark(marks: &mut [bool; MARKS], file: Option<u16>)
+    requires { IfSome file (λ n. n ≤ last_file) }
     ensures { marks.new ≡ marked marks.old file }
 {
     if let Some(file) = file {
@@ -38,7 +42,7 @@ fn file_of(entry: &Option<DirEntry>) -> Option<u16>
 }
 
 /// Marks the files that entries name.
-pub(crate) fn mark_named(marks: &mut [bool; FILES], entries: &[Option<DirEntry>])
+pub(crate) fn mark_named(marks: &mut [bool; MARKS], entries: &[Option<DirEntry>])
     requires whole { length entries.now ≡ 256 }
     requires forms { HasForms entries.now }
     ensures { AreMarked (file_named entries.now) 256 marks.old marks.new }
@@ -49,8 +53,8 @@ pub(crate) fn mark_named(marks: &mut [bool; FILES], entries: &[Option<DirEntry>]
 }
 
 /// Marks the files that sessions hold.
-pub(crate) fn mark_held(marks: &mut [bool; FILES], holds: &[Option<u16>; MAX_SESSIONS])
-    requires within { (session : _) (file : _) → file_held holds.now session ≡ Some file → file < 273 }
+pub(crate) fn mark_held(marks: &mut [bool; MARKS], holds: &[Option<u16>; MAX_SESSIONS])
+    requires within { (session : _) (file : _) → file_held holds.now session ≡ Some file → file ≤ last_file }
     ensures { AreMarked (file_held holds.now) 16 marks.old marks.new }
 {
     for session in 0..MAX_SESSIONS {
@@ -59,11 +63,11 @@ pub(crate) fn mark_held(marks: &mut [bool; FILES], holds: &[Option<u16>; MAX_SES
 }
 
 /// The least file from 1 on that is not marked; not all are.
-pub(crate) fn first_unmarked(marks: &[bool; FILES]) -> u16
-    requires { mark_count marks.now ≤ 271 }
+pub(crate) fn first_unmarked(marks: &[bool; MARKS]) -> u16
+    requires { mark_count marks.now < last_file }
     ensures { IsFirstUnmarked marks.now result }
 {
-    for file in 1..273u16 {
+    for file in 1..MARKS as u16 {
         if !marks[file as usize] {
             return file;
         }

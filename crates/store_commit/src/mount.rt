@@ -6,43 +6,29 @@ ghost use Rattle.store_commit.specs.Gates.{gate_sides};
 ghost use Rattle.store_commit.specs.Holds.{file_held};
 ghost use Rattle.store_commit.specs.Causes.{counts};
 ghost use Rattle.store_commit.specs.Counts.{NoneRose, RefusalCounts, RefusalNotDrawn, RefusalNotOfCard};
-ghost use Rattle.store_commit.specs.Mounts.{LeavesDevices, MountDiffers, MountHeard, MountRefused, OpensGate, TellsFailure, directory_answer};
+ghost use Rattle.node_image.specs.References.{current_format};
+ghost use Rattle.store_commit.specs.DirectoryLooks.{Looks};
+ghost use Rattle.store_commit.specs.Mounts.{IsOfCurrentFormat, LeavesDevices, MountDiffers, MountHeard, MountRefused, OpensGate, TellsFailure};
 ghost use Rattle.store_commit.specs.NameIndex.{IndexesEntry, IsIndexOf};
 ghost use Rattle.store_commit.specs.Sides.{IsSettled, sides};
 ghost use Rattle.store_commit.specs.declared.fault.MountFault.TheVariants.{NoMemory};
 
-use crate::block::root_in;
+use crate::block::root_served;
 use crate::fault::{GateBroken, MountFault};
 use crate::gate::Gate;
 use crate::names::add_name;
 use crate::reading::read_card;
-use crate::sync::open_directory;
-use crash_core::DirFault;
+use crate::sync::{directory_answer, open_directory};
 use dir_file::{DirBroken, DirFile};
 use dir_index::DirIndex;
 use dir_records::DirEntry;
 use hmac_keys::{Keys, dir_tsk, rpmb_key, ssk};
-use htree_file::TreeFault;
 use open_table::OpenTable;
 use rpmb_card::RpmbPort;
 use rpmb_host::Host;
 use std::alloc::Global;
 use tee_ports::{Entropy, StoreFile};
-use tee_types::{Cause, Device, MAX_SESSIONS, NoMemory};
-
-// What a fault of the directory is for a mount.
-fn directory_answer(fault: DirFault) -> MountFault
-    ensures { result ≡ directory_answer fault }
-{
-    match fault {
-        DirFault::Tree(TreeFault::Failed { count }) => MountFault::Failed(Cause::Fault {
-            device: Device::Dir,
-            count,
-        }),
-        DirFault::Tree(TreeFault::NoMemory) => MountFault::NoMemory,
-        _ => MountFault::Directory(fault),
-    }
-}
+use tee_types::{MAX_SESSIONS, NoMemory};
 
 // Puts the name of an entry, if there is one, into an index.
 fn index_entry(index: &mut DirIndex, entry: &Option<DirEntry>, place: u16) -> Result<(), NoMemory>
@@ -103,13 +89,14 @@ impl<F: StoreFile + Drop, R: RpmbPort + Drop> Gate<F, R> {
         }
     }
 
-    /// Mounts the directory that the card names: reads the card's counter and its block 0, each with a nonce that is drawn, syncs the
-    /// directory's file, and loads the directory.
+    /// Mounts the directory that the card names, where its file is of the current format: reads the card's counter and its block 0, each with
+    /// a nonce that is drawn, syncs the directory's file, and loads the directory.
     ///
     /// # Errors
     ///
-    /// `NoStore` and `CardBlock` by block 0; `Directory` where the directory's image is refused; `Frame` and `CardResult` as the host
-    /// says; `Failed` where a call of a device failed; `NoMemory`. The card is as it was, and the file too but for that sync.
+    /// `NoStore` and `CardBlock` by block 0; `OldFormat` of the old directory's file where block 0 names a directory of the old format;
+    /// `Directory` where the directory's image is refused; `Frame` and `CardResult` as the host says; `Failed` where a call of a device
+    /// failed; `NoMemory`. The card is as it was, and the file too but for that sync.
     pub fn mount<E: Entropy>(
         alloc: Global,
         dir: F,
@@ -129,6 +116,9 @@ impl<F: StoreFile + Drop, R: RpmbPort + Drop> Gate<F, R> {
         // Whatever the card is.
         ensures heard { IfErr result (λ b. MountHeard (F.state b.dir) (R.state card) (R.state b.card) keys.now b.fault) }
         ensures leaves { IfErr result (λ b. LeavesDevices (F.state dir) (F.state b.dir) (R.state card) (R.state b.card)) }
+        // The directory's file was synced, and then only read.
+        ensures looks { IfOk result (λ g. Looks (F.state dir) (F.state g.dir.file)) }
+        ensures looks_err { IfErr result (λ b. Looks (F.state dir) (F.state b.dir)) }
         // A refusal that carries a count is of the one that rose; after another, and after a mount, none did.
         ensures passed { IfOk result (λ g. NoneRose (counts (F.state dir) (R.state card) (E.faults entropy.old))
             (counts (F.state g.dir.file) (R.state g.host.port) (E.faults entropy.new))) }
@@ -138,6 +128,9 @@ impl<F: StoreFile + Drop, R: RpmbPort + Drop> Gate<F, R> {
         ensures calm_err { IsTrue (R.state card).calm → IfErr result (λ b. IsTrue (R.state b.card).calm × RefusalNotOfCard b.fault) }
         ensures drawn { E.is_reliable entropy.old → IfErr result (λ b. RefusalNotDrawn b.fault) }
         ensures reliable { E.is_reliable entropy.old → E.is_reliable entropy.new }
+        ensures current { IfOk result (λ g. g.dir.dir.root.format ≡ current_format) }
+        // A directory that is refused is none of the old format.
+        ensures only { IfErr result (λ b. IsOfCurrentFormat (R.state card) keys.now b.fault) }
     {
         let mut host = Host::new(card, rpmb_key(keys));
         let read = match read_card(&mut host, entropy) {
@@ -147,7 +140,7 @@ impl<F: StoreFile + Drop, R: RpmbPort + Drop> Gate<F, R> {
                 return Err(GateBroken { dir, card, fault });
             }
         };
-        let root = match root_in(&read.block) {
+        let root = match root_served(&read.block) {
             Ok(root) => root,
             Err(fault) => {
                 let card = host.into_port();

@@ -20,9 +20,11 @@ use tee_types::{Cause, Device};
 
 /// The card's write counter and its block 0.
 #[derive(Clone, Copy, Drop)]
-pub(crate) struct CardRead {
-    pub(crate) counter: u32,
-    pub(crate) block: [u8; 256],
+pub struct CardRead {
+    /// The write counter.
+    pub counter: u32,
+    /// The bytes of block 0.
+    pub block: [u8; 256],
 }
 
 // What a fault of the host is for a mount.
@@ -104,8 +106,12 @@ pub fn read_block<R: RpmbPort, E: Entropy>(
     }
 }
 
-/// Reads the card: its write counter, then its block 0.
-pub(crate) fn read_card<R: RpmbPort, E: Entropy>(
+/// Reads the card: its write counter, then its block 0, each with a nonce that is drawn. The card is as it was, and it takes no memory.
+///
+/// # Errors
+///
+/// `Failed` where a draw or an exchange failed; `Frame` and `CardResult` as the host says.
+pub fn read_card<R: RpmbPort, E: Entropy>(
     host: &mut Host<R>,
     entropy: &mut E,
 ) -> Result<CardRead, MountFault>

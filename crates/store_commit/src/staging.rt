@@ -38,6 +38,7 @@ fn stage_entry<F: StoreFile, E: Entropy>(
     entropy: &mut E,
 ) -> Result<(), TreeFault>
     requires idle { dir.old.dir.stage ≡ None }
+    requires format { dir.old.dir.root.format ≡ 2 }
     requires fits { FitsIn dir.old.dir.entries change.now }
     ensures answer { StagesChange (F.state dir.old.file) (F.state dir.new.file) dir.old.dir dir.new.dir change.now result }
     ensures untouched { IfErr result (λ fault. IsDrawFault fault → dir.new ≡ dir.old) }
@@ -57,6 +58,7 @@ fn stage_change<F: StoreFile, E: Entropy>(
     entropy: &mut E,
 ) -> Result<(), Cause>
     requires idle { dir.old.dir.stage ≡ None }
+    requires format { dir.old.dir.root.format ≡ 2 }
     requires fits { FitsIn dir.old.dir.entries change.now }
     ensures answer { Prepares false (F.state dir.old.file) (F.state dir.new.file) dir.old.dir dir.new.dir change.now result }
     ensures reliable { E.is_reliable entropy.old → E.is_reliable entropy.new }
@@ -82,6 +84,7 @@ pub fn prepare<F: StoreFile, E: Entropy>(
     entropy: &mut E,
 ) -> Result<RootRef, Cause>
     requires idle { dir.old.dir.stage ≡ None }
+    requires format { dir.old.dir.root.format ≡ 2 }
     requires fits { FitsIn dir.old.dir.entries change.now }
     ensures answer { Prepares true (F.state dir.old.file) (F.state dir.new.file) dir.old.dir dir.new.dir change.now result }
     ensures root { IfOk result (λ root. IfSome dir.new.dir.stage (λ s. root ≡ s.root)) }

@@ -14,13 +14,18 @@ ghost use Rattle.dir_file.specs.Held.{IsDurable};
 ghost use Rattle.dir_file.specs.Loading.{DirCause, IsDirFault, IsOutsideDir, SeesDirectory};
 ghost use Rattle.dir_file.specs.Refusals.{DirDiffers};
 ghost use Rattle.store_commit.specs.Leaving.{LeavesNoMore};
+ghost use Rattle.store_commit.specs.DirectoryLooks.{HasDirectory, HasNoDirectory, Looks};
+ghost use Rattle.store_commit.specs.Mounts.{directory_answer};
 
+use crate::fault::{DirectoryRefused, MountFault};
 use crash_core::DirFault;
 use dir_file::{DirBroken, DirFile};
+use hmac_keys::{Keys, dir_tsk, ssk};
 use htree_file::TreeFault;
 use node_image::RootRef;
 use std::alloc::Global;
 use tee_ports::StoreFile;
+use tee_types::{Cause, Device};
 
 /// Syncs the directory's file, and loads the directory that a reference names in it. After the sync what the file reads as is all that
 /// a crash may leave, so the directory that is loaded stands in every image.
@@ -58,6 +63,8 @@ pub(crate) fn open_directory<F: StoreFile>(
     // Of any file.
     ensures seen { IfOk result (λ d. SeesDirectory (F.state file) (F.state d.file) tsk.now root d.dir.tree (Result.Ok d.dir.entries)) }
     ensures differs { IfErr result (λ b. DirDiffers tsk.now (F.state b.file) root b.fault) }
+    ensures looks { IfOk result (λ d. Looks (F.state file) (F.state d.file)) }
+    ensures looks_err { IfErr result (λ b. Looks (F.state file) (F.state b.file)) }
     ensures passed { IfOk result (λ d. FilePassed (F.state file) (F.state d.file)) }
     ensures cause { IfErr result (λ b. DirCause (F.state file) (F.state b.file) b.fault) }
 {
@@ -69,5 +76,47 @@ pub(crate) fn open_directory<F: StoreFile>(
             });
             Err(DirBroken { file, fault })
         }
+    }
+}
+
+// What a fault of the directory is for a mount.
+pub(crate) fn directory_answer(fault: DirFault) -> MountFault
+    ensures { result ≡ directory_answer fault }
+{
+    match fault {
+        DirFault::Tree(TreeFault::Failed { count }) => MountFault::Failed(Cause::Fault {
+            device: Device::Dir,
+            count,
+        }),
+        DirFault::Tree(TreeFault::NoMemory) => MountFault::NoMemory,
+        _ => MountFault::Directory(fault),
+    }
+}
+
+/// Opens the directory that a reference names in a file, as a mount does, and gives the file back. It is not written.
+///
+/// # Errors
+///
+/// `Directory` where the directory's image is refused; `Failed` where a call of the file failed; `NoMemory`.
+pub fn check_directory<F: StoreFile>(
+    alloc: Global,
+    file: F,
+    keys: &Keys,
+    root: RootRef,
+) -> Result<F, DirectoryRefused<F>>
+    requires { root.version < 2 }
+    ensures has { IfOk result (λ f. HasDirectory keys.now (F.state file) (F.state f) root) }
+    ensures refused { IfErr result (λ r. HasNoDirectory keys.now (F.state file) (F.state r.file) root r.fault) }
+    ensures looks { IfOk result (λ f. Looks (F.state file) (F.state f)) }
+    ensures looks_err { IfErr result (λ r. Looks (F.state file) (F.state r.file)) }
+    ensures passed { IfOk result (λ f. FilePassed (F.state file) (F.state f)) }
+{
+    let tsk = dir_tsk(&ssk(keys));
+    match open_directory(alloc, file, &tsk, root) {
+        Ok(dir) => Ok(dir.into_file()),
+        Err(DirBroken { file, fault }) => Err(DirectoryRefused {
+            file,
+            fault: directory_answer(fault),
+        }),
     }
 }

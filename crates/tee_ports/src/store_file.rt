@@ -12,8 +12,8 @@ use crate::Failed;
 
 /// A file that can be read and written at any place, on a device that may fail and may crash.
 ///
-/// A crash leaves what the last successful `sync` settled, except in the spans that changed since: there it may leave
-/// anything. The file counts its faults, and a call answers `Failed` only where it counted one.
+/// A crash leaves what the last successful `sync` settled, except in the sectors that a change since then met: there it may
+/// leave anything. The file counts its faults, and a call answers `Failed` only where it counted one.
 ///
 /// An honest file reads as its user's calls left it. A steady one reads at the end of a call as at its start, unless the
 /// call writes. One that tells its arms reads at the end of a call as the masks that are armed for the call left it, but for

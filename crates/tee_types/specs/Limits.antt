@@ -1,7 +1,7 @@
 -- How large a part of an object may be, how many there are of each thing, and how far numbers go. The limits of identifiers and of
 -- positions are the standard's (TEE Internal Core API, Trusted Storage: TEE_OBJECT_ID_MAX_LEN, TEE_DATA_MAX_POSITION); the others are this
 -- store's.
-use Rattle.std.specs.Prelude.{ℕ}
+use Rattle.std.specs.Prelude.{◌≤◌, ◌&&◌, nat_le, ℕ, Bool}
 
 abbrev pub most_identifier_bytes : ℕ
 most_identifier_bytes = 64
@@ -17,9 +17,25 @@ most_data_bytes = 1044480
 abbrev pub last_file : ℕ
 last_file = 272
 
--- file 0 is the directory's
+-- a file that may hold an object
+abbrev pub IsObjectFile : (file : ℕ) → Type 0
+IsObjectFile file = (1 ≤ file) × (file ≤ last_file)
+
+-- the test of it
+abbrev pub may_hold_object : (file : ℕ) → Bool
+may_hold_object file = nat_le 1 file && nat_le file last_file
+
+-- how many files a bench has: that of an old directory, those of objects, and the directory's
 abbrev pub file_count : ℕ
-file_count = 273
+file_count = 274
+
+-- the number of the directory's file, of which proofs use a few laws (FileNumbers)
+unfoldable pub directory_file : ℕ
+directory_file = 273
+
+-- and of a directory's of the old format
+abbrev pub old_directory_file : ℕ
+old_directory_file = 0
 
 abbrev pub most_objects : ℕ
 most_objects = 256

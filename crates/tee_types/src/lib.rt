@@ -17,8 +17,9 @@ pub use call::{Call, Whence};
 pub use flags::{Flags, OVERWRITE, READ, SHARE_READ, SHARE_WRITE, WRITE, WRITE_META};
 pub use laws::{flags_have_their_bits, limits_have_their_values};
 pub use limits::{
-    FILES, MAX_APPLICATIONS, MAX_ATTRIBUTES, MAX_DATA, MAX_ENUMERATORS, MAX_FILE, MAX_HANDLES,
-    MAX_IDENTIFIER, MAX_OBJECTS, MAX_POSITION, MAX_SCRIPT, MAX_SESSIONS,
+    BENCH_FILES, DIRECTORY_FILE, MAX_APPLICATIONS, MAX_ATTRIBUTES, MAX_DATA, MAX_ENUMERATORS,
+    MAX_FILE, MAX_HANDLES, MAX_IDENTIFIER, MAX_OBJECTS, MAX_POSITION, MAX_SCRIPT, MAX_SESSIONS,
+    OLD_DIRECTORY_FILE,
 };
 pub use object_id::{BadId, ObjectId};
 pub use reply::{Cause, Code, Device, FrameFault, Reason, Reply};

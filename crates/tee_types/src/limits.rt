@@ -12,8 +12,14 @@ pub const MAX_DATA: usize = 1_044_480;
 /// The number of the last file of an object; the first is 1.
 pub const MAX_FILE: u16 = 272;
 
-/// The number of files of a store: that of the directory, which is file 0, and those of objects.
-pub const FILES: usize = 273;
+/// The number of the directory's file.
+pub const DIRECTORY_FILE: u16 = 273;
+
+/// The number of the file of a directory of the old format.
+pub const OLD_DIRECTORY_FILE: u16 = 0;
+
+/// How many files a bench has: that of an old directory, those of objects, and the directory's.
+pub const BENCH_FILES: usize = 274;
 
 /// The greatest number of objects of a store.
 pub const MAX_OBJECTS: usize = 256;

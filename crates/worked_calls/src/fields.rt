@@ -15,13 +15,17 @@ fn add_fields(report: &mut Report) {
     report.line("byte_fields: nothing put at 6", &bytes);
 }
 
-/// Places in spans and past the end.
+/// Places in sectors that spans meet, in others and past the end.
 fn add_touched(report: &mut Report) {
-    let spans = [Span { at: 4, length: 2 }, Span { at: 9, length: 0 }];
-    for at in [3, 4, 5, 6, 9, 10] {
-        let is = touched(&spans, 10, at);
+    let written = Span { at: 600, length: 2 };
+    let empty = Span {
+        at: 1600,
+        length: 0,
+    };
+    for at in [511, 512, 601, 1023, 1024, 1600, 2000] {
+        let is = touched(&[written, empty], 2000, at);
         report.add(&format_args!(
-            "disk_model: two bytes written at 4, none at 9, of 10; is {at} touched -> {is}"
+            "disk_model: two bytes written at 600, none at 1600, of 2000; is {at} touched -> {is}"
         ));
     }
 }

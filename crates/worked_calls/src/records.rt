@@ -25,7 +25,7 @@ fn example(id: ObjectId) -> DirEntry {
         hash: [0xcd; 32],
         size: 1_044_480,
         attributes: 2_048,
-        format: 1,
+        format: 2,
         generation: 0x0102_0304,
     }
 }

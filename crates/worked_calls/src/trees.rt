@@ -67,14 +67,20 @@ fn add_sets(report: &mut Report, alloc: Global) -> Result<(), AllocError> {
 }
 
 fn add_offsets(report: &mut Report) {
-    report.line("node_image: place of head 1", &head_offset(1));
-    report.line("node_image: place of node 1 0", &node_offset(1, 0));
-    report.line("node_image: place of node 1 1", &node_offset(1, 1));
-    report.line("node_image: place of node 2 0", &node_offset(2, 0));
-    report.line("node_image: place of node 256 1", &node_offset(256, 1));
-    report.line("node_image: place of block 0 0", &block_offset(0, 0));
-    report.line("node_image: place of block 1 0", &block_offset(1, 0));
-    report.line("node_image: place of block 255 1", &block_offset(255, 1));
+    for format in [1, 2] {
+        for (part, place) in [
+            ("head 1", head_offset(format, 1)),
+            ("node 1 0", node_offset(format, 1, 0)),
+            ("node 1 1", node_offset(format, 1, 1)),
+            ("node 2 0", node_offset(format, 2, 0)),
+            ("node 256 1", node_offset(format, 256, 1)),
+            ("block 0 0", block_offset(format, 0, 0)),
+            ("block 1 0", block_offset(format, 1, 0)),
+            ("block 255 1", block_offset(format, 255, 1)),
+        ] {
+            report.add(&format_args!("node_image: place of {part} in format {format} -> {place}"));
+        }
+    }
 }
 
 // 16 bytes that rise from `first`.

@@ -22,6 +22,8 @@ pub struct Settings {
     pub is_worn: bool,
     /// Files 1 and 2 of the bench are exchanged.
     pub exchanged: bool,
+    /// The bench has a store of the old format.
+    pub is_old: bool,
 }
 
 impl Settings {
@@ -36,6 +38,7 @@ impl Settings {
             same_bench: false,
             is_worn: false,
             exchanged: false,
+            is_old: false,
         })
     }
 
@@ -63,6 +66,7 @@ impl Settings {
             "same bench" => self.same_bench = true,
             "worn" => self.is_worn = true,
             "exchanged" => self.exchanged = true,
+            "old store" => self.is_old = true,
             _ => anyhow::bail!("not a setting"),
         }
         Ok(())

@@ -35,5 +35,8 @@ returns-clause-given g c =
 pub returns-clause-form : goal.returns-clause-form
 returns-clause-form g c = c.doubt-doubt.ensures.entries.forms c.requires.entry.0 c.args.entry.now c.requires.entry.1
 
+pub returns-clause-current : goal.returns-clause-current
+returns-clause-current g c = c.doubt-doubt.ensures.guarded.current.entries c.requires.entry.0 c.args.entry.now c.requires.entry.1
+
 pub returns-clause-calm : goal.returns-clause-calm
 returns-clause-calm g c = λ calmly. c.catch_up_slot.ensures.session ∙ shown-same g.L.StoreName.store c.args.gate.now.journal.knows c.args.session.now calmly

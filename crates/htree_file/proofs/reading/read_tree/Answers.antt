@@ -8,6 +8,7 @@ use Rattle.disk_model.proofs.Goings.{rests_then, then_known}
 use Rattle.disk_model.proofs.Seen.{runs_one, seen_later, seen_now}
 use Rattle.node_image.specs.declared.node.NodeImage.{NodeImage}
 use Rattle.node_image.specs.declared.node.RootRef.{RootRef}
+use Rattle.node_image.specs.Parts.{nodes_end, layout_of}
 use Rattle.node_image.specs.Selection.{bytes_at}
 use Rattle.htree_file.specs.declared.fault.TreeFault.TheVariants.{Short}
 use Rattle.htree_file.specs.Opening.{Loaded, need_of, table_of}
@@ -18,7 +19,7 @@ use Rattle.htree_file.proofs.Verified.{long_is, short_is, table_differs, table_f
 use Rattle.htree_file.proofs.reading.read_tree.Goals as goal
 
 -- what was read is what the file reads as
-same_table : (seen into tail reads : List ℕ) (root : RootRef) (size len : ℕ) → root.version < 2 → size ≡ 37888 → length into ≡ len → seen ≡ take len (into ++ tail) → into ≡ bytes_at reads 0 size → table_of reads root ≡ table_of seen root
+same_table : (seen into tail reads : List ℕ) (root : RootRef) (size len : ℕ) → root.version < 2 → size ≡ nodes_end (layout_of root.format) → length into ≡ len → seen ≡ take len (into ++ tail) → into ≡ bytes_at reads 0 size → table_of reads root ≡ table_of seen root
 same_table seen into tail reads root size len bit wide long is got = sym (table_read seen into reads root size bit wide got (is ∙ take_at into tail len long))
 
 -- and still when the length was asked
@@ -47,7 +48,7 @@ returns-clause-loaded g c = λ told.
     let old = g.F.StoreFile.state c.args.file.now in
     let mid = g.F.StoreFile.state c.read_padded.new.file in
     let new = g.F.StoreFile.state c.len.new.self in
-    let table : table_of new.reads c.args.root ≡ Ok (record { head = c.in_ok-head.head; nodes = take c.in_ok-head.head.greatest c.read_table.new.nodes }) =
+    let table : table_of new.reads c.args.root ≡ Ok (record { head = c.in_ok-head.head; nodes = take c.in_ok-head.head.greatest c.read_table.new.nodes; layout = layout_of c.args.root.format }) =
     same_later old mid new c.args.root c.read_padded.ensures.rests c.len.ensures.rests told
     ∙ same_table c.deref.result.now c.read_padded.new.into _ mid.reads c.args.root (length c.deref_mut.result.now) c.in_ok-image.image.len c.requires.version (search rules) (omega arith) c.deref.ensures.value (c.in_ok-read_padded.ensures.bytes (sym c.len.ensures.rests.goes_on.tells ∙ told.0))
     ∙ c.in_ok-head.ensures.ok in
@@ -59,20 +60,20 @@ returns-then-end-need-clause-fault g c = inr (λ told.
     let mid = g.F.StoreFile.state c.read_padded.new.file in
     let new = g.F.StoreFile.state c.len.new.self in
     let nodes : List NodeImage = take c.in_ok-head.head.greatest c.read_table.new.nodes in
-    let table : table_of new.reads c.args.root ≡ Ok (record { head = c.in_ok-head.head; nodes = nodes }) =
+    let table : table_of new.reads c.args.root ≡ Ok (record { head = c.in_ok-head.head; nodes = nodes; layout = layout_of c.args.root.format }) =
     same_later old mid new c.args.root c.read_padded.ensures.rests c.len.ensures.rests told
     ∙ same_table c.deref.result.now c.read_padded.new.into _ mid.reads c.args.root (length c.deref_mut.result.now) c.in_ok-image.image.len c.requires.version (search rules) (omega arith) c.deref.ensures.value (c.in_ok-read_padded.ensures.bytes (sym c.len.ensures.rests.goes_on.tells ∙ told.0))
     ∙ c.in_ok-head.ensures.ok in
     let end : length new.reads ≡ c.in_ok-end.end = sym (c.in_ok-end.ensures.told told.0) in
-    let need : need_of nodes (length nodes) ≡ c.need_of-need.result = sym c.need_of-need.ensures in
-    short_is (length new.reads) (table_of new.reads c.args.root) (record { head = c.in_ok-head.head; nodes = nodes }) table (omega (arith, c.if-end-need.true, need, end)) ∙ (λ i. Err (Short (end i) (need i))))
+    let need : need_of (layout_of c.args.root.format) nodes (length nodes) ≡ c.need_of-need.result = sym c.need_of-need.ensures in
+    short_is (length new.reads) (table_of new.reads c.args.root) (record { head = c.in_ok-head.head; nodes = nodes; layout = layout_of c.args.root.format }) table (omega (arith, c.if-end-need.true, need, end)) ∙ (λ i. Err (Short (end i) (need i))))
 
 pub returns-then-end-need-clause-differs : goal.returns-then-end-need-clause-differs
 returns-then-end-need-clause-differs g c = λ tells. (
   c.in_ok-end.ensures.told tells,
   c.if-end-need.true,
   record {
-    tree = record { head = c.in_ok-head.head; nodes = take c.in_ok-head.head.greatest c.read_table.new.nodes };
+    tree = record { head = c.in_ok-head.head; nodes = take c.in_ok-head.head.greatest c.read_table.new.nodes; layout = layout_of c.args.root.format };
     verified = table_verified c.deref.result.now c.args.root _ c.read_table.ensures.bytes c.in_ok-head.ensures.ok;
     is = c.need_of-need.ensures;
   },
@@ -83,8 +84,8 @@ returns-clause-seen g c =
     let old = g.F.StoreFile.state c.args.file.now in
     let mid = g.F.StoreFile.state c.read_padded.new.file in
     let new = g.F.StoreFile.state c.len.new.self in
-    let tree : Loaded = record { head = c.in_ok-head.head; nodes = take c.in_ok-head.head.greatest c.read_table.new.nodes } in
-    let places = Lies tree.nodes c.args.root.version in
+    let tree : Loaded = record { head = c.in_ok-head.head; nodes = take c.in_ok-head.head.greatest c.read_table.new.nodes; layout = layout_of c.args.root.format } in
+    let places = Lies tree.layout tree.nodes c.args.root.version in
     let shown : List ℕ → Type 0 = λ image. table_of image c.args.root ≡ Ok tree in
     seen_later places old mid new shown (runs_one places rest mid new (g.met.F.StoreFile.sound c.read_padded.new.file) c.len.ensures.rests tt)
     (seen_now places old mid shown c.read_padded.ensures.rests (λ tells.

@@ -1,6 +1,6 @@
-use Rattle.std.proofs.Common.{◌≡◌, ◌+◌, None, vec_len}
+use Rattle.std.proofs.Common.{◌≡◌, None, vec_len}
 use Rattle.std.specs.Prelude.{All}
 use Rattle.object_calls.proofs.file_places.free_places.Given as goal
 
 abbrev pub invariant-loop-i : goal.invariant-loop-i
-invariant-loop-i g l = record { many : vec_len l.places + 1 ≡ l.i; none : All (λ place. place ≡ None) l.places.items }
+invariant-loop-i g l = record { many : vec_len l.places ≡ l.i; none : All (λ place. place ≡ None) l.places.items }

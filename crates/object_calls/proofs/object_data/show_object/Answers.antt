@@ -1,7 +1,7 @@
 use Rattle.std.proofs.Common.{subst, sym}
 use Rattle.disk_model.proofs.Goings.{rests_then}
 use Rattle.object_calls.specs.Next.{ShowAnswer}
-use Rattle.object_calls.proofs.ObjectLoading.{IsLoaded, loaded_answer}
+use Rattle.object_calls.proofs.ObjectLoading.{IsLoaded, damaged_answer, loaded_answer}
 use Rattle.object_calls.proofs.object_data.show_object.Goals as goal
 
 pub returns-in-Ok-clause-answer : goal.returns-in-Ok-clause-answer
@@ -30,3 +30,12 @@ returns-in-Ok-clause-answer g c =
 
 pub returns-in-Ok-clause-rests : goal.returns-in-Ok-clause-rests
 returns-in-Ok-clause-rests g c = rw (c.into_file.ensures) (rests_then _ _ _ c.in-Ok.ensures.rests c.show_loaded-shown.ensures.rests)
+
+pub returns-in-Err-clause-answer : goal.returns-in-Err-clause-answer
+returns-in-Err-clause-answer g c =
+    let state = g.F.StoreFile.state in
+    let b = c.in-Err.field-0 in
+    let e = c.args.wanted.entry in
+    let l = c.in-Err.ensures in
+    subst (ShowAnswer c.args.wanted.tsk (state c.args.file) (state b.file) e) (sym c.object_answer.ensures)
+    (damaged_answer c.args.wanted.tsk (state c.args.file) (state b.file) e b.fault l.damaged l.differs l.cause)

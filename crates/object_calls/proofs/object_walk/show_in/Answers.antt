@@ -34,5 +34,5 @@ returns-clause-reads g c =
       rests = subst (λ (s : FileState). Rests s (object_files state (slice_set files (n - 1) y) n))
           (sym (object_get state files n x form.file.0 upto (ap (λ v. get_or files (n - 1) v) c.index-files-place.is)))
           (subst (Rests (state x)) (sym (object_here state files n y form.file.0 upto)) c.replace_with.ensures.0);
-      others = λ k one ne. object_else state files n k y form.file.0 one ne;
+      others = λ k one ne. object_else state files n k y form.file.0 ne;
     }

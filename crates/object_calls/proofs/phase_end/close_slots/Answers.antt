@@ -1,4 +1,6 @@
-use Rattle.std.proofs.Common.{◌≡◌, ◌∙◌, ◌+◌, suc, List, option_map, sym, ap, subst, arith}
+use Rattle.std.proofs.Common.{◌≡◌, ◌∙◌, ◌+◌, ℕ, suc, option_map, sym, ap, subst, arith}
+use Rattle.disk_model.specs.State.{FileState}
+use Rattle.tee_types.specs.Limits.{last_file, old_directory_file}
 use Rattle.history_seats.specs.Views.{GateView}
 use Rattle.store_commit.specs.Gates.{DoubtStands, GateValue, gate_sides}
 use Rattle.store_commit.specs.Holds.{AreHolds}
@@ -7,7 +9,8 @@ use Rattle.serial_calls.specs.GuardedGates.{GuardedGateValue}
 use Rattle.object_calls.specs.OpeningFiles.{files_of}
 use Rattle.object_calls.specs.FinishedPhase.{HaveCounted}
 use Rattle.object_calls.specs.Retiring.{IsPlaced}
-use Rattle.object_calls.proofs.LeftStores.{dir_first, leaves_parts}
+use Rattle.object_calls.proofs.Files.{object_numbered, spare_here}
+use Rattle.object_calls.proofs.LeftStores.{leaves_parts}
 use Rattle.object_calls.proofs.Placings.{placed_taken}
 use Rattle.object_calls.proofs.Retirings.{IsSameHistory, placed_back, recorded_back, sessions_same}
 use Rattle.object_calls.proofs.phase_end.close_slots.Goals as goal
@@ -18,9 +21,13 @@ returns-clause-counted g c =
 
 pub returns-clause-dir : goal.returns-clause-dir
 returns-clause-dir g c =
-    let s : GuardedGateValue g.row.F.Denot g.row.R.Denot = c.args.gate in
-    dir_first s.gate.dir.file c.close-dir.result.0 c.taken_files-files.result.items c.with_dir-files.result.items
-    (ap (λ p. p.0) c.close-dir.ensures.gives ∙ ap (λ (x : GateValue g.row.F.Denot g.row.R.Denot). x.dir.file) c.into_parts-gate.ensures.gate) c.with_dir-files.ensures.files
+    c.put_together-files.ensures.dir
+    ∙ ap g.F.StoreFile.state (ap (λ p. p.0) c.close-dir.ensures.gives ∙ ap (λ (x : GateValue g.row.F.Denot g.row.R.Denot). x.dir.file) c.into_parts-gate.ensures.gate)
+
+pub returns-clause-spare : goal.returns-clause-spare
+returns-clause-spare g c =
+    ap (λ (f : ℕ → FileState). f old_directory_file) c.put_together-files.ensures.files
+    ∙ spare_here g.F.StoreFile.state c.args.spare c.close-dir.result.0 c.taken_files-files.result.items
 
 pub returns-clause-placed : goal.returns-clause-placed
 returns-clause-placed g c = λ i within.
@@ -35,9 +42,10 @@ returns-clause-placed g c = λ i within.
     let files = c.taken_files-files.result.items in
     let next : i + 1 ≡ suc i = omega arith in
     subst (IsPlaced store s.journal.knows slots (i + 1))
-    (sym (ap (files_of state c.with_dir-files.result.items) next ∙ ap (λ (l : List _). files_of state l (suc i)) c.with_dir-files.ensures.files))
+    (sym (ap (files_of state c.put_together-files.result.items) next ∙ ap (λ (f : ℕ → FileState). f (suc i)) c.put_together-files.ensures.files
+    ∙ object_numbered state c.args.spare c.close-dir.result.0 files (suc i) (omega arith, omega (arith, within))))
     (placed_back s.journal.knows later same store slots (i + 1) (files_of state files i)
-    (placed_taken store later slots state 272 c.retire_slots-places.result.items files c.taken_files-files.ensures.files c.retire_slots-places.ensures.placed i within))
+    (placed_taken store later slots state last_file c.retire_slots-places.result.items files c.taken_files-files.ensures.files c.retire_slots-places.ensures.placed i within))
 
 pub returns-clause-tagged : goal.returns-clause-tagged
 returns-clause-tagged g c =
@@ -62,14 +70,14 @@ returns-clause-leaves g c =
     (sessions_same c.into_parts-gate.result.1 c.retire_sessions.new.journal later.sessions c.retire_sessions.ensures.journal) in
     let slots = c.args.slots.items in
     let files = c.taken_files-files.result.items in
-    leaves_parts state port g.met.F.StoreFile.sound store s later c.into_parts-gate.ensures.tied c.requires.tagged same slots files
+    leaves_parts state port g.met.F.StoreFile.sound store s later c.into_parts-gate.ensures.tied c.requires.tagged same slots c.args.spare files
     (sym c.taken_files-files.result.ok.0 ∙ c.taken_files-files.ensures.len ∙ c.retire_slots-places.ensures.many)
-    (placed_taken store later slots state 272 c.retire_slots-places.result.items files c.taken_files-files.ensures.files c.retire_slots-places.ensures.placed)
+    (placed_taken store later slots state last_file c.retire_slots-places.result.items files c.taken_files-files.ensures.files c.retire_slots-places.ensures.placed)
     c.retire_slots-places.ensures.recorded c.requires.opens
     (subst (λ (x : GateValue g.row.F.Denot g.row.R.Denot). DoubtStands (gate_sides state port x) x.doubt) is c.doubt-doubt.ensures.stands)
     (subst (λ (x : GateValue g.row.F.Denot g.row.R.Denot). AreHolds x.dir.dir.entries x.holds) is c.doubt-doubt.ensures.held)
     c.doubt-doubt.result (subst (λ (x : GateValue g.row.F.Denot g.row.R.Denot). c.doubt-doubt.result ≡ option_map (λ d. d.number) x.doubt) is c.doubt-doubt.ensures.number)
-    c.close-dir.result.0 c.close-dir.result.1 c.with_dir-files.result.items
+    c.close-dir.result.0 c.close-dir.result.1 c.put_together-files.result.items
     (ap (λ p. p.0) c.close-dir.ensures.gives ∙ ap (λ (x : GateValue g.row.F.Denot g.row.R.Denot). x.dir.file) is)
     (ap (λ p. p.1) c.close-dir.ensures.gives ∙ ap (λ (x : GateValue g.row.F.Denot g.row.R.Denot). x.host.port) is)
-    c.with_dir-files.ensures.files
+    c.put_together-files.ensures.files

@@ -27,7 +27,7 @@ returns-in_err-read_part-clause-blocks g c =
     subst (λ o. PartAnswer o.tree.key o.tree.tree b new r k c.loop-k.into c.read_part.new.into {A = Unit {0}} (Err c.in_err-read_part.field-0.0)) before.same c.in_err-read_part.ensures.answer in
     let p = err_from_is_err_and c.from_residual.result c.from_residual.ensures.1 in
     rw (p.1, p.2) (part_blocks t.key t.tree a b new (meets at (at + count)) r k c.loop-k.into c.read_part.new.into (Unit {0}) ℕ c.in_err-read_part.field-0.0
-    (rests_keep t.tree.nodes b new (g.met.F.StoreFile.sound c.loop-k.object.tree.file) c.in_err-read_part.ensures.rests) (same k ∙ met) (λ j lt is. (before.read.pages j, before.read.read j lt (sym (same j) ∙ is))) answer)
+    (rests_keep t.tree.layout t.tree.nodes b new (g.met.F.StoreFile.sound c.loop-k.object.tree.file) c.in_err-read_part.ensures.rests) (same k ∙ met) (λ j lt is. (before.read.pages j, before.read.read j lt (sym (same j) ∙ is))) answer)
 
 pub returns-in_err-read_part-clause-rest : goal.returns-in_err-read_part-clause-rest
 returns-in_err-read_part-clause-rest g c =
@@ -57,7 +57,7 @@ loop-k-preserved g c =
       rests = rests_then a b new before.rests step.rests;
       passed = passed_then a b new before.passed step.cause;
       kept = step.kept;
-      read = read_step t.key t.tree a b new r k c.loop-k.into c.read_part.new.into before.rests (rests_keep t.tree.nodes b new (g.met.F.StoreFile.sound c.loop-k.object.tree.file) step.rests) before.read given;
+      read = read_step t.key t.tree a b new r k c.loop-k.into c.read_part.new.into before.rests (rests_keep t.tree.layout t.tree.nodes b new (g.met.F.StoreFile.sound c.loop-k.object.tree.file) step.rests) before.read given;
       asked = asks_then (k - first_block r) 1 (k + 1 - first_block r) a b new (omega (arith, c.first_block-k.ensures, c.loop-k.auto.k)) before.rests.goes_on.tells_arms before.asked step.asks;
       rest = λ i behind. given.given i ∙ rest_step r k given.page (get_or c.loop-k.into i 0) i behind ∙ before.rest i behind;
     }

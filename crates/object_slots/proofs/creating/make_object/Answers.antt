@@ -20,7 +20,7 @@ returns-in-Ok-make-clause-makes g c =
         apart c.in-Ok-make.object,
         refl,
         is_made {F = g.row.F.Denot} old mid new c.in-Ok-make.object c.in-Ok-make.root c.args.tsk.now c.args.attributes.now c.args.bytes.now
-            cut.keeps.goes_on e.root.0 e.root.1 e.attributes e.size e.key e.verified e.flags e.seals e.loaded e.object e.firm,
+            cut.keeps.goes_on e.root.0 e.root.1 e.root.2 e.attributes e.size e.key e.verified e.flags e.seals e.loaded e.object e.firm,
       );
       cuts = record { cut = mid; is_cut = cut.cut; keeps = e.keeps };
       keeps = keeps_then Nowhere old mid new cut.keeps e.keeps;

@@ -1,4 +1,4 @@
-use Rattle.std.proofs.Common.{Err, refl, sym, ap, subst, arith}
+use Rattle.std.proofs.Common.{Err, refl, sym, ap, ◌∙◌, subst, arith}
 use Rattle.node_image.specs.declared.node.RootRef.{RootRef}
 use Rattle.object_slots.specs.declared.fault.SlotFault.{SlotFault}
 use Rattle.object_slots.specs.Loads.{LoadsObject}
@@ -46,4 +46,4 @@ returns-in-Ok-clause-loads g c =
 pub returns-in-Ok-clause-content : goal.returns-in-Ok-clause-content
 returns-in-Ok-clause-content g c =
     let e = c.in-Ok.ensures in
-    rw c.new.ensures (e.idle, omega (arith, ap (λ (r : RootRef). r.version) e.root, c.requires.version))
+    rw c.new.ensures (e.idle, (omega (arith, ap (λ (r : RootRef). r.version) e.root, c.requires.form.version), ap (λ (r : RootRef). r.format) e.root ∙ c.requires.current))

@@ -8,7 +8,7 @@ use Rattle.object_slots.proofs.staging.settle_object.Goals as goal
 pub returns-in-Ok-clause-content : goal.returns-in-Ok-clause-content
 returns-in-Ok-clause-content g c =
     let e = c.settle.ensures in
-    rw c.new.ensures (settled_content {F = g.row.F.Denot} c.args.object c.settle.new.self e.same c.in-Ok.root c.requires.open c.in-Ok.ensures.settled c.requires.bit c.requires.next_bit)
+    rw c.new.ensures (settled_content {F = g.row.F.Denot} c.args.object c.settle.new.self e.same c.in-Ok.root c.requires.open c.in-Ok.ensures.settled c.requires.current c.requires.next_current)
 
 pub returns-in-Ok-clause-settles : goal.returns-in-Ok-clause-settles
 returns-in-Ok-clause-settles g c =

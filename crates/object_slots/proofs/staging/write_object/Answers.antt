@@ -1,23 +1,24 @@
-use Rattle.std.proofs.Common.{◌<◌, sym, ap, subst}
+use Rattle.std.proofs.Common.{sym, ap, subst}
+use Rattle.node_image.specs.References.{IsCurrent}
 use Rattle.node_image.specs.declared.node.RootRef.{RootRef}
 use Rattle.block_file.specs.Reads.{IsChangeFault}
 use Rattle.object_slots.specs.SlotInside.{file_in, holding_in}
 use Rattle.object_slots.specs.SlotStages.{SettlesObject, write_change}
 use Rattle.object_slots.specs.SlotValues.{HeldObject, apart, live}
-use Rattle.object_slots.proofs.ContentLaws.{next_bit, sound_in}
+use Rattle.object_slots.proofs.ContentLaws.{next_current, sound_in}
 use Rattle.object_slots.proofs.FaultLaws.{causes_refused, causes_then}
 use Rattle.object_slots.proofs.SettleAnswers.{apart_same}
 use Rattle.object_slots.proofs.StageAnswers.{stages_refused, stages_then}
 use Rattle.object_slots.proofs.staging.write_object.Goals as goal
 
-pub settle_object-requires-clause-bit : goal.settle_object-requires-clause-bit
-settle_object-requires-clause-bit g c =
+pub settle_object-requires-clause-current : goal.settle_object-requires-clause-current
+settle_object-requires-clause-current g c =
     let o = c.args.object in
     let p = c.open_write.new.object in
-    subst (λ (h : HeldObject). h.tree.root.version < 2) (sym (apart_same {F = g.row.F.Denot} o p c.open_write.ensures.same)) c.requires.bit
+    subst (λ (h : HeldObject). IsCurrent h.tree.root) (sym (apart_same {F = g.row.F.Denot} o p c.open_write.ensures.same)) c.requires.current
 
-pub settle_object-requires-clause-next_bit : goal.settle_object-requires-clause-next_bit
-settle_object-requires-clause-next_bit g c = next_bit c.open_write.new.object.tree.stage c.args.object.tree.root.version _ c.in-Ok.ensures.opens.next
+pub settle_object-requires-clause-next_current : goal.settle_object-requires-clause-next_current
+settle_object-requires-clause-next_current g c = next_current c.open_write.new.object.tree.stage c.args.object.tree.root _ c.requires.current c.in-Ok.ensures.opens.next c.in-Ok.ensures.opens.format
 
 pub returns-in-Ok-clause-stages : goal.returns-in-Ok-clause-stages
 returns-in-Ok-clause-stages g c =
@@ -28,7 +29,7 @@ returns-in-Ok-clause-stages g c =
     let settles : SettlesObject (state p.tree.file) (file_in state r.0) (apart o) p.tree.stage (holding_in r.0) r.1 =
     subst (λ (h : HeldObject). SettlesObject (state p.tree.file) (file_in state r.0) h p.tree.stage (holding_in r.0) r.1) (apart_same {F = g.row.F.Denot} o p c.open_write.ensures.same) c.settle_object.ensures.settles in
     stages_then (apart o) (write_change (apart o) c.args.at c.args.bytes.now) _ (state o.tree.file) (state p.tree.file) (file_in state r.0) p.tree.stage (holding_in r.0) c.in-Ok.ensures.opens r.1
-    (g.met.F.StoreFile.sound o.tree.file) (sound_in state g.met.F.StoreFile.sound r.0) c.requires.bit settles
+    (g.met.F.StoreFile.sound o.tree.file) (sound_in state g.met.F.StoreFile.sound r.0) c.requires.current settles
 
 pub returns-in-Ok-clause-causes : goal.returns-in-Ok-clause-causes
 returns-in-Ok-clause-causes g c =
@@ -42,7 +43,7 @@ returns-in-Ok-clause-causes g c =
 pub returns-in-Err-clause-content : goal.returns-in-Err-clause-content
 returns-in-Err-clause-content g c = rw c.new.ensures (
   c.in-Err.ensures.opens.none,
-  subst (λ (h : HeldObject). h.tree.root.version < 2) (sym (apart_same {F = g.row.F.Denot} c.args.object c.open_write.new.object c.open_write.ensures.same)) c.requires.bit,
+  subst (λ (h : HeldObject). IsCurrent h.tree.root) (sym (apart_same {F = g.row.F.Denot} c.args.object c.open_write.new.object c.open_write.ensures.same)) c.requires.current,
 )
 
 pub returns-in-Err-clause-stages : goal.returns-in-Err-clause-stages
@@ -52,7 +53,7 @@ returns-in-Err-clause-stages g c =
     let p = c.open_write.new.object in
     let same = ap (λ (h : HeldObject). live h) (apart_same {F = g.row.F.Denot} o p c.open_write.ensures.same) in
     rw (c.slot_fault.ensures, c.new.ensures) (stages_refused (apart o) (write_change (apart o) c.args.at c.args.bytes.now) _ (state o.tree.file) (state p.tree.file) p.tree.stage (live (apart p)) (Unit {0}) c.in-Err.fault
-    (g.met.F.StoreFile.sound o.tree.file) (g.met.F.StoreFile.sound p.tree.file) c.requires.bit c.in-Err.ensures.causes.kind same c.in-Err.ensures.opens)
+    (g.met.F.StoreFile.sound o.tree.file) (g.met.F.StoreFile.sound p.tree.file) c.requires.current c.in-Err.ensures.causes.kind same c.in-Err.ensures.opens)
 
 pub returns-in-Err-clause-causes : goal.returns-in-Err-clause-causes
 returns-in-Err-clause-causes g c =

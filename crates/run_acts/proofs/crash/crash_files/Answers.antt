@@ -1,4 +1,5 @@
 use Rattle.std.proofs.Common.{◌≡◌, ◌∙◌, ◌≤◌, ℕ, List, ◌++◌, drop, length, refl, sym, subst, take}
+use Rattle.tee_types.specs.Limits.{file_count}
 use Rattle.object_calls.specs.OpeningFiles.{files_of}
 use Rattle.object_calls.proofs.Files.{refilled}
 use Rattle.object_calls.proofs.Rearming.{on_err}
@@ -18,7 +19,7 @@ returns-clause-in_part g c =
     let many : length new ≡ bench.files.len = c.crash_all.auto.files ∙ c.deref_mut.ensures.len in
     let left : List g.row.F.Denot = take bench.files.len (new ++ drop (length new) bench.files.items) in
     let behind : BenchState = record { files = files_of state left; card = g.R.RpmbPort.state bench.card } in
-    on_err c.crash_all.result ((count : ℕ) × (count ≤ 273) × CrashesBelow image seed count (files_of state was) (files_of state new))
+    on_err c.crash_all.result ((count : ℕ) × (count ≤ file_count) × CrashesBelow image seed count (files_of state was) (files_of state new))
     (CrashesInPart image seed (bench_state state g.R.RpmbPort.state bench) behind)
     (λ some. record {
       count = some.0;

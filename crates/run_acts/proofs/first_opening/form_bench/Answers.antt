@@ -1,5 +1,4 @@
 use Rattle.object_calls.proofs.Files.{files_sound}
-use Rattle.run_acts.proofs.ObjectFiles.{same_objects}
 use Rattle.run_acts.proofs.first_opening.form_bench.Goals as goal
 
 pub returns-in-Ok-clause-answer : goal.returns-in-Ok-clause-answer
@@ -8,7 +7,7 @@ returns-in-Ok-clause-answer g c = record {
   empty = c.in-Ok.ensures.mounts;
   written = c.in-Ok.ensures.written;
   goes_on = c.in-Ok.ensures.goes_on;
-  others = same_objects g.F.StoreFile.state c.args.bench.files.items c.in-Ok.bench.files.items c.in-Ok.ensures.others;
+  others = c.in-Ok.ensures.others;
   dir_passed = c.in-Ok.ensures.passed.file;
   card_passed = c.in-Ok.ensures.passed.card;
   sound = files_sound g.F.StoreFile.state g.met.F.StoreFile.sound c.in-Ok.bench.files.items;
@@ -21,5 +20,5 @@ returns-in-Err-clause-answer g c = record {
   counted = c.in-Err.ensures.counts;
   left = c.in-Err.ensures.left;
   goes_on = c.in-Err.ensures.goes_on_err;
-  others = same_objects g.F.StoreFile.state c.args.bench.files.items c.in-Err.halted.bench.files.items c.in-Err.ensures.others_err;
+  others = c.in-Err.ensures.others_err;
 }

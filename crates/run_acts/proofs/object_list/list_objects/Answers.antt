@@ -10,6 +10,9 @@ use Rattle.run_acts.proofs.object_list.list_objects.Goals as goal
 pub returns-in_default-clause-refused : goal.returns-in_default-clause-refused
 returns-in_default-clause-refused g c = record { why = unasked refl refl; keeps = keeps_all (bench_state g.F.StoreFile.state g.R.RpmbPort.state c.args.bench) }
 
+pub returns-in-Ok-list_mounted-clause-with_memory : goal.returns-in-Ok-list_mounted-clause-with_memory
+returns-in-Ok-list_mounted-clause-with_memory g c = λ file. (c.in-Ok-list_mounted.ensures.answer.2.passed.files file).starved
+
 pub returns-clause-refused : goal.returns-clause-refused
 returns-clause-refused g c =
     let state = g.F.StoreFile.state in

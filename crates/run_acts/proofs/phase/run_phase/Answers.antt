@@ -1,7 +1,8 @@
-use Rattle.std.proofs.Common.{◌≡◌, ◌∙◌, ℕ, List, ◌∷◌, map, inr, refl, sym, ap, arith}
+use Rattle.std.proofs.Common.{◌≡◌, ◌∙◌, ℕ, List, map, inr, refl, sym, ap, arith}
 use Rattle.std.proofs.lemmas.Result.{err_from_is_err_and}
 use Rattle.object_calls.specs.OpeningFiles.{files_of}
 use Rattle.object_calls.specs.Opening.{OpeningValue}
+use Rattle.object_calls.proofs.Files.{numbered_past}
 use Rattle.run_acts.specs.Benches.{bench_state}
 use Rattle.run_acts.specs.MountedDevices.{objects_in}
 use Rattle.run_acts.proofs.MemoryPhases.{fed_disarmed}
@@ -31,7 +32,7 @@ returns-in-Ok-serve_opened-clause-runs g c =
         opened = opened;
         mounts = mounted.mounts;
         sound = c.mount_with_memory.ensures.sound;
-        none = λ file past. files_none of_file (opened.gate.dir.file ∷ opened.files) file (omega (arith, past, c.objects-objects.ensures.opening.whole));
+        none = λ file past. numbered_past of_file opened.spare opened.gate.dir.file opened.files file c.objects-objects.ensures.opening.whole past;
         keeps = mounted.keeps;
         passed = mounted.passed;
         objects = refl;

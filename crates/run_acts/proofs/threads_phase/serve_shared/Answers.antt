@@ -1,10 +1,11 @@
 use Rattle.std.proofs.Common.{◌≡◌, ◌∙◌, ◌++◌, ℕ, List, ap, drop, length, refl, sym, subst, take}
+use Rattle.tee_types.specs.Limits.{last_file, old_directory_file}
 use Rattle.core_laws.specs.Stores.{Store}
 use Rattle.shared_store.specs.CallerSessions.{CallerSession}
 use Rattle.shared_store.specs.Devices.{Devices}
 use Rattle.object_calls.specs.OpeningFiles.{files_of}
 use Rattle.object_calls.specs.OpeningSessions.{AreSeated, DrawAlike, HaveNoEvents}
-use Rattle.object_calls.proofs.Files.{refilled}
+use Rattle.object_calls.proofs.Files.{directory_here, refilled, spare_here}
 use Rattle.shared_store.specs.Kept.{KeepsGate}
 use Rattle.run_acts.specs.Sharing.{AreKept, IsBenchOf}
 use Rattle.run_acts.proofs.Sharings.{first_gate_kept, first_slots_kept}
@@ -28,8 +29,15 @@ share_and_close-requires-clause-gate g c κs within =
 
 pub share_and_close-requires-clause-slots : goal.share_and_close-requires-clause-slots
 share_and_close-requires-clause-slots g c κs within =
-    subst (λ (before : Devices). AreKept before 272 c.in-Ok-serve.service.slots) (sym c.requires.devices)
+    subst (λ (before : Devices). AreKept before last_file c.in-Ok-serve.service.slots) (sym c.requires.devices)
     (first_slots_kept g.F.StoreFile.state g.R.RpmbPort.state g.L.StoreName.store c.args.opening c.in-Ok-serve.service c.in-Ok-serve.ensures.served)
+
+pub share_and_close-requires-clause-spare : goal.share_and_close-requires-clause-spare
+share_and_close-requires-clause-spare g c κs within =
+    let of_file = g.F.StoreFile.state in
+    let o = c.args.opening in
+    ap of_file c.in-Ok-serve.ensures.served.spare ∙ sym (spare_here of_file o.spare o.gate.dir.file o.files)
+    ∙ ap (λ (d : Devices). d.file old_directory_file) (sym c.requires.devices)
 
 pub share_and_close-requires-clause-sessions : goal.share_and_close-requires-clause-sessions
 share_and_close-requires-clause-sessions g c κs within =
@@ -101,7 +109,8 @@ returns-in-Ok-serve-clause-early g c =
     let of_port = g.R.RpmbPort.state in
     let before = opening_state of_file of_port c.args.opening in
     c.share_and_close.ensures.early before
-    (subst (λ (d : Devices). IsBenchOf d before) (sym c.requires.devices) (record { dir = refl; each = λ file from. refl; card = refl }))
+    (subst (λ (d : Devices). IsBenchOf d before) (sym c.requires.devices)
+    (record { dir = directory_here of_file c.args.opening.spare c.args.opening.gate.dir.file c.args.opening.files; each = λ file other. refl; card = refl }))
 
 pub returns-in-Err-clause-early : goal.returns-in-Err-clause-early
 returns-in-Err-clause-early g c =

@@ -1,5 +1,6 @@
 use Rattle.std.proofs.Common.{◌≡◌, ◌∙◌, ℕ, List, length, true, sym, ap, subst, arith}
 use Rattle.std.specs.List.{list_all}
+use Rattle.tee_types.specs.Limits.{last_file}
 use Rattle.shared_store.specs.CallerSessions.{CallerSession}
 use Rattle.shared_store.specs.SlotValues.{SlotValue}
 use Rattle.object_calls.specs.FinishedPhase.{HaveCounted}
@@ -15,7 +16,7 @@ use Rattle.run_acts.proofs.threads_phase.share_and_close.Goals as goal
 
 pub share_slots-slots-requires-clause-keep : goal.share_slots-slots-requires-clause-keep
 share_slots-slots-requires-clause-keep g c =
-    subst (λ (l : List SlotValue). AreKept g.L.DevicesName.devices 272 l) (sym c.into_parts-gate.ensures.slots) c.requires.slots
+    subst (λ (l : List SlotValue). AreKept g.L.DevicesName.devices last_file l) (sym c.into_parts-gate.ensures.slots) c.requires.slots
 
 pub make_beside-requires-after_bounds : goal.make_beside-requires-after_bounds
 make_beside-requires-after_bounds g c κs within =
@@ -47,7 +48,7 @@ returns-then-done-clause-closed g c =
     let many : length new ≡ sessions.len = c.make_beside.auto.sessions ∙ c.deref_mut.ensures.len in
     let left = refilled sessions.len sessions.items new long many in
     let slots = c.unshare_slots-slots.result in
-    let place : 272 ≡ length slots.items = sym c.unshare_slots-slots.ensures.many ∙ slots.ok.0 in
+    let place : last_file ≡ length slots.items = sym c.unshare_slots-slots.ensures.many ∙ slots.ok.0 in
     let gate = c.into_gate.result in
     let closed = c.close_slots-closed in
     let seated = subst (λ (l : List (CallerSession g.row.E.Denot)). AreSeated store l) (sym begun) c.requires.sessions in
@@ -59,7 +60,7 @@ returns-then-done-clause-closed g c =
     let steps = subst (λ (l : List (CallerSession g.row.E.Denot)). AreCalls (length l) calls) (sym begun) c.requires.calls in
     closes_shared g.F.StoreFile.state g.R.RpmbPort.state store g.L.DevicesName.devices gate c.into_gate.ensures.keeps slots.items
     (subst (λ (n : ℕ). AreKept g.L.DevicesName.devices n slots.items) place c.unshare_slots-slots.ensures.keep) closed.result.bench.files.items closed.result.bench.card closed.ensures.dir
-    closed.ensures.placed closed.ensures.tagged (AreReliable g.E.Entropy.is_reliable sessions.items) calls closed.result.history.events closed.result.doubt closed.ensures.events
+    (closed.ensures.spare ∙ ap g.F.StoreFile.state c.into_parts-gate.ensures.spare ∙ c.requires.spare) closed.ensures.placed closed.ensures.tagged (AreReliable g.E.Entropy.is_reliable sessions.items) calls closed.result.history.events closed.result.doubt closed.ensures.events
     (all_serve g.E.Entropy.is_reliable g.E.Entropy.faults store was new calls seated unmade c.make_beside.auto.sessions c.make_beside.ensures gate.journal.knows counted done steps
     c.into_gate.ensures.keeps.sessions)
     (all_drawn g.E.Entropy.is_reliable g.E.Entropy.faults store was new calls seated unmade c.make_beside.auto.sessions c.make_beside.ensures gate.journal.knows counted done fresh)
@@ -80,7 +81,7 @@ returns-else-done-clause-early g c = λ before is.
     let many : length new ≡ sessions.len = c.make_beside.auto.sessions ∙ c.deref_mut.ensures.len in
     let left = refilled sessions.len sessions.items new long many in
     let slots = c.unshare_slots-slots.result in
-    let place : 272 ≡ length slots.items = sym c.unshare_slots-slots.ensures.many ∙ slots.ok.0 in
+    let place : last_file ≡ length slots.items = sym c.unshare_slots-slots.ensures.many ∙ slots.ok.0 in
     let gate = c.into_gate.result in
     let closed = c.close_slots-closed in
     let seated = subst (λ (l : List (CallerSession g.row.E.Denot)). AreSeated store l) (sym begun) c.requires.sessions in
@@ -93,4 +94,4 @@ returns-else-done-clause-early g c = λ before is.
     closed.ensures.leaves
     (bench_shared g.F.StoreFile.state g.R.RpmbPort.state store g.L.DevicesName.devices gate c.into_gate.ensures.keeps slots.items
     (subst (λ (n : ℕ). AreKept g.L.DevicesName.devices n slots.items) place c.unshare_slots-slots.ensures.keep) closed.result.bench.files.items closed.result.bench.card closed.ensures.dir
-    closed.ensures.placed closed.ensures.tagged before is closed.ensures.card)
+    (closed.ensures.spare ∙ ap g.F.StoreFile.state c.into_parts-gate.ensures.spare ∙ c.requires.spare) closed.ensures.placed closed.ensures.tagged before is closed.ensures.card)

@@ -1,4 +1,5 @@
 use Rattle.std.proofs.Common.{ℕ, List, ◌+◌, ap, arith, drop, length, refl, subst, take}
+use Rattle.std.proofs.lemmas.Result.{IfOk-weaker}
 use Rattle.std.specs.List.{prefix_len}
 use Rattle.script_text.specs.Script.{is_call}
 use Rattle.script_text.specs.declared.script.Arm.{Arm}
@@ -53,6 +54,9 @@ returns-in-Ok-clause-err g c = λ first lasts.
     let done = HasDone-calls g.F.StoreFile.state g.R.RpmbPort.state g.F.FileRig.crash_image (g.E.Entropy.is_reliable first) c.args.keys.now script run ran phase c.requires.ready c.requires.call ran_so c.new.ensures.items refl c.in-Ok.ensures.whole refl refl refl
     (ap (λ n. run.at + n) calls.count) (omega (arith, calls.count, calls.within)) in
     cut-off g.F.StoreFile.state g.R.RpmbPort.state g.F.FileRig.crash_image (g.E.Entropy.is_reliable first) c.args.keys.now script run ran c.print_phase_act.result _ _ _ _ _ done (phase_text_is script run.number run.mode opened.objects (take (prefix_len is_call (drop run.at script.steps)) (drop run.at script.steps)) phase runs.1) _ _ _ c.print_phase_act.ensures.err
+
+pub returns-in-Ok-clause-undrawn : goal.returns-in-Ok-clause-undrawn
+returns-in-Ok-clause-undrawn g c = IfOk-weaker c.print_phase_act.result _ _ (λ next sent. c.in-Ok.ensures.undrawn) c.print_phase_act.ensures.ok
 
 pub returns-in-Err-clause-err : goal.returns-in-Err-clause-err
 returns-in-Err-clause-err g c = λ first lasts.

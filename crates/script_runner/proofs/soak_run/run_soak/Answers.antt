@@ -15,7 +15,7 @@ returns-in-Err-clause-soak g c =
 pub returns-in-Ok-soak_opened-clause-soak : goal.returns-in-Ok-soak_opened-clause-soak
 returns-in-Ok-soak_opened-clause-soak g c =
     RunsSoak-through g.F.StoreFile.state g.R.RpmbPort.state g.F.FileRig.crash_image (g.E.Entropy.is_reliable c.args.entropy.now) c.args.keys.now c.args.number _ _ _ _ _ _ _ _ c.in-Ok.ensures.opens
-    c.in-Ok-soak_opened.field-0.lines.items (c.in-Ok-soak_opened.ensures.ok c.args.entropy.now c.open_bench.ensures.reliable) c.print_soak_lines-status.result c.print_soak_lines-status.ensures.prints
+    c.in-Ok-soak_opened.field-0.lines.items (c.in-Ok-soak_opened.ensures.ok c.args.entropy.now c.open_bench.ensures.reliable) c.print_last_lines-status.result c.print_last_lines-status.ensures.prints
 
 pub returns-in-Err-soak_opened-clause-soak : goal.returns-in-Err-soak_opened-clause-soak
 returns-in-Err-soak_opened-clause-soak g c =

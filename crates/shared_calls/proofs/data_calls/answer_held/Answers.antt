@@ -1,7 +1,7 @@
 -- What was served is answered, and accuses no device.
 use Rattle.std.proofs.Common.{[], subst, sym}
+use Rattle.tee_types.specs.Limits.{IsObjectFile}
 use Rattle.serial_calls.specs.ChangeReplies.{IsDoneOrRefused}
-use Rattle.serial_calls.specs.Joined.{IsObjectFile}
 use Rattle.serial_calls.specs.SlotValues.{SlotValue}
 use Rattle.shared_calls.specs.Kept.{KeepsSlot}
 use Rattle.shared_calls.proofs.AnsweredSlots.{done-faultless, keeps-shown-served, told-none}

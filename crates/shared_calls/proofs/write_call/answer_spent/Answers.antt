@@ -1,8 +1,8 @@
 -- What the file gave was answered, and the slot keeps its counts.
 use Rattle.std.proofs.Common.{[], Err, Ok, refl, subst, sym}
 use Rattle.std.proofs.lemmas.Result.{err_from_is_err_and}
+use Rattle.tee_types.specs.Limits.{IsObjectFile}
 use Rattle.serial_calls.specs.GuardedGates.{GuardedGateValue}
-use Rattle.serial_calls.specs.Joined.{IsObjectFile}
 use Rattle.serial_calls.specs.SlotValues.{SlotValue}
 use Rattle.tee_types.specs.declared.call.Call.TheVariants.{Write}
 use Rattle.shared_calls.specs.Kept.{KeepsGate, KeepsSlot}

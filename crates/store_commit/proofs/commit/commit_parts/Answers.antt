@@ -23,22 +23,22 @@ returns-then-at-clause-leaves g c =
 pub returns-then-at-clause-throughout : goal.returns-then-at-clause-throughout
 returns-then-at-clause-throughout g c =
     let d = c.args.dir.now in
-    throughout (g.F.StoreFile.state d.file) (g.F.StoreFile.state d.file) d.dir (g.R.RpmbPort.state c.args.host.now.port) (g.R.RpmbPort.state c.args.host.now.port) c.args.host.now.key c.args.host.now.key c.args.counter.now (g.met.F.StoreFile.sound d.file) (g.met.F.StoreFile.sound d.file) c.requires.settled (keeps_none (Lies d.dir.tree.nodes d.dir.root.version) (g.F.StoreFile.state d.file)) d.dir c.args.counter.now refl
+    throughout (g.F.StoreFile.state d.file) (g.F.StoreFile.state d.file) d.dir (g.R.RpmbPort.state c.args.host.now.port) (g.R.RpmbPort.state c.args.host.now.port) c.args.host.now.key c.args.host.now.key c.args.counter.now (g.met.F.StoreFile.sound d.file) (g.met.F.StoreFile.sound d.file) c.requires.settled (keeps_none (Lies d.dir.tree.layout d.dir.tree.nodes d.dir.root.version) (g.F.StoreFile.state d.file)) d.dir c.args.counter.now refl
 
 pub returns-in-Err-clause-leaves : goal.returns-in-Err-clause-leaves
 returns-in-Err-clause-leaves g c =
     let d = c.args.dir.now in
-    dropped (g.F.StoreFile.state d.file) (g.F.StoreFile.state d.file) d.dir (g.R.RpmbPort.state c.args.host.now.port) (g.R.RpmbPort.state c.args.host.now.port) c.args.host.now.key c.args.host.now.key c.args.counter.now (g.met.F.StoreFile.sound d.file) (g.met.F.StoreFile.sound d.file) c.requires.settled (keeps_none (Lies d.dir.tree.nodes d.dir.root.version) (g.F.StoreFile.state d.file)) d.dir refl c.requires.settled.named
+    dropped (g.F.StoreFile.state d.file) (g.F.StoreFile.state d.file) d.dir (g.R.RpmbPort.state c.args.host.now.port) (g.R.RpmbPort.state c.args.host.now.port) c.args.host.now.key c.args.host.now.key c.args.counter.now (g.met.F.StoreFile.sound d.file) (g.met.F.StoreFile.sound d.file) c.requires.settled (keeps_none (Lies d.dir.tree.layout d.dir.tree.nodes d.dir.root.version) (g.F.StoreFile.state d.file)) d.dir refl c.requires.settled.named
 
 pub returns-in-Err-clause-throughout : goal.returns-in-Err-clause-throughout
 returns-in-Err-clause-throughout g c =
     let d = c.args.dir.now in
-    throughout (g.F.StoreFile.state d.file) (g.F.StoreFile.state d.file) d.dir (g.R.RpmbPort.state c.args.host.now.port) (g.R.RpmbPort.state c.args.host.now.port) c.args.host.now.key c.args.host.now.key c.args.counter.now (g.met.F.StoreFile.sound d.file) (g.met.F.StoreFile.sound d.file) c.requires.settled (keeps_none (Lies d.dir.tree.nodes d.dir.root.version) (g.F.StoreFile.state d.file)) d.dir c.args.counter.now refl
+    throughout (g.F.StoreFile.state d.file) (g.F.StoreFile.state d.file) d.dir (g.R.RpmbPort.state c.args.host.now.port) (g.R.RpmbPort.state c.args.host.now.port) c.args.host.now.key c.args.host.now.key c.args.counter.now (g.met.F.StoreFile.sound d.file) (g.met.F.StoreFile.sound d.file) c.requires.settled (keeps_none (Lies d.dir.tree.layout d.dir.tree.nodes d.dir.root.version) (g.F.StoreFile.state d.file)) d.dir c.args.counter.now refl
 
 pub returns-in-Err-clause-steps : goal.returns-in-Err-clause-steps
 returns-in-Err-clause-steps g c =
     let d = c.args.dir.now in
-    ((keeps_none (Lies d.dir.tree.nodes d.dir.root.version) (g.F.StoreFile.state d.file)), λ card has. has)
+    ((keeps_none (Lies d.dir.tree.layout d.dir.tree.nodes d.dir.root.version) (g.F.StoreFile.state d.file)), λ card has. has)
 
 pub returns-in-Err-prepare-clause-leaves : goal.returns-in-Err-prepare-clause-leaves
 returns-in-Err-prepare-clause-leaves g c =
@@ -79,14 +79,14 @@ pub returns-in-Landed-clause-throughout : goal.returns-in-Landed-clause-througho
 returns-in-Landed-clause-throughout g c =
     let d = c.args.dir.now in
     let e = c.prepare.new.dir in
-    let keeps = subst (λ (s : FileState). Keeps (Lies d.dir.tree.nodes d.dir.root.version) (g.F.StoreFile.state d.file) s) (sym (ap (λ f. g.F.StoreFile.state f) (adopted_file e c.adopt.new.self c.in-Ok-prepare.ensures.answer.opens c.adopt.ensures.committed))) c.in-Ok-prepare.ensures.answer.keeps in
+    let keeps = subst (λ (s : FileState). Keeps (Lies d.dir.tree.layout d.dir.tree.nodes d.dir.root.version) (g.F.StoreFile.state d.file) s) (sym (ap (λ f. g.F.StoreFile.state f) (adopted_file e c.adopt.new.self c.in-Ok-prepare.ensures.answer.opens c.adopt.ensures.committed))) c.in-Ok-prepare.ensures.answer.keeps in
     throughout (g.F.StoreFile.state d.file) (g.F.StoreFile.state c.adopt.new.self.file) d.dir (g.R.RpmbPort.state c.args.host.now.port) (g.R.RpmbPort.state c.write_root.new.host.port) c.args.host.now.key c.write_root.new.host.key c.args.counter.now (g.met.F.StoreFile.sound d.file) (g.met.F.StoreFile.sound c.adopt.new.self.file) c.requires.settled keeps c.adopt.new.self.dir _ c.in-Landed.ensures.key
 
 pub returns-in-Lost-clause-leaves : goal.returns-in-Lost-clause-leaves
 returns-in-Lost-clause-leaves g c =
     let d = c.args.dir.now in
     let e = c.prepare.new.dir in
-    let keeps = subst (λ (s : FileState). Keeps (Lies d.dir.tree.nodes d.dir.root.version) (g.F.StoreFile.state d.file) s) (sym (ap (λ x. g.F.StoreFile.state x.file) c.drop_stage.ensures.same)) c.in-Ok-prepare.ensures.answer.keeps in
+    let keeps = subst (λ (s : FileState). Keeps (Lies d.dir.tree.layout d.dir.tree.nodes d.dir.root.version) (g.F.StoreFile.state d.file) s) (sym (ap (λ x. g.F.StoreFile.state x.file) c.drop_stage.ensures.same)) c.in-Ok-prepare.ensures.answer.keeps in
     let same : c.drop_stage.new.self.dir ≡ d.dir =
     ap (λ x. x.dir) c.drop_stage.ensures.same ∙ ap (λ (w : DirView). record w { stage = None }) c.in-Ok-prepare.ensures.answer.same
     ∙ ap (λ (o : Option StagedDirectory). record d.dir { stage = o }) (sym c.requires.settled.idle) in
@@ -97,13 +97,13 @@ returns-in-Lost-clause-leaves g c =
 pub returns-in-Lost-clause-throughout : goal.returns-in-Lost-clause-throughout
 returns-in-Lost-clause-throughout g c =
     let d = c.args.dir.now in
-    let keeps = subst (λ (s : FileState). Keeps (Lies d.dir.tree.nodes d.dir.root.version) (g.F.StoreFile.state d.file) s) (sym (ap (λ x. g.F.StoreFile.state x.file) c.drop_stage.ensures.same)) c.in-Ok-prepare.ensures.answer.keeps in
+    let keeps = subst (λ (s : FileState). Keeps (Lies d.dir.tree.layout d.dir.tree.nodes d.dir.root.version) (g.F.StoreFile.state d.file) s) (sym (ap (λ x. g.F.StoreFile.state x.file) c.drop_stage.ensures.same)) c.in-Ok-prepare.ensures.answer.keeps in
     throughout (g.F.StoreFile.state d.file) (g.F.StoreFile.state c.drop_stage.new.self.file) d.dir (g.R.RpmbPort.state c.args.host.now.port) (g.R.RpmbPort.state c.write_root.new.host.port) c.args.host.now.key c.write_root.new.host.key c.args.counter.now (g.met.F.StoreFile.sound d.file) (g.met.F.StoreFile.sound c.drop_stage.new.self.file) c.requires.settled keeps c.drop_stage.new.self.dir c.args.counter.now c.in-Lost.ensures.key
 
 pub returns-in-Lost-clause-steps : goal.returns-in-Lost-clause-steps
 returns-in-Lost-clause-steps g c =
     let d = c.args.dir.now in
-    let keeps = subst (λ (s : FileState). Keeps (Lies d.dir.tree.nodes d.dir.root.version) (g.F.StoreFile.state d.file) s) (sym (ap (λ x. g.F.StoreFile.state x.file) c.drop_stage.ensures.same)) c.in-Ok-prepare.ensures.answer.keeps in
+    let keeps = subst (λ (s : FileState). Keeps (Lies d.dir.tree.layout d.dir.tree.nodes d.dir.root.version) (g.F.StoreFile.state d.file) s) (sym (ap (λ x. g.F.StoreFile.state x.file) c.drop_stage.ensures.same)) c.in-Ok-prepare.ensures.answer.keeps in
     lost_steps (g.F.StoreFile.state d.file) (g.F.StoreFile.state c.drop_stage.new.self.file) d.dir (g.R.RpmbPort.state c.args.host.now.port) (g.R.RpmbPort.state c.write_root.new.host.port) c.args.host.now.key c.write_root.new.host.key c.args.counter.now (g.met.F.StoreFile.sound d.file) (g.met.F.StoreFile.sound c.drop_stage.new.self.file) c.requires.settled keeps c.drop_stage.new.self.dir c.args.change.now c.in-Ok-prepare.root c.in-Lost.cause c.in-Lost.ensures.card
 
 pub returns-in-Unknown-clause-leaves : goal.returns-in-Unknown-clause-leaves

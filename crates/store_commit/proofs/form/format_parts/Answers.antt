@@ -6,6 +6,7 @@ use Rattle.hmac_keys.specs.KeyTable.{dir_tsk, rpmb_key}
 use Rattle.rpmb_card.specs.Protocol.{last_counter}
 use Rattle.rpmb_card.specs.Card.{CardState}
 use Rattle.rpmb_host.specs.Honest.{HasCard, card_write}
+use Rattle.dir_records.specs.Form.{IsFormat}
 use Rattle.crash_core.specs.CardBlock.{root_block}
 use Rattle.crash_core.specs.DeviceKeys.{directory_key}
 use Rattle.dir_file.specs.EntryForms.{no_entries}
@@ -44,7 +45,7 @@ returns-in-Ok-write_block-clause-made g c =
     subst (λ r. Formats (state c.into_file-file.result) (port c.args.card) (port r) keys) (sym c.into_port.ensures)
     (formats (state c.into_file-file.result) (port c.args.card) (port c.read_counter.new.host.port) (port c.write_block.new.self.port) keys c.read_counter.new.host.key c.write_block.new.self.key
     c.in-Ok.counter c.root_block.result c.in-Ok-make.root c.in-Ok-make.made.dir.tree stays key_is w.key told unspent c.root_block.ensures
-    (record { bit = omega (arith, m.root.1); long = m.root.2 }) (g.met.R.RpmbPort.sound c.args.card) held
+    (record { version = omega (arith, m.root.1); format = subst IsFormat (sym m.format) (omega arith, omega arith); long = m.root.2 }) m.format (g.met.R.RpmbPort.sound c.args.card) held
     (λ card has. (w.honest unspent card has refl).1))
 
 pub returns-in-Err-write_block-clause-left : goal.returns-in-Err-write_block-clause-left
@@ -68,7 +69,7 @@ returns-in-Err-write_block-clause-left g c =
     subst (λ r. LeavesFormat (state c.into_file-file.result) (port c.args.card) (port r) keys) (sym c.into_port-card-in-Err-write_block.ensures)
     (leaves_format (state c.into_file-file.result) (port c.args.card) (port c.read_counter.new.host.port) (port c.write_block.new.self.port) keys c.read_counter.new.host.key c.write_block.new.self.key
     c.in-Ok.counter c.root_block.result c.in-Ok-make.root c.in-Ok-make.made.dir.tree stays key_is w.key told unspent c.root_block.ensures
-    (record { bit = omega (arith, m.root.1); long = m.root.2 }) (g.met.R.RpmbPort.sound c.args.card) held
+    (record { version = omega (arith, m.root.1); format = subst IsFormat (sym m.format) (omega arith, omega arith); long = m.root.2 }) m.format (g.met.R.RpmbPort.sound c.args.card) held
     (λ card has. w.left unspent card has))
 
 pub returns-in-Err-write_block-clause-refused : goal.returns-in-Err-write_block-clause-refused

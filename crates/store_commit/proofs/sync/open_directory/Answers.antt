@@ -1,11 +1,13 @@
-use Rattle.std.proofs.Common.{◌≡◌, [], Ok}
+use Rattle.std.proofs.Common.{◌≡◌, [], Ok, inl, inr}
 use Rattle.disk_model.specs.State.{pending}
 use Rattle.disk_model.specs.Calls.{Rests}
 use Rattle.disk_model.specs.Keeps.{Anywhere, Keeps}
+use Rattle.disk_model.proofs.Goings.{rests_none}
 use Rattle.disk_model.proofs.Laws.{rest_keeps}
 use Rattle.dir_file.specs.Loading.{SeesDirectory}
 use Rattle.dir_file.proofs.Seen.{directory_behind}
 use Rattle.store_commit.specs.Leaving.{LeavesNoMore}
+use Rattle.store_commit.specs.DirectoryLooks.{Looks}
 use Rattle.store_commit.proofs.Leavings.{left_then, rests_left, syncs_left}
 use Rattle.store_commit.proofs.Mounting.{rests_pending}
 use Rattle.store_commit.proofs.Syncing.{err_map, keeps_after, ok_map}
@@ -66,3 +68,20 @@ returns-in-Ok-clause-left_err g c =
 
 pub returns-in-Err-clause-left_err : goal.returns-in-Err-clause-left_err
 returns-in-Err-clause-left_err g c = rests_left (g.F.StoreFile.state c.args.file) (g.F.StoreFile.state c.sync.new.self) c.in-Err.ensures.unsettled
+
+pub returns-in-Ok-clause-looks : goal.returns-in-Ok-clause-looks
+returns-in-Ok-clause-looks g c =
+    let state = g.F.StoreFile.state in
+    let a = state c.args.file in
+    let b = state c.sync.new.self in
+    ok_map c.load.result (λ d. Rests b (state d.file)) (λ d. Looks a (state d.file)) (λ d rests. record { mid = b; first = inr c.in-Ok.ensures.synced; behind = rests; sound = g.met.F.StoreFile.sound c.sync.new.self }) c.load.ensures.rests
+
+pub returns-in-Ok-clause-looks_err : goal.returns-in-Ok-clause-looks_err
+returns-in-Ok-clause-looks_err g c =
+    let state = g.F.StoreFile.state in
+    let a = state c.args.file in
+    let b = state c.sync.new.self in
+    err_map c.load.result (λ d. Rests b (state d.file)) (λ d. Looks a (state d.file)) (λ d rests. record { mid = b; first = inr c.in-Ok.ensures.synced; behind = rests; sound = g.met.F.StoreFile.sound c.sync.new.self }) c.load.ensures.rests_err
+
+pub returns-in-Err-clause-looks_err : goal.returns-in-Err-clause-looks_err
+returns-in-Err-clause-looks_err g c = record { mid = g.F.StoreFile.state c.sync.new.self; first = inl c.in-Err.ensures.unsettled; behind = rests_none (g.F.StoreFile.state c.sync.new.self); sound = g.met.F.StoreFile.sound c.sync.new.self }

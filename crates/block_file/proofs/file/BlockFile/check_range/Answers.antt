@@ -31,7 +31,7 @@ loop-k-preserved g c =
       same = search rules;
       rests = rests_then a b new before.rests step.rests;
       passed = passed_then a b new before.passed step.cause;
-      read = check_step t.key t.tree c.args.range a b new (rests_keep t.tree.nodes b new (g.met.F.StoreFile.sound c.loop-k.self.file) step.rests) c.loop-k.k before.read page before.rests
+      read = check_step t.key t.tree c.args.range a b new (rests_keep t.tree.layout t.tree.nodes b new (g.met.F.StoreFile.sound c.loop-k.self.file) step.rests) c.loop-k.k before.read page before.rests
           (subst (λ t. needs c.args.range c.loop-k.k ≡ true → IsPage t.key t.tree b new c.loop-k.k page) before.same step.answer);
     }
 
@@ -45,7 +45,7 @@ returns-in_err-read_needed-clause-blocks g c =
     let fault = c.in_err-read_needed.field-0.0 in
     let answer = subst (λ t. NeededAnswer t.key t.tree b new c.args.range c.loop-k.k {A = Unit {0}} (Err fault) page) c.loop-k.invariant.same c.in_err-read_needed.ensures.answer in
     let p = err_from_is_err_and c.from_residual.result c.from_residual.ensures.1 in
-    rw (p.1, p.2) (check_stop t.key t.tree c.args.range a b new (rests_keep t.tree.nodes b new (g.met.F.StoreFile.sound c.loop-k.self.file) c.in_err-read_needed.ensures.rests) c.loop-k.k c.loop-k.invariant.read page (Unit {0}) (Unit {0}) fault answer)
+    rw (p.1, p.2) (check_stop t.key t.tree c.args.range a b new (rests_keep t.tree.layout t.tree.nodes b new (g.met.F.StoreFile.sound c.loop-k.self.file) c.in_err-read_needed.ensures.rests) c.loop-k.k c.loop-k.invariant.read page (Unit {0}) (Unit {0}) fault answer)
 
 pub returns-in_err-read_needed-clause-rests : goal.returns-in_err-read_needed-clause-rests
 returns-in_err-read_needed-clause-rests g c = rests_then _ _ _ c.loop-k.invariant.rests c.in_err-read_needed.ensures.rests

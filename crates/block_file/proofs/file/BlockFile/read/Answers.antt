@@ -26,7 +26,7 @@ returns-in_err-read_part-clause-blocks g c =
     subst (λ t. PartAnswer t.key t.tree b new r k c.loop-k.into c.read_part.new.into {A = Unit {0}} (Err c.in_err-read_part.field-0.0)) before.same c.in_err-read_part.ensures.answer in
     let p = err_from_is_err_and c.from_residual.result c.from_residual.ensures.1 in
     rw (p.1, p.2) (part_blocks tree.key tree.tree a b new (meets at (at + count)) r k c.loop-k.into c.read_part.new.into (Unit {0}) ℕ c.in_err-read_part.field-0.0
-    (rests_keep tree.tree.nodes b new (g.met.F.StoreFile.sound c.loop-k.self.file) c.in_err-read_part.ensures.rests) (same k ∙ met) (λ j lt is. (before.read.pages j, before.read.read j lt (sym (same j) ∙ is))) answer)
+    (rests_keep tree.tree.layout tree.tree.nodes b new (g.met.F.StoreFile.sound c.loop-k.self.file) c.in_err-read_part.ensures.rests) (same k ∙ met) (λ j lt is. (before.read.pages j, before.read.read j lt (sym (same j) ∙ is))) answer)
 
 pub returns-in_err-read_part-clause-rest : goal.returns-in_err-read_part-clause-rest
 returns-in_err-read_part-clause-rest g c =
@@ -54,7 +54,7 @@ loop-k-preserved g c =
       same = search rules;
       rests = rests_then a b new before.rests step.rests;
       passed = passed_then a b new before.passed step.cause;
-      read = read_step tree.key tree.tree a b new r k c.loop-k.into c.read_part.new.into before.rests (rests_keep tree.tree.nodes b new (g.met.F.StoreFile.sound c.loop-k.self.file) step.rests) before.read given;
+      read = read_step tree.key tree.tree a b new r k c.loop-k.into c.read_part.new.into before.rests (rests_keep tree.tree.layout tree.tree.nodes b new (g.met.F.StoreFile.sound c.loop-k.self.file) step.rests) before.read given;
       counted = λ tells. one_call a.arms b.arms new.arms k (first_block r) (omega (arith, c.first_block-k.ensures, c.loop-k.auto.k)) (before.counted tells)
           (step.once (subst (λ (t : Bool). IsTrue t) (sym before.rests.goes_on.tells_arms) tells));
       rest = λ i behind. given.given i ∙ rest_step r k given.page (get_or c.loop-k.into i 0) i behind ∙ before.rest i behind;

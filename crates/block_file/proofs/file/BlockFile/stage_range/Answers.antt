@@ -1,4 +1,4 @@
-use Rattle.std.proofs.Common.{◌≡◌, ◌∙◌, min, ℕ, List, length, IfSome, OnOk, Err, Ok, ap, subst, sym}
+use Rattle.std.proofs.Common.{◌≡◌, ◌∙◌, min, ℕ, List, Vec, Global, length, IfSome, OnOk, Err, Ok, ap, subst, sym}
 use Rattle.tree_paths.specs.Staged.{IsWithinBudget}
 use Rattle.std.proofs.lemmas.Result.{err_from_is_err_and}
 use Rattle.node_image.specs.Layout.{greatest_of}
@@ -13,7 +13,7 @@ use Rattle.disk_model.specs.Keeps.{Keeps}
 use Rattle.htree_file.specs.Selected.{Lies}
 use Rattle.page_bytes.specs.declared.range.ByteRange.{ByteRange}
 use Rattle.page_bytes.specs.Ranges.{end_block}
-use Rattle.block_file.proofs.StageAfterReads.{causes_then, device_widths, no_stage, stage_then}
+use Rattle.block_file.proofs.StageAfterReads.{causes_then, device_widths, early_causes, no_stage, stage_then}
 use Rattle.block_file.proofs.file.BlockFile.stage_range.Goals as goal
 
 pub returns-in_err-changes-clause-staged : goal.returns-in_err-changes-clause-staged
@@ -79,7 +79,7 @@ returns-clause-blocks g c =
     let r = c.args.range in
     let ends : c.min-upto.result ≡ min (end_block r) (greatest_of c.args.size) = upto_is c.min-upto.result c.end_block-end.result c.greatest_node.result r c.args.size c.min-upto.ensures c.end_block-end.ensures.value c.greatest_node.ensures.value in
     blocks_read t.key t.tree r c.args.at c.args.bytes.now c.args.size c.first_block-first.result c.min-upto.result a b c.in_ok-changes.changes.items
-    c.requires.reaches c.requires.fits.within c.first_block-first.ensures ends c.in_ok-changes.ensures.answer new (Unit {0}) c.stage_pages.result (subst (λ old. Keeps (Lies old.tree.nodes old.root.version) b new) c.in_ok-changes.ensures.same c.stage_pages.ensures.staged.keeps)
+    c.requires.reaches c.requires.fits.within c.first_block-first.ensures ends c.in_ok-changes.ensures.answer new (Unit {0}) c.stage_pages.result (subst (λ old. Keeps (Lies old.tree.layout old.tree.nodes old.root.version) b new) c.in_ok-changes.ensures.same c.stage_pages.ensures.staged.keeps)
     c.stage_pages.ensures.causes.kind
 
 pub returns-clause-budget : goal.returns-clause-budget
@@ -104,7 +104,7 @@ returns-clause-seals g c =
     let given = subst (λ old. OnOk c.stage_pages.result (IfSome c.stage_pages.new.self.stage (λ s. SealsChanges old.key old.tree s.tree c.deref.result.now))) c.in_ok-changes.ensures.same c.stage_pages.ensures.seals in
     let seals = subst (λ (l : List BlockChange). OnOk c.stage_pages.result (IfSome c.stage_pages.new.self.stage (λ s. SealsChanges t.key t.tree s.tree l))) c.deref.ensures.value given in
     seals_range t.key t.tree r c.args.at c.args.bytes.now c.args.size c.first_block-first.result c.min-upto.result a b new c.in_ok-changes.changes.items c.first_block-first.ensures ends
-    (rw (c.first_block-first.ensures, ends) (blocks_forward r c.args.size c.requires.reaches)) c.in_ok-changes.ensures.answer (subst (λ old. Keeps (Lies old.tree.nodes old.root.version) b new) c.in_ok-changes.ensures.same c.stage_pages.ensures.staged.keeps) (Unit {0})
+    (rw (c.first_block-first.ensures, ends) (blocks_forward r c.args.size c.requires.reaches)) c.in_ok-changes.ensures.answer (subst (λ old. Keeps (Lies old.tree.layout old.tree.nodes old.root.version) b new) c.in_ok-changes.ensures.same c.stage_pages.ensures.staged.keeps) (Unit {0})
     c.stage_pages.result c.stage_pages.new.self.stage seals
 
 pub returns-clause-causes : goal.returns-clause-causes
@@ -114,3 +114,12 @@ returns-clause-causes g c =
 
 pub returns-clause-widths : goal.returns-clause-widths
 returns-clause-widths g c = device_widths (Unit {0}) c.stage_pages.result c.stage_pages.ensures.causes.kind
+
+pub returns-in_err-changes-clause-causes : goal.returns-in_err-changes-clause-causes
+returns-in_err-changes-clause-causes g c =
+    let t = c.args.self.now in
+    let a = g.F.StoreFile.state t.file in
+    let b = g.F.StoreFile.state c.new_pages.new.self.file in
+    let p = err_from_is_err_and c.from_residual.result c.from_residual.ensures.1 in
+    rw (p.1, p.2) (early_causes t.key t.tree a b c.args.range c.args.at c.args.bytes.now c.first_block-first.result c.min-upto.result (g.E.Entropy.faults c.args.entropy.now)
+    (g.E.Entropy.is_reliable c.args.entropy.now) (Unit {0}) (Vec BlockChange Global) (λ v. v.items) c.in_err-changes.field-0.0 c.in_err-changes.ensures.answer c.in_err-changes.ensures.cause)

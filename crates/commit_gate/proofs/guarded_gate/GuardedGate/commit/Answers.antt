@@ -20,6 +20,9 @@ use Rattle.commit_gate.specs.GateEnds.{IsCommitEnd}
 use Rattle.commit_gate.proofs.ReadyEnds.{commit_end, may_end}
 use Rattle.commit_gate.proofs.guarded_gate.GuardedGate.commit.Goals as goal
 
+pub commit-end-requires-clause-format : goal.commit-end-requires-clause-format
+commit-end-requires-clause-format g c = c.self.invariant.current.root
+
 pub commit-end-requires-clause-fits : goal.commit-end-requires-clause-fits
 commit-end-requires-clause-fits g c =
     let commit = c.requires.ready.commit in

@@ -47,6 +47,7 @@ invariant_of-self-in-Landed g c =
     (ap (λ (v : GateValue g.row.F.Denot g.row.R.Denot). v.counter) same ∙ landed.counted ∙ landed.number)
     (ap (λ (v : GateValue g.row.F.Denot g.row.R.Denot). v.doubt) same ∙ here.ensures.doubt)
     (ap (λ (v : GateValue g.row.F.Denot g.row.R.Denot). v.dir.dir.tsk) same ∙ landed.tsk)
+    (ap (λ (v : GateValue g.row.F.Denot g.row.R.Denot). v.dir.dir.root.format) same ∙ landed.format)
     (ap (λ (v : GateValue g.row.F.Denot g.row.R.Denot). v.host.key) same ∙ here.ensures.key)
     (ap (λ (v : GateValue g.row.F.Denot g.row.R.Denot). v.dir.dir.entries) same ∙ landed.entries)
     (doubted-distinct old gate.doubt d.0 d.1 c.doubt-number.ensures.stands)
@@ -68,7 +69,7 @@ invariant_of-self-in-Dropped g c =
     let view = ap (λ (j : JournalValue). j.knows) c.drop_doubt.ensures.journal in
     subst (λ (k : GateView). GateInvariant store c.resolve.new.self k None) (sym view)
     (dropped-guarded store gate knows c.self.inside.closing d.0 d.1 c.self.invariant c.resolve.new.self undone.counted here.ensures.doubt
-    (ap (λ (v : DirView). v.tsk) undone.same) here.ensures.key (ap (λ (v : DirView). v.entries) undone.same) here.ensures.open_handles
+    (ap (λ (v : DirView). v.tsk) undone.same) (ap (λ (v : DirView). v.root.format) undone.same) here.ensures.key (ap (λ (v : DirView). v.entries) undone.same) here.ensures.open_handles
     (subst (IsJournal store) view c.drop_doubt.ensures.kept))
 
 pub returns-in-Landed-clause-counter : goal.returns-in-Landed-clause-counter

@@ -33,7 +33,7 @@ returns-clause-answer g c =
     let top : Head = record t.tree.head { length = 32768; greatest = greatest_of 32768 } in
     rw (← c.self.view_is)
     (stages_ok t u old new c.self.inside.tsk entries (g.met.F.StoreFile.sound t.file) (g.met.F.StoreFile.sound u.file) index entry page c.self.invariant.key fits records c.self.inside.next top
-    s.same s.keeps s.firm budget s.unsettled s.open s.next s.verified s.loaded opened seals s.spares refl refl)
+    s.same s.keeps s.firm budget s.unsettled s.open s.next s.format s.verified s.loaded opened seals s.spares refl refl)
 
 pub returns-in_err-stage-clause-answer : goal.returns-in_err-stage-clause-answer
 returns-in_err-stage-clause-answer g c =

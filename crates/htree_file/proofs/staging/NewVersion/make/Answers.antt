@@ -8,6 +8,7 @@ use Rattle.disk_model.proofs.Laws.{keeps_fewer, keeps_then, rest_keeps, sync_kee
 use Rattle.node_image.specs.declared.node.NodeImage.{NodeImage}
 use Rattle.node_image.specs.declared.node.RootRef.{RootRef}
 use Rattle.node_image.specs.Tables.{at_node, no_node}
+use Rattle.node_image.specs.Parts.{layout_of}
 use Rattle.tree_paths.specs.Paths.{holds}
 use Rattle.htree_file.specs.Changes.{IsChanged, changes_of}
 use Rattle.htree_file.specs.Making.{Nowhere}
@@ -68,11 +69,14 @@ returns-clause-made g c =
     let all : length table ≡ top.greatest = omega (arith, long, length-take top.greatest c.args.table.now, c.requires.blank.room, c.requires.fits.few.1) in
     let zero : v.root ≡ 0 = c.requires.whole.1 in
     let none : v.before ≡ 0 = c.requires.whole.0 in
-    let written = subst (λ (n : ℕ). IsWritten (Known a d) d.reads key top n changes dirty table) zero c.in_ok-root.ensures.written in
+    let written = subst (λ (n : ℕ). IsWritten (layout_of v.format) (Known a d) d.reads key top n changes dirty table) zero c.in_ok-root.ensures.written in
     let hits : (n : ℕ) → 1 ≤ n → n ≤ length table → dirty n ≡ true = λ n least most. (fits.closed.fresh n (omega (arith, none)) (omega (arith, most, all))).0 in
     let each : (k : ℕ) → k < length table → IsChanged changes k = λ k lt. changed_of changes k (fits.changes.fresh k (omega (arith, none)) (omega (arith, lt, all))) in
-    let root : c.in_ok-root.root ≡ record { hash = (at_node table 1).hash; version = 0 } = c.in_ok-root.ensures.root ∙ (λ i. record { hash = (at_node table 1).hash; version = zero i }) in
-    subst (λ (l : List NodeImage). IsMade (Known a e) e.reads key c.in_ok-root.root (record { head = top; nodes = l }) changes) (sym (take_at table (drop top.greatest c.args.table.now) top.greatest all))
-    (subst (λ (r : RootRef). IsMade (Known a e) e.reads key r (record { head = top; nodes = table }) changes) (sym root)
-    (made_on (Known a d) (Known a e) d.reads e.reads key _ (record { head = top; nodes = table }) changes (λ known. first_known a d e settled.goes_on known) (λ known. settled.reads (then_known a d e c.write.ensures.writes.keeps.goes_on known))
-    (is_made (Known a d) d.reads key top changes dirty table written all fits.sized hits each)))
+    let root : c.in_ok-root.root ≡ record { hash = (at_node table 1).hash; version = 0; format = v.format } = c.in_ok-root.ensures.root ∙ (λ i. record { hash = (at_node table 1).hash; version = zero i; format = v.format }) in
+    subst (λ (l : List NodeImage). IsMade (Known a e) e.reads key c.in_ok-root.root (record { head = top; nodes = l; layout = layout_of v.format }) changes) (sym (take_at table (drop top.greatest c.args.table.now) top.greatest all))
+    (subst (λ (r : RootRef). IsMade (Known a e) e.reads key r (record { head = top; nodes = table; layout = layout_of v.format }) changes) (sym root)
+    (made_on (Known a d) (Known a e) d.reads e.reads key _ (record { head = top; nodes = table; layout = layout_of v.format }) changes (λ known. first_known a d e settled.goes_on known) (λ known. settled.reads (then_known a d e c.write.ensures.writes.keeps.goes_on known))
+    (is_made v.format (Known a d) d.reads key top changes dirty table written all fits.sized hits each)))
+
+pub returns-clause-format : goal.returns-clause-format
+returns-clause-format g c = ap (λ (r : RootRef). r.format) c.in_ok-root.ensures.root

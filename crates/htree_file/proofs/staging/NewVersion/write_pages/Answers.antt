@@ -1,6 +1,7 @@
 use Rattle.std.proofs.Common.{◌≡◌, ℕ, ◌+◌, ◌*◌, ◌<◌, List, length, get_or, sym, ap, subst, arith}
 use Rattle.node_image.specs.declared.node.NodeImage.{NodeImage}
 use Rattle.node_image.specs.Tables.{no_node}
+use Rattle.node_image.specs.Parts.{layout_of}
 use Rattle.htree_file.specs.Changes.{block_at, changes_of, page_at}
 use Rattle.htree_file.specs.Staging.{IsSealed}
 use Rattle.disk_model.specs.Calls.{Known}
@@ -12,7 +13,7 @@ pub returns-in_err-node-clause-writes : goal.returns-in_err-node-clause-writes
 returns-in_err-node-clause-writes g c =
     let changes = changes_of c.args.self.now.pages in
     let lt : c.loop-j.j < length changes = omega arith in
-    blocks_write changes c.args.table.now c.loop-j.table c.loop-j.j c.block-k.result _ _ _ (sym c.block-k.ensures) lt c.loop-j.invariant.anew c.loop-j.invariant.writes c.write_page.ensures.writes (4096 * length changes) (omega (arith, lt))
+    blocks_write (layout_of c.args.self.now.format) changes c.args.table.now c.loop-j.table c.loop-j.j c.block-k.result _ _ _ (sym c.block-k.ensures) lt c.loop-j.invariant.anew c.loop-j.invariant.writes c.write_page.ensures.writes (4096 * length changes) (omega (arith, lt))
 
 pub loop-j-preserved : goal.loop-j-preserved
 loop-j-preserved g c =
@@ -30,12 +31,12 @@ loop-j-preserved g c =
     let long : length c.loop-j.table ≡ c.args.self.now.head.now.greatest = omega arith in
     let low : k < length c.loop-j.table = omega (arith, at, long, c.requires.fits.apart.within j lt) in
     let flags : made.flags ≡ (get_or c.loop-j.table k no_node).flags = ap (λ (n : NodeImage). n.flags) step.tagged in
-    let sealed : IsSealed (Known now new) new.reads c.args.self.now.key.now c.args.self.now.head.now made k (page_at changes j) =
-    subst (λ (page : List ℕ). IsSealed (Known now new) new.reads c.args.self.now.key.now c.args.self.now.head.now made k page) c.page-page.ensures step.sealed in
+    let sealed : IsSealed (layout_of c.args.self.now.format) (Known now new) new.reads c.args.self.now.key.now c.args.self.now.head.now made k (page_at changes j) =
+    subst (λ (page : List ℕ). IsSealed (layout_of c.args.self.now.format) (Known now new) new.reads c.args.self.now.key.now c.args.self.now.head.now made k page) c.page-page.ensures step.sealed in
     record {
-      writes = blocks_write changes c.args.table.now c.loop-j.table j k entry now new at lt before.anew before.writes c.write_page.ensures.writes (4096 * (j + 1)) (omega arith);
+      writes = blocks_write (layout_of c.args.self.now.format) changes c.args.table.now c.loop-j.table j k entry now new at lt before.anew before.writes c.write_page.ensures.writes (4096 * (j + 1)) (omega arith);
       passed = passed_then entry now new before.passed step.cause;
       anew = anew_step changes c.args.table.now c.loop-j.table j k made at lt low flags before.anew;
-      sealed = sealed_step changes c.args.self.now.head.now.greatest c.requires.fits.few.1 c.requires.fits.apart entry now new c.args.self.now.key.now c.args.self.now.head.now c.loop-j.table j k made at long lt
+      sealed = sealed_step (layout_of c.args.self.now.format) changes c.args.self.now.head.now.greatest c.requires.fits.few.1 c.requires.fits.apart entry now new c.args.self.now.key.now c.args.self.now.head.now c.loop-j.table j k made at long lt
           before.writes.keeps.goes_on c.write_page.ensures.writes.keeps before.sealed sealed;
     }

@@ -1,5 +1,6 @@
 use Rattle.std.proofs.Common.{List, take, arith}
 use Rattle.disk_model.proofs.Laws.{keeps_none}
+use Rattle.node_image.specs.Parts.{layout_of}
 use Rattle.node_image.specs.declared.node.NodeImage.{NodeImage}
 use Rattle.htree_file.specs.Selected.{Lies}
 use Rattle.htree_file.proofs.Firmness.{stays_firm}
@@ -11,4 +12,4 @@ returns-clause-firm g c =
     let nodes : List NodeImage = take t.head.greatest t.nodes.items in
     let s = g.F.StoreFile.state t.file in
     let sound = g.met.F.StoreFile.sound t.file in
-    rw (← c.self.view_is) (stays_firm s s t.root (record { head = t.head; nodes = nodes }) sound sound (omega arith) (keeps_none (Lies nodes t.root.version) s))
+    rw (← c.self.view_is) (stays_firm s s t.root (record { head = t.head; nodes = nodes; layout = layout_of t.root.format }) sound sound (omega arith) (keeps_none (Lies (layout_of t.root.format) nodes t.root.version) s))

@@ -2,6 +2,7 @@ use Rattle.std.proofs.Common.{◌≡◌, inl, ◌++◌, length, map, take, drop,
 use Rattle.disk_model.specs.Calls.{Known}
 use Rattle.aes_block.specs.WrappedKey.{unwrapped_of}
 use Rattle.node_image.specs.declared.head.Head.{Head}
+use Rattle.node_image.specs.Parts.{layout_of}
 use Rattle.htree_file.specs.Changes.{numbered}
 use Rattle.htree_file.specs.Making.{NamesVersionZero}
 use Rattle.htree_file.specs.Opening.{Loaded}
@@ -18,19 +19,19 @@ of_pages-version-requires-clause-changes g c = whole_changes c.args.blocks.now c
 
 -- the tree that was made, by the fields that it gets
 tree : (g : Over) → goal.In-Ok-make g → Loaded
-tree g c = let t = c.in-Ok.tables.0 in record { head = c.new_head-head.result; nodes = take c.new_head-head.result.greatest (take t.len (c.make.new.table ++ drop (length c.make.new.table) t.items)) }
+tree g c = let t = c.in-Ok.tables.0 in record { head = c.new_head-head.result; nodes = take c.new_head-head.result.greatest (take t.len (c.make.new.table ++ drop (length c.make.new.table) t.items)); layout = layout_of c.in-Ok-make.root.format }
 
-tree_is : (g : Over) (c : goal.In-Ok-make g) → let v = c.of_pages-version.result in ◌≡◌ {A = Loaded} (record { head = v.head.now; nodes = take v.head.now.greatest c.make.new.table }) (tree g c)
+tree_is : (g : Over) (c : goal.In-Ok-make g) → let v = c.of_pages-version.result in ◌≡◌ {A = Loaded} (record { head = v.head.now; nodes = take v.head.now.greatest c.make.new.table; layout = layout_of v.format }) (tree g c)
 unfolding tree
 tree_is g c =
     let head = c.of_pages-version.ensures.head in
     let same = held c.make.new.table c.in-Ok.tables.0.items c.in-Ok.tables.0.len (omega arith) in
-    λ i. record { head = head i; nodes = take (head i).greatest (sym same i) }
+    λ i. record { head = head i; nodes = take (head i).greatest (sym same i); layout = layout_of (sym c.in-Ok-make.ensures.format i) }
 
 made : (g : Over) (c : goal.In-Ok-make g) → let new = g.F.StoreFile.state c.make.new.file in IsMade (Known (g.F.StoreFile.state c.args.file) new) new.reads c.new-key.result c.in-Ok-make.root (tree g c) (numbered c.args.blocks.now 0)
 made g c =
     let v = c.of_pages-version in
-    made_over _ _ c.in-Ok-make.root v.result.key.now c.new-key.result (record { head = v.result.head.now; nodes = take v.result.head.now.greatest c.make.new.table }) (tree g c) _ (numbered c.args.blocks.now 0) v.ensures.key (tree_is g c) v.ensures.pages c.in-Ok-make.ensures.made
+    made_over _ _ c.in-Ok-make.root v.result.key.now c.new-key.result (record { head = v.result.head.now; nodes = take v.result.head.now.greatest c.make.new.table; layout = layout_of v.result.format }) (tree g c) _ (numbered c.args.blocks.now 0) v.ensures.key (tree_is g c) v.ensures.pages c.in-Ok-make.ensures.made
 
 pub returns-in-Ok-make-clause-loaded : goal.returns-in-Ok-make-clause-loaded
 unfolding tree

@@ -1,5 +1,6 @@
 use Rattle.std.proofs.Common.{List, take, arith}
 use Rattle.disk_model.proofs.Laws.{rest_keeps, sync_keeps}
+use Rattle.node_image.specs.Parts.{layout_of}
 use Rattle.node_image.specs.declared.node.NodeImage.{NodeImage}
 use Rattle.htree_file.proofs.Firmness.{keeps_selected, settled_firm, stays_firm}
 use Rattle.htree_file.proofs.tree.Tree.settle.Goals as goal
@@ -11,8 +12,8 @@ returns-in_err-sync-clause-firm g c =
     let old = g.F.StoreFile.state t.file in
     let new = g.F.StoreFile.state c.sync.new.self in
     let sound = g.met.F.StoreFile.sound t.file in
-    rw (← c.self.view_is) (stays_firm old new t.root (record { head = t.head; nodes = nodes }) sound (g.met.F.StoreFile.sound c.sync.new.self) (omega arith)
-    (keeps_selected nodes t.root.version old new (rest_keeps old new sound c.in_err-sync.ensures.unsettled)))
+    rw (← c.self.view_is) (stays_firm old new t.root (record { head = t.head; nodes = nodes; layout = layout_of t.root.format }) sound (g.met.F.StoreFile.sound c.sync.new.self) (omega arith)
+    (keeps_selected (layout_of t.root.format) nodes t.root.version old new (rest_keeps old new sound c.in_err-sync.ensures.unsettled)))
 
 pub returns-clause-firm : goal.returns-clause-firm
 returns-clause-firm g c =
@@ -21,8 +22,8 @@ returns-clause-firm g c =
     let old = g.F.StoreFile.state t.file in
     let new = g.F.StoreFile.state c.sync.new.self in
     let sound = g.met.F.StoreFile.sound t.file in
-    rw (← c.self.view_is) (stays_firm old new t.root (record { head = t.head; nodes = nodes }) sound (g.met.F.StoreFile.sound c.sync.new.self) (omega arith)
-    (keeps_selected nodes t.root.version old new (sync_keeps old new sound c.in_ok-sync.ensures.synced)))
+    rw (← c.self.view_is) (stays_firm old new t.root (record { head = t.head; nodes = nodes; layout = layout_of t.root.format }) sound (g.met.F.StoreFile.sound c.sync.new.self) (omega arith)
+    (keeps_selected (layout_of t.root.format) nodes t.root.version old new (sync_keeps old new sound c.in_ok-sync.ensures.synced)))
 
 pub returns-clause-keeps : goal.returns-clause-keeps
 returns-clause-keeps g c =

@@ -1,5 +1,7 @@
 use Rattle.std.proofs.Common.{◌≡◌, ◌++◌, length, take, drop, ◌∙◌, ap, refl, sym, arith}
 use Rattle.disk_model.specs.Calls.{Known}
+use Rattle.node_image.specs.declared.node.RootRef.{RootRef}
+use Rattle.node_image.specs.Parts.{layout_of}
 use Rattle.node_image.specs.declared.head.Head.{Head}
 use Rattle.htree_file.specs.Stages.{IsStage}
 use Rattle.htree_file.specs.Value.{TreeValue}
@@ -26,15 +28,15 @@ returns-in_err-root-clause-keeps g c =
     let t = c.self.inside in
     let old = g.F.StoreFile.state t.file in
     let new = g.F.StoreFile.state c.stage.new.file in
-    rw (← c.self.view_is) (keeps_over c.deref.result.now t.nodes.items t.head.greatest c.of_pages-version.result.root t.root.version old new c.deref.ensures.value (omega (arith, c.of_pages-version.ensures.root.0, c.self.invariant.4)) c.stage.ensures.writes.keeps)
+    rw (← c.self.view_is) (keeps_over (layout_of c.of_pages-version.result.format) (layout_of t.root.format) (ap layout_of c.of_pages-version.ensures.root.2) c.deref.result.now t.nodes.items t.head.greatest c.of_pages-version.result.root t.root.version old new c.deref.ensures.value (omega (arith, c.of_pages-version.ensures.root.0, c.self.invariant.4)) c.stage.ensures.writes.keeps)
 
 pub returns-in_err-root-clause-firm : goal.returns-in_err-root-clause-firm
 returns-in_err-root-clause-firm g c =
     let t = c.self.inside in
     let old = g.F.StoreFile.state t.file in
     let new = g.F.StoreFile.state c.stage.new.file in
-    rw (← c.self.view_is) (stays_firm old new t.root (record { head = t.head; nodes = take t.head.greatest t.nodes.items }) (g.met.F.StoreFile.sound t.file) (g.met.F.StoreFile.sound c.stage.new.file) c.self.invariant.4
-    (keeps_over c.deref.result.now t.nodes.items t.head.greatest c.of_pages-version.result.root t.root.version old new c.deref.ensures.value (omega (arith, c.of_pages-version.ensures.root.0, c.self.invariant.4)) c.stage.ensures.writes.keeps))
+    rw (← c.self.view_is) (stays_firm old new t.root (record { head = t.head; nodes = take t.head.greatest t.nodes.items; layout = layout_of t.root.format }) (g.met.F.StoreFile.sound t.file) (g.met.F.StoreFile.sound c.stage.new.file) c.self.invariant.4
+    (keeps_over (layout_of c.of_pages-version.result.format) (layout_of t.root.format) (ap layout_of c.of_pages-version.ensures.root.2) c.deref.result.now t.nodes.items t.head.greatest c.of_pages-version.result.root t.root.version old new c.deref.ensures.value (omega (arith, c.of_pages-version.ensures.root.0, c.self.invariant.4)) c.stage.ensures.writes.keeps))
 
 pub returns-in_err-root-clause-budget : goal.returns-in_err-root-clause-budget
 returns-in_err-root-clause-budget g c =
@@ -47,15 +49,15 @@ returns-clause-keeps g c =
     let t = c.self.inside in
     let old = g.F.StoreFile.state t.file in
     let new = g.F.StoreFile.state c.stage.new.file in
-    rw (← c.self.view_is) (keeps_over c.deref.result.now t.nodes.items t.head.greatest c.of_pages-version.result.root t.root.version old new c.deref.ensures.value (omega (arith, c.of_pages-version.ensures.root.0, c.self.invariant.4)) c.stage.ensures.writes.keeps)
+    rw (← c.self.view_is) (keeps_over (layout_of c.of_pages-version.result.format) (layout_of t.root.format) (ap layout_of c.of_pages-version.ensures.root.2) c.deref.result.now t.nodes.items t.head.greatest c.of_pages-version.result.root t.root.version old new c.deref.ensures.value (omega (arith, c.of_pages-version.ensures.root.0, c.self.invariant.4)) c.stage.ensures.writes.keeps)
 
 pub returns-clause-firm : goal.returns-clause-firm
 returns-clause-firm g c =
     let t = c.self.inside in
     let old = g.F.StoreFile.state t.file in
     let new = g.F.StoreFile.state c.stage.new.file in
-    rw (← c.self.view_is) (stays_firm old new t.root (record { head = t.head; nodes = take t.head.greatest t.nodes.items }) (g.met.F.StoreFile.sound t.file) (g.met.F.StoreFile.sound c.stage.new.file) c.self.invariant.4
-    (keeps_over c.deref.result.now t.nodes.items t.head.greatest c.of_pages-version.result.root t.root.version old new c.deref.ensures.value (omega (arith, c.of_pages-version.ensures.root.0, c.self.invariant.4)) c.stage.ensures.writes.keeps))
+    rw (← c.self.view_is) (stays_firm old new t.root (record { head = t.head; nodes = take t.head.greatest t.nodes.items; layout = layout_of t.root.format }) (g.met.F.StoreFile.sound t.file) (g.met.F.StoreFile.sound c.stage.new.file) c.self.invariant.4
+    (keeps_over (layout_of c.of_pages-version.result.format) (layout_of t.root.format) (ap layout_of c.of_pages-version.ensures.root.2) c.deref.result.now t.nodes.items t.head.greatest c.of_pages-version.result.root t.root.version old new c.deref.ensures.value (omega (arith, c.of_pages-version.ensures.root.0, c.self.invariant.4)) c.stage.ensures.writes.keeps))
 
 pub returns-clause-budget : goal.returns-clause-budget
 returns-clause-budget g c =
@@ -65,15 +67,16 @@ returns-clause-budget g c =
 
 -- the stage, by the fields of the tree
 staged : (g : Over) (c : goal.After-self-3-1 g) → let t = c.self.inside in let old = g.F.StoreFile.state t.file in let new = g.F.StoreFile.state c.stage.new.file in
-    IsStage (Known old new) old.reads new.reads t.key t.root (record { head = t.head; nodes = take t.head.greatest t.nodes.items }) c.in_ok-root.root
-    (record { head = record { wrapped = t.head.wrapped; length = c.args.bytes; greatest = c.greatest_node.result }; nodes = take c.greatest_node.result (take t.next.len (c.stage.new.next ++ drop (length c.stage.new.next) t.next.items)) }) c.args.changes.now
+    IsStage (Known old new) old.reads new.reads t.key t.root (record { head = t.head; nodes = take t.head.greatest t.nodes.items; layout = layout_of t.root.format }) c.in_ok-root.root
+    (record { head = record { wrapped = t.head.wrapped; length = c.args.bytes; greatest = c.greatest_node.result }; nodes = take c.greatest_node.result (take t.next.len (c.stage.new.next ++ drop (length c.stage.new.next) t.next.items)); layout = layout_of c.in_ok-root.root.format }) c.args.changes.now
 staged g c =
     let t = c.self.inside in
     let v = c.of_pages-version in
     let same = held c.stage.new.next t.next.items t.next.len (omega arith) in
-    stage_over _ _ _ t.root c.in_ok-root.root v.result.key.now t.key _ (record { head = t.head; nodes = take t.head.greatest t.nodes.items }) (record { head = v.result.head.now; nodes = take v.result.head.now.greatest c.stage.new.next }) _ _ c.args.changes.now
-    v.ensures.key (λ i. record { head = t.head; nodes = take t.head.greatest (c.deref.ensures.value i) }) (λ i. record { head = v.ensures.head i; nodes = take (v.ensures.head i).greatest (sym same i) }) v.ensures.pages
-    (c.in_ok-root.ensures.stage t.root t.head (omega (arith, v.ensures.root.0, c.self.invariant.4)))
+    let made_format : c.in_ok-root.root.format ≡ v.result.format = ap (λ (r : RootRef). r.format) (c.in_ok-root.ensures.stage t.root t.head (omega (arith, v.ensures.root.0, c.self.invariant.4)) (sym v.ensures.root.2)).next_is ∙ sym v.ensures.root.2 in
+    stage_over _ _ _ t.root c.in_ok-root.root v.result.key.now t.key _ (record { head = t.head; nodes = take t.head.greatest t.nodes.items; layout = layout_of t.root.format }) (record { head = v.result.head.now; nodes = take v.result.head.now.greatest c.stage.new.next; layout = layout_of v.result.format }) _ _ c.args.changes.now
+    v.ensures.key (λ i. record { head = t.head; nodes = take t.head.greatest (c.deref.ensures.value i); layout = layout_of (v.ensures.root.2 i) }) (λ i. record { head = v.ensures.head i; nodes = take (v.ensures.head i).greatest (sym same i); layout = layout_of (sym made_format i) }) v.ensures.pages
+    (c.in_ok-root.ensures.stage t.root t.head (omega (arith, v.ensures.root.0, c.self.invariant.4)) (sym v.ensures.root.2))
 
 pub returns-clause-loaded : goal.returns-clause-loaded
 returns-clause-loaded g c = rw (← c.self.view_is) (λ known loads. (staged g c).loaded known loads)
@@ -95,3 +98,6 @@ invariant_of-self-3 g c =
     let t = c.self.inside in
     let inv = c.self.invariant in
     (inv.0, ap length (held c.stage.new.next t.next.items t.next.len (omega arith)) ∙ (let room : length c.stage.new.next ≡ 256 = omega (arith, inv.1) in room), inv.2, inv.3, inv.4, inv.5, (staged g c).verified inv.5)
+
+pub returns-clause-format : goal.returns-clause-format
+returns-clause-format g c = rw (← c.self.view_is) (ap (λ (r : RootRef). r.format) (staged g c).next_is)

@@ -1,7 +1,7 @@
-use Rattle.std.proofs.Common.{◌≡◌, ◌≤◌, ◌∙◌, ◌∷◌, ◌++◌, List, length, take, drop, Some, Err, Ok, refl, sym, ap, subst}
+use Rattle.std.proofs.Common.{◌≡◌, ◌∙◌, ◌++◌, List, length, take, drop, Some, Err, Ok, refl, sym, ap, subst}
 use Rattle.std.proofs.lemmas.Result.{err_from_is_err_and}
 use Rattle.hmac_keys.specs.KeyTable.{tsk}
-use Rattle.object_calls.specs.OpeningFiles.{files_of, object_files}
+use Rattle.object_calls.specs.OpeningFiles.{numbered_files, object_files}
 use Rattle.object_calls.specs.Next.{MapStays, NextAnswer, ReadsObject}
 use Rattle.object_calls.specs.Opening.{IsOpening, bench_files, entries_in}
 use Rattle.object_calls.proofs.EntriesOf.{form_at}
@@ -22,10 +22,11 @@ invariant_of-self g c =
     let state = g.F.StoreFile.state in
     let i = c.self.inside in
     let entries = i.gate.dir.dir.entries in
+    let spare = i.spare in
     let d = i.gate.dir.file in
     let e = c.in-Some.entry in
     let next = c.in-Some.ensures in
-    let from : 1 ≤ e.file = (form_at entries c.self.invariant.0.entries next.index e next.at).file.0 in
+    let own = (form_at entries c.self.invariant.0.entries next.index e next.at).file in
     let was : List g.row.F.Denot = c.deref_mut.result.now in
     let items : List g.row.F.Denot = i.files.items in
     let new : List g.row.F.Denot = c.show_in.new.files in
@@ -35,9 +36,9 @@ invariant_of-self g c =
     let filled = refilled i.files.len items new long many in
     let reads : ReadsObject (object_files state items) (object_files state new) e.file =
     subst (λ (l : List g.row.F.Denot). ReadsObject (object_files state l) (object_files state new) e.file) held c.show_in.ensures.reads in
-    let one = reads_bench state d items new e.file from reads in (
+    let one = reads_bench state spare d items new e.file own reads in (
       subst (λ (l : List g.row.F.Denot). IsOpening state i.gate l i.storage_key) (sym filled)
-          (stays_open state i.gate items i.storage_key c.self.invariant.0 i.gate new refl (many ∙ sym long) (reads_pending (files_of state (d ∷ items)) (files_of state (d ∷ new)) e.file one)),
+          (stays_open state i.gate items i.storage_key c.self.invariant.0 spare i.gate new refl (many ∙ sym long) (reads_pending (numbered_files state spare d items) (numbered_files state spare d new) e.file one)),
       c.self.invariant.1,
       c.self.invariant.2,
       c.self.invariant.3,
@@ -48,10 +49,11 @@ returns-in_err-object-clause-answer g c =
     let state = g.F.StoreFile.state in
     let i = c.self.inside in
     let entries = i.gate.dir.dir.entries in
+    let spare = i.spare in
     let d = i.gate.dir.file in
     let e = c.in-Some.entry in
     let next = c.in-Some.ensures in
-    let from : 1 ≤ e.file = (form_at entries c.self.invariant.0.entries next.index e next.at).file.0 in
+    let own = (form_at entries c.self.invariant.0.entries next.index e next.at).file in
     let was : List g.row.F.Denot = c.deref_mut.result.now in
     let items : List g.row.F.Denot = i.files.items in
     let new : List g.row.F.Denot = c.show_in.new.files in
@@ -63,22 +65,23 @@ returns-in_err-object-clause-answer g c =
     subst (λ (l : List g.row.F.Denot). ReadsObject (object_files state l) (object_files state new) e.file) held c.show_in.ensures.reads in
     let key_is : c.tsk.result ≡ tsk i.storage_key e.app = c.tsk.ensures ∙ ap (tsk i.storage_key) c.bytes.ensures in
     let fault = c.in_err-object.field-0.0 in
-    let answer = not_shown state d was new entries c.args.after i.storage_key c.tsk.result e from next key_is c.show_in.ensures.reads fault c.in_err-object.ensures.answer in
+    let answer = not_shown state spare d was new entries c.args.after i.storage_key c.tsk.result e own next key_is c.show_in.ensures.reads fault c.in_err-object.ensures.answer in
     let p = err_from_is_err_and c.from_residual.result c.from_residual.ensures.1 in
     rw (p.1, p.2)
-    (subst (λ v. NextAnswer (entries_in v) c.args.after v.storage_key (bench_files state v) (files_of state (d ∷ take i.files.len (new ++ drop (length new) items))) (Err fault)) c.self.view_is
-    (subst (λ (l : List g.row.F.Denot). NextAnswer entries c.args.after i.storage_key (files_of state (d ∷ items)) (files_of state (d ∷ l)) (Err fault)) (sym filled)
-    (subst (λ (l : List g.row.F.Denot). NextAnswer entries c.args.after i.storage_key (files_of state (d ∷ l)) (files_of state (d ∷ new)) (Err fault)) held answer)))
+    (subst (λ v. NextAnswer (entries_in v) c.args.after v.storage_key (bench_files state v) (numbered_files state spare d (take i.files.len (new ++ drop (length new) items))) (Err fault)) c.self.view_is
+    (subst (λ (l : List g.row.F.Denot). NextAnswer entries c.args.after i.storage_key (numbered_files state spare d items) (numbered_files state spare d l) (Err fault)) (sym filled)
+    (subst (λ (l : List g.row.F.Denot). NextAnswer entries c.args.after i.storage_key (numbered_files state spare d l) (numbered_files state spare d new) (Err fault)) held answer)))
 
 pub returns-in_err-object-clause-map : goal.returns-in_err-object-clause-map
 returns-in_err-object-clause-map g c =
     let state = g.F.StoreFile.state in
     let i = c.self.inside in
     let entries = i.gate.dir.dir.entries in
+    let spare = i.spare in
     let d = i.gate.dir.file in
     let e = c.in-Some.entry in
     let next = c.in-Some.ensures in
-    let from : 1 ≤ e.file = (form_at entries c.self.invariant.0.entries next.index e next.at).file.0 in
+    let own = (form_at entries c.self.invariant.0.entries next.index e next.at).file in
     let was : List g.row.F.Denot = c.deref_mut.result.now in
     let items : List g.row.F.Denot = i.files.items in
     let new : List g.row.F.Denot = c.show_in.new.files in
@@ -88,20 +91,21 @@ returns-in_err-object-clause-map g c =
     let filled = refilled i.files.len items new long many in
     let reads : ReadsObject (object_files state items) (object_files state new) e.file =
     subst (λ (l : List g.row.F.Denot). ReadsObject (object_files state l) (object_files state new) e.file) held c.show_in.ensures.reads in
-    let one = reads_bench state d items new e.file from reads in
-    subst (λ v. MapStays (entries_in v) (bench_files state v) (files_of state (d ∷ take i.files.len (new ++ drop (length new) items)))) c.self.view_is
-    (subst (λ (l : List g.row.F.Denot). MapStays entries (files_of state (d ∷ items)) (files_of state (d ∷ l))) (sym filled)
-    (read_map entries (files_of state (d ∷ items)) (files_of state (d ∷ new)) e.file one))
+    let one = reads_bench state spare d items new e.file own reads in
+    subst (λ v. MapStays (entries_in v) (bench_files state v) (numbered_files state spare d (take i.files.len (new ++ drop (length new) items)))) c.self.view_is
+    (subst (λ (l : List g.row.F.Denot). MapStays entries (numbered_files state spare d items) (numbered_files state spare d l)) (sym filled)
+    (read_map entries (numbered_files state spare d items) (numbered_files state spare d new) e.file one))
 
 pub invariant_of-self-2 : goal.invariant_of-self-2
 invariant_of-self-2 g c =
     let state = g.F.StoreFile.state in
     let i = c.self.inside in
     let entries = i.gate.dir.dir.entries in
+    let spare = i.spare in
     let d = i.gate.dir.file in
     let e = c.in-Some.entry in
     let next = c.in-Some.ensures in
-    let from : 1 ≤ e.file = (form_at entries c.self.invariant.0.entries next.index e next.at).file.0 in
+    let own = (form_at entries c.self.invariant.0.entries next.index e next.at).file in
     let was : List g.row.F.Denot = c.deref_mut.result.now in
     let items : List g.row.F.Denot = i.files.items in
     let new : List g.row.F.Denot = c.show_in.new.files in
@@ -111,9 +115,9 @@ invariant_of-self-2 g c =
     let filled = refilled i.files.len items new long many in
     let reads : ReadsObject (object_files state items) (object_files state new) e.file =
     subst (λ (l : List g.row.F.Denot). ReadsObject (object_files state l) (object_files state new) e.file) held c.show_in.ensures.reads in
-    let one = reads_bench state d items new e.file from reads in (
+    let one = reads_bench state spare d items new e.file own reads in (
       subst (λ (l : List g.row.F.Denot). IsOpening state i.gate l i.storage_key) (sym filled)
-          (stays_open state i.gate items i.storage_key c.self.invariant.0 i.gate new refl (many ∙ sym long) (reads_pending (files_of state (d ∷ items)) (files_of state (d ∷ new)) e.file one)),
+          (stays_open state i.gate items i.storage_key c.self.invariant.0 spare i.gate new refl (many ∙ sym long) (reads_pending (numbered_files state spare d items) (numbered_files state spare d new) e.file one)),
       c.self.invariant.1,
       c.self.invariant.2,
       c.self.invariant.3,
@@ -124,10 +128,11 @@ returns-clause-answer g c =
     let state = g.F.StoreFile.state in
     let i = c.self.inside in
     let entries = i.gate.dir.dir.entries in
+    let spare = i.spare in
     let d = i.gate.dir.file in
     let e = c.in-Some.entry in
     let next = c.in-Some.ensures in
-    let from : 1 ≤ e.file = (form_at entries c.self.invariant.0.entries next.index e next.at).file.0 in
+    let own = (form_at entries c.self.invariant.0.entries next.index e next.at).file in
     let was : List g.row.F.Denot = c.deref_mut.result.now in
     let items : List g.row.F.Denot = i.files.items in
     let new : List g.row.F.Denot = c.show_in.new.files in
@@ -139,20 +144,21 @@ returns-clause-answer g c =
     subst (λ (l : List g.row.F.Denot). ReadsObject (object_files state l) (object_files state new) e.file) held c.show_in.ensures.reads in
     let key_is : c.tsk.result ≡ tsk i.storage_key e.app = c.tsk.ensures ∙ ap (tsk i.storage_key) c.bytes.ensures in
     let object = c.in_ok-object.object in
-    let answer = shown_next state d was new entries c.args.after i.storage_key c.tsk.result e from next key_is c.show_in.ensures.reads object c.in_ok-object.ensures.answer in
-    subst (λ v. NextAnswer (entries_in v) c.args.after v.storage_key (bench_files state v) (files_of state (d ∷ take i.files.len (new ++ drop (length new) items))) (Ok (Some (shown_of e object)))) c.self.view_is
-    (subst (λ (l : List g.row.F.Denot). NextAnswer entries c.args.after i.storage_key (files_of state (d ∷ items)) (files_of state (d ∷ l)) (Ok (Some (shown_of e object)))) (sym filled)
-    (subst (λ (l : List g.row.F.Denot). NextAnswer entries c.args.after i.storage_key (files_of state (d ∷ l)) (files_of state (d ∷ new)) (Ok (Some (shown_of e object)))) held answer))
+    let answer = shown_next state spare d was new entries c.args.after i.storage_key c.tsk.result e own next key_is c.show_in.ensures.reads object c.in_ok-object.ensures.answer in
+    subst (λ v. NextAnswer (entries_in v) c.args.after v.storage_key (bench_files state v) (numbered_files state spare d (take i.files.len (new ++ drop (length new) items))) (Ok (Some (shown_of e object)))) c.self.view_is
+    (subst (λ (l : List g.row.F.Denot). NextAnswer entries c.args.after i.storage_key (numbered_files state spare d items) (numbered_files state spare d l) (Ok (Some (shown_of e object)))) (sym filled)
+    (subst (λ (l : List g.row.F.Denot). NextAnswer entries c.args.after i.storage_key (numbered_files state spare d l) (numbered_files state spare d new) (Ok (Some (shown_of e object)))) held answer))
 
 pub returns-clause-map : goal.returns-clause-map
 returns-clause-map g c =
     let state = g.F.StoreFile.state in
     let i = c.self.inside in
     let entries = i.gate.dir.dir.entries in
+    let spare = i.spare in
     let d = i.gate.dir.file in
     let e = c.in-Some.entry in
     let next = c.in-Some.ensures in
-    let from : 1 ≤ e.file = (form_at entries c.self.invariant.0.entries next.index e next.at).file.0 in
+    let own = (form_at entries c.self.invariant.0.entries next.index e next.at).file in
     let was : List g.row.F.Denot = c.deref_mut.result.now in
     let items : List g.row.F.Denot = i.files.items in
     let new : List g.row.F.Denot = c.show_in.new.files in
@@ -162,7 +168,7 @@ returns-clause-map g c =
     let filled = refilled i.files.len items new long many in
     let reads : ReadsObject (object_files state items) (object_files state new) e.file =
     subst (λ (l : List g.row.F.Denot). ReadsObject (object_files state l) (object_files state new) e.file) held c.show_in.ensures.reads in
-    let one = reads_bench state d items new e.file from reads in
-    subst (λ v. MapStays (entries_in v) (bench_files state v) (files_of state (d ∷ take i.files.len (new ++ drop (length new) items)))) c.self.view_is
-    (subst (λ (l : List g.row.F.Denot). MapStays entries (files_of state (d ∷ items)) (files_of state (d ∷ l))) (sym filled)
-    (read_map entries (files_of state (d ∷ items)) (files_of state (d ∷ new)) e.file one))
+    let one = reads_bench state spare d items new e.file own reads in
+    subst (λ v. MapStays (entries_in v) (bench_files state v) (numbered_files state spare d (take i.files.len (new ++ drop (length new) items)))) c.self.view_is
+    (subst (λ (l : List g.row.F.Denot). MapStays entries (numbered_files state spare d items) (numbered_files state spare d l)) (sym filled)
+    (read_map entries (numbered_files state spare d items) (numbered_files state spare d new) e.file one))

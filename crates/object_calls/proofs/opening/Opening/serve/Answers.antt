@@ -1,5 +1,5 @@
-use Rattle.std.proofs.Common.{◌≡◌, ◌∙◌, ◌≤◌, ℕ, List, [], length, None, vec_len, refl, sym, ap, subst}
-use Rattle.std.specs.Vec.{vec_capacity}
+use Rattle.std.proofs.Common.{◌≡◌, ◌∙◌, ◌≤◌, ℕ, List, [], length, None, refl, sym, ap, subst}
+use Rattle.tee_types.specs.Limits.{file_count, last_file}
 use Rattle.store_model.specs.declared.event.Event.{Event}
 use Rattle.history_seats.specs.Views.{GateView}
 use Rattle.core_laws.specs.Stores.{Store}
@@ -11,7 +11,7 @@ use Rattle.object_calls.specs.Opening.{OpeningValue}
 use Rattle.object_calls.specs.Seats.{IsSplitting}
 use Rattle.object_calls.specs.ServedPhases.{ServesOpening}
 use Rattle.object_calls.specs.Services.{ServiceValue}
-use Rattle.object_calls.proofs.FirstParts.{first_gate, first_journal, first_numbered, first_opens, may_be_first, new-splitting, none_tagged, room_for_all, told_first}
+use Rattle.object_calls.proofs.FirstParts.{first_gate, first_journal, first_numbered, first_opens, may_be_first, new-splitting, none_tagged, told_first}
 use Rattle.object_calls.proofs.opening.Opening.serve.Goals as goal
 
 pub split_slots-slots-requires-clause-splitting : goal.split_slots-slots-requires-clause-splitting
@@ -22,7 +22,7 @@ pub split_slots-slots-requires-clause-guarded : goal.split_slots-slots-requires-
 split_slots-slots-requires-clause-guarded g c =
     let i = c.self.inside in
     let o : OpeningValue g.row.F.Denot g.row.R.Denot =
-    record { gate = i.gate; files = i.files.items; storage_key = i.storage_key; table = i.table; applications = i.applications.items } in
+    record { gate = i.gate; files = i.files.items; spare = i.spare; storage_key = i.storage_key; table = i.table; applications = i.applications.items } in
     let of = subst (IsStoreOf g.F.StoreFile.state g.L.StoreName.store) (sym c.self.view_is) c.requires.store in
     may_be_first g.F.StoreFile.state g.met.F.StoreFile.sound g.L.StoreName.store o c.self.invariant.0 of
 
@@ -31,7 +31,7 @@ new-journal-requires g c =
     let i = c.self.inside in
     let store = g.L.StoreName.store in
     let o : OpeningValue g.row.F.Denot g.row.R.Denot =
-    record { gate = i.gate; files = i.files.items; storage_key = i.storage_key; table = i.table; applications = i.applications.items } in
+    record { gate = i.gate; files = i.files.items; spare = i.spare; storage_key = i.storage_key; table = i.table; applications = i.applications.items } in
     let of = subst (IsStoreOf g.F.StoreFile.state store) (sym c.self.view_is) c.requires.store in
     let seat = c.split_passes.new.seat in
     let told = c.split_passes.ensures.told in
@@ -44,7 +44,7 @@ new-requires-2 g c =
     let i = c.self.inside in
     let store = g.L.StoreName.store in
     let o : OpeningValue g.row.F.Denot g.row.R.Denot =
-    record { gate = i.gate; files = i.files.items; storage_key = i.storage_key; table = i.table; applications = i.applications.items } in
+    record { gate = i.gate; files = i.files.items; spare = i.spare; storage_key = i.storage_key; table = i.table; applications = i.applications.items } in
     let of = subst (IsStoreOf g.F.StoreFile.state store) (sym c.self.view_is) c.requires.store in
     let seat = c.split_passes.new.seat in
     let first = told_first store seat.knows (length store.mounted.applications) c.split_passes.ensures.told in
@@ -56,10 +56,10 @@ invariant_of-result g c =
     let i = c.self.inside in
     let store = g.L.StoreName.store in
     let o : OpeningValue g.row.F.Denot g.row.R.Denot =
-    record { gate = i.gate; files = i.files.items; storage_key = i.storage_key; table = i.table; applications = i.applications.items } in
+    record { gate = i.gate; files = i.files.items; spare = i.spare; storage_key = i.storage_key; table = i.table; applications = i.applications.items } in
     let of = subst (IsStoreOf g.F.StoreFile.state store) (sym c.self.view_is) c.requires.store in
     let slots = c.split_slots-slots.result.slots in
-    let many : length slots.items ≡ 272 = sym slots.ok.0 ∙ c.split_slots-slots.ensures.many in
+    let many : length slots.items ≡ last_file = sym slots.ok.0 ∙ c.split_slots-slots.ensures.many in
     let gate : GuardedGateValue g.row.F.Denot g.row.R.Denot = c.new-2.result in
     let empty : gate.journal.knows.all ≡ [] =
     ap (λ (x : GuardedGateValue g.row.F.Denot g.row.R.Denot). x.journal.knows.all) c.new-2.ensures ∙ ap (λ (j : JournalValue). j.knows.all) c.new-journal.ensures ∙ c.split_passes.ensures.told.empty in (
@@ -74,8 +74,7 @@ invariant_of-result g c =
         opens = first_opens g.F.StoreFile.state g.met.F.StoreFile.sound store o c.self.invariant.0 of;
       },
       c.split_slots-slots.ensures.vacant,
-      room_for_all (vec_capacity c.split_slots-slots.result.room) (vec_capacity i.files) (vec_len i.files) (length i.files.items) c.split_slots-slots.ensures.room c.self.invariant.1
-          i.files.ok.0 c.self.invariant.0.whole,
+      subst (λ (n : ℕ). file_count ≤ n) (sym c.split_slots-slots.ensures.room) c.self.invariant.1,
       c.in-Ok-free_places.ensures,
     )
 
@@ -89,7 +88,7 @@ returns-clause-served g c =
     let told = c.split_passes.ensures.told in
     let knows : gate.journal.knows ≡ seat.knows =
     ap (λ (x : GuardedGateValue g.row.F.Denot g.row.R.Denot). x.journal.knows) c.new-2.ensures ∙ ap (λ (j : JournalValue). j.knows) c.new-journal.ensures in
-    let served : ServiceValue g.row.F.Denot g.row.R.Denot = record { gate = gate; slots = c.split_slots-slots.result.slots.items; storage_key = i.storage_key } in
+    let served : ServiceValue g.row.F.Denot g.row.R.Denot = record { gate = gate; slots = c.split_slots-slots.result.slots.items; storage_key = i.storage_key; spare = i.spare } in
     subst (λ (v : OpeningValue g.row.F.Denot g.row.R.Denot). ServesOpening state store v served) c.self.view_is
     (record {
       gate = ap (λ (x : GuardedGateValue g.row.F.Denot g.row.R.Denot). x.gate) c.new-2.ensures;
@@ -98,4 +97,5 @@ returns-clause-served g c =
       unclosed = ap (λ (x : GuardedGateValue g.row.F.Denot g.row.R.Denot). x.closing) c.new-2.ensures;
       slots = c.split_slots-slots.ensures.slots;
       storage_key = refl;
+      spare = refl;
     })

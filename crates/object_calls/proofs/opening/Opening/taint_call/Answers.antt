@@ -1,7 +1,9 @@
-use Rattle.std.proofs.Common.{◌≡◌, ◌∙◌, ◌∷◌, ℕ, List, length, sym, subst}
+use Rattle.std.proofs.Common.{◌≡◌, ◌∙◌, ◌++◌, ℕ, List, length, take, drop, sym, subst}
+use Rattle.std.specs.Prelude.{OnErr, OnOk}
 use Rattle.disk_model.specs.State.{pending}
-use Rattle.object_calls.specs.OpeningFiles.{files_of}
-use Rattle.object_calls.specs.Opening.{IsOpening}
+use Rattle.object_calls.specs.OpeningArms.{TaintsOnBench, StayDevices}
+use Rattle.object_calls.specs.OpeningFiles.{numbered_files}
+use Rattle.object_calls.specs.Opening.{IsOpening, bench_files}
 use Rattle.object_calls.proofs.Files.{refilled}
 use Rattle.object_calls.proofs.Rearming.{stays_open, taints_pending}
 use Rattle.object_calls.proofs.opening.Opening.taint_call.Goals as goal
@@ -17,12 +19,38 @@ invariant_of-self g c =
     let held : was ≡ i.files.items = c.deref_mut.ensures.value in
     let long : length i.files.items ≡ i.files.len = sym i.files.ok.0 in
     let many : length n.files ≡ i.files.len = c.taint_device.auto.files ∙ c.deref_mut.ensures.len in
-    let still : (k : ℕ) → pending (files_of state (n.gate.dir.file ∷ n.files) k) ≡ pending (files_of state (i.gate.dir.file ∷ i.files.items) k) =
-    subst (λ (l : List g.row.F.Denot). (k : ℕ) → pending (files_of state (n.gate.dir.file ∷ n.files) k) ≡ pending (files_of state (i.gate.dir.file ∷ l) k)) held
-    (taints_pending c.taint_device.result c.args.device (record { call = c.args.call; at = c.args.at; mask = c.args.mask.now }) (files_of state (i.gate.dir.file ∷ was)) (files_of state (n.gate.dir.file ∷ n.files)) (port i.gate.host.port) (port n.gate.host.port) e.taints e.refused) in (
+    let still : (k : ℕ) → pending (numbered_files state i.spare n.gate.dir.file n.files k) ≡ pending (numbered_files state i.spare i.gate.dir.file i.files.items k) =
+    subst (λ (l : List g.row.F.Denot). (k : ℕ) → pending (numbered_files state i.spare n.gate.dir.file n.files k) ≡ pending (numbered_files state i.spare i.gate.dir.file l k)) held
+    (taints_pending c.taint_device.result c.args.device (record { call = c.args.call; at = c.args.at; mask = c.args.mask.now }) (numbered_files state i.spare i.gate.dir.file was) (numbered_files state i.spare n.gate.dir.file n.files) (port i.gate.host.port) (port n.gate.host.port) (e.taints i.spare) (e.refused i.spare)) in (
       subst (λ (l : List g.row.F.Denot). IsOpening state n.gate l i.storage_key) (sym (refilled i.files.len i.files.items n.files long many))
-          (stays_open state i.gate i.files.items i.storage_key c.self.invariant.0 n.gate n.files e.gate (many ∙ sym long) still),
+          (stays_open state i.gate i.files.items i.storage_key c.self.invariant.0 i.spare n.gate n.files e.gate (many ∙ sym long) still),
       c.self.invariant.1,
       c.self.invariant.2,
       c.self.invariant.3,
     )
+
+pub returns-clause-taints : goal.returns-clause-taints
+returns-clause-taints g c =
+    let state = g.F.StoreFile.state in
+    let port = g.R.RpmbPort.state in
+    let i = c.self.inside in
+    let n = c.taint_device.new in
+    let e = c.taint_device.ensures in
+    let long : length i.files.items ≡ i.files.len = sym i.files.ok.0 in
+    let many : length n.files ≡ i.files.len = c.taint_device.auto.files ∙ c.deref_mut.ensures.len in
+    subst (λ v. OnOk c.taint_device.result (TaintsOnBench c.args.device (record { call = c.args.call; at = c.args.at; mask = c.args.mask.now }) (bench_files state v) (numbered_files state i.spare n.gate.dir.file (take i.files.len (n.files ++ drop (length n.files) i.files.items))) (port v.gate.host.port) (port n.gate.host.port))) c.self.view_is
+    (subst (λ (l : List g.row.F.Denot). OnOk c.taint_device.result (TaintsOnBench c.args.device (record { call = c.args.call; at = c.args.at; mask = c.args.mask.now }) (numbered_files state i.spare i.gate.dir.file i.files.items) (numbered_files state i.spare n.gate.dir.file l) (port i.gate.host.port) (port n.gate.host.port))) (sym (refilled i.files.len i.files.items n.files long many))
+    (subst (λ (l : List g.row.F.Denot). OnOk c.taint_device.result (TaintsOnBench c.args.device (record { call = c.args.call; at = c.args.at; mask = c.args.mask.now }) (numbered_files state i.spare i.gate.dir.file l) (numbered_files state i.spare n.gate.dir.file n.files) (port i.gate.host.port) (port n.gate.host.port))) c.deref_mut.ensures.value (e.taints i.spare)))
+
+pub returns-clause-refused : goal.returns-clause-refused
+returns-clause-refused g c =
+    let state = g.F.StoreFile.state in
+    let port = g.R.RpmbPort.state in
+    let i = c.self.inside in
+    let n = c.taint_device.new in
+    let e = c.taint_device.ensures in
+    let long : length i.files.items ≡ i.files.len = sym i.files.ok.0 in
+    let many : length n.files ≡ i.files.len = c.taint_device.auto.files ∙ c.deref_mut.ensures.len in
+    subst (λ v. OnErr c.taint_device.result (StayDevices (bench_files state v) (numbered_files state i.spare n.gate.dir.file (take i.files.len (n.files ++ drop (length n.files) i.files.items))) (port v.gate.host.port) (port n.gate.host.port))) c.self.view_is
+    (subst (λ (l : List g.row.F.Denot). OnErr c.taint_device.result (StayDevices (numbered_files state i.spare i.gate.dir.file i.files.items) (numbered_files state i.spare n.gate.dir.file l) (port i.gate.host.port) (port n.gate.host.port))) (sym (refilled i.files.len i.files.items n.files long many))
+    (subst (λ (l : List g.row.F.Denot). OnErr c.taint_device.result (StayDevices (numbered_files state i.spare i.gate.dir.file l) (numbered_files state i.spare n.gate.dir.file n.files) (port i.gate.host.port) (port n.gate.host.port))) c.deref_mut.ensures.value (e.refused i.spare)))

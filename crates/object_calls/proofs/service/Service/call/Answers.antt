@@ -27,26 +27,26 @@ returns-clause-answers g c =
     let of_file = g.F.StoreFile.state in
     let of_port = g.R.RpmbPort.state in
     let faults = g.E.Entropy.faults in
-    let was : ServiceValue g.row.F.Denot g.row.R.Denot = record { gate = i.gate; slots = i.slots.items; storage_key = i.storage_key } in
-    let now : ServiceValue g.row.F.Denot g.row.R.Denot = record { gate = c.serve.new.gate; slots = c.serve.new.slots.items; storage_key = i.storage_key } in
+    let was : ServiceValue g.row.F.Denot g.row.R.Denot = record { gate = i.gate; slots = i.slots.items; storage_key = i.storage_key; spare = i.spare } in
+    let now : ServiceValue g.row.F.Denot g.row.R.Denot = record { gate = c.serve.new.gate; slots = c.serve.new.slots.items; storage_key = i.storage_key; spare = i.spare } in
     subst
     (λ (s : ServiceValue g.row.F.Denot g.row.R.Denot). AnswersCall of_file of_port faults store s now c.args.session.now c.serve.new.session c.args.call.now c.match-serve.result.place c.match-serve.result.reply)
     c.self.view_is (elim c.match-serve.branch [
       | in-Ok w ↦
           let done = w.in-Ok.ensures.serves in
           subst (λ (p : Option ℕ × Reply). AnswersCall of_file of_port faults store was now c.args.session.now c.serve.new.session c.args.call.now p.0 p.1)
-          (λ j. ((sym w.result-is j).place, (sym w.result-is j).reply)) (record { at = done.answers; devices = done.devices; held = done.held; storage_key = refl })
+          (λ j. ((sym w.result-is j).place, (sym w.result-is j).reply)) (record { at = done.answers; devices = done.devices; held = done.held; storage_key = refl; spare = refl })
       | in-Err w ↦
           let done = w.in-Err.ensures.serves in
           subst (λ (p : Option ℕ × Reply). AnswersCall of_file of_port faults store was now c.args.session.now c.serve.new.session c.args.call.now p.0 p.1)
-          (λ j. ((sym w.result-is j).place, (sym w.result-is j).reply)) (record { at = (refl, done.answers); devices = done.devices; held = done.held; storage_key = refl })
+          (λ j. ((sym w.result-is j).place, (sym w.result-is j).reply)) (record { at = (refl, done.answers); devices = done.devices; held = done.held; storage_key = refl; spare = refl })
     ])
 
 pub returns-clause-at_once : goal.returns-clause-at_once
 returns-clause-at_once g c =
     let i = c.self.inside in
-    let was : ServiceValue g.row.F.Denot g.row.R.Denot = record { gate = i.gate; slots = i.slots.items; storage_key = i.storage_key } in
-    let now : ServiceValue g.row.F.Denot g.row.R.Denot = record { gate = c.serve.new.gate; slots = c.serve.new.slots.items; storage_key = i.storage_key } in
+    let was : ServiceValue g.row.F.Denot g.row.R.Denot = record { gate = i.gate; slots = i.slots.items; storage_key = i.storage_key; spare = i.spare } in
+    let now : ServiceValue g.row.F.Denot g.row.R.Denot = record { gate = c.serve.new.gate; slots = c.serve.new.slots.items; storage_key = i.storage_key; spare = i.spare } in
     subst
     (λ (s : ServiceValue g.row.F.Denot g.row.R.Denot). IsMisused s.gate (shown s.gate.journal.knows c.args.session.now).state c.args.call.now
     → AnswersAtOnceAt (serving s c.args.session.now) (serving now c.serve.new.session) c.args.call.now c.match-serve.result.place c.match-serve.result.reply)
@@ -65,8 +65,8 @@ returns-clause-passed g c =
     let of_file = g.F.StoreFile.state in
     let of_port = g.R.RpmbPort.state in
     let faults = g.E.Entropy.faults in
-    let was : ServiceValue g.row.F.Denot g.row.R.Denot = record { gate = i.gate; slots = i.slots.items; storage_key = i.storage_key } in
-    let now : ServiceValue g.row.F.Denot g.row.R.Denot = record { gate = c.serve.new.gate; slots = c.serve.new.slots.items; storage_key = i.storage_key } in
+    let was : ServiceValue g.row.F.Denot g.row.R.Denot = record { gate = i.gate; slots = i.slots.items; storage_key = i.storage_key; spare = i.spare } in
+    let now : ServiceValue g.row.F.Denot g.row.R.Denot = record { gate = c.serve.new.gate; slots = c.serve.new.slots.items; storage_key = i.storage_key; spare = i.spare } in
     subst
     (λ (s : ServiceValue g.row.F.Denot g.row.R.Denot). IsNone c.match-serve.result.place
     → NoneFailed (devices_in of_file of_port faults (serving s c.args.session.now)) (devices_in of_file of_port faults (serving now c.serve.new.session)))
@@ -78,7 +78,7 @@ returns-clause-passed g c =
 pub returns-clause-spent : goal.returns-clause-spent
 returns-clause-spent g c =
     let i = c.self.inside in
-    let now : ServiceValue g.row.F.Denot g.row.R.Denot = record { gate = c.serve.new.gate; slots = c.serve.new.slots.items; storage_key = i.storage_key } in
+    let now : ServiceValue g.row.F.Denot g.row.R.Denot = record { gate = c.serve.new.gate; slots = c.serve.new.slots.items; storage_key = i.storage_key; spare = i.spare } in
     subst
     (λ (s : ServiceValue g.row.F.Denot g.row.R.Denot). IsPartial c.args.call.now → s.gate.gate.doubt ≡ None → s.gate.gate.counter ≡ last_counter
     → AreOnlyRead (serving s c.args.session.now) (serving now c.serve.new.session))

@@ -19,10 +19,10 @@ pub returns-clause-gives : goal.returns-clause-gives
 returns-clause-gives g c =
     let state = g.F.StoreFile.state in
     let i = c.self.inside in
-    let s : ServiceValue g.row.F.Denot g.row.R.Denot = record { gate = i.gate; slots = i.slots.items; storage_key = i.storage_key } in
+    let s : ServiceValue g.row.F.Denot g.row.R.Denot = record { gate = i.gate; slots = i.slots.items; storage_key = i.storage_key; spare = i.spare } in
     let closed = c.close_slots in
     subst (λ (v : ServiceValue g.row.F.Denot g.row.R.Denot). GivesBack state v closed.result.bench.files.items closed.result.bench.card) c.self.view_is
-    (gives_back state g.L.StoreName.store i.gate.journal.knows s closed.result.bench.files.items closed.result.bench.card c.self.invariant.0.slots_are closed.ensures.dir closed.ensures.card
+    (gives_back state g.L.StoreName.store i.gate.journal.knows s closed.result.bench.files.items closed.result.bench.card c.self.invariant.0.slots_are closed.ensures.dir closed.ensures.spare closed.ensures.card
     closed.ensures.placed)
 
 pub returns-clause-leaves : goal.returns-clause-leaves

@@ -15,14 +15,14 @@ use Rattle.block_file.specs.Reads.{AreReadBytes}
 use Rattle.crash_core.specs.MountedObject.{root_of}
 use Rattle.object_file.specs.Loading.{IsFirstRead, IsFront, PartFault}
 use Rattle.object_file.proofs.FirstBlock.{bytes_then, first_then}
-use Rattle.object_file.proofs.Mounting.{mounted_held, part_damaged, sound_faultless}
+use Rattle.object_file.proofs.Mounting.{mounted_held, part_damaged, part_fault, sound_faultless}
 use Rattle.object_file.specs.Held.{held_in}
 use Rattle.object_file.specs.Value.{ObjectValue}
 use Rattle.object_file.proofs.object.ObjectFile.load.Goals as goal
 
 -- the tree was seen under the reference
 abbrev SeenAs : (old new : FileState) → RootRef → Loaded → Type 0
-SeenAs old new root tree = WasSeen (Lies tree.nodes root.version) old new (λ image. table_of image root ≡ Ok tree)
+SeenAs old new root tree = WasSeen (Lies tree.layout tree.nodes root.version) old new (λ image. table_of image root ≡ Ok tree)
 
 pub returns-in-Ok-read_attributes-clause-object : goal.returns-in-Ok-read_attributes-clause-object
 returns-in-Ok-read_attributes-clause-object g c =
@@ -53,6 +53,20 @@ returns-in-Ok-read_attributes-clause-faultless g c told =
     let d = g.F.StoreFile.state c.read_attributes.new.file.file in
     let o : ObjectValue g.row.F.Denot = record { tree = c.read_attributes.new.file; attributes = c.in-Ok-read_attributes.attributes.items } in
     sound_faultless c.args.tsk.now d.reads c.args.entry.now (held_in o d.reads) (returns-in-Ok-read_attributes-clause-object g c told)
+
+pub returns-in-Err-read_attributes-clause-fault : goal.returns-in-Err-read_attributes-clause-fault
+returns-in-Err-read_attributes-clause-fault g c =
+    let a = g.F.StoreFile.state c.args.file in
+    let b = g.F.StoreFile.state c.in-Ok.tree.file in
+    let d = g.F.StoreFile.state c.read_attributes.new.file.file in
+    let e = c.args.entry.now in
+    let tree = c.in-Ok.tree in
+    let fault = c.in-Err-read_attributes.fault in
+    let rests : Rests b d = subst (λ (t : TreeValue g.row.F.Denot). Rests (g.F.StoreFile.state t.file) d) c.new-file.ensures c.read_attributes.ensures.rests in
+    let stands : PartFault tree.key tree.tree d e.size fault =
+    subst (λ (t : TreeValue g.row.F.Denot). PartFault t.key t.tree d e.size fault) c.new-file.ensures c.in-Err-read_attributes.ensures.fault in
+    rw (c.into_file-file.ensures)
+    (part_fault c.args.tsk.now tree.key tree.tree e a b d c.in-Ok.ensures.rests rests c.in-Ok.ensures.loaded c.in-Ok.ensures.key fault stands)
 
 pub returns-in-Err-read_attributes-clause-damaged : goal.returns-in-Err-read_attributes-clause-damaged
 returns-in-Err-read_attributes-clause-damaged g c =
@@ -108,8 +122,8 @@ returns-in-Ok-read_attributes-clause-seen g c =
     let rests : Rests b d = subst (λ (t : TreeValue g.row.F.Denot). Rests (g.F.StoreFile.state t.file) d) c.new-file.ensures c.read_attributes.ensures.rests in
     let same : record tree { file = c.read_attributes.new.file.file } ≡ c.read_attributes.new.file =
     sym (subst (λ (t : TreeValue g.row.F.Denot). c.read_attributes.new.file ≡ record t { file = c.read_attributes.new.file.file }) c.new-file.ensures c.read_attributes.ensures.same) in
-    let seen : SeenAs a d root tree.tree = seen_later (Lies tree.tree.nodes root.version) a b d (λ image. table_of image root ≡ Ok tree.tree)
-    (runs_one (Lies tree.tree.nodes root.version) rest b d (g.met.F.StoreFile.sound tree.file) rests tt) c.in-Ok.ensures.seen in
+    let seen : SeenAs a d root tree.tree = seen_later (Lies tree.tree.layout tree.tree.nodes root.version) a b d (λ image. table_of image root ≡ Ok tree.tree)
+    (runs_one (Lies tree.tree.layout tree.tree.nodes root.version) rest b d (g.met.F.StoreFile.sound tree.file) rests tt) c.in-Ok.ensures.seen in
     let by_root : SeenAs a d tree.root tree.tree = subst (λ (r : RootRef). SeenAs a d r tree.tree) (sym c.in-Ok.ensures.root) seen in
     subst (λ (t : TreeValue g.row.F.Denot). SeenAs a d t.root t.tree) same by_root
 

@@ -1,0 +1,10 @@
+use Rattle.std.proofs.Common.{ap, ◌∙◌, ℕ, List, ◌++◌, codes, false}
+use Rattle.std.specs.Fmt.{styled_decimal}
+use Rattle.host_folder.proofs.Digits.{padded_by_zeros}
+use Rattle.host_folder.proofs.folder_file.FolderFile.new.Goals as goal
+
+pub returns : goal.returns
+returns g c =
+    let digits = ap (λ s. styled_decimal s c.args.number) c.laid_out.ensures ∙ padded_by_zeros c.args.number in
+    ap (λ (p : List ℕ). record { path = p; faults = 0; written = 0; syncs = 0; sync_failed = false })
+    (c.in_ok-format.ensures.ok ∙ ap (λ (d : List ℕ). c.args.folder.now ++ (codes "/" ++ (d ++ codes ".bin"))) digits)

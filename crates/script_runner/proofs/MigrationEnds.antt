@@ -1,0 +1,67 @@
+-- A migration that is not disturbed is done, or wants memory.
+use Rattle.std.proofs.Common.{ℕ, ◌≡◌, Bool, List, subst}
+use Rattle.disk_model.specs.State.{FileState}
+use Rattle.hmac_keys.specs.declared.Keys.{Keys}
+use Rattle.rpmb_card.specs.Port.{PortState}
+use Rattle.store_model.specs.Object.{ObjectMap}
+use Rattle.run_acts.specs.Benches.{BenchState}
+use Rattle.run_acts.specs.declared.MountFault.{MountFault}
+use Rattle.run_acts.specs.declared.MountFault.TheVariants.{NoMemory as NoMemoryFault}
+use Rattle.run_acts.specs.MigrationLaws.{IsUndisturbed}
+use Rattle.run_acts.proofs.MigrationEnds.{moved_benches_are_listed, undisturbed_benches_are_moved}
+use Rattle.script_runner.specs.declared.status.Status.{Status}
+use Rattle.script_runner.specs.declared.status.Status.TheVariants.{BadLine, DeviceFault, Done, MountRefused, NoMemory, ReadFault, TooLong, Usage, WriteFault}
+use Rattle.script_runner.specs.MigrationLaws.{MigrationsEnd}
+use Rattle.script_runner.specs.Migrations.{EndsMigration, EndsRefused, GivenUp, MigratesThen, MigrationRecord, Shown, Starved, Unlisted, migration_output}
+use Rattle.script_runner.specs.Prints.{HasActCause}
+use Rattle.script_runner.specs.RunLaws.{IsDoneOrStarved}
+
+-- the status of a refusal for want of memory
+ends_starved : (fault : MountFault) → fault ≡ NoMemoryFault → (status : Status) → EndsRefused fault status → IsDoneOrStarved status
+ends_starved fault is Done ends = tt
+ends_starved fault is NoMemory ends = tt
+ends_starved fault is WriteFault ends = subst (λ (f : MountFault). EndsRefused f WriteFault) is ends
+ends_starved fault is (MountRefused told) ends = (subst (λ (f : MountFault). EndsRefused f (MountRefused told)) is ends).1
+ends_starved fault is (DeviceFault told) ends = (subst (λ (f : MountFault). EndsRefused f (DeviceFault told)) is ends).1
+ends_starved fault is Usage ends = subst (λ (f : MountFault). EndsRefused f Usage) is ends
+ends_starved fault is (BadLine line) ends = subst (λ (f : MountFault). EndsRefused f (BadLine line)) is ends
+ends_starved fault is ReadFault ends = subst (λ (f : MountFault). EndsRefused f ReadFault) is ends
+ends_starved fault is (TooLong excess) ends = subst (λ (f : MountFault). EndsRefused f (TooLong excess)) is ends
+
+-- a run whose text was not cut off
+ends_shown : (failed : Type 0) → (failed → ⊥) → (put text : List ℕ) (directory : Bool) (moved : ℕ) (objects : ObjectMap) (status : Status) → EndsMigration (Shown directory moved objects) status
+    → HasActCause failed put text status → IsDoneOrStarved status
+ends_shown failed not put text directory moved objects Done ends cause = tt
+ends_shown failed not put text directory moved objects NoMemory ends cause = tt
+ends_shown failed not put text directory moved objects WriteFault ends cause = absurd (not cause)
+ends_shown failed not put text directory moved objects (MountRefused told) ends cause = absurd ends
+ends_shown failed not put text directory moved objects (DeviceFault told) ends cause = absurd ends
+ends_shown failed not put text directory moved objects Usage ends cause = absurd ends
+ends_shown failed not put text directory moved objects (BadLine line) ends cause = absurd ends
+ends_shown failed not put text directory moved objects ReadFault ends cause = absurd ends
+ends_shown failed not put text directory moved objects (TooLong excess) ends cause = absurd ends
+
+ends_memory : (directory : Bool) (moved : ℕ) (status : Status) → EndsMigration (Starved directory moved) status → IsDoneOrStarved status
+ends_memory directory moved NoMemory ends = tt
+ends_memory directory moved Done ends = absurd ends
+ends_memory directory moved WriteFault ends = absurd ends
+ends_memory directory moved (MountRefused told) ends = absurd ends
+ends_memory directory moved (DeviceFault told) ends = absurd ends
+ends_memory directory moved Usage ends = absurd ends
+ends_memory directory moved (BadLine line) ends = absurd ends
+ends_memory directory moved ReadFault ends = absurd ends
+ends_memory directory moved (TooLong excess) ends = absurd ends
+
+module _ {F R : Type 0} (of_file : F → FileState) (of_port : R → PortState) (keys : Keys) (drew draws : ℕ) (failed : Type 0) (handed given : BenchState) (status : Status) (u : IsUndisturbed keys drew draws handed given)
+    (not : failed → ⊥) where
+  ends_by : (put : List ℕ) (what : MigrationRecord) → MigratesThen of_file of_port keys drew draws what handed given → EndsMigration what status → HasActCause failed put (migration_output what) status
+      → IsDoneOrStarved status
+  ends_by put (GivenUp fault) done ends cause = ends_starved fault (undisturbed_benches_are_moved keys drew draws handed given fault u done) status ends
+  ends_by put (Unlisted directory moved fault) done ends cause =
+      ends_starved fault (moved_benches_are_listed of_file of_port keys drew draws handed done.0 given directory moved fault u done.1 done.2) status ends
+  ends_by put (Shown directory moved objects) done ends cause = ends_shown failed not put _ directory moved objects status ends cause
+  ends_by put (Starved directory moved) done ends cause = ends_memory directory moved status ends
+
+pub migrations_end : {F R : Type 0} (of_file : F → FileState) (of_port : R → PortState) (failed : Type 0) → MigrationsEnd of_file of_port failed
+migrations_end of_file of_port failed keys drew draws held_old held_new handed given status r u not =
+    ends_by of_file of_port keys drew draws failed handed given status u not r.put r.what r.done r.ends r.cause
