@@ -1,8 +1,7 @@
 -- What is deciphered of bytes is bytes.
-use Rattle.std.proofs.Common.{◌≡◌, ◌+◌, ◌/◌, ◌%◌, ◌<◌, ◌≤◌, ◌==◌, ℕ, zero, suc, Bool, true, false, cond, List, [], ◌∷◌, ◌++◌, length, map, take, Some, None, slice_index, bit_xor, inl, inr, sym, subst, arith}
+use Rattle.std.proofs.Common.{◌≡◌, ◌+◌, ◌/◌, ◌%◌, ◌<◌, ◌≤◌, ◌==◌, ℕ, zero, suc, Bool, true, false, List, [], ◌∷◌, ◌++◌, length, map, take, Some, slice_index, bit_xor, inl, inr, sym, subst, arith}
 use Rattle.std.specs.Int.{byte_at, bytes_high_first}
 use Rattle.std.specs.List.{range_with_len}
-use Rattle.std.specs.Str.{bytes_eq}
 use Rattle.std.proofs.lemmas.Bool.{cases_lt}
 use Rattle.std.proofs.lemmas.List.{get_or_past}
 use Rattle.std.proofs.lemmas.List.FromFn.{get_or-map-range_with_len, length-map-range_with_len}
@@ -22,8 +21,7 @@ use Rattle.node_image.specs.declared.node.NodeImage.{NodeImage}
 use Rattle.node_image.specs.declared.head.Head.{Head}
 use Rattle.hmac_keys.specs.Hmac.{hmac}
 use Rattle.htree_file.proofs.PageLaws.{page_block}
-use Rattle.htree_file.specs.Pages.{page_of, tag_of}
-use Rattle.core_laws.proofs.Mending.{none_some, some_same}
+use Rattle.htree_file.specs.Pages.{page_of}
 
 -- LISTS OF BYTES
 no_bytes : IsBytes []

@@ -1,5 +1,5 @@
 -- What lies behind each lock as a mounted store is served.
-use Rattle.std.proofs.Common.{◌≡◌, ◌+◌, ◌||◌, ℕ, suc, Bool, List, [], length, Option, Some, None, unwrap_or, refl, sym, ap, ◌∙◌, subst, arith, ne_eqb, ◌<◌, ◌≤◌, ◌∷◌, IfSome}
+use Rattle.std.proofs.Common.{◌≡◌, ◌+◌, ◌||◌, ℕ, suc, Bool, List, [], length, Option, Some, None, unwrap_or, refl, sym, ap, ◌∙◌, subst, arith, ne_eqb, IfSome}
 use Rattle.std.specs.Prelude.{Contains}
 use Rattle.disk_model.specs.State.{FileState, Sound, pending}
 use Rattle.atomic_table.specs.Seated.{TableId}

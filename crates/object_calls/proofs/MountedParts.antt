@@ -1,6 +1,6 @@
 -- What lies behind each lock as a phase begins.
 use Rattle.node_image.specs.References.{IsCurrent}
-use Rattle.std.proofs.Common.{◌≡◌, ℕ, ◌<◌, List, [], Option, Some, refl, sym, ap, ◌∙◌, subst}
+use Rattle.std.proofs.Common.{◌≡◌, ℕ, List, [], Option, Some, refl, sym, ap, ◌∙◌, subst}
 use Rattle.std.specs.Prelude.{IsTrue}
 use Rattle.disk_model.specs.State.{FileState, pending}
 use Rattle.dir_records.specs.declared.entry.DirEntry.{DirEntry}

@@ -1,6 +1,6 @@
 -- A bench that is mounted, or refused.
-use Rattle.std.proofs.Common.{◌≡◌, ◌∙◌, ◌<◌, ℕ, List, [], length, None, inr, sym, ap, subst, arith, refl}
-use Rattle.disk_model.specs.State.{FileState, Sound, pending}
+use Rattle.std.proofs.Common.{◌≡◌, ◌∙◌, ◌<◌, ℕ, List, [], length, None, inr, sym, ap, subst, arith}
+use Rattle.disk_model.specs.State.{FileState, Sound}
 use Rattle.node_image.specs.References.{current_format}
 use Rattle.htree_file.specs.Answers.{FilePassed}
 use Rattle.htree_file.specs.Standing.{Told}
@@ -14,11 +14,9 @@ use Rattle.tee_types.specs.declared.reply.Cause.{Cause}
 use Rattle.tee_types.specs.declared.reply.Cause.TheVariants.{Fault, Frame as OfFrame, CardResult as OfResult}
 use Rattle.tee_types.specs.declared.reply.Device.{Device}
 use Rattle.tee_types.specs.declared.reply.Device.TheVariants.{Dir, File, Card, Entropy}
-use Rattle.crash_core.specs.CardBlock.{root_in}
-use Rattle.crash_core.specs.Mounting.{directory_by, mounted_entries}
+use Rattle.crash_core.specs.Mounting.{mounted_entries}
 use Rattle.crash_core.specs.EntryLists.{AreCurrent}
 use Rattle.crash_core.specs.Opening.{reads_of}
-use Rattle.crash_core.specs.Pictures.{block_zero}
 use Rattle.crash_core.proofs.Doubles.{below}
 use Rattle.store_commit.specs.Causes.{Counted, NotDrawn, NotOfCard, counts}
 use Rattle.store_commit.specs.Counts.{NoneRose, RefusalCounts}
@@ -36,7 +34,6 @@ use Rattle.object_calls.specs.Syncing.{StopsSyncing, SyncsNamed}
 use Rattle.object_calls.proofs.Files.{directory_here}
 use Rattle.store_commit.proofs.Cards.{has_still}
 use Rattle.object_calls.proofs.DirectoryImages.{one_directory}
-use Rattle.object_calls.proofs.EntriesOf.{file_from_one}
 use Rattle.object_calls.proofs.NamedEntries.{directory_identified}
 use Rattle.object_calls.proofs.Openings.{whole_opening}
 

@@ -5,7 +5,6 @@ use Rattle.disk_model.specs.State.{pending}
 use Rattle.hmac_keys.specs.declared.Keys.{Keys}
 use Rattle.hmac_keys.specs.KeyTable.{rpmb_key}
 use Rattle.node_image.specs.declared.node.RootRef.{RootRef}
-use Rattle.tee_types.specs.Limits.{directory_file}
 use Rattle.rpmb_card.specs.Card.{CardState}
 use Rattle.rpmb_host.specs.Honest.{HasCard}
 use Rattle.store_model.specs.ReplayState.{ReplayState}

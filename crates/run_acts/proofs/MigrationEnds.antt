@@ -1,6 +1,5 @@
 -- A migration that is not disturbed is given up for want of memory alone, and then its objects are listed.
-use Rattle.std.proofs.Common.{ℕ, ◌≡◌, ◌==◌, ◌∙◌, ◌+◌, ◌<◌, ◌≤◌, Bool, cond, List, None, Option, Ok, Err, Result, IsTrue, inl, inr, refl, sym, ap, subst, arith}
-use Rattle.std.specs.List.{count_by}
+use Rattle.std.proofs.Common.{ℕ, ◌≡◌, ◌==◌, ◌∙◌, ◌≤◌, Bool, cond, List, None, Option, Ok, Err, Result, IsTrue, inl, inr, refl, sym, ap, subst, arith}
 use Rattle.disk_model.specs.Faults.{Rose}
 use Rattle.disk_model.specs.State.{FileState}
 use Rattle.disk_model.proofs.ImageLaws.{reads_left}
@@ -14,7 +13,6 @@ use Rattle.tee_types.specs.declared.reply.Cause.{Cause}
 use Rattle.tee_types.specs.declared.reply.Cause.TheVariants.{CardResult as ResultCause, Fault, Frame as FrameCause}
 use Rattle.tee_types.specs.declared.reply.Device.TheVariants.{Card, Dir, Entropy, File}
 use Rattle.dir_records.specs.declared.entry.DirEntry.{DirEntry}
-use Rattle.rpmb_card.specs.Protocol.{last_counter}
 use Rattle.rpmb_card.specs.Card.{CardState}
 use Rattle.rpmb_card.specs.Port.{PortState}
 use Rattle.rpmb_host.specs.Honest.{HasCard}
@@ -30,10 +28,9 @@ use Rattle.store_commit.specs.declared.fault.MountFault.{MountFault}
 use Rattle.store_commit.specs.declared.fault.MountFault.TheVariants.{CardBlock, CardResult, Directory, Failed, Frame, NoMemory, NoStore, OldFormat, Spent}
 use Rattle.object_calls.specs.Migrated.{devices_of, store_of}
 use Rattle.object_calls.specs.MigrationRefusals.{HasNoRoom, MigrationRefused}
-use Rattle.object_calls.specs.MovedEntries.{is_old}
 use Rattle.object_calls.proofs.CurrentPictures.{none_named, one_picture}
 use Rattle.run_acts.specs.Benches.{BenchState}
-use Rattle.run_acts.specs.ListedBenches.{IsListRefused, ListRefusal, ShowCounts, StopsListing, starved as list_starved, stopped as list_stopped, unasked as list_unasked, unmounted, unshown}
+use Rattle.run_acts.specs.ListedBenches.{ListRefusal, ShowCounts, StopsListing, starved as list_starved, stopped as list_stopped, unasked as list_unasked, unmounted, unshown}
 use Rattle.run_acts.specs.MigratedBenches.{IsBenchNotMoved, MovesBench, StopsBench, starved, stopped, unasked}
 use Rattle.run_acts.specs.MigrationLaws.{IsUndisturbed, MigratedBenchesStayCurrent, MovedBenchesAreCurrent, MovedBenchesAreListed, UndisturbedBenchesAreMoved}
 use Rattle.run_acts.specs.MountedDevices.{IsMountRefused}

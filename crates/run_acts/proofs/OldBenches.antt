@@ -1,12 +1,12 @@
 -- A bench that has a file of the old format is refused for it.
-use Rattle.std.proofs.Common.{◌≡◌, ◌≢◌, ◌⊎◌, ◌∙◌, ℕ, eqb, List, Option, None, Some, Result, Ok, Err, inl, inr, refl, sym, ap, subst, arith, ne_eqb}
+use Rattle.std.proofs.Common.{◌≡◌, ◌⊎◌, ◌∙◌, ℕ, eqb, List, None, Some, Result, Ok, Err, inl, inr, refl, sym, ap, subst, arith, ne_eqb}
 use Rattle.std.proofs.lemmas.Bool.{cases_eq, cond-false}
 use Rattle.disk_model.specs.State.{FileState}
 use Rattle.htree_file.specs.Standing.{Told}
 use Rattle.node_image.specs.declared.node.RootRef.{RootRef}
 use Rattle.hmac_keys.specs.declared.Keys.{Keys}
 use Rattle.hmac_keys.specs.KeyTable.{rpmb_key}
-use Rattle.tee_types.specs.Limits.{directory_file, old_directory_file}
+use Rattle.tee_types.specs.Limits.{directory_file}
 use Rattle.rpmb_card.specs.Card.{CardState}
 use Rattle.rpmb_card.specs.Port.{PortState}
 use Rattle.rpmb_host.specs.Honest.{HasCard}
@@ -16,7 +16,7 @@ use Rattle.crash_core.specs.OldFormats.{old_file, old_under}
 use Rattle.crash_core.specs.Pictures.{Picture, block_zero}
 use Rattle.crash_core.specs.Refusal.{Refusal, CardBlock as BadBlock, NoStore as BlankBlock}
 use Rattle.core_laws.proofs.Mending.{none_some, some_same}
-use Rattle.store_commit.specs.Blocks.{HasOldRoot, picture_of}
+use Rattle.store_commit.specs.Blocks.{picture_of}
 use Rattle.store_commit.specs.declared.fault.MountFault.{MountFault}
 use Rattle.store_commit.specs.declared.fault.MountFault.TheVariants.{CardBlock, CardResult, Directory, Failed, Frame, NoMemory, NoStore, OldFormat, Spent}
 use Rattle.object_calls.proofs.CurrentPictures.{none_named}

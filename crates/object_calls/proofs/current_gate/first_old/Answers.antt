@@ -1,8 +1,7 @@
 -- The first that is found has none before it.
-use Rattle.std.proofs.Common.{◌∙◌, Some, sym, arith}
+use Rattle.std.proofs.Common.{sym, arith}
 use Rattle.crash_core.proofs.Doubles.{below}
 use Rattle.crash_core.proofs.OldFormats.{first_old_at, none_is_old}
-use Rattle.object_calls.proofs.OldGates.{below_next}
 use Rattle.object_calls.proofs.current_gate.first_old.Goals as goal
 
 pub loop-index-init : goal.loop-index-init

@@ -1,0 +1,12 @@
+pub mod Answers
+pub mod Outside
+pub mod Nodes
+pub mod Checks
+pub mod Certified
+pub mod ContentPages
+pub mod Cutting
+pub mod Entries
+pub mod Cuts
+pub mod Issued
+pub mod Puts
+pub mod Accepted
