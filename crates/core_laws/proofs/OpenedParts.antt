@@ -1,5 +1,5 @@
 -- Each part of a store that is mounted and synced has its fact.
-use Rattle.std.proofs.Common.{◌≡◌, ℕ, ◌<◌, List, [], ◌∷◌, Bool, true, ◌&&◌, ◌||◌, eqb, map, IsTrue, Option, Some, None, inl, inr, refl, sym, ◌∙◌, ap, subst, eq-eqb, arith, true≢false}
+use Rattle.std.proofs.Common.{◌≡◌, ℕ, List, [], ◌∷◌, Bool, true, ◌&&◌, ◌||◌, eqb, map, IsTrue, Option, Some, None, inl, inr, refl, sym, ◌∙◌, ap, subst, eq-eqb, arith, true≢false}
 use Rattle.std.specs.Prelude.{◌==◌, Contains}
 use Rattle.std.specs.Option.{option_map}
 use Rattle.std.proofs.lemmas.Bool.{cases_Bool, cases_eq, cond-true, cond-false, and_parts, eqb-true}

@@ -1,5 +1,5 @@
 -- Which steps of the gate its calls are: of the directory's file, and the write of the card.
-use Rattle.std.specs.Prelude.{◌≡◌, ◌≢◌, ◌⊎◌, ◌<◌, true, [], Option, Some, None, Ok, IsTrue}
+use Rattle.std.specs.Prelude.{◌≡◌, ◌≢◌, ◌⊎◌, true, [], Option, Some, None, Ok, IsTrue}
 use Rattle.disk_model.specs.State.{FileState, Sound, pending}
 use Rattle.disk_model.specs.Keeps.{Runs}
 use Rattle.node_image.specs.References.{IsCurrent, current_format}

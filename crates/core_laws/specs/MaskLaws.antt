@@ -1,5 +1,5 @@
 -- Where no mask is armed on a file that tells its bytes and its arms, what it gave is what was committed.
-use Rattle.std.specs.Prelude.{◌≡◌, ℕ, ◌<◌, ◌≤◌, List, [], Contains, Some, Ok}
+use Rattle.std.specs.Prelude.{◌≡◌, ℕ, ◌≤◌, List, [], Contains, Some, Ok}
 use Rattle.node_image.specs.Parts.{layout_of, nodes_end}
 use Rattle.node_image.specs.References.{IsCurrent}
 use Rattle.htree_file.specs.Opening.{Loaded}

@@ -1,5 +1,5 @@
 -- A slot as a part of the core machine.
-use Rattle.std.specs.Prelude.{◌≡◌, ℕ, ◌<◌, List, Option, IsTrue}
+use Rattle.std.specs.Prelude.{◌≡◌, ℕ, List, Option, IsTrue}
 use Rattle.disk_model.specs.State.{FileState, LeftNow, Sound}
 use Rattle.hmac_keys.specs.declared.Keys.{Keys}
 use Rattle.node_image.specs.References.{IsCurrent}

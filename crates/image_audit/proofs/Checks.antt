@@ -248,9 +248,6 @@ module _ (keys : Keys) (e : DirEntry) (bytes : List ℕ) (each : AreBytes bytes)
   abbrev g : ℕ
   g = (object_head bytes).greatest
 
-  abbrev from_size : Result ℕ CertFault
-  from_size = size_test e (object_head bytes)
-
   abbrev from_pages : Result ℕ CertFault
   from_pages = and_then (fault_as Object (pages_test (object_decoding keys e bytes) 0 (object_head bytes).greatest)) (λ _. size_test e (object_head bytes))
 

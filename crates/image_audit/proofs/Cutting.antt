@@ -28,10 +28,6 @@ use Rattle.image_audit.specs.Contents.{current_tree, cut_pages, pages_answer}
 use Rattle.image_audit.proofs.Answers.{test_ok, then_err, then_is}
 use Rattle.image_audit.proofs.ContentPages.{pages_step}
 
-pub map_result : {A E : Type 0} (P Q : A → Type 0) (R S : E → Type 0) (r : Result A E) → ((a : A) → P a → Q a) → ((e : E) → R e → S e) → MatchResult r P R → MatchResult r Q S
-map_result P Q R S (Ok a) f g held = f a held
-map_result P Q R S (Err e) f g held = g e held
-
 -- a head that passed is the one that stands there
 pub head_is : (form : Bool) (h x : Head) → Ok x ≡ head_test form h → x ≡ h
 head_is form h x is = sym (test_ok form h x (BadHead h.length h.greatest) (sym is)).1
@@ -87,9 +83,6 @@ module _ (keys : Keys) (e : DirEntry) (bytes : List ℕ) (h : Head) (nodes : Lis
       let same : nodes ≡ row (λ n. node_of (field (4698 + 66 * n) 66 bytes)) (object_head bytes).greatest = read ∙ ap (λ (x : Head). row (λ n. node_of (field (4698 + 66 * n) 66 bytes)) x.greatest) head_same in
       λ i. record { head = head_same i; nodes = same i; layout = aligned }
 
-  pub object_nodes_err : (fault : ProofFault) → nodes_test (root_of e) (current_tree h nodes) ≡ Err fault → pages_answer keys e bytes ≡ Err (Object fault)
-  object_nodes_err fault is = then_err (fault_as Object (nodes_test (root_of e) (object_tree bytes))) _ (Object fault) (ap (λ (t : Loaded). fault_as Object (nodes_test (root_of e) t)) (sym object_tree_is) ∙ ap (fault_as Object) is)
-
   module _ (key : List ℕ) (at : ℕ) (key_is : key ≡ unwrapped_of (object_key keys e.app) h.wrapped) (at_is : at ≡ 4698 + 66 * h.greatest)
       (hashed : nodes_test (root_of e) (current_tree h nodes) ≡ Ok (current_tree h nodes)) where
     pub object_cut_is : ◌≡◌ {A = Decoding} (cut_pages key h nodes bytes at) (object_decoding keys e bytes)
@@ -113,9 +106,6 @@ module _ (keys : Keys) (e : DirEntry) (bytes : List ℕ) (h : Head) (passed : Ok
   behind_head : (answer : Result ℕ CertFault) → and_then (length_test bytes) (λ _. and_then (fault_as Object (nodes_test (root_of e) (object_tree bytes))) (λ _.
       and_then (fault_as Object (pages_test (object_decoding keys e bytes) 0 (object_head bytes).greatest)) (λ _. size_test e (object_head bytes)))) ≡ answer → object_test keys e bytes ≡ answer
   behind_head answer is = then_is (fault_as Object (head_test (has_form (field 4666 32 bytes)) (object_head bytes))) _ h answer (ap (fault_as Object) (sym passed)) is
-
-  pub list_length_err : (fault : CertFault) → length_test bytes ≡ Err fault → object_listing keys e bytes ≡ Err fault
-  list_length_err fault is = then_err (object_test keys e bytes) said fault (behind_head (Err fault) (then_err (length_test bytes) _ fault is))
 
   module _ (long : length_test bytes ≡ Ok (long_of bytes)) where
     behind_length : (answer : Result ℕ CertFault) → and_then (fault_as Object (nodes_test (root_of e) (object_tree bytes))) (λ _.

@@ -1,18 +1,19 @@
 -- A migration that is not disturbed is done, or wants memory.
-use Rattle.std.proofs.Common.{ℕ, ◌≡◌, Bool, List, subst}
+use Rattle.std.proofs.Common.{ℕ, ◌≡◌, Bool, List, ap, subst, sym}
 use Rattle.disk_model.specs.State.{FileState}
 use Rattle.hmac_keys.specs.declared.Keys.{Keys}
 use Rattle.rpmb_card.specs.Port.{PortState}
 use Rattle.store_model.specs.Object.{ObjectMap}
 use Rattle.run_acts.specs.Benches.{BenchState}
 use Rattle.run_acts.specs.declared.MountFault.{MountFault}
-use Rattle.run_acts.specs.declared.MountFault.TheVariants.{NoMemory as NoMemoryFault}
+use Rattle.run_acts.specs.declared.MountFault.TheVariants.{CardBlock, CardResult, Directory, Failed, Frame, NoMemory as NoMemoryFault, NoStore, OldFormat, Spent}
 use Rattle.run_acts.specs.MigrationLaws.{IsUndisturbed}
+use Rattle.run_acts.specs.MigratedBenches.{IsBenchNotMoved, starved, stopped, unasked}
 use Rattle.run_acts.proofs.MigrationEnds.{moved_benches_are_listed, undisturbed_benches_are_moved}
 use Rattle.script_runner.specs.declared.status.Status.{Status}
 use Rattle.script_runner.specs.declared.status.Status.TheVariants.{BadLine, DeviceFault, Done, MountRefused, NoMemory, ReadFault, TooLong, Usage, WriteFault}
-use Rattle.script_runner.specs.MigrationLaws.{MigrationsEnd}
-use Rattle.script_runner.specs.Migrations.{EndsMigration, EndsRefused, GivenUp, MigratesThen, MigrationRecord, Shown, Starved, Unlisted, migration_output}
+use Rattle.script_runner.specs.MigrationLaws.{MigrationsEnd, MigrationsTellNoOldFile}
+use Rattle.script_runner.specs.Migrations.{EndsMigration, EndsRefused, GivenUp, MigratesThen, MigrationRecord, Shown, Starved, Unlisted, migration_output, told_behind}
 use Rattle.script_runner.specs.Prints.{HasActCause}
 use Rattle.script_runner.specs.RunLaws.{IsDoneOrStarved}
 
@@ -58,10 +59,38 @@ module _ {F R : Type 0} (of_file : F → FileState) (of_port : R → PortState) 
       → IsDoneOrStarved status
   ends_by put (GivenUp fault) done ends cause = ends_starved fault (undisturbed_benches_are_moved keys drew draws handed given fault u done) status ends
   ends_by put (Unlisted directory moved fault) done ends cause =
-      ends_starved fault (moved_benches_are_listed of_file of_port keys drew draws handed done.0 given directory moved fault u done.1 done.2) status ends
+      ends_starved (told_behind fault) (ap told_behind (moved_benches_are_listed of_file of_port keys drew draws handed done.0 given directory moved fault u done.1 done.2)) status ends
   ends_by put (Shown directory moved objects) done ends cause = ends_shown failed not put _ directory moved objects status ends cause
   ends_by put (Starved directory moved) done ends cause = ends_memory directory moved status ends
 
 pub migrations_end : {F R : Type 0} (of_file : F → FileState) (of_port : R → PortState) (failed : Type 0) → MigrationsEnd of_file of_port failed
 migrations_end of_file of_port failed keys drew draws held_old held_new handed given status r u not =
     ends_by of_file of_port keys drew draws failed handed given status u not r.put r.what r.done r.ends r.cause
+
+-- AN OLD FILE IS NOT TOLD
+module _ (file : ℕ) where
+  not_told : (fault : MountFault) → (let told : MountFault = OldFormat file in told ≡ told_behind fault) → ⊥
+  not_told NoStore is = absurd (cc (is))
+  not_told (CardBlock byte) is = absurd (cc (is))
+  not_told (Directory d) is = absurd (cc (is))
+  not_told (Frame f) is = absurd (cc (is))
+  not_told (CardResult n) is = absurd (cc (is))
+  not_told (Failed cause) is = absurd (cc (is))
+  not_told Spent is = absurd (cc (is))
+  not_told NoMemoryFault is = absurd (cc (is))
+  not_told (OldFormat other) is = absurd (cc (is))
+
+  not_moved : (keys : Keys) (handed given : BenchState) (drew draws : ℕ) → IsBenchNotMoved keys handed given drew draws (OldFormat file) → ⊥
+  not_moved keys handed given drew draws (stopped s memory) = s.refused
+  not_moved keys handed given drew draws (unasked is same) = absurd (cc (is))
+  not_moved keys handed given drew draws (starved other is s memory) = absurd (cc (is))
+
+  module _ {F R : Type 0} (of_file : F → FileState) (of_port : R → PortState) (keys : Keys) (drew draws : ℕ) (handed given : BenchState) where
+    not_by : (what : MigrationRecord) → MigratesThen of_file of_port keys drew draws what handed given → EndsMigration what (MountRefused (OldFormat file)) → ⊥
+    not_by (GivenUp fault) done ends = not_moved keys handed given drew draws (subst (λ (f : MountFault). IsBenchNotMoved keys handed given drew draws f) (sym ends.0) done)
+    not_by (Unlisted directory moved fault) done ends = not_told fault ends.0
+    not_by (Shown directory moved objects) done ends = ends
+    not_by (Starved directory moved) done ends = ends
+
+pub migrations_tell_no_old_file : {F R : Type 0} (of_file : F → FileState) (of_port : R → PortState) (failed : Type 0) → MigrationsTellNoOldFile of_file of_port failed
+migrations_tell_no_old_file of_file of_port failed keys drew draws held_old held_new handed given file r = not_by file of_file of_port keys drew draws handed given r.what r.done r.ends

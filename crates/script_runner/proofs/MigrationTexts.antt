@@ -15,7 +15,7 @@ use Rattle.run_acts.specs.ListedBenches.{IsListRefused, ListsBench}
 use Rattle.run_acts.specs.MigratedBenches.{IsBenchNotMoved, MovesBench}
 use Rattle.script_runner.specs.declared.status.Status.{Status}
 use Rattle.script_runner.specs.declared.status.Status.TheVariants.{BadLine, DeviceFault, Done, MountRefused, NoMemory, ReadFault, TooLong, Usage, WriteFault}
-use Rattle.script_runner.specs.Migrations.{EndsMigration, EndsRefused, GivenUp, MigratesThen, MigrationRecord, PrintsBehind, RunsMigration, Shown, Starved, Unlisted, migration_output}
+use Rattle.script_runner.specs.Migrations.{EndsMigration, EndsRefused, GivenUp, MigratesThen, MigrationRecord, PrintsBehind, RunsMigration, Shown, Starved, Unlisted, migration_output, told_behind}
 use Rattle.script_runner.specs.Prints.{PrintsLines, PrintsRefusal}
 use Rattle.script_runner.specs.RunRefusals.{IsDeviceFault, IsRefusal}
 use Rattle.script_runner.specs.Sending.{Begins, Stops}
@@ -107,10 +107,10 @@ module _ {F R : Type 0} (of_file : F → FileState) (of_port : R → PortState) 
 
   module _ (between : BenchState) (directory : Bool) (moved : ℕ) (kept : List ℕ) (kept_is : kept ≡ migration_line directory moved) (moves : MovesBench keys handed between directory moved) where
     -- it was, and its objects could not be listed
-    pub runs_unlisted : (fault : MountFault) → IsListRefused of_file of_port keys between given drew draws fault → (status : Status) → PrintsRefusal failed held_old held_new kept fault status
+    pub runs_unlisted : (fault : MountFault) → IsListRefused of_file of_port keys between given drew draws fault → (status : Status) → PrintsRefusal failed held_old held_new kept (told_behind fault) status
         → RunsMigration of_file of_port keys drew draws failed held_old held_new handed given status
     runs_unlisted fault refused status prints =
-        runs_refused (Unlisted directory moved fault) kept fault (ap (λ (text : List ℕ). text ++ refusal_line fault) (sym kept_is)) (between, moves, refused) (λ status ends. ends) status prints
+        runs_refused (Unlisted directory moved fault) kept (told_behind fault) (ap (λ (text : List ℕ). text ++ refusal_line (told_behind fault)) (sym kept_is)) (between, moves, refused) (λ status ends. ends) status prints
 
     -- or were listed
     module _ (objects : ObjectMap) (lists : ListsBench of_file of_port keys between given objects (objects_text objects)) where

@@ -1,5 +1,5 @@
 -- The run of a migration: the bench is migrated, and its objects are listed.
-use Rattle.std.specs.Prelude.{ℕ, ◌≡◌, List, [], ◌++◌, Bool, Option}
+use Rattle.std.specs.Prelude.{ℕ, ◌≡◌, List, ◌++◌, Bool, Option}
 use Rattle.disk_model.specs.State.{FileState}
 use Rattle.hmac_keys.specs.declared.Keys.{Keys}
 use Rattle.rpmb_card.specs.Port.{PortState}
@@ -7,6 +7,7 @@ use Rattle.tee_ports.specs.Streams.{Appends}
 use Rattle.store_model.specs.Object.{ObjectMap}
 use Rattle.script_text.specs.Text.{migration_line}
 use Rattle.run_acts.specs.declared.MountFault.{MountFault}
+use Rattle.run_acts.specs.declared.MountFault.TheVariants.{CardBlock, OldFormat}
 use Rattle.run_acts.specs.Lines.{objects_text, refusal_line}
 use Rattle.run_acts.specs.Benches.{BenchState}
 use Rattle.run_acts.specs.ListedBenches.{IsListRefused, ListsBench}
@@ -24,11 +25,17 @@ pub data MigrationRecord : Type 0 where
   Unlisted : Bool → ℕ → MountFault → MigrationRecord
   Starved : Bool → ℕ → MigrationRecord
 
+-- What the refusal of a mount behind the migration is told as. An old file is found there only where the card named another directory than
+-- the one that was read before: then it is its block that is refused.
+abbrev pub told_behind : MountFault → MountFault
+told_behind (OldFormat file) = CardBlock 0
+told_behind fault = fault
+
 -- its text: the line of what was moved, and the lines of the objects; or the line of a refusal in the place of what is missing
 abbrev pub migration_output : MigrationRecord → List ℕ
 migration_output (GivenUp fault) = refusal_line fault
 migration_output (Shown directory moved objects) = migration_line directory moved ++ objects_text objects
-migration_output (Unlisted directory moved fault) = migration_line directory moved ++ refusal_line fault
+migration_output (Unlisted directory moved fault) = migration_line directory moved ++ refusal_line (told_behind fault)
 migration_output (Starved directory moved) = migration_line directory moved
 
 -- the status of a refusal, or the sink took no more of its line, or there was no memory for it
@@ -42,7 +49,7 @@ EndsRefused fault _ = ⊥
 -- the statuses that a record may have
 abbrev pub EndsMigration : MigrationRecord → Status → Type 0
 EndsMigration (GivenUp fault) status = EndsRefused fault status
-EndsMigration (Unlisted directory moved fault) status = EndsRefused fault status
+EndsMigration (Unlisted directory moved fault) status = EndsRefused (told_behind fault) status
 EndsMigration (Shown directory moved objects) Done = Unit {0}
 EndsMigration (Shown directory moved objects) WriteFault = Unit {0}
 EndsMigration (Shown directory moved objects) NoMemory = Unit {0}

@@ -29,9 +29,9 @@ pub use card_port::CardPort;
 pub use forms::{Form, form_of, words_have_forms};
 pub use phase_text::{send_control, send_lines, send_phase};
 pub use record_laws::{
-    formatted_runs_stand, migrations_end, opened_runs_are_of_machine, quiet_runs_are_of_machine,
-    quiet_runs_end, records_find_left, refusals_are_of_devices, runs_count_as_armed,
-    runs_hold_left, runs_stand_behind,
+    formatted_runs_stand, migrations_end, migrations_tell_no_old_file, opened_runs_are_of_machine,
+    quiet_runs_are_of_machine, quiet_runs_end, records_find_left, refusals_are_of_devices,
+    runs_count_as_armed, runs_hold_left, runs_stand_behind,
 };
 pub use run_acts::{Bench, Shown, ShownObject, card_block, print_object};
 pub use run_state::RunEnd;

@@ -6,7 +6,7 @@ ghost use Rattle.tee_types.specs.Limits.{file_count};
 ghost use Rattle.script_text.specs.Text.{migration_line};
 ghost use Rattle.run_acts.specs.Benches.{BenchState, bench_state};
 ghost use Rattle.run_acts.specs.MigratedBenches.{MovesBench};
-ghost use Rattle.script_runner.specs.Migrations.{PrintsBehind, RunsMigration};
+ghost use Rattle.script_runner.specs.Migrations.{PrintsBehind, RunsMigration, told_behind};
 
 use crate::Status;
 use crate::act_text::print_last_lines;
@@ -14,7 +14,7 @@ use crate::mount_refusal::print_mount_refusal;
 use crate::run_state::RunEnd;
 use hmac_keys::Keys;
 use rpmb_card::CardRig;
-use run_acts::{Bench, Halted, Listing, Migrated, list_objects, migrate_bench};
+use run_acts::{Bench, Halted, Listing, Migrated, MountFault, list_objects, migrate_bench};
 use script_text::print_migration;
 use std::alloc::Global;
 use tee_ports::{Entropy, FileRig, Sink};
@@ -28,6 +28,17 @@ fn print_listed<K: Sink>(lines: &[u8], sink: &mut K, kept: Vec<u8>) -> Status
     match text.extend_from_slice(lines) {
         Ok(()) => print_last_lines(text, sink),
         Err(_) => Status::NoMemory,
+    }
+}
+
+// What the refusal of a mount behind the migration is told as. An old file is found there only where the card named another directory than
+// the one that was read before.
+fn told_behind(fault: MountFault) -> MountFault
+    ensures { result ≡ told_behind fault }
+{
+    match fault {
+        MountFault::OldFormat { .. } => MountFault::CardBlock { byte: 0 },
+        fault => fault,
     }
 }
 
@@ -54,7 +65,8 @@ fn list_migrated<K: Sink, F: FileRig + Drop, R: CardRig + Drop, E: Entropy + Dro
             RunEnd { status, bench }
         }
         Err(Halted { bench, fault }) => {
-            let status = print_mount_refusal(fault, sink, kept);
+            let told = told_behind(fault);
+            let status = print_mount_refusal(told, sink, kept);
             RunEnd { status, bench }
         }
     }

@@ -4,7 +4,7 @@ ghost use Rattle.std.specs.Prelude.{◌⊎◌};
 ghost use Rattle.tee_ports.specs.Faults.{Rose};
 ghost use Rattle.script_runner.specs.CountLaws.{RunsCountAsArmed};
 ghost use Rattle.script_runner.specs.HeldRuns.{FormattedRunsStand, RunsHoldLeft};
-ghost use Rattle.script_runner.specs.MigrationLaws.{MigrationsEnd};
+ghost use Rattle.script_runner.specs.MigrationLaws.{MigrationsEnd, MigrationsTellNoOldFile};
 ghost use Rattle.script_runner.specs.QuietLaws.{OpenedRunsAreOfMachine, QuietRunsAreOfMachine};
 ghost use Rattle.script_runner.specs.RecordLaws.{RecordsFindLeft, RefusalsAreOfDevices};
 ghost use Rattle.script_runner.specs.RunLaws.{QuietRunsEnd, RunsStandBehind};
@@ -90,4 +90,9 @@ pub fn formatted_runs_stand<S: Source, K: Sink, F: FileRig, R: RpmbPort, E: Entr
 /// ends with the status 0, or for want of memory: whatever a crash might leave of the bench mounted.
 pub fn migrations_end<K: Sink, F: FileRig, R: RpmbPort>()
     ensures { (held sink : K) → MigrationsEnd F.state R.state (Rose (K.faults held) (K.faults sink) ⊎ K.is_full sink) }
+{}
+
+/// No migration is refused for a file of the old format, whatever the card is.
+pub fn migrations_tell_no_old_file<K: Sink, F: FileRig, R: RpmbPort>()
+    ensures { (held sink : K) → MigrationsTellNoOldFile F.state R.state (Rose (K.faults held) (K.faults sink) ⊎ K.is_full sink) }
 {}

@@ -1,5 +1,5 @@
 -- What looking at a directory's file says, before it is moved or mounted.
-use Rattle.std.specs.Prelude.{◌≡◌, ◌⊎◌, ℕ, List, Option, Ok, Err}
+use Rattle.std.specs.Prelude.{◌≡◌, ◌⊎◌, List, Option, Ok, Err}
 use Rattle.disk_model.specs.State.{FileState, Sound as FileSound}
 use Rattle.disk_model.specs.Calls.{Rests, Syncs}
 use Rattle.htree_file.specs.Answers.{FileFailed}

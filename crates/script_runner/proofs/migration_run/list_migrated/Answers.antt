@@ -1,7 +1,9 @@
 use Rattle.std.proofs.Common.{◌⊎◌, ℕ, List, subst}
 use Rattle.tee_ports.specs.Faults.{Rose}
 use Rattle.run_acts.specs.Benches.{bench_state}
+use Rattle.run_acts.specs.declared.MountFault.{MountFault}
 use Rattle.script_runner.specs.Migrations.{PrintsBehind}
+use Rattle.script_runner.specs.Prints.{PrintsRefusal}
 use Rattle.script_runner.proofs.MigrationTexts.{runs_listed, runs_unlisted}
 use Rattle.script_runner.proofs.migration_run.list_migrated.Goals as goal
 
@@ -31,4 +33,6 @@ returns-in-Err-clause-lists g c = λ handed directory moved is moves.
     let failed : Type 0 = Rose (g.K.Sink.faults c.args.sink.now) (g.K.Sink.faults sink) ⊎ g.K.Sink.is_full sink in
     let halted = c.in-Err.field-0 in
     runs_unlisted state port c.args.keys.now drew draws failed (g.K.Sink.held c.args.sink.now) (g.K.Sink.held sink) handed (bench_state state port halted.bench) (bench_state state port c.args.bench)
-    directory moved c.args.kept.items is moves halted.fault c.in-Err.ensures.refused c.print_mount_refusal-status.result c.print_mount_refusal-status.ensures.prints
+    directory moved c.args.kept.items is moves halted.fault c.in-Err.ensures.refused c.print_mount_refusal-status.result
+    (subst (λ (f : MountFault). PrintsRefusal failed (g.K.Sink.held c.args.sink.now) (g.K.Sink.held sink) c.args.kept.items f c.print_mount_refusal-status.result) c.told_behind-told.ensures
+    c.print_mount_refusal-status.ensures.prints)
