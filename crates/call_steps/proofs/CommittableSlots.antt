@@ -1,5 +1,5 @@
 -- A slot with a stage, as it is brought to the gate.
-use Rattle.std.proofs.Common.{None, Option, Some, ap, refl, subst, sym, ℕ, ◌<◌, ◌∙◌, ◌≡◌}
+use Rattle.std.proofs.Common.{None, Option, Some, ap, refl, subst, sym, ℕ, ◌∙◌, ◌≡◌}
 use Rattle.core_laws.specs.Masked.{StandsMasked}
 use Rattle.core_laws.specs.SlotParts.{VersionStands}
 use Rattle.disk_model.specs.State.{FileState}

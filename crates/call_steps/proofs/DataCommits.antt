@@ -1,6 +1,6 @@
 -- The commit of a change of an object in its place, in the words of the gate's entries.
 use Rattle.node_image.specs.References.{IsCurrent}
-use Rattle.std.proofs.Common.{Option, Some, [], ap, false, inl, inr, length, refl, slice_index_or, sym, ℕ, ◌<◌, ◌∙◌, ◌≡◌, ◌≤◌, ◌⊎◌}
+use Rattle.std.proofs.Common.{Option, Some, [], ap, false, inl, inr, length, refl, slice_index_or, sym, ℕ, ◌∙◌, ◌≡◌, ◌≤◌, ◌⊎◌}
 use Rattle.commit_gate.specs.CallerSessions.{CallerSession}
 use Rattle.call_rules.specs.declared.decision.OpenObject.{OpenObject}
 use Rattle.core_laws.specs.GateParts.{IsVersionOf}

@@ -3,7 +3,6 @@ use Rattle.std.proofs.Common.{◌≡◌, ◌+◌, ◌⊎◌, ℕ, Option, Some, 
 use Rattle.disk_model.specs.State.{FileState}
 use Rattle.rpmb_card.specs.Port.{PortState}
 use Rattle.tee_types.specs.declared.call.Call.{Call}
-use Rattle.tee_types.specs.declared.reply.Cause.{Cause}
 use Rattle.store_model.specs.declared.event.Event.TheVariants.{Call as CallEvent}
 use Rattle.store_model.specs.declared.event.Mark.TheVariants.{Unchanged}
 use Rattle.history_seats.specs.Changes.{with_record}
@@ -15,7 +14,7 @@ use Rattle.commit_gate.specs.SessionViews.{BeginsAll, SeesAll, shown}
 use Rattle.open_table.specs.HandleChanges.{NotesReply}
 use Rattle.commit_gate.specs.GuardedGates.{GuardedGateValue}
 use Rattle.commit_gate.specs.declared.placed_reply.PlacedReply.{PlacedReply}
-use Rattle.call_steps.specs.Resolved.{IsSettled, StaysInDoubt, WasResolved}
+use Rattle.call_steps.specs.Resolved.{IsSettled, WasResolved}
 use Rattle.call_steps.specs.Seen.{GoesOn}
 use Rattle.call_steps.proofs.Resolves.{shown-goes}
 use Rattle.call_steps.specs.GateServed.{IsLeft, IsMisused, IsServed, IsUnserved, Ruled, ServesAlone, ServesAtOnce, ServesByRules}

@@ -1,5 +1,5 @@
 -- A create may be brought to the gate, in a file that no entry names and whose seat is new.
-use Rattle.std.specs.Prelude.{List, None, Option, Some, length, ℕ, ◌+◌, ◌<◌, ◌≡◌, ◌≤◌}
+use Rattle.std.specs.Prelude.{List, None, Option, Some, length, ℕ, ◌+◌, ◌≡◌, ◌≤◌}
 use Rattle.commit_gate.specs.CallerSessions.{CallerSession}
 use Rattle.call_rules.specs.Matches.{Matches}
 use Rattle.call_rules.specs.Places.{IsNewPlace}

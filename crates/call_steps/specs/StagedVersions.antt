@@ -1,6 +1,6 @@
 -- The version that a stage of a change left, and the entry that names it.
 use Rattle.std.specs.List.{list_any}
-use Rattle.std.specs.Prelude.{IsTrue, Some, false, ◌<◌, ◌≡◌}
+use Rattle.std.specs.Prelude.{IsTrue, Some, false, ◌≡◌}
 use Rattle.dir_records.specs.declared.entry.DirEntry.{DirEntry}
 use Rattle.disk_model.specs.State.{FileState}
 use Rattle.history_seats.specs.Changes.{TagVersions}

@@ -1,5 +1,5 @@
 -- The files that the card and the directory name stay of the current format.
-use Rattle.std.proofs.Common.{◌≡◌, ℕ, List, Option, Some, None, IfSome, sym, ap, ◌∙◌, subst, inl, inr}
+use Rattle.std.proofs.Common.{◌≡◌, List, Option, Some, None, IfSome, sym, ◌∙◌, subst, inl, inr}
 use Rattle.node_image.specs.References.{current_format}
 use Rattle.dir_records.specs.declared.entry.DirEntry.{DirEntry}
 use Rattle.crash_core.specs.EntryChanges.{Clear, EntryChange, Put, changed}
@@ -8,7 +8,7 @@ use Rattle.crash_core.proofs.Lists.{set_at}
 use Rattle.core_laws.proofs.Mending.{none_some, some_same}
 use Rattle.store_commit.specs.View.{DirView}
 use Rattle.store_commit.specs.declared.gate.Doubted.{Doubted}
-use Rattle.store_commit.specs.Changes.{change_of, entries_after}
+use Rattle.store_commit.specs.Changes.{change_of}
 use Rattle.commit_gate.specs.CurrentFiles.{AreFilesCurrent, PutsCurrent}
 
 -- so it is with a change that puts none of another format

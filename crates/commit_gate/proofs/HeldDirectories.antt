@@ -1,5 +1,5 @@
 -- A directory that is held in every image of its file reads so there.
-use Rattle.std.proofs.Common.{◌≡◌, ◌<◌, ℕ, List, Option, sym, ◌∙◌}
+use Rattle.std.proofs.Common.{◌≡◌, ℕ, List, Option, sym, ◌∙◌}
 use Rattle.disk_model.specs.State.{FileState, Sound}
 use Rattle.disk_model.proofs.ImageLaws.{reads_left}
 use Rattle.node_image.specs.References.{IsCurrent}

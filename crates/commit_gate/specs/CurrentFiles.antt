@@ -1,7 +1,6 @@
 -- Behind the lock every file that the card and the directory name is of the current format.
-use Rattle.std.specs.Prelude.{◌≡◌, ℕ, Option, IfSome}
+use Rattle.std.specs.Prelude.{◌≡◌, Option, IfSome}
 use Rattle.node_image.specs.References.{current_format}
-use Rattle.dir_records.specs.declared.entry.DirEntry.{DirEntry}
 use Rattle.crash_core.specs.EntryChanges.{Clear, EntryChange, Put}
 use Rattle.crash_core.specs.EntryLists.{AreCurrent}
 use Rattle.store_commit.specs.View.{DirView}

@@ -1,5 +1,5 @@
 -- What is answered where the blocks are read that a change needs: as a stage answers whose draw failed.
-use Rattle.std.proofs.Common.{◌≡◌, ◌+◌, ◌<◌, ℕ, Bool, None, Result, Ok, Err, refl}
+use Rattle.std.proofs.Common.{◌≡◌, ◌+◌, ℕ, Bool, None, Result, Ok, Err, refl}
 use Rattle.std.specs.Prelude.{OnErr}
 use Rattle.disk_model.specs.Calls.{Rests}
 use Rattle.disk_model.specs.State.{FileState, Sound}

@@ -1,5 +1,5 @@
 -- A stage that is settled, or given up.
-use Rattle.std.proofs.Common.{◌≡◌, ◌∙◌, ◌<◌, true, Option, Some, None, Ok, Err, IfSome, IsSome, IsTrue, refl, sym, ap, subst}
+use Rattle.std.proofs.Common.{◌≡◌, ◌∙◌, true, Option, Some, None, Ok, Err, IfSome, IsSome, IsTrue, refl, sym, ap, subst}
 use Rattle.disk_model.specs.State.{FileState}
 use Rattle.disk_model.specs.Calls.{Known, Syncs}
 use Rattle.disk_model.specs.Keeps.{Anywhere, Keeps}

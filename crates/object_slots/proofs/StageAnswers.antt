@@ -1,5 +1,5 @@
 -- A change of an object's data, from opening its stage and from settling it.
-use Rattle.std.proofs.Common.{◌≡◌, ◌∙◌, ◌+◌, ◌-◌, ◌<◌, ℕ, List, length, true, false, Option, Some, None, Result, Ok, Err, IfErr, IfSome, IsTrue, OnOk, inl, refl, sym, ap, subst}
+use Rattle.std.proofs.Common.{◌≡◌, ◌∙◌, ◌+◌, ◌-◌, ℕ, List, length, true, false, Option, Some, None, Result, Ok, Err, IfErr, IfSome, IsTrue, OnOk, inl, refl, sym, ap, subst}
 use Rattle.disk_model.specs.State.{FileState, Sound}
 use Rattle.disk_model.specs.Calls.{Known, Rests}
 use Rattle.disk_model.specs.Keeps.{Anywhere, Keeps}

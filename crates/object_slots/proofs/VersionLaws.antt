@@ -1,5 +1,5 @@
 -- The object of a slot as a committed version of its file, from what the slot's calls say.
-use Rattle.std.proofs.Common.{◌≡◌, ◌∙◌, ◌+◌, ◌<◌, ℕ, List, length, Result, Ok, IsTrue, inl, refl, sym, ap, subst, arith}
+use Rattle.std.proofs.Common.{◌≡◌, ◌∙◌, ◌+◌, ℕ, List, length, Result, Ok, IsTrue, inl, refl, sym, ap, subst, arith}
 use Rattle.disk_model.specs.State.{FileState, Sound as SoundFile}
 use Rattle.disk_model.proofs.ImageLaws.{reads_left}
 use Rattle.aes_block.specs.WrappedKey.{unwrapped_of}

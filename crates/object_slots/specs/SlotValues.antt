@@ -1,6 +1,6 @@
 -- What a contract sees of a slot.
 use Rattle.node_image.specs.References.{IsCurrent}
-use Rattle.std.specs.Prelude.{ℕ, ◌<◌, Option, None, Some, IsTrue}
+use Rattle.std.specs.Prelude.{ℕ, Option, None, Some, IsTrue}
 use Rattle.disk_model.specs.State.{FileState}
 use Rattle.htree_file.specs.Value.{Staged}
 use Rattle.object_file.specs.Changes.{adopted}

@@ -1,5 +1,5 @@
 -- What making a new object leaves of its slot, and why it is not made.
-use Rattle.std.specs.Prelude.{Err, List, Ok, Result, ℕ, ◌<◌, ◌≡◌}
+use Rattle.std.specs.Prelude.{Err, List, Ok, Result, ℕ, ◌≡◌}
 use Rattle.serial_calls.specs.Clearing.{IsClearSlot}
 use Rattle.serial_calls.specs.CreateFailure.{DeviceCause}
 use Rattle.serial_calls.specs.declared.create_failure.CreateFailure.{CreateFailure}

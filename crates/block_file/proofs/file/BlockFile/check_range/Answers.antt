@@ -1,4 +1,4 @@
-use Rattle.std.proofs.Common.{rules, ◌≡◌, ℕ, true, Err, refl, subst, arith}
+use Rattle.std.proofs.Common.{rules, ◌≡◌, true, Err, refl, subst, arith}
 use Rattle.std.proofs.lemmas.Result.{err_from_is_err_and}
 use Rattle.htree_file.proofs.Causes.{fault_then, passed_none, passed_then, rests_none, rests_then}
 use Rattle.page_bytes.specs.Ranges.{needs}
