@@ -1,7 +1,10 @@
 // A file in a folder of the host.
-ghost use Rattle.std.specs.Prelude.{◌≡◌, ◌+◌, ◌<◌, ◌≤◌, ◌^◌, length, true, false, IsTrue, IsErr, IfOk, OnOk, OnErr, if◌then◌else◌, is_ok};
+ghost use Rattle.std.specs.Prelude.{◌≡◌, ◌+◌, ◌<◌, ◌≤◌, ◌^◌, length, true, false, IsTrue, IsErr, IfOk, OnOk, OnErr, if◌then◌else◌, is_err, is_ok};
 ghost use Rattle.disk_model.specs.Faults.{next_count};
-ghost use Rattle.host_folder.specs.Folder.{file_path};
+ghost use Rattle.disk_model.specs.Calls.{Rests, Syncs};
+ghost use Rattle.disk_model.specs.Controls.{struck};
+ghost use Rattle.tee_ports.specs.Files.{ActsByArms, HasCause};
+ghost use Rattle.host_folder.specs.Folder.{file_path, folder_file};
 
 use std::alloc::Global;
 use std::fs::{File, Files, OpenOptions};
@@ -219,7 +222,16 @@ impl<'a, R: Files<File = File>> StoreFile for FolderFile<'a, R> {
         }
     }
 
-    fn sync(&mut self) -> Result<(), Failed> {
+    fn sync(&mut self) -> Result<(), Failed>
+        ensures synced { OnOk result (Syncs (folder_file self.old) (folder_file self.new)) }
+        ensures unsettled { OnErr result (Rests (folder_file self.old) (folder_file self.new)) }
+        ensures cause { HasCause (folder_file self.old) (folder_file self.new) result }
+        ensures armed { IsTrue (folder_file self.old).tells_arms → ActsByArms (folder_file self.old) (folder_file self.new) (is_err result) }
+        ensures struck { OnOk result (IsTrue (folder_file self.old).tells_arms →
+            ((folder_file self.new).settled ≡ (struck (folder_file self.old)).reads) × ((folder_file self.new).reads ≡ (struck (folder_file self.old)).reads)) }
+        ensures failed { OnErr result (IsTrue self.new.sync_failed) }
+        ensures stays_failed { IsTrue self.old.sync_failed → IsErr result }
+    {
         match self.settle() {
             Ok(()) => Ok(()),
             Err(_) => Err(self.fail()),
