@@ -3,6 +3,7 @@
 ghost use Rattle.std.specs.Prelude.{◌≡◌};
 ghost use Rattle.script_runner.specs.Exit.{status_text, status_number};
 
+use folder_export::FileFault;
 use run_acts::MountFault;
 use std::alloc::AllocError;
 
@@ -27,6 +28,15 @@ pub enum Status {
     MountRefused(MountFault),
     /// A mount ended at a device: a call of it failed, or the card's counter is at its end.
     DeviceFault(MountFault),
+    /// A call of a file failed while the store was exported or audited.
+    FileFault(FileFault),
+    /// A store on the card alone was refused: its blocks have not the form of one.
+    CardMapRefused {
+        /// The first block that is outside the form.
+        block: u8,
+        /// The first offset in it that is.
+        offset: u8,
+    },
 }
 
 /// The limit that a script passes.
@@ -55,15 +65,15 @@ pub fn status_text(status: &Status) -> &'static str
 {
     match status {
         Status::Done => "",
-        Status::Usage => "usage: tee_run run | tee_run soak N | tee_run migrate",
+        Status::Usage => "usage: tee_run run | tee_run soak N | tee_run migrate | tee_run export PATH | tee_run audit PATH | tee_run card",
         Status::BadLine(_) => "bad line",
         Status::ReadFault => "read fault",
         Status::WriteFault => "write fault",
         Status::TooLong(Excess::Bytes) => "script too long",
         Status::TooLong(Excess::Apps(_)) => "too many applications",
         Status::NoMemory => "no memory",
-        Status::MountRefused(_) => "mount refused",
-        Status::DeviceFault(_) => "device fault",
+        Status::MountRefused(_) | Status::CardMapRefused { .. } => "mount refused",
+        Status::DeviceFault(_) | Status::FileFault(_) => "device fault",
     }
 }
 
@@ -77,8 +87,8 @@ pub fn status_number(status: &Status) -> u8
         Status::BadLine(_) => 3,
         Status::ReadFault => 4,
         Status::WriteFault => 5,
-        Status::MountRefused(_) => 6,
-        Status::DeviceFault(_) => 7,
+        Status::MountRefused(_) | Status::CardMapRefused { .. } => 6,
+        Status::DeviceFault(_) | Status::FileFault(_) => 7,
         Status::TooLong(_) => 8,
         Status::NoMemory => 9,
     }
