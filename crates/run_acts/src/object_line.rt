@@ -5,15 +5,14 @@ ghost use Rattle.hex.specs.Hex.{encode_lower};
 ghost use Rattle.sha2.specs.Sha256.{sha256};
 ghost use Rattle.script_text.specs.Forms.{bytes_text};
 ghost use Rattle.store_model.specs.Object.{size_of};
-ghost use Rattle.run_acts.specs.Lines.{bad_text, content_text, data_text, object_words, uuid_text};
+ghost use Rattle.run_acts.specs.Lines.{bad_text, content_text, data_text, object_words};
 ghost use Rattle.run_acts.specs.LineObjects.{is_some_of, member_word, members_of, object_shown, shown_line};
 
 use object_calls::{Shown, ShownObject};
-use script_text::{put, put_bytes, put_word_bytes, put_word_hex, put_word_number};
+use script_text::{put, put_bytes, put_uuid, put_word_bytes, put_word_hex, put_word_number};
 use sha2::{Digest, Sha256};
-use tee_types::{AppId, NoMemory};
+use tee_types::NoMemory;
 use tree_paths::NodeSet;
-use uuid::Uuid;
 
 // The greatest number of bytes that are printed whole.
 const WHOLE: usize = 64;
@@ -28,18 +27,6 @@ fn digest_of(bytes: &[u8]) -> [u8; 32]
     let mut hasher = Sha256::new();
     hasher.update(bytes);
     hasher.finalize()
-}
-
-/// Appends the UUID of an application.
-#[tactic(auto, unfolding(crate::specs::Lines::uuid_text))]
-fn put_uuid(out: &mut Vec<u8>, app: AppId) -> Result<(), NoMemory>
-    ensures ok { OnOk result (out.new.items ≡ out.old.items ++ uuid_text app) }
-    ensures kept { take (length out.old.items) out.new.items ≡ out.old.items }
-{
-    let mut buffer = Uuid::encode_buffer();
-    let uuid = Uuid::from_bytes(app.bytes());
-    let text = uuid.hyphenated().encode_lower(&mut buffer);
-    put(out, text.as_bytes())
 }
 
 /// Appends data, or its SHA-256.

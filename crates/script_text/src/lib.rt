@@ -1,6 +1,6 @@
 //! Scripts of applications and the text of a run: the grammar both ways.
 //!
-//! `parse` reads a script. `print_phase`, `print_event`, `print_control` and `print_migration` write the lines of a run, and the `put_`
+//! `parse` reads a script. `words` and `values` have what other scripts are read by. `print_phase`, `print_event`, `print_control` and `print_migration` write the lines of a run, and the `put_`
 //! functions the words of a line.
 #![tactic(auto)]
 
@@ -13,11 +13,11 @@ mod print_lines;
 mod print_reply;
 mod reading;
 mod script;
-mod values;
-mod words;
+pub mod values;
+pub mod words;
 
 pub use append_text::{
-    put, put_bytes, put_hex, put_number, put_word_bytes, put_word_hex, put_word_number,
+    put, put_bytes, put_hex, put_number, put_uuid, put_word_bytes, put_word_hex, put_word_number,
 };
 pub use print_lines::{print_control, print_event, print_migration, print_phase};
 pub use reading::{ScriptFault, parse};
