@@ -1,7 +1,7 @@
 //! Scripts of applications and the text of a run: the grammar both ways.
 //!
-//! `parse` reads a script. `words` and `values` have what other scripts are read by. `print_phase`, `print_event`, `print_control` and `print_migration` write the lines of a run, and the `put_`
-//! functions the words of a line.
+//! `parse` reads a script. `print_phase`, `print_event`, `print_control` and `print_migration` write the lines of a run, and the `put_`
+//! functions the words of a line. Scripts of another kind are read by the same words and values (`words`, `values`).
 #![tactic(auto)]
 
 mod append_text;
