@@ -12,7 +12,8 @@ use Rattle.store_model.specs.Sound.{IsBadBlock, IsObject}
 use Rattle.object_calls.specs.declared.shown_object.ShownObject.{ShownObject}
 use Rattle.object_calls.specs.declared.shown_object.ShownObject.TheVariants.{Damaged, Sound}
 use Rattle.object_calls.specs.ShownObjects.{ShowsObject, is_among}
-use Rattle.run_acts.specs.LineObjects.{object_shown, passing}
+use Rattle.run_acts.specs.LineObjects.{object_shown}
+use Rattle.script_text.specs.BadBlocks.{passing}
 
 -- the first numbers of a list, up to one
 abbrev upto : (last : ℕ) → List ℕ → List ℕ

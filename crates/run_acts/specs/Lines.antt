@@ -3,30 +3,16 @@ use Rattle.std.specs.Prelude.{ℕ, List, [], ◌∷◌, ◌++◌, Option, Some, 
 use Rattle.std.specs.Int.{w16, to_be_bytes}
 use Rattle.hex.specs.Hex.{encode_lower}
 use Rattle.sha2.specs.Sha256.{sha256}
-use Rattle.uuid.specs.Text.{hyphenated_text, lower}
 use Rattle.crash_core.specs.declared.fault.DirFault.{DirFault}
 use Rattle.crash_core.specs.declared.fault.DirFault.TheVariants.{Tree, WrongLength, Record, Double}
 use Rattle.htree_file.specs.declared.fault.TreeFault.{TreeFault}
 use Rattle.htree_file.specs.declared.fault.TreeFault.TheVariants.{BadHead, Short, Damaged as DamagedNode, BadTag, Failed as FileFailed, NoEntropy, NoMemory as NoRoom}
-use Rattle.script_text.specs.Forms.{bytes_text}
+use Rattle.script_text.specs.Forms.{bytes_text, uuid_text}
+use Rattle.script_text.specs.BadBlocks.{bad_text}
 use Rattle.store_commit.specs.declared.fault.MountFault.{MountFault}
 use Rattle.store_commit.specs.declared.fault.MountFault.TheVariants.{NoStore, CardBlock, Directory, Frame, CardResult, Failed, Spent, NoMemory, OldFormat}
 use Rattle.store_model.specs.declared.name.ObjectName.{ObjectName}
 use Rattle.store_model.specs.Object.{Object, ObjectMap, Damaged, Sound, size_of}
-
--- an application's UUID, hyphenated, in small letters
-unfoldable pub uuid_text : List ℕ → List ℕ
-uuid_text app = hyphenated_text lower app
-
--- numbers, each behind a comma
-unfoldable pub commas_text : List ℕ → List ℕ
-commas_text [] = []
-commas_text (number ∷ numbers) = codes "," ++ decimal number ++ commas_text numbers
-
--- the numbers of bad blocks
-unfoldable pub bad_text : List ℕ → List ℕ
-bad_text [] = []
-bad_text (block ∷ bad) = codes "bad:" ++ decimal block ++ commas_text bad
 
 -- bytes in hex, `-` for none, or their SHA-256 where they are more than 64
 unfoldable pub data_text : List ℕ → List ℕ

@@ -1,25 +1,24 @@
 //! Writing the line of an object.
 
-ghost use Rattle.std.specs.Prelude.{◌≡◌, ◌++◌, ◌==◌, Bool, true, not, [], List, length, take, codes, decimal, if◌then◌else◌, IfOk, OnErr, OnOk};
+ghost use Rattle.std.specs.Prelude.{◌≡◌, ◌++◌, length, take, codes, decimal, OnErr, OnOk};
 ghost use Rattle.hex.specs.Hex.{encode_lower};
 ghost use Rattle.sha2.specs.Sha256.{sha256};
 ghost use Rattle.script_text.specs.Forms.{bytes_text};
+ghost use Rattle.script_text.specs.BadBlocks.{members_of};
 ghost use Rattle.store_model.specs.Object.{size_of};
-ghost use Rattle.run_acts.specs.Lines.{bad_text, content_text, data_text, object_words, uuid_text};
-ghost use Rattle.run_acts.specs.LineObjects.{is_some_of, member_word, members_of, object_shown, shown_line};
+ghost use Rattle.run_acts.specs.Lines.{content_text, data_text, object_words};
+ghost use Rattle.run_acts.specs.LineObjects.{object_shown, shown_line};
 
 use object_calls::{Shown, ShownObject};
-use script_text::{put, put_bytes, put_word_bytes, put_word_hex, put_word_number};
+use script_text::{
+    put, put_bad, put_bytes, put_uuid, put_word_bytes, put_word_hex, put_word_number,
+};
 use sha2::{Digest, Sha256};
-use tee_types::{AppId, NoMemory};
+use tee_types::NoMemory;
 use tree_paths::NodeSet;
-use uuid::Uuid;
 
 // The greatest number of bytes that are printed whole.
 const WHOLE: usize = 64;
-
-// The greatest number of a block.
-const BLOCKS: u32 = 256;
 
 /// The SHA-256 of some bytes.
 fn digest_of(bytes: &[u8]) -> [u8; 32]
@@ -28,18 +27,6 @@ fn digest_of(bytes: &[u8]) -> [u8; 32]
     let mut hasher = Sha256::new();
     hasher.update(bytes);
     hasher.finalize()
-}
-
-/// Appends the UUID of an application.
-#[tactic(auto, unfolding(crate::specs::Lines::uuid_text))]
-fn put_uuid(out: &mut Vec<u8>, app: AppId) -> Result<(), NoMemory>
-    ensures ok { OnOk result (out.new.items ≡ out.old.items ++ uuid_text app) }
-    ensures kept { take (length out.old.items) out.new.items ≡ out.old.items }
-{
-    let mut buffer = Uuid::encode_buffer();
-    let uuid = Uuid::from_bytes(app.bytes());
-    let text = uuid.hyphenated().encode_lower(&mut buffer);
-    put(out, text.as_bytes())
 }
 
 /// Appends data, or its SHA-256.
@@ -52,34 +39,6 @@ fn put_data(out: &mut Vec<u8>, bytes: &[u8]) -> Result<(), NoMemory>
         return put_bytes(out, bytes);
     }
     put_word_hex(out, b"sha256:", &digest_of(bytes))
-}
-
-/// Appends the number of a bad block. `some` says whether there is one before it.
-fn put_member(out: &mut Vec<u8>, some: bool, number: u32) -> Result<(), NoMemory>
-    ensures ok { OnOk result (out.new.items ≡ out.old.items ++ member_word some ++ decimal number) }
-    ensures kept { take (length out.old.items) out.new.items ≡ out.old.items }
-{
-    if some {
-        put_word_number(out, b",", number as u64)
-    } else {
-        put_word_number(out, b"bad:", number as u64)
-    }
-}
-
-/// Appends the numbers of the bad blocks, and says whether there is one.
-fn put_bad(out: &mut Vec<u8>, bad: &NodeSet) -> Result<bool, NoMemory>
-    ensures ok { OnOk result (out.new.items ≡ out.old.items ++ bad_text (members_of bad.now)) }
-    ensures some { IfOk result (λ some. some ≡ is_some_of (members_of bad.now)) }
-    ensures kept { take (length out.old.items) out.new.items ≡ out.old.items }
-{
-    let mut some = false;
-    for k in 0..BLOCKS {
-        if bad.has(k + 1) {
-            put_member(out, some, k + 1)?;
-            some = true;
-        }
-    }
-    Ok(some)
 }
 
 /// Appends the numbers of the bad blocks, or the data where there is none.

@@ -23,7 +23,7 @@ use Rattle.crash_core.specs.MountedObject.{bad_blocks, object_of, object_with, r
 use Rattle.core_laws.specs.Decodings.{opened_decoded, page_decoded}
 use Rattle.core_laws.specs.Clashes.{Clash}
 use Rattle.object_calls.specs.ShownObjects.{IsReadFrom, ShowsBlock, data_blocks}
-use Rattle.run_acts.specs.LineObjects.{members_of, passing}
+use Rattle.script_text.specs.BadBlocks.{members_of, passing}
 use Rattle.freshness_laws.specs.Readings.{OpenedAgree, ReadTree, every_block, decoding_read}
 use Rattle.freshness_laws.specs.Agreement.{ObjectsAgree}
 use Rattle.freshness_laws.specs.SeenStores.{object_read}

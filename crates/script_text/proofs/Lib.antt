@@ -10,3 +10,4 @@ pub mod FormedControls
 pub mod FormedSteps
 pub mod Printing
 pub mod PrintedRows
+pub mod BadTexts

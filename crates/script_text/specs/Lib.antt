@@ -8,3 +8,4 @@ pub mod Parsed
 pub mod Laws
 pub mod Forms
 pub mod Text
+pub mod BadBlocks

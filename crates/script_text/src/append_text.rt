@@ -3,10 +3,13 @@
 ghost use Rattle.std.specs.Prelude.{◌≡◌, ◌++◌, length, take, codes, decimal, OnOk, OnErr};
 ghost use Rattle.std.specs.Fmt.{signed_decimal};
 ghost use Rattle.hex.specs.Hex.{encode_lower};
-ghost use Rattle.script_text.specs.Forms.{bytes_text, flags_text, letters_text, letter};
+ghost use Rattle.script_text.specs.Forms.{bytes_text, flags_text, letters_text, letter, uuid_text};
 
 use itoa::Buffer;
-use tee_types::{Flags, NoMemory, OVERWRITE, READ, SHARE_READ, SHARE_WRITE, WRITE, WRITE_META};
+use tee_types::{
+    AppId, Flags, NoMemory, OVERWRITE, READ, SHARE_READ, SHARE_WRITE, WRITE, WRITE_META,
+};
+use uuid::Uuid;
 
 /// Appends a piece of text. A refusal leaves the text.
 pub fn put(out: &mut Vec<u8>, piece: &[u8]) -> Result<(), NoMemory>
@@ -58,6 +61,18 @@ pub fn put_bytes(out: &mut Vec<u8>, bytes: &[u8]) -> Result<(), NoMemory>
         return put(out, b"-");
     }
     put_hex(out, bytes)
+}
+
+/// Appends the UUID of an application, hyphenated, in small letters.
+#[tactic(auto, unfolding(crate::specs::Forms::uuid_text))]
+pub fn put_uuid(out: &mut Vec<u8>, app: AppId) -> Result<(), NoMemory>
+    ensures ok { OnOk result (out.new.items ≡ out.old.items ++ uuid_text app) }
+    ensures kept { take (length out.old.items) out.new.items ≡ out.old.items }
+{
+    let mut buffer = Uuid::encode_buffer();
+    let uuid = Uuid::from_bytes(app.bytes());
+    let text = uuid.hyphenated().encode_lower(&mut buffer);
+    put(out, text.as_bytes())
 }
 
 /// Appends the letter, where the bits are set.

@@ -5,6 +5,7 @@
 #![tactic(auto)]
 
 mod append_text;
+mod bad_blocks;
 mod calls;
 mod controls;
 pub mod laws;
@@ -17,8 +18,9 @@ mod values;
 mod words;
 
 pub use append_text::{
-    put, put_bytes, put_hex, put_number, put_word_bytes, put_word_hex, put_word_number,
+    put, put_bytes, put_hex, put_number, put_uuid, put_word_bytes, put_word_hex, put_word_number,
 };
+pub use bad_blocks::put_bad;
 pub use print_lines::{print_control, print_event, print_migration, print_phase};
 pub use reading::{ScriptFault, parse};
 pub use script::{Arm, Control, Mode, Script, Step};

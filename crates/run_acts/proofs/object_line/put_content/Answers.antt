@@ -1,6 +1,6 @@
 use Rattle.std.proofs.Common.{◌≡◌, ◌∙◌, ◌++◌, true, false, List, ℕ, sym, ap, append_assoc}
 use Rattle.run_acts.specs.Lines.{data_text}
-use Rattle.run_acts.specs.LineObjects.{is_some_of, members_of}
+use Rattle.script_text.specs.BadBlocks.{is_some_of, members_of}
 use Rattle.run_acts.proofs.BadTexts.{content-none, content-some}
 use Rattle.run_acts.proofs.object_line.put_content.Goals as goal
 

@@ -1,7 +1,8 @@
 use Rattle.std.proofs.Common.{◌≡◌, ◌∙◌, ◌++◌, List, ℕ, codes, decimal, ap, append_assoc}
 use Rattle.hex.specs.Hex.{encode_lower}
 use Rattle.store_model.specs.Object.{size_of}
-use Rattle.run_acts.specs.Lines.{object_line, object_words, uuid_text}
+use Rattle.run_acts.specs.Lines.{object_line, object_words}
+use Rattle.script_text.specs.Forms.{uuid_text}
 use Rattle.run_acts.specs.LineObjects.{entry_shown}
 use Rattle.run_acts.proofs.object_line.put_line.Goals as goal
 

@@ -1,8 +1,7 @@
 use Rattle.std.proofs.Common.{◌≡◌, ◌++◌, length, take}
 use Rattle.tree_paths.specs.Paths.{holds}
-use Rattle.run_acts.specs.Lines.{bad_text}
-use Rattle.run_acts.specs.LineObjects.{is_some_of, passing}
-use Rattle.run_acts.proofs.object_line.put_bad.Given as goal
+use Rattle.script_text.specs.BadBlocks.{bad_text, is_some_of, passing}
+use Rattle.script_text.proofs.bad_blocks.put_bad.Given as goal
 
 abbrev pub invariant-loop-k : goal.invariant-loop-k
 invariant-loop-k l = record {

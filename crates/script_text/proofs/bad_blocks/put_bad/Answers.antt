@@ -1,10 +1,10 @@
 use Rattle.std.proofs.Common.{◌≡◌, ◌∙◌, ◌+◌, true, false, refl, sym, arith}
 use Rattle.std.proofs.lemmas.Grind.{common_steps}
 use Rattle.tree_paths.specs.Paths.{holds}
-use Rattle.run_acts.specs.LineObjects.{passing}
-use Rattle.run_acts.proofs.BadTexts.{bad-next, bad-none, bad-same, some-next, some-same}
-use Rattle.run_acts.proofs.object_line.put_bad.Goals as goal
-use Rattle.run_acts.proofs.object_line.put_bad.Goals.{then-has+in_ok-put_member, else-has}
+use Rattle.script_text.specs.BadBlocks.{passing}
+use Rattle.script_text.proofs.BadTexts.{bad-next, bad-none, bad-same, some-next, some-same}
+use Rattle.script_text.proofs.bad_blocks.put_bad.Goals as goal
+use Rattle.script_text.proofs.bad_blocks.put_bad.Goals.{then-has+in_ok-put_member, else-has}
 
 pub loop-k-init : goal.loop-k-init
 unfolding passing
