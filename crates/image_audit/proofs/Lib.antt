@@ -1,5 +1,4 @@
 pub mod Answers
-pub mod Outside
 pub mod Nodes
 pub mod Checks
 pub mod Certified

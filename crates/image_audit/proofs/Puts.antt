@@ -1,5 +1,6 @@
 -- Parts that are put one behind the other.
-use Rattle.std.proofs.Common.{◌≡◌, inl, inr, ℕ, suc, ◌+◌, ◌==◌, Bool, true, false, cond, List, [], ◌∷◌, ◌++◌, Some, None, refl, sym, ap, subst, ◌∙◌, append_assoc, arith}
+use Rattle.std.proofs.Common.{◌≡◌, inl, inr, ℕ, suc, ◌+◌, ◌==◌, Bool, true, false, cond, codes, List, [], ◌∷◌, ◌++◌, Some, None, refl, sym, ap, subst, ◌∙◌, append_assoc, arith}
+use Rattle.std.specs.Int.{w16, to_be_bytes}
 use Rattle.std.proofs.lemmas.Bool.{cases_lt, cond-false, cond-true, eq-eqb, ne_eqb}
 use Rattle.std.proofs.lemmas.List.{append-nil}
 use Rattle.disk_model.specs.Calls.{Rests}
@@ -11,8 +12,8 @@ use Rattle.htree_file.specs.Pages.{block_in}
 use Rattle.htree_file.specs.Standing.{Told}
 use Rattle.htree_file.proofs.CopyRuns.{told_first}
 use Rattle.htree_file.proofs.Causes.{told_then}
-use Rattle.image_audit.specs.Audited.{PutsCipher, PutsCiphers}
-use Rattle.image_audit.specs.Auditing.{joined}
+use Rattle.image_audit.specs.Audited.{BeginsAudit, EndsAudit, IsAudit, PutsCipher, PutsCiphers}
+use Rattle.image_audit.specs.Auditing.{certificate_bytes, joined, tree_bytes}
 
 joined-append : (xs ys : List (List ℕ)) → joined (xs ++ ys) ≡ joined xs ++ joined ys
 joined-append [] ys = refl
@@ -57,3 +58,16 @@ cipher_of s one other k before after same = subst (λ (t : Loaded). PutsCipher s
 pub some_in : {A : Type 0} (b : Bool) (x y : A) → Some x ≡ cond b (Some y) None → x ≡ y
 some_in true x y is = cc (is)
 some_in false x y is = absurd (cc (is))
+
+-- the front and what stands behind it are a certificate
+module _ (index : ℕ) (dir object : Loaded) (a b x y : FileState) (front bytes : List ℕ) (begins : BeginsAudit index dir a b front) (ends : EndsAudit object x y front bytes) where
+  audit_bytes : bytes ≡ certificate_bytes index dir begins.block object ends.blocks
+  audit_bytes =
+      let tail : List ℕ = tree_bytes object ++ joined (row ends.blocks object.head.greatest) in
+      ends.is ∙ ap (λ (l : List ℕ). l ++ tail) begins.is
+      ∙ append_assoc (codes "TEECERT1") (to_be_bytes w16 index ++ (tree_bytes dir ++ begins.block)) tail
+      ∙ ap (λ (l : List ℕ). codes "TEECERT1" ++ l) (append_assoc (to_be_bytes w16 index) (tree_bytes dir ++ begins.block) tail
+      ∙ ap (λ (l : List ℕ). to_be_bytes w16 index ++ l) (append_assoc (tree_bytes dir) begins.block tail))
+
+  pub audit_of : IsAudit index dir object a b x y bytes
+  audit_of = record { block = begins.block; blocks = ends.blocks; is = audit_bytes; dir_told = begins.told; object_told = ends.told }

@@ -16,7 +16,7 @@ mod object;
 mod reading;
 mod trees;
 
-pub use audit::audit_object;
+pub use audit::{audit_object, begin_certificate, end_certificate};
 pub use fault::{CertFault, Listed, ProofFault};
 pub use laws::{
     accepted_are_certificates, audits_are_accepted, certificates_hold, certificates_hold_in_stores,
