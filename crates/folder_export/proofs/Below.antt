@@ -28,10 +28,10 @@ module _ (files_a files_b files_c folder_a folder_b folder_c : ℕ → FileState
     below = λ k lt. elim (cases_lt k n) as (λ _. CopiesFile (files_a k) (files_c k) (folder_a k) (folder_c k)) [
       | inl below ↦ still_copied k below
       | inr above ↦
-        let here : n ≡ k = omega (arith, lt, above) in
-        subst (λ (j : ℕ). CopiesFile (files_a j) (files_c j) (folder_a j) (folder_c j)) here
-        (subst (λ (s : FileState). CopiesFile (files_a n) (files_c n) s (folder_c n)) (before.folder n (omega arith))
-        (subst (λ (s : FileState). CopiesFile s (files_c n) (folder_b n) (folder_c n)) (before.files n (omega arith)) copies))
+          let here : n ≡ k = omega (arith, lt, above) in
+          subst (λ (j : ℕ). CopiesFile (files_a j) (files_c j) (folder_a j) (folder_c j)) here
+          (subst (λ (s : FileState). CopiesFile (files_a n) (files_c n) s (folder_c n)) (before.folder n (omega arith))
+          (subst (λ (s : FileState). CopiesFile s (files_c n) (folder_b n) (folder_c n)) (before.files n (omega arith)) copies))
     ];
     files = λ k le. files_else k (omega (arith, le)) ∙ before.files k (omega (arith, le));
     folder = λ k le. folder_else k (omega (arith, le)) ∙ before.folder k (omega (arith, le));

@@ -1,5 +1,5 @@
 -- Why calls failed, one after another.
-use Rattle.std.proofs.Common.{◌≡◌, ℕ, refl, ◌∙◌, subst}
+use Rattle.std.proofs.Common.{ℕ, refl, ◌∙◌, subst}
 use Rattle.disk_model.specs.Faults.{Rose}
 use Rattle.disk_model.specs.State.{FileState}
 use Rattle.disk_model.specs.Calls.{GoesOn}

@@ -1,5 +1,5 @@
 -- A store is exported: each file of a bench is copied into the folder's file of its number, and the card's block goes into the last.
-use Rattle.std.specs.Prelude.{◌≡◌, ℕ, ◌<◌, ◌≤◌, List}
+use Rattle.std.specs.Prelude.{◌≡◌, ℕ, ◌<◌, List}
 use Rattle.tee_types.specs.Limits.{file_count}
 use Rattle.disk_model.specs.State.{FileState}
 use Rattle.folder_export.specs.declared.fault.FileFault.{FileFault}

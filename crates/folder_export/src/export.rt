@@ -32,7 +32,11 @@ fn export_number<F: StoreFile, G: StoreFile>(
     ensures files { (none : FileState) (k : ℕ) → k ≢ number → states_of none F.state files.new k ≡ states_of none F.state files.old k }
     ensures folder { (none : FileState) (k : ℕ) → k ≢ number → states_of none G.state folder.new k ≡ states_of none G.state folder.old k }
 {
-    match export_file(number, &mut files[number as usize], &mut folder[number as usize]) {
+    match export_file(
+        number,
+        &mut files[number as usize],
+        &mut folder[number as usize],
+    ) {
         Ok(()) => Ok(()),
         Err(fault) => Err(fault),
     }

@@ -1,4 +1,4 @@
-use Rattle.std.proofs.Common.{◌≡◌, ℕ, arith}
+use Rattle.std.proofs.Common.{◌≡◌, arith}
 use Rattle.tee_types.specs.Limits.{file_count}
 use Rattle.disk_model.proofs.Goings.{goes_on_then, rests_then}
 use Rattle.folder_export.specs.Exports.{at_file}

@@ -1,4 +1,4 @@
-use Rattle.std.proofs.Common.{◌≢◌, ℕ, get_or, ap}
+use Rattle.std.proofs.Common.{ℕ, get_or, ap}
 use Rattle.std.specs.Prelude.{slice_set}
 use Rattle.disk_model.specs.Calls.{GoesOn, Rests}
 use Rattle.disk_model.specs.State.{FileState}
