@@ -138,9 +138,6 @@ fn print_table<W: Print + AllocGlobal + Threads + Wait + Sync>(rt: &W) -> anyhow
 }
 
 fn main(rt: HostRuntime) -> anyhow::Result<()> {
-    let line = export_line(&rt, rt.alloc())?;
-    print_line(&rt, line.as_str())?;
-    if line.len() > 5 { return Ok(()); }
     run_rows(&rt)?;
     print_line(&rt, head_line(rt.alloc())?.as_str())?;
     let lost = print_table(&rt)?;
@@ -151,5 +148,6 @@ fn main(rt: HostRuntime) -> anyhow::Result<()> {
     print_line(&rt, soak_line(&rt, rt.alloc())?.as_str())?;
     print_line(&rt, cut_lines(&rt, rt.alloc())?.trim_end())?;
     print_line(&rt, migration_line(&rt, rt.alloc())?.as_str())?;
+    print_line(&rt, export_line(&rt, rt.alloc())?.as_str())?;
     print_line(&rt, altered_lines(&rt, rt.alloc())?.as_str())
 }
