@@ -1,5 +1,5 @@
 -- The forms of the command line.
-use Rattle.std.specs.Prelude.{ℕ, List, [], ◌∷◌, Bool, false, not, ◌==◌, if◌then◌else◌, Option, Some, None, option_map, codes}
+use Rattle.std.specs.Prelude.{ℕ, List, [], ◌∷◌, Bool, true, false, not, ◌==◌, if◌then◌else◌, Option, Some, None, option_map, codes}
 use Rattle.script_text.specs.Words.{same_word}
 use Rattle.seed_words.specs.Numbers.{soak_number_of}
 use Rattle.script_runner.specs.declared.forms.Form.{Form}
@@ -22,11 +22,17 @@ form_of (word ∷ argument ∷ []) = if same_word word (codes "soak") then optio
     if same_word word (codes "export") then at_folder Export argument else if same_word word (codes "audit") then at_folder Audit argument else None
 form_of _ = None
 
--- the folder of a form that needs one, and for all others the folder `.`
-abbrev pub path_of : Option Form → List (List ℕ) → List ℕ
-path_of (Some Export) (word ∷ path ∷ []) = path
-path_of (Some Audit) (word ∷ path ∷ []) = path
-path_of _ _ = codes "."
+-- the form needs a folder
+abbrev pub has_folder : Option Form → Bool
+has_folder (Some Export) = true
+has_folder (Some Audit) = true
+has_folder form = false
 
+-- the second of two words, and for all others the folder `.`
+abbrev pub path_of : List (List ℕ) → List ℕ
+path_of (word ∷ path ∷ []) = path
+path_of words = codes "."
+
+-- the folder that words speak of: PATH of a form that needs one, and for all others the folder `.`
 abbrev pub folder_of : List (List ℕ) → List ℕ
-folder_of words = path_of (form_of words) words
+folder_of words = if has_folder (form_of words) then path_of words else codes "."

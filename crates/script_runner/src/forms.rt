@@ -3,7 +3,7 @@
 ghost use Rattle.std.specs.Prelude.{◌≡◌, Some, [], ◌∷◌, codes, map, option_map};
 ghost use Rattle.std.specs.String.{string_bytes};
 ghost use Rattle.seed_words.specs.Numbers.{soak_number_of};
-ghost use Rattle.script_runner.specs.Forms.{folder_of, form_of, is_path};
+ghost use Rattle.script_runner.specs.Forms.{folder_of, form_of, has_folder, is_path, path_of};
 
 use seed_words::soak_number;
 
@@ -56,14 +56,35 @@ pub fn form_of(words: &[String]) -> Option<Form>
     }
 }
 
+/// Whether the form needs a folder.
+fn has_folder(form: Option<Form>) -> bool
+    ensures { result ≡ has_folder form }
+{
+    match form {
+        Some(Form::Export | Form::Audit) => true,
+        Some(Form::Run | Form::Soak(_) | Form::Migrate | Form::Card) | None => false,
+    }
+}
+
+/// The second of two words.
+fn path_of(words: &[String]) -> &str
+    ensures { result.now ≡ path_of (map string_bytes words.now) }
+{
+    match words {
+        [_, path] => path.as_str(),
+        _ => ".",
+    }
+}
+
 /// The folder that the words behind the program's name speak of: PATH of `export PATH` and `audit PATH`, and for all other words the
 /// folder `.`, which no form then asks.
 pub fn folder_of(words: &[String]) -> &str
-    ensures { string_bytes result.now ≡ folder_of (map string_bytes words.now) }
+    ensures { result.now ≡ folder_of (map string_bytes words.now) }
 {
-    match (form_of(words), words) {
-        (Some(Form::Export | Form::Audit), [_, path]) => path.as_str(),
-        _ => ".",
+    if has_folder(form_of(words)) {
+        path_of(words)
+    } else {
+        "."
     }
 }
 
