@@ -10,7 +10,7 @@ use Rattle.run_acts.specs.Benches.{BenchState}
 use Rattle.run_acts.specs.declared.MountFault.{MountFault}
 use Rattle.run_acts.specs.Opens.{IsBlockUnread}
 use Rattle.script_runner.specs.declared.status.Status.{Status}
-use Rattle.script_runner.specs.declared.status.Status.TheVariants.{BadLine, CardMapRefused, DeviceFault, Done, FileFault, MountRefused, NoMemory, ReadFault, TooLong, Usage, WriteFault}
+use Rattle.script_runner.specs.declared.status.Status.TheVariants.{BadLine, DeviceFault, Done, FileFault, MountRefused, NoMemory, ReadFault, TooLong, Usage, WriteFault}
 use Rattle.script_runner.specs.Exports.{EndsCopies, ExportsBench, ExportsItsScript, RunsExport, copied, exported, undone, unread}
 use Rattle.script_runner.specs.Prints.{PrintsRefusal}
 use Rattle.script_runner.specs.RunCauses.{RunsItsScript, World}
@@ -35,7 +35,6 @@ PrintsRefusal-failed failed more held_old held_new kept fault (BadLine line) f t
 PrintsRefusal-failed failed more held_old held_new kept fault ReadFault f t = absurd t
 PrintsRefusal-failed failed more held_old held_new kept fault (TooLong excess) f t = absurd t
 PrintsRefusal-failed failed more held_old held_new kept fault (FileFault broken) f t = absurd t
-PrintsRefusal-failed failed more held_old held_new kept fault (CardMapRefused block offset) f t = absurd t
 
 pub ExportsBench-failed : (keys : Keys) (drew draws : ℕ) (handed given : BenchState) (folder_old folder_new : ℕ → FileState) (failed more : Type 0) (held_old held_new : Option (List ℕ)) (status : Status)
     → (failed → more) → ExportsBench keys drew draws handed given folder_old folder_new failed held_old held_new status → ExportsBench keys drew draws handed given folder_old folder_new more held_old held_new status
@@ -62,7 +61,6 @@ its_script (BadLine line) runs = absurd runs
 its_script ReadFault runs = absurd runs
 its_script WriteFault runs = absurd runs
 its_script (TooLong excess) runs = absurd runs
-its_script (CardMapRefused block offset) runs = absurd runs
 
 refused_script : (failed : Type 0) (held_old held_new : Option (List ℕ)) (kept : List ℕ) (fault : MountFault) (status : Status) → (failed → ⊥)
     → PrintsRefusal failed held_old held_new kept fault status → ExportsItsScript status
@@ -76,7 +74,6 @@ refused_script failed held_old held_new kept fault Usage not t = absurd t
 refused_script failed held_old held_new kept fault (BadLine line) not t = absurd t
 refused_script failed held_old held_new kept fault ReadFault not t = absurd t
 refused_script failed held_old held_new kept fault (TooLong excess) not t = absurd t
-refused_script failed held_old held_new kept fault (CardMapRefused block offset) not t = absurd t
 
 copied_script : (files_old files_new folder_old folder_new : ℕ → FileState) (block : List ℕ) (status : Status) → EndsCopies files_old files_new folder_old folder_new block status → ExportsItsScript status
 copied_script files_old files_new folder_old folder_new block Done ends = tt
@@ -89,7 +86,6 @@ copied_script files_old files_new folder_old folder_new block Usage ends = absur
 copied_script files_old files_new folder_old folder_new block (BadLine line) ends = absurd ends
 copied_script files_old files_new folder_old folder_new block ReadFault ends = absurd ends
 copied_script files_old files_new folder_old folder_new block (TooLong excess) ends = absurd ends
-copied_script files_old files_new folder_old folder_new block (CardMapRefused b offset) ends = absurd ends
 
 bench_script : (keys : Keys) (drew draws : ℕ) (handed given : BenchState) (folder_old folder_new : ℕ → FileState) (failed : Type 0) (held_old held_new : Option (List ℕ)) (status : Status) → (failed → ⊥)
     → ExportsBench keys drew draws handed given folder_old folder_new failed held_old held_new status → ExportsItsScript status

@@ -6,7 +6,7 @@ use Rattle.script_text.specs.Parsed.{IsParsed}
 use Rattle.script_text.specs.Script.{ScriptValue}
 use Rattle.script_text.specs.Grammar.{script_of}
 use Rattle.script_runner.specs.declared.status.Status.{Status}
-use Rattle.script_runner.specs.declared.status.Status.TheVariants.{BadLine, CardMapRefused, DeviceFault, Done, FileFault, MountRefused, NoMemory, ReadFault, TooLong, Usage, WriteFault}
+use Rattle.script_runner.specs.declared.status.Status.TheVariants.{BadLine, DeviceFault, Done, FileFault, MountRefused, NoMemory, ReadFault, TooLong, Usage, WriteFault}
 use Rattle.script_runner.specs.declared.status.Excess.TheVariants.{Bytes, Apps}
 use Rattle.script_runner.specs.Trace.{IsSilent, IsTraceOf, Trace}
 use Rattle.script_runner.specs.ScriptReading.{IsReadError, IsScriptError, status_of}
@@ -32,7 +32,6 @@ pub HasCause-read : (w : World) (taken : List ℕ) (status : Status) → IsReadE
 HasCause-read w taken Done h = absurd h
 HasCause-read w taken Usage h = absurd h
 HasCause-read w taken (FileFault broken) h = absurd h
-HasCause-read w taken (CardMapRefused block offset) h = absurd h
 HasCause-read w taken (BadLine line) h = absurd h
 HasCause-read w taken ReadFault h = (h.0, h.1, silent_is taken)
 HasCause-read w taken WriteFault h = absurd h
@@ -47,7 +46,6 @@ pub HasCause-act : (w : World) (t : Trace) (script : ScriptValue) (status : Stat
 HasCause-act w t script Done h read is = (read, (script, is, h))
 HasCause-act w t script Usage h read is = absurd h
 HasCause-act w t script (FileFault broken) h read is = absurd h
-HasCause-act w t script (CardMapRefused block offset) h read is = absurd h
 HasCause-act w t script (BadLine line) h read is = absurd h
 HasCause-act w t script ReadFault h read is = absurd h
 HasCause-act w t script WriteFault h read is = (read, (script, is), h)
@@ -74,7 +72,6 @@ IsExact-cause w t Done h = record {
 }
 IsExact-cause w t Usage h = absurd h
 IsExact-cause w t (FileFault broken) h = absurd h
-IsExact-cause w t (CardMapRefused block offset) h = absurd h
 IsExact-cause w t (BadLine l) h = record {
   bad_line = λ line read err. let e = one_fault t (BadLineFault l) (BadLineFault line) h.1 err in let same : l ≡ line = cc in inl (ap BadLine same);
   too_many = λ n read err. absurd (two_faults l n (one_fault t (BadLineFault l) (TooManyApps n) h.1 err));
@@ -137,7 +134,6 @@ pub completed : (left_old left_new held_old held_new : Option (List ℕ)) (w : W
 completed left_old left_new held_old held_new w Done t bytes script run ends told short is source sink room = tt
 completed left_old left_new held_old held_new w Usage t bytes script run ends told short is source sink room = absurd run.cause
 completed left_old left_new held_old held_new w (FileFault broken) t bytes script run ends told short is source sink room = absurd run.cause
-completed left_old left_new held_old held_new w (CardMapRefused block offset) t bytes script run ends told short is source sink room = absurd run.cause
 completed left_old left_new held_old held_new w (BadLine line) t bytes script run ends told short is source sink room =
     let same = all_taken left_old left_new t.taken bytes run.trace.taken (ends run.cause.0.0) told in
     absurd (done_script t script (BadLineFault line) (ap script_of same ∙ is) run.cause.1)
@@ -162,7 +158,6 @@ pub HasCause-script : (w : World) (taken : List ℕ) (status : Status) → IsScr
 HasCause-script w taken Done h read = absurd h
 HasCause-script w taken Usage h read = absurd h
 HasCause-script w taken (FileFault broken) h read = absurd h
-HasCause-script w taken (CardMapRefused block offset) h read = absurd h
 HasCause-script w taken (BadLine line) h read = (read, h, silent_is taken)
 HasCause-script w taken ReadFault h read = absurd h
 HasCause-script w taken WriteFault h read = absurd h
@@ -183,7 +178,6 @@ module _ {F R : Type 0} (of_file : F → FileState) (of_port : R → PortState) 
   EndsBench-read failed count t silent bench Done h = absurd h
   EndsBench-read failed count t silent bench Usage h = absurd h
   EndsBench-read failed count t silent bench (FileFault broken) h = absurd h
-  EndsBench-read failed count t silent bench (CardMapRefused block offset) h = absurd h
   EndsBench-read failed count t silent bench (BadLine line) h = absurd h
   EndsBench-read failed count t silent bench ReadFault h = refl
   EndsBench-read failed count t silent bench WriteFault h = absurd h
@@ -196,7 +190,6 @@ module _ {F R : Type 0} (of_file : F → FileState) (of_port : R → PortState) 
   EndsBench-script meant t silent bench Done h = absurd h
   EndsBench-script meant t silent bench Usage h = absurd h
   EndsBench-script meant t silent bench (FileFault broken) h = absurd h
-  EndsBench-script meant t silent bench (CardMapRefused block offset) h = absurd h
   EndsBench-script meant t silent bench (BadLine line) h = refl
   EndsBench-script meant t silent bench ReadFault h = absurd h
   EndsBench-script meant t silent bench WriteFault h = absurd h
@@ -210,7 +203,6 @@ module _ {F R : Type 0} (of_file : F → FileState) (of_port : R → PortState) 
   EndsBench-run failed t script handed given Done is ends h = (script, is, ends)
   EndsBench-run failed t script handed given Usage is ends h = absurd h
   EndsBench-run failed t script handed given (FileFault broken) is ends h = absurd h
-  EndsBench-run failed t script handed given (CardMapRefused block offset) is ends h = absurd h
   EndsBench-run failed t script handed given (BadLine line) is ends h = absurd h
   EndsBench-run failed t script handed given ReadFault is ends h = absurd h
   EndsBench-run failed t script handed given WriteFault is ends h = (script, is, ends)

@@ -10,7 +10,6 @@ mod act_text;
 mod acts;
 mod audit_run;
 mod card_port;
-mod card_run;
 mod controls;
 mod export_run;
 mod forms;

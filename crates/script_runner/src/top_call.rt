@@ -19,7 +19,6 @@ ghost use Rattle.script_runner.specs.Soaks.{RunsSoak};
 
 use crate::Status;
 use crate::audit_run::run_audit;
-use crate::card_run::run_card;
 use crate::export_run::run_export;
 use crate::forms::{Form, form_of};
 use crate::migration_run::run_migration;
@@ -137,7 +136,6 @@ pub fn run<
             let status = run_audit(alloc, sink, keys, folder);
             RunEnd { status, bench }
         }
-        Some(Form::Card) => run_card(alloc, source, sink, bench, keys, entropy),
         None => RunEnd {
             status: Status::Usage,
             bench,
