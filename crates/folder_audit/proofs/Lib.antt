@@ -1,0 +1,10 @@
+pub mod Noted
+pub mod Accepting
+pub mod Found
+pub mod Places
+pub mod Filed
+pub mod Stepping
+pub mod Opened
+pub mod Certificates
+pub mod Front
+pub mod Ordered

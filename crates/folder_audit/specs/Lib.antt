@@ -1,0 +1,9 @@
+pub mod Lines
+pub mod Findings
+pub mod Order
+pub mod Reading
+pub mod Objects
+pub mod Audit
+pub mod Entries
+pub mod Whole
+pub mod Laws
