@@ -1,11 +1,11 @@
 -- The bytes of a file in memory go on agreeing with its settled bytes where no change is pending.
-use Rattle.std.proofs.Common.{◌≡◌, ◌⊎◌, ◌↔◌, inl, inr, ⊎_elim, ℕ, ◌+◌, ◌<◌, ◌≤◌, List, [], ◌∷◌, ◌++◌, length, min, max, Bool, false, Option, Some, None, IsSome, Vec, refl, sym, subst, arith}
+use Rattle.std.proofs.Common.{◌≡◌, ◌⊎◌, ◌↔◌, inl, inr, ⊎_elim, ℕ, ◌+◌, ◌<◌, ◌≤◌, List, [], ◌∷◌, ◌++◌, length, min, max, Bool, true, false, Option, Some, None, IsSome, Vec, refl, sym, subst, arith}
 use Rattle.std.proofs.lemmas.Bool.{false≢true}
 use Rattle.std.specs.declared.alloc.Global.{Global}
 use Rattle.disk_model.specs.declared.span.Change.{Change}
 use Rattle.disk_model.specs.Images.{Has, in_span}
 use Rattle.disk_model.specs.Bytes.{after_write, after_resize}
-use Rattle.disk_model.specs.State.{BytesAgree}
+use Rattle.disk_model.specs.State.{BytesAgree, base_at}
 use Rattle.disk_model.proofs.Spans.{out_of_span}
 use Rattle.disk_model.proofs.Writes.{written_keeps, written_from, length-after_resize, resized_keeps, resized_from}
 use Rattle.disk_model.proofs.Soundness.{agree_changed, agree_synced}
@@ -56,3 +56,11 @@ pub agree_settled_now : (settled reads : List ℕ) (trail grown : List Change) (
 agree_settled_now settled reads trail grown base now honest agree push is =
     subst (λ (l : List Change). BytesAgree reads reads l now honest) (sym push)
     (agree_synced settled reads trail (change_of base 0 0) base now honest agree refl (subst (λ (l : List Change). now ≡ length l) push is))
+
+-- a file whose settled bytes are those that a read gives, of which no change is pending
+pub agree_anew : (settled reads : List ℕ) (trail : List Change) → settled ≡ reads → trail ≡ [] → BytesAgree settled reads trail 0 true
+agree_anew settled reads trail same none = record {
+  agrees = λ honest p x free. (λ has. subst (λ (l : List ℕ). Has l p x) same has, λ has. subst (λ (l : List ℕ). Has l p x) (sym same) has);
+  within = omega arith;
+  bases = λ moment. subst (λ (l : List Change). base_at l 0 moment ≤ 0) (sym none) (omega arith);
+}

@@ -1,4 +1,5 @@
 pub mod Mixtures
+pub mod Choosing
 pub mod ByteLists
 pub mod Spoilings
 pub mod Overlays

@@ -5,3 +5,4 @@ pub mod Crash
 pub mod CrashLaws
 pub mod Machine
 pub mod Memory
+pub mod Choices

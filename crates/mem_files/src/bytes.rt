@@ -63,7 +63,8 @@ pub fn settle_changes(
     Ok(())
 }
 
-fn bring_up(settled: &mut Vec<u8>, bytes: &[u8], changes: &[Change]) -> Result<(), NoMemory>
+/// The same, of settled bytes that are kept apart.
+pub fn bring_up(settled: &mut Vec<u8>, bytes: &[u8], changes: &[Change]) -> Result<(), NoMemory>
     requires { DifferIn (spans_of changes.now) settled.now.items bytes.now }
     ensures ok { OnOk result (settled.new.items ≡ bytes.now) }
     ensures err { OnErr result (settled.new.items ≡ settled.old.items) }
@@ -99,8 +100,8 @@ fn copy_span(settled: &mut [u8], bytes: &[u8], span: Span)
     copy_range(settled, bytes, from as usize, upto as usize);
 }
 
-// Copies the bytes from one place up to another.
-fn copy_range(settled: &mut [u8], bytes: &[u8], from: usize, upto: usize)
+/// Copies the bytes from one place up to another.
+pub fn copy_range(settled: &mut [u8], bytes: &[u8], from: usize, upto: usize)
     requires { (from ≤ upto) × (upto ≤ length bytes.now) × (length settled.now ≡ length bytes.now) }
     ensures inside { (p : ℕ) → from ≤ p → p < upto → slice_index settled.new p ≡ slice_index bytes.now p }
     ensures outside { (p : ℕ) → (p < from) ⊎ (upto ≤ p) → slice_index settled.new p ≡ slice_index settled.old p }

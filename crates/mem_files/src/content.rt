@@ -10,7 +10,7 @@ ghost use Rattle.mem_files.specs.Held.{settled_bytes, change_of, held_as, held_a
 use crate::bytes::{
     copy_from, has_bits, lay_over, lay_over_settled, resize, settle_changes, write_over,
 };
-use crate::crash::image_of;
+use crate::crash::leave_image;
 use crate::taint::Taint;
 use disk_model::{Change, Span};
 use std::alloc::Global;
@@ -202,15 +202,22 @@ impl Content {
     }
 
     /// Makes the image that a crash leaves the settled bytes of an honest file.
-    pub fn crash(&mut self, alloc: Global, seed: u64, file: u16) -> Result<(), NoMemory>
+    pub fn crash(&mut self, seed: u64, file: u16) -> Result<(), NoMemory>
         ensures ok { OnOk result (held self.new ≡
             held_anew (crash_of (held self.old).settled (held self.old).reads
             (spans_of (drop (held self.old).pending_from (held self.old).trail)) seed file)) }
         ensures err { OnErr result (held self.new ≡ held self.old) }
     {
-        let changes = &self.trail[self.pending_from as usize..];
-        let image = image_of(alloc, self.settled(), &self.bytes, changes, seed, file)?;
-        self.take_over(image);
+        leave_image(
+            &mut self.settled,
+            &mut self.bytes,
+            &self.trail[self.pending_from as usize..],
+            seed,
+            file,
+        )?;
+        self.trail.clear();
+        self.pending_from = 0;
+        self.honest = true;
         Ok(())
     }
 

@@ -249,7 +249,7 @@ impl FileRig for MemFile {
     }
 
     fn crash(&mut self, seed: u64, file: u16) -> Result<(), NoMemory> {
-        self.content.crash(self.alloc, seed, file)
+        self.content.crash(seed, file)
     }
 
     fn starved(&self) -> u64 {

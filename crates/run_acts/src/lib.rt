@@ -47,5 +47,6 @@ pub use object_list::{Listing, list_objects};
 pub use phase::{PhaseEnd, run_phase};
 pub use phase_calls::make_calls;
 pub use refusal_line::print_refusal;
+pub use serial_phase::serve_serially;
 pub use store_commit::MountFault;
 pub use threads_phase::{serve_shared, serve_shared_once};

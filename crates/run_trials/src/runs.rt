@@ -2,7 +2,9 @@
 
 ghost use Rattle.std.specs.Prelude.{◌≡◌, vec_len, IfOk};
 ghost use Rattle.tee_types.specs.Limits.{file_count};
+ghost use Rattle.folder_export.specs.Folders.{folder_count};
 
+use crate::folders::new_folder;
 use crate::kept_port::KeptPort;
 use anyhow::{Context, bail};
 use mem_files::MemFile;
@@ -18,6 +20,14 @@ use tee_ports::{Entropy, FileRig, ListEntropy, MemSink, MemSource};
 pub struct RanOver<F, R> {
     /// No mount was refused.
     pub is_done: bool,
+    pub output: String,
+    pub bench: Bench<F, R>,
+}
+
+/// How a run ended, what it put, and the devices as it left them, whatever its end.
+#[derive(Drop)]
+pub struct Ended<F, R> {
+    pub status: Status,
     pub output: String,
     pub bench: Bench<F, R>,
 }
@@ -62,17 +72,20 @@ fn is_done(status: &Status) -> anyhow::Result<bool> {
     }
 }
 
-/// Does what the words say over these devices, with a script to read.
-pub fn run_words<W: Threads + Wait + Sync, F: FileRig + Drop + Send, R: CardRig + Drop + Send>(
+/// Does what the words say over these devices and this folder, with a script to read.
+pub fn run_into<W: Threads + Wait + Sync, F: FileRig + Drop + Send, R: CardRig + Drop + Send>(
     rt: &W,
     alloc: Global,
     words: &[String],
     script: &str,
     bench: Bench<F, R>,
     entropy: &mut ListEntropy,
-) -> anyhow::Result<RanOver<F, R>>
-    requires { vec_len bench.files ≡ file_count }
-    ensures { IfOk result (λ ran. vec_len ran.bench.files ≡ file_count) }
+    folder: &mut Vec<MemFile>,
+) -> anyhow::Result<Ended<F, R>>
+    requires files { vec_len bench.files ≡ file_count }
+    requires folder { vec_len folder.old ≡ folder_count }
+    ensures files { IfOk result (λ ended. vec_len ended.bench.files ≡ file_count) }
+    ensures folder { vec_len folder.new ≡ folder_count }
 {
     let mut source = MemSource::new(alloc, script.as_bytes(), &[])?;
     let mut sink = MemSink::new(alloc, 65_536, &[])?;
@@ -86,12 +99,34 @@ pub fn run_words<W: Threads + Wait + Sync, F: FileRig + Drop + Send, R: CardRig 
         bench,
         &keys,
         entropy,
+        folder,
     );
     let text = str::from_utf8(sink.bytes()).context("no text")?;
-    Ok(RanOver {
-        is_done: is_done(&status)?,
+    Ok(Ended {
+        status,
         output: String::from_str(alloc, text)?,
         bench,
+    })
+}
+
+/// Does what the words say over these devices, with a script to read.
+pub fn run_words<W: Threads + Wait + Sync, F: FileRig + Drop + Send, R: CardRig + Drop + Send>(
+    rt: &W,
+    alloc: Global,
+    words: &[String],
+    script: &str,
+    bench: Bench<F, R>,
+    entropy: &mut ListEntropy,
+) -> anyhow::Result<RanOver<F, R>>
+    requires { vec_len bench.files ≡ file_count }
+    ensures { IfOk result (λ ran. vec_len ran.bench.files ≡ file_count) }
+{
+    let mut folder = new_folder(alloc)?;
+    let ended = run_into(rt, alloc, words, script, bench, entropy, &mut folder)?;
+    Ok(RanOver {
+        is_done: is_done(&ended.status)?,
+        output: ended.output,
+        bench: ended.bench,
     })
 }
 

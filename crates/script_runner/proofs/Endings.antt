@@ -14,7 +14,7 @@ use Rattle.run_acts.specs.Lines.{refusal_line, why_text}
 use Rattle.run_acts.specs.Benches.{BenchState}
 use Rattle.run_acts.specs.Crashes.{CrashesInPart}
 use Rattle.script_runner.specs.declared.status.Status.{Status}
-use Rattle.script_runner.specs.declared.status.Status.TheVariants.{BadLine, DeviceFault, Done, MountRefused, NoMemory, ReadFault, TooLong, Usage, WriteFault}
+use Rattle.script_runner.specs.declared.status.Status.TheVariants.{BadLine, DeviceFault, Done, FileFault, MountRefused, NoMemory, ReadFault, TooLong, Usage, WriteFault}
 use Rattle.script_runner.specs.Sending.{Begins, IsWriteError, Sends, Stops}
 use Rattle.script_runner.proofs.Sent.{Sends-append, Stops-longer}
 use Rattle.script_runner.specs.Text.{Act, Do, Refused, RunRecord, Serve, acts_of, acts_text}
@@ -32,6 +32,7 @@ use Rattle.script_runner.proofs.Goings.{Goes-append, acts_text-append, arms_behi
 pub HasActCause-behind : (failed : Type 0) (front put text all : List ℕ) (status : Status) → all ≡ front ++ text → HasActCause failed put text status → HasActCause failed (front ++ put) all status
 HasActCause-behind failed front put text all Done e h = ap (λ t. front ++ t) h ∙ sym e
 HasActCause-behind failed front put text all Usage e h = h
+HasActCause-behind failed front put text all (FileFault broken) e h = h
 HasActCause-behind failed front put text all (BadLine line) e h = h
 HasActCause-behind failed front put text all ReadFault e h = h
 HasActCause-behind failed front put text all WriteFault e h = h
@@ -48,6 +49,7 @@ HasActCause-behind failed front put text all (DeviceFault fault) e h = (h.0, one
 pub HasActCause-failed : (failed more : Type 0) (put text : List ℕ) (status : Status) → (failed → more) → HasActCause failed put text status → HasActCause more put text status
 HasActCause-failed failed more put text Done f h = h
 HasActCause-failed failed more put text Usage f h = h
+HasActCause-failed failed more put text (FileFault broken) f h = h
 HasActCause-failed failed more put text (BadLine line) f h = h
 HasActCause-failed failed more put text ReadFault f h = h
 HasActCause-failed failed more put text WriteFault f h = f h
@@ -128,6 +130,7 @@ module _ {F R : Type 0} (of_file : F → FileState) (of_port : R → PortState) 
   EndsActs-behind : (apps : List (List ℕ)) (arms : List Arm) (done acts : List Act) (records more : List RunRecord) (old mid : Standing) (new : BenchState) (status : Status) → GoesThere apps arms done records old mid → EndsActs of_file of_port image Reliable drew draws keys apps (arms_behind arms done) acts more mid new status → EndsActs of_file of_port image Reliable drew draws keys apps arms (done ++ acts) (records ++ more) old new status
   EndsActs-behind apps arms done acts records more old mid new Done h g = until-behind apps arms done acts records more [] old mid new h g
   EndsActs-behind apps arms done acts records more old mid new Usage h g = g
+  EndsActs-behind apps arms done acts records more old mid new (FileFault broken) h g = g
   EndsActs-behind apps arms done acts records more old mid new (BadLine line) h g = g
   EndsActs-behind apps arms done acts records more old mid new ReadFault h g = g
   EndsActs-behind apps arms done acts records more old mid new WriteFault h g = one g
@@ -222,6 +225,7 @@ module _ {F R : Type 0} (of_file : F → FileState) (of_port : R → PortState) 
   pub EndsFrom-refused : (script : ScriptValue) (failed : Type 0) (old : Point) (held : Option (List ℕ)) (given : BenchState) (fault : MountFault) (status : Status) → RefusesFirst of_file of_port image Reliable drew draws keys (applications_of script) old.arms (acts_of old.mode old.steps) old.bench given fault → PrintsRefusal failed old.held held old.kept fault status → EndsFrom of_file of_port image Reliable drew draws keys script failed old held given status
   EndsFrom-refused script failed old held given fault Done h t = absurd t
   EndsFrom-refused script failed old held given fault Usage h t = absurd t
+  EndsFrom-refused script failed old held given fault (FileFault broken) h t = absurd t
   EndsFrom-refused script failed old held given fault (BadLine line) h t = absurd t
   EndsFrom-refused script failed old held given fault ReadFault h t = absurd t
   EndsFrom-refused script failed old held given fault WriteFault h t =
@@ -316,6 +320,7 @@ module _ {F R : Type 0} (of_file : F → FileState) (of_port : R → PortState) 
       }
       one Done x = absurd x
       one Usage x = absurd x
+      one (FileFault broken) x = absurd x
       one (BadLine line) x = absurd x
       one ReadFault x = absurd x
       one (TooLong excess) x = absurd x

@@ -9,6 +9,8 @@ pub mod Flushed
 pub mod Scripts
 pub mod Loops
 pub mod Wholes
+pub mod ExportedFiles
+pub mod Exported
 pub mod Soaks
 pub mod Sent
 pub mod GoingFold

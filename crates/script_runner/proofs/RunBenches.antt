@@ -21,7 +21,7 @@ use Rattle.run_acts.specs.ListedBenches.{ListsBench}
 use Rattle.run_acts.specs.Opens.{IsOpenRefused, OpensBench}
 use Rattle.run_acts.specs.Phases.{RunsPhase}
 use Rattle.script_runner.specs.declared.status.Status.{Status}
-use Rattle.script_runner.specs.declared.status.Status.TheVariants.{BadLine, DeviceFault, Done, MountRefused, NoMemory, ReadFault, TooLong, Usage, WriteFault}
+use Rattle.script_runner.specs.declared.status.Status.TheVariants.{BadLine, DeviceFault, Done, FileFault, MountRefused, NoMemory, ReadFault, TooLong, Usage, WriteFault}
 use Rattle.script_runner.specs.Course.{GoesUntil, RefusesFirst}
 use Rattle.script_runner.specs.Ending.{EndsActs, EndsBench, EndsForMemory, EndsRun, RecordsRefusal, Shut}
 use Rattle.script_runner.specs.Points.{arms_behind}
@@ -144,6 +144,7 @@ module _ {F R : Type 0} (of_file : F → FileState) (of_port : R → PortState) 
       hold_acts (DeviceFault fault) r = hold_refused fault r
       hold_acts NoMemory ends = hold_starved ends
       hold_acts Usage ends = tt
+      hold_acts (FileFault broken) ends = tt
       hold_acts (BadLine line) ends = tt
       hold_acts ReadFault ends = tt
       hold_acts (TooLong excess) ends = tt
@@ -155,6 +156,7 @@ module _ {F R : Type 0} (of_file : F → FileState) (of_port : R → PortState) 
     hold_shut records NoMemory (fault, may, n) = w.shut fault n.shown n.refused
     hold_shut records Done ends = absurd ends
     hold_shut records Usage ends = absurd ends
+    hold_shut records (FileFault broken) ends = absurd ends
     hold_shut records (BadLine line) ends = absurd ends
     hold_shut records ReadFault ends = absurd ends
     hold_shut records (TooLong excess) ends = absurd ends
@@ -180,6 +182,7 @@ module _ {F R : Type 0} (of_file : F → FileState) (of_port : R → PortState) 
   hold_source walks unrun NoMemory (inl (same, silent)) = unrun same
   hold_source walks unrun NoMemory (inr (script, read, ends)) = hold_run (applications_of script) (acts_of Serial script.steps) (walks script read) NoMemory ends
   hold_source walks unrun Usage ends = unrun ends
+  hold_source walks unrun (FileFault broken) ends = unrun ends
   hold_source walks unrun (BadLine line) ends = unrun ends
   hold_source walks unrun ReadFault ends = unrun ends
   hold_source walks unrun (TooLong excess) ends = unrun ends

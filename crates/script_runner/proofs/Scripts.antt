@@ -12,7 +12,7 @@ use Rattle.run_acts.specs.Lines.{refusal_line}
 use Rattle.run_acts.specs.Benches.{BenchState}
 use Rattle.run_acts.specs.Opens.{IsOpenRefused, OpensBench}
 use Rattle.script_runner.specs.declared.status.Status.{Status}
-use Rattle.script_runner.specs.declared.status.Status.TheVariants.{BadLine, DeviceFault, Done, MountRefused, NoMemory, ReadFault, TooLong, Usage, WriteFault}
+use Rattle.script_runner.specs.declared.status.Status.TheVariants.{BadLine, DeviceFault, Done, FileFault, MountRefused, NoMemory, ReadFault, TooLong, Usage, WriteFault}
 use Rattle.script_runner.specs.Sending.{Begins, Stops}
 use Rattle.script_runner.specs.RunRefusals.{IsDeviceFault, IsRefusal}
 use Rattle.script_runner.specs.Text.{Act, RunRecord}
@@ -39,6 +39,7 @@ module _ {F R : Type 0} (of_file : F → FileState) (of_port : R → PortState) 
         → RunsActs of_file of_port image Reliable drew draws keys applications acts output failed held_old held_new handed given status
     RunsActs-refused Done ends t = absurd t
     RunsActs-refused Usage ends t = absurd t
+    RunsActs-refused (FileFault broken) ends t = absurd t
     RunsActs-refused (BadLine n) ends t = absurd t
     RunsActs-refused ReadFault ends t = absurd t
     RunsActs-refused (TooLong excess) ends t = absurd t
@@ -91,6 +92,7 @@ module _ {F R : Type 0} (of_file : F → FileState) (of_port : R → PortState) 
     shut : (status : Status) → PrintsRefusal failed held_old held_new [] fault status → Shut of_file of_port image Reliable drew draws keys (Some fault) [] handed given status
     shut Done t = absurd t
     shut Usage t = absurd t
+    shut (FileFault broken) t = absurd t
     shut (BadLine n) t = absurd t
     shut ReadFault t = absurd t
     shut (TooLong excess) t = absurd t

@@ -6,7 +6,7 @@ use Rattle.script_text.specs.Parsed.{IsParsed}
 use Rattle.script_text.specs.Script.{ScriptValue}
 use Rattle.script_text.specs.Grammar.{script_of}
 use Rattle.script_runner.specs.declared.status.Status.{Status}
-use Rattle.script_runner.specs.declared.status.Status.TheVariants.{BadLine, DeviceFault, Done, MountRefused, NoMemory, ReadFault, TooLong, Usage, WriteFault}
+use Rattle.script_runner.specs.declared.status.Status.TheVariants.{BadLine, DeviceFault, Done, FileFault, MountRefused, NoMemory, ReadFault, TooLong, Usage, WriteFault}
 use Rattle.script_runner.specs.declared.status.Excess.TheVariants.{Bytes, Apps}
 use Rattle.script_runner.specs.Trace.{IsSilent, IsTraceOf, Trace}
 use Rattle.script_runner.specs.ScriptReading.{IsReadError, IsScriptError, status_of}
@@ -31,6 +31,7 @@ silent taken = record { taken = taken; put = []; start = None; records = [] }
 pub HasCause-read : (w : World) (taken : List ℕ) (status : Status) → IsReadError w.source_failed (length taken) status → HasCause w (silent taken) status
 HasCause-read w taken Done h = absurd h
 HasCause-read w taken Usage h = absurd h
+HasCause-read w taken (FileFault broken) h = absurd h
 HasCause-read w taken (BadLine line) h = absurd h
 HasCause-read w taken ReadFault h = (h.0, h.1, silent_is taken)
 HasCause-read w taken WriteFault h = absurd h
@@ -44,6 +45,7 @@ HasCause-read w taken NoMemory h = tt
 pub HasCause-act : (w : World) (t : Trace) (script : ScriptValue) (status : Status) → HasActCause (w.sink_failed ⊎ w.sink_full) t.put (run_output script t.start t.records) status → WasRead w t → script_of t.taken ≡ Ok script → HasCause w t status
 HasCause-act w t script Done h read is = (read, (script, is, h))
 HasCause-act w t script Usage h read is = absurd h
+HasCause-act w t script (FileFault broken) h read is = absurd h
 HasCause-act w t script (BadLine line) h read is = absurd h
 HasCause-act w t script ReadFault h read is = absurd h
 HasCause-act w t script WriteFault h read is = (read, (script, is), h)
@@ -69,6 +71,7 @@ IsExact-cause w t Done h = record {
   too_long = λ long. absurd (omega (arith, h.0.1));
 }
 IsExact-cause w t Usage h = absurd h
+IsExact-cause w t (FileFault broken) h = absurd h
 IsExact-cause w t (BadLine l) h = record {
   bad_line = λ line read err. let e = one_fault t (BadLineFault l) (BadLineFault line) h.1 err in let same : l ≡ line = cc in inl (ap BadLine same);
   too_many = λ n read err. absurd (two_faults l n (one_fault t (BadLineFault l) (TooManyApps n) h.1 err));
@@ -130,6 +133,7 @@ taken-le left_old (Some rest) taken bytes takes told =
 pub completed : (left_old left_new held_old held_new : Option (List ℕ)) (w : World) (status : Status) (t : Trace) (bytes : List ℕ) (script : ScriptValue) → IsRun left_old left_new held_old held_new w status t → (w.source_ended → (rest : List ℕ) → left_new ≡ Some rest → rest ≡ []) → left_old ≡ Some bytes → length bytes ≤ 16777216 → script_of bytes ≡ Ok script → ¬ w.source_failed → ¬ w.sink_failed → ¬ w.sink_full → RunsItsScript status
 completed left_old left_new held_old held_new w Done t bytes script run ends told short is source sink room = tt
 completed left_old left_new held_old held_new w Usage t bytes script run ends told short is source sink room = absurd run.cause
+completed left_old left_new held_old held_new w (FileFault broken) t bytes script run ends told short is source sink room = absurd run.cause
 completed left_old left_new held_old held_new w (BadLine line) t bytes script run ends told short is source sink room =
     let same = all_taken left_old left_new t.taken bytes run.trace.taken (ends run.cause.0.0) told in
     absurd (done_script t script (BadLineFault line) (ap script_of same ∙ is) run.cause.1)
@@ -153,6 +157,7 @@ IsRun-cause left_old left_new held_old held_new w status t trace cause = record 
 pub HasCause-script : (w : World) (taken : List ℕ) (status : Status) → IsScriptError (script_of taken) status → WasRead w (silent taken) → HasCause w (silent taken) status
 HasCause-script w taken Done h read = absurd h
 HasCause-script w taken Usage h read = absurd h
+HasCause-script w taken (FileFault broken) h read = absurd h
 HasCause-script w taken (BadLine line) h read = (read, h, silent_is taken)
 HasCause-script w taken ReadFault h read = absurd h
 HasCause-script w taken WriteFault h read = absurd h
@@ -172,6 +177,7 @@ module _ {F R : Type 0} (of_file : F → FileState) (of_port : R → PortState) 
   pub EndsBench-read : (failed : Type 0) (count : ℕ) (t : Trace) → IsSilent t → (bench : BenchState) (status : Status) → IsReadError failed count status → EndsBench of_file of_port image Reliable drew draws keys t bench bench status
   EndsBench-read failed count t silent bench Done h = absurd h
   EndsBench-read failed count t silent bench Usage h = absurd h
+  EndsBench-read failed count t silent bench (FileFault broken) h = absurd h
   EndsBench-read failed count t silent bench (BadLine line) h = absurd h
   EndsBench-read failed count t silent bench ReadFault h = refl
   EndsBench-read failed count t silent bench WriteFault h = absurd h
@@ -183,6 +189,7 @@ module _ {F R : Type 0} (of_file : F → FileState) (of_port : R → PortState) 
   pub EndsBench-script : (meant : Result ScriptValue ScriptFault) (t : Trace) → IsSilent t → (bench : BenchState) (status : Status) → IsScriptError meant status → EndsBench of_file of_port image Reliable drew draws keys t bench bench status
   EndsBench-script meant t silent bench Done h = absurd h
   EndsBench-script meant t silent bench Usage h = absurd h
+  EndsBench-script meant t silent bench (FileFault broken) h = absurd h
   EndsBench-script meant t silent bench (BadLine line) h = refl
   EndsBench-script meant t silent bench ReadFault h = absurd h
   EndsBench-script meant t silent bench WriteFault h = absurd h
@@ -195,6 +202,7 @@ module _ {F R : Type 0} (of_file : F → FileState) (of_port : R → PortState) 
   pub EndsBench-run : (failed : Type 0) (t : Trace) (script : ScriptValue) (handed given : BenchState) (status : Status) → script_of t.taken ≡ Ok script → EndsScript of_file of_port image Reliable drew draws keys script t.start t.records handed given status → HasActCause failed t.put (run_output script t.start t.records) status → EndsBench of_file of_port image Reliable drew draws keys t handed given status
   EndsBench-run failed t script handed given Done is ends h = (script, is, ends)
   EndsBench-run failed t script handed given Usage is ends h = absurd h
+  EndsBench-run failed t script handed given (FileFault broken) is ends h = absurd h
   EndsBench-run failed t script handed given (BadLine line) is ends h = absurd h
   EndsBench-run failed t script handed given ReadFault is ends h = absurd h
   EndsBench-run failed t script handed given WriteFault is ends h = (script, is, ends)

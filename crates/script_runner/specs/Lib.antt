@@ -20,6 +20,7 @@ pub mod Running
 pub mod Soaks
 pub mod Migrations
 pub mod MigrationLaws
+pub mod Exports
 pub mod Exit
 pub mod ScriptReading
 pub mod Sending

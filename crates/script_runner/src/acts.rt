@@ -63,7 +63,8 @@ fn finish<K: Sink, F: FileRig + Drop, R: CardRig + Drop, E: Entropy>(
 ) -> RunEnd<F, R>
     requires ready { IsReady script.now run }
     requires all { length script.now.steps ≤ run.at }
-    ensures { (drew draws : ℕ) (first : E) → EndsAt F.state R.state F.crash_image (E.is_reliable first) drew draws keys.now script.now (Rose (K.faults sink.old) (K.faults sink.new) ⊎ K.is_full sink.new) (K.held sink.old) (K.held sink.new) run result }
+    ensures ends { (drew draws : ℕ) (first : E) → EndsAt F.state R.state F.crash_image (E.is_reliable first) drew draws keys.now script.now (Rose (K.faults sink.old) (K.faults sink.new) ⊎ K.is_full sink.new) (K.held sink.old) (K.held sink.new) run result }
+    ensures counted { K.faults sink.old ≤ K.faults sink.new }
 {
     let Run { bench, kept, .. } = run;
     let status = print_last_lines(kept, sink);
@@ -88,7 +89,8 @@ fn do_acts<
 ) -> RunEnd<F, R>
     requires sound { IsSound script.now }
     requires ready { IsReady script.now run }
-    ensures { (first : E) → (E.is_reliable first → E.is_reliable entropy.old) → EndsAt F.state R.state F.crash_image (E.is_reliable first) (E.faults entropy.old) (E.faults entropy.new) keys.now script.now (Rose (K.faults sink.old) (K.faults sink.new) ⊎ K.is_full sink.new) (K.held sink.old) (K.held sink.new) run result }
+    ensures ends { (first : E) → (E.is_reliable first → E.is_reliable entropy.old) → EndsAt F.state R.state F.crash_image (E.is_reliable first) (E.faults entropy.old) (E.faults entropy.new) keys.now script.now (Rose (K.faults sink.old) (K.faults sink.new) ⊎ K.is_full sink.new) (K.held sink.old) (K.held sink.new) run result }
+    ensures counted { K.faults sink.old ≤ K.faults sink.new }
 {
     let mut run = run;
     while run.at < script.all_steps().len() {
@@ -120,6 +122,7 @@ pub(crate) fn run_script<
     requires whole { vec_len bench.files ≡ file_count }
     ensures ran { RunsScript F.state R.state F.crash_image (E.is_reliable entropy.old) (E.faults entropy.old) (E.faults entropy.new) keys.now script.now (Rose (K.faults sink.old) (K.faults sink.new) ⊎ K.is_full sink.new) (K.held sink.old) (K.held sink.new)
         (bench_state F.state R.state bench) (bench_state F.state R.state result.bench) result.status }
+    ensures counted { K.faults sink.old ≤ K.faults sink.new }
     ensures whole { vec_len result.bench.files ≡ file_count }
 {
     match open_bench(alloc, bench, keys, entropy) {

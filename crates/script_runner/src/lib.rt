@@ -1,6 +1,6 @@
 //! The whole run of trusted storage: a script is read from a source, its acts are done on the files and the card, and the history of calls
 //! and replies goes to a sink. Or the script follows from a number, and five lines say what came of it. Or a store of an old format is
-//! migrated, and its objects are listed.
+//! migrated, and its objects are listed. Or the store that a script leaves is exported into a folder.
 //!
 //! The program `tee_run` is `run` over the standard streams and the simulated devices (`blank_bench`): files in memory, and a card that has
 //! its key.
@@ -8,8 +8,10 @@
 
 mod act_text;
 mod acts;
+mod audit_run;
 mod card_port;
 mod controls;
+mod export_run;
 mod forms;
 mod migration_run;
 mod mount_refusal;
@@ -21,12 +23,14 @@ mod saved_files;
 mod script_source;
 mod sim_devices;
 mod soak_run;
+mod source_run;
 mod status;
 mod text_sink;
 mod top_call;
 
 pub use card_port::CardPort;
-pub use forms::{Form, form_of, words_have_forms};
+pub use folder_export::{FOLDER_FILES, FileFault, FilePlace};
+pub use forms::{Form, folder_of, form_of, words_have_forms};
 pub use phase_text::{send_control, send_lines, send_phase};
 pub use record_laws::{
     formatted_runs_stand, migrations_end, migrations_tell_no_old_file, opened_runs_are_of_machine,

@@ -30,13 +30,6 @@ pub enum Status {
     DeviceFault(MountFault),
     /// A call of a file failed while the store was exported or audited.
     FileFault(FileFault),
-    /// A store on the card alone was refused: its blocks have not the form of one.
-    CardMapRefused {
-        /// The first block that is outside the form.
-        block: u8,
-        /// The first offset in it that is.
-        offset: u8,
-    },
 }
 
 /// The limit that a script passes.
@@ -65,14 +58,14 @@ pub fn status_text(status: &Status) -> &'static str
 {
     match status {
         Status::Done => "",
-        Status::Usage => "usage: tee_run run | tee_run soak N | tee_run migrate | tee_run export PATH | tee_run audit PATH | tee_run card",
+        Status::Usage => "usage: tee_run run | tee_run soak N | tee_run migrate | tee_run export PATH | tee_run audit PATH",
         Status::BadLine(_) => "bad line",
         Status::ReadFault => "read fault",
         Status::WriteFault => "write fault",
         Status::TooLong(Excess::Bytes) => "script too long",
         Status::TooLong(Excess::Apps(_)) => "too many applications",
         Status::NoMemory => "no memory",
-        Status::MountRefused(_) | Status::CardMapRefused { .. } => "mount refused",
+        Status::MountRefused(_) => "mount refused",
         Status::DeviceFault(_) | Status::FileFault(_) => "device fault",
     }
 }
@@ -87,7 +80,7 @@ pub fn status_number(status: &Status) -> u8
         Status::BadLine(_) => 3,
         Status::ReadFault => 4,
         Status::WriteFault => 5,
-        Status::MountRefused(_) | Status::CardMapRefused { .. } => 6,
+        Status::MountRefused(_) => 6,
         Status::DeviceFault(_) | Status::FileFault(_) => 7,
         Status::TooLong(_) => 8,
         Status::NoMemory => 9,

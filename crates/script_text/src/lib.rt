@@ -1,7 +1,7 @@
 //! Scripts of applications and the text of a run: the grammar both ways.
 //!
 //! `parse` reads a script. `print_phase`, `print_event`, `print_control` and `print_migration` write the lines of a run, and the `put_`
-//! functions the words of a line.
+//! functions the words of a line. Scripts of another kind are read by the same words and values (`words`, `values`).
 #![tactic(auto)]
 
 mod append_text;
@@ -14,8 +14,8 @@ mod print_lines;
 mod print_reply;
 mod reading;
 mod script;
-mod values;
-mod words;
+pub mod values;
+pub mod words;
 
 pub use append_text::{
     put, put_bytes, put_hex, put_number, put_uuid, put_word_bytes, put_word_hex, put_word_number,

@@ -14,7 +14,7 @@ use tee_types::{
 use uuid::Uuid;
 
 /// The UUID that a word is.
-pub(crate) fn uuid(word: &[u8]) -> Option<AppId>
+pub fn uuid(word: &[u8]) -> Option<AppId>
     ensures { result ≡ uuid_of word.now }
 {
     match Uuid::try_parse_ascii(word) {
@@ -32,7 +32,7 @@ fn count(word: &[u8], letter: u8) -> usize
 }
 
 /// Whether the words are alike.
-pub(crate) fn same(a: &[u8], b: &[u8]) -> bool
+pub fn same(a: &[u8], b: &[u8]) -> bool
     ensures { result ≡ same_word a.now b.now }
 {
     a == b
@@ -151,7 +151,7 @@ fn numeral(word: &[u8], base: u8, greatest: u64) -> Option<u64>
 }
 
 /// The number that a word of decimal digits stands for, at most 4,294,967,295.
-pub(crate) fn number(word: &[u8]) -> Option<u32>
+pub fn number(word: &[u8]) -> Option<u32>
     ensures { result ≡ number_of word.now }
 {
     let number = numeral(word, 10, u32::MAX as u64)?;
@@ -241,7 +241,7 @@ pub(crate) fn whence(word: &[u8]) -> Option<Whence>
 
 /// The bytes that a word stands for.
 #[tactic(auto, unfolding(crate::specs::Words::bytes_of))]
-pub(crate) fn bytes(alloc: Global, word: &[u8]) -> Result<Option<Bytes>, NoMemory>
+pub fn bytes(alloc: Global, word: &[u8]) -> Result<Option<Bytes>, NoMemory>
     ensures { IfOk result (λ bytes. bytes ≡ bytes_of word.now) }
 {
     if same(word, b"-") {
@@ -270,7 +270,7 @@ pub(crate) fn mask(alloc: Global, word: &[u8]) -> Result<Option<Bytes>, NoMemory
 
 /// The identifier that a word stands for.
 #[tactic(auto, unfolding(crate::specs::Words::id_of))]
-pub(crate) fn id(word: &[u8]) -> Option<ObjectId>
+pub fn id(word: &[u8]) -> Option<ObjectId>
     ensures { result ≡ id_of word.now }
 {
     if word.len() < 2 || 128 < word.len() || word.len() % 2 == 1 {

@@ -42,7 +42,7 @@ fn without_cr(line: &[u8]) -> &[u8]
 }
 
 /// The first line of a text, and the text behind it.
-pub(crate) fn cut_line(text: &[u8]) -> Option<(&[u8], &[u8])>
+pub fn cut_line(text: &[u8]) -> Option<(&[u8], &[u8])>
     ensures none { IsNone result → text.now ≡ [] }
     ensures cut { IfSome result (λ parts. lines_of text.now ≡ parts.0.now ∷ lines_of parts.1.now) }
     ensures shorter { IfSome result (λ parts. length parts.1.now < length text.now) }
@@ -58,7 +58,7 @@ pub(crate) fn cut_line(text: &[u8]) -> Option<(&[u8], &[u8])>
 }
 
 /// Whether each byte is one of ASCII.
-pub(crate) fn is_ascii(line: &[u8]) -> bool
+pub fn is_ascii(line: &[u8]) -> bool
     ensures { result ≡ is_ascii line.now }
 {
     line.iter().all(|b| *b < 128)
@@ -98,7 +98,7 @@ fn word_length(line: &[u8]) -> usize
 }
 
 /// The first word of a line, and what is left of the line behind it.
-pub(crate) fn cut_word(line: &[u8]) -> Option<(&[u8], &[u8])>
+pub fn cut_word(line: &[u8]) -> Option<(&[u8], &[u8])>
     ensures { MatchOption result (words_of line.now ≡ [])
         (λ parts. words_of line.now ≡ parts.0.now ∷ words_of parts.1.now) }
 {
@@ -111,7 +111,7 @@ pub(crate) fn cut_word(line: &[u8]) -> Option<(&[u8], &[u8])>
 }
 
 /// The one word of a line.
-pub(crate) fn one(line: &[u8]) -> Option<&[u8]>
+pub fn one(line: &[u8]) -> Option<&[u8]>
     ensures found { IfSome result (λ word. words_of line.now ≡ word.now ∷ []) }
     ensures none { IfNone result (length (words_of line.now) ≢ 1) }
 {
@@ -123,7 +123,7 @@ pub(crate) fn one(line: &[u8]) -> Option<&[u8]>
 }
 
 /// The two words of a line.
-pub(crate) fn two(line: &[u8]) -> Option<(&[u8], &[u8])>
+pub fn two(line: &[u8]) -> Option<(&[u8], &[u8])>
     ensures found { IfSome result (λ words. words_of line.now ≡ words.0.now ∷ words.1.now ∷ []) }
     ensures none { IfNone result (length (words_of line.now) ≢ 2) }
 {
@@ -133,7 +133,7 @@ pub(crate) fn two(line: &[u8]) -> Option<(&[u8], &[u8])>
 }
 
 /// The three words of a line.
-pub(crate) fn three(line: &[u8]) -> Option<(&[u8], &[u8], &[u8])>
+pub fn three(line: &[u8]) -> Option<(&[u8], &[u8], &[u8])>
     ensures found { IfSome result (λ words. words_of line.now ≡ words.0.now ∷ words.1.now ∷ words.2.now ∷ []) }
     ensures none { IfNone result (length (words_of line.now) ≢ 3) }
 {

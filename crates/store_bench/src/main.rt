@@ -1,5 +1,5 @@
 //! Measures the ciphers, the keys and commits in trees. With no argument it does a small fixed work of each kind, and prints a digest of
-//! what came out of a cipher, and how many calls of the file and written bytes a commit takes: these never vary. With the argument
+//! what came out of a cipher, how many calls of the file and written bytes a commit takes, and how long a certificate is: these never vary. With the argument
 //! `time` it also reports on standard error how many million bytes a second each cipher took in, and how long a commit took.
 #![tactic(auto)]
 
@@ -7,9 +7,11 @@ use std::alloc::Global;
 use std::env;
 use std::time::Instant;
 
+mod certificates;
 mod ciphers;
 mod trees;
 
+use certificates::Certified;
 use ciphers::{BYTES_A_ROUND, Work};
 use trees::{TreeBench, commits};
 
@@ -25,6 +27,9 @@ const SIZES: [u8; 3] = [1, 16, 255];
 const COUNTED_COMMITS: u32 = 2;
 
 const TIMED_COMMITS: u32 = 256;
+
+/// How many times a certificate is checked for its time.
+const CHECKS: u32 = 16;
 
 /// Prints the digest of a cipher's work.
 fn print_digest(rt: &impl Print, alloc: Global, work: Work) -> anyhow::Result<()> {
@@ -64,6 +69,30 @@ fn time_commits(rt: &HostRuntime, blocks: u8) -> anyhow::Result<()> {
     Ok(())
 }
 
+/// Prints what a certificate is of.
+fn print_certificate(rt: &impl Print, alloc: Global) -> anyhow::Result<()> {
+    let certified = Certified::new(alloc)?;
+    let length = certified.len();
+    let data = certified.check(alloc)?;
+    println!(rt; "certificate of {length} bytes: {data} bytes of data")?;
+    Ok(())
+}
+
+/// Reports how long a certificate takes to be checked, and its object to be loaded and read whole.
+fn time_certificate(rt: &HostRuntime) -> anyhow::Result<()> {
+    let certified = Certified::new(rt.alloc())?;
+    let start = Instant::now(rt)?;
+    for _ in 0..CHECKS {
+        certified.check(rt.alloc())?;
+    }
+    let checked = start.elapsed(rt)?.as_micros() / u128::from(CHECKS);
+    let start = Instant::now(rt)?;
+    certified.read(rt.alloc())?;
+    let read = start.elapsed(rt)?.as_micros();
+    eprintln!(rt; "certificate: {checked} us, its object read: {read} us")?;
+    Ok(())
+}
+
 /// Whether times are asked for: by the argument `time`, and no other is taken.
 fn is_timed(rt: &HostRuntime) -> anyhow::Result<bool> {
     let mut timed = false;
@@ -89,6 +118,10 @@ fn main(rt: HostRuntime) -> anyhow::Result<()> {
         if timed {
             time_commits(&rt, blocks)?;
         }
+    }
+    print_certificate(&rt, rt.alloc())?;
+    if timed {
+        time_certificate(&rt)?;
     }
     Ok(())
 }

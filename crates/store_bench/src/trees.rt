@@ -1,6 +1,6 @@
 // An object in a file in memory, and commits of one byte.
 
-ghost use Rattle.std.specs.Prelude.{◌≡◌, IfOk, IfSome};
+ghost use Rattle.std.specs.Prelude.{◌≡◌, ◌<◌, IfOk, IfSome};
 ghost use Rattle.dir_records.specs.Form.{HasForm};
 
 use anyhow::{Context, bail};
@@ -15,6 +15,9 @@ use tee_types::{AppId, ObjectId};
 use uuid::Uuid;
 
 const TSK: [u8; 32] = [7; 32];
+
+/// The application of the objects.
+pub const APP: [u8; 16] = [0xab; 16];
 
 /// A loaded object, with what its file counted before.
 #[derive(Drop)]
@@ -35,7 +38,7 @@ fn entry_of(root: RootRef, blocks: u8) -> Option<DirEntry>
     }
     let hash = root.hash;
     Some(DirEntry {
-        app: AppId::from_uuid(Uuid::from_bytes([0xab; 16])),
+        app: AppId::from_uuid(Uuid::from_bytes(APP)),
         id: ObjectId::new(b"key").unwrap(),
         version: root.version,
         file: 1,
@@ -47,8 +50,13 @@ fn entry_of(root: RootRef, blocks: u8) -> Option<DirEntry>
     })
 }
 
-// The file of a new object with so many blocks of data, and its entry.
-fn made(alloc: Global, blocks: u8) -> anyhow::Result<(MemFile, DirEntry)>
+/// The file of a new object with so many blocks of data under a key, its entry, and its reference.
+pub fn made(
+    alloc: Global,
+    tsk: &[u8; 32],
+    blocks: u8,
+) -> anyhow::Result<(MemFile, DirEntry, RootRef)>
+    ensures version { IfOk result (λ made. made.2.version < 2) }
     ensures form { IfOk result (λ made. HasForm made.1) }
     ensures format { IfOk result (λ made. made.1.format ≡ 2) }
 {
@@ -57,7 +65,7 @@ fn made(alloc: Global, blocks: u8) -> anyhow::Result<(MemFile, DirEntry)>
     let (file, root) = match ObjectFile::make(
         alloc,
         MemFile::new(alloc),
-        &TSK,
+        tsk,
         &[],
         &data,
         &mut entropy,
@@ -66,15 +74,21 @@ fn made(alloc: Global, blocks: u8) -> anyhow::Result<(MemFile, DirEntry)>
         Err(_) => bail!("not made"),
     };
     let entry = entry_of(root, blocks).context("no entry")?;
-    Ok((file, entry))
+    Ok((file, entry, root))
 }
 
-fn load(alloc: Global, file: MemFile, entry: &DirEntry) -> anyhow::Result<ObjectFile<MemFile>>
+/// Loads an object under a key.
+pub fn load(
+    alloc: Global,
+    file: MemFile,
+    tsk: &[u8; 32],
+    entry: &DirEntry,
+) -> anyhow::Result<ObjectFile<MemFile>>
     requires form { HasForm entry.now }
     requires format { entry.now.format ≡ 2 }
     ensures { IfOk result (λ object. object.tree.root.format ≡ 2) }
 {
-    match ObjectFile::load(alloc, file, &TSK, entry) {
+    match ObjectFile::load(alloc, file, tsk, entry) {
         Ok(object) => Ok(object),
         Err(_) => bail!("not loaded"),
     }
@@ -83,12 +97,12 @@ fn load(alloc: Global, file: MemFile, entry: &DirEntry) -> anyhow::Result<Object
 impl TreeBench {
     /// An object with so many blocks of data.
     pub fn new(alloc: Global, blocks: u8) -> anyhow::Result<TreeBench> {
-        let (mut file, entry) = made(alloc, blocks)?;
+        let (mut file, entry, _) = made(alloc, &TSK, blocks)?;
         file.disarm();
-        let mut file = load(alloc, file, &entry)?.into_file();
+        let mut file = load(alloc, file, &TSK, &entry)?.into_file();
         let (calls, bytes) = (file.calls(), file.written());
         file.disarm();
-        let object = load(alloc, file, &entry)?;
+        let object = load(alloc, file, &TSK, &entry)?;
         Ok(TreeBench {
             object,
             calls,

@@ -1,15 +1,23 @@
 //! Trusted storage, run by scripts: `tee_run run` reads a script from standard input, serves its calls over a simulated disk and card, and
-//! prints the history of calls and replies.
+//! prints the history of calls and replies. `tee_run export PATH` exports what the script leaves into the folder PATH, too.
 #![tactic(auto)]
 
-use script_runner::{RunEnd, Status, blank_bench, run, simulator_keys, status_number, status_text};
+ghost use Rattle.std.specs.Prelude.{◌≡◌, vec_len, IfOk};
+ghost use Rattle.folder_export.specs.Folders.{folder_count};
+
+use host_folder::FolderFile;
+use script_runner::{
+    FOLDER_FILES, RunEnd, Status, blank_bench, folder_of, run, simulator_keys, status_number,
+    status_text,
+};
 use seed_words::SeedEntropy;
 use std::env::Env;
+use std::fs::{File, Files};
 use std::process::ExitCode;
 use std::sync::Wait;
 use std::thread::Threads;
 use std::{env, io};
-use tee_ports::{StdSink, StdSource};
+use tee_ports::{NoMemory, StdSink, StdSource};
 
 /// The words behind the program's name. Words that can't be read are none.
 fn words_of(rt: &(impl Env + AllocGlobal)) -> Result<Vec<String>, io::Error> {
@@ -20,12 +28,31 @@ fn words_of(rt: &(impl Env + AllocGlobal)) -> Result<Vec<String>, io::Error> {
     Ok(words)
 }
 
-/// Runs the script on standard input over devices that were never used.
-fn run_standard<W: Input + Print + AllocGlobal + Threads + Wait + Sync>(
+/// The files of a folder. None is opened.
+fn folder_files<'a, R: Files<File = File> + AllocGlobal + Drop>(
+    rt: &'a R,
+    path: &str,
+) -> Result<Vec<FolderFile<'a, R>>, NoMemory>
+    ensures { IfOk result (λ folder. vec_len folder ≡ folder_count) }
+{
+    let mut folder = Vec::with_capacity(rt.alloc(), FOLDER_FILES)?;
+    for number in 0..FOLDER_FILES as u16 {
+        folder.push(FolderFile::new(rt, rt.alloc(), path, number)?)?;
+    }
+    Ok(folder)
+}
+
+/// Runs the script on standard input over devices that were never used, and the folder that the words speak of.
+fn run_standard<
+    W: Files<File = File> + Input + Print + AllocGlobal + Threads + Wait + Sync + Drop,
+>(
     rt: &W,
     words: &[String],
 ) -> Status {
     let Ok(bench) = blank_bench(rt.alloc()) else {
+        return Status::NoMemory;
+    };
+    let Ok(mut folder) = folder_files(rt, folder_of(words)) else {
         return Status::NoMemory;
     };
     let mut source = StdSource::new(rt.reader());
@@ -40,6 +67,7 @@ fn run_standard<W: Input + Print + AllocGlobal + Threads + Wait + Sync>(
         bench,
         &simulator_keys(),
         &mut entropy,
+        &mut folder,
     );
     status
 }

@@ -1,6 +1,6 @@
 // How a run ends, in the words of a row.
 
-use script_runner::{Excess, Status};
+use script_runner::{Excess, FilePlace, Status};
 use std::alloc::{AllocError, Global};
 
 /// A status in the words of a row.
@@ -16,5 +16,14 @@ pub fn status_text(alloc: Global, status: &Status) -> Result<String, AllocError>
         Status::TooLong(Excess::Bytes) => String::from_str(alloc, "status 8 bytes"),
         Status::TooLong(Excess::Apps(apps)) => format!(in alloc; "status 8 apps {apps}"),
         Status::NoMemory => String::from_str(alloc, "status 9"),
+        Status::FileFault(fault) => place_text(alloc, fault.place),
+    }
+}
+
+// The status of a file that failed in an export or an audit.
+fn place_text(alloc: Global, place: FilePlace) -> Result<String, AllocError> {
+    match place {
+        FilePlace::Bench(number) => format!(in alloc; "status 7 bench {number}"),
+        FilePlace::Folder(number) => format!(in alloc; "status 7 folder {number}"),
     }
 }

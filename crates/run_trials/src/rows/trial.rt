@@ -1,5 +1,6 @@
 // The run of a row, beside what it must do.
 
+use crate::folders::new_folder;
 use crate::rows::bench::bench_for;
 use crate::rows::ends::status_text;
 use crate::rows::row::Row;
@@ -34,6 +35,7 @@ pub fn run_row<W: Threads + Wait + Sync>(
     let mut source = MemSource::new(alloc, &script, &[row.settings.failing])?;
     let mut sink = MemSink::new(alloc, row.settings.room, &[])?;
     let mut entropy = SeedEntropy::from_seed(&[0; 32]);
+    let mut folder = new_folder(alloc)?;
     let RunEnd { status, bench } = run(
         rt,
         alloc,
@@ -43,6 +45,7 @@ pub fn run_row<W: Threads + Wait + Sync>(
         bench,
         &simulator_keys(),
         &mut entropy,
+        &mut folder,
     );
     Ok(Ran {
         status,

@@ -1,4 +1,4 @@
-use Rattle.std.proofs.Common.{IfErr, IfOk, refl, subst, sym}
+use Rattle.std.proofs.Common.{IfErr, IfOk, subst, sym}
 use Rattle.object_calls.specs.OpeningFiles.{files_of}
 use Rattle.object_calls.specs.OpenedStores.{store_in}
 use Rattle.run_acts.specs.Reliable.{AreReliable}
@@ -12,11 +12,8 @@ use Rattle.run_acts.specs.SharedClosing.{ClosesShared}
 use Rattle.run_acts.specs.Sharing.{opening_devices}
 use Rattle.run_acts.proofs.serial_phase.serve_once.Goals as goal
 
-pub serve_calls-requires-clause-store : goal.serve_calls-requires-clause-store
-serve_calls-requires-clause-store g c = record { keyed = c.requires.keyed; is = refl }
-
 pub returns-in-Serial-clause-closed : goal.returns-in-Serial-clause-closed
-returns-in-Serial-clause-closed g c = c.serve_calls.ensures.closed c.args.mode
+returns-in-Serial-clause-closed g c = c.serve_alone.ensures.closed c.args.mode
 
 pub returns-in-Threads-clause-closed : goal.returns-in-Threads-clause-closed
 returns-in-Threads-clause-closed g c =
@@ -38,8 +35,8 @@ returns-in-Serial-clause-early g c =
     let of_file = g.F.StoreFile.state in
     let of_port = g.R.RpmbPort.state in
     let before = opening_state of_file of_port c.args.opening in
-    subst (λ (mode : Mode). IfErr c.serve_calls.result (λ b. ClosesEarly (store_in c.args.keys.now of_file c.args.opening) before mode c.args.calls.now (bench_state of_file of_port b)))
-    (sym c.in-Serial.is) c.serve_calls.ensures.early
+    subst (λ (mode : Mode). IfErr c.serve_alone.result (λ b. ClosesEarly (store_in c.args.keys.now of_file c.args.opening) before mode c.args.calls.now (bench_state of_file of_port b)))
+    (sym c.in-Serial.is) c.serve_alone.ensures.early
 
 pub returns-in-Threads-clause-early : goal.returns-in-Threads-clause-early
 returns-in-Threads-clause-early g c =

@@ -27,8 +27,8 @@ loop-run-preserved g c =
       undrawn = c.in-Ok.ensures.undrawn ∙ c.loop-run.invariant.undrawn;
     }
 
-pub returns-in-Err : goal.returns-in-Err
-returns-in-Err g c = λ first lasts.
+pub returns-in-Err-clause-ends : goal.returns-in-Err-clause-ends
+returns-in-Err-clause-ends g c = λ first lasts.
     EndsAt-behind g.F.StoreFile.state g.R.RpmbPort.state g.F.FileRig.crash_image _ c.args.keys.now c.args.script.now _ _ _ _ _ _ _ _ c.args.run c.loop-run.run c.in-Err.end c.loop-run.invariant.undrawn
     (failed-earlier (g.K.Sink.faults c.args.sink.now) _ _ _ c.loop-run.invariant.counted) (c.loop-run.invariant.advances first lasts)
     (c.in-Err.ensures.err first (λ reliable. c.loop-run.invariant.reliable (lasts reliable)))
@@ -36,8 +36,8 @@ returns-in-Err g c = λ first lasts.
 pub finish-requires-clause-ready : goal.finish-requires-clause-ready
 finish-requires-clause-ready g c = c.loop-run.invariant.ready
 
-pub returns : goal.returns
-returns g c = λ first lasts.
+pub returns-clause-ends : goal.returns-clause-ends
+returns-clause-ends g c = λ first lasts.
     EndsAt-behind g.F.StoreFile.state g.R.RpmbPort.state g.F.FileRig.crash_image _ c.args.keys.now c.args.script.now _ _ _ _ _ _ _ _ c.args.run c.loop-run.run c.finish.result c.loop-run.invariant.undrawn
     (failed-earlier (g.K.Sink.faults c.args.sink.now) _ _ _ c.loop-run.invariant.counted) (c.loop-run.invariant.advances first lasts)
-    (c.finish.ensures (g.E.Entropy.faults c.loop-run.entropy) (g.E.Entropy.faults c.loop-run.entropy) first)
+    (c.finish.ensures.ends (g.E.Entropy.faults c.loop-run.entropy) (g.E.Entropy.faults c.loop-run.entropy) first)

@@ -4,13 +4,14 @@ use Rattle.run_acts.specs.Benches.{bench_state}
 use Rattle.script_runner.specs.declared.forms.Form.{Form}
 use Rattle.script_runner.specs.declared.forms.Form.TheVariants.{Soak}
 use Rattle.script_runner.specs.Soaks.{RunsSoak}
-use Rattle.script_runner.proofs.Wholes.{IsRun-cause, completed}
+use Rattle.script_runner.proofs.Exported.{export_completed}
+use Rattle.script_runner.proofs.Wholes.{completed}
 use Rattle.script_runner.proofs.top_call.run.Goals as goal
 
 pub returns-in-Some-Run-clause-complete : goal.returns-in-Some-Run-clause-complete
 returns-in-Some-Run-clause-complete g c = λ bytes script form printed short is source sink room.
     let x = c.run_source.ensures.run in
-    completed _ _ _ _ _ c.run_source.result.status x.0 bytes script (IsRun-cause _ _ _ _ _ _ _ x.1 x.2) (λ ended rest left. (g.met.S.Source.told_end c.run_source.new.source rest left).0 ended) printed short is source sink room
+    completed _ _ _ _ _ c.run_source.result.status x.0 bytes script x.1 (λ ended rest left. (g.met.S.Source.told_end c.run_source.new.source rest left).0 ended) printed short is source sink room
 
 pub returns-in-Some-Soak-clause-soak : goal.returns-in-Some-Soak-clause-soak
 returns-in-Some-Soak-clause-soak g c = λ number form.
@@ -22,3 +23,8 @@ returns-in-Some-Soak-clause-soak g c = λ number form.
     (g.E.Entropy.faults c.args.entropy.now) (g.E.Entropy.faults c.run_soak.new.entropy)
     (Rose (g.K.Sink.faults c.args.sink.now) (g.K.Sink.faults c.run_soak.new.sink) ⊎ g.K.Sink.is_full c.run_soak.new.sink) (g.K.Sink.held c.args.sink.now) (g.K.Sink.held c.run_soak.new.sink)
     (bench_state state port c.args.bench) (bench_state state port c.run_soak.result.bench) c.run_soak.result.status) same c.run_soak.ensures.soak
+
+pub returns-in-Some-Export-clause-export_complete : goal.returns-in-Some-Export-clause-export_complete
+returns-in-Some-Export-clause-export_complete g c = λ bytes script form printed short is source sink room.
+    export_completed g.F.StoreFile.state g.R.RpmbPort.state g.F.FileRig.crash_image (g.E.Entropy.is_reliable c.args.entropy.now) _ _ _ _ _ _ _ c.args.keys.now _ _ _ _ c.run_export.result.status bytes script
+    c.run_export.ensures.export (λ ended rest left. (g.met.S.Source.told_end c.run_export.new.source rest left).0 ended) printed short is source sink room

@@ -4,7 +4,7 @@ use Rattle.script_text.specs.Lines.{lines_of}
 use Rattle.script_text.specs.Script.{no_script}
 use Rattle.script_text.proofs.FormedSteps.{scripts_call_well}
 use Rattle.script_runner.proofs.Sounds.{few_applications-le}
-use Rattle.script_runner.proofs.top_call.read_script.Goals as goal
+use Rattle.script_runner.proofs.source_run.read_script.Goals as goal
 
 pub returns-in-Ok : goal.returns-in-Ok
 returns-in-Ok c = (

@@ -1,0 +1,4 @@
+pub mod Causes
+pub mod Copied
+pub mod States
+pub mod Below
