@@ -21,9 +21,6 @@ use store_commit::{MountFault, root_in};
 use tee_ports::StoreFile;
 use tee_types::{BENCH_FILES, DIRECTORY_FILE, OLD_DIRECTORY_FILE};
 
-/// How many files a folder has: one for each file of a bench, and behind them one for the card's block.
-pub const FOLDER_FILES: usize = BENCH_FILES + 1;
-
 // The reference that the card's block names, of the current format.
 fn root_served(block: &[u8; 256]) -> Result<RootRef, AuditFault>
     ensures { RootAnswer block.now result }

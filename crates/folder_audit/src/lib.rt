@@ -17,5 +17,5 @@ mod order;
 mod reading;
 
 pub use fault::{Audit, AuditFault};
-pub use folder::{FOLDER_FILES, audit_folder};
+pub use folder::audit_folder;
 pub use laws::audited_objects_hold;

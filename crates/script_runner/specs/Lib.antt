@@ -21,6 +21,7 @@ pub mod Soaks
 pub mod Migrations
 pub mod MigrationLaws
 pub mod Exports
+pub mod Audits
 pub mod Exit
 pub mod ScriptReading
 pub mod Sending

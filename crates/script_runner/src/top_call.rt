@@ -6,6 +6,7 @@ ghost use Rattle.std.specs.String.{string_bytes};
 ghost use Rattle.tee_ports.specs.Faults.{Rose};
 ghost use Rattle.tee_types.specs.Limits.{file_count};
 ghost use Rattle.folder_export.specs.Folders.{folder_count};
+ghost use Rattle.folder_audit.specs.Audit.{folder_states};
 ghost use Rattle.object_calls.specs.OpeningFiles.{files_of};
 ghost use Rattle.script_text.specs.Script.{ScriptValue};
 ghost use Rattle.script_text.specs.Grammar.{script_of};
@@ -15,6 +16,7 @@ ghost use Rattle.script_runner.specs.Runs.{RunsSource};
 ghost use Rattle.script_runner.specs.Exports.{ExportsItsScript, RunsExport};
 ghost use Rattle.script_runner.specs.Forms.{form_of};
 ghost use Rattle.script_runner.specs.Migrations.{RunsMigration};
+ghost use Rattle.script_runner.specs.Audits.{RunsAudit};
 ghost use Rattle.script_runner.specs.Soaks.{RunsSoak};
 
 use crate::Status;
@@ -39,12 +41,14 @@ use tee_ports::{Entropy, FileRig, Sink, Source, StoreFile};
 /// what the bench has in files of an old format into files of the current one, and writes a line of what was moved and the lines of the
 /// objects; no source is read, and a card whose block 0 is blank is refused. `export PATH`: does all that `run` does, and where that is done reads
 /// the card's block 0, a blank one too, and copies that and the files of the bench that it left into the folder. `audit PATH`: reads the store that
-/// was exported into the folder. `card`: runs a script of the objects on the card alone.
+/// was exported into the folder, and writes a line for each object, with its certificate where it is whole; no source is read, and no device of
+/// the bench is called.
 ///
 /// `rt` starts the threads of phases that have their applications on threads, and waits for them; so it is not claimed that a run comes to
-/// its end. `words` are those behind the program's name. `folder` are the files of the folder that they speak of (`folder_of`): one for each file of
-/// the bench, and the last for the card's block; but `export` and `audit` no form calls one. In `run`, `soak` and `export` a card whose block 0 is blank is formatted. Want of memory is the one status
-/// without a cause. The bench is given back as the run left it; where there is no script, it is as it was.
+/// its end. `words` are those behind the program's name. `folder` are the files of the folder that they speak of (`folder_of`): one for each
+/// file of the bench, and the last for the card's block; but `export` and `audit` no form calls one. In `run`, `soak` and `export` a card whose
+/// block 0 is blank is formatted. Want of memory is the one status without a cause. The bench is given back as the run left it; where there is
+/// no script, it is as it was.
 pub fn run<
     W: Threads + Wait + Sync,
     S: Source,
@@ -113,6 +117,13 @@ pub fn run<
         → ¬ Rose (S.faults source.old) (S.faults source.new)
         → ¬ Rose (K.faults sink.old) (K.faults sink.new) → ¬ K.is_full sink.new
         → ExportsItsScript result.status }
+
+    // `audit PATH`: how the audit ended, what was put of its text, and why the run ended so. Nothing else is asked.
+    ensures audit { form_of (map string_bytes words.now) ≡ Some Form.Audit
+        → RunsAudit keys.now (Rose (K.faults sink.old) (K.faults sink.new) ⊎ K.is_full sink.new) (K.held sink.old) (K.held sink.new)
+        (folder_states G.state folder.old.items) (folder_states G.state folder.new.items) result.status }
+    ensures audit_apart { form_of (map string_bytes words.now) ≡ Some Form.Audit
+        → (result.bench ≡ bench) × (source.new ≡ source.old) × (entropy.new ≡ entropy.old) }
 
     // But `export` and `audit` no form calls a file of the folder.
     ensures folder { ¬ (form_of (map string_bytes words.now) ≡ Some Form.Export) → ¬ (form_of (map string_bytes words.now) ≡ Some Form.Audit)

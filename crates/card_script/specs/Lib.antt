@@ -1,4 +1,0 @@
-pub mod CardLines
-pub mod CardScripts
-pub mod CardText
-pub mod CardLaws
