@@ -21,6 +21,7 @@ pub mod RunLaws
 pub mod QuietEnds
 pub mod MigrationEnds
 pub mod MigrationTexts
+pub mod AuditTexts
 pub mod RunBenches
 pub mod CalmPorts
 pub mod CalmFiles

@@ -27,3 +27,4 @@ pub mod ScriptReading
 pub mod Sending
 pub mod Blank
 pub mod Port
+pub mod Audits

@@ -1,32 +1,20 @@
-//! Running an audit: a folder is audited, and the lines of its objects are put.
+//! Running an audit: the store in a folder is audited, and the lines of its objects are put.
 
 ghost use Rattle.std.specs.Prelude.{◌≡◌, ◌⊎◌, ◌≤◌, vec_len};
 ghost use Rattle.tee_ports.specs.Faults.{Rose};
 ghost use Rattle.folder_export.specs.Folders.{folder_count};
 ghost use Rattle.folder_audit.specs.Audit.{folder_states};
-ghost use Rattle.script_runner.specs.Audits.{PutsFront, RunsAudit};
+ghost use Rattle.script_runner.specs.Audits.{RunsAudit};
 
 use crate::Status;
 use crate::act_text::print_last_lines;
-use crate::flush;
 use crate::mount_refusal::print_mount_refusal;
 use folder_audit::{Audit, AuditFault, audit_folder};
 use hmac_keys::Keys;
 use std::alloc::Global;
 use tee_ports::{Sink, StoreFile};
 
-/// Puts the lines of an audit that ended at a file or for want of memory, and says how the run ends.
-fn print_begun<K: Sink>(lines: Vec<u8>, status: Status, sink: &mut K) -> Status
-    ensures same { result ≡ status }
-    ensures prints { PutsFront (Rose (K.faults sink.old) (K.faults sink.new) ⊎ K.is_full sink.new) (K.held sink.old) (K.held sink.new) lines.items }
-    ensures counted { K.faults sink.old ≤ K.faults sink.new }
-{
-    let mut kept = lines;
-    let _put = flush(sink, &mut kept, 0);
-    status
-}
-
-/// Audits a folder, and writes the line of each object, or of a refusal.
+/// Audits the store in a folder, and writes the line of each object, or of a refusal.
 pub(crate) fn run_audit<K: Sink, G: StoreFile + Drop>(
     alloc: Global,
     sink: &mut K,
@@ -43,7 +31,13 @@ pub(crate) fn run_audit<K: Sink, G: StoreFile + Drop>(
     match end {
         Ok(()) => print_last_lines(lines, sink),
         Err(AuditFault::Refused(fault)) => print_mount_refusal(fault, sink, lines),
-        Err(AuditFault::Failed(fault)) => print_begun(lines, Status::FileFault(fault), sink),
-        Err(AuditFault::NoMemory) => print_begun(lines, Status::NoMemory, sink),
+        Err(AuditFault::Failed(fault)) => {
+            let _put = print_last_lines(lines, sink);
+            Status::FileFault(fault)
+        }
+        Err(AuditFault::NoMemory) => {
+            let _put = print_last_lines(lines, sink);
+            Status::NoMemory
+        }
     }
 }
