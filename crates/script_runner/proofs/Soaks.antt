@@ -160,7 +160,7 @@ module _ {F R : Type 0} (of_file : F → FileState) (of_port : R → PortState) 
         cause = t.0;
       }
       RunsSoak-through lines through Usage t = absurd t
-      RunsSoak-through lines through (FileFault broken) t = absurd t
+      RunsSoak-through lines through (FileFault other_fault) t = absurd t
       RunsSoak-through lines through (BadLine n) t = absurd t
       RunsSoak-through lines through ReadFault t = absurd t
       RunsSoak-through lines through (TooLong excess) t = absurd t
@@ -178,7 +178,7 @@ module _ {F R : Type 0} (of_file : F → FileState) (of_port : R → PortState) 
             → EndsActs of_file of_port image Reliable drew draws keys (soak_applications number) [] (soak_acts number) records (begins_with between) given status
         ends records refused Done t = absurd t
         ends records refused Usage t = absurd t
-        ends records refused (FileFault broken) t = absurd t
+        ends records refused (FileFault other_fault) t = absurd t
         ends records refused (BadLine n) t = absurd t
         ends records refused ReadFault t = absurd t
         ends records refused (TooLong excess) t = absurd t
@@ -192,7 +192,7 @@ module _ {F R : Type 0} (of_file : F → FileState) (of_port : R → PortState) 
             → (status : Status) → PrintsRefusal failed held_old held_new [] fault status → RunsSoak of_file of_port image Reliable keys number drew draws failed held_old held_new handed given status
         unprinted records is memory Done t = absurd t
         unprinted records is memory Usage t = absurd t
-        unprinted records is memory (FileFault broken) t = absurd t
+        unprinted records is memory (FileFault other_fault) t = absurd t
         unprinted records is memory (BadLine n) t = absurd t
         unprinted records is memory ReadFault t = absurd t
         unprinted records is memory (TooLong excess) t = absurd t
