@@ -27,4 +27,3 @@ pub mod ScriptReading
 pub mod Sending
 pub mod Blank
 pub mod Port
-pub mod Audits
