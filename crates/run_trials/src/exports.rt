@@ -19,12 +19,12 @@ use tee_ports::{FileRig, Image};
 use tee_types::BENCH_FILES;
 
 /// Makes the store that is exported.
-const MADE: &str = "app a 00000000-0000-0000-0000-000000000001
+pub const MADE: &str = "app a 00000000-0000-0000-0000-000000000001
 a create 6b657931 rwm a0a1a2a3a4a5a6a7a8a9aaabacadaeaf 000102030405060708090a0b0c0d0e0f101112131415161718191a1b1c1d1e1f
 ";
 
-// Exports what the script leaves of a bench into a folder.
-fn export<W: Threads + Wait + Sync>(
+/// Exports what the script leaves of a bench into a folder.
+pub fn export<W: Threads + Wait + Sync>(
     rt: &W,
     alloc: Global,
     script: &str,
@@ -111,8 +111,8 @@ struct Failed {
     told: bool,
 }
 
-// Lets the file of a number fail at its first call.
-fn fail_first(files: &mut Vec<MemFile>, number: u16) -> anyhow::Result<()>
+/// Lets the file of a number fail at its first call.
+pub fn fail_first(files: &mut Vec<MemFile>, number: u16) -> anyhow::Result<()>
     ensures { vec_len files.new ≡ vec_len files.old }
 {
     match files.get_mut(usize::from(number)) {

@@ -37,6 +37,11 @@
 //! number, and the last as the card's block. Then a file of the folder fails at its first call, or a file of the bench does, one after another: the
 //! export tells which, and the bench stays.
 //!
+//! The lines behind it are of audits. That store is exported and audited: the line of its object has the length of a certificate and its SHA-256. Then
+//! a byte of its block is changed in the folder, and one of its first node: the block is told as bad, and the object as damaged. Then one
+//! file of the folder after another fails at its first call: the audit tells which. The certificate itself is refused where its last byte is another, or
+//! is missing.
+//!
 //! The last table is of files that are altered: the directory's, those of two objects, and the one that a create takes. They are put back as they
 //! were at each of five moments, and a byte of each field of their heads, nodes and blocks is changed, before a phase or before one of the first twenty
 //! calls in it. Each answer behind that is the one of the file that was not altered, or tells of damage.
@@ -44,6 +49,7 @@
 
 use acts::ACTS;
 use altered::altered_lines;
+use audits::audit_lines;
 use draws::draw_lines;
 use exports::export_line;
 use meetings::meeting_line;
@@ -62,7 +68,9 @@ use texts::Texts;
 
 mod acts;
 mod altered;
+mod audits;
 mod busy;
+mod certificates;
 mod devices;
 mod draws;
 mod exports;
@@ -149,5 +157,6 @@ fn main(rt: HostRuntime) -> anyhow::Result<()> {
     print_line(&rt, cut_lines(&rt, rt.alloc())?.trim_end())?;
     print_line(&rt, migration_line(&rt, rt.alloc())?.as_str())?;
     print_line(&rt, export_line(&rt, rt.alloc())?.as_str())?;
+    print_line(&rt, audit_lines(&rt, rt.alloc())?.trim_end())?;
     print_line(&rt, altered_lines(&rt, rt.alloc())?.as_str())
 }
