@@ -72,7 +72,14 @@ pub fn answer<W: Files<File = File> + AllocGlobal>(
         Err(fault) => bail!("the store in {folder} is not opened: {fault:?}"),
     };
     let applications = [application()];
-    match serve_serially(alloc, opening, &KEYS, &entropy, &applications, calls.as_slice()) {
+    match serve_serially(
+        alloc,
+        opening,
+        &KEYS,
+        &entropy,
+        &applications,
+        calls.as_slice(),
+    ) {
         Ok(Closed { history, .. }) => match telling_reply(&history) {
             Some(reply) => reply_text(alloc, reply),
             None => bail!("the call has no reply"),

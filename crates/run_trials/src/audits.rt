@@ -29,7 +29,10 @@ fn audit<W: Threads + Wait + Sync>(
     ensures files { IfOk result (λ ended. vec_len ended.bench.files ≡ file_count) }
     ensures folder { vec_len folder.new ≡ folder_count }
 {
-    let words = vec![in alloc; String::from_str(alloc, "audit")?, String::from_str(alloc, "a")?]?;
+    let words = vec![in alloc;
+        String::from_str(alloc, "audit")?,
+        String::from_str(alloc, "a")?,
+    ]?;
     run_into(rt, alloc, &words, "", bench, &mut reliable(), folder)
 }
 

@@ -53,13 +53,19 @@ fn tree_in(
 }
 
 // The certificate of the first entry of the directory.
-fn certificate_in(alloc: Global, keys: &Keys, folder: &[MemFile], root: RootRef) -> anyhow::Result<Vec<u8>> {
+fn certificate_in(
+    alloc: Global,
+    keys: &Keys,
+    folder: &[MemFile],
+    root: RootRef,
+) -> anyhow::Result<Vec<u8>> {
     let key = dir_tsk(&ssk(keys));
     let mut dir = tree_in(alloc, folder, DIRECTORY_FILE, &key, root)?;
     if root.version > 1 || dir.head().greatest != 8 {
         bail!("no directory");
     }
-    let Ok(listed) = DirFile::load(alloc, copy_of(alloc, folder, DIRECTORY_FILE)?, &key, root) else {
+    let Ok(listed) = DirFile::load(alloc, copy_of(alloc, folder, DIRECTORY_FILE)?, &key, root)
+    else {
         bail!("no directory");
     };
     let entry = listed
@@ -82,7 +88,12 @@ fn certificate_in(alloc: Global, keys: &Keys, folder: &[MemFile], root: RootRef)
 }
 
 // The block of the object that is told as bad.
-fn bad_block(alloc: Global, block: &[u8; 256], keys: &Keys, certificate: &[u8]) -> anyhow::Result<u32> {
+fn bad_block(
+    alloc: Global,
+    block: &[u8; 256],
+    keys: &Keys,
+    certificate: &[u8],
+) -> anyhow::Result<u32> {
     match check(alloc, block, keys, certificate) {
         Err(CertFault::Object(ProofFault::BadTag { block, .. })) => Ok(block),
         _ => bail!("no bad block"),
@@ -90,7 +101,12 @@ fn bad_block(alloc: Global, block: &[u8; 256], keys: &Keys, certificate: &[u8]) 
 }
 
 // Where the form is told to end.
-fn form_end(alloc: Global, block: &[u8; 256], keys: &Keys, certificate: &[u8]) -> anyhow::Result<u32> {
+fn form_end(
+    alloc: Global,
+    block: &[u8; 256],
+    keys: &Keys,
+    certificate: &[u8],
+) -> anyhow::Result<u32> {
     match check(alloc, block, keys, certificate) {
         Err(CertFault::Form { at }) => Ok(at),
         _ => bail!("no other form"),

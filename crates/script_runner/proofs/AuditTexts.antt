@@ -1,5 +1,5 @@
 -- What the run of an audit puts.
-use Rattle.std.proofs.Common.{ℕ, ◌≡◌, ◌⊎◌, ◌∙◌, List, [], ◌++◌, Option, Ok, Err, inl, inr, refl, sym, subst}
+use Rattle.std.proofs.Common.{ℕ, ◌∙◌, List, [], ◌++◌, Option, Ok, Err, inl, inr, refl, sym, subst}
 use Rattle.std.proofs.lemmas.List.{append-nil}
 use Rattle.hmac_keys.specs.declared.Keys.{Keys}
 use Rattle.object_calls.specs.OpeningFiles.{no_file}
@@ -15,8 +15,7 @@ use Rattle.script_runner.specs.declared.status.Status.{Status}
 use Rattle.script_runner.specs.declared.status.Status.TheVariants.{BadLine, DeviceFault, Done, FileFault, MountRefused, NoMemory, ReadFault, TooLong, Usage, WriteFault}
 use Rattle.script_runner.specs.Audits.{RunsAudit}
 use Rattle.script_runner.specs.Prints.{PrintsLines, PrintsRefusal}
-use Rattle.script_runner.specs.RunRefusals.{IsDeviceFault, IsRefusal, MayWantMemory}
-use Rattle.script_runner.specs.Sending.{Begins}
+use Rattle.script_runner.specs.RunRefusals.{IsDeviceFault, IsRefusal}
 
 module _ (keys : Keys) (failed : Type 0) (held_old held_new : Option (List ℕ)) (old new : FolderStates) (lines : List ℕ) where
   -- all lines of the objects

@@ -47,8 +47,12 @@ pub fn form_of(words: &[String]) -> Option<Form>
         [word] if word.as_bytes() == b"run".as_slice() => Some(Form::Run),
         [word] if word.as_bytes() == b"migrate".as_slice() => Some(Form::Migrate),
         [word, number] if word.as_bytes() == b"soak".as_slice() => soak_of(number),
-        [word, path] if word.as_bytes() == b"export".as_slice() && is_path(path) => Some(Form::Export),
-        [word, path] if word.as_bytes() == b"audit".as_slice() && is_path(path) => Some(Form::Audit),
+        [word, path] if word.as_bytes() == b"export".as_slice() && is_path(path) => Some(
+            Form::Export,
+        ),
+        [word, path] if word.as_bytes() == b"audit".as_slice() && is_path(path) => Some(
+            Form::Audit,
+        ),
         _ => None,
     }
 }

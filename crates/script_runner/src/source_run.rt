@@ -64,11 +64,11 @@ pub(crate) fn run_source<
 ) -> RunEnd<F, R>
     requires { vec_len bench.files ≡ file_count }
     ensures run { RunsSource F.state R.state F.crash_image (E.is_reliable entropy.old) (S.left source.old) (S.left source.new) (K.held sink.old) (K.held sink.new) (record {
-          source_failed = Rose (S.faults source.old) (S.faults source.new);
-          source_ended = S.has_ended source.new;
-          sink_failed = Rose (K.faults sink.old) (K.faults sink.new);
-          sink_full = K.is_full sink.new;
-        }) (E.faults entropy.old) (E.faults entropy.new) keys.now (bench_state F.state R.state bench) (bench_state F.state R.state result.bench) result.status }
+      source_failed = Rose (S.faults source.old) (S.faults source.new);
+      source_ended = S.has_ended source.new;
+      sink_failed = Rose (K.faults sink.old) (K.faults sink.new);
+      sink_full = K.is_full sink.new;
+    }) (E.faults entropy.old) (E.faults entropy.new) keys.now (bench_state F.state R.state bench) (bench_state F.state R.state result.bench) result.status }
     ensures counted { K.faults sink.old ≤ K.faults sink.new }
     ensures whole { vec_len result.bench.files ≡ file_count }
 {

@@ -58,7 +58,8 @@ pub fn status_text(status: &Status) -> &'static str
 {
     match status {
         Status::Done => "",
-        Status::Usage => "usage: tee_run run | tee_run soak N | tee_run migrate | tee_run export PATH | tee_run audit PATH",
+        Status::Usage =>
+            "usage: tee_run run | tee_run soak N | tee_run migrate | tee_run export PATH | tee_run audit PATH",
         Status::BadLine(_) => "bad line",
         Status::ReadFault => "read fault",
         Status::WriteFault => "write fault",

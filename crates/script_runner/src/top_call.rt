@@ -140,9 +140,7 @@ pub fn run<
         Some(Form::Run) => run_source(rt, alloc, source, sink, bench, keys, entropy),
         Some(Form::Soak(number)) => run_soak(rt, alloc, number, sink, bench, keys, entropy),
         Some(Form::Migrate) => run_migration(alloc, sink, bench, keys, entropy),
-        Some(Form::Export) => {
-            run_export(rt, alloc, source, sink, bench, keys, entropy, folder)
-        }
+        Some(Form::Export) => { run_export(rt, alloc, source, sink, bench, keys, entropy, folder) }
         Some(Form::Audit) => {
             let status = run_audit(alloc, sink, keys, folder);
             RunEnd { status, bench }

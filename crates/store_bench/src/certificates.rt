@@ -40,11 +40,7 @@ fn object_key() -> [u8; 32] {
 }
 
 // The directory with one entry, in its tree.
-fn directory_of(
-    alloc: Global,
-    entry: &DirEntry,
-) -> anyhow::Result<(Tree<MemFile>, RootRef)>
-{
+fn directory_of(alloc: Global, entry: &DirEntry) -> anyhow::Result<(Tree<MemFile>, RootRef)> {
     let mut pages = vec![in alloc; [0u8; 4096]; 8]?;
     let record = entry.to_bytes();
     pages[0][..128].copy_from_slice(&record);

@@ -43,9 +43,7 @@ fn folder_files<'a, R: Files<File = File> + AllocGlobal + Drop>(
 }
 
 /// Runs the script on standard input over devices that were never used, and the folder that the words speak of.
-fn run_standard<
-    W: Files<File = File> + Input + Print + AllocGlobal + Threads + Wait + Sync + Drop,
->(
+fn run_standard<W: Files<File = File> + Input + Print + AllocGlobal + Threads + Wait + Sync + Drop>(
     rt: &W,
     words: &[String],
 ) -> Status {

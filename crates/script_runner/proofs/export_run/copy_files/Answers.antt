@@ -22,7 +22,7 @@ returns g c =
     copies_starved state g.G.StoreFile.state old new c.args.folder.now c.export_files.new.folder c.args.block.now
     c.export_files.ensures.rests c.export_files.ensures.goes_on c.in-Err.fault c.in-Err.ensures.err
     (λ had.
-        let counted : c.deref.result.now ≡ map (λ (f : g.row.F.Denot). (state f).starved) old = c.deref.ensures.value ∙ c.in-Ok.ensures in
-        let same = fed_counts state old new (sym c.export_files.auto.files) had ∙ sym counted in
-        let yes = c.had_memory.ensures.same.1 same in
-        cc)
+    let counted : c.deref.result.now ≡ map (λ (f : g.row.F.Denot). (state f).starved) old = c.deref.ensures.value ∙ c.in-Ok.ensures in
+    let same = fed_counts state old new (sym c.export_files.auto.files) had ∙ sym counted in
+    let yes = c.had_memory.ensures.same.1 same in
+    cc)
