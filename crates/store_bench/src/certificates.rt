@@ -39,11 +39,17 @@ fn object_key() -> [u8; 32] {
     tsk(&ssk(&KEYS), &APP)
 }
 
+// The directory's first page, with one entry.
+fn first_page(entry: &DirEntry) -> [u8; 4096] {
+    let mut page = [0; 4096];
+    page[..128].copy_from_slice(&entry.to_bytes());
+    page
+}
+
 // The directory with one entry, in its tree.
 fn directory_of(alloc: Global, entry: &DirEntry) -> anyhow::Result<(Tree<MemFile>, RootRef)> {
     let mut pages = vec![in alloc; [0u8; 4096]; 8]?;
-    let record = entry.to_bytes();
-    pages[0][..128].copy_from_slice(&record);
+    pages[0] = first_page(entry);
     let mut entropy = ListEntropy::new([0; 16]);
     match Tree::make(
         alloc,
