@@ -33,15 +33,6 @@
 //! The line behind it is of migrations: a store of the old format is migrated while a device stops at one of its calls, crashed by four seeds,
 //! and migrated once more. Then all files are of the current format, and the objects are listed as they were, bad blocks and damage included.
 //!
-//! Then comes the line of exports. A store with one object is exported into a folder of files in memory: each must read as the bench's file of its
-//! number, and the last as the card's block. Then a file of the folder fails at its first call, or a file of the bench does, one after another: the
-//! export tells which, and the bench stays.
-//!
-//! The lines behind it are of audits. That store is exported and audited: the line of its object has the length of a certificate and its SHA-256. Then
-//! a byte of its block is changed in the folder, and one of its first node: the block is told as bad, and the object as damaged. Then one
-//! file of the folder after another fails at its first call: the audit tells which. The certificate itself is refused where its last byte is another, or
-//! is missing.
-//!
 //! The last table is of files that are altered: the directory's, those of two objects, and the one that a create takes. They are put back as they
 //! were at each of five moments, and a byte of each field of their heads, nodes and blocks is changed, before a phase or before one of the first twenty
 //! calls in it. Each answer behind that is the one of the file that was not altered, or tells of damage.
@@ -49,9 +40,7 @@
 
 use acts::ACTS;
 use altered::altered_lines;
-use audits::audit_lines;
 use draws::draw_lines;
-use exports::export_line;
 use meetings::meeting_line;
 use migrations::migration_line;
 use mishaps::{Device, Mishap};
@@ -68,12 +57,9 @@ use texts::Texts;
 
 mod acts;
 mod altered;
-mod audits;
 mod busy;
-mod certificates;
 mod devices;
 mod draws;
-mod exports;
 mod facts;
 mod folders;
 mod histories;
@@ -156,7 +142,5 @@ fn main(rt: HostRuntime) -> anyhow::Result<()> {
     print_line(&rt, soak_line(&rt, rt.alloc())?.as_str())?;
     print_line(&rt, cut_lines(&rt, rt.alloc())?.trim_end())?;
     print_line(&rt, migration_line(&rt, rt.alloc())?.as_str())?;
-    print_line(&rt, export_line(&rt, rt.alloc())?.as_str())?;
-    print_line(&rt, audit_lines(&rt, rt.alloc())?.trim_end())?;
     print_line(&rt, altered_lines(&rt, rt.alloc())?.as_str())
 }
