@@ -12,7 +12,7 @@ use tee_ports::{Failed, StoreFile};
 /// # Errors
 ///
 /// The call of the file failed.
-pub(crate) fn read_block<G: StoreFile>(file: &mut G) -> Result<[u8; 256], Failed>
+pub fn read_block<G: StoreFile>(file: &mut G) -> Result<[u8; 256], Failed>
     ensures block { IfOk result (IsBlockOf (G.state file.new)) }
     ensures rests { Rests (G.state file.old) (G.state file.new) }
     ensures passed { OnOk result (FilePassed (G.state file.old) (G.state file.new)) }

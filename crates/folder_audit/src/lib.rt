@@ -16,6 +16,7 @@ mod objects;
 mod order;
 mod reading;
 
+pub use block::read_block;
 pub use fault::{Audit, AuditFault};
 pub use folder::audit_folder;
 pub use laws::audited_objects_hold;

@@ -1,7 +1,7 @@
 // Files that are altered between two phases and in one, and what is answered then.
 
 use crate::devices::new_bench;
-use crate::runs::{reliable, try_script};
+use trial_runs::{reliable, try_script};
 use crate::table::{altered_head_line, altered_line};
 use anyhow::Context;
 use node_image::{FORMAT, block_offset, head_offset, node_offset};

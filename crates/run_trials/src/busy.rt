@@ -3,7 +3,7 @@
 use crate::devices::new_bench;
 use crate::histories::{answers_in, push_done_calls, unconfirmed_call};
 use crate::mishaps::{Mishap, Trouble};
-use crate::runs::{reliable, run_script};
+use trial_runs::{reliable, run_script};
 use crate::tries::push_arms;
 use anyhow::Context;
 use std::alloc::{AllocError, Global};

@@ -2,7 +2,7 @@
 
 use crate::devices::new_bench;
 use crate::facts::{Facts, facts_of};
-use crate::runs::{reliable, run_script};
+use trial_runs::{reliable, run_script};
 use anyhow::Context;
 use std::alloc::{AllocError, Global};
 use std::sync::Wait;

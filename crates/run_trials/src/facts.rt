@@ -5,7 +5,7 @@ ghost use Rattle.tee_types.specs.Limits.{file_count};
 
 use crate::devices::KeptBench;
 use crate::kept_port::KeptPort;
-use crate::runs::reliable;
+use trial_runs::reliable;
 use crate::trees::{Drawn, drawn_in};
 use aes_block::unwrap_key;
 use anyhow::{Context, bail};

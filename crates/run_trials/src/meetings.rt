@@ -4,7 +4,7 @@ ghost use Rattle.std.specs.Prelude.{◌≡◌, vec_len, IfOk};
 ghost use Rattle.tee_types.specs.Limits.{file_count};
 
 use crate::meeting_file::{Meeting, MeetingFile};
-use crate::runs::{reliable, run_script};
+use trial_runs::{reliable, run_script};
 use anyhow::bail;
 use script_runner::{Bench, CardPort, blank_bench};
 use std::alloc::{AllocError, Global};

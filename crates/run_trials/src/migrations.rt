@@ -7,7 +7,8 @@ use crate::devices::{KeptBench, arm, crash};
 use crate::kept_port::KeptPort;
 use crate::mishaps::{Device, Mishap, Trouble};
 use crate::old_stores::{LISTED, old_bench};
-use crate::runs::{Ran, reliable, run_words};
+use mem_files::MemFile;
+use trial_runs::{RanOver, reliable, run_words};
 use anyhow::{Context, bail};
 use script_runner::Bench;
 use std::alloc::{AllocError, Global};
@@ -46,7 +47,7 @@ fn kept_bench(alloc: Global) -> anyhow::Result<KeptBench>
 }
 
 // Migrates these devices.
-fn migrate<W: Threads + Wait + Sync>(rt: &W, alloc: Global, bench: KeptBench) -> anyhow::Result<Ran>
+fn migrate<W: Threads + Wait + Sync>(rt: &W, alloc: Global, bench: KeptBench) -> anyhow::Result<RanOver<MemFile, KeptPort>>
     requires { vec_len bench.files ≡ file_count }
     ensures { IfOk result (λ ran. vec_len ran.bench.files ≡ file_count) }
 {

@@ -5,7 +5,7 @@ ghost use Rattle.tee_types.specs.Limits.{file_count};
 
 use crate::devices::{KeptBench, arm, crash, new_bench};
 use crate::mishaps::{Device, Trouble};
-use crate::runs::{failing, reliable, run_script, try_script};
+use trial_runs::{failing, reliable, run_script, try_script};
 use crate::tally::Outcome;
 use crate::tries::FIRST;
 use anyhow::Context;

@@ -3,7 +3,7 @@
 use crate::devices::new_bench;
 use crate::histories::{call_in, push_done_calls};
 use crate::machine::Machine;
-use crate::runs::{reliable, run_script};
+use trial_runs::{reliable, run_script};
 use anyhow::{Context, bail};
 use script_text::{Script, parse};
 use seed_words::SeedEntropy;

@@ -2,7 +2,7 @@
 
 use crate::devices::new_bench;
 use crate::machine::Machine;
-use crate::runs::{reliable, run_words};
+use trial_runs::{reliable, run_words};
 use seed_words::soak_script;
 use sha2::{Digest, Sha256};
 use std::alloc::Global;

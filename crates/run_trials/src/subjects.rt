@@ -2,7 +2,7 @@
 
 use crate::mishaps::{Device, Mishap, Trouble};
 use crate::openings::{Opening, try_opening};
-use crate::runs::MOST_CALLS;
+use trial_runs::MOST_CALLS;
 use crate::tally::{Outcome, Tally};
 use crate::texts::Texts;
 use crate::tries::try_act;

@@ -3,7 +3,7 @@
 use crate::acts::Act;
 use crate::devices::new_bench;
 use crate::mishaps::{Arm, Device, Mishap, Trouble};
-use crate::runs::{failing_sessions, reliable, run_script};
+use trial_runs::{failing_sessions, reliable, run_script};
 use crate::tally::Outcome;
 use crate::texts::Texts;
 use anyhow::Context;

@@ -1,6 +1,6 @@
 // The run of a row, beside what it must do.
 
-use crate::folders::new_folder;
+use trial_runs::new_folder;
 use crate::rows::bench::bench_for;
 use crate::rows::ends::status_text;
 use crate::rows::row::Row;

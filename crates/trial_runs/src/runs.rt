@@ -1,11 +1,10 @@
-// The run of a script over devices in memory.
+//! The run of a script over simulated devices.
 
 ghost use Rattle.std.specs.Prelude.{◌≡◌, vec_len, IfOk};
 ghost use Rattle.tee_types.specs.Limits.{file_count};
 ghost use Rattle.folder_export.specs.Folders.{folder_count};
 
 use crate::folders::new_folder;
-use crate::kept_port::KeptPort;
 use anyhow::{Context, bail};
 use mem_files::MemFile;
 use rpmb_card::CardRig;
@@ -15,25 +14,27 @@ use std::sync::Wait;
 use std::thread::Threads;
 use tee_ports::{Entropy, FileRig, ListEntropy, MemSink, MemSource};
 
-/// How a run ended, what it put, and the devices as it left them.
+/// How a run ended, what it put, and the devices as it left them, where it was done or a mount was refused.
 #[derive(Drop)]
 pub struct RanOver<F, R> {
     /// No mount was refused.
     pub is_done: bool,
+    /// What it put.
     pub output: String,
+    /// The devices.
     pub bench: Bench<F, R>,
 }
 
 /// How a run ended, what it put, and the devices as it left them, whatever its end.
 #[derive(Drop)]
 pub struct Ended<F, R> {
+    /// Its end.
     pub status: Status,
+    /// What it put, of up to 65,536 bytes.
     pub output: String,
+    /// The devices.
     pub bench: Bench<F, R>,
 }
-
-/// A run over files in memory and a card that keeps its frames.
-pub type Ran = RanOver<MemFile, KeptPort>;
 
 /// More calls of a device than a run here makes.
 pub const MOST_CALLS: u64 = 64;
@@ -73,6 +74,10 @@ fn is_done(status: &Status) -> anyhow::Result<bool> {
 }
 
 /// Does what the words say over these devices and this folder, with a script to read.
+///
+/// # Errors
+///
+/// Memory ran out, or what was put is no text.
 pub fn run_into<W: Threads + Wait + Sync, F: FileRig + Drop + Send, R: CardRig + Drop + Send>(
     rt: &W,
     alloc: Global,
@@ -110,6 +115,10 @@ pub fn run_into<W: Threads + Wait + Sync, F: FileRig + Drop + Send, R: CardRig +
 }
 
 /// Does what the words say over these devices, with a script to read.
+///
+/// # Errors
+///
+/// Memory ran out, or the run had another end.
 pub fn run_words<W: Threads + Wait + Sync, F: FileRig + Drop + Send, R: CardRig + Drop + Send>(
     rt: &W,
     alloc: Global,
@@ -131,6 +140,10 @@ pub fn run_words<W: Threads + Wait + Sync, F: FileRig + Drop + Send, R: CardRig 
 }
 
 /// Runs a script over these devices.
+///
+/// # Errors
+///
+/// Memory ran out, or the run had another end.
 pub fn try_script<W: Threads + Wait + Sync, F: FileRig + Drop + Send, R: CardRig + Drop + Send>(
     rt: &W,
     alloc: Global,
@@ -146,6 +159,10 @@ pub fn try_script<W: Threads + Wait + Sync, F: FileRig + Drop + Send, R: CardRig
 }
 
 /// The same, for a script whose run is done.
+///
+/// # Errors
+///
+/// Memory ran out, or the run was not done.
 pub fn run_script<W: Threads + Wait + Sync, F: FileRig + Drop + Send, R: CardRig + Drop + Send>(
     rt: &W,
     alloc: Global,

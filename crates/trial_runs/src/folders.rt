@@ -1,4 +1,4 @@
-// Folders of files in memory.
+//! Folders of files in memory.
 
 ghost use Rattle.std.specs.Prelude.{◌≡◌, vec_len, IfOk};
 ghost use Rattle.folder_export.specs.Folders.{folder_count};
@@ -8,6 +8,10 @@ use script_runner::FOLDER_FILES;
 use std::alloc::{AllocError, Global};
 
 /// A folder of empty files.
+///
+/// # Errors
+///
+/// Memory ran out.
 pub fn new_folder(alloc: Global) -> Result<Vec<MemFile>, AllocError>
     ensures { IfOk result (λ folder. vec_len folder ≡ folder_count) }
 {

@@ -1,0 +1,75 @@
+-- What is opened, over a port that tells its card, and a file of the directory that can be followed.
+use Rattle.std.specs.Prelude.{◌≡◌, ◌≢◌, ℕ, ◌<◌, List, replicate, Option, Some, IfSome, Ok, IsTrue}
+use Rattle.disk_model.specs.State.{FileState}
+use Rattle.node_image.specs.Selection.{bytes_at}
+use Rattle.htree_file.specs.Standing.{Told}
+use Rattle.hmac_keys.specs.declared.Keys.{Keys}
+use Rattle.hmac_keys.specs.KeyTable.{rpmb_key}
+use Rattle.tee_types.specs.Limits.{directory_file}
+use Rattle.rpmb_card.specs.Card.{CardState}
+use Rattle.rpmb_card.specs.Port.{PortState}
+use Rattle.rpmb_host.specs.Honest.{HasCard, written_card}
+use Rattle.crash_core.specs.Mounting.{mounted}
+use Rattle.crash_core.specs.Opening.{opening_map, reads_of}
+use Rattle.crash_core.specs.Pictures.{block_zero}
+use Rattle.object_calls.specs.Opening.{OpeningValue, bench_files, entries_in}
+use Rattle.tee_types.specs.declared.reply.Cause.TheVariants.{Fault}
+use Rattle.tee_types.specs.declared.reply.Device.TheVariants.{Card}
+use Rattle.store_commit.specs.declared.fault.MountFault.TheVariants.{Failed}
+use Rattle.kept_store.specs.declared.fault.OpenFault.{OpenFault}
+use Rattle.kept_store.specs.declared.fault.OpenFault.TheVariants.{Block, Store}
+
+-- the block of a card that no store was made on
+abbrev pub blank_block : List ℕ
+blank_block = replicate 256 0
+
+-- The card was written, and its block 0 is that of a store.
+pub record NamesStore (port : PortState) (key : List ℕ) (card : CardState) : Type 0 where
+  pub has : HasCard port key card
+  pub written : 0 < card.counter
+  pub named : block_zero card ≢ blank_block
+
+-- The card was never written, and a file tells the block that was exported.
+pub record NamesExport (port : PortState) (key : List ℕ) (file : FileState) (card : CardState) : Type 0 where
+  pub has : HasCard port key card
+  pub unwritten : card.counter ≡ 0
+  pub tells : IsTrue file.tells
+  pub named : bytes_at file.reads 0 256 ≢ blank_block
+
+-- the files, as they read, and this card mount to the objects of what is open
+abbrev pub OpensWith : {F R : Type 0} → (F → FileState) → Keys → OpeningValue F R → CardState → Type 0
+OpensWith state keys o card =
+    mounted keys (record { images = reads_of (bench_files state o); card = card }) ≡ Ok (opening_map keys (bench_files state o) (entries_in o))
+
+-- A store that was there is the one that is opened, under the block that the card had.
+abbrev pub OpensStore : {F R : Type 0} → (F → FileState) → (dir : FileState) → PortState → Keys → OpeningValue F R → Type 0
+OpensStore state dir port keys o =
+    Told dir (bench_files state o directory_file) → (card : CardState) → NamesStore port (rpmb_key keys.huk) card → OpensWith state keys o card
+
+-- A store that was exported is opened under the block that was exported, which is written into the card.
+abbrev pub OpensExport : {F R : Type 0} → (F → FileState) → (dir : FileState) → PortState → (exported : FileState) → Keys → OpeningValue F R → Type 0
+OpensExport state dir port exported keys o =
+    Told dir (bench_files state o directory_file) → (card : CardState) → NamesExport port (rpmb_key keys.huk) exported card
+    → OpensWith state keys o (written_card card 0 0 (bytes_at exported.reads 0 256))
+
+-- the card that a port tells has this block 0
+abbrev pub HasBlock : Option CardState → (block : List ℕ) → Type 0
+HasBlock told block = IfSome told (λ card. block_zero card ≡ block)
+
+-- What becomes of the card before the store is opened: one that was written stays, and one that was not has the block that was exported.
+pub record TakesOver (old new : PortState) (key : List ℕ) (exported : FileState) : Type 0 where
+  pub stays : (card : CardState) → HasCard old key card → 0 < card.counter → new.card ≡ old.card
+  pub takes : (card : CardState) → NamesExport old key exported card
+      → (new.card ≡ Some (written_card card 0 0 (bytes_at exported.reads 0 256))) × HasBlock new.card (bytes_at exported.reads 0 256)
+
+-- where the card names a store, this
+abbrev pub KeepsStore : PortState → (key : List ℕ) → Type 0 → Type 0
+KeepsStore port key Kept = (card : CardState) → HasCard port key card → block_zero card ≢ blank_block → Kept
+
+-- the fault is of the exported block's file, with a count of which this holds
+abbrev pub IfBlock : (ℕ → Type 0) → OpenFault → Type 0
+IfBlock Holds (Block count) = Holds count
+IfBlock Holds fault = Unit {0}
+
+abbrev pub card_failed : ℕ → OpenFault
+card_failed count = Store (Failed (Fault Card count))

@@ -1,0 +1,69 @@
+//! Taking over a store that was exported: its block is put into a card that was never written.
+
+ghost use Rattle.std.specs.Prelude.{◌≡◌, IfErr, OnOk};
+ghost use Rattle.disk_model.specs.Calls.{Rests};
+ghost use Rattle.htree_file.specs.Answers.{FileFailed};
+ghost use Rattle.kept_store.specs.Kept.{IfBlock, TakesOver, card_failed};
+
+use crate::fault::OpenFault;
+use folder_audit::read_block;
+use rpmb_card::RpmbPort;
+use rpmb_host::{Host, HostFault};
+use store_commit::{CardRead, MountFault, read_card};
+use tee_ports::{Entropy, StoreFile};
+use tee_types::{Cause, Device};
+
+/// The number of the file into which an export puts the card's block 0.
+pub(crate) const BLOCK_FILE: u16 = 274;
+
+/// Puts an exported block into a card that was never written, where there is one.
+///
+/// # Errors
+///
+/// `Block` where the file failed; `Store` where the card did, or its answer is refused.
+pub(crate) fn take_over<G: StoreFile, R: RpmbPort, E: Entropy>(
+    host: &mut Host<R>,
+    exported: &mut G,
+    entropy: &mut E,
+) -> Result<(), OpenFault>
+    ensures key { host.new.key ≡ host.old.key }
+    ensures rests { Rests (G.state exported.old) (G.state exported.new) }
+    ensures takes { OnOk result (TakesOver (R.state host.old.port) (R.state host.new.port) host.old.key (G.state exported.new)) }
+    ensures failed { IfErr result (IfBlock (λ count. FileFailed (G.state exported.old) (G.state exported.new) count)) }
+{
+    let counter = match read_card(host, entropy) {
+        Ok(CardRead { counter, .. }) => counter,
+        Err(fault) => return Err(OpenFault::Store(fault)),
+    };
+    if counter > 0 {
+        return Ok(());
+    }
+    match read_block(exported) {
+        Ok(block) if block == [0; 256] => Ok(()),
+        Ok(block) => write_first(host, &block),
+        Err(failed) => Err(OpenFault::Block {
+            count: failed.count,
+        }),
+    }
+}
+
+// Writes block 0 of a card that was never written.
+fn write_first<R: RpmbPort>(host: &mut Host<R>, block: &[u8; 256]) -> Result<(), OpenFault> {
+    match host.write_block(0, 0, block) {
+        Ok(_) => Ok(()),
+        Err(HostFault::Failed { count }) => Err(failed_card(count)),
+        Err(HostFault::BadFrame(fault)) => Err(OpenFault::Store(MountFault::Frame(fault))),
+        Err(HostFault::CardResult(result)) => Err(OpenFault::Store(MountFault::CardResult(result))),
+        Err(HostFault::Spent) => Err(OpenFault::Store(MountFault::Spent)),
+    }
+}
+
+/// The fault of a card whose exchange failed.
+pub(crate) fn failed_card(count: u64) -> OpenFault
+    ensures { result ≡ card_failed count }
+{
+    OpenFault::Store(MountFault::Failed(Cause::Fault {
+        device: Device::Card,
+        count,
+    }))
+}
