@@ -3,7 +3,7 @@ use Rattle.std.proofs.Common.{ℕ, refl, ◌∙◌, subst}
 use Rattle.disk_model.specs.Faults.{Rose}
 use Rattle.disk_model.specs.State.{FileState}
 use Rattle.disk_model.specs.Calls.{GoesOn}
-use Rattle.tee_ports.specs.Files.{Fails, Passes}
+use Rattle.tee_ports.specs.Files.{Passes}
 use Rattle.folder_export.specs.declared.fault.FilePlace.{FilePlace}
 use Rattle.folder_export.specs.declared.fault.FilePlace.TheVariants.{Bench, Folder}
 use Rattle.folder_export.specs.Copies.{FileFailed, OneFailed}
@@ -13,9 +13,6 @@ passes_none s = record { faults = refl; starved = refl }
 
 pub passes_then : (a b c : FileState) → Passes a b → Passes b c → Passes a c
 passes_then a b c first second = record { faults = second.faults ∙ first.faults; starved = second.starved ∙ first.starved }
-
-pub failed_once : (a b : FileState) (count : ℕ) → Fails a b count → FileFailed a b count
-failed_once a b count fails = record { rose = fails.rose; carried = fails.carried; calm = fails.calm }
 
 pub failed_then : (a b c : FileState) (count : ℕ) → GoesOn a b → Passes a b → FileFailed b c count → FileFailed a c count
 failed_then a b c count goes passed failed = record {
