@@ -1,5 +1,5 @@
 -- What is opened, over a port that tells its card, and a file of the directory that can be followed.
-use Rattle.std.specs.Prelude.{◌≡◌, ◌≢◌, ℕ, ◌<◌, List, replicate, Option, Some, IfSome, Ok, IsTrue}
+use Rattle.std.specs.Prelude.{◌≡◌, ◌<◌, ℕ, List, Option, Some, IfSome, Ok, Err, IsTrue}
 use Rattle.disk_model.specs.State.{FileState}
 use Rattle.node_image.specs.Selection.{bytes_at}
 use Rattle.htree_file.specs.Standing.{Told}
@@ -9,6 +9,8 @@ use Rattle.tee_types.specs.Limits.{directory_file}
 use Rattle.rpmb_card.specs.Card.{CardState}
 use Rattle.rpmb_card.specs.Port.{PortState}
 use Rattle.rpmb_host.specs.Honest.{HasCard, written_card}
+use Rattle.crash_core.specs.CardBlock.{root_in}
+use Rattle.crash_core.specs.Refusal.{NoStore}
 use Rattle.crash_core.specs.Mounting.{mounted}
 use Rattle.crash_core.specs.Opening.{opening_map, reads_of}
 use Rattle.crash_core.specs.Pictures.{block_zero}
@@ -19,22 +21,22 @@ use Rattle.store_commit.specs.declared.fault.MountFault.TheVariants.{Failed}
 use Rattle.kept_store.specs.declared.fault.OpenFault.{OpenFault}
 use Rattle.kept_store.specs.declared.fault.OpenFault.TheVariants.{Block, Store}
 
--- the block of a card that no store was made on
-abbrev pub blank_block : List ℕ
-blank_block = replicate 256 0
+-- the block 0 of a card that no store was made on: all its bytes are zero
+abbrev pub IsBlank : (block : List ℕ) → Type 0
+IsBlank block = root_in block ≡ Err NoStore
 
 -- The card was written, and its block 0 is that of a store.
 pub record NamesStore (port : PortState) (key : List ℕ) (card : CardState) : Type 0 where
   pub has : HasCard port key card
   pub written : 0 < card.counter
-  pub named : block_zero card ≢ blank_block
+  pub named : ¬ IsBlank (block_zero card)
 
 -- The card was never written, and a file tells the block that was exported.
 pub record NamesExport (port : PortState) (key : List ℕ) (file : FileState) (card : CardState) : Type 0 where
   pub has : HasCard port key card
   pub unwritten : card.counter ≡ 0
   pub tells : IsTrue file.tells
-  pub named : bytes_at file.reads 0 256 ≢ blank_block
+  pub named : ¬ IsBlank (bytes_at file.reads 0 256)
 
 -- the files, as they read, and this card mount to the objects of what is open
 abbrev pub OpensWith : {F R : Type 0} → (F → FileState) → Keys → OpeningValue F R → CardState → Type 0
@@ -56,15 +58,19 @@ OpensExport state dir port exported keys o =
 abbrev pub HasBlock : Option CardState → (block : List ℕ) → Type 0
 HasBlock told block = IfSome told (λ card. block_zero card ≡ block)
 
+-- The port tells the card that this one is with that block 0, of which it is the first write.
+pub record WritesFirst (card : CardState) (new : PortState) (block : List ℕ) : Type 0 where
+  pub told : new.card ≡ Some (written_card card 0 0 block)
+  pub stands : HasBlock new.card block
+
 -- What becomes of the card before the store is opened: one that was written stays, and one that was not has the block that was exported.
 pub record TakesOver (old new : PortState) (key : List ℕ) (exported : FileState) : Type 0 where
   pub stays : (card : CardState) → HasCard old key card → 0 < card.counter → new.card ≡ old.card
-  pub takes : (card : CardState) → NamesExport old key exported card
-      → (new.card ≡ Some (written_card card 0 0 (bytes_at exported.reads 0 256))) × HasBlock new.card (bytes_at exported.reads 0 256)
+  pub takes : (card : CardState) → NamesExport old key exported card → WritesFirst card new (bytes_at exported.reads 0 256)
 
 -- where the card names a store, this
 abbrev pub KeepsStore : PortState → (key : List ℕ) → Type 0 → Type 0
-KeepsStore port key Kept = (card : CardState) → HasCard port key card → block_zero card ≢ blank_block → Kept
+KeepsStore port key Kept = (card : CardState) → HasCard port key card → ¬ IsBlank (block_zero card) → Kept
 
 -- the fault is of the exported block's file, with a count of which this holds
 abbrev pub IfBlock : (ℕ → Type 0) → OpenFault → Type 0

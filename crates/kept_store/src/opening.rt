@@ -12,7 +12,7 @@ ghost use Rattle.kept_store.specs.Kept.{IfBlock, KeepsStore, OpensExport, OpensS
 
 use crate::devices::{FolderDevices, folder_devices};
 use crate::fault::OpenFault;
-use crate::taking_over::{BLOCK_FILE, take_over};
+use crate::taking_over::{BLOCK_FILE, is_blank, take_over};
 use hmac_keys::{Keys, rpmb_key};
 use host_card::KeptCard;
 use host_folder::FolderFile;
@@ -44,7 +44,7 @@ fn format_blank<F: StoreFile + Drop, R: RpmbPort + Drop, E: Entropy>(
         Err(halted) => return Err(halted),
     };
     let BlockRead { bench, block } = read;
-    if block == [0; 256] {
+    if is_blank(&block) {
         format(alloc, bench, keys, entropy)
     } else {
         Ok(bench)

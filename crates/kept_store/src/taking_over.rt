@@ -1,15 +1,17 @@
 //! Taking over a store that was exported: its block is put into a card that was never written.
 
-ghost use Rattle.std.specs.Prelude.{◌≡◌, IfErr, OnOk};
+ghost use Rattle.std.specs.Prelude.{◌≡◌, ◌↔◌, IfErr, IsTrue, OnOk};
 ghost use Rattle.disk_model.specs.Calls.{Rests};
 ghost use Rattle.htree_file.specs.Answers.{FileFailed};
-ghost use Rattle.kept_store.specs.Kept.{IfBlock, TakesOver, card_failed};
+ghost use Rattle.rpmb_card.specs.Card.{CardState};
+ghost use Rattle.rpmb_host.specs.Honest.{HasCard};
+ghost use Rattle.kept_store.specs.Kept.{IfBlock, IsBlank, TakesOver, WritesFirst, card_failed};
 
 use crate::fault::OpenFault;
 use folder_audit::read_block;
 use rpmb_card::RpmbPort;
 use rpmb_host::{Host, HostFault};
-use store_commit::{CardRead, MountFault, read_card};
+use store_commit::{CardRead, MountFault, read_card, root_in};
 use tee_ports::{Entropy, StoreFile};
 use tee_types::{Cause, Device};
 
@@ -39,16 +41,36 @@ pub(crate) fn take_over<G: StoreFile, R: RpmbPort, E: Entropy>(
         return Ok(());
     }
     match read_block(exported) {
-        Ok(block) if block == [0; 256] => Ok(()),
-        Ok(block) => write_first(host, &block),
+        Ok(block) => {
+            if is_blank(&block) {
+                Ok(())
+            } else {
+                write_first(host, &block)
+            }
+        }
         Err(failed) => Err(OpenFault::Block {
             count: failed.count,
         }),
     }
 }
 
+/// Whether a block is of no store: all its bytes are zero.
+pub(crate) fn is_blank(block: &[u8; 256]) -> bool
+    ensures { IsTrue result ↔ IsBlank block.now }
+{
+    match root_in(block) {
+        Err(MountFault::NoStore) => true,
+        _ => false,
+    }
+}
+
 // Writes block 0 of a card that was never written.
-fn write_first<R: RpmbPort>(host: &mut Host<R>, block: &[u8; 256]) -> Result<(), OpenFault> {
+fn write_first<R: RpmbPort>(host: &mut Host<R>, block: &[u8; 256]) -> Result<(), OpenFault>
+    ensures key { host.new.key ≡ host.old.key }
+    ensures writes { OnOk result ((card : CardState) → HasCard (R.state host.old.port) host.old.key card → card.counter ≡ 0
+        → WritesFirst card (R.state host.new.port) block.now) }
+    ensures store { IfErr result (IfBlock (λ count. ⊥)) }
+{
     match host.write_block(0, 0, block) {
         Ok(_) => Ok(()),
         Err(HostFault::Failed { count }) => Err(failed_card(count)),
