@@ -1,11 +1,10 @@
 -- What a store that is opened has in it.
-use Rattle.std.proofs.Common.{◌≡◌, ◌∙◌, ◌×◌, ℕ, List, Some, IfSome, sym, ap, subst}
+use Rattle.std.proofs.Common.{◌≡◌, ◌∙◌, ℕ, List, sym, subst}
 use Rattle.disk_model.specs.State.{FileState}
 use Rattle.node_image.specs.Selection.{bytes_at}
 use Rattle.hmac_keys.specs.declared.Keys.{Keys}
 use Rattle.hmac_keys.specs.KeyTable.{rpmb_key}
 use Rattle.tee_types.specs.Limits.{directory_file}
-use Rattle.rpmb_card.specs.Card.{CardState}
 use Rattle.rpmb_card.specs.Port.{PortState}
 use Rattle.rpmb_host.specs.Honest.{HasCard, written_card}
 use Rattle.crash_core.specs.Pictures.{block_zero}
@@ -13,7 +12,7 @@ use Rattle.object_calls.specs.Begins.{MountsAsRead}
 use Rattle.htree_file.specs.Standing.{Told}
 use Rattle.object_calls.specs.Opening.{OpeningValue, bench_files}
 use Rattle.object_calls.specs.OpeningFiles.{files_of}
-use Rattle.kept_store.specs.Kept.{HasBlock, IsBlank, KeepsStore, NamesExport, NamesStore, OpensExport, OpensStore, TakesOver}
+use Rattle.kept_store.specs.Kept.{HasBlock, IsBlank, KeepsStore, OpensExport, OpensStore, TakesOver}
 
 -- what was mounted on the devices as they are is what they were handed in as
 pub kept_mounted : {F R : Type 0} (state : F → FileState) (keys : Keys) (o : OpeningValue F R) (key : List ℕ) (given kept : List F) (p0 p1 : PortState)
@@ -22,7 +21,7 @@ pub kept_mounted : {F R : Type 0} (state : F → FileState) (keys : Keys) (o : O
 kept_mounted state keys o key given kept p0 p1 same mounts = λ card has named told held has_held.
     let are = same card has named in
     mounts (subst (λ (files : List _). Told (files_of state files directory_file) (bench_files state o directory_file)) (sym are.0) told) held
-        (record { told = are.1 ∙ has_held.told; keyed = has_held.keyed })
+    (record { told = are.1 ∙ has_held.told; keyed = has_held.keyed })
 
 module _ {F R : Type 0} (state : F → FileState) (dir : FileState) (keys : Keys) (o : OpeningValue F R) (p0 p1 : PortState) (exported : FileState)
     (takes : TakesOver p0 p1 (rpmb_key keys.huk) exported) (mounts : KeepsStore p1 (rpmb_key keys.huk) (MountsAsRead state dir p1 keys o)) where

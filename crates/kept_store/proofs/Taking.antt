@@ -1,14 +1,13 @@
 -- What becomes of a card before its store is opened.
 use Rattle.std.proofs.Common.{◌≡◌, ◌∙◌, ◌<◌, ◌≤◌, ℕ, List, Some, Result, Ok, Err, OnOk, sym, ap, subst, arith}
 use Rattle.disk_model.specs.State.{FileState}
-use Rattle.node_image.specs.Selection.{bytes_at}
 use Rattle.rpmb_card.specs.Card.{CardState}
 use Rattle.rpmb_card.specs.Port.{PortState}
 use Rattle.rpmb_host.specs.Honest.{HasCard}
 use Rattle.store_commit.specs.Mounts.{Tells}
 use Rattle.folder_audit.specs.Reading.{IsBlockOf}
 use Rattle.kept_store.specs.declared.fault.OpenFault.{OpenFault}
-use Rattle.kept_store.specs.Kept.{IsBlank, NamesExport, TakesOver, WritesFirst}
+use Rattle.kept_store.specs.Kept.{IsBlank, TakesOver, WritesFirst}
 
 -- a card that was written stays
 pub written_stays : (old new : PortState) (key : List ℕ) (file : FileState) (counter : ℕ) (block : List ℕ)
@@ -16,8 +15,8 @@ pub written_stays : (old new : PortState) (key : List ℕ) (file : FileState) (c
 written_stays old new key file counter block tells stays some = record {
   stays = λ card has risen. stays;
   takes = λ card names.
-    let none : counter ≡ 0 = sym (tells card names.has).counted ∙ names.unwritten in
-    absurd (omega (arith, some, none));
+      let none : counter ≡ 0 = sym (tells card names.has).counted ∙ names.unwritten in
+      absurd (omega (arith, some, none));
 }
 
 -- one that was not stays where no block was exported
@@ -39,8 +38,8 @@ module _ (old mid new : PortState) (mid_key key : List ℕ) (file : FileState) (
   block_taken writes = record {
     stays = λ card has risen. let here : card.counter ≡ counter = (tells card has).counted in absurd (omega (arith, risen, here, none));
     takes = λ card names.
-      let has : HasCard mid mid_key card = record { told = stays ∙ names.has.told; keyed = names.has.keyed ∙ ap Some (sym kept) } in
-      subst (WritesFirst card new) (of_file names.tells) (writes card has names.unwritten);
+        let has : HasCard mid mid_key card = record { told = stays ∙ names.has.told; keyed = names.has.keyed ∙ ap Some (sym kept) } in
+        subst (WritesFirst card new) (of_file names.tells) (writes card has names.unwritten);
   }
 
   pub taken_at_end : (result : Result Unit OpenFault) → OnOk result WritesIt → OnOk result (TakesOver old new key file)

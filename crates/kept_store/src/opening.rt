@@ -1,6 +1,6 @@
 //! Opening a store: a new one, one that was closed, or one that was exported.
 
-ghost use Rattle.std.specs.Prelude.{◌≡◌, ◌≢◌, [], vec_len, IfErr, IfOk};
+ghost use Rattle.std.specs.Prelude.{◌≡◌, [], vec_len, IfErr, IfOk};
 ghost use Rattle.disk_model.specs.Calls.{Rests};
 ghost use Rattle.htree_file.specs.Answers.{FileFailed};
 ghost use Rattle.hmac_keys.specs.KeyTable.{rpmb_key};
