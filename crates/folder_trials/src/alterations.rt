@@ -40,28 +40,72 @@ const DIRECTORY: u16 = 273;
 
 const BLOCK: u16 = 274;
 
-const fn case(number: u16, alteration: Alteration) -> Case {
-    Case { number, alteration }
-}
-
 /// What is tried.
 pub const CASES: [Case; 16] = [
-    case(OBJECT, Alteration::Kept),
-    case(OBJECT, Alteration::Block),
-    case(OBJECT, Alteration::Node),
-    case(OBJECT, Alteration::Half),
-    case(OBJECT, Alteration::Longer),
-    case(OBJECT, Alteration::Missing),
-    case(OBJECT, Alteration::Foreign),
-    case(DIRECTORY, Alteration::Block),
-    case(DIRECTORY, Alteration::Half),
-    case(DIRECTORY, Alteration::Longer),
-    case(DIRECTORY, Alteration::Missing),
-    case(DIRECTORY, Alteration::Foreign),
-    case(BLOCK, Alteration::Half),
-    case(BLOCK, Alteration::Longer),
-    case(BLOCK, Alteration::Missing),
-    case(BLOCK, Alteration::Foreign),
+    Case {
+        number: OBJECT,
+        alteration: Alteration::Kept,
+    },
+    Case {
+        number: OBJECT,
+        alteration: Alteration::Block,
+    },
+    Case {
+        number: OBJECT,
+        alteration: Alteration::Node,
+    },
+    Case {
+        number: OBJECT,
+        alteration: Alteration::Half,
+    },
+    Case {
+        number: OBJECT,
+        alteration: Alteration::Longer,
+    },
+    Case {
+        number: OBJECT,
+        alteration: Alteration::Missing,
+    },
+    Case {
+        number: OBJECT,
+        alteration: Alteration::Foreign,
+    },
+    Case {
+        number: DIRECTORY,
+        alteration: Alteration::Block,
+    },
+    Case {
+        number: DIRECTORY,
+        alteration: Alteration::Half,
+    },
+    Case {
+        number: DIRECTORY,
+        alteration: Alteration::Longer,
+    },
+    Case {
+        number: DIRECTORY,
+        alteration: Alteration::Missing,
+    },
+    Case {
+        number: DIRECTORY,
+        alteration: Alteration::Foreign,
+    },
+    Case {
+        number: BLOCK,
+        alteration: Alteration::Half,
+    },
+    Case {
+        number: BLOCK,
+        alteration: Alteration::Longer,
+    },
+    Case {
+        number: BLOCK,
+        alteration: Alteration::Missing,
+    },
+    Case {
+        number: BLOCK,
+        alteration: Alteration::Foreign,
+    },
 ];
 
 impl Alteration {

@@ -208,7 +208,7 @@ fn untold<W: Threads + Wait + Sync>(
 
 /// The line of exports.
 pub fn export_line<W: Threads + Wait + Sync>(rt: &W, alloc: Global) -> anyhow::Result<String> {
-    let Exported { bench, folder } = exported(rt, alloc, 0)?;
+    let Exported { bench, folder } = export_made(rt, alloc, 0)?;
     let Imaged { bench, images } = images_to_write(alloc, bench)?;
     let same = same_files(alloc, &images, &folder)?;
     let once = written_once(&images, &folder);

@@ -3,12 +3,12 @@
 use crate::devices::new_bench;
 use crate::histories::{answers_in, push_done_calls, unconfirmed_call};
 use crate::mishaps::{Mishap, Trouble};
-use trial_runs::{reliable, run_script};
 use crate::tries::push_arms;
 use anyhow::Context;
 use std::alloc::{AllocError, Global};
 use std::sync::Wait;
 use std::thread::Threads;
+use trial_runs::{reliable, run_script};
 
 /// The sessions, each of an application of its own.
 const SESSIONS: &str =

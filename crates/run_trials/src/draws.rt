@@ -2,11 +2,11 @@
 
 use crate::devices::new_bench;
 use crate::facts::{Facts, facts_of};
-use trial_runs::{reliable, run_script};
 use anyhow::Context;
 use std::alloc::{AllocError, Global};
 use std::sync::Wait;
 use std::thread::Threads;
+use trial_runs::{reliable, run_script};
 
 /// The script of the first run.
 const MADE: &str = "app a 00000000-0000-0000-0000-000000000001\na create 6b rw - 01\n";

@@ -5,7 +5,6 @@ ghost use Rattle.tee_types.specs.Limits.{file_count};
 
 use crate::devices::KeptBench;
 use crate::kept_port::KeptPort;
-use trial_runs::reliable;
 use crate::trees::{Drawn, drawn_in};
 use aes_block::unwrap_key;
 use anyhow::{Context, bail};
@@ -18,6 +17,7 @@ use std::alloc::Global;
 use store_commit::{Gate, root_in};
 use tee_ports::FileRig;
 use tee_types::DIRECTORY_FILE;
+use trial_runs::reliable;
 
 /// The requests that carry a nonce: a read of the counter, and of a block.
 const WITH_NONCE: [u16; 2] = [2, 4];

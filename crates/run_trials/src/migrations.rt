@@ -7,13 +7,13 @@ use crate::devices::{KeptBench, arm, crash};
 use crate::kept_port::KeptPort;
 use crate::mishaps::{Device, Mishap, Trouble};
 use crate::old_stores::{LISTED, old_bench};
-use mem_files::MemFile;
-use trial_runs::{RanOver, reliable, run_words};
 use anyhow::{Context, bail};
+use mem_files::MemFile;
 use script_runner::Bench;
 use std::alloc::{AllocError, Global};
 use std::sync::Wait;
 use std::thread::Threads;
+use trial_runs::{RanOver, reliable, run_words};
 
 /// The devices that a migration calls: both files that a directory may have, those of the objects, those that they are moved into, and the
 /// card.
@@ -47,7 +47,11 @@ fn kept_bench(alloc: Global) -> anyhow::Result<KeptBench>
 }
 
 // Migrates these devices.
-fn migrate<W: Threads + Wait + Sync>(rt: &W, alloc: Global, bench: KeptBench) -> anyhow::Result<RanOver<MemFile, KeptPort>>
+fn migrate<W: Threads + Wait + Sync>(
+    rt: &W,
+    alloc: Global,
+    bench: KeptBench,
+) -> anyhow::Result<RanOver<MemFile, KeptPort>>
     requires { vec_len bench.files ≡ file_count }
     ensures { IfOk result (λ ran. vec_len ran.bench.files ≡ file_count) }
 {

@@ -5,7 +5,6 @@ ghost use Rattle.tee_types.specs.Limits.{file_count};
 
 use crate::devices::{KeptBench, arm, crash, new_bench};
 use crate::mishaps::{Device, Trouble};
-use trial_runs::{failing, reliable, run_script, try_script};
 use crate::tally::Outcome;
 use crate::tries::FIRST;
 use anyhow::Context;
@@ -13,6 +12,7 @@ use std::alloc::Global;
 use std::sync::Wait;
 use std::thread::Threads;
 use tee_ports::ListEntropy;
+use trial_runs::{failing, reliable, run_script, try_script};
 
 /// How a store is opened.
 #[derive(Clone, Copy, PartialEq, Eq)]

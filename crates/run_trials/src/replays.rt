@@ -3,7 +3,6 @@
 use crate::devices::new_bench;
 use crate::histories::{call_in, push_done_calls};
 use crate::machine::Machine;
-use trial_runs::{reliable, run_script};
 use anyhow::{Context, bail};
 use script_text::{Script, parse};
 use seed_words::SeedEntropy;
@@ -11,6 +10,7 @@ use std::alloc::{AllocError, Global};
 use std::sync::Wait;
 use std::thread::Threads;
 use tee_ports::Entropy;
+use trial_runs::{reliable, run_script};
 
 /// How many scripts are run.
 const SCRIPTS: u8 = 200;

@@ -2,12 +2,12 @@
 
 use crate::devices::new_bench;
 use crate::machine::Machine;
-use trial_runs::{reliable, run_words};
 use seed_words::soak_script;
 use sha2::{Digest, Sha256};
 use std::alloc::Global;
 use std::sync::Wait;
 use std::thread::Threads;
+use trial_runs::{reliable, run_words};
 
 /// The numbers of the soaks.
 const NUMBERS: [u32; 4] = [0, 1, 2, u32::MAX];

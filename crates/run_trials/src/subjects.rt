@@ -2,7 +2,6 @@
 
 use crate::mishaps::{Device, Mishap, Trouble};
 use crate::openings::{Opening, try_opening};
-use trial_runs::MOST_CALLS;
 use crate::tally::{Outcome, Tally};
 use crate::texts::Texts;
 use crate::tries::try_act;
@@ -10,6 +9,7 @@ use anyhow::bail;
 use std::alloc::Global;
 use std::sync::Wait;
 use std::thread::Threads;
+use trial_runs::MOST_CALLS;
 
 /// What is tried.
 #[derive(Clone, Copy)]

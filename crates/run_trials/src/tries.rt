@@ -3,7 +3,6 @@
 use crate::acts::Act;
 use crate::devices::new_bench;
 use crate::mishaps::{Arm, Device, Mishap, Trouble};
-use trial_runs::{failing_sessions, reliable, run_script};
 use crate::tally::Outcome;
 use crate::texts::Texts;
 use anyhow::Context;
@@ -11,6 +10,7 @@ use std::alloc::{AllocError, Global};
 use std::sync::Wait;
 use std::thread::Threads;
 use tee_ports::ListEntropy;
+use trial_runs::{failing_sessions, reliable, run_script};
 
 /// The application of the lines before an act.
 pub const FIRST: &str = "app a 00000000-0000-0000-0000-000000000001\n";

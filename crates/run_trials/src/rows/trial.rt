@@ -1,6 +1,5 @@
 // The run of a row, beside what it must do.
 
-use trial_runs::new_folder;
 use crate::rows::bench::bench_for;
 use crate::rows::ends::status_text;
 use crate::rows::row::Row;
@@ -10,6 +9,7 @@ use std::alloc::{AllocError, Global};
 use std::sync::Wait;
 use std::thread::Threads;
 use tee_ports::{MemSink, MemSource};
+use trial_runs::new_folder;
 
 /// How a row's run ended: its status, what it put, and the bench that it left.
 #[derive(Drop)]
