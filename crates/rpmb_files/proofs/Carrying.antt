@@ -12,6 +12,7 @@ use Rattle.rpmb_files.specs.Devices.{Devices, GoesOn}
 use Rattle.rpmb_files.specs.Causes.{CauseStands, NoCardAt}
 use Rattle.rpmb_files.specs.Links.{WriteLeaves}
 use Rattle.rpmb_files.specs.Carried.{IsCarried, PlanLeaves}
+use Rattle.rpmb_files.specs.Counts.{HadCardAt}
 use Rattle.rpmb_files.proofs.Exchanges.{cause_then, goes_same, goes_then}
 use Rattle.rpmb_files.proofs.WriteEnds.{up}
 
@@ -102,3 +103,9 @@ module _ (key own : List ℕ) (old now new : Devices) (counter kept : ℕ) (writ
       cause_then (NoCardAt key (counter + n) now) (NoCardAt key counter old) key old now new cause c.goes
       (none_now key old now new counter write n c address block low open_yet address_is block_is)
       (subst (λ (k : ℕ). CauseStands (NoCardAt key k now) key now new cause) at (subst (λ (k : List ℕ). CauseStands (NoCardAt k kept now) k now new cause) same stands))
+
+  -- a card that answered before the writes answers now
+  pub step_answers : HadCardAt old.port key counter → HadCardAt now.port own kept
+  step_answers card =
+      let held = c.card card.0 card.1 card.2 in
+      (written_upto card.0 write n, subst (λ (k : List ℕ). HasCard now.port k (written_upto card.0 write n)) (sym same) held.0, held.1 ∙ sym at)

@@ -1,5 +1,6 @@
 pub mod Hearing
 pub mod Exchanges
+pub mod Exchanged
 pub mod WriteEnds
 pub mod Carrying
 pub mod DataBlocks
@@ -9,3 +10,5 @@ pub mod Outcomes
 pub mod Putting
 pub mod Removing
 pub mod Getting
+pub mod FirstBlock
+pub mod Changing

@@ -1,5 +1,7 @@
 pub mod Devices
+pub mod FirstBlock
 pub mod Causes
+pub mod Counts
 pub mod Links
 pub mod Carried
 pub mod Replies

@@ -1,12 +1,14 @@
 //! Putting and removing an object.
 
-ghost use Rattle.std.specs.Prelude.{◌≡◌, ◌≢◌, ◌+◌, ◌≤◌, length, IfErr, IsTrue};
-ghost use Rattle.card_maps.specs.Course.{Put, Remove};
+ghost use Rattle.std.specs.Prelude.{◌≡◌, ◌+◌, ◌≤◌, length, IfErr, IsTrue, None, OnOk};
+ghost use Rattle.rpmb_host.specs.Honest.{HadCard};
+ghost use Rattle.card_maps.specs.Course.{Put, Remove, writes_of};
 ghost use Rattle.card_maps.specs.Plans.{write_count};
 ghost use Rattle.card_maps.specs.Tables.{named};
 ghost use Rattle.rpmb_files.specs.Devices.{GoesOn, devices};
 ghost use Rattle.rpmb_files.specs.Causes.{NoCardAt};
 ghost use Rattle.rpmb_files.specs.Replies.{FaultCause, FaultStands, OfNoCard, OfNoDraw, done_reply};
+ghost use Rattle.rpmb_files.specs.Counts.{HadCardAt, HasWritten};
 ghost use Rattle.rpmb_files.specs.Knows.{IsStore};
 ghost use Rattle.rpmb_files.specs.Makes.{Makes, doubt_left};
 ghost use Rattle.rpmb_files.specs.Parts.{PutPlanned, parts};
@@ -44,6 +46,9 @@ pub(crate) fn put_object<R: RpmbPort, E: Entropy>(
     ensures key { link.new.host.key ≡ link.old.host.key }
     ensures calm { IsTrue (R.state link.old.host.port).calm → IfErr result OfNoCard }
     ensures reliable { E.is_reliable link.old.entropy → E.is_reliable link.new.entropy × IfErr result OfNoDraw }
+    ensures exchanges { IsStore (R.state link.old.host.port) link.old.host.key link.old.counter table.old doubt.old → doubt.old ≡ None
+        → OnOk result (HasWritten (HadCard (R.state link.old.host.port) link.old.host.key)
+        (R.state link.old.host.port) (R.state link.new.host.port) (writes_of (length bytes.now))) }
 {
     if bytes.len() > MAX_CARD_BYTES {
         let size = bytes.len() as u64;
@@ -79,6 +84,9 @@ pub(crate) fn remove_object<R: RpmbPort, E: Entropy>(
     ensures key { link.new.host.key ≡ link.old.host.key }
     ensures calm { IsTrue (R.state link.old.host.port).calm → IfErr result OfNoCard }
     ensures reliable { E.is_reliable link.old.entropy → E.is_reliable link.new.entropy × IfErr result OfNoDraw }
+    ensures exchanges { IsStore (R.state link.old.host.port) link.old.host.key link.old.counter table.old doubt.old → doubt.old ≡ None
+        → OnOk result (HasWritten (HadCard (R.state link.old.host.port) link.old.host.key)
+        (R.state link.old.host.port) (R.state link.new.host.port) 1) }
 {
     if let Err(cause) = settle(link, table, doubt) {
         return Err(CardFault::Device(cause));
@@ -138,6 +146,8 @@ fn make<R: RpmbPort, E: Entropy>(
     ensures key { link.new.host.key ≡ link.old.host.key }
     ensures calm { IsTrue (R.state link.old.host.port).calm → IfErr result OfNoCard }
     ensures reliable { E.is_reliable link.old.entropy → E.is_reliable link.new.entropy × IfErr result OfNoDraw }
+    ensures exchanges { OnOk result (HasWritten (HadCardAt (R.state link.old.host.port) link.old.host.key link.old.counter)
+        (R.state link.old.host.port) (R.state link.new.host.port) (write_count change)) }
 {
     let map = table.map_after(&change);
     let plan = Plan { change, map };

@@ -7,6 +7,7 @@ mod calls;
 mod causes;
 mod change;
 mod fault;
+mod laws;
 mod link;
 mod mount;
 mod plan;
@@ -16,4 +17,5 @@ mod store;
 
 pub use card_maps::CardName;
 pub use fault::CardFault;
+pub use laws::first_block_writes_keep_maps;
 pub use store::{CardHalted, CardParts, CardStore};

@@ -4,6 +4,7 @@ ghost use Rattle.std.specs.Prelude.{◌≡◌, ◌≢◌, ◌≤◌, IfErr, IfOk
 ghost use Rattle.rpmb_card.specs.Protocol.{last_counter};
 ghost use Rattle.rpmb_files.specs.Devices.{GoesOn, devices};
 ghost use Rattle.rpmb_files.specs.Causes.{CauseStands, DrawFailed, IsCounterHeard, LastStays, NoCard, NoCardAt, NotDrawn, NotOfCard};
+ghost use Rattle.rpmb_files.specs.Counts.{AskCounts, EndCounts, HadCardAt, HasExchanged};
 ghost use Rattle.rpmb_files.specs.Links.{AskCause, AskOfNoCard, AskOfNoDraw, AskTells, CounterAfter, EndCause, EndOfNoCard, EndOfNoDraw, TellsBlock, TellsCounter, WriteLeaves};
 
 use crate::causes::cause_of;
@@ -60,6 +61,7 @@ impl<R: RpmbPort, E: Entropy> CardLink<R, E> {
         ensures reliable { E.is_reliable self.old.entropy → E.is_reliable self.new.entropy × IfErr result NotDrawn }
         ensures heard { IfOk result (IsCounterHeard self.old.host.key (R.state self.new.host.port)) }
         ensures stays { LastStays (R.state self.old.host.port) (R.state self.new.host.port) }
+        ensures exchanges { OnOk result (HasExchanged (R.state self.old.host.port) (R.state self.new.host.port) 1) }
     {
         let nonce = match draw_nonce(&mut self.entropy) {
             Ok(nonce) => nonce,
@@ -110,6 +112,8 @@ impl<R: RpmbPort, E: Entropy> CardLink<R, E> {
             (devices (R.state self.new.host.port) (E.faults self.new.entropy)) result }
         ensures calm { IsTrue (R.state self.old.host.port).calm → EndOfNoCard result }
         ensures reliable { E.is_reliable self.old.entropy → E.is_reliable self.new.entropy × EndOfNoDraw result }
+        ensures exchanges { EndCounts (HadCardAt (R.state self.old.host.port) self.old.host.key self.old.counter)
+            (R.state self.old.host.port) (R.state self.new.host.port) result }
     {
         match self
             .host
@@ -147,6 +151,7 @@ impl<R: RpmbPort, E: Entropy> CardLink<R, E> {
         ensures stays { LastStays (R.state self.old.host.port) (R.state self.new.host.port) }
         ensures calm { IsTrue (R.state self.old.host.port).calm → AskOfNoCard result }
         ensures reliable { E.is_reliable self.old.entropy → E.is_reliable self.new.entropy × AskOfNoDraw result }
+        ensures exchanges { AskCounts (R.state self.old.host.port) (R.state self.new.host.port) result }
     {
         match self.read_counter() {
             Ok(now) => {

@@ -4,6 +4,7 @@ ghost use Rattle.std.specs.Prelude.{◌≡◌, ◌≤◌, ◌<◌, ◌+◌, ◌*
 ghost use Rattle.card_maps.specs.Plans.{filled, write_count, write_of};
 ghost use Rattle.rpmb_files.specs.Devices.{GoesOn, devices};
 ghost use Rattle.rpmb_files.specs.Causes.{NoCardAt};
+ghost use Rattle.rpmb_files.specs.Counts.{HadCardAt, PlanCounts};
 ghost use Rattle.rpmb_files.specs.Carried.{PlanCause, PlanLeaves, PlanOfNoCard, PlanOfNoDraw};
 
 use crate::link::{CardLink, WriteEnd};
@@ -113,6 +114,8 @@ impl Plan {
             (devices (R.state link.new.host.port) (E.faults link.new.entropy)) result }
         ensures calm { IsTrue (R.state link.old.host.port).calm → PlanOfNoCard result }
         ensures reliable { E.is_reliable link.old.entropy → E.is_reliable link.new.entropy × PlanOfNoDraw result }
+        ensures exchanges { PlanCounts (HadCardAt (R.state link.old.host.port) link.old.host.key link.old.counter)
+            (R.state link.old.host.port) (R.state link.new.host.port) (write_count self.now.change) result }
     {
         let count = self.count();
         for i in 0..count {

@@ -3,6 +3,7 @@ use Rattle.rpmb_host.specs.Calls.{counter_wanted}
 use Rattle.rpmb_files.specs.Causes.{NoCard, OfCounter}
 use Rattle.rpmb_files.specs.Devices.{devices}
 use Rattle.rpmb_files.proofs.Exchanges.{err_ok, read_cause}
+use Rattle.rpmb_files.proofs.Exchanged.{one_exchanged}
 use Rattle.rpmb_files.proofs.Hearing.{counter_heard, last_is, last_stays, refused, some_read}
 use Rattle.rpmb_files.proofs.link.CardLink.read_counter.Goals as goal
 
@@ -30,3 +31,7 @@ returns-in-Err-read_counter-clause-cause g c =
 pub returns-in-Err-read_counter-clause-stays : goal.returns-in-Err-read_counter-clause-stays
 returns-in-Err-read_counter-clause-stays g c =
     last_stays (g.R.RpmbPort.state c.args.self.now.host.port) (g.R.RpmbPort.state c.read_counter.new.self.port) _ _ c.in-Err-read_counter.ensures.exchanged
+
+pub returns-in-Ok-read_counter-clause-exchanges : goal.returns-in-Ok-read_counter-clause-exchanges
+returns-in-Ok-read_counter-clause-exchanges g c =
+    one_exchanged (g.R.RpmbPort.state c.args.self.now.host.port) (g.R.RpmbPort.state c.read_counter.new.self.port) _ _ c.in-Ok-read_counter.ensures.exchanged

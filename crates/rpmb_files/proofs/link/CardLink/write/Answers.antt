@@ -2,9 +2,11 @@ use Rattle.std.proofs.Common.{◌≡◌, ◌<◌, ◌∙◌, ℕ, List, Some, Op
 use Rattle.rpmb_card.specs.Port.{PortState}
 use Rattle.rpmb_host.specs.Calls.{write_wanted}
 use Rattle.rpmb_files.specs.Causes.{CauseStands, LastStays, NoCardAt, OfWrite}
+use Rattle.rpmb_files.specs.Counts.{HadCardAt}
 use Rattle.rpmb_files.specs.Devices.{Devices, GoesOn, devices}
 use Rattle.rpmb_files.specs.Links.{NoneOfBoth, TellsCounter}
 use Rattle.rpmb_files.proofs.Exchanges.{cause_then, goes_then, read_cause, same_faults}
+use Rattle.rpmb_files.proofs.Exchanged.{written_asked, written_told}
 use Rattle.rpmb_files.proofs.Hearing.{last_is, refused, some_written}
 use Rattle.rpmb_files.proofs.WriteEnds.{counts_on, none_before, same_leaves, write_goes, writes}
 use Rattle.rpmb_files.proofs.link.CardLink.write.Goals as goal
@@ -97,3 +99,20 @@ returns-in-Untold-clause-cause g c =
     cause_then (NoneOfBoth key c.args.self.now.counter mid) (NoCardAt key c.args.self.now.counter old) key old mid new c.in-Untold.cause goes
     (none_before key old mid new c.from.result c.args.self.now.counter c.args.block.now (omega (arith, c.from.ensures)) c.requires (c.in-Err.ensures.left c.requires))
     (subst (λ (k : List ℕ). CauseStands (NoneOfBoth k c.args.self.now.counter mid) k mid new c.in-Untold.cause) same c.in-Untold.ensures.cause)
+
+pub returns-in-Ok-clause-exchanges : goal.returns-in-Ok-clause-exchanges
+returns-in-Ok-clause-exchanges g c =
+    let old : PortState = g.R.RpmbPort.state c.args.self.now.host.port in
+    let mid : PortState = g.R.RpmbPort.state c.write_block.new.self.port in
+    written_told (HadCardAt old c.args.self.now.host.key c.args.self.now.counter) old mid _ _ (c.in-Ok.ensures.exchanged c.requires) c.in-Ok.ensures.counted
+
+pub returns-in-Next-clause-exchanges : goal.returns-in-Next-clause-exchanges
+returns-in-Next-clause-exchanges g c =
+    let old : PortState = g.R.RpmbPort.state c.args.self.now.host.port in
+    let mid : PortState = g.R.RpmbPort.state c.write_block.new.self.port in
+    let new : PortState = g.R.RpmbPort.state c.ask.new.self.host.port in
+    written_asked (HadCardAt old c.args.self.now.host.key c.args.self.now.counter) old mid new _ c.in-Err.fault c.in-Err.ensures.counts c.in-Next.ensures.exchanges c.in-Next.ensures.cause.0
+    c.in-Err.ensures.counted
+    (λ other card.
+    writes card.0 c.from.result c.args.self.now.counter c.args.block.now (omega (arith, c.from.ensures)) c.requires card.2 c.in-Err.fault (c.in-Err.ensures.honest c.requires card.0 card.1 other).0)
+    (λ calm. (c.in-Err.ensures.calm calm).0) (c.in-Err.ensures.exchanged c.requires)
