@@ -150,7 +150,11 @@ mod tests {
     }
 
     // The first byte of an object that has one.
-    fn first_byte(alloc: Global, store: &mut SimStore, id: ObjectId) -> Result<Option<u8>, CardFault> {
+    fn first_byte(
+        alloc: Global,
+        store: &mut SimStore,
+        id: ObjectId,
+    ) -> Result<Option<u8>, CardFault> {
         let bytes = store.get(alloc, app(), id)?;
         Ok(bytes.as_slice().first().copied())
     }
@@ -165,9 +169,15 @@ mod tests {
         assert_eq!(rt; first_byte(rt.alloc(), &mut store, id), Ok(Some(1)));
         assert_eq!(rt; store.list(rt.alloc())?.len(), 1);
         assert_eq!(rt; store.remove(app(), id), Ok(()));
-        assert_eq!(rt; first_byte(rt.alloc(), &mut store, id), Err(CardFault::NotFound));
+        assert_eq!(rt;
+            first_byte(rt.alloc(), &mut store, id),
+            Err(CardFault::NotFound)
+        );
         assert_eq!(rt; store.remove(app(), id), Err(CardFault::NotFound));
-        assert_eq!(rt; store.put(app(), id, &[0; 16385]), Err(CardFault::TooLarge { size: 16385 }));
+        assert_eq!(rt;
+            store.put(app(), id, &[0; 16385]),
+            Err(CardFault::TooLarge { size: 16385 })
+        );
         Ok(())
     }
 
@@ -179,7 +189,11 @@ mod tests {
         let full = CardFault::Full { need: 65, free: 59 };
         for (number, want) in [(1u8, Ok(())), (2, Ok(())), (3, Ok(())), (4, Err(full))] {
             let id = ObjectId::new(&[number])?;
-            assert_eq!(rt; store.put(app(), id, &[number; 16384]), want, "object {number}");
+            assert_eq!(rt;
+                store.put(app(), id, &[number; 16384]),
+                want,
+                "object {number}"
+            );
         }
         Ok(())
     }
@@ -188,19 +202,37 @@ mod tests {
     #[test]
     fn a_put_that_is_cut_off_leaves_either_object(rt: HostRuntime) -> Result<(), Fail> {
         let id = ObjectId::new(b"k")?;
-        for (calls, is_done, byte) in [(0u64, false, 1), (1, false, 1), (4, false, 1), (5, false, 2), (6, true, 2)] {
+        for (calls, is_done, byte) in [
+            (0u64, false, 1),
+            (1, false, 1),
+            (4, false, 1),
+            (5, false, 2),
+            (6, true, 2),
+        ] {
             let Some(mut store) = blank_store(rt.alloc()) else {
                 panic!(rt; "a blank card is refused");
             };
             assert_eq!(rt; store.put(app(), id, &[1]), Ok(()));
             store.stop_after(calls);
-            assert_eq!(rt; store.put(app(), id, &[2]).is_ok(), is_done, "after {calls} exchanges");
+            assert_eq!(rt;
+                store.put(app(), id, &[2]).is_ok(),
+                is_done,
+                "after {calls} exchanges"
+            );
             store.stop_after(100);
-            assert_eq!(rt; first_byte(rt.alloc(), &mut store, id), Ok(Some(byte)), "after {calls} exchanges");
+            assert_eq!(rt;
+                first_byte(rt.alloc(), &mut store, id),
+                Ok(Some(byte)),
+                "after {calls} exchanges"
+            );
             let Some(mut again) = mounted(rt.alloc(), port_of(store)) else {
                 panic!(rt; "its card is refused");
             };
-            assert_eq!(rt; first_byte(rt.alloc(), &mut again, id), Ok(Some(byte)), "after {calls} exchanges");
+            assert_eq!(rt;
+                first_byte(rt.alloc(), &mut again, id),
+                Ok(Some(byte)),
+                "after {calls} exchanges"
+            );
         }
         Ok(())
     }
