@@ -36,7 +36,7 @@ use Rattle.rpmb_files.proofs.Putting.{PutOutcome, put_outcome}
 use Rattle.rpmb_files.proofs.Removing.{RemoveOutcome, remove_outcome}
 
 some_bytes : {o : Option (List ℕ)} {x : List ℕ} → o ≡ Some x → IsSome o
-some_bytes is = subst (λ (p : Option (List ℕ)). IsSome p) (sym is) tt
+some_bytes is = subst (λ (p : Option (List ℕ)). IsSome p) (sym is) refl
 
 -- how many writes a planned put has
 pub planned_count : (t : TableState) (name : ObjectName) (size : ℕ) (change : TableChange) → IsPutOf t name size change → write_count change ≡ data_blocks size + 2
@@ -91,7 +91,7 @@ module _ (p0 : PortState) (key0 : List ℕ) (draws0 c0 : ℕ) (t0 : TableState) 
 
   unsure : (d : Option Doubt) → IsSome d → is_none d ≡ false
   unsure (Some d) is = refl
-  unsure None is = absurd is
+  unsure None is = absurd (cc (is))
 
   pub unread_leaves : (d1 : Option Doubt) (call : CardCall) (reply : CardReply) → t1 ≡ t0 → d1 ≡ d0 → IsSome d0 → (reply ≡ Done → ⊥) → Rests call → Unread call reply
       → Leaves old (parts p1 key1 draws1 t1 d1) call reply

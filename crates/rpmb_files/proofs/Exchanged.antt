@@ -51,7 +51,7 @@ exchanged_as old new n m same x = subst (HasExchanged old new) same x
 
 -- a write that was answered
 pub write_answered : (old new : PortState) (write answer : List ℕ) → WriteExchanges old new write (Ok answer) → HasExchanged old new 2
-write_answered old new write answer (inl (failed, x)) = absurd failed
+write_answered old new write answer (inl (failed, x)) = absurd (cc (failed))
 write_answered old new write answer (inr (between, first, one, two)) =
     exchanged_as old new (1 + 1) 2 (omega arith) (exchanged_then old between new 1 1 (one_exchanged old between write (Ok first) one) (one_exchanged between new result_request (Ok answer) two))
 

@@ -40,7 +40,7 @@ pub record RemoveOutcome (old : StoreState) (port : PortState) (key : List ℕ) 
   pub knows : (c : CardState) → HasCard port key c → Knows kept u left c
 
 some_is : (o : Option (List ℕ)) (x : List ℕ) → o ≡ Some x → IsSome o
-some_is o x is = subst (λ (p : Option (List ℕ)). IsSome p) (sym is) tt
+some_is o x is = subst (λ (p : Option (List ℕ)). IsSome p) (sym is) refl
 
 module _ (old : StoreState) (port : PortState) (key : List ℕ) (draws : ℕ) (t : TableState) (card : CardState) (m : CardMap) (table : IsTableOf t card m) (sound : IsCard card)
     (sounds : (c : CardState) → HasCard port key c → IsCard c) (name : ObjectName) (at : ℕ) (found : position (has_name name) t.entries ≡ Some at) (bytes : List ℕ)
