@@ -30,7 +30,7 @@ returns-in-Ok-read_entries-clause-read g c =
     let own : List ℕ = c.read_block.new.self.host.key in
     let old : Devices = devices (g.R.RpmbPort.state c.args.link.now.host.port) (g.E.Entropy.faults c.args.link.now.entropy) in
     let mid : Devices = devices (g.R.RpmbPort.state c.read_block.new.self.host.port) (g.E.Entropy.faults c.read_block.new.self.entropy) in
-    map_read key own old mid c.in-Ok.ensures.key c.in-Ok.ensures.goes_on c.in-Ok.ensures.card c.in-Ok.map c.read_entries.new.table c.in-Ok.ensures.told (sym c.map_fault.ensures ∙ c.in-None.is)
+    map_read key own old mid c.in-Ok.ensures.key c.in-Ok.ensures.goes_on c.in-Ok.ensures.card c.in-Ok.map c.read_entries.new.table c.in-Ok.ensures.told (sym c.map_fault.ensures ∙ c.in_default.is)
     c.in-Ok-read_entries.ensures.read
 
 pub returns-in-Err-read_entries-clause-goes_on : goal.returns-in-Err-read_entries-clause-goes_on
