@@ -1,5 +1,5 @@
 -- The bytes of an object, block by block, and what a get leaves.
-use Rattle.std.proofs.Common.{◌≡◌, ◌∙◌, ℕ, zero, suc, ◌+◌, ◌-◌, ◌*◌, ◌<◌, ◌≤◌, false, List, [], ◌∷◌, ◌++◌, length, map, take, get_or, Option, Some, None, Result, Ok, Err, refl, sym, ap, subst, length-append, append-nil, append_assoc, arith, inl, inr}
+use Rattle.std.proofs.Common.{◌≡◌, ◌∙◌, ℕ, zero, suc, ◌+◌, ◌-◌, ◌*◌, ◌<◌, ◌≤◌, false, List, [], ◌∷◌, ◌++◌, length, map, take, get_or, Option, Some, None, Result, Ok, Err, refl, sym, ap, subst, length-append, append-nil, append_assoc, true≢false, arith, inl, inr}
 use Rattle.std.proofs.Math.Seq.{take-suc}
 use Rattle.std.proofs.lemmas.List.{length-take, map-append, take_min}
 use Rattle.std.specs.Prelude.{IsSome, is_none, min, position}
@@ -73,7 +73,7 @@ none_some : (o : Option (List ℕ)) (x : List ℕ) → o ≡ None → o ≡ Some
 none_some o x none some = let e : (let n : Option (List ℕ) = None in n ≡ Some x) = sym none ∙ some in absurd (cc (e))
 
 is_some_from : (o : Option (List ℕ)) (x : List ℕ) → o ≡ Some x → IsSome o
-is_some_from o x is = subst (λ (p : Option (List ℕ)). IsSome p) (sym is) tt
+is_some_from o x is = subst (λ (p : Option (List ℕ)). IsSome p) (sym is) refl
 
 pub names_entry : (t : TableState) (name : ObjectName) (b : ℕ) (o : Option (List ℕ)) → position (has_name name) t.entries ≡ Some b → o ≡ entry_at t b → NamesEntry t name o
 names_entry t name b None found is = inr (b, found, sym is)
@@ -107,7 +107,7 @@ failed_not_done : Failed ≡ Done → ⊥
 failed_not_done is = absurd (cc (is))
 
 some_not_none : (d : Option Doubt) → IsSome d → is_none d ≡ false
-some_not_none None some = absurd some
+some_not_none None some = absurd (true≢false (sym some))
 some_not_none (Some x) some = refl
 
 module _ (old new : PortState) (key own : List ℕ) (draws after counter kept : ℕ) (t u : TableState) (was left : Option Doubt) (same : own ≡ key) (stays : new.card ≡ old.card) where
@@ -139,6 +139,6 @@ module _ (old new : PortState) (key own : List ℕ) (draws after counter kept : 
         let table : IsTableOf u card m = subst (λ (n : CardMap). IsTableOf u card n) one known.0.1 in
         subst (λ (d : Option Doubt). CallLeaves (parts old key draws t was) (parts new own after u d) (Get name) (found_reply result) card m) (sym none)
         (call_stays (parts old key draws t was) (parts new own after u None) (Get name) (found_reply result) card m (moved_card old new key own card stays same has) is refl
-        (get_answers (side m (names_in t.entries) (is_none was)) (side m (names_in u.entries) (is_none {A = Doubt} None)) card.counter name result (answers card m has table)
+        (get_answers (side m (names_in t.entries) (is_none was)) (side m (names_in u.entries) (is_none {T = Doubt} None)) card.counter name result (answers card m has table)
         (read_side (names_in t.entries) (is_none was) m u card table (sound_card old key card sound has)))
         (found_not_done result))

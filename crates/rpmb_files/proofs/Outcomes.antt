@@ -31,12 +31,12 @@ pub no_removal : (m : CardMap) (name : ObjectName) (card : CardState) → card_m
 no_removal m name card is = record { between = []; run = (inl is, refl) }
 
 not_done : (reply : CardReply) → (reply ≡ Done → ⊥) → (a b : ℕ) → reply ≡ Done → a ≡ b
-not_done reply no a b is = absurd (no is)
+not_done reply never a b is = absurd (never is)
 
 -- a call that left the card as it is
 pub call_stays : (old new : StoreState) (call : CardCall) (reply : CardReply) (card : CardState) (m : CardMap) → HasCard new.devices.port new.key card → card_map card ≡ Ok m → CallRuns m call card card
     → Answers (side m old.shown old.settled) card.counter call reply (side m new.shown new.settled) → (reply ≡ Done → ⊥) → CallLeaves old new call reply card m
-call_stays old new call reply card m has is runs answers no = record {
+call_stays old new call reply card m has is runs answers never = record {
   left = card;
   objects = m;
   has = has;
@@ -44,12 +44,12 @@ call_stays old new call reply card m has is runs answers no = record {
   runs = runs;
   first = refl;
   answers = answers;
-  counter = λ done. absurd (no done);
+  counter = λ done. absurd (never done);
 }
 
 -- the side behind a call that read the card again
 pub read_side : (shown : List CardName) (settled : Bool) (m : CardMap) (t : TableState) (card : CardState) → IsTableOf t card m → IsCard card
-    → IsRead (side m shown settled) (side m (names_in t.entries) (is_none {A = Doubt} None))
+    → IsRead (side m shown settled) (side m (names_in t.entries) (is_none {T = Doubt} None))
 read_side shown settled m t card table sound = record { map = refl; shown = names_are t card m table sound; settled = refl }
 
 -- what could not be read again

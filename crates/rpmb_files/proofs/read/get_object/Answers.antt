@@ -34,7 +34,7 @@ returns-in-Ok-clause-leaves g c store =
     (g.E.Entropy.faults c.args.link.now.entropy) (g.E.Entropy.faults c.read_named.new.link.entropy) c.args.link.now.counter c.read_named.new.link.counter c.args.table.now c.settle.new.table
     c.args.doubt.now c.settle.new.doubt (c.read_named.ensures.key ∙ c.in-Ok.ensures.key) (c.read_named.ensures.card ∙ c.in-Ok.ensures.card) store c.in-Ok.ensures.settled
     (λ card has known. subst (λ (n : ℕ). Knows n c.settle.new.table None card) (sym c.read_named.ensures.counter) (c.in-Ok.ensures.knows card has known))
-    (named c.args.app c.args.id) c.read_named.result (g.R.RpmbPort.sound c.args.link.now.host.port)
+    (named c.args.app c.args.id) c.read_named.result (g.met.R.RpmbPort.sound c.args.link.now.host.port)
     (λ card m has table. c.read_named.ensures.answers card m (moved_card (g.R.RpmbPort.state c.args.link.now.host.port) (g.R.RpmbPort.state c.settle.new.link.host.port) c.args.link.now.host.key
     c.settle.new.link.host.key card c.in-Ok.ensures.card c.in-Ok.ensures.key has) table)
 

@@ -12,16 +12,16 @@ returns-in_default-clause-goes_on g c =
 
 pub returns-in_default-clause-answers : goal.returns-in_default-clause-answers
 returns-in_default-clause-answers g c card m has table =
-    named_absent c.args.table.now card m table (sound_card (g.R.RpmbPort.state c.args.link.now.host.port) c.args.link.now.host.key card (g.R.RpmbPort.sound c.args.link.now.host.port) has)
+    named_absent c.args.table.now card m table (sound_card (g.R.RpmbPort.state c.args.link.now.host.port) c.args.link.now.host.key card (g.met.R.RpmbPort.sound c.args.link.now.host.port) has)
     (named c.args.app c.args.id) c.in_default.ensures
 
 pub returns-in-Ok-clause-answers : goal.returns-in-Ok-clause-answers
 returns-in-Ok-clause-answers g c card m has table =
-    named_bytes c.args.table.now card m table (sound_card (g.R.RpmbPort.state c.args.link.now.host.port) c.args.link.now.host.key card (g.R.RpmbPort.sound c.args.link.now.host.port) has)
+    named_bytes c.args.table.now card m table (sound_card (g.R.RpmbPort.state c.args.link.now.host.port) c.args.link.now.host.key card (g.met.R.RpmbPort.sound c.args.link.now.host.port) has)
     (named c.args.app c.args.id) c.in-Some.entry c.in-Some.ensures
     ∙ ap (λ (l : List ℕ). let o : Option (List ℕ) = Some l in o) (sym (c.from_vec.ensures ∙ c.in-Ok.ensures.bytes card has))
 
 pub returns-in-Err-clause-answers : goal.returns-in-Err-clause-answers
 returns-in-Err-clause-answers g c card m has table =
-    named_fault c.args.table.now card m table (sound_card (g.R.RpmbPort.state c.args.link.now.host.port) c.args.link.now.host.key card (g.R.RpmbPort.sound c.args.link.now.host.port) has)
+    named_fault c.args.table.now card m table (sound_card (g.R.RpmbPort.state c.args.link.now.host.port) c.args.link.now.host.key card (g.met.R.RpmbPort.sound c.args.link.now.host.port) has)
     (named c.args.app c.args.id) c.in-Some.entry c.in-Some.ensures c.in-Err.fault c.in-Err.ensures.reading
