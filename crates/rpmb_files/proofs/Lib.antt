@@ -6,6 +6,7 @@ pub mod Carrying
 pub mod DataBlocks
 pub mod Ends
 pub mod Settling
+pub mod Mounting
 pub mod Outcomes
 pub mod Putting
 pub mod Removing

@@ -33,7 +33,7 @@ no_removal m name card is = record { between = []; run = (inl is, refl) }
 -- a call that left the card as it is
 pub call_stays : (old new : StoreState) (call : CardCall) (reply : CardReply) (card : CardState) (m : CardMap) → HasCard new.devices.port new.key card → card_map card ≡ Ok m → CallRuns m call card card
     → Answers (side m old.shown old.settled) card.counter call reply (side m new.shown new.settled) → (reply ≡ Done → ⊥) → CallLeaves old new call reply card m
-call_stays old new call reply card m has is runs answers other = record {
+call_stays old new call reply card m has is runs answers never = record {
   left = card;
   objects = m;
   has = has;
@@ -41,7 +41,7 @@ call_stays old new call reply card m has is runs answers other = record {
   runs = runs;
   first = refl;
   answers = answers;
-  counter = λ done. absurd (other done);
+  counter = λ done. absurd (never done);
 }
 
 -- the side behind a call that read the card again

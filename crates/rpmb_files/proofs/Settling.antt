@@ -14,7 +14,7 @@ use Rattle.rpmb_files.specs.declared.store.Doubt.{Doubt}
 use Rattle.rpmb_files.specs.declared.store.Doubt.TheVariants.{OfFreeBlock, OfMap}
 use Rattle.rpmb_files.specs.Knows.{Alters, Follows, HasTable, Knows}
 
-some_is : (b : Bool) (x : List ℕ) → is_some (cond b (Some x) None) ≡ b
+some_is : (b : Bool) (x : List ℕ) → is_some (cond {A = Option (List ℕ)} b (Some x) None) ≡ b
 some_is true x = refl
 some_is false x = refl
 

@@ -148,11 +148,12 @@ fn read_entries<R: RpmbPort, E: Entropy>(
         (devices (R.state link.new.host.port) (E.faults link.new.entropy))) }
 {
     for b in 2..256usize {
-        if is_live(map, b as u8) {
-            match read_entry(link, table, b as u8) {
-                Ok(()) => {}
-                Err(fault) => return Err(fault),
-            }
+        if !is_live(map, b as u8) {
+            continue;
+        }
+        match read_entry(link, table, b as u8) {
+            Ok(()) => {}
+            Err(fault) => return Err(fault),
         }
     }
     Ok(())
