@@ -17,5 +17,5 @@ mod store;
 
 pub use card_maps::CardName;
 pub use fault::CardFault;
-pub use laws::first_block_writes_keep_maps;
+pub use laws::{exchanges_are_counted, first_block_writes_keep_maps};
 pub use store::{CardHalted, CardParts, CardStore};
