@@ -1,5 +1,5 @@
 -- A call that changes objects: what stands behind its reads, and behind its writes.
-use Rattle.std.proofs.Common.{◌≡◌, ◌≢◌, ◌⊎◌, ◌∙◌, inl, inr, ℕ, zero, suc, ◌+◌, ◌<◌, ◌≤◌, Bool, true, false, List, length, take, Option, Some, None, Result, Ok, Err, refl, sym, ap, subst, arith}
+use Rattle.std.proofs.Common.{◌≡◌, ◌∙◌, ℕ, suc, ◌+◌, ◌≤◌, false, List, length, take, Option, Some, None, Result, Ok, Err, refl, sym, ap, subst, arith}
 use Rattle.std.specs.Prelude.{IfErr, IsSome, is_none, position}
 use Rattle.std.proofs.lemmas.List.{length-take-le}
 use Rattle.store_model.specs.declared.name.ObjectName.{ObjectName}
@@ -9,8 +9,8 @@ use Rattle.rpmb_host.specs.Honest.{HadCard, HasCard}
 use Rattle.card_maps.specs.declared.change.TableChange.{TableChange}
 use Rattle.card_maps.specs.declared.change.TableChange.TheVariants.{Remove as RemoveEntry}
 use Rattle.card_maps.specs.CardMaps.{CardMap, card_map}
-use Rattle.card_maps.specs.Course.{Answers, CardCall, CardReply, CardSide, Done, Failed, IsRead, Put, Remove, StaysUnread, side}
-use Rattle.card_maps.specs.Form.{data_blocks, size_in}
+use Rattle.card_maps.specs.Course.{Answers, CardCall, CardReply, CardSide, Done, IsRead, Put, Remove, StaysUnread, side}
+use Rattle.card_maps.specs.Form.{data_blocks}
 use Rattle.card_maps.specs.Plans.{CardWrite, IsFit, IsPutOf, write_count, write_of}
 use Rattle.card_maps.specs.TableStates.{TableState}
 use Rattle.card_maps.specs.Tables.{IsTableOf, has_name, unused}

@@ -1,5 +1,5 @@
 -- One card, one map: what a port tells.
-use Rattle.std.proofs.Common.{◌≡◌, ◌∙◌, ℕ, List, Option, Some, Result, Ok, Err, refl, sym, ap, subst}
+use Rattle.std.proofs.Common.{◌≡◌, ◌∙◌, ℕ, List, Option, Some, Result, Ok, sym, ap, subst}
 use Rattle.std.specs.Prelude.{IfSome}
 use Rattle.rpmb_card.specs.Card.{CardState, IsCard}
 use Rattle.rpmb_card.specs.Port.{PortState, Sound}

@@ -1,16 +1,15 @@
 -- Exchanges by their number.
-use Rattle.std.proofs.Common.{◌≡◌, ◌≢◌, ◌⊎◌, ◌∙◌, inl, inr, ℕ, zero, suc, ◌+◌, ◌-◌, ◌*◌, ◌^◌, ◌<◌, ◌≤◌, Bool, true, false, List, Option, Some, Result, Ok, Err, IsTrue, refl, sym, ap, subst, arith}
-use Rattle.std.specs.Prelude.{IsErr, None, OnOk, min}
+use Rattle.std.proofs.Common.{◌≡◌, ◌∙◌, inl, inr, ℕ, zero, suc, ◌+◌, ◌*◌, ◌^◌, ◌<◌, ◌≤◌, Bool, false, List, Option, Result, Ok, Err, IsTrue, refl, sym, ap, subst, arith}
+use Rattle.std.specs.Prelude.{None, OnOk}
 use Rattle.tee_ports.specs.declared.failed.Failed.{Failed}
-use Rattle.tee_ports.specs.Faults.{Rose, next_count}
+use Rattle.tee_ports.specs.Faults.{Rose}
 use Rattle.rpmb_card.specs.Arms.{Arms, count_call}
-use Rattle.rpmb_card.specs.Card.{CardState}
 use Rattle.rpmb_card.specs.Port.{Exchanged, PortState}
 use Rattle.rpmb_host.specs.Calls.{FaultCounts, WriteExchanges, fault_received, is_failure}
 use Rattle.rpmb_host.specs.Requests.{result_request}
 use Rattle.rpmb_host.specs.declared.fault.HostFault.{HostFault}
 use Rattle.rpmb_host.specs.declared.fault.HostFault.TheVariants.{Failed as NoAnswer, BadFrame, CardResult as RefusedBy, Spent}
-use Rattle.rpmb_host.specs.Honest.{HadCard, HasCard}
+use Rattle.rpmb_host.specs.Honest.{HadCard}
 use Rattle.card_maps.specs.TableStates.{TableState}
 use Rattle.rpmb_files.specs.declared.fault.CardFault.{CardFault}
 use Rattle.rpmb_files.specs.declared.store.Doubt.{Doubt}

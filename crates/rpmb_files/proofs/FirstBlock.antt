@@ -1,14 +1,13 @@
 -- The map of a card does not tell of block 0.
-use Rattle.std.proofs.Common.{◌≡◌, ◌≢◌, ◌∙◌, ℕ, zero, suc, ◌+◌, ◌-◌, ◌<◌, ◌≤◌, ◌==◌, ◌&&◌, ◌||◌, not, Bool, true, false, cond, List, [], ◌∷◌, Option, Some, None, Result, Ok, Err, refl, sym, ap, subst, arith}
+use Rattle.std.proofs.Common.{◌≡◌, ◌∙◌, ℕ, zero, suc, ◌+◌, ◌-◌, ◌≤◌, ◌==◌, ◌&&◌, ◌||◌, not, Bool, true, false, cond, [], Option, Some, None, Result, Ok, refl, ap, arith}
 use Rattle.std.specs.Prelude.{nat_le, slice_index_or, slice_set}
 use Rattle.std.specs.List.{list_any, range_with_len}
 use Rattle.std.proofs.lemmas.List.{get_or-set_other}
 use Rattle.store_model.specs.Name.{name_eq}
-use Rattle.rpmb_card.specs.Card.{CardState}
 use Rattle.rpmb_card.specs.Protocol.{done_result}
 use Rattle.rpmb_host.specs.Honest.{write_end, written_card}
 use Rattle.card_maps.specs.Form.{data_blocks, first_wrong, front_fault, is_live, map_fault, name_in, number_at, or_next, rest_fault, size_in}
-use Rattle.card_maps.specs.CardMaps.{BadCard, Blocks, CardMap, Live, any_before, bad_at, blocks_of, card_map, entry_fault, first_bad, has_number, is_good_number, is_repeated, map_of_blocks, map_or, numbers_fault, objects_of}
+use Rattle.card_maps.specs.CardMaps.{BadCard, Blocks, CardMap, Live, any_before, bad_at, blocks_of, entry_fault, first_bad, has_number, is_good_number, is_repeated, map_of_blocks, map_or, numbers_fault, objects_of}
 use Rattle.card_maps.proofs.Entries.{HoldMap, map_holds}
 use Rattle.card_maps.proofs.Lists.{objects_alike, same_object}
 use Rattle.card_maps.proofs.Users.{number_up}

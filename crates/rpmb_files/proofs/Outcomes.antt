@@ -1,14 +1,12 @@
 -- What a call leaves, and what the store knows then.
-use Rattle.std.proofs.Common.{◌≡◌, ◌⊎◌, ◌∙◌, inl, inr, ℕ, Bool, true, false, List, [], ◌∷◌, length, Option, Some, None, Result, Ok, Err, refl, sym, ap, subst, arith, ◌≤◌}
-use Rattle.std.specs.Prelude.{IsSome, is_none}
+use Rattle.std.proofs.Common.{◌≡◌, inl, ℕ, Bool, false, List, [], None, Result, Ok, Err, refl}
+use Rattle.std.specs.Prelude.{is_none}
 use Rattle.store_model.specs.declared.name.ObjectName.{ObjectName}
 use Rattle.rpmb_card.specs.Card.{CardState, IsCard}
-use Rattle.rpmb_card.specs.Port.{PortState}
 use Rattle.rpmb_host.specs.Honest.{HasCard}
 use Rattle.card_maps.specs.declared.name.CardName.{CardName}
 use Rattle.card_maps.specs.CardMaps.{CardMap, card_map}
-use Rattle.card_maps.specs.Course.{Answers, CardCall, CardReply, CardSide, Done, Failed, Get, IsRead, Put, Remove, StaysUnread, side}
-use Rattle.card_maps.specs.Names.{names_of}
+use Rattle.card_maps.specs.Course.{Answers, CardCall, CardReply, CardSide, Done, Get, IsRead, StaysUnread, side}
 use Rattle.card_maps.specs.Steps.{PutRuns, RemoveRuns}
 use Rattle.card_maps.specs.TableStates.{TableState}
 use Rattle.card_maps.specs.Tables.{IsTableOf, names_in}
@@ -16,10 +14,8 @@ use Rattle.card_maps.proofs.Shown.{names_are}
 use Rattle.rpmb_files.specs.declared.fault.CardFault.{CardFault}
 use Rattle.rpmb_files.specs.declared.fault.CardFault.TheVariants.{Device, NotFound, NoMemory, TooLarge, Full, Spent, Bad}
 use Rattle.rpmb_files.specs.declared.store.Doubt.{Doubt}
-use Rattle.rpmb_files.specs.Calls.{CallLeaves, CallRuns, writes_in}
-use Rattle.rpmb_files.specs.Devices.{devices}
-use Rattle.rpmb_files.specs.Knows.{Knows}
-use Rattle.rpmb_files.specs.Parts.{ReadAnswers, parts}
+use Rattle.rpmb_files.specs.Calls.{CallLeaves, CallRuns}
+use Rattle.rpmb_files.specs.Parts.{ReadAnswers}
 use Rattle.rpmb_files.specs.Replies.{fault_reply, found_reply}
 use Rattle.rpmb_files.specs.Stores.{StoreState}
 

@@ -1,28 +1,24 @@
 -- What a put leaves, by the end of its writes.
-use Rattle.std.proofs.Common.{◌≡◌, ◌≢◌, ◌⊎◌, ◌∙◌, inl, inr, ℕ, zero, suc, ◌+◌, ◌<◌, ◌≤◌, ◌==◌, Bool, true, false, not, List, length, Option, Some, None, Result, Ok, Err, refl, sym, ap, subst, arith}
-use Rattle.std.specs.Prelude.{is_none, position}
-use Rattle.std.proofs.lemmas.Bool.{eq-eqb, or_left}
+use Rattle.std.proofs.Common.{◌≡◌, ◌⊎◌, ◌∙◌, inl, inr, ℕ, suc, ◌+◌, ◌≤◌, ◌==◌, Bool, List, length, Option, Some, None, Result, Ok, refl, sym, ap, subst, arith}
+use Rattle.std.proofs.lemmas.Bool.{eq-eqb}
 use Rattle.store_model.specs.declared.name.ObjectName.{ObjectName}
 use Rattle.rpmb_card.specs.Card.{CardState, IsCard}
 use Rattle.rpmb_card.specs.Port.{PortState}
 use Rattle.rpmb_host.specs.Honest.{HasCard}
-use Rattle.tee_types.specs.declared.reply.Cause.{Cause}
 use Rattle.card_maps.specs.declared.change.TableChange.{TableChange}
 use Rattle.card_maps.specs.CardMaps.{CardMap, card_map}
-use Rattle.card_maps.specs.CardWrites.{live_in}
-use Rattle.card_maps.specs.Course.{Answers, CardReply, Done, Failed, HasRoom, Put, side}
-use Rattle.card_maps.specs.Form.{data_blocks, size_in}
+use Rattle.card_maps.specs.Course.{CardReply, Done, Failed, HasRoom, Put}
+use Rattle.card_maps.specs.Form.{data_blocks}
 use Rattle.card_maps.specs.Names.{names_of}
 use Rattle.card_maps.specs.Plans.{CardWrite, IsFit, written_upto}
 use Rattle.card_maps.specs.Steps.{PutRuns}
 use Rattle.card_maps.specs.TableStates.{TableState}
-use Rattle.card_maps.specs.Tables.{IsChangedTable, IsTableOf, has_name, is_at, live_of, names_in, unused}
+use Rattle.card_maps.specs.Tables.{IsChangedTable, IsTableOf, names_in, unused}
 use Rattle.card_maps.proofs.Blocks.{block_zero_stays}
 use Rattle.card_maps.proofs.PutPlans.{at_dead, put_after, put_block, put_change, put_counter, put_done, put_runs, put_table, put_write, table_upto}
 use Rattle.card_maps.proofs.Ranges.{differ, later}
 use Rattle.card_maps.proofs.Shown.{free_is, names_are}
 use Rattle.rpmb_files.specs.declared.fault.CardFault.{CardFault}
-use Rattle.rpmb_files.specs.declared.fault.CardFault.TheVariants.{Device}
 use Rattle.rpmb_files.specs.declared.plan.PlanEnd.{PlanEnd}
 use Rattle.rpmb_files.specs.declared.plan.PlanEnd.TheVariants.{Landed, Lost, Unknown}
 use Rattle.rpmb_files.specs.declared.store.Doubt.{Doubt}
@@ -35,7 +31,6 @@ use Rattle.rpmb_files.specs.Parts.{parts}
 use Rattle.rpmb_files.specs.Replies.{done_reply}
 use Rattle.rpmb_files.specs.Stores.{StoreState}
 use Rattle.rpmb_files.proofs.Ends.{one_card}
-use Rattle.rpmb_files.proofs.Settling.{live_is}
 
 -- what is left, and what the store knows of it
 pub record PutOutcome (old : StoreState) (port : PortState) (key : List ℕ) (draws kept : ℕ) (u : TableState) (left : Option Doubt) (name : ObjectName) (bytes : List ℕ) (reply : CardReply)

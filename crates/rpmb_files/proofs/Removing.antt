@@ -1,24 +1,21 @@
 -- What a removal leaves, by the end of its write.
-use Rattle.std.proofs.Common.{◌≡◌, ◌≢◌, ◌⊎◌, ◌∙◌, inl, inr, ℕ, zero, suc, ◌+◌, ◌<◌, ◌≤◌, ◌==◌, Bool, true, false, not, List, length, Option, Some, None, Result, Ok, Err, refl, sym, ap, subst, arith}
+use Rattle.std.proofs.Common.{◌≡◌, ◌≢◌, ◌∙◌, inl, inr, ℕ, suc, ◌+◌, ◌≤◌, ◌==◌, Bool, true, List, Option, Some, None, Result, refl, sym, ap, subst, arith}
 use Rattle.std.specs.Prelude.{IsSome, position}
 use Rattle.store_model.specs.declared.name.ObjectName.{ObjectName}
 use Rattle.rpmb_card.specs.Card.{CardState, IsCard}
 use Rattle.rpmb_card.specs.Port.{PortState}
-use Rattle.rpmb_host.specs.Honest.{HasCard, written_card}
-use Rattle.card_maps.specs.declared.change.TableChange.{TableChange}
+use Rattle.rpmb_host.specs.Honest.{HasCard}
 use Rattle.card_maps.specs.declared.change.TableChange.TheVariants.{Remove as RemoveEntry}
-use Rattle.card_maps.specs.CardMaps.{CardMap, bytes_at, card_map}
+use Rattle.card_maps.specs.CardMaps.{CardMap, bytes_at}
 use Rattle.card_maps.specs.Course.{CardReply, Done, Failed, Remove}
 use Rattle.card_maps.specs.Names.{names_of}
 use Rattle.card_maps.specs.Plans.{CardWrite, write_of, written_upto}
-use Rattle.card_maps.specs.Steps.{RemoveRuns}
 use Rattle.card_maps.specs.TableStates.{TableState}
 use Rattle.card_maps.specs.Tables.{IsChangedTable, IsTableOf, has_name, names_in}
 use Rattle.card_maps.proofs.Blocks.{block_zero_stays}
 use Rattle.card_maps.proofs.RemovePlans.{at_live, remove_block, remove_counter, remove_done, remove_runs, remove_table}
 use Rattle.card_maps.proofs.Shown.{bytes_found, names_are}
 use Rattle.rpmb_files.specs.declared.fault.CardFault.{CardFault}
-use Rattle.rpmb_files.specs.declared.fault.CardFault.TheVariants.{Device}
 use Rattle.rpmb_files.specs.declared.plan.PlanEnd.{PlanEnd}
 use Rattle.rpmb_files.specs.declared.plan.PlanEnd.TheVariants.{Landed, Lost, Unknown}
 use Rattle.rpmb_files.specs.declared.store.Doubt.{Doubt}

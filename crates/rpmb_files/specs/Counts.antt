@@ -5,11 +5,11 @@ use Rattle.rpmb_card.specs.Card.{CardState}
 use Rattle.rpmb_card.specs.Port.{PortState}
 use Rattle.rpmb_host.specs.Honest.{HasCard}
 use Rattle.rpmb_files.specs.declared.link.Asked.{Asked}
-use Rattle.rpmb_files.specs.declared.link.Asked.TheVariants.{Same, Next, Untold}
+use Rattle.rpmb_files.specs.declared.link.Asked.TheVariants.{Untold}
 use Rattle.rpmb_files.specs.declared.link.WriteEnd.{WriteEnd}
-use Rattle.rpmb_files.specs.declared.link.WriteEnd.TheVariants.{Landed, Lost, Unknown}
+use Rattle.rpmb_files.specs.declared.link.WriteEnd.TheVariants.{Landed}
 use Rattle.rpmb_files.specs.declared.plan.PlanEnd.{PlanEnd}
-use Rattle.rpmb_files.specs.declared.plan.PlanEnd.TheVariants.{Landed as AllLanded, Lost as OneLost, Unknown as OneUnknown}
+use Rattle.rpmb_files.specs.declared.plan.PlanEnd.TheVariants.{Landed as AllLanded}
 
 -- the arms of a port after so many exchanges more
 abbrev pub arms_after : Arms → (count : ℕ) → Arms
@@ -31,9 +31,9 @@ ExchangesAreCounted =
 abbrev pub RoseBy : (count old new : ℕ) → Type 0
 RoseBy count old new = min (old + count) (2 ^ 64 - 1) ≤ new
 
--- So many writes were made, which stand: two exchanges for each, the write and the read of its result, and one more for each whose
--- result did not come or was refused, the read of the counter. Where this card answers, as many faults of the port were counted as
--- there are exchanges more; so a calm port makes none more.
+-- So many writes were made, which stand. Each takes two exchanges: the write, and the read of its result, or of the counter where the
+-- write was not answered. One whose result did not come, or was refused, takes one more, the read of the counter. Where a card answers
+-- that has the key, the port counted a fault for each one more; over a calm port there is none.
 pub record HasWritten (Answers : Type 0) (old new : PortState) (writes : ℕ) : Type 0 where
   pub more : ℕ
   pub few : more ≤ writes

@@ -1,5 +1,5 @@
 -- What making a change leaves.
-use Rattle.std.specs.Prelude.{◌≡◌, ℕ, Bool, true, false, if◌then◌else◌, List, Option, Some, None, Result, Ok, Err}
+use Rattle.std.specs.Prelude.{◌≡◌, ℕ, Bool, if◌then◌else◌, List, Option, Some, Result, Ok, Err}
 use Rattle.rpmb_card.specs.Port.{PortState}
 use Rattle.card_maps.specs.Plans.{write_count, write_of}
 use Rattle.card_maps.specs.Puts.{map_block}

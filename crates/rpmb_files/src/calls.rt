@@ -63,7 +63,8 @@ impl<R: RpmbPort + Drop, E: Entropy> CardStore<R, E> {
         ensures key { self.new.host.key ≡ self.old.host.key }
         ensures calm { IsTrue (R.state self.old.host.port).calm → IfErr result OfNoCard }
         ensures reliable { E.is_reliable self.old.entropy → E.is_reliable self.new.entropy × IfErr result OfNoDraw }
-        // Done, without a doubt before it: two exchanges for each block that is written, 132 for 16,384 bytes.
+        // Done, with no doubt before it: two exchanges for each block that is written, 132 for 16,384 bytes, and one more for each whose
+        // result was not told.
         ensures exchanges { IsTrue self.old.settled → OnOk result (HasWritten (HadCard (R.state self.old.host.port) self.old.host.key)
             (R.state self.old.host.port) (R.state self.new.host.port) (writes_in (Put (named app id) bytes.now))) }
     {
@@ -93,7 +94,7 @@ impl<R: RpmbPort + Drop, E: Entropy> CardStore<R, E> {
         ensures key { self.new.host.key ≡ self.old.host.key }
         ensures calm { IsTrue (R.state self.old.host.port).calm → IfErr result OfNoCard }
         ensures reliable { E.is_reliable self.old.entropy → E.is_reliable self.new.entropy × IfErr result OfNoDraw }
-        // Done, without a doubt before it: two exchanges.
+        // Done, with no doubt before it: two exchanges, or three where the write's result was not told.
         ensures exchanges { IsTrue self.old.settled → OnOk result (HasWritten (HadCard (R.state self.old.host.port) self.old.host.key)
             (R.state self.old.host.port) (R.state self.new.host.port) (writes_in (Remove (named app id)))) }
     {
@@ -104,7 +105,7 @@ impl<R: RpmbPort + Drop, E: Entropy> CardStore<R, E> {
 #[cfg(test)]
 mod tests {
     use super::*;
-    use crate::{CardHalted, CardName, CardParts};
+    use crate::CardParts;
     use rpmb_card::{CardRig, PROGRAM_KEY, SimCard, SimPort, empty_frame};
     use rpmb_frame::Frame;
     use rpmb_host::Host;
@@ -174,10 +175,13 @@ mod tests {
             Err(CardFault::NotFound)
         );
         assert_eq!(rt; store.remove(app(), id), Err(CardFault::NotFound));
+        let size = 16385;
         assert_eq!(rt;
             store.put(app(), id, &[0; 16385]),
-            Err(CardFault::TooLarge { size: 16385 })
+            Err(CardFault::TooLarge { size })
         );
+        let CardParts { mut host, .. } = store.into_parts();
+        assert_eq!(rt; host.read_counter(&[0; 16]), Ok(4));
         Ok(())
     }
 

@@ -1,4 +1,4 @@
-use Rattle.std.proofs.Common.{◌≡◌, List, Some, ℕ, refl, ap, subst}
+use Rattle.std.proofs.Common.{List, Some, ℕ, refl, ap, subst}
 use Rattle.card_maps.specs.Plans.{write_count, write_of}
 use Rattle.rpmb_files.specs.declared.plan.PlanEnd.{PlanEnd}
 use Rattle.rpmb_files.specs.declared.plan.PlanEnd.TheVariants.{Landed, Lost, Unknown}

@@ -1,4 +1,4 @@
-use Rattle.std.proofs.Common.{◌≡◌, ◌<◌, ◌∙◌, ℕ, List, Some, Option, refl, ap, subst, sym, arith}
+use Rattle.std.proofs.Common.{◌≡◌, ◌∙◌, ℕ, List, Some, refl, ap, subst, sym, arith}
 use Rattle.rpmb_card.specs.Port.{PortState}
 use Rattle.rpmb_host.specs.Calls.{write_wanted}
 use Rattle.rpmb_files.specs.Causes.{CauseStands, LastStays, NoCardAt, OfWrite}
@@ -7,7 +7,7 @@ use Rattle.rpmb_files.specs.Devices.{Devices, GoesOn, devices}
 use Rattle.rpmb_files.specs.Links.{NoneOfBoth, TellsCounter}
 use Rattle.rpmb_files.proofs.Exchanges.{cause_then, goes_then, read_cause, same_faults}
 use Rattle.rpmb_files.proofs.Exchanged.{written_asked, written_told}
-use Rattle.rpmb_files.proofs.Hearing.{last_is, refused, some_written}
+use Rattle.rpmb_files.proofs.Hearing.{refused, some_written}
 use Rattle.rpmb_files.proofs.WriteEnds.{counts_on, none_before, same_leaves, write_goes, writes}
 use Rattle.rpmb_files.proofs.link.CardLink.write.Goals as goal
 

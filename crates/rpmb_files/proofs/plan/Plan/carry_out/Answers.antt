@@ -1,8 +1,7 @@
-use Rattle.std.proofs.Common.{◌≡◌, ◌≢◌, ◌<◌, ◌+◌, ◌==◌, ◌∙◌, ℕ, List, refl, ap, sym, subst, arith}
+use Rattle.std.proofs.Common.{◌≡◌, ◌≢◌, ◌+◌, ◌==◌, ◌∙◌, ℕ, refl, ap, subst, arith}
 use Rattle.rpmb_card.specs.Protocol.{last_counter}
 use Rattle.card_maps.specs.Plans.{write_count, write_of}
 use Rattle.rpmb_files.specs.Devices.{Devices, devices}
-use Rattle.rpmb_files.specs.Carried.{IsCarried}
 use Rattle.rpmb_files.specs.Counts.{HadCardAt, HasWritten}
 use Rattle.rpmb_files.proofs.Carrying.{carried_all, carried_none, step_answers, step_cause, step_goes, step_lost, step_more, step_unknown}
 use Rattle.rpmb_files.proofs.Exchanged.{written_more, written_none}
