@@ -1,5 +1,5 @@
 -- The bytes of an object, block by block, and what a get leaves.
-use Rattle.std.proofs.Common.{◌≡◌, ◌∙◌, ℕ, zero, suc, ◌+◌, ◌-◌, ◌*◌, ◌<◌, ◌≤◌, false, List, [], ◌∷◌, ◌++◌, length, map, take, get_or, Option, Some, None, Result, Ok, Err, refl, sym, ap, subst, length-append, append-nil, append_assoc, true≢false, arith, inl, inr}
+use Rattle.std.proofs.Common.{◌≡◌, ◌∙◌, ℕ, zero, suc, ◌+◌, ◌-◌, ◌<◌, false, List, [], ◌∷◌, ◌++◌, length, map, take, get_or, Option, Some, None, Result, Err, refl, sym, ap, subst, append-nil, append_assoc, true≢false, arith, inl, inr}
 use Rattle.std.proofs.Math.Seq.{take-suc}
 use Rattle.std.proofs.lemmas.List.{length-take, map-append, take_min}
 use Rattle.std.specs.Prelude.{IsSome, is_none, min, position}
@@ -7,7 +7,6 @@ use Rattle.store_model.specs.declared.name.ObjectName.{ObjectName}
 use Rattle.rpmb_card.specs.Card.{CardState, IsCard}
 use Rattle.rpmb_card.specs.Port.{PortState, Sound}
 use Rattle.rpmb_host.specs.Honest.{HasCard}
-use Rattle.tee_types.specs.declared.reply.Cause.{Cause}
 use Rattle.card_maps.specs.CardMaps.{Blocks, CardMap, blocks_of, bytes_at, joined}
 use Rattle.card_maps.specs.Course.{Done, Failed, Get, side}
 use Rattle.card_maps.specs.Form.{numbers_in, size_in}

@@ -1,26 +1,26 @@
 -- A mount, read by read: the table is that of the card, or the first fault is the card's.
 use Rattle.std.proofs.Common.{◌≡◌, ◌∙◌, ◌||◌, ℕ, ◌+◌, ◌<◌, ◌≤◌, Bool, true, false, List, length, get_or, Option, Some, None, Result, Ok, Err, refl, sym, ap, subst, true≢false}
 use Rattle.std.specs.Prelude.{IfErr, IfOk, nat_lt}
-use Rattle.rpmb_card.specs.Card.{CardState, IsCard}
+use Rattle.rpmb_card.specs.Card.{CardState}
 use Rattle.rpmb_card.specs.Port.{PortState, Sound}
 use Rattle.rpmb_host.specs.Honest.{HasCard}
-use Rattle.card_maps.specs.CardMaps.{BadCard, CardMap, blocks_of, card_map, objects_of}
+use Rattle.card_maps.specs.CardMaps.{BadCard, CardMap, blocks_of, objects_of}
 use Rattle.card_maps.specs.CardWrites.{live_in}
 use Rattle.card_maps.specs.Form.{is_live, map_fault}
 use Rattle.card_maps.specs.Loading.{HasEntries, HasNone}
 use Rattle.card_maps.specs.Names.{names_of}
 use Rattle.card_maps.specs.TableStates.{TableState}
-use Rattle.card_maps.specs.Tables.{entry_at, is_used_at, names_in}
+use Rattle.card_maps.specs.Tables.{entry_at, is_used_at}
 use Rattle.card_maps.proofs.Loading.{entries_more, entries_none, entries_skip, entry_refused, live_from, map_refused, table_read}
 use Rattle.card_maps.proofs.Shown.{names_are}
 use Rattle.tee_types.specs.declared.reply.Cause.{Cause}
 use Rattle.rpmb_files.specs.declared.fault.CardFault.{CardFault}
 use Rattle.rpmb_files.specs.declared.fault.CardFault.TheVariants.{TooLarge, NotFound, Full, Spent, Device, Bad, NoMemory}
 use Rattle.rpmb_files.specs.declared.store.Doubt.{Doubt}
-use Rattle.rpmb_files.specs.Calls.{IsMounted, MountFaultStands, Mounts}
+use Rattle.rpmb_files.specs.Calls.{MountFaultStands, Mounts}
 use Rattle.rpmb_files.specs.Causes.{CauseStands, NoCard}
 use Rattle.rpmb_files.specs.Devices.{Devices, GoesOn, devices}
-use Rattle.rpmb_files.specs.Knows.{IsStore, Knows}
+use Rattle.rpmb_files.specs.Knows.{IsStore}
 use Rattle.rpmb_files.specs.Links.{TellsBlock, TellsCounter}
 use Rattle.rpmb_files.specs.Parts.{parts}
 use Rattle.rpmb_files.specs.Reading.{EntriesFault, EntriesRead, EntryFault, EntryRead, MapRead, TableRead}

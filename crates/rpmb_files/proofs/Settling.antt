@@ -1,5 +1,5 @@
 -- A write that was not confirmed, found out.
-use Rattle.std.proofs.Common.{◌≡◌, ◌≢◌, ◌⊎◌, ◌∙◌, inl, inr, ℕ, ◌<◌, Bool, true, false, not, cond, List, Option, Some, None, refl, sym, ap, subst, true≢false}
+use Rattle.std.proofs.Common.{◌≡◌, ◌∙◌, inl, inr, ℕ, ◌<◌, Bool, true, false, not, cond, List, Option, Some, None, refl, sym, ap, subst, true≢false}
 use Rattle.std.specs.Prelude.{is_some}
 use Rattle.rpmb_card.specs.Card.{CardState}
 use Rattle.card_maps.specs.CardMaps.{CardMap, blocks_of}

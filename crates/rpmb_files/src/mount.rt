@@ -30,7 +30,8 @@ impl<R: RpmbPort + Drop, E: Entropy> CardStore<R, E> {
         host: Host<R>,
         entropy: E,
     ) -> Result<CardStore<R, E>, CardHalted<R, E>>
-        ensures mounts { IfOk result (λ s. Mounts host.key (devices (R.state host.port) (E.faults entropy)) (store_state R.state E.faults s)) }
+        ensures mounts { IfOk result (λ s. Mounts host.key (devices (R.state host.port) (E.faults entropy))
+            (store_state R.state E.faults s)) }
         ensures settled { IfOk result (λ s. IsTrue s.settled) }
         ensures fault { IfErr result (λ h. MountFaultStands host.key (devices (R.state host.port) (E.faults entropy))
             (devices (R.state h.host.port) (E.faults h.entropy)) h.fault) }
@@ -173,7 +174,8 @@ fn read_entry<R: RpmbPort, E: Entropy>(
     ensures calm { IsTrue (R.state link.old.host.port).calm → IfErr result OfNoCard }
     ensures reliable { E.is_reliable link.old.entropy → E.is_reliable link.new.entropy × IfErr result OfNoDraw }
     ensures read { OnOk result (EntryRead link.old.host.key (R.state link.old.host.port) b table.old table.new) }
-    ensures fault { IfErr result (EntryFault link.old.host.key b table.old (devices (R.state link.old.host.port) (E.faults link.old.entropy))
+    ensures fault { IfErr result (EntryFault link.old.host.key b table.old
+        (devices (R.state link.old.host.port) (E.faults link.old.entropy))
         (devices (R.state link.new.host.port) (E.faults link.new.entropy))) }
 {
     let block = match link.read_block(b) {

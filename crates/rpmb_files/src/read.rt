@@ -34,7 +34,8 @@ pub(crate) fn get_object<R: RpmbPort, E: Entropy>(
 ) -> Result<Bytes, CardFault>
     ensures leaves { IsStore (R.state link.old.host.port) link.old.host.key link.old.counter table.old doubt.old
         → Leaves (parts (R.state link.old.host.port) link.old.host.key (E.faults link.old.entropy) table.old doubt.old)
-        (parts (R.state link.new.host.port) link.new.host.key (E.faults link.new.entropy) table.new doubt.new) (Get (named app id)) (found_reply result) }
+        (parts (R.state link.new.host.port) link.new.host.key (E.faults link.new.entropy) table.new doubt.new)
+        (Get (named app id)) (found_reply result) }
     ensures store { IsStore (R.state link.old.host.port) link.old.host.key link.old.counter table.old doubt.old
         → IsStore (R.state link.new.host.port) link.new.host.key link.new.counter table.new doubt.new }
     ensures cause { IsStore (R.state link.old.host.port) link.old.host.key link.old.counter table.old doubt.old

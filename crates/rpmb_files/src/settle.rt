@@ -27,7 +27,8 @@ pub(crate) fn settle<R: RpmbPort, E: Entropy>(
     ensures settled { OnOk result (doubt.new ≡ None) }
     ensures knows { OnOk result ((card : CardState) → HasCard (R.state link.old.host.port) link.old.host.key card
         → Knows link.old.counter table.old doubt.old card → Knows link.new.counter table.new None card) }
-    ensures kept { OnErr result ((link.new.counter ≡ link.old.counter) × (table.new ≡ table.old) × (doubt.new ≡ doubt.old) × IsSome doubt.old) }
+    ensures kept { OnErr result ((link.new.counter ≡ link.old.counter) × (table.new ≡ table.old)
+        × (doubt.new ≡ doubt.old) × IsSome doubt.old) }
     ensures idle { doubt.old ≡ None → (link.new ≡ link.old) × (table.new ≡ table.old) }
     ensures cause { IfErr result (CauseStands (NoCard link.old.host.key (devices (R.state link.old.host.port) (E.faults link.old.entropy)))
         link.old.host.key (devices (R.state link.old.host.port) (E.faults link.old.entropy))

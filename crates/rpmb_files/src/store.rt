@@ -44,7 +44,12 @@ impl<R: RpmbPort + Drop, E: Entropy> Model for CardStore<R, E> {
 
     ghost Value = { StoreValue R E };
 
-    ghost view = { λ s. record { host = s.link.host; entropy = s.link.entropy; shown = names_in s.table.entries; settled = is_none s.doubt } };
+    ghost view = { λ s. record {
+      host = s.link.host;
+      entropy = s.link.entropy;
+      shown = names_in s.table.entries;
+      settled = is_none s.doubt;
+    } };
 
     ghost use Rattle.rpmb_files.specs.Knows.{IsStore};
 

@@ -1,10 +1,8 @@
-use Rattle.std.proofs.Common.{◌≡◌, ◌∙◌, ◌+◌, ◌<◌, ◌≤◌, ◌%◌, ℕ, List, true, false, refl, sym, ap, subst, arith}
+use Rattle.std.proofs.Common.{◌≡◌, ◌∙◌, ℕ, List, refl, sym, subst, arith}
 use Rattle.card_maps.specs.CardMaps.{blocks_of}
 use Rattle.card_maps.specs.CardWrites.{live_in}
-use Rattle.card_maps.specs.Form.{is_live}
 use Rattle.card_maps.specs.Loading.{HasEntries}
-use Rattle.rpmb_files.specs.Devices.{Devices, GoesOn, devices}
-use Rattle.rpmb_files.proofs.Exchanges.{goes_then}
+use Rattle.rpmb_files.specs.Devices.{Devices, devices}
 use Rattle.rpmb_files.proofs.Mounting.{entry_fault_then, read_more, read_none, read_skip}
 use Rattle.rpmb_files.proofs.mount.read_entries.Goals as goal
 

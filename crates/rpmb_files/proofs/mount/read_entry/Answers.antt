@@ -1,4 +1,4 @@
-use Rattle.std.proofs.Common.{◌≡◌, ℕ, List, refl, subst, sym}
+use Rattle.std.proofs.Common.{ℕ, List, refl, subst, sym}
 use Rattle.card_maps.specs.Loading.{IsAdded, IsRefused}
 use Rattle.rpmb_files.proofs.mount.read_entry.Goals as goal
 

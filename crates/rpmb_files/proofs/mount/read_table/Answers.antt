@@ -1,4 +1,4 @@
-use Rattle.std.proofs.Common.{◌≡◌, ◌∙◌, ℕ, List, refl, sym, subst}
+use Rattle.std.proofs.Common.{ℕ, List, subst}
 use Rattle.rpmb_files.specs.Devices.{Devices, GoesOn, devices}
 use Rattle.rpmb_files.proofs.Exchanges.{goes_then}
 use Rattle.rpmb_files.proofs.Mounting.{fault_result, table_result}

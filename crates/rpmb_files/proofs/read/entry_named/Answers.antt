@@ -1,4 +1,4 @@
-use Rattle.std.proofs.Common.{◌≡◌, ◌∙◌, sym, inl}
+use Rattle.std.proofs.Common.{sym, inl}
 use Rattle.card_maps.specs.Tables.{named}
 use Rattle.rpmb_files.proofs.Getting.{names_entry}
 use Rattle.rpmb_files.proofs.read.entry_named.Goals as goal

@@ -1,4 +1,4 @@
-use Rattle.std.proofs.Common.{◌≡◌, ◌∙◌, ℕ, List, None, refl, sym, subst}
+use Rattle.std.proofs.Common.{◌∙◌, ℕ, List, None, sym, subst}
 use Rattle.card_maps.specs.Tables.{named}
 use Rattle.rpmb_files.specs.Devices.{Devices, GoesOn, devices}
 use Rattle.rpmb_files.specs.Knows.{Knows}

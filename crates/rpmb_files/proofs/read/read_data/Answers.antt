@@ -1,4 +1,4 @@
-use Rattle.std.proofs.Common.{◌≡◌, ◌-◌, ◌++◌, ℕ, List, length, take, ap, sym, ◌∙◌, arith}
+use Rattle.std.proofs.Common.{◌++◌, ℕ, take, ap, ◌∙◌, arith}
 use Rattle.card_maps.specs.CardMaps.{blocks_of}
 use Rattle.rpmb_files.proofs.Getting.{block_more}
 use Rattle.rpmb_files.proofs.read.read_data.Goals as goal

@@ -1,4 +1,4 @@
-use Rattle.std.proofs.Common.{◌≡◌, ◌∙◌, ℕ, List, Option, Some, ap, sym}
+use Rattle.std.proofs.Common.{◌∙◌, ℕ, List, Option, Some, ap, sym}
 use Rattle.card_maps.specs.Tables.{named}
 use Rattle.rpmb_files.specs.Devices.{devices}
 use Rattle.rpmb_files.proofs.Ends.{sound_card}

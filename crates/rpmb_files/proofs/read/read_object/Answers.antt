@@ -1,6 +1,5 @@
-use Rattle.std.proofs.Common.{◌≡◌, ◌∙◌, ℕ, List, Result, Ok, length, map, take, get_or, refl, sym, ap, subst, arith}
+use Rattle.std.proofs.Common.{◌≡◌, ◌∙◌, ℕ, List, map, take, refl, sym, ap, subst, arith}
 use Rattle.std.proofs.lemmas.List.{take_all}
-use Rattle.rpmb_card.specs.Card.{CardState}
 use Rattle.card_maps.specs.CardMaps.{blocks_of, joined}
 use Rattle.card_maps.specs.Form.{size_in}
 use Rattle.rpmb_files.specs.Devices.{Devices, GoesOn, devices}
