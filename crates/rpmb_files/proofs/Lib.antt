@@ -1,0 +1,15 @@
+pub mod Hearing
+pub mod Exchanges
+pub mod Exchanged
+pub mod WriteEnds
+pub mod Carrying
+pub mod DataBlocks
+pub mod Ends
+pub mod Settling
+pub mod Mounting
+pub mod Outcomes
+pub mod Putting
+pub mod Removing
+pub mod Getting
+pub mod FirstBlock
+pub mod Changing

@@ -1,0 +1,13 @@
+pub mod Devices
+pub mod FirstBlock
+pub mod Causes
+pub mod Counts
+pub mod Links
+pub mod Carried
+pub mod Replies
+pub mod Stores
+pub mod Knows
+pub mod Makes
+pub mod Parts
+pub mod Reading
+pub mod Calls
