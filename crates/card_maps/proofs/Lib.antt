@@ -1,0 +1,27 @@
+pub mod Ranges
+pub mod Entries
+pub mod Bits
+pub mod Lists
+pub mod Writes
+pub mod Flips
+pub mod Blocks
+pub mod CardWrites
+pub mod Chunks
+pub mod Codec
+mod Rows
+pub mod Faults
+pub mod Steps
+pub mod Writing
+pub mod Courses
+pub mod Users
+pub mod Counting
+pub mod Chosen
+pub mod Prefixes
+pub mod Finds
+pub mod PutPlans
+pub mod Changes
+pub mod RemovePlans
+pub mod Shown
+pub mod PlanWrites
+pub mod Loading
+pub mod Kept

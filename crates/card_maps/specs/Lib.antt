@@ -1,0 +1,12 @@
+pub mod Form
+pub mod CardMaps
+pub mod Puts
+pub mod Steps
+pub mod CardWrites
+pub mod NameOrder
+pub mod Names
+pub mod Course
+pub mod TableStates
+pub mod Tables
+pub mod Plans
+pub mod Loading

@@ -1,0 +1,11 @@
+pub mod Hearing
+pub mod Exchanges
+pub mod WriteEnds
+pub mod Carrying
+pub mod DataBlocks
+pub mod Ends
+pub mod Settling
+pub mod Outcomes
+pub mod Putting
+pub mod Removing
+pub mod Getting

@@ -1,0 +1,11 @@
+pub mod Devices
+pub mod Causes
+pub mod Links
+pub mod Carried
+pub mod Replies
+pub mod Stores
+pub mod Knows
+pub mod Makes
+pub mod Parts
+pub mod Reading
+pub mod Calls
