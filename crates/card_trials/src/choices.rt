@@ -26,7 +26,7 @@ fn size_of(kind: u8, low: u8, high: u8) -> u16 {
     match kind % 32 {
         0 => 16384,
         1 => 16385,
-        2..=5 => u16::from(high) * 64 + u16::from(low),
+        2..=5 => u16::from(high) * 16 + u16::from(low),
         6..=15 => u16::from(low),
         _ => u16::from(low) % 4 * 256 + u16::from(high) % 2,
     }

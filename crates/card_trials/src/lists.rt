@@ -50,10 +50,7 @@ fn refusal(objects: &Objects, content: Content) -> Option<CardFault> {
             size: u64::from(content.size),
         })
     } else if free < need {
-        Some(CardFault::Full {
-            need,
-            free,
-        })
+        Some(CardFault::Full { need, free })
     } else {
         None
     }

@@ -22,7 +22,7 @@ mod objects;
 mod stops;
 
 /// How many lists are run.
-const LISTS: u32 = 3;
+const LISTS: u32 = 40;
 
 /// How many writes the counter leaves at most.
 const LEFT: u32 = 6;
@@ -60,11 +60,7 @@ fn main(rt: HostRuntime) -> anyhow::Result<()> {
     let counts = run_lists(rt.alloc(), LISTS)?;
     println!(rt;
         "{LISTS} lists, {} calls, {} failed, {} of them done, {} refused, {} differ from a map",
-        counts.calls,
-        counts.failed,
-        counts.landed,
-        counts.refused,
-        counts.differ
+        counts.calls, counts.failed, counts.landed, counts.refused, counts.differ
     )?;
     if lost > 0 || counts.differ > 0 {
         anyhow::bail!("something differs");

@@ -11,6 +11,7 @@ const MOST: u64 = 1000;
 
 /// The object that is put, put again and removed, and one that stands beside it.
 const OBJECT: usize = 0;
+
 const OTHER: usize = 5;
 
 /// A change of one object.

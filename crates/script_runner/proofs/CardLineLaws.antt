@@ -147,10 +147,13 @@ module _ {R E : Type 0} (of_port : R → PortState) (draws : E → ℕ) (Reliabl
       (rearmed : Rearmed (of_port run.store.host.port) (of_port store.host.port) (arm_stop (of_port run.store.host.port).arms number))
       (key : store.host.key ≡ run.store.host.key) (entropy : store.entropy ≡ run.store.entropy) (shown : store.shown ≡ run.store.shown) (settled : store.settled ≡ run.store.settled) where
     armed : DoesLine Reliable line (Told Done) (store_state of_port draws run.store) (store_state of_port draws store)
-    armed = subst (λ l. DoesLine Reliable l (Told Done) (store_state of_port draws run.store) (store_state of_port draws store)) (sym is) (refl, record {
-      port = subst (λ n. Rearmed (of_port run.store.host.port) (of_port store.host.port) (arm_stop (of_port run.store.host.port).arms n)) same rearmed;
-      others = λ i. record { devices = devices (of_port store.host.port) (draws (entropy i)); key = key i; shown = shown i; settled = settled i };
-    })
+    armed = subst (λ l. DoesLine Reliable l (Told Done) (store_state of_port draws run.store) (store_state of_port draws store)) (sym is) (
+      refl,
+      record {
+        port = subst (λ n. Rearmed (of_port run.store.host.port) (of_port store.host.port) (arm_stop (of_port run.store.host.port).arms n)) same rearmed;
+        others = λ i. record { devices = devices (of_port store.host.port) (draws (entropy i)); key = key i; shown = shown i; settled = settled i };
+      },
+    )
 
     pub goes_on-armed : (next : CardRun R E) → IsLineSent held_old held_new (record_text run.at line (Told Done)) (record run { store = store }) next
         → CardGoesOn of_port draws Reliable line held_old held_new run next

@@ -48,5 +48,5 @@ pub Stops-at_name : (held between new : Option (List ℕ)) (kept_old kept : List
     → Sends held between kept_old kept (listed_upto place line names i) → Stops between new kept (name_line name) → Stops held new kept_old (answer_line place line Done ++ names_text names)
 Stops-at_name held between new kept_old kept place line names i name lt at sent stops =
     let here : Stops held new kept_old (listed_upto place line names (i + 1)) =
-        subst (Stops held new kept_old) (sym (listed_upto-more place line names i name lt at)) (Stops-append held between new kept_old kept _ _ sent stops) in
+    subst (Stops held new kept_old) (sym (listed_upto-more place line names i name lt at)) (Stops-append held between new kept_old kept _ _ sent stops) in
     subst (Stops held new kept_old) (sym (listed_upto-rest place line names (i + 1))) (Stops-longer held new kept_old _ _ here)

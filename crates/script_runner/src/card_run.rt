@@ -27,10 +27,7 @@ use std::alloc::Global;
 use tee_ports::{Entropy, Sink, Source};
 
 /// Puts the text that is left, where every line was done.
-fn finish<K: Sink, R: CardRig + Drop, E: Entropy>(
-    run: CardRun<R, E>,
-    sink: &mut K,
-) -> CardEnd<R>
+fn finish<K: Sink, R: CardRig + Drop, E: Entropy>(run: CardRun<R, E>, sink: &mut K) -> CardEnd<R>
     ensures card { result.card ≡ run.store.host.port }
     ensures prints { PrintsLines (Rose (K.faults sink.old) (K.faults sink.new) ⊎ K.is_full sink.new) (K.held sink.old) (K.held sink.new) run.kept.items result.status }
     ensures counted { K.faults sink.old ≤ K.faults sink.new }
@@ -127,11 +124,11 @@ pub(crate) fn run_card<S: Source, K: Sink, F: Drop, R: CardRig + Drop, E: Entrop
     entropy: &E,
 ) -> RunEnd<F, R>
     ensures card { RunsCard (E.is_reliable entropy.now) (rpmb_key keys.now.huk) (S.left source.old) (S.left source.new) (K.held sink.old) (K.held sink.new) (record {
-          source_failed = Rose (S.faults source.old) (S.faults source.new);
-          source_ended = S.has_ended source.new;
-          sink_failed = Rose (K.faults sink.old) (K.faults sink.new);
-          sink_full = K.is_full sink.new;
-        }) (R.state bench.card) (R.state result.bench.card) result.status }
+      source_failed = Rose (S.faults source.old) (S.faults source.new);
+      source_ended = S.has_ended source.new;
+      sink_failed = Rose (K.faults sink.old) (K.faults sink.new);
+      sink_full = K.is_full sink.new;
+    }) (R.state bench.card) (R.state result.bench.card) result.status }
     ensures files { result.bench.files ≡ bench.files }
     ensures usage { result.status ≢ Status.Usage }
 
@@ -151,8 +148,7 @@ pub(crate) fn run_card<S: Source, K: Sink, F: Drop, R: CardRig + Drop, E: Entrop
     };
     drop(text);
     let Bench { files, card } = bench;
-    let CardEnd { status, card } =
-        run_lines(alloc, &script, sink, card, keys, entropy.stream(0));
+    let CardEnd { status, card } = run_lines(alloc, &script, sink, card, keys, entropy.stream(0));
     RunEnd {
         status,
         bench: Bench { files, card },

@@ -11,5 +11,5 @@ unfolding card_map_line
 returns-clause-ok c =
     let out = c.args.out.now.items in
     line-of out _ _ _ (codes "# refused card-map ") (decimal c.args.block) (codes " ") (codes "\n")
-        (c.in_ok-put_word_number.ensures.ok ∙ ap (λ n. out ++ codes "# refused card-map " ++ decimal n) c.from.ensures) (decimal c.args.offset)
-        (c.in_ok-put_word_number-2.ensures.ok ∙ ap (λ n. c.put_word_number.new.out.items ++ codes " " ++ decimal n) c.from-2.ensures) c.in_ok-put.ensures.ok
+    (c.in_ok-put_word_number.ensures.ok ∙ ap (λ n. out ++ codes "# refused card-map " ++ decimal n) c.from.ensures) (decimal c.args.offset)
+    (c.in_ok-put_word_number-2.ensures.ok ∙ ap (λ n. c.put_word_number.new.out.items ++ codes " " ++ decimal n) c.from-2.ensures) c.in_ok-put.ensures.ok
