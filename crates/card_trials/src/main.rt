@@ -22,7 +22,7 @@ mod objects;
 mod stops;
 
 /// How many lists are run.
-const LISTS: u32 = 40;
+const LISTS: u32 = 2000;
 
 /// How many writes the counter leaves at most.
 const LEFT: u32 = 6;
