@@ -1,5 +1,7 @@
 // Names, objects and the finite map that a store is compared with.
 
+ghost use Rattle.std.specs.Prelude.{◌≤◌};
+
 use std::alloc::{AllocError, Global};
 use tee_types::{AppId, BadId, ObjectId};
 use uuid::Uuid;
@@ -12,6 +14,18 @@ const MOST_BYTES: u16 = 16384;
 
 /// The blocks of a card that objects may have.
 const BLOCKS: u16 = 254;
+
+// How many bytes the identifier of that number has.
+fn length_of(number: usize) -> usize
+    ensures { result ≤ 64 }
+{
+    match number % 4 {
+        0 => 1,
+        1 => 2,
+        2 => 63,
+        _ => 64,
+    }
+}
 
 /// The name of an object. In the order of the numbers they are sorted.
 #[derive(Clone, Copy)]
@@ -26,15 +40,9 @@ impl Name {
         let mut app = [0; 16];
         app[0] = if number < 4 { 1 } else { 2 };
         let letters = [0x61; 64];
-        let id = match number % 4 {
-            0 => &letters[..1],
-            1 => &letters[..2],
-            2 => &letters[..63],
-            _ => &letters[..],
-        };
         Ok(Name {
             app: AppId::from_uuid(Uuid::from_bytes(app)),
-            id: ObjectId::new(id)?,
+            id: ObjectId::new(&letters[..length_of(number)])?,
         })
     }
 }
