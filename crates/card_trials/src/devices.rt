@@ -3,7 +3,7 @@
 use crate::objects::{Content, NAMES, Name, Objects};
 use anyhow::bail;
 use rpmb_card::{PROGRAM_KEY, SimCard, SimPort, empty_frame};
-use rpmb_files::{CardFault, CardParts, CardStore};
+use rpmb_files::{CardFault, CardName, CardParts, CardStore};
 use rpmb_frame::Frame;
 use rpmb_host::Host;
 use seed_words::SeedEntropy;
@@ -111,24 +111,32 @@ pub fn gives(
     found(alloc, answer, objects.at(number))
 }
 
+// A name of a list is that of the object of that number.
+fn is_listed(found: Option<&CardName>, number: usize, content: Content) -> anyhow::Result<bool> {
+    let name = name_of(number)?;
+    match found {
+        Some(found) => {
+            Ok(found.app == name.app && found.id == name.id && found.size == content.size)
+        }
+        None => Ok(false),
+    }
+}
+
 /// The store lists the names of the map with their sizes, in order.
 pub fn lists(alloc: Global, store: &Store, objects: &Objects) -> anyhow::Result<bool> {
     let Ok(names) = store.list(alloc) else {
         return Ok(false);
     };
-    let mut listed = names.as_slice().iter();
+    let mut at = 0usize;
     for number in 0..NAMES {
-        let Some(content) = objects.at(number) else {
-            continue;
-        };
-        let name = name_of(number)?;
-        match listed.next() {
-            Some(found)
-                if found.app == name.app && found.id == name.id && found.size == content.size => {}
-            _ => return Ok(false),
+        if let Some(content) = objects.at(number) {
+            if !is_listed(names.as_slice().get(at), number, content)? {
+                return Ok(false);
+            }
+            at = at.saturating_add(1);
         }
     }
-    Ok(listed.next().is_none())
+    Ok(at == names.len())
 }
 
 /// The store holds the objects of the map, and lists them.
