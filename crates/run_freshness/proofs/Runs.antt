@@ -9,7 +9,7 @@ use Rattle.run_acts.specs.Benches.{BenchState}
 use Rattle.run_acts.specs.declared.MountFault.{MountFault}
 use Rattle.run_acts.specs.Opens.{OpensBench, found, made}
 use Rattle.script_runner.specs.declared.status.Status.{Status}
-use Rattle.script_runner.specs.declared.status.Status.TheVariants.{BadLine, DeviceFault, Done, FileFault, MountRefused, NoMemory, ReadFault, TooLong, Usage, WriteFault}
+use Rattle.script_runner.specs.declared.status.Status.TheVariants.{BadLine, CardMapRefused, DeviceFault, Done, FileFault, MountRefused, NoMemory, ReadFault, TooLong, Usage, WriteFault}
 use Rattle.script_runner.specs.Course.{GoesUntil}
 use Rattle.script_runner.specs.Ending.{EndsActs, EndsBench, EndsForMemory, EndsRun, RecordsRefusal}
 use Rattle.script_runner.specs.RunCauses.{World}
@@ -54,6 +54,7 @@ module _ {F R : Type 0} (of_file : F → FileState) (of_port : R → PortState) 
     acts_fresh drew draws NoMemory ends = starved_fresh drew draws ends
     acts_fresh drew draws Usage ends = tt
     acts_fresh drew draws (FileFault broken) ends = tt
+    acts_fresh drew draws (CardMapRefused block offset) ends = tt
     acts_fresh drew draws (BadLine line) ends = tt
     acts_fresh drew draws ReadFault ends = tt
     acts_fresh drew draws (TooLong excess) ends = tt
@@ -80,6 +81,7 @@ module _ {F R : Type 0} (of_file : F → FileState) (of_port : R → PortState) 
     source_fresh NoMemory (inr (script, read, ends)) = script_fresh script NoMemory ends
     source_fresh Usage same = tt
     source_fresh (FileFault broken) same = tt
+    source_fresh (CardMapRefused block offset) same = tt
     source_fresh (BadLine line) same = tt
     source_fresh ReadFault same = tt
     source_fresh (TooLong excess) same = tt

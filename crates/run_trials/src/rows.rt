@@ -2,13 +2,14 @@
 // that does, and how many rows there are.
 //
 // The rows are read from standard input. A row begins with a line `== NAME status NUMBER`, where behind status 3 stands
-// `line N` and behind status 8 `bytes` or `apps N`. Lines of settings may follow, then the script, then a line `--`, and then
+// `line N`, behind status 8 `bytes` or `apps N`, and behind status 6 of a card's objects `card-map BLOCK OFFSET`. Lines of settings may follow, then the script, then a line `--`, and then
 // what must be put, where empty lines are passed over. What stands before the first row is passed over, too.
 //
 // A setting is `= words WORD..` (the command line, else `run`), `= source fails N` (its call N), `= sink holds N` (so many bytes),
 // `= padded to N` (empty lines behind the script, up to so many bytes), `= card fails N` (its exchange N), `= same bench` (the one that the row
 // before left, else devices that were never used), `= old store` (a store of the old format, with three objects, one of which has a bad block
-// and one is damaged), `= worn` (the card's write counter is at its end), or `= exchanged` (files 1 and 2 of the bench are exchanged).
+// and one is damaged), `= worn` (the card's write counter is at its end), `= exchanged` (files 1 and 2 of the bench are exchanged), or
+// `= map block NN` (block 1 of a new card is the byte of these hex digits, and zeros).
 //
 // In a line `{TEXT*N}` stands for N times that text, `{xNN}` for the byte of two hex digits, and `{end}` at its end says that no
 // newline follows. A line `for A to B: TEXT` stands for one line for each number, where `{n}` is the number and `{n:04x}` its

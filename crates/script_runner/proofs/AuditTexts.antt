@@ -12,7 +12,7 @@ use Rattle.run_acts.specs.declared.MountFault.{MountFault}
 use Rattle.run_acts.specs.declared.MountFault.TheVariants.{CardBlock, CardResult, Directory, Failed, Frame, NoMemory as NoCardMemory, NoStore, OldFormat, Spent}
 use Rattle.run_acts.specs.Lines.{refusal_line}
 use Rattle.script_runner.specs.declared.status.Status.{Status}
-use Rattle.script_runner.specs.declared.status.Status.TheVariants.{BadLine, DeviceFault, Done, FileFault, MountRefused, NoMemory, ReadFault, TooLong, Usage, WriteFault}
+use Rattle.script_runner.specs.declared.status.Status.TheVariants.{BadLine, CardMapRefused, DeviceFault, Done, FileFault, MountRefused, NoMemory, ReadFault, TooLong, Usage, WriteFault}
 use Rattle.script_runner.specs.Audits.{RunsAudit}
 use Rattle.script_runner.specs.Prints.{PrintsLines, PrintsRefusal}
 use Rattle.script_runner.specs.RunRefusals.{IsDeviceFault, IsRefusal}
@@ -48,6 +48,7 @@ module _ (keys : Keys) (failed : Type 0) (held_old held_new : Option (List ℕ))
   runs_listed audits (MountRefused fault) t = absurd t
   runs_listed audits (DeviceFault fault) t = absurd t
   runs_listed audits (FileFault fault) t = absurd t
+  runs_listed audits (CardMapRefused block offset) t = absurd t
 
   -- those of the first objects, where a call of a file failed
   pub runs_failed : (fault : FolderFault) → AuditsFolder keys old new lines {A = Unit {0}} (Err (FileFailed fault)) → (told : Status) → PrintsLines failed held_old held_new lines told
@@ -80,6 +81,7 @@ module _ (keys : Keys) (failed : Type 0) (held_old held_new : Option (List ℕ))
   runs_failed fault audits (MountRefused refusal) t = absurd t
   runs_failed fault audits (DeviceFault refusal) t = absurd t
   runs_failed fault audits (FileFault other) t = absurd t
+  runs_failed fault audits (CardMapRefused block offset) t = absurd t
 
   -- or memory ran out
   pub runs_starved : AuditsFolder keys old new lines {A = Unit {0}} (Err NoRoom) → (told : Status) → PrintsLines failed held_old held_new lines told → RunsAudit keys failed held_old held_new old new NoMemory
@@ -111,6 +113,7 @@ module _ (keys : Keys) (failed : Type 0) (held_old held_new : Option (List ℕ))
   runs_starved audits (MountRefused refusal) t = absurd t
   runs_starved audits (DeviceFault refusal) t = absurd t
   runs_starved audits (FileFault other) t = absurd t
+  runs_starved audits (CardMapRefused block offset) t = absurd t
 
   -- A STORE THAT IS REFUSED
   -- it is refused for what was read
@@ -181,3 +184,4 @@ module _ (keys : Keys) (failed : Type 0) (held_old held_new : Option (List ℕ))
   runs_refused fault audits ReadFault t = absurd t
   runs_refused fault audits (TooLong excess) t = absurd t
   runs_refused fault audits (FileFault other) t = absurd t
+  runs_refused fault audits (CardMapRefused block offset) t = absurd t

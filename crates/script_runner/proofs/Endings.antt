@@ -14,7 +14,7 @@ use Rattle.run_acts.specs.Lines.{refusal_line, why_text}
 use Rattle.run_acts.specs.Benches.{BenchState}
 use Rattle.run_acts.specs.Crashes.{CrashesInPart}
 use Rattle.script_runner.specs.declared.status.Status.{Status}
-use Rattle.script_runner.specs.declared.status.Status.TheVariants.{BadLine, DeviceFault, Done, FileFault, MountRefused, NoMemory, ReadFault, TooLong, Usage, WriteFault}
+use Rattle.script_runner.specs.declared.status.Status.TheVariants.{BadLine, CardMapRefused, DeviceFault, Done, FileFault, MountRefused, NoMemory, ReadFault, TooLong, Usage, WriteFault}
 use Rattle.script_runner.specs.Sending.{Begins, IsWriteError, Sends, Stops}
 use Rattle.script_runner.proofs.Sent.{Sends-append, Stops-longer}
 use Rattle.script_runner.specs.Text.{Act, Do, Refused, RunRecord, Serve, acts_of, acts_text}
@@ -33,6 +33,7 @@ pub HasActCause-behind : (failed : Type 0) (front put text all : List ℕ) (stat
 HasActCause-behind failed front put text all Done e h = ap (λ t. front ++ t) h ∙ sym e
 HasActCause-behind failed front put text all Usage e h = h
 HasActCause-behind failed front put text all (FileFault broken) e h = h
+HasActCause-behind failed front put text all (CardMapRefused block offset) e h = h
 HasActCause-behind failed front put text all (BadLine line) e h = h
 HasActCause-behind failed front put text all ReadFault e h = h
 HasActCause-behind failed front put text all WriteFault e h = h
@@ -50,6 +51,7 @@ pub HasActCause-failed : (failed more : Type 0) (put text : List ℕ) (status : 
 HasActCause-failed failed more put text Done f h = h
 HasActCause-failed failed more put text Usage f h = h
 HasActCause-failed failed more put text (FileFault broken) f h = h
+HasActCause-failed failed more put text (CardMapRefused block offset) f h = h
 HasActCause-failed failed more put text (BadLine line) f h = h
 HasActCause-failed failed more put text ReadFault f h = h
 HasActCause-failed failed more put text WriteFault f h = f h
@@ -131,6 +133,7 @@ module _ {F R : Type 0} (of_file : F → FileState) (of_port : R → PortState) 
   EndsActs-behind apps arms done acts records more old mid new Done h g = until-behind apps arms done acts records more [] old mid new h g
   EndsActs-behind apps arms done acts records more old mid new Usage h g = g
   EndsActs-behind apps arms done acts records more old mid new (FileFault broken) h g = g
+  EndsActs-behind apps arms done acts records more old mid new (CardMapRefused block offset) h g = g
   EndsActs-behind apps arms done acts records more old mid new (BadLine line) h g = g
   EndsActs-behind apps arms done acts records more old mid new ReadFault h g = g
   EndsActs-behind apps arms done acts records more old mid new WriteFault h g = one g
@@ -226,6 +229,7 @@ module _ {F R : Type 0} (of_file : F → FileState) (of_port : R → PortState) 
   EndsFrom-refused script failed old held given fault Done h t = absurd t
   EndsFrom-refused script failed old held given fault Usage h t = absurd t
   EndsFrom-refused script failed old held given fault (FileFault broken) h t = absurd t
+  EndsFrom-refused script failed old held given fault (CardMapRefused block offset) h t = absurd t
   EndsFrom-refused script failed old held given fault (BadLine line) h t = absurd t
   EndsFrom-refused script failed old held given fault ReadFault h t = absurd t
   EndsFrom-refused script failed old held given fault WriteFault h t =
@@ -321,6 +325,7 @@ module _ {F R : Type 0} (of_file : F → FileState) (of_port : R → PortState) 
       one Done x = absurd x
       one Usage x = absurd x
       one (FileFault broken) x = absurd x
+      one (CardMapRefused block offset) x = absurd x
       one (BadLine line) x = absurd x
       one ReadFault x = absurd x
       one (TooLong excess) x = absurd x

@@ -7,7 +7,7 @@ use Rattle.rpmb_card.specs.Port.{PortState}
 use Rattle.script_text.specs.Script.{ScriptValue}
 use Rattle.run_acts.specs.Benches.{bench_state}
 use Rattle.script_runner.specs.declared.status.Status.{Status}
-use Rattle.script_runner.specs.declared.status.Status.TheVariants.{BadLine, DeviceFault, Done, FileFault, MountRefused, NoMemory, ReadFault, TooLong, Usage, WriteFault}
+use Rattle.script_runner.specs.declared.status.Status.TheVariants.{BadLine, CardMapRefused, DeviceFault, Done, FileFault, MountRefused, NoMemory, ReadFault, TooLong, Usage, WriteFault}
 use Rattle.script_runner.specs.Sending.{IsWriteError, Stops}
 use Rattle.script_runner.specs.declared.run_state.Run.{Run}
 use Rattle.script_runner.specs.Text.{acts_of}
@@ -29,6 +29,7 @@ module _ {F R : Type 0} (of_file : F → FileState) (of_port : R → PortState) 
   EndsFrom-printed WriteFault t = not_put WriteFault t.1 t.0
   EndsFrom-printed Usage t = absurd t
   EndsFrom-printed (FileFault broken) t = absurd t
+  EndsFrom-printed (CardMapRefused block offset) t = absurd t
   EndsFrom-printed (BadLine line) t = absurd t
   EndsFrom-printed ReadFault t = absurd t
   EndsFrom-printed (TooLong excess) t = absurd t

@@ -31,7 +31,7 @@ use Rattle.run_acts.proofs.Opened.{formed_benches_hold_none}
 use Rattle.run_acts.proofs.Untainted.{crashes_stay_untainted, openings_stay_untainted, untainted_files_are_honest, untainted_then}
 use Rattle.script_runner.specs.declared.status.Excess.TheVariants.{Apps, Bytes}
 use Rattle.script_runner.specs.declared.status.Status.{Status}
-use Rattle.script_runner.specs.declared.status.Status.TheVariants.{BadLine, DeviceFault, Done, FileFault, MountRefused, NoMemory, ReadFault, TooLong, Usage, WriteFault}
+use Rattle.script_runner.specs.declared.status.Status.TheVariants.{BadLine, CardMapRefused, DeviceFault, Done, FileFault, MountRefused, NoMemory, ReadFault, TooLong, Usage, WriteFault}
 use Rattle.script_runner.specs.Course.{RefusesFirst}
 use Rattle.script_runner.specs.Ending.{EndsBench, EndsRun, EndsScript, NotOpened, Shut}
 use Rattle.script_runner.specs.HeldRuns.{BeginsWith, FormattedRunsStand, HoldsBehind, IsBlankBench, IsWhole, NoneStarved, RunsHoldLeft}
@@ -286,6 +286,7 @@ module _ (keys : Keys) where
     stands_shut Done cause ends = absurd ends
     stands_shut Usage cause ends = absurd ends
     stands_shut (FileFault broken) cause ends = absurd ends
+    stands_shut (CardMapRefused block offset) cause ends = absurd ends
     stands_shut (BadLine line) cause ends = absurd ends
     stands_shut ReadFault cause ends = absurd ends
     stands_shut (TooLong excess) cause ends = absurd ends
@@ -323,6 +324,7 @@ module _ (keys : Keys) where
     formatted_stands NoMemory cause (inr ends) = stands_script NoMemory (λ fault same. absurd cc) ends
     formatted_stands Usage cause ends = absurd cause
     formatted_stands (FileFault broken) cause ends = absurd cause
+    formatted_stands (CardMapRefused block offset) cause ends = absurd cause
     formatted_stands (BadLine line) cause ends = absurd (no_fault (BadLineFault line) cause.1)
     formatted_stands ReadFault cause ends = stands_silent ReadFault (λ done. cc) (λ fault same. cc) cause.2
     formatted_stands (TooLong Bytes) cause ends = stands_silent (TooLong Bytes) (λ done. cc) (λ fault same. cc) cause.1

@@ -27,3 +27,12 @@ pub mod CalmPorts
 pub mod CalmFiles
 pub mod CountLaws
 pub mod HeldRuns
+pub mod CardTexts
+pub mod CardLineLaws
+pub mod CardLoops
+pub mod CardEndings
+pub mod CardWholes
+pub mod CardPointLaws
+pub mod CardMapRuns
+pub mod CardCounts
+pub mod CardQuiet

@@ -14,7 +14,7 @@ use Rattle.run_acts.specs.Lines.{objects_text, refusal_line}
 use Rattle.run_acts.specs.ListedBenches.{IsListRefused, ListsBench}
 use Rattle.run_acts.specs.MigratedBenches.{IsBenchNotMoved, MovesBench}
 use Rattle.script_runner.specs.declared.status.Status.{Status}
-use Rattle.script_runner.specs.declared.status.Status.TheVariants.{BadLine, DeviceFault, Done, FileFault, MountRefused, NoMemory, ReadFault, TooLong, Usage, WriteFault}
+use Rattle.script_runner.specs.declared.status.Status.TheVariants.{BadLine, CardMapRefused, DeviceFault, Done, FileFault, MountRefused, NoMemory, ReadFault, TooLong, Usage, WriteFault}
 use Rattle.script_runner.specs.Migrations.{EndsMigration, EndsRefused, GivenUp, MigratesThen, MigrationRecord, PrintsBehind, RunsMigration, Shown, Starved, Unlisted, migration_output, told_behind}
 use Rattle.script_runner.specs.Prints.{PrintsLines, PrintsRefusal}
 use Rattle.script_runner.specs.RunRefusals.{IsDeviceFault, IsRefusal}
@@ -30,6 +30,7 @@ prints_behind failed held_old held_new kept lines text is WriteFault t = (t.0, (
 prints_behind failed held_old held_new kept lines text is NoMemory t = absurd t
 prints_behind failed held_old held_new kept lines text is Usage t = absurd t
 prints_behind failed held_old held_new kept lines text is (FileFault broken) t = absurd t
+prints_behind failed held_old held_new kept lines text is (CardMapRefused block offset) t = absurd t
 prints_behind failed held_old held_new kept lines text is (BadLine line) t = absurd t
 prints_behind failed held_old held_new kept lines text is ReadFault t = absurd t
 prints_behind failed held_old held_new kept lines text is (TooLong excess) t = absurd t
@@ -44,6 +45,7 @@ module _ {F R : Type 0} (of_file : F → FileState) (of_port : R → PortState) 
     runs_refused Done t = absurd t
     runs_refused Usage t = absurd t
     runs_refused (FileFault broken) t = absurd t
+    runs_refused (CardMapRefused block offset) t = absurd t
     runs_refused (BadLine n) t = absurd t
     runs_refused ReadFault t = absurd t
     runs_refused (TooLong excess) t = absurd t
@@ -149,6 +151,7 @@ module _ {F R : Type 0} (of_file : F → FileState) (of_port : R → PortState) 
       }
       runs_shown Usage t = absurd t
       runs_shown (FileFault broken) t = absurd t
+      runs_shown (CardMapRefused block offset) t = absurd t
       runs_shown (BadLine n) t = absurd t
       runs_shown ReadFault t = absurd t
       runs_shown (TooLong excess) t = absurd t

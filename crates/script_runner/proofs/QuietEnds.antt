@@ -21,7 +21,7 @@ use Rattle.run_acts.specs.Untainted.{AreUntainted}
 use Rattle.run_acts.proofs.HeldOpenings.{opens_same}
 use Rattle.run_acts.proofs.QuietPhases.{openings_stay_quiet}
 use Rattle.run_acts.proofs.QuietRefusals.{quiet_list_refusal, quiet_phase_refusal}
-use Rattle.script_runner.specs.declared.status.Status.TheVariants.{BadLine, DeviceFault, Done, FileFault, MountRefused, NoMemory, ReadFault, TooLong, Usage, WriteFault}
+use Rattle.script_runner.specs.declared.status.Status.TheVariants.{BadLine, CardMapRefused, DeviceFault, Done, FileFault, MountRefused, NoMemory, ReadFault, TooLong, Usage, WriteFault}
 use Rattle.script_runner.specs.Course.{RefusesFirst}
 use Rattle.script_runner.specs.Ending.{EndsRun, EndsScript, RecordsRefusal}
 use Rattle.script_runner.specs.QuietLaws.{ArmNothing}
@@ -113,6 +113,7 @@ quiet_runs_end of_file of_port image Reliable w left_old left_new held_old held_
 quiet_runs_end of_file of_port image Reliable w left_old left_new held_old held_new drew draws keys handed given WriteFault s script r held is opened quiet reliable undrawn unarmed unaltered runs = absurd runs
 quiet_runs_end of_file of_port image Reliable w left_old left_new held_old held_new drew draws keys handed given Usage s script r held is opened quiet reliable undrawn unarmed unaltered runs = absurd runs
 quiet_runs_end of_file of_port image Reliable w left_old left_new held_old held_new drew draws keys handed given (FileFault broken) s script r held is opened quiet reliable undrawn unarmed unaltered runs = absurd runs
+quiet_runs_end of_file of_port image Reliable w left_old left_new held_old held_new drew draws keys handed given (CardMapRefused block offset) s script r held is opened quiet reliable undrawn unarmed unaltered runs = absurd runs
 quiet_runs_end of_file of_port image Reliable w left_old left_new held_old held_new drew draws keys handed given (BadLine line) s script r held is opened quiet reliable undrawn unarmed unaltered runs = absurd runs
 quiet_runs_end of_file of_port image Reliable w left_old left_new held_old held_new drew draws keys handed given ReadFault s script r held is opened quiet reliable undrawn unarmed unaltered runs = absurd runs
 quiet_runs_end of_file of_port image Reliable w left_old left_new held_old held_new drew draws keys handed given (TooLong excess) s script r held is opened quiet reliable undrawn unarmed unaltered runs = absurd runs

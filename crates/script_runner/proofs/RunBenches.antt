@@ -21,7 +21,7 @@ use Rattle.run_acts.specs.ListedBenches.{ListsBench}
 use Rattle.run_acts.specs.Opens.{IsOpenRefused, OpensBench}
 use Rattle.run_acts.specs.Phases.{RunsPhase}
 use Rattle.script_runner.specs.declared.status.Status.{Status}
-use Rattle.script_runner.specs.declared.status.Status.TheVariants.{BadLine, DeviceFault, Done, FileFault, MountRefused, NoMemory, ReadFault, TooLong, Usage, WriteFault}
+use Rattle.script_runner.specs.declared.status.Status.TheVariants.{BadLine, CardMapRefused, DeviceFault, Done, FileFault, MountRefused, NoMemory, ReadFault, TooLong, Usage, WriteFault}
 use Rattle.script_runner.specs.Course.{GoesUntil, RefusesFirst}
 use Rattle.script_runner.specs.Ending.{EndsActs, EndsBench, EndsForMemory, EndsRun, RecordsRefusal, Shut}
 use Rattle.script_runner.specs.Points.{arms_behind}
@@ -145,6 +145,7 @@ module _ {F R : Type 0} (of_file : F → FileState) (of_port : R → PortState) 
       hold_acts NoMemory ends = hold_starved ends
       hold_acts Usage ends = tt
       hold_acts (FileFault broken) ends = tt
+      hold_acts (CardMapRefused block offset) ends = tt
       hold_acts (BadLine line) ends = tt
       hold_acts ReadFault ends = tt
       hold_acts (TooLong excess) ends = tt
@@ -157,6 +158,7 @@ module _ {F R : Type 0} (of_file : F → FileState) (of_port : R → PortState) 
     hold_shut records Done ends = absurd ends
     hold_shut records Usage ends = absurd ends
     hold_shut records (FileFault broken) ends = absurd ends
+    hold_shut records (CardMapRefused block offset) ends = absurd ends
     hold_shut records (BadLine line) ends = absurd ends
     hold_shut records ReadFault ends = absurd ends
     hold_shut records (TooLong excess) ends = absurd ends
@@ -183,6 +185,7 @@ module _ {F R : Type 0} (of_file : F → FileState) (of_port : R → PortState) 
   hold_source walks unrun NoMemory (inr (script, read, ends)) = hold_run (applications_of script) (acts_of Serial script.steps) (walks script read) NoMemory ends
   hold_source walks unrun Usage ends = unrun ends
   hold_source walks unrun (FileFault broken) ends = unrun ends
+  hold_source walks unrun (CardMapRefused block offset) ends = unrun ends
   hold_source walks unrun (BadLine line) ends = unrun ends
   hold_source walks unrun ReadFault ends = unrun ends
   hold_source walks unrun (TooLong excess) ends = unrun ends

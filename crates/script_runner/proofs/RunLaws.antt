@@ -21,7 +21,7 @@ use Rattle.run_acts.proofs.HeldOpenings.{IsSame, opens_same, refused_same}
 use Rattle.run_acts.proofs.Opened.{same_held}
 use Rattle.run_acts.proofs.Untainted.{crashes_stay_untainted}
 use Rattle.script_runner.specs.declared.status.Status.{Status}
-use Rattle.script_runner.specs.declared.status.Status.TheVariants.{BadLine, DeviceFault, Done, FileFault, MountRefused, NoMemory, ReadFault, TooLong, Usage, WriteFault}
+use Rattle.script_runner.specs.declared.status.Status.TheVariants.{BadLine, CardMapRefused, DeviceFault, Done, FileFault, MountRefused, NoMemory, ReadFault, TooLong, Usage, WriteFault}
 use Rattle.script_runner.specs.declared.status.Excess.TheVariants.{Apps, Bytes}
 use Rattle.script_runner.specs.Course.{GoesUntil, GoesUntilCrashed}
 use Rattle.script_runner.specs.Ending.{EndsActs, EndsBench, EndsRun, EndsScript, NotOpened, RecordsRefusal, Shut}
@@ -197,6 +197,7 @@ module _ {F R : Type 0} (of_file : F → FileState) (of_port : R → PortState) 
       stands_acts NoMemory cause (inr (inr g)) = stands_crashed NoMemory (λ fault is. cc) g
       stands_acts Usage cause ends = absurd ends
       stands_acts (FileFault broken) cause ends = absurd ends
+      stands_acts (CardMapRefused block offset) cause ends = absurd ends
       stands_acts (BadLine line) cause ends = absurd ends
       stands_acts ReadFault cause ends = absurd ends
       stands_acts (TooLong excess) cause ends = absurd ends
@@ -222,6 +223,7 @@ module _ {F R : Type 0} (of_file : F → FileState) (of_port : R → PortState) 
       stands_shut Done cause ends = absurd ends
       stands_shut Usage cause ends = absurd ends
       stands_shut (FileFault broken) cause ends = absurd ends
+      stands_shut (CardMapRefused block offset) cause ends = absurd ends
       stands_shut (BadLine line) cause ends = absurd ends
       stands_shut ReadFault cause ends = absurd ends
       stands_shut (TooLong excess) cause ends = absurd ends
@@ -267,6 +269,7 @@ module _ {F R : Type 0} (of_file : F → FileState) (of_port : R → PortState) 
     stands_source NoMemory cause (inr ends) = behind_script NoMemory (λ fault same. absurd cc) ends
     stands_source Usage cause ends = absurd cause
     stands_source (FileFault broken) cause ends = absurd cause
+    stands_source (CardMapRefused block offset) cause ends = absurd cause
     stands_source (BadLine line) cause ends = absurd (no_fault (BadLineFault line) cause.1)
     stands_source ReadFault cause ends = behind_silent ReadFault (λ fault is. cc) ends cause.2
     stands_source (TooLong Bytes) cause ends = behind_silent (TooLong Bytes) (λ fault is. cc) ends cause.1

@@ -12,7 +12,7 @@ use Rattle.run_acts.specs.Lines.{refusal_line}
 use Rattle.run_acts.specs.Benches.{BenchState}
 use Rattle.run_acts.specs.Opens.{IsOpenRefused, OpensBench}
 use Rattle.script_runner.specs.declared.status.Status.{Status}
-use Rattle.script_runner.specs.declared.status.Status.TheVariants.{BadLine, DeviceFault, Done, FileFault, MountRefused, NoMemory, ReadFault, TooLong, Usage, WriteFault}
+use Rattle.script_runner.specs.declared.status.Status.TheVariants.{BadLine, CardMapRefused, DeviceFault, Done, FileFault, MountRefused, NoMemory, ReadFault, TooLong, Usage, WriteFault}
 use Rattle.script_runner.specs.Sending.{Begins, Stops}
 use Rattle.script_runner.specs.RunRefusals.{IsDeviceFault, IsRefusal}
 use Rattle.script_runner.specs.Text.{Act, RunRecord}
@@ -40,6 +40,7 @@ module _ {F R : Type 0} (of_file : F → FileState) (of_port : R → PortState) 
     RunsActs-refused Done ends t = absurd t
     RunsActs-refused Usage ends t = absurd t
     RunsActs-refused (FileFault broken) ends t = absurd t
+    RunsActs-refused (CardMapRefused block offset) ends t = absurd t
     RunsActs-refused (BadLine n) ends t = absurd t
     RunsActs-refused ReadFault ends t = absurd t
     RunsActs-refused (TooLong excess) ends t = absurd t
@@ -93,6 +94,7 @@ module _ {F R : Type 0} (of_file : F → FileState) (of_port : R → PortState) 
     shut Done t = absurd t
     shut Usage t = absurd t
     shut (FileFault broken) t = absurd t
+    shut (CardMapRefused block offset) t = absurd t
     shut (BadLine n) t = absurd t
     shut ReadFault t = absurd t
     shut (TooLong excess) t = absurd t

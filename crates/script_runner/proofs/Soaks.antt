@@ -23,7 +23,7 @@ use Rattle.run_acts.specs.Phases.{RunsPhase}
 use Rattle.run_acts.specs.PhaseRefusals.{IsGivenUp}
 use Rattle.run_acts.proofs.Ready.{runs_where}
 use Rattle.script_runner.specs.declared.status.Status.{Status}
-use Rattle.script_runner.specs.declared.status.Status.TheVariants.{BadLine, DeviceFault, Done, FileFault, MountRefused, NoMemory, ReadFault, TooLong, Usage, WriteFault}
+use Rattle.script_runner.specs.declared.status.Status.TheVariants.{BadLine, CardMapRefused, DeviceFault, Done, FileFault, MountRefused, NoMemory, ReadFault, TooLong, Usage, WriteFault}
 use Rattle.seed_words.specs.Joined.{joined}
 use Rattle.seed_words.specs.Scripts.{app_calls, app_steps, soak_calls, soak_script}
 use Rattle.script_runner.specs.Trace.{applications_of}
@@ -161,6 +161,7 @@ module _ {F R : Type 0} (of_file : F → FileState) (of_port : R → PortState) 
       }
       RunsSoak-through lines through Usage t = absurd t
       RunsSoak-through lines through (FileFault other_fault) t = absurd t
+      RunsSoak-through lines through (CardMapRefused block offset) t = absurd t
       RunsSoak-through lines through (BadLine n) t = absurd t
       RunsSoak-through lines through ReadFault t = absurd t
       RunsSoak-through lines through (TooLong excess) t = absurd t
@@ -179,6 +180,7 @@ module _ {F R : Type 0} (of_file : F → FileState) (of_port : R → PortState) 
         ends records refused Done t = absurd t
         ends records refused Usage t = absurd t
         ends records refused (FileFault other_fault) t = absurd t
+        ends records refused (CardMapRefused block offset) t = absurd t
         ends records refused (BadLine n) t = absurd t
         ends records refused ReadFault t = absurd t
         ends records refused (TooLong excess) t = absurd t
@@ -193,6 +195,7 @@ module _ {F R : Type 0} (of_file : F → FileState) (of_port : R → PortState) 
         unprinted records is memory Done t = absurd t
         unprinted records is memory Usage t = absurd t
         unprinted records is memory (FileFault other_fault) t = absurd t
+        unprinted records is memory (CardMapRefused block offset) t = absurd t
         unprinted records is memory (BadLine n) t = absurd t
         unprinted records is memory ReadFault t = absurd t
         unprinted records is memory (TooLong excess) t = absurd t

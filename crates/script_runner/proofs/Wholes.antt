@@ -6,7 +6,7 @@ use Rattle.script_text.specs.Parsed.{IsParsed}
 use Rattle.script_text.specs.Script.{ScriptValue}
 use Rattle.script_text.specs.Grammar.{script_of}
 use Rattle.script_runner.specs.declared.status.Status.{Status}
-use Rattle.script_runner.specs.declared.status.Status.TheVariants.{BadLine, DeviceFault, Done, FileFault, MountRefused, NoMemory, ReadFault, TooLong, Usage, WriteFault}
+use Rattle.script_runner.specs.declared.status.Status.TheVariants.{BadLine, CardMapRefused, DeviceFault, Done, FileFault, MountRefused, NoMemory, ReadFault, TooLong, Usage, WriteFault}
 use Rattle.script_runner.specs.declared.status.Excess.TheVariants.{Bytes, Apps}
 use Rattle.script_runner.specs.Trace.{IsSilent, IsTraceOf, Trace}
 use Rattle.script_runner.specs.ScriptReading.{IsReadError, IsScriptError, status_of}
@@ -32,6 +32,7 @@ pub HasCause-read : (w : World) (taken : List ℕ) (status : Status) → IsReadE
 HasCause-read w taken Done h = absurd h
 HasCause-read w taken Usage h = absurd h
 HasCause-read w taken (FileFault broken) h = absurd h
+HasCause-read w taken (CardMapRefused block offset) h = absurd h
 HasCause-read w taken (BadLine line) h = absurd h
 HasCause-read w taken ReadFault h = (h.0, h.1, silent_is taken)
 HasCause-read w taken WriteFault h = absurd h
@@ -46,6 +47,7 @@ pub HasCause-act : (w : World) (t : Trace) (script : ScriptValue) (status : Stat
 HasCause-act w t script Done h read is = (read, (script, is, h))
 HasCause-act w t script Usage h read is = absurd h
 HasCause-act w t script (FileFault broken) h read is = absurd h
+HasCause-act w t script (CardMapRefused block offset) h read is = absurd h
 HasCause-act w t script (BadLine line) h read is = absurd h
 HasCause-act w t script ReadFault h read is = absurd h
 HasCause-act w t script WriteFault h read is = (read, (script, is), h)
@@ -72,6 +74,7 @@ IsExact-cause w t Done h = record {
 }
 IsExact-cause w t Usage h = absurd h
 IsExact-cause w t (FileFault broken) h = absurd h
+IsExact-cause w t (CardMapRefused block offset) h = absurd h
 IsExact-cause w t (BadLine l) h = record {
   bad_line = λ line read err. let e = one_fault t (BadLineFault l) (BadLineFault line) h.1 err in let same : l ≡ line = cc in inl (ap BadLine same);
   too_many = λ n read err. absurd (two_faults l n (one_fault t (BadLineFault l) (TooManyApps n) h.1 err));
@@ -114,7 +117,7 @@ IsExact-cause w t NoMemory h = record {
 }
 
 -- a source that tells its bytes and has ended gave them all
-all_taken : (left_old left_new : Option (List ℕ)) (taken bytes : List ℕ) → TakesFirst left_old left_new taken → ((rest : List ℕ) → left_new ≡ Some rest → rest ≡ []) → left_old ≡ Some bytes → taken ≡ bytes
+pub all_taken : (left_old left_new : Option (List ℕ)) (taken bytes : List ℕ) → TakesFirst left_old left_new taken → ((rest : List ℕ) → left_new ≡ Some rest → rest ≡ []) → left_old ≡ Some bytes → taken ≡ bytes
 all_taken left_old None taken bytes takes ends told = let e : ◌≡◌ {A = Option (List ℕ)} (Some bytes) None = sym told ∙ takes in absurd cc
 all_taken left_old (Some rest) taken bytes takes ends told =
     let whole : ◌≡◌ {A = Option (List ℕ)} (Some bytes) (Some (taken ++ rest)) = sym told ∙ takes in
@@ -122,7 +125,7 @@ all_taken left_old (Some rest) taken bytes takes ends told =
     sym (same ∙ ap (λ t. taken ++ t) (ends rest refl) ∙ append-nil taken)
 
 -- a source that tells its bytes gave no more than it has
-taken-le : (left_old left_new : Option (List ℕ)) (taken bytes : List ℕ) → TakesFirst left_old left_new taken → left_old ≡ Some bytes → length taken ≤ length bytes
+pub taken-le : (left_old left_new : Option (List ℕ)) (taken bytes : List ℕ) → TakesFirst left_old left_new taken → left_old ≡ Some bytes → length taken ≤ length bytes
 taken-le left_old None taken bytes takes told = let e : ◌≡◌ {A = Option (List ℕ)} (Some bytes) None = sym told ∙ takes in absurd cc
 taken-le left_old (Some rest) taken bytes takes told =
     let whole : ◌≡◌ {A = Option (List ℕ)} (Some bytes) (Some (taken ++ rest)) = sym told ∙ takes in
@@ -134,6 +137,7 @@ pub completed : (left_old left_new held_old held_new : Option (List ℕ)) (w : W
 completed left_old left_new held_old held_new w Done t bytes script run ends told short is source sink room = tt
 completed left_old left_new held_old held_new w Usage t bytes script run ends told short is source sink room = absurd run.cause
 completed left_old left_new held_old held_new w (FileFault broken) t bytes script run ends told short is source sink room = absurd run.cause
+completed left_old left_new held_old held_new w (CardMapRefused block offset) t bytes script run ends told short is source sink room = absurd run.cause
 completed left_old left_new held_old held_new w (BadLine line) t bytes script run ends told short is source sink room =
     let same = all_taken left_old left_new t.taken bytes run.trace.taken (ends run.cause.0.0) told in
     absurd (done_script t script (BadLineFault line) (ap script_of same ∙ is) run.cause.1)
@@ -158,6 +162,7 @@ pub HasCause-script : (w : World) (taken : List ℕ) (status : Status) → IsScr
 HasCause-script w taken Done h read = absurd h
 HasCause-script w taken Usage h read = absurd h
 HasCause-script w taken (FileFault broken) h read = absurd h
+HasCause-script w taken (CardMapRefused block offset) h read = absurd h
 HasCause-script w taken (BadLine line) h read = (read, h, silent_is taken)
 HasCause-script w taken ReadFault h read = absurd h
 HasCause-script w taken WriteFault h read = absurd h
@@ -178,6 +183,7 @@ module _ {F R : Type 0} (of_file : F → FileState) (of_port : R → PortState) 
   EndsBench-read failed count t silent bench Done h = absurd h
   EndsBench-read failed count t silent bench Usage h = absurd h
   EndsBench-read failed count t silent bench (FileFault broken) h = absurd h
+  EndsBench-read failed count t silent bench (CardMapRefused block offset) h = absurd h
   EndsBench-read failed count t silent bench (BadLine line) h = absurd h
   EndsBench-read failed count t silent bench ReadFault h = refl
   EndsBench-read failed count t silent bench WriteFault h = absurd h
@@ -190,6 +196,7 @@ module _ {F R : Type 0} (of_file : F → FileState) (of_port : R → PortState) 
   EndsBench-script meant t silent bench Done h = absurd h
   EndsBench-script meant t silent bench Usage h = absurd h
   EndsBench-script meant t silent bench (FileFault broken) h = absurd h
+  EndsBench-script meant t silent bench (CardMapRefused block offset) h = absurd h
   EndsBench-script meant t silent bench (BadLine line) h = refl
   EndsBench-script meant t silent bench ReadFault h = absurd h
   EndsBench-script meant t silent bench WriteFault h = absurd h
@@ -203,6 +210,7 @@ module _ {F R : Type 0} (of_file : F → FileState) (of_port : R → PortState) 
   EndsBench-run failed t script handed given Done is ends h = (script, is, ends)
   EndsBench-run failed t script handed given Usage is ends h = absurd h
   EndsBench-run failed t script handed given (FileFault broken) is ends h = absurd h
+  EndsBench-run failed t script handed given (CardMapRefused block offset) is ends h = absurd h
   EndsBench-run failed t script handed given (BadLine line) is ends h = absurd h
   EndsBench-run failed t script handed given ReadFault is ends h = absurd h
   EndsBench-run failed t script handed given WriteFault is ends h = (script, is, ends)

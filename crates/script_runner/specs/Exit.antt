@@ -2,7 +2,7 @@
 use Rattle.std.specs.Prelude.{ℕ, List, codes}
 use Rattle.script_runner.specs.declared.status.Status.{Status}
 use Rattle.script_runner.specs.declared.status.Excess.TheVariants.{Bytes, Apps}
-use Rattle.script_runner.specs.declared.status.Status.TheVariants.{Done, Usage, BadLine, ReadFault, WriteFault, TooLong, NoMemory, MountRefused, DeviceFault, FileFault}
+use Rattle.script_runner.specs.declared.status.Status.TheVariants.{Done, Usage, BadLine, ReadFault, WriteFault, TooLong, NoMemory, MountRefused, DeviceFault, FileFault, CardMapRefused}
 
 abbrev pub status_number : Status → ℕ
 status_number Done = 0
@@ -13,12 +13,13 @@ status_number WriteFault = 5
 status_number (MountRefused fault) = 6
 status_number (DeviceFault fault) = 7
 status_number (FileFault fault) = 7
+status_number (CardMapRefused block offset) = 6
 status_number (TooLong excess) = 8
 status_number NoMemory = 9
 
 abbrev pub status_text : Status → List ℕ
 status_text Done = codes ""
-status_text Usage = codes "usage: tee_run run | tee_run soak N | tee_run migrate | tee_run export PATH | tee_run audit PATH"
+status_text Usage = codes "usage: tee_run run | tee_run soak N | tee_run migrate | tee_run export PATH | tee_run audit PATH | tee_run card"
 status_text (BadLine line) = codes "bad line"
 status_text ReadFault = codes "read fault"
 status_text WriteFault = codes "write fault"
@@ -28,3 +29,4 @@ status_text NoMemory = codes "no memory"
 status_text (MountRefused fault) = codes "mount refused"
 status_text (DeviceFault fault) = codes "device fault"
 status_text (FileFault fault) = codes "device fault"
+status_text (CardMapRefused block offset) = codes "mount refused"

@@ -3,7 +3,7 @@ use Rattle.std.specs.Prelude.{ℕ, List, [], ◌∷◌, Bool, true, false, not, 
 use Rattle.script_text.specs.Words.{same_word}
 use Rattle.seed_words.specs.Numbers.{soak_number_of}
 use Rattle.script_runner.specs.declared.forms.Form.{Form}
-use Rattle.script_runner.specs.declared.forms.Form.TheVariants.{Audit, Export, Migrate, Run, Soak}
+use Rattle.script_runner.specs.declared.forms.Form.TheVariants.{Audit, Card, Export, Migrate, Run, Soak}
 
 -- the path of a folder: some characters, of which the first is no `-`
 abbrev pub is_path : List ℕ → Bool
@@ -14,9 +14,10 @@ is_path (first ∷ rest) = not (first == 45)
 abbrev pub at_folder : Form → (path : List ℕ) → Option Form
 at_folder form path = if is_path path then Some form else None
 
--- `run` or `migrate`; or `soak` and a number; or `export` or `audit` and a path; other words have no form
+-- `run`, `migrate` or `card`; or `soak` and a number; or `export` or `audit` and a path; other words have no form
 abbrev pub form_of : List (List ℕ) → Option Form
-form_of (word ∷ []) = if same_word word (codes "run") then Some Run else if same_word word (codes "migrate") then Some Migrate else None
+form_of (word ∷ []) = if same_word word (codes "run") then Some Run else if same_word word (codes "migrate") then Some Migrate else
+    if same_word word (codes "card") then Some Card else None
 form_of (word ∷ argument ∷ []) = if same_word word (codes "soak") then option_map Soak (soak_number_of argument) else
     if same_word word (codes "export") then at_folder Export argument else if same_word word (codes "audit") then at_folder Audit argument else None
 form_of _ = None

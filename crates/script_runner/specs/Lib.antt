@@ -27,3 +27,9 @@ pub mod ScriptReading
 pub mod Sending
 pub mod Blank
 pub mod Port
+pub mod CardRecords
+pub mod CardSteps
+pub mod CardRuns
+pub mod CardRunning
+pub mod CardPoints
+pub mod CardRunLaws

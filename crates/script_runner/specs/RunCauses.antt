@@ -4,7 +4,7 @@ use Rattle.script_text.specs.declared.reading.ScriptFault.TheVariants.{BadLine a
 use Rattle.script_text.specs.Script.{ScriptValue}
 use Rattle.script_text.specs.Grammar.{script_of}
 use Rattle.script_runner.specs.declared.status.Status.{Status}
-use Rattle.script_runner.specs.declared.status.Status.TheVariants.{BadLine, DeviceFault, Done, FileFault, MountRefused, NoMemory, ReadFault, TooLong, Usage, WriteFault}
+use Rattle.script_runner.specs.declared.status.Status.TheVariants.{BadLine, CardMapRefused, DeviceFault, Done, FileFault, MountRefused, NoMemory, ReadFault, TooLong, Usage, WriteFault}
 use Rattle.script_runner.specs.declared.status.Excess.TheVariants.{Bytes, Apps}
 use Rattle.script_runner.specs.RunRefusals.{IsDeviceFault, IsRefusal}
 use Rattle.script_runner.specs.Trace.{IsSilent, IsTraceOf, IsWholeTextOf, OfScript, Trace}
@@ -41,6 +41,7 @@ HasCause w t (MountRefused fault) = WasRead w t × IsRefusal fault × OfScript t
 HasCause w t (DeviceFault fault) = WasRead w t × IsDeviceFault fault × OfScript t.taken (WasPrinted w t)
 HasCause w t NoMemory = Unit {0}
 HasCause w t (FileFault fault) = ⊥
+HasCause w t (CardMapRefused block offset) = ⊥
 
 -- Where the length or the text decides the status, it comes, or want of memory stands in its place. A fault of the source
 -- may come before what its bytes would decide; faults of reading and writing, and mounts that are refused or fail, have no line here,

@@ -20,6 +20,8 @@ pub enum Form {
     Export,
     /// `audit PATH`: a store that was exported into a folder is read, and its objects are certified.
     Audit,
+    /// `card`: a script of the objects on the card alone is read and run.
+    Card,
 }
 
 /// The soak of the number that the word is.
@@ -46,6 +48,7 @@ pub fn form_of(words: &[String]) -> Option<Form>
     match words {
         [word] if word.as_bytes() == b"run".as_slice() => Some(Form::Run),
         [word] if word.as_bytes() == b"migrate".as_slice() => Some(Form::Migrate),
+        [word] if word.as_bytes() == b"card".as_slice() => Some(Form::Card),
         [word, number] if word.as_bytes() == b"soak".as_slice() => soak_of(number),
         [word, path] if word.as_bytes() == b"export".as_slice() && is_path(path) => Some(
             Form::Export,
@@ -63,7 +66,7 @@ fn has_folder(form: Option<Form>) -> bool
 {
     match form {
         Some(Form::Export | Form::Audit) => true,
-        Some(Form::Run | Form::Soak(_) | Form::Migrate) | None => false,
+        Some(Form::Run | Form::Soak(_) | Form::Migrate | Form::Card) | None => false,
     }
 }
 
@@ -89,10 +92,11 @@ pub fn folder_of(words: &[String]) -> &str
     }
 }
 
-/// `run` is a form of the command line, and so are `migrate`, `soak 1`, `export a` and `audit a`.
+/// `run` is a form of the command line, and so are `migrate`, `card`, `soak 1`, `export a` and `audit a`.
 pub fn words_have_forms()
     ensures run { form_of (codes "run" ∷ []) ≡ Some Form.Run }
     ensures migrate { form_of (codes "migrate" ∷ []) ≡ Some Form.Migrate }
+    ensures card { form_of (codes "card" ∷ []) ≡ Some Form.Card }
     ensures soak { form_of (codes "soak" ∷ codes "1" ∷ []) ≡ Some (Form.Soak 1) }
     ensures export { form_of (codes "export" ∷ codes "a" ∷ []) ≡ Some Form.Export }
     ensures audit { form_of (codes "audit" ∷ codes "a" ∷ []) ≡ Some Form.Audit }

@@ -30,6 +30,13 @@ pub enum Status {
     DeviceFault(MountFault),
     /// A call of a file failed while the store was exported or audited.
     FileFault(FileFault),
+    /// The objects on the card alone were not mounted: its blocks have not the form of objects.
+    CardMapRefused {
+        /// The first block that is outside the form.
+        block: u8,
+        /// The first offset in it that is.
+        offset: u8,
+    },
 }
 
 /// The limit that a script passes.
@@ -59,14 +66,14 @@ pub fn status_text(status: &Status) -> &'static str
     match status {
         Status::Done => "",
         Status::Usage =>
-            "usage: tee_run run | tee_run soak N | tee_run migrate | tee_run export PATH | tee_run audit PATH",
+            "usage: tee_run run | tee_run soak N | tee_run migrate | tee_run export PATH | tee_run audit PATH | tee_run card",
         Status::BadLine(_) => "bad line",
         Status::ReadFault => "read fault",
         Status::WriteFault => "write fault",
         Status::TooLong(Excess::Bytes) => "script too long",
         Status::TooLong(Excess::Apps(_)) => "too many applications",
         Status::NoMemory => "no memory",
-        Status::MountRefused(_) => "mount refused",
+        Status::MountRefused(_) | Status::CardMapRefused { .. } => "mount refused",
         Status::DeviceFault(_) | Status::FileFault(_) => "device fault",
     }
 }
@@ -81,7 +88,7 @@ pub fn status_number(status: &Status) -> u8
         Status::BadLine(_) => 3,
         Status::ReadFault => 4,
         Status::WriteFault => 5,
-        Status::MountRefused(_) => 6,
+        Status::MountRefused(_) | Status::CardMapRefused { .. } => 6,
         Status::DeviceFault(_) | Status::FileFault(_) => 7,
         Status::TooLong(_) => 8,
         Status::NoMemory => 9,

@@ -5,6 +5,9 @@ ghost use Rattle.std.specs.Prelude.{◌≡◌, ◌≤◌, ◌⊎◌, ◌↔◌, 
 ghost use Rattle.std.specs.String.{string_bytes};
 ghost use Rattle.tee_ports.specs.Faults.{Rose};
 ghost use Rattle.tee_types.specs.Limits.{file_count};
+ghost use Rattle.hmac_keys.specs.KeyTable.{rpmb_key};
+ghost use Rattle.card_script.specs.declared.card_line.CardLine.{CardLine};
+ghost use Rattle.card_script.specs.CardScripts.{script_of as card_script_of};
 ghost use Rattle.folder_export.specs.Folders.{folder_count};
 ghost use Rattle.folder_audit.specs.Audit.{folder_states};
 ghost use Rattle.object_calls.specs.OpeningFiles.{files_of};
@@ -17,10 +20,12 @@ ghost use Rattle.script_runner.specs.Exports.{ExportsItsScript, RunsExport};
 ghost use Rattle.script_runner.specs.Forms.{form_of};
 ghost use Rattle.script_runner.specs.Migrations.{RunsMigration};
 ghost use Rattle.script_runner.specs.Audits.{RunsAudit};
+ghost use Rattle.script_runner.specs.CardRuns.{RunsCard, RunsItsLines};
 ghost use Rattle.script_runner.specs.Soaks.{RunsSoak};
 
 use crate::Status;
 use crate::audit_run::run_audit;
+use crate::card_run::run_card;
 use crate::export_run::run_export;
 use crate::forms::{Form, form_of};
 use crate::migration_run::run_migration;
@@ -42,7 +47,8 @@ use tee_ports::{Entropy, FileRig, Sink, Source, StoreFile};
 /// objects; no source is read, and a card whose block 0 is blank is refused. `export PATH`: does all that `run` does, and where that is done reads
 /// the card's block 0, a blank one too, and copies that and the files of the bench that it left into the folder. `audit PATH`: reads the store that
 /// was exported into the folder, and writes a line for each object, with its certificate where it is whole; no source is read, and no device of
-/// the bench is called.
+/// the bench is called. `card`: reads a script of the objects on the card alone, mounts the card, does the lines, and writes their replies; nothing is
+/// formatted, and no file of the bench is called.
 ///
 /// `rt` starts the threads of phases that have their applications on threads, and waits for them; so it is not claimed that a run comes to
 /// its end. `words` are those behind the program's name. `folder` are the files of the folder that they speak of (`folder_of`): one for each
@@ -125,6 +131,25 @@ pub fn run<
     ensures audit_apart { form_of (map string_bytes words.now) ≡ Some Form.Audit
         → (result.bench ≡ bench) × (source.new ≡ source.old) × (entropy.new ≡ entropy.old) }
 
+    // `card`: what was taken and put, how the run ended, and what it did to the port to the card. No file of the bench is called, and the nonces are
+    // those of a stream of the generator, so its own count stays.
+    ensures card { form_of (map string_bytes words.now) ≡ Some Form.Card
+        → RunsCard (E.is_reliable entropy.old) (rpmb_key keys.now.huk) (S.left source.old) (S.left source.new) (K.held sink.old) (K.held sink.new) (record {
+          source_failed = Rose (S.faults source.old) (S.faults source.new);
+          source_ended = S.has_ended source.new;
+          sink_failed = Rose (K.faults sink.old) (K.faults sink.new);
+          sink_full = K.is_full sink.new;
+        }) (R.state bench.card) (R.state result.bench.card) result.status }
+    ensures card_apart { form_of (map string_bytes words.now) ≡ Some Form.Card
+        → (result.bench.files ≡ bench.files) × (entropy.new ≡ entropy.old) }
+
+    // As `complete` says of `run`, of a script of the card.
+    ensures card_complete { (bytes : List ℕ) (lines : List CardLine) → form_of (map string_bytes words.now) ≡ Some Form.Card
+        → S.left source.old ≡ Some bytes → length bytes ≤ 16777216 → card_script_of bytes ≡ Ok lines
+        → ¬ Rose (S.faults source.old) (S.faults source.new)
+        → ¬ Rose (K.faults sink.old) (K.faults sink.new) → ¬ K.is_full sink.new
+        → RunsItsLines result.status }
+
     // But `export` and `audit` no form calls a file of the folder.
     ensures folder { ¬ (form_of (map string_bytes words.now) ≡ Some Form.Export) → ¬ (form_of (map string_bytes words.now) ≡ Some Form.Audit)
         → folder.new ≡ folder.old }
@@ -145,6 +170,7 @@ pub fn run<
             let status = run_audit(alloc, sink, keys, folder);
             RunEnd { status, bench }
         }
+        Some(Form::Card) => run_card(alloc, source, sink, bench, keys, &*entropy),
         None => RunEnd {
             status: Status::Usage,
             bench,

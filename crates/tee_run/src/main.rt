@@ -1,5 +1,6 @@
 //! Trusted storage, run by scripts: `tee_run run` reads a script from standard input, serves its calls over a simulated disk and card, and
-//! prints the history of calls and replies. `tee_run export PATH` exports what the script leaves into the folder PATH, too.
+//! prints the history of calls and replies. `tee_run export PATH` exports what the script leaves into the folder PATH, too. `tee_run card` reads a
+//! script of objects on the card alone, and prints its lines with their replies.
 #![tactic(auto)]
 
 ghost use Rattle.std.specs.Prelude.{◌≡◌, vec_len, IfOk};

@@ -5,8 +5,10 @@ ghost use Rattle.tee_types.specs.Limits.{file_count};
 
 use crate::old_stores::old_bench;
 use crate::rows::settings::Settings;
+use hmac_keys::rpmb_key;
 use rpmb_card::CardRig;
-use script_runner::{SimBench, blank_bench, worn};
+use rpmb_host::Host;
+use script_runner::{Bench, SimBench, blank_bench, simulator_keys, worn};
 use std::alloc::Global;
 use tee_types::BENCH_FILES;
 
@@ -25,6 +27,23 @@ fn first_bench(
     }
 }
 
+// Writes block 1 of a card that was never written: this byte, and zeros behind it.
+fn write_map(bench: SimBench, byte: u8) -> anyhow::Result<SimBench>
+    ensures { IfOk result (λ written. vec_len written.files ≡ vec_len bench.files) }
+{
+    let Bench { files, card } = bench;
+    let mut host = Host::new(card, rpmb_key(&simulator_keys()));
+    let mut block = [0; 256];
+    block[0] = byte;
+    if host.write_block(1, 0, &block).is_err() {
+        anyhow::bail!("block 1 is not written");
+    }
+    Ok(Bench {
+        files,
+        card: host.into_port(),
+    })
+}
+
 /// The bench for a row's run, with what its settings do to it.
 pub fn bench_for(
     alloc: Global,
@@ -39,6 +58,9 @@ pub fn bench_for(
     }
     if settings.exchanged {
         bench.files.swap(1, 2);
+    }
+    if let Some(byte) = settings.map_byte {
+        bench = write_map(bench, byte)?;
     }
     if settings.card_fails > 0 {
         bench.card.fail_call(settings.card_fails)?;

@@ -17,6 +17,9 @@ pub fn status_text(alloc: Global, status: &Status) -> Result<String, AllocError>
         Status::TooLong(Excess::Apps(apps)) => format!(in alloc; "status 8 apps {apps}"),
         Status::NoMemory => String::from_str(alloc, "status 9"),
         Status::FileFault(fault) => place_text(alloc, fault.place),
+        Status::CardMapRefused { block, offset } => {
+            format!(in alloc; "status 6 card-map {block} {offset}")
+        }
     }
 }
 

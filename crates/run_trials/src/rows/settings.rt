@@ -24,6 +24,8 @@ pub struct Settings {
     pub exchanged: bool,
     /// The bench has a store of the old format.
     pub is_old: bool,
+    /// The first byte of the card's block 1, where it has one.
+    pub map_byte: Option<u8>,
 }
 
 impl Settings {
@@ -39,6 +41,7 @@ impl Settings {
             is_worn: false,
             exchanged: false,
             is_old: false,
+            map_byte: None,
         })
     }
 
@@ -54,6 +57,8 @@ impl Settings {
             self.length = length.parse::<usize>().context("not a number")?;
         } else if let Some(call) = line.strip_prefix("card fails ") {
             self.card_fails = call.parse::<u64>().context("not a number")?;
+        } else if let Some(byte) = line.strip_prefix("map block ") {
+            self.map_byte = Some(u8::from_str_radix(byte, 16).context("not a byte")?);
         } else {
             self.take_bench(line)?;
         }

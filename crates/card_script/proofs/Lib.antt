@@ -1,0 +1,5 @@
+pub mod OneLine
+pub mod Spaced
+pub mod PrintedWords
+pub mod PrintedValues
+pub mod ReadAgain

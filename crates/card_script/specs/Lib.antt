@@ -1,0 +1,4 @@
+pub mod CardLines
+pub mod CardScripts
+pub mod CardText
+pub mod CardLaws
