@@ -82,7 +82,7 @@ copied_script : (files_old files_new folder_old folder_new : ℕ → FileState) 
 copied_script files_old files_new folder_old folder_new block Done ends = tt
 copied_script files_old files_new folder_old folder_new block NoMemory ends = tt
 copied_script files_old files_new folder_old folder_new block (FileFault broken) ends = tt
-copied_script files_old files_new folder_old folder_new block (CardMapRefused block offset) ends = absurd ends
+copied_script files_old files_new folder_old folder_new block (CardMapRefused number offset) ends = absurd ends
 copied_script files_old files_new folder_old folder_new block (MountRefused fault) ends = absurd ends
 copied_script files_old files_new folder_old folder_new block (DeviceFault fault) ends = absurd ends
 copied_script files_old files_new folder_old folder_new block WriteFault ends = absurd ends
