@@ -58,7 +58,7 @@ pub struct Exported {
 }
 
 /// Makes the store of a number, and exports it.
-pub fn exported<W: Threads + Wait + Sync>(
+pub fn export_made<W: Threads + Wait + Sync>(
     rt: &W,
     alloc: Global,
     number: u64,
