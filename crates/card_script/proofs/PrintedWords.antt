@@ -21,9 +21,10 @@ hex-printed : (bytes : List ℕ) → AllByRecursion (λ b. b < 256) bytes → Al
 unfolding encode_with
 hex-printed [] are = tt
 hex-printed (b ∷ bytes) are =
-    let small : b < 256 = are.0 in
-    (All-get_or IsPrinted lower_digits (b / 16) 0 (omega arith) digits-printed,
-     (All-get_or IsPrinted lower_digits (b % 16) 0 (omega arith) digits-printed, hex-printed bytes are.1))
+    let small : b < 256 = are.0 in (
+      All-get_or IsPrinted lower_digits (b / 16) 0 (omega arith) digits-printed,
+      (All-get_or IsPrinted lower_digits (b % 16) 0 (omega arith) digits-printed, hex-printed bytes are.1),
+    )
 
 pub hex-word : (bytes : List ℕ) → AreBytes bytes → 0 < length bytes → IsWord (encode_lower bytes)
 hex-word bytes are some = record {

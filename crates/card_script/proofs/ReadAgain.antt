@@ -74,15 +74,15 @@ pub lines_read_again : LinesReadAgain
 unfolding words_line line_words verb_of
 lines_read_again above (Put app id bytes) formed =
     by_words above (line_text (Put app id bytes)) (codes "put" ∷ uuid_text app ∷ encode_lower id ∷ bytes_text bytes ∷ []) (simp append_assoc)
-        (put-word, (uuid-word app, (word-id app id formed.0, (bytes-word bytes formed.1, tt))))
+    (put-word, (uuid-word app, (word-id app id formed.0, (bytes-word bytes formed.1, tt))))
     ∙ ap (with_line above) (put_words-text app id bytes formed.0 formed.1)
 lines_read_again above (Get app id) formed =
     by_words above (line_text (Get app id)) (codes "get" ∷ uuid_text app ∷ encode_lower id ∷ []) (simp append_assoc)
-        (get-word, (uuid-word app, (word-id app id formed, tt)))
+    (get-word, (uuid-word app, (word-id app id formed, tt)))
     ∙ ap (λ n. with_line above (option_map (λ m. Get m.0 m.1) n)) (name_words-text app id formed)
 lines_read_again above (Remove app id) formed =
     by_words above (line_text (Remove app id)) (codes "remove" ∷ uuid_text app ∷ encode_lower id ∷ []) (simp append_assoc)
-        (remove-word, (uuid-word app, (word-id app id formed, tt)))
+    (remove-word, (uuid-word app, (word-id app id formed, tt)))
     ∙ ap (λ n. with_line above (option_map (λ m. Remove m.0 m.1) n)) (name_words-text app id formed)
 lines_read_again above ListLine formed = by_words above (line_text ListLine) (codes "list" ∷ []) refl (list-word, tt)
 lines_read_again above (Stop n) formed =

@@ -18,12 +18,7 @@ fn put_name(out: &mut Vec<u8>, app: AppId, id: &ObjectId) -> Result<(), NoMemory
 }
 
 /// Appends a word, and the name of an object behind it.
-fn put_word_name(
-    out: &mut Vec<u8>,
-    word: &[u8],
-    app: AppId,
-    id: &ObjectId,
-) -> Result<(), NoMemory>
+fn put_word_name(out: &mut Vec<u8>, word: &[u8], app: AppId, id: &ObjectId) -> Result<(), NoMemory>
     ensures ok { OnOk result (out.new.items ≡ out.old.items ++ word.now ++ name_text app id.now) }
     ensures kept { take (length out.old.items) out.new.items ≡ out.old.items }
 {
@@ -116,12 +111,7 @@ fn put_listed(out: &mut Vec<u8>, app: AppId, id: &ObjectId, size: u16) -> Result
 }
 
 /// Appends the line of an object that `list` shows. A refusal leaves the text as it was.
-pub fn print_listed(
-    app: AppId,
-    id: &ObjectId,
-    size: u16,
-    out: &mut Vec<u8>,
-) -> Result<(), NoMemory>
+pub fn print_listed(app: AppId, id: &ObjectId, size: u16, out: &mut Vec<u8>) -> Result<(), NoMemory>
     ensures ok { OnOk result (out.new.items ≡ out.old.items ++ listed_line app id.now size) }
     ensures err { OnErr result (out.new.items ≡ out.old.items) }
 {
