@@ -1,5 +1,9 @@
 //! What the program is asked, as calls of an application.
 
+ghost use Rattle.std.specs.Prelude.{◌≡◌, IfOk};
+ghost use Rattle.script_text.specs.declared.script.Step.TheVariants.{Call as CallStep};
+ghost use Rattle.run_acts.specs.ServedSteps.{AreCalls};
+
 use anyhow::bail;
 use script_text::Step;
 use std::alloc::Global;
@@ -19,7 +23,9 @@ const MOST: u32 = 65_536;
 
 impl<'a> Asked<'a> {
     /// Its calls, one after another.
-    pub fn calls(self, alloc: Global) -> anyhow::Result<Vec<Step>> {
+    pub fn calls(self, alloc: Global) -> anyhow::Result<Vec<Step>>
+        ensures { IfOk result (λ steps. AreCalls 1 steps.items) }
+    {
         let mut calls = Vec::new(alloc);
         match self {
             Asked::Put { id, text } => calls.push(call(Call::Create {
@@ -52,6 +58,8 @@ fn identifier(word: &str) -> anyhow::Result<ObjectId> {
 }
 
 // A call of the one application.
-fn call(call: Call) -> Step {
+fn call(call: Call) -> Step
+    ensures { result ≡ CallStep 0 call }
+{
     Step::Call { app: 0, call }
 }
