@@ -1,7 +1,7 @@
 // Audits of a folder of files in memory.
 
 use crate::alterations::Case;
-use crate::exports::{Exported, export_made, fail_first, run_form};
+use crate::exports::{Exported, MADE, export_made, fail_first, run_form};
 use anyhow::Context;
 use mem_files::MemFile;
 use script_runner::{FileFault, FilePlace, Status, status_number};
@@ -17,7 +17,7 @@ pub fn audit_lines<W: Threads + Wait + Sync>(
     case: Case,
     other: &[MemFile],
 ) -> anyhow::Result<String> {
-    let Exported { bench, mut folder } = export_made(rt, alloc, 0)?;
+    let Exported { bench, mut folder } = export_made(rt, alloc, MADE)?;
     case.make(&mut folder, other)?;
     let ended = run_form(rt, alloc, "audit", "", bench, &mut reliable(), &mut folder)?;
     let lines: Result<String, AllocError> = format!(in alloc;
@@ -35,7 +35,7 @@ const PLACES: [u16; 3] = [1, 273, 274];
 
 // Whether an audit tells of the file that fails at its first call.
 fn tells<W: Threads + Wait + Sync>(rt: &W, alloc: Global, number: u16) -> anyhow::Result<bool> {
-    let Exported { bench, mut folder } = export_made(rt, alloc, 0)?;
+    let Exported { bench, mut folder } = export_made(rt, alloc, MADE)?;
     fail_first(&mut folder, number)?;
     let ended = run_form(rt, alloc, "audit", "", bench, &mut reliable(), &mut folder)?;
     let place = FilePlace::Folder(number);

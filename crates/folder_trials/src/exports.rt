@@ -13,20 +13,21 @@ use script_runner::{
 use std::alloc::{AllocError, Global};
 use std::sync::Wait;
 use std::thread::Threads;
-use tee_ports::{Entropy, FileRig, Image, ListEntropy};
+use tee_ports::{FileRig, Image, ListEntropy};
 use tee_types::BENCH_FILES;
 use trial_runs::{Ended, new_folder, reliable, run_into};
 
-// Makes the store that is exported.
-const MADE: &str = "app a 00000000-0000-0000-0000-000000000001
+/// Makes the store that is exported.
+pub const MADE: &str = "app a 00000000-0000-0000-0000-000000000001
 a create 6b657931 rwm a0a1a2a3a4a5a6a7a8a9aaabacadaeaf 000102030405060708090a0b0c0d0e0f101112131415161718191a1b1c1d1e1f
 a create 6b657932 rwm - 0001
 ";
 
-/// A generator that fails at no draw; by another number it draws other bytes.
-fn drawing(number: u64) -> ListEntropy {
-    reliable().stream(number)
-}
+/// Makes another store: its first object has other data.
+pub const OTHER: &str = "app a 00000000-0000-0000-0000-000000000001
+a create 6b657931 rwm a0a1a2a3a4a5a6a7a8a9aaabacadaeaf 1f1e1d1c1b1a191817161514131211100f0e0d0c0b0a09080706050403020100
+a create 6b657932 rwm - 0001
+";
 
 /// What a form of a folder does over these devices, with a script to read.
 pub fn run_form<W: Threads + Wait + Sync>(
@@ -57,19 +58,26 @@ pub struct Exported {
     pub folder: Vec<MemFile>,
 }
 
-/// Makes the store of a number, and exports it.
+/// Makes the store of a script, and exports it.
 pub fn export_made<W: Threads + Wait + Sync>(
     rt: &W,
     alloc: Global,
-    number: u64,
+    script: &str,
 ) -> anyhow::Result<Exported>
     ensures files { IfOk result (λ exported. vec_len exported.bench.files ≡ file_count) }
     ensures folder { IfOk result (λ exported. vec_len exported.folder ≡ folder_count) }
 {
     let mut folder = new_folder(alloc)?;
-    let mut entropy = drawing(number);
     let bench = blank_bench(alloc)?;
-    let ended = run_form(rt, alloc, "export", MADE, bench, &mut entropy, &mut folder)?;
+    let ended = run_form(
+        rt,
+        alloc,
+        "export",
+        script,
+        bench,
+        &mut reliable(),
+        &mut folder,
+    )?;
     if ended.status != Status::Done {
         bail!("an export that is not done");
     }
@@ -208,7 +216,7 @@ fn untold<W: Threads + Wait + Sync>(
 
 /// The line of exports.
 pub fn export_line<W: Threads + Wait + Sync>(rt: &W, alloc: Global) -> anyhow::Result<String> {
-    let Exported { bench, folder } = export_made(rt, alloc, 0)?;
+    let Exported { bench, folder } = export_made(rt, alloc, MADE)?;
     let Imaged { bench, images } = images_to_write(alloc, bench)?;
     let same = same_files(alloc, &images, &folder)?;
     let once = written_once(&images, &folder);

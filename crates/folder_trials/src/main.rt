@@ -14,7 +14,7 @@
 use alterations::CASES;
 use audits::{audit_lines, untold_line};
 use certificates::certificate_line;
-use exports::{export_line, export_made};
+use exports::{OTHER, export_line, export_made};
 
 mod alterations;
 mod audits;
@@ -29,7 +29,7 @@ fn print_line(rt: &impl Print, line: &str) -> anyhow::Result<()> {
 
 fn main(rt: HostRuntime) -> anyhow::Result<()> {
     print_line(&rt, export_line(&rt, rt.alloc())?.as_str())?;
-    let other = export_made(&rt, rt.alloc(), 1)?;
+    let other = export_made(&rt, rt.alloc(), OTHER)?;
     for case in CASES {
         let lines = audit_lines(&rt, rt.alloc(), case, &other.folder)?;
         print_line(&rt, lines.trim_end())?;
