@@ -81,12 +81,9 @@ pub fn folder_devices<'a, W: Files<File = File>>(
     }
 }
 
-/// Gives a card its key (JEDEC: authentication key programming), where it answers that it has none.
-///
-/// # Errors
-///
-/// An exchange failed. Then it is open whether the card has the key, unless it had one before.
-pub fn give_key<R: RpmbPort>(card: &mut R, key: &[u8; 32]) -> Result<(), Failed>
+// Gives a card its key (JEDEC: authentication key programming), where it answers that it has none. After a failure it is open whether the card
+// has the key, unless it had one before.
+fn give_key<R: RpmbPort>(card: &mut R, key: &[u8; 32]) -> Result<(), Failed>
     ensures rose { OnErr result (Rose (R.state card.old).faults (R.state card.new).faults) }
     ensures carried { IfErr result (λ failed. failed.count ≡ (R.state card.new).faults) }
     ensures passed { OnOk result ((R.state card.new).faults ≡ (R.state card.old).faults) }

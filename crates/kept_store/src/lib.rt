@@ -13,6 +13,6 @@ mod fault;
 mod opening;
 mod taking_over;
 
-pub use devices::{CARD_FILE, FolderDevices, folder_devices, give_key};
+pub use devices::{CARD_FILE, FolderDevices, folder_devices};
 pub use fault::OpenFault;
 pub use opening::{FolderOpening, open_devices, open_folder};
