@@ -15,17 +15,12 @@ use alterations::CASES;
 use audits::{audit_lines, untold_line};
 use certificates::certificate_line;
 use exports::{OTHER, export_line, export_made};
+use trial_runs::print_line;
 
 mod alterations;
 mod audits;
 mod certificates;
 mod exports;
-
-// Prints a line.
-fn print_line(rt: &impl Print, line: &str) -> anyhow::Result<()> {
-    println!(rt; "{line}")?;
-    Ok(())
-}
 
 fn main(rt: HostRuntime) -> anyhow::Result<()> {
     print_line(&rt, export_line(&rt, rt.alloc())?.as_str())?;

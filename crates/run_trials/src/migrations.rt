@@ -3,17 +3,14 @@
 ghost use Rattle.std.specs.Prelude.{◌≡◌, vec_len, IfOk};
 ghost use Rattle.tee_types.specs.Limits.{file_count};
 
-use crate::devices::{KeptBench, arm, crash};
-use crate::kept_port::KeptPort;
-use crate::mishaps::{Device, Mishap, Trouble};
 use crate::old_stores::{LISTED, old_bench};
 use anyhow::{Context, bail};
 use mem_files::MemFile;
-use script_runner::Bench;
+use script_runner::{CardPort, SimBench};
 use std::alloc::{AllocError, Global};
 use std::sync::Wait;
 use std::thread::Threads;
-use trial_runs::{RanOver, reliable, run_words};
+use trial_runs::{Device, Mishap, RanOver, Trouble, arm_bench, crash_bench, reliable, run_words};
 
 /// The devices that a migration calls: both files that a directory may have, those of the objects, those that they are moved into, and the
 /// card.
@@ -35,23 +32,12 @@ const SEEDS: u64 = 4;
 /// More calls than a migration makes of one device.
 const MOST_CALLS: u64 = 200;
 
-// A store of the old format on devices that keep the card's frames.
-fn kept_bench(alloc: Global) -> anyhow::Result<KeptBench>
-    ensures { IfOk result (λ bench. vec_len bench.files ≡ file_count) }
-{
-    let Bench { files, card } = old_bench(alloc)?;
-    Ok(Bench {
-        files,
-        card: KeptPort::new(alloc, card),
-    })
-}
-
 // Migrates these devices.
 fn migrate<W: Threads + Wait + Sync>(
     rt: &W,
     alloc: Global,
-    bench: KeptBench,
-) -> anyhow::Result<RanOver<MemFile, KeptPort>>
+    bench: SimBench,
+) -> anyhow::Result<RanOver<MemFile, CardPort>>
     requires { vec_len bench.files ≡ file_count }
     ensures { IfOk result (λ ran. vec_len ran.bench.files ≡ file_count) }
 {
@@ -76,9 +62,9 @@ fn cut_once<W: Threads + Wait + Sync>(
     call: u64,
     seed: u64,
 ) -> anyhow::Result<(bool, bool)> {
-    let mut bench = kept_bench(alloc)?;
+    let mut bench = old_bench(alloc)?;
     let mishap = Mishap::Stops;
-    arm(
+    arm_bench(
         &mut bench,
         Trouble {
             device,
@@ -89,7 +75,7 @@ fn cut_once<W: Threads + Wait + Sync>(
     let cut = migrate(rt, alloc, bench)?;
     let stopped = !cut.is_done;
     let mut bench = cut.bench;
-    crash(&mut bench, seed)?;
+    crash_bench(&mut bench, seed)?;
     let ran = migrate(rt, alloc, bench)?;
     Ok((stopped, ran.is_done && shows_all(ran.output.as_str())))
 }

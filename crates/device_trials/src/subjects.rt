@@ -1,6 +1,6 @@
 // What is tried: an opening or an act, with each call of each device.
 
-use crate::mishaps::{Device, Mishap, Trouble};
+use crate::choices::{is_tried, least_tries, seeds_of};
 use crate::openings::{Opening, try_opening};
 use crate::tally::{Outcome, Tally};
 use crate::texts::Texts;
@@ -9,7 +9,7 @@ use anyhow::bail;
 use std::alloc::Global;
 use std::sync::Wait;
 use std::thread::Threads;
-use trial_runs::MOST_CALLS;
+use trial_runs::{Device, MOST_CALLS, Mishap, Trouble};
 
 /// What is tried.
 #[derive(Clone, Copy)]
@@ -29,7 +29,7 @@ impl Subject<'_> {
 
     /// Whether it is tried with that mishap of that device. Behind an opening no call follows, and it has one object at most.
     pub fn has(&self, device: Device, mishap: Mishap) -> bool {
-        mishap.is_tried_with(device)
+        is_tried(mishap, device)
             && match self {
                 Subject::Opening(_) => {
                     mishap != Mishap::Passes
@@ -63,7 +63,7 @@ impl Subject<'_> {
         tally: &mut Tally,
     ) -> anyhow::Result<bool> {
         let mut missed = false;
-        for seed in 0..trouble.mishap.seeds() {
+        for seed in 0..seeds_of(trouble.mishap) {
             let (is_missed, outcome) = self.try_seed(rt, alloc, trouble, seed)?;
             tally.add(outcome);
             missed = is_missed;
@@ -88,7 +88,7 @@ impl Subject<'_> {
             };
             if self.try_call(rt, alloc, trouble, &mut tally)? {
                 tally.calls = tally.calls.saturating_add(1);
-            } else if device.least_tries() <= call.saturating_add(1) {
+            } else if least_tries(device) <= call.saturating_add(1) {
                 return Ok(tally);
             }
         }

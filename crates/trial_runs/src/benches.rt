@@ -1,30 +1,13 @@
-// The devices of the runs.
+//! Benches whose devices go wrong, and crash.
 
-ghost use Rattle.std.specs.Prelude.{◌≡◌, vec_len, IfOk, OnOk};
-ghost use Rattle.tee_types.specs.Limits.{file_count};
+ghost use Rattle.std.specs.Prelude.{◌≡◌, vec_len, OnOk};
 
-use crate::kept_port::KeptPort;
 use crate::mishaps::{Arm, Device, Trouble};
 use mem_files::MemFile;
 use rpmb_card::{CardRig, NoMemory};
-use script_runner::{Bench, blank_bench};
-use std::alloc::{AllocError, Global};
+use script_runner::Bench;
 use tee_ports::FileRig;
 use tee_types::{BENCH_FILES, DIRECTORY_FILE};
-
-/// Files in memory, and a card that keeps its frames.
-pub type KeptBench = Bench<MemFile, KeptPort>;
-
-/// Devices that were never used.
-pub fn new_bench(alloc: Global) -> Result<KeptBench, AllocError>
-    ensures { IfOk result (λ bench. vec_len bench.files ≡ file_count) }
-{
-    let Bench { files, card } = blank_bench(alloc)?;
-    Ok(Bench {
-        files,
-        card: KeptPort::new(alloc, card),
-    })
-}
 
 // Arms a file.
 fn arm_file(file: &mut MemFile, arm: Arm) -> Result<(), NoMemory> {
@@ -40,7 +23,7 @@ fn arm_file(file: &mut MemFile, arm: Arm) -> Result<(), NoMemory> {
 }
 
 // Arms the card.
-fn arm_card(card: &mut KeptPort, arm: Arm) -> Result<(), NoMemory> {
+fn arm_card<R: CardRig>(card: &mut R, arm: Arm) -> Result<(), NoMemory> {
     match arm {
         Arm::Stop(calls) => {
             card.stop_after(calls);
@@ -52,7 +35,11 @@ fn arm_card(card: &mut KeptPort, arm: Arm) -> Result<(), NoMemory> {
 }
 
 // Arms the file of a number.
-fn arm_numbered(bench: &mut KeptBench, number: usize, arm: Arm) -> Result<(), NoMemory>
+fn arm_numbered<R: CardRig>(
+    bench: &mut Bench<MemFile, R>,
+    number: usize,
+    arm: Arm,
+) -> Result<(), NoMemory>
     ensures { vec_len bench.new.files ≡ vec_len bench.old.files }
 {
     match bench.files.get_mut(number) {
@@ -62,7 +49,11 @@ fn arm_numbered(bench: &mut KeptBench, number: usize, arm: Arm) -> Result<(), No
 }
 
 // Arms a device.
-fn arm_device(bench: &mut KeptBench, device: Device, arm: Arm) -> Result<(), NoMemory>
+fn arm_device<R: CardRig>(
+    bench: &mut Bench<MemFile, R>,
+    device: Device,
+    arm: Arm,
+) -> Result<(), NoMemory>
     ensures { vec_len bench.new.files ≡ vec_len bench.old.files }
 {
     match device {
@@ -73,8 +64,15 @@ fn arm_device(bench: &mut KeptBench, device: Device, arm: Arm) -> Result<(), NoM
     }
 }
 
-/// Arms the device that goes wrong.
-pub fn arm(bench: &mut KeptBench, trouble: Trouble) -> Result<(), NoMemory>
+/// Arms the device that goes wrong. Draws are not armed here.
+///
+/// # Errors
+///
+/// Memory ran out.
+pub fn arm_bench<R: CardRig>(
+    bench: &mut Bench<MemFile, R>,
+    trouble: Trouble,
+) -> Result<(), NoMemory>
     ensures { vec_len bench.new.files ≡ vec_len bench.old.files }
 {
     let (first, second) = trouble.arms();
@@ -86,7 +84,11 @@ pub fn arm(bench: &mut KeptBench, trouble: Trouble) -> Result<(), NoMemory>
 }
 
 /// Nothing goes wrong any more, and each file crashes.
-pub fn crash(bench: &mut KeptBench, seed: u64) -> Result<(), NoMemory>
+///
+/// # Errors
+///
+/// Memory ran out.
+pub fn crash_bench<R: CardRig>(bench: &mut Bench<MemFile, R>, seed: u64) -> Result<(), NoMemory>
     ensures { OnOk result (vec_len bench.new.files ≡ vec_len bench.old.files) }
 {
     bench.card.disarm();

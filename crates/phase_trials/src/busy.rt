@@ -1,14 +1,12 @@
 // A phase on threads in which a device goes wrong, the power cut behind it, and what its history leaves.
 
-use crate::devices::new_bench;
 use crate::histories::{answers_in, push_done_calls, unconfirmed_call};
-use crate::mishaps::{Mishap, Trouble};
-use crate::tries::push_arms;
 use anyhow::Context;
+use script_runner::blank_bench;
 use std::alloc::{AllocError, Global};
 use std::sync::Wait;
 use std::thread::Threads;
-use trial_runs::{reliable, run_script};
+use trial_runs::{Mishap, Trouble, push_arms, reliable, run_script};
 
 /// The sessions, each of an application of its own.
 const SESSIONS: &str =
@@ -86,7 +84,7 @@ fn run_anew<W: Threads + Wait + Sync>(
     alloc: Global,
     script: &str,
 ) -> anyhow::Result<(String, String)> {
-    let ran = run_script(rt, alloc, script, new_bench(alloc)?, &mut reliable())?;
+    let ran = run_script(rt, alloc, script, blank_bench(alloc)?, &mut reliable())?;
     let (history, listed) = ran.output.split_once("# list\n").context("no list")?;
     let history = String::from_str(alloc, history)?;
     Ok((history, String::from_str(alloc, listed)?))

@@ -2,7 +2,6 @@
 
 use crate::acts::Act;
 use crate::devices::new_bench;
-use crate::mishaps::{Arm, Device, Mishap, Trouble};
 use crate::tally::Outcome;
 use crate::texts::Texts;
 use anyhow::Context;
@@ -10,7 +9,7 @@ use std::alloc::{AllocError, Global};
 use std::sync::Wait;
 use std::thread::Threads;
 use tee_ports::ListEntropy;
-use trial_runs::{failing_sessions, reliable, run_script};
+use trial_runs::{Device, Mishap, Trouble, failing_sessions, push_arms, reliable, run_script};
 
 /// The application of the lines before an act.
 pub const FIRST: &str = "app a 00000000-0000-0000-0000-000000000001\n";
@@ -18,30 +17,6 @@ pub const FIRST: &str = "app a 00000000-0000-0000-0000-000000000001\n";
 // The applications of an act. That of the calls is the second one, so that its session draws from another stream than before.
 const SECOND: &str =
     "app z 00000000-0000-0000-0000-000000000002\napp a 00000000-0000-0000-0000-000000000001\n";
-
-// The line that arms a device.
-fn arm_line(alloc: Global, device: Device, arm: Arm) -> Result<String, AllocError> {
-    let name = device.name();
-    match arm {
-        Arm::Stop(calls) => format!(in alloc; "stop {name} {calls}\n"),
-        Arm::Fail(call) => format!(in alloc; "fail {name} {call}\n"),
-        Arm::Lose(call) => format!(in alloc; "lose {name} {call}\n"),
-    }
-}
-
-/// Pushes the lines that arm the device. No line arms the draws.
-pub fn push_arms(alloc: Global, script: &mut String, trouble: Trouble) -> Result<(), AllocError> {
-    let device = trouble.device;
-    if device == Device::Draws {
-        return Ok(());
-    }
-    let (first, second) = trouble.arms();
-    script.push_str(arm_line(alloc, device, first)?.as_str())?;
-    match second {
-        Some(arm) => script.push_str(arm_line(alloc, device, arm)?.as_str()),
-        None => Ok(()),
-    }
-}
 
 // The lines behind the call that commits.
 fn last_lines(alloc: Global, mishap: Mishap, seed: u64) -> Result<String, AllocError> {

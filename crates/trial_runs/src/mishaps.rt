@@ -1,4 +1,4 @@
-// What goes wrong with a device.
+//! What goes wrong with a device.
 
 /// A device that may go wrong.
 #[derive(Clone, Copy, PartialEq, Eq)]
@@ -7,14 +7,15 @@ pub enum Device {
     Dir,
     /// The file of an object.
     File(usize),
+    /// The card.
     Card,
     /// The draws of the generator.
     Draws,
 }
 
 /// What is armed at a device. Calls that fail or are lost are counted from 1.
-#[derive(Clone, Copy, PartialEq, Eq)]
-pub enum Arm {
+#[derive(Clone, Copy)]
+pub(crate) enum Arm {
     /// So many calls pass, and all later ones fail.
     Stop(u64),
     /// This call fails without reaching the device.
@@ -40,25 +41,18 @@ pub enum Mishap {
     LosesTwo,
 }
 
-/// What goes wrong in a try, from that call on, counted from 0.
+/// What goes wrong in a trial, from that call on, counted from 0.
 #[derive(Clone, Copy)]
 pub struct Trouble {
+    /// The device that goes wrong.
     pub device: Device,
+    /// What goes wrong with it.
     pub mishap: Mishap,
+    /// The first call that it concerns.
     pub call: u64,
 }
 
 impl Device {
-    /// All of them, in the order of the table.
-    pub const ALL: [Device; 6] = [
-        Device::Dir,
-        Device::File(1),
-        Device::File(2),
-        Device::File(3),
-        Device::Card,
-        Device::Draws,
-    ];
-
     /// The device as a script names it.
     pub fn name(self) -> &'static str {
         match self {
@@ -70,24 +64,9 @@ impl Device {
             Device::Draws => "draws",
         }
     }
-
-    /// How many calls are tried at least: as many exchanges with the card as a commit makes, and more.
-    pub fn least_tries(self) -> u64 {
-        if self == Device::Card { 4 } else { 1 }
-    }
 }
 
 impl Mishap {
-    /// All of them, in the order of the table.
-    pub const ALL: [Mishap; 6] = [
-        Mishap::Stops,
-        Mishap::Fails,
-        Mishap::Passes,
-        Mishap::FailsTwice,
-        Mishap::Loses,
-        Mishap::LosesTwo,
-    ];
-
     /// What goes wrong, in words.
     pub fn name(self) -> &'static str {
         match self {
@@ -99,27 +78,11 @@ impl Mishap {
             Mishap::LosesTwo => "loses, fails",
         }
     }
-
-    /// With how many seeds each try is crashed.
-    pub fn seeds(self) -> u64 {
-        if self == Mishap::Passes { 1 } else { 8 }
-    }
-
-    /// Whether it is tried with that device.
-    pub fn is_tried_with(self, device: Device) -> bool {
-        match device {
-            Device::Dir | Device::File(_) => {
-                matches!(self, Mishap::Stops | Mishap::Fails | Mishap::Passes)
-            }
-            Device::Card => true,
-            Device::Draws => self == Mishap::Fails,
-        }
-    }
 }
 
 impl Trouble {
     /// What is armed at its device.
-    pub fn arms(self) -> (Arm, Option<Arm>) {
+    pub(crate) fn arms(self) -> (Arm, Option<Arm>) {
         let first = self.call.saturating_add(1);
         let second = first.saturating_add(1);
         match self.mishap {

@@ -3,8 +3,7 @@
 ghost use Rattle.std.specs.Prelude.{◌≡◌, vec_len, IfOk};
 ghost use Rattle.tee_types.specs.Limits.{file_count};
 
-use crate::devices::{KeptBench, arm, crash, new_bench};
-use crate::mishaps::{Device, Trouble};
+use crate::devices::{KeptBench, new_bench};
 use crate::tally::Outcome;
 use crate::tries::FIRST;
 use anyhow::Context;
@@ -12,7 +11,9 @@ use std::alloc::Global;
 use std::sync::Wait;
 use std::thread::Threads;
 use tee_ports::ListEntropy;
-use trial_runs::{failing, reliable, run_script, try_script};
+use trial_runs::{
+    Device, Trouble, arm_bench, crash_bench, failing, reliable, run_script, try_script,
+};
 
 /// How a store is opened.
 #[derive(Clone, Copy, PartialEq, Eq)]
@@ -118,12 +119,12 @@ pub fn try_opening<W: Threads + Wait + Sync>(
     seed: u64,
 ) -> anyhow::Result<(bool, Outcome)> {
     let mut bench = opening.bench(rt, alloc)?;
-    arm(&mut bench, trouble)?;
+    arm_bench(&mut bench, trouble)?;
     let mut entropy = entropy_of(trouble);
     let ran = try_script(rt, alloc, opening.script(), bench, &mut entropy)?;
     let opened = ran.is_done;
     let mut bench = ran.bench;
-    crash(&mut bench, seed)?;
+    crash_bench(&mut bench, seed)?;
     let outcome = outcome_in(rt, alloc, opening, opened, bench)?;
     Ok((!opened, outcome))
 }

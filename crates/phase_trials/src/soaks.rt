@@ -1,7 +1,7 @@
 // Soaks, run twice, and their calls on the machine of the model.
 
-use crate::devices::new_bench;
 use crate::machine::Machine;
+use script_runner::blank_bench;
 use seed_words::soak_script;
 use sha2::{Digest, Sha256};
 use std::alloc::Global;
@@ -27,7 +27,7 @@ fn told<W: Threads + Wait + Sync>(rt: &W, alloc: Global, number: u32) -> anyhow:
         String::from_str(alloc, "soak")?,
         format!(in alloc; "{number}")?,
     ]?;
-    let ran = run_words(rt, alloc, &words, "", new_bench(alloc)?, &mut reliable())?;
+    let ran = run_words(rt, alloc, &words, "", blank_bench(alloc)?, &mut reliable())?;
     Ok(ran.output)
 }
 

@@ -1,9 +1,9 @@
 // Scripts of sessions on threads that meet at the same objects, and their histories once more, one call after another.
 
-use crate::devices::new_bench;
 use crate::histories::{call_in, push_done_calls};
 use crate::machine::Machine;
 use anyhow::{Context, bail};
+use script_runner::blank_bench;
 use script_text::{Script, parse};
 use seed_words::SeedEntropy;
 use std::alloc::{AllocError, Global};
@@ -84,7 +84,7 @@ fn output_of<W: Threads + Wait + Sync>(
     alloc: Global,
     script: &str,
 ) -> anyhow::Result<String> {
-    let ran = run_script(rt, alloc, script, new_bench(alloc)?, &mut reliable())?;
+    let ran = run_script(rt, alloc, script, blank_bench(alloc)?, &mut reliable())?;
     Ok(ran.output)
 }
 

@@ -1,11 +1,11 @@
 // Power cuts behind phases on threads, while calls of the directory's file or of the card go wrong.
 
 use crate::busy::{CutStore, cut_store};
-use crate::mishaps::{Device, Mishap, Trouble};
 use crate::table::{cut_head_line, cut_line};
 use std::alloc::{AllocError, Global};
 use std::sync::Wait;
 use std::thread::Threads;
+use trial_runs::{Device, Mishap, Trouble};
 
 /// The devices that go wrong.
 const DEVICES: [Device; 2] = [Device::Dir, Device::Card];

@@ -1,9 +1,9 @@
 // Files that are altered between two phases and in one, and what is answered then.
 
-use crate::devices::new_bench;
 use crate::table::{altered_head_line, altered_line};
 use anyhow::Context;
 use node_image::{FORMAT, block_offset, head_offset, node_offset};
+use script_runner::blank_bench;
 use std::alloc::{AllocError, Global};
 use std::sync::Wait;
 use std::thread::Threads;
@@ -174,7 +174,7 @@ fn told_behind<W: Threads + Wait + Sync>(
         rt,
         alloc,
         script.as_str(),
-        new_bench(alloc)?,
+        blank_bench(alloc)?,
         &mut reliable(),
     )?;
     let line = format!(in alloc; "# {control}\n")?;
