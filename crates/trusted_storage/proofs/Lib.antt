@@ -1,0 +1,11 @@
+pub mod Holding
+pub mod Walked
+pub mod Served
+pub mod Legal
+pub mod Found
+pub mod Mapped
+pub mod Last
+pub mod Altered
+pub mod Migrated
+pub mod Certified
+pub mod Ended

@@ -1,0 +1,154 @@
+-- The laws that are promised. What each takes of the program is what the contract of a public call says of it.
+use Rattle.std.specs.Prelude.{◌≡◌, ◌⊎◌, ℕ, List, Ok, Option}
+use Rattle.commit_gate.specs.ClosedStores.{tampered_in}
+use Rattle.core_laws.specs.EndLaws.{HasClashed}
+use Rattle.core_laws.specs.Stores.{Store, mounted_files, phase_of}
+use Rattle.core_laws.specs.TamperScenarios.{nothing_back}
+use Rattle.core_laws.specs.Undamaged.{AreUndamagedIn}
+use Rattle.crash_core.specs.Mounting.{mounted}
+use Rattle.crash_core.specs.Pictures.{AreAllHonest, block_zero}
+use Rattle.disk_model.specs.Bytes.{AreBytes}
+use Rattle.disk_model.specs.Faults.{Rose}
+use Rattle.disk_model.specs.State.{Sound}
+use Rattle.history_seats.specs.Views.{GateView}
+use Rattle.hmac_keys.specs.declared.Keys.{Keys}
+use Rattle.hmac_keys.specs.KeyTable.{rpmb_key}
+use Rattle.image_audit.specs.declared.fault.Listed.{Listed}
+use Rattle.image_audit.specs.Certificate.{ClashesWithPicture, HasListed, IsCertificate}
+use Rattle.image_audit.specs.Checking.{certificate_of}
+use Rattle.image_audit.specs.Contents.{Answers}
+use Rattle.object_calls.specs.FinishedPhase.{LeavesStore}
+use Rattle.rpmb_card.specs.Card.{CardState}
+use Rattle.rpmb_card.specs.Port.{PortState}
+use Rattle.rpmb_host.specs.Honest.{HasCard}
+use Rattle.run_acts.specs.Quiet.{IsQuiet}
+use Rattle.run_freshness.specs.Course.{HasItsCard}
+use Rattle.run_freshness.specs.Runs.{IsFreshSource}
+use Rattle.script_runner.specs.declared.status.Status.{Status}
+use Rattle.script_runner.specs.Migrations.{RunsMigration}
+use Rattle.script_runner.specs.QuietLaws.{ArmNothing}
+use Rattle.script_runner.specs.RunCauses.{HasCause, IsExact, RunsItsScript, World}
+use Rattle.script_runner.specs.RunLaws.{IsDoneOrStarved}
+use Rattle.script_runner.specs.Trace.{IsTraceOf}
+use Rattle.script_text.specs.Script.{ScriptValue}
+use Rattle.store_model.specs.LegalHistory.{IsLegal}
+use Rattle.store_model.specs.Record.{events_of}
+use Rattle.trusted_storage.specs.Altered.{AgreeWithLeft, AreByteImages, ClashesWith}
+use Rattle.trusted_storage.specs.Benches.{BeginsWith, Holds, MountsToLeft}
+use Rattle.trusted_storage.specs.Commits.{ReplayState, replay_left}
+use Rattle.trusted_storage.specs.Devices.{AreUntainted, BenchState}
+use Rattle.trusted_storage.specs.Objects.{ObjectMap}
+use Rattle.trusted_storage.specs.PowerCuts.{FileState, IsPictureOf, MayCrash, Picture}
+use Rattle.trusted_storage.specs.Replies.{IsLegalPhase}
+use Rattle.trusted_storage.specs.Runs.{AlterNothing, AreLegal, AreServed, EachBench, FindLeft, HasOpened, HoldsBehind, NoneStarved, RefusedByDevices, RunCall, TaintNothing, TookScript, applications_of, left_behind, records_of, script_acts}
+
+module _ {F R : Type 0} (of_file : F → FileState) (of_port : R → PortState) (image : FileState → ℕ → ℕ → List ℕ) (Reliable : Type 0) (w : World) where
+  -- TEXT. What was put begins the text of the script that was taken, with what was recorded of its acts. Nothing is put but of a script.
+  abbrev pub RunsWriteTheirRecords : Type 0
+  RunsWriteTheirRecords = (c : RunCall of_file of_port image Reliable w) → IsTraceOf c.left_old c.left_new c.held_old c.held_new c.says.0
+
+  -- EACH CALL ONCE AND IN ORDER. The history of a phase that was run has the calls of the script, each once.
+  abbrev pub CallsAreServedOnce : Type 0
+  CallsAreServedOnce = (c : RunCall of_file of_port image Reliable w) (script : ScriptValue) → TookScript c script → AreServed (script_acts script) (records_of c)
+
+  -- LEGAL REPLIES. Over honest files each phase's history is legal, whatever its devices were armed to fail.
+  abbrev pub RepliesAreLegal : Type 0
+  RepliesAreLegal =
+      (c : RunCall of_file of_port image Reliable w) (script : ScriptValue) → TookScript c script → AreUntainted c.handed.files → TaintNothing (script_acts script)
+      → AreLegal (applications_of script) (records_of c)
+
+  -- WHAT WAS ANSWERED STANDS. Each phase and each list finds what the records before it leave, whether the power failed between or not; and where
+  -- an act is refused, a device failed or memory ran out.
+  abbrev pub WhatIsLeftIsFound : Type 0
+  WhatIsLeftIsFound =
+      (c : RunCall of_file of_port image Reliable w) (script : ScriptValue) (s : ReplayState) → TookScript c script → BeginsWith c.keys (applications_of script) c.handed s → AlterNothing (script_acts script)
+      → FindLeft (applications_of script) s (records_of c) × RefusedByDevices (records_of c)
+
+  -- A POWER CUT BETWEEN ACTS. Whatever it leaves of the bench, behind any act, mounts to what the records down to there leave: also behind a phase
+  -- whose devices stopped, each at some call.
+  abbrev pub CutsBetweenActs : Type 0
+  CutsBetweenActs =
+      (c : RunCall of_file of_port image Reliable w) (script : ScriptValue) (s : ReplayState) → TookScript c script → HasOpened c
+      → BeginsWith c.keys (applications_of script) c.handed s
+      → EachBench c (λ done records bench.
+      AlterNothing done → NoneStarved records → HoldsBehind c.keys (applications_of script) done bench (left_behind (applications_of script) s records))
+
+  -- A POWER CUT AT EXIT. So of the bench that is given back, at whatever status: it is one that the next run may begin with.
+  abbrev pub CutsAtExit : Type 0
+  CutsAtExit =
+      (c : RunCall of_file of_port image Reliable w) (script : ScriptValue) (s : ReplayState) → TookScript c script → HasOpened c
+      → BeginsWith c.keys (applications_of script) c.handed s → AlterNothing (script_acts script) → NoneStarved (records_of c)
+      → BeginsWith c.keys (applications_of script) c.given (left_behind (applications_of script) s (records_of c))
+
+  -- ALTERED AND OLDER FILES IN A RUN. Whatever was done to the files between, each mount and each list agrees with the bench that was closed last
+  -- before it under the same card, or what was read clashes with it.
+  abbrev pub RunsAreFresh : Type 0
+  RunsAreFresh =
+      (c : RunCall of_file of_port image Reliable w) (closed : Option BenchState) → HasItsCard closed c.handed → IsFreshSource of_file of_port image Reliable c.keys closed c.drew c.draws c.says.0 c.handed c.given c.status c.says.2
+
+  -- WHEN A STATUS COMES. Only where its cause holds; and where the length or the text decides it, it comes, or memory ran out.
+  abbrev pub StatusesHaveCauses : Type 0
+  StatusesHaveCauses = (c : RunCall of_file of_port image Reliable w) → HasCause w c.says.0 c.status × IsExact w c.says.0 c.status
+
+  -- Over devices that do not fail a script that arms and alters nothing is done, or memory ran out.
+  abbrev pub QuietRunsAreDone : Type 0
+  QuietRunsAreDone =
+      (c : RunCall of_file of_port image Reliable w) (script : ScriptValue) (s : ReplayState) → TookScript c script → HasOpened c → Holds c.keys c.handed s
+      → IsQuiet c.keys c.handed → Reliable → (Rose c.drew c.draws → ⊥) → ArmNothing (script_acts script) → AlterNothing (script_acts script) → RunsItsScript c.status
+      → IsDoneOrStarved c.status
+
+-- A POWER CUT KEEPS what a bench holds.
+abbrev pub CutsKeep : Type 0
+CutsKeep = (keys : Keys) (applications : List (List ℕ)) (s : ReplayState) (old new : BenchState) → BeginsWith keys applications old s → MayCrash old new → BeginsWith keys applications new s
+
+-- ALTERED AND OLDER FILES. Beside a bench that holds what is left: whatever pictures have its card's block 0, what mounts of them agrees with what
+-- is left, or their files clash with the bench's.
+abbrev pub AlteredFilesAgree : Type 0
+AlteredFilesAgree =
+    (keys : Keys) (bench : BenchState) (s : ReplayState) (card : CardState) (picture : Picture) (objects : ObjectMap) → Holds keys bench s → ((file : ℕ) → Sound (bench.files file))
+    → HasCard bench.card (rpmb_key keys.huk) card → AreByteImages picture.images → block_zero picture.card ≡ block_zero card → mounted keys picture ≡ Ok objects
+    → AgreeWithLeft s objects ⊎ ClashesWith keys bench card picture
+
+-- Each picture of the new bench mounts as some picture of the old one does.
+pub record KeepsObjects (keys : Keys) (old new : BenchState) (before : CardState) : Type 0 where
+  pub after : CardState
+  pub has : HasCard new.card (rpmb_key keys.huk) after
+  pub keeps : (picture : Picture) → IsPictureOf new.files after picture → (was : Picture) × IsPictureOf old.files before was × (mounted keys was ≡ mounted keys picture)
+
+-- MIGRATION. However it ended, the bench mounts to the objects that it mounted to before, over honest files and a card that has our key.
+abbrev pub MigrationsKeepObjects : {F R : Type 0} → (F → FileState) → (R → PortState) → (failed : Type 0) → Type 0
+MigrationsKeepObjects of_file of_port failed =
+    (keys : Keys) (drew draws : ℕ) (held_old held_new : Option (List ℕ)) (handed given : BenchState) (status : Status) (card : CardState)
+    → RunsMigration of_file of_port keys drew draws failed held_old held_new handed given status → HasCard handed.card (rpmb_key keys.huk) card → AreAllHonest given.files
+    → KeepsObjects keys handed given card
+
+-- It has what is listed, or the certificate clashes with it.
+pub record HoldsAsCertified (keys : Keys) (block bytes : List ℕ) (l : Listed) (picture : Picture) (objects : ObjectMap) : Type 0 where
+  pub certificate : IsCertificate keys block bytes l
+  pub holds : HasListed l objects ⊎ ClashesWithPicture certificate picture.images
+
+-- CERTIFICATES. What `check` accepts under a card's block 0, holds in every picture with that block that mounts.
+abbrev pub CertificatesHold : Type 0
+CertificatesHold =
+    (keys : Keys) (block bytes : List ℕ) (l : Listed) (picture : Picture) (objects : ObjectMap) → AreBytes bytes → Answers (certificate_of keys block bytes) (Ok l)
+    → AreByteImages picture.images → block_zero picture.card ≡ block → mounted keys picture ≡ Ok objects → HoldsAsCertified keys block bytes l picture objects
+
+-- What a phase leaves over honest files: its history is legal, and each picture of its devices mounts to what that leaves.
+pub record EndsLegal (store : Store) (view : GateView) (files : ℕ → FileState) (port : PortState) : Type 0 where
+  pub legal : IsLegalPhase store.objects (store.mounted).applications (events_of view.all)
+  pub mounts : (card : CardState) (picture : Picture) → HasCard port (rpmb_key (store.keys).huk) card → IsPictureOf files card picture
+      → MountsToLeft store.keys picture (replay_left store.objects (store.mounted).applications (events_of view.all))
+
+-- A STORE THAT IS SERVED. So ends each phase of a service on one thread (`Service::finish`) and of a store that threads share (`close_slots`).
+abbrev pub PhasesEndLegal : Type 0
+PhasesEndLegal =
+    (store : Store) (view : GateView) (files : ℕ → FileState) (port : PortState) (doubt : Option ℕ) → LeavesStore store view files port doubt → AreAllHonest files
+    → EndsLegal store view files port
+
+-- REPLIES OVER ALTERED FILES. Where no object in a file that is not honest was damaged as the phase opened, its history is legal, with these files as
+-- those that may be answered as corrupt; or at a first event what such a file gave clashes with what was committed.
+abbrev pub AlteredPhasesAreLegal : Type 0
+AlteredPhasesAreLegal =
+    (store : Store) (view : GateView) (files : ℕ → FileState) (port : PortState) (doubt : Option ℕ) → LeavesStore store view files port doubt
+    → AreUndamagedIn (tampered_in files) (mounted_files store.mounted) store.objects
+    → IsLegal (phase_of store) (tampered_in files) view.all doubt ⊎ HasClashed store (nothing_back (tampered_in files)) view.all

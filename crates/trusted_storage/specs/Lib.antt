@@ -1,0 +1,9 @@
+pub mod Objects
+pub mod Commits
+pub mod Replies
+pub mod PowerCuts
+pub mod Devices
+pub mod Benches
+pub mod Altered
+pub mod Runs
+pub mod Laws

@@ -1,0 +1,133 @@
+//! The laws. Each function does nothing: its contract is the law.
+
+ghost use Rattle.std.specs.Prelude.{◌⊎◌};
+ghost use Rattle.tee_ports.specs.Faults.{Rose};
+ghost use Rattle.trusted_storage.specs.Laws.{AlteredFilesAgree, AlteredPhasesAreLegal, CallsAreServedOnce, CertificatesHold, CutsAtExit, CutsBetweenActs, CutsKeep, MigrationsKeepObjects, PhasesEndLegal, QuietRunsAreDone, RepliesAreLegal, RunsAreFresh, RunsWriteTheirRecords, StatusesHaveCauses, WhatIsLeftIsFound};
+
+use rpmb_card::RpmbPort;
+use tee_ports::{Entropy, FileRig, Sink, Source};
+
+/// What was put begins the text of the script that was taken, with what was recorded of its acts.
+pub fn runs_write_their_records<S: Source, K: Sink, F: FileRig, R: RpmbPort, E: Entropy>(
+    entropy: &E,
+)
+    ensures { (was source : S) (held sink : K) → RunsWriteTheirRecords F.state R.state F.crash_image (E.is_reliable entropy.now) (record {
+      source_failed = Rose (S.faults was) (S.faults source);
+      source_ended = S.has_ended source;
+      sink_failed = Rose (K.faults held) (K.faults sink);
+      sink_full = K.is_full sink;
+    }) }
+{}
+
+/// The history of each phase that was run has the calls of the script, each once: those of each application in their order, and in a serial phase all of
+/// them.
+pub fn calls_are_served_once<S: Source, K: Sink, F: FileRig, R: RpmbPort, E: Entropy>(entropy: &E)
+    ensures { (was source : S) (held sink : K) → CallsAreServedOnce F.state R.state F.crash_image (E.is_reliable entropy.now) (record {
+      source_failed = Rose (S.faults was) (S.faults source);
+      source_ended = S.has_ended source;
+      sink_failed = Rose (K.faults held) (K.faults sink);
+      sink_full = K.is_full sink;
+    }) }
+{}
+
+/// Over honest files each reply of a run is one that the specification allows where it stands, in one order for all applications.
+pub fn replies_are_legal<S: Source, K: Sink, F: FileRig, R: RpmbPort, E: Entropy>(entropy: &E)
+    ensures { (was source : S) (held sink : K) → RepliesAreLegal F.state R.state F.crash_image (E.is_reliable entropy.now) (record {
+      source_failed = Rose (S.faults was) (S.faults source);
+      source_ended = S.has_ended source;
+      sink_failed = Rose (K.faults held) (K.faults sink);
+      sink_full = K.is_full sink;
+    }) }
+{}
+
+/// Each phase and each list of a run finds what the records before it leave, over power cuts between them. No store is refused.
+pub fn what_is_left_is_found<S: Source, K: Sink, F: FileRig, R: RpmbPort, E: Entropy>(entropy: &E)
+    ensures { (was source : S) (held sink : K) → WhatIsLeftIsFound F.state R.state F.crash_image (E.is_reliable entropy.now) (record {
+      source_failed = Rose (S.faults was) (S.faults source);
+      source_ended = S.has_ended source;
+      sink_failed = Rose (K.faults held) (K.faults sink);
+      sink_full = K.is_full sink;
+    }) }
+{}
+
+/// Whatever a power cut leaves of the bench, behind any act of a run, mounts to what the records down to there leave.
+pub fn cuts_between_acts<S: Source, K: Sink, F: FileRig, R: RpmbPort, E: Entropy>(entropy: &E)
+    ensures { (was source : S) (held sink : K) → CutsBetweenActs F.state R.state F.crash_image (E.is_reliable entropy.now) (record {
+      source_failed = Rose (S.faults was) (S.faults source);
+      source_ended = S.has_ended source;
+      sink_failed = Rose (K.faults held) (K.faults sink);
+      sink_full = K.is_full sink;
+    }) }
+{}
+
+/// So of the bench that a run gives back, at whatever status it ended: the next run may begin with it.
+pub fn cuts_at_exit<S: Source, K: Sink, F: FileRig, R: RpmbPort, E: Entropy>(entropy: &E)
+    ensures { (was source : S) (held sink : K) → CutsAtExit F.state R.state F.crash_image (E.is_reliable entropy.now) (record {
+      source_failed = Rose (S.faults was) (S.faults source);
+      source_ended = S.has_ended source;
+      sink_failed = Rose (K.faults held) (K.faults sink);
+      sink_full = K.is_full sink;
+    }) }
+{}
+
+/// Whatever a script did to the files: each mount and each list agrees with the bench that was closed last before it, or what was read clashes with it.
+pub fn runs_are_fresh<S: Source, K: Sink, F: FileRig, R: RpmbPort, E: Entropy>(entropy: &E)
+    ensures { (was source : S) (held sink : K) → RunsAreFresh F.state R.state F.crash_image (E.is_reliable entropy.now) (record {
+      source_failed = Rose (S.faults was) (S.faults source);
+      source_ended = S.has_ended source;
+      sink_failed = Rose (K.faults held) (K.faults sink);
+      sink_full = K.is_full sink;
+    }) }
+{}
+
+/// A status comes only where its cause holds; and where the length or the text of a script decides it, it comes, or memory ran out.
+pub fn statuses_have_causes<S: Source, K: Sink, F: FileRig, R: RpmbPort, E: Entropy>(entropy: &E)
+    ensures { (was source : S) (held sink : K) → StatusesHaveCauses F.state R.state F.crash_image (E.is_reliable entropy.now) (record {
+      source_failed = Rose (S.faults was) (S.faults source);
+      source_ended = S.has_ended source;
+      sink_failed = Rose (K.faults held) (K.faults sink);
+      sink_full = K.is_full sink;
+    }) }
+{}
+
+/// Over devices that do not fail a script that arms and alters nothing is done, or memory ran out.
+pub fn quiet_runs_are_done<S: Source, K: Sink, F: FileRig, R: RpmbPort, E: Entropy>(entropy: &E)
+    ensures { (was source : S) (held sink : K) → QuietRunsAreDone F.state R.state F.crash_image (E.is_reliable entropy.now) (record {
+      source_failed = Rose (S.faults was) (S.faults source);
+      source_ended = S.has_ended source;
+      sink_failed = Rose (K.faults held) (K.faults sink);
+      sink_full = K.is_full sink;
+    }) }
+{}
+
+/// A power cut leaves a bench that holds what it held.
+pub fn cuts_keep()
+    ensures { CutsKeep }
+{}
+
+/// Whatever files stand beside a card: what mounts of them agrees with what the bench under that card's block 0 holds, or they clash.
+pub fn altered_files_agree()
+    ensures { AlteredFilesAgree }
+{}
+
+/// However a migration ended, the bench mounts to the objects that it mounted to before.
+pub fn migrations_keep_objects<K: Sink, F: FileRig, R: RpmbPort>()
+    ensures { (held sink : K) → MigrationsKeepObjects F.state R.state (Rose (K.faults held) (K.faults sink) ⊎ K.is_full sink) }
+{}
+
+/// What `check` of `image_audit` accepts under a card's block 0, holds in every picture with that block that mounts, or they clash.
+pub fn certificates_hold()
+    ensures { CertificatesHold }
+{}
+
+/// Over honest files each phase ends with a legal history, and each picture of its devices mounts to what that leaves: on one thread
+/// (`Service::finish`), and on threads that share the store (`close_slots`).
+pub fn phases_end_legal()
+    ensures { PhasesEndLegal }
+{}
+
+/// Over altered files a phase's history is legal too, where nothing in them was damaged as it opened; or at a first event what such a file gave
+/// clashes with what was committed.
+pub fn altered_phases_are_legal()
+    ensures { AlteredPhasesAreLegal }
+{}
