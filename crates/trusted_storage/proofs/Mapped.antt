@@ -22,7 +22,11 @@ use Rattle.script_runner.specs.Trace.{Trace, applications_of}
 use Rattle.script_text.specs.declared.script.Arm.{Arm}
 use Rattle.script_text.specs.declared.script.Control.TheVariants.{Arm as ArmControl, Crash, Flip, List as ListControl, Mode as ModeControl, Phase, Restore, Save}
 use Rattle.script_text.specs.declared.script.Mode.TheVariants.{Serial}
-use Rattle.trusted_storage.specs.Laws.{CutsBetweenActs}
+use Rattle.script_text.specs.declared.script.Mode.{Mode}
+use Rattle.script_text.specs.declared.script.Step.{Step}
+use Rattle.store_model.specs.ReplayState.{ReplayState}
+use Rattle.trusted_storage.specs.Benches.{Holds}
+use Rattle.trusted_storage.specs.Laws.{CutsBetweenActs, CutsInsidePhases}
 use Rattle.trusted_storage.specs.Runs.{HoldsBehind}
 use Rattle.trusted_storage.proofs.Holding.{of_begins, to_behind}
 
@@ -123,6 +127,11 @@ module _ {F R : Type 0} (of_file : F → FileState) (of_port : R → PortState) 
     map_source ReadFault ends holds = follows [] [] given holds
     map_source (TooLong excess) ends holds = follows [] [] given holds
 
+-- behind a phase
+behind_last : (keys : Keys) (apps : List (List ℕ)) (before : List Act) (act : Act) (bench : BenchState) (s : ReplayState) → HoldsBehind keys apps (before ++ act ∷ []) bench s → Holds keys bench s
+behind_last keys apps [] act bench s holds = holds
+behind_last keys apps (first ∷ before) act bench s holds = holds
+
 pub cuts_between : {F R : Type 0} (of_file : F → FileState) (of_port : R → PortState) (image : FileState → ℕ → ℕ → List ℕ) (Reliable : Type 0) (w : World) → CutsBetweenActs of_file of_port image Reliable w
 cuts_between of_file of_port image Reliable w c script s is opened begins =
     let apps = applications_of script in
@@ -131,3 +140,13 @@ cuts_between of_file of_port image Reliable w c script s is opened begins =
     map_source of_file of_port image Reliable c.keys P Q (λ done records bench held unaltered fed. to_behind c.keys apps done bench (left_behind apps s records) (held unaltered fed)) c.drew c.draws c.says.0 c.handed c.given
     c.status c.says.2
     (runs_hold_left of_file of_port image Reliable w c.left_old c.left_new c.held_old c.held_new c.drew c.draws c.keys c.handed c.given c.status s script c.says (of_begins c.keys apps c.handed s begins) is opened c.whole)
+
+pub cuts_inside : {F R : Type 0} (of_file : F → FileState) (of_port : R → PortState) (image : FileState → ℕ → ℕ → List ℕ) (Reliable : Type 0) (w : World) → CutsInsidePhases of_file of_port image Reliable w
+cuts_inside of_file of_port image Reliable w c script s is opened begins =
+    let apps = applications_of script in
+    let P : List Act → List RunRecord → BenchState → Type 0 = λ done records bench. AlterNothing done → NoneStarved records → HoldsBehind c.keys apps done bench (left_behind apps s records) in
+    let Q : List Act → List RunRecord → BenchState → Type 0 = λ done records bench.
+    (before : List Act) (mode : Mode) (calls : List Step) → done ≡ before ++ Serve mode calls ∷ [] → AlterNothing done → NoneStarved records → Holds c.keys bench (left_behind apps s records) in
+    map_source of_file of_port image Reliable c.keys P Q (λ done records bench held before mode calls same unaltered fed.
+    behind_last c.keys apps before (Serve mode calls) bench (left_behind apps s records) (subst (λ (l : List Act). HoldsBehind c.keys apps l bench (left_behind apps s records)) same (held unaltered fed))) c.drew
+    c.draws c.says.0 c.handed c.given c.status c.says.2 (cuts_between of_file of_port image Reliable w c script s is opened begins)

@@ -1,5 +1,5 @@
 -- The laws that are promised. What each takes of the program is what the contract of a public call says of it.
-use Rattle.std.specs.Prelude.{◌≡◌, ◌⊎◌, ℕ, List, Ok, Option}
+use Rattle.std.specs.Prelude.{◌≡◌, ◌⊎◌, ◌++◌, ℕ, List, [], ◌∷◌, Ok, Option}
 use Rattle.commit_gate.specs.ClosedStores.{tampered_in}
 use Rattle.core_laws.specs.EndLaws.{HasClashed}
 use Rattle.core_laws.specs.Stores.{Store, mounted_files, phase_of}
@@ -29,7 +29,10 @@ use Rattle.script_runner.specs.Migrations.{RunsMigration}
 use Rattle.script_runner.specs.QuietLaws.{ArmNothing}
 use Rattle.script_runner.specs.RunCauses.{HasCause, IsExact, RunsItsScript, World}
 use Rattle.script_runner.specs.RunLaws.{IsDoneOrStarved}
+use Rattle.script_runner.specs.Text.{Serve}
 use Rattle.script_runner.specs.Trace.{IsTraceOf}
+use Rattle.script_text.specs.declared.script.Mode.{Mode}
+use Rattle.script_text.specs.declared.script.Step.{Step}
 use Rattle.script_text.specs.Script.{ScriptValue}
 use Rattle.store_model.specs.LegalHistory.{IsLegal}
 use Rattle.store_model.specs.Record.{events_of}
@@ -40,7 +43,7 @@ use Rattle.trusted_storage.specs.Devices.{AreUntainted, BenchState}
 use Rattle.trusted_storage.specs.Objects.{ObjectMap}
 use Rattle.trusted_storage.specs.PowerCuts.{FileState, IsPictureOf, MayCrash, Picture}
 use Rattle.trusted_storage.specs.Replies.{IsLegalPhase}
-use Rattle.trusted_storage.specs.Runs.{AlterNothing, AreLegal, AreServed, EachBench, FindLeft, HasOpened, HoldsBehind, NoneStarved, RefusedByDevices, RunCall, TaintNothing, TookScript, applications_of, left_behind, records_of, script_acts}
+use Rattle.trusted_storage.specs.Runs.{Act, AlterNothing, AreLegal, AreServed, EachBench, FindLeft, HasOpened, HoldsBehind, NoneStarved, RefusedByDevices, RunCall, TaintNothing, TookScript, applications_of, left_behind, records_of, script_acts}
 
 module _ {F R : Type 0} (of_file : F → FileState) (of_port : R → PortState) (image : FileState → ℕ → ℕ → List ℕ) (Reliable : Type 0) (w : World) where
   -- TEXT. What was put begins the text of the script that was taken, with what was recorded of its acts. Nothing is put but of a script.
@@ -64,14 +67,23 @@ module _ {F R : Type 0} (of_file : F → FileState) (of_port : R → PortState) 
       (c : RunCall of_file of_port image Reliable w) (script : ScriptValue) (s : ReplayState) → TookScript c script → BeginsWith c.keys (applications_of script) c.handed s → AlterNothing (script_acts script)
       → FindLeft (applications_of script) s (records_of c) × RefusedByDevices (records_of c)
 
-  -- A POWER CUT BETWEEN ACTS. Whatever it leaves of the bench, behind any act, mounts to what the records down to there leave: also behind a phase
-  -- whose devices stopped, each at some call.
+  -- A POWER CUT BETWEEN ACTS. Whatever it leaves of the bench, behind any act, mounts to what the records down to there leave.
   abbrev pub CutsBetweenActs : Type 0
   CutsBetweenActs =
       (c : RunCall of_file of_port image Reliable w) (script : ScriptValue) (s : ReplayState) → TookScript c script → HasOpened c
       → BeginsWith c.keys (applications_of script) c.handed s
       → EachBench c (λ done records bench.
       AlterNothing done → NoneStarved records → HoldsBehind c.keys (applications_of script) done bench (left_behind (applications_of script) s records))
+
+  -- A POWER CUT INSIDE A PHASE is the run in which every device stops at some call (PowerCuts). Behind its phase, wherever each device stopped and
+  -- whatever else was armed, the bench holds what the history of that phase leaves.
+  abbrev pub CutsInsidePhases : Type 0
+  CutsInsidePhases =
+      (c : RunCall of_file of_port image Reliable w) (script : ScriptValue) (s : ReplayState) → TookScript c script → HasOpened c
+      → BeginsWith c.keys (applications_of script) c.handed s
+      → EachBench c (λ done records bench.
+      (before : List Act) (mode : Mode) (calls : List Step) → done ≡ before ++ Serve mode calls ∷ [] → AlterNothing done → NoneStarved records
+      → Holds c.keys bench (left_behind (applications_of script) s records))
 
   -- A POWER CUT AT EXIT. So of the bench that is given back, at whatever status: it is one that the next run may begin with.
   abbrev pub CutsAtExit : Type 0

@@ -2,7 +2,7 @@
 
 ghost use Rattle.std.specs.Prelude.{◌⊎◌};
 ghost use Rattle.tee_ports.specs.Faults.{Rose};
-ghost use Rattle.trusted_storage.specs.Laws.{AlteredFilesAgree, AlteredPhasesAreLegal, CallsAreServedOnce, CertificatesHold, CutsAtExit, CutsBetweenActs, CutsKeep, MigrationsKeepObjects, PhasesEndLegal, QuietRunsAreDone, RepliesAreLegal, RunsAreFresh, RunsWriteTheirRecords, StatusesHaveCauses, WhatIsLeftIsFound};
+ghost use Rattle.trusted_storage.specs.Laws.{AlteredFilesAgree, AlteredPhasesAreLegal, CallsAreServedOnce, CertificatesHold, CutsAtExit, CutsBetweenActs, CutsInsidePhases, CutsKeep, MigrationsKeepObjects, PhasesEndLegal, QuietRunsAreDone, RepliesAreLegal, RunsAreFresh, RunsWriteTheirRecords, StatusesHaveCauses, WhatIsLeftIsFound};
 
 use rpmb_card::RpmbPort;
 use tee_ports::{Entropy, FileRig, Sink, Source};
@@ -53,6 +53,16 @@ pub fn what_is_left_is_found<S: Source, K: Sink, F: FileRig, R: RpmbPort, E: Ent
 /// Whatever a power cut leaves of the bench, behind any act of a run, mounts to what the records down to there leave.
 pub fn cuts_between_acts<S: Source, K: Sink, F: FileRig, R: RpmbPort, E: Entropy>(entropy: &E)
     ensures { (was source : S) (held sink : K) → CutsBetweenActs F.state R.state F.crash_image (E.is_reliable entropy.now) (record {
+      source_failed = Rose (S.faults was) (S.faults source);
+      source_ended = S.has_ended source;
+      sink_failed = Rose (K.faults held) (K.faults sink);
+      sink_full = K.is_full sink;
+    }) }
+{}
+
+/// Behind a phase, wherever each of its devices stopped, the bench holds what the history of that phase leaves. This stands for a power cut inside it.
+pub fn cuts_inside_phases<S: Source, K: Sink, F: FileRig, R: RpmbPort, E: Entropy>(entropy: &E)
+    ensures { (was source : S) (held sink : K) → CutsInsidePhases F.state R.state F.crash_image (E.is_reliable entropy.now) (record {
       source_failed = Rose (S.faults was) (S.faults source);
       source_ended = S.has_ended source;
       sink_failed = Rose (K.faults held) (K.faults sink);
