@@ -1,17 +1,9 @@
 -- What altered and older files give.
-use Rattle.std.proofs.Common.{◌≡◌, ◌⊎◌, ℕ, List, Ok, inl, inr, refl, sym}
-use Rattle.crash_core.specs.Mounting.{mounted}
+use Rattle.std.proofs.Common.{inl, inr, refl}
 use Rattle.crash_core.specs.Opening.{reads_of}
-use Rattle.crash_core.specs.Pictures.{IsPictureOf, Picture, block_zero}
+use Rattle.crash_core.specs.Pictures.{IsPictureOf, Picture}
 use Rattle.disk_model.proofs.ImageLaws.{reads_left}
-use Rattle.disk_model.specs.State.{FileState, Sound}
 use Rattle.freshness_laws.proofs.Pictures.{pictures_agree}
-use Rattle.freshness_laws.specs.Agreement.{MapsAgree}
-use Rattle.freshness_laws.specs.Pictures.{PictureClash}
-use Rattle.hmac_keys.specs.declared.Keys.{Keys}
-use Rattle.rpmb_card.specs.Card.{CardState}
-use Rattle.run_acts.specs.Benches.{BenchState}
-use Rattle.store_model.specs.Object.{ObjectMap}
 use Rattle.trusted_storage.specs.Laws.{AlteredFilesAgree}
 
 pub altered_agree : AlteredFilesAgree

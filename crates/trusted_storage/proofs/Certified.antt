@@ -1,6 +1,5 @@
 -- What certificates say.
-use Rattle.std.proofs.Common.{◌≡◌, ◌⊎◌, ℕ, List, Err, Ok, Result, inl, inr, sym}
-use Rattle.disk_model.specs.Bytes.{AreBytes}
+use Rattle.std.proofs.Common.{◌≡◌, ℕ, List, Err, Ok, Result, inl, inr, sym}
 use Rattle.hmac_keys.specs.declared.Keys.{Keys}
 use Rattle.image_audit.proofs.Certified.{holds_in_pictures}
 use Rattle.image_audit.proofs.Checks.{accepted}

@@ -1,9 +1,7 @@
 -- What a phase leaves over honest files.
-use Rattle.std.proofs.Common.{◌≡◌, ℕ, List, [], None, Option, Some, inl, refl}
-use Rattle.core_laws.specs.Stores.{Store, phase_of}
-use Rattle.crash_core.specs.Pictures.{AreAllHonest, IsPictureOf, Picture}
-use Rattle.disk_model.specs.State.{FileState}
-use Rattle.history_seats.specs.Views.{GateView}
+use Rattle.std.proofs.Common.{ℕ, None, Option, Some, inl, refl}
+use Rattle.core_laws.specs.Stores.{phase_of}
+use Rattle.crash_core.specs.Pictures.{Picture}
 use Rattle.hmac_keys.specs.declared.Keys.{Keys}
 use Rattle.object_calls.specs.FinishedPhase.{IsMapLeft, IsMapWith, end_replay}
 use Rattle.run_acts.proofs.Replays.{left_alike, replay_alike}

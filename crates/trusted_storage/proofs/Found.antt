@@ -1,5 +1,5 @@
 -- Each phase and each list finds what was left; and runs over devices that do not fail are done.
-use Rattle.std.proofs.Common.{◌≡◌, ℕ, List, [], inl, inr, refl, sym, subst}
+use Rattle.std.proofs.Common.{ℕ, List, inl, inr, sym, subst}
 use Rattle.disk_model.specs.State.{FileState}
 use Rattle.rpmb_card.specs.Port.{PortState}
 use Rattle.script_runner.proofs.HeldRuns.{formatted_runs_stand}

@@ -1,5 +1,5 @@
 -- What a bench holds, in the words of the laws below.
-use Rattle.std.proofs.Common.{◌≡◌, ◌⊎◌, ◌∙◌, ℕ, List, [], ◌∷◌, true, Ok, Option, Some, inl, inr, refl, sym, ap, subst}
+use Rattle.std.proofs.Common.{◌≡◌, ◌∙◌, ℕ, List, [], ◌∷◌, true, Ok, Option, Some, inl, inr, refl, sym, ap, subst}
 use Rattle.crash_core.specs.Pictures.{Picture, block_zero}
 use Rattle.hmac_keys.specs.declared.Keys.{Keys}
 use Rattle.hmac_keys.specs.KeyTable.{rpmb_key}

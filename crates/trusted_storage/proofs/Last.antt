@@ -1,5 +1,5 @@
 -- What holds of each bench of a run, holds of the one that is given back.
-use Rattle.std.proofs.Common.{◌≡◌, ◌⊎◌, ◌∙◌, ℕ, List, [], ◌∷◌, ◌++◌, Err, None, Ok, Option, Result, Some, append_assoc, append-nil, inl, inr, refl, sym, ap, subst}
+use Rattle.std.proofs.Common.{◌≡◌, ◌⊎◌, ◌∙◌, ℕ, List, [], ◌∷◌, ◌++◌, Err, Ok, Result, append_assoc, append-nil, inl, inr, sym, subst}
 use Rattle.disk_model.specs.State.{FileState}
 use Rattle.hmac_keys.specs.declared.Keys.{Keys}
 use Rattle.rpmb_card.specs.Port.{PortState}
@@ -12,10 +12,10 @@ use Rattle.script_runner.specs.Course.{GoesUntil, GoesUntilCrashed}
 use Rattle.script_runner.specs.declared.status.Excess.TheVariants.{Apps, Bytes}
 use Rattle.script_runner.specs.declared.status.Status.{Status}
 use Rattle.script_runner.specs.declared.status.Status.TheVariants.{BadLine, CardMapRefused, DeviceFault, Done, FileFault, MountRefused, NoMemory, ReadFault, TooLong, Usage, WriteFault}
-use Rattle.script_runner.specs.Ending.{EndsActs, EndsBench, EndsForMemory, EndsRun, EndsScript, RecordsRefusal}
+use Rattle.script_runner.specs.Ending.{EndsActs, EndsBench, EndsRun, EndsScript, RecordsRefusal}
 use Rattle.script_runner.specs.HeldRuns.{HoldsBehind as HeldBehind, NoneStarved}
 use Rattle.script_runner.specs.RecordLaws.{AlterNothing, left_behind}
-use Rattle.script_runner.specs.RunBenches.{HoldsAlong, HoldsCrashed, HoldsOfActs, HoldsOfRun, HoldsOfSource, HoldsRefused, HoldsStarved, HoldsUntil, next_act}
+use Rattle.script_runner.specs.RunBenches.{HoldsAlong, HoldsCrashed, HoldsOfActs, HoldsOfRun, HoldsOfSource, HoldsRefused, HoldsUntil, next_act}
 use Rattle.script_runner.specs.RunCauses.{HasCause, World}
 use Rattle.script_runner.specs.SavedFiles.{Standing, begins_with}
 use Rattle.script_runner.specs.Text.{Act, Controlled, Do, Listed, Ran, RunRecord, Serve, acts_of}

@@ -1,8 +1,7 @@
 -- What a migration keeps.
-use Rattle.std.proofs.Common.{◌≡◌, ◌∙◌, ℕ, List, [], ◌∷◌, IsTrue, Option, inl, inr, refl, sym, ap, subst}
+use Rattle.std.proofs.Common.{◌≡◌, ◌∙◌, ℕ, List, [], ◌∷◌, refl, sym, subst}
 use Rattle.crash_core.specs.Migration.{DeviceCall, DeviceStates, IsMigration, KeepsMaps}
-use Rattle.crash_core.specs.Mounting.{mounted}
-use Rattle.crash_core.specs.Pictures.{AreAllHonest, IsPictureOf, Picture}
+use Rattle.crash_core.specs.Pictures.{AreAllHonest}
 use Rattle.disk_model.specs.State.{FileState}
 use Rattle.hmac_keys.specs.declared.Keys.{Keys}
 use Rattle.hmac_keys.specs.KeyTable.{rpmb_key}

@@ -1,5 +1,5 @@
 -- Each phase has the calls of its act.
-use Rattle.std.proofs.Common.{◌≡◌, ℕ, List, [], ◌∷◌, ◌++◌, append-nil, inl, inr, sym, subst}
+use Rattle.std.proofs.Common.{ℕ, List, [], ◌∷◌, ◌++◌, append-nil, inl, inr, sym, subst}
 use Rattle.disk_model.specs.State.{FileState}
 use Rattle.hmac_keys.specs.declared.Keys.{Keys}
 use Rattle.rpmb_card.specs.Port.{PortState}
@@ -8,7 +8,7 @@ use Rattle.run_acts.specs.declared.MountFault.{MountFault}
 use Rattle.script_runner.proofs.GoingFold.{GoesAll, Steps, fold_going}
 use Rattle.script_runner.specs.RunCauses.{World}
 use Rattle.script_runner.specs.SavedFiles.{Standing, begins_with}
-use Rattle.script_runner.specs.Text.{Act, Do, Refused, RunRecord, Serve, acts_of}
+use Rattle.script_runner.specs.Text.{Act, Refused, RunRecord, acts_of}
 use Rattle.script_runner.specs.Trace.{applications_of}
 use Rattle.script_text.specs.declared.script.Arm.{Arm}
 use Rattle.script_text.specs.declared.script.Mode.TheVariants.{Serial}

@@ -1,6 +1,4 @@
 -- Altered and older files: what they give agrees with what was committed, or a collision of SHA-256 or a forgery of AES-GCM is shown.
-use Rattle.std.specs.Prelude.{◌≡◌, ◌⊎◌, List, ℕ, Ok}
-use Rattle.crash_core.specs.Mounting.{mounted}
 use Rattle.crash_core.specs.Opening.{reads_of}
 use Rattle.crash_core.specs.Pictures.{block_zero}
 use Rattle.hmac_keys.specs.declared.Keys.{Keys}
