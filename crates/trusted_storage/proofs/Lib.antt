@@ -9,3 +9,4 @@ pub mod Altered
 pub mod Migrated
 pub mod Certified
 pub mod Ended
+pub mod Standing

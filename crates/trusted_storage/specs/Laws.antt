@@ -1,5 +1,5 @@
 -- The laws that are promised. What each takes of the program is what the contract of a public call says of it.
-use Rattle.std.specs.Prelude.{◌≡◌, ◌⊎◌, ◌++◌, ℕ, List, [], ◌∷◌, Ok, Option}
+use Rattle.std.specs.Prelude.{◌≡◌, ◌⊎◌, ◌+◌, ◌++◌, ℕ, List, [], ◌∷◌, Ok, Option, Some}
 use Rattle.commit_gate.specs.ClosedStores.{tampered_in}
 use Rattle.core_laws.specs.EndLaws.{HasClashed}
 use Rattle.core_laws.specs.Stores.{Store, mounted_files, phase_of}
@@ -10,14 +10,16 @@ use Rattle.crash_core.specs.Pictures.{AreAllHonest, block_zero}
 use Rattle.disk_model.specs.Bytes.{AreBytes}
 use Rattle.disk_model.specs.Faults.{Rose}
 use Rattle.disk_model.specs.State.{Sound}
-use Rattle.history_seats.specs.Views.{GateView}
+use Rattle.history_seats.specs.Views.{GateView, PassView, Sight}
 use Rattle.hmac_keys.specs.declared.Keys.{Keys}
 use Rattle.hmac_keys.specs.KeyTable.{rpmb_key}
 use Rattle.image_audit.specs.declared.fault.Listed.{Listed}
 use Rattle.image_audit.specs.Certificate.{ClashesWithPicture, HasListed, IsCertificate}
 use Rattle.image_audit.specs.Checking.{certificate_of}
 use Rattle.image_audit.specs.Contents.{Answers}
+use Rattle.object_calls.specs.Calling.{AnswersCall}
 use Rattle.object_calls.specs.FinishedPhase.{LeavesStore}
+use Rattle.object_calls.specs.Services.{ServiceValue}
 use Rattle.rpmb_card.specs.Card.{CardState}
 use Rattle.rpmb_card.specs.Port.{PortState}
 use Rattle.rpmb_host.specs.Honest.{HasCard}
@@ -34,15 +36,20 @@ use Rattle.script_runner.specs.Trace.{IsTraceOf}
 use Rattle.script_text.specs.declared.script.Mode.{Mode}
 use Rattle.script_text.specs.declared.script.Step.{Step}
 use Rattle.script_text.specs.Script.{ScriptValue}
+use Rattle.shared_store.specs.Attempts.{EndsCall}
+use Rattle.shared_store.specs.CallerSessions.{CallerSession}
+use Rattle.store_model.specs.declared.event.Event.{Event}
 use Rattle.store_model.specs.LegalHistory.{IsLegal}
 use Rattle.store_model.specs.Record.{events_of}
+use Rattle.tee_types.specs.declared.call.Call.{Call}
+use Rattle.tee_types.specs.declared.reply.Reply.{Reply}
 use Rattle.trusted_storage.specs.Altered.{AgreeWithLeft, AreByteImages, ClashesWith}
 use Rattle.trusted_storage.specs.Benches.{BeginsWith, Holds, MountsToLeft}
 use Rattle.trusted_storage.specs.Commits.{ReplayState, replay_left}
 use Rattle.trusted_storage.specs.Devices.{AreUntainted, BenchState}
 use Rattle.trusted_storage.specs.Objects.{ObjectMap}
 use Rattle.trusted_storage.specs.PowerCuts.{FileState, IsPictureOf, MayCrash, Picture}
-use Rattle.trusted_storage.specs.Replies.{IsLegalPhase}
+use Rattle.trusted_storage.specs.Replies.{IsLegalPhase, StandsAt}
 use Rattle.trusted_storage.specs.Runs.{Act, AlterNothing, AreLegal, AreServed, EachBench, FindLeft, HasOpened, HoldsBehind, NoneStarved, RefusedByDevices, RunCall, TaintNothing, TookScript, applications_of, left_behind, records_of, script_acts}
 
 module _ {F R : Type 0} (of_file : F → FileState) (of_port : R → PortState) (image : FileState → ℕ → ℕ → List ℕ) (Reliable : Type 0) (w : World) where
@@ -164,3 +171,28 @@ AlteredPhasesAreLegal =
     (store : Store) (view : GateView) (files : ℕ → FileState) (port : PortState) (doubt : Option ℕ) → LeavesStore store view files port doubt
     → AreUndamagedIn (tampered_in files) (mounted_files store.mounted) store.objects
     → IsLegal (phase_of store) (tampered_in files) view.all doubt ⊎ HasClashed store (nothing_back (tampered_in files)) view.all
+
+-- these events are what the session sees of the history
+abbrev pub Sees : {E : Type 0} → CallerSession E → List Event → Type 0
+Sees s events = (pass : Sight PassView) × (s.pass ≡ Some pass) × (events ≡ events_of pass.knows.seen)
+
+-- A session's call was answered, and stands in the history once.
+pub record CallStands {E : Type 0} (was now : CallerSession E) (call : Call) (reply : Reply) (place : ℕ) : Type 0 where
+  pub before : List Event
+  pub after : List Event
+  pub saw : Sees was before
+  pub sees : Sees now after
+  pub stands : StandsAt was.number was.made call reply place before after
+  pub made : now.made ≡ was.made + 1
+
+-- A CALL OF A SERVICE on one thread (`Service::call`) that is given a place.
+abbrev pub ServiceCallsStand : {F R E : Type 0} → (F → FileState) → (R → PortState) → (draws : E → ℕ) → Type 0
+ServiceCallsStand {F = F} {R = R} {E = E} of_file of_port draws =
+    (store : Store) (old new : ServiceValue F R) (was now : CallerSession E) (call : Call) (reply : Reply) (place : ℕ)
+    → AnswersCall of_file of_port draws store old new was now call (Some place) reply → CallStands was now call reply place
+
+-- A CALL OF A STORE THAT THREADS SHARE (`SharedStore::call`) that is answered.
+abbrev pub SharedCallsStand : (E X : Type 0) → Type 0
+SharedCallsStand E X =
+    (store : Store) (was now : CallerSession E) (call : Call) (reply : Reply) (place : ℕ) → EndsCall {E = E} {X = X} store was now call (Ok (record { place = place; reply = reply }))
+    → CallStands was now call reply place

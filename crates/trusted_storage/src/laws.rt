@@ -2,10 +2,10 @@
 
 ghost use Rattle.std.specs.Prelude.{◌⊎◌};
 ghost use Rattle.tee_ports.specs.Faults.{Rose};
-ghost use Rattle.trusted_storage.specs.Laws.{AlteredFilesAgree, AlteredPhasesAreLegal, CallsAreServedOnce, CertificatesHold, CutsAtExit, CutsBetweenActs, CutsInsidePhases, CutsKeep, MigrationsKeepObjects, PhasesEndLegal, QuietRunsAreDone, RepliesAreLegal, RunsAreFresh, RunsWriteTheirRecords, StatusesHaveCauses, WhatIsLeftIsFound};
+ghost use Rattle.trusted_storage.specs.Laws.{AlteredFilesAgree, AlteredPhasesAreLegal, CallsAreServedOnce, CertificatesHold, CutsAtExit, CutsBetweenActs, CutsInsidePhases, CutsKeep, MigrationsKeepObjects, PhasesEndLegal, QuietRunsAreDone, RepliesAreLegal, RunsAreFresh, RunsWriteTheirRecords, ServiceCallsStand, SharedCallsStand, StatusesHaveCauses, WhatIsLeftIsFound};
 
 use rpmb_card::RpmbPort;
-use tee_ports::{Entropy, FileRig, Sink, Source};
+use tee_ports::{Entropy, FileRig, Sink, Source, StoreFile};
 
 /// What was put begins the text of the script that was taken, with what was recorded of its acts.
 pub fn runs_write_their_records<S: Source, K: Sink, F: FileRig, R: RpmbPort, E: Entropy>(
@@ -140,4 +140,14 @@ pub fn phases_end_legal()
 /// clashes with what was committed.
 pub fn altered_phases_are_legal()
     ensures { AlteredPhasesAreLegal }
+{}
+
+/// A call of a service on one thread that is given a place (`Service::call`) stands there with its reply, as its session's next event.
+pub fn service_calls_stand<F: StoreFile, R: RpmbPort, E: Entropy>()
+    ensures { ServiceCallsStand F.state R.state E.faults }
+{}
+
+/// So does a call of a store that threads share (`SharedStore::call`).
+pub fn shared_calls_stand<E: Entropy, X>()
+    ensures { SharedCallsStand E X }
 {}
