@@ -39,14 +39,14 @@ use Rattle.trusted_storage.specs.Runs.{AreLegal, TaintNothing, TaintsNothing}
 use Rattle.trusted_storage.proofs.Walked.{HasWalked, Walked, walked}
 
 -- RECORDS WITHOUT THEIR VERSIONS
-plain_tag : {Root : Type 0} → Option (Tag Root) → Option (Tag (Unit {0}))
+abbrev plain_tag : {Root : Type 0} → Option (Tag Root) → Option (Tag (Unit {0}))
 plain_tag None = None
 plain_tag (Some tag) = Some (record { file = tag.file; generation = tag.generation; committed = None; doubted = None })
 
-plain : {Root : Type 0} → Record Root → Record (Unit {0})
+abbrev plain : {Root : Type 0} → Record Root → Record (Unit {0})
 plain r = record { event = r.event; tag = plain_tag r.tag }
 
-plain_all : {Root : Type 0} → List (Record Root) → List (Record (Unit {0}))
+abbrev plain_all : {Root : Type 0} → List (Record Root) → List (Record (Unit {0}))
 plain_all [] = []
 plain_all (r ∷ records) = plain r ∷ plain_all records
 
