@@ -10,3 +10,4 @@ pub mod Migrated
 pub mod Certified
 pub mod Ended
 pub mod Standing
+pub mod Chained

@@ -116,6 +116,15 @@ module _ {F R : Type 0} (of_file : F → FileState) (of_port : R → PortState) 
       → IsQuiet c.keys c.handed → Reliable → (Rose c.drew c.draws → ⊥) → ArmNothing (script_acts script) → AlterNothing (script_acts script) → RunsItsScript c.status
       → IsDoneOrStarved c.status
 
+-- WHAT WAS ANSWERED STANDS IN THE NEXT RUN. A run ended, the power failed or did not, and another run began with that bench: each of its phases and
+-- lists finds what both leave down to there, and where an act is refused, a device failed or memory ran out.
+abbrev pub NextRunsFindLeft : {F R : Type 0} → (F → FileState) → (R → PortState) → (image : FileState → ℕ → ℕ → List ℕ) → (Reliable Later : Type 0) → (w after : World) → Type 0
+NextRunsFindLeft of_file of_port image Reliable Later w after =
+    (c : RunCall of_file of_port image Reliable w) (d : RunCall of_file of_port image Later after) (script next : ScriptValue) (s : ReplayState) → TookScript c script → HasOpened c
+    → BeginsWith c.keys (applications_of script) c.handed s → AlterNothing (script_acts script) → NoneStarved (records_of c) → MayCrash c.given d.handed → d.keys ≡ c.keys → TookScript d next
+    → AlterNothing (script_acts next)
+    → FindLeft (applications_of next) (left_behind (applications_of script) s (records_of c)) (records_of d) × RefusedByDevices (records_of d)
+
 -- A POWER CUT KEEPS what a bench holds.
 abbrev pub CutsKeep : Type 0
 CutsKeep = (keys : Keys) (applications : List (List ℕ)) (s : ReplayState) (old new : BenchState) → BeginsWith keys applications old s → MayCrash old new → BeginsWith keys applications new s

@@ -2,7 +2,7 @@
 
 ghost use Rattle.std.specs.Prelude.{◌⊎◌};
 ghost use Rattle.tee_ports.specs.Faults.{Rose};
-ghost use Rattle.trusted_storage.specs.Laws.{AlteredFilesAgree, AlteredPhasesAreLegal, CallsAreServedOnce, CertificatesHold, CutsAtExit, CutsBetweenActs, CutsInsidePhases, CutsKeep, MigrationsKeepObjects, PhasesEndLegal, QuietRunsAreDone, RepliesAreLegal, RunsAreFresh, RunsWriteTheirRecords, ServiceCallsStand, SharedCallsStand, StatusesHaveCauses, WhatIsLeftIsFound};
+ghost use Rattle.trusted_storage.specs.Laws.{AlteredFilesAgree, AlteredPhasesAreLegal, CallsAreServedOnce, CertificatesHold, CutsAtExit, CutsBetweenActs, CutsInsidePhases, CutsKeep, MigrationsKeepObjects, NextRunsFindLeft, PhasesEndLegal, QuietRunsAreDone, RepliesAreLegal, RunsAreFresh, RunsWriteTheirRecords, ServiceCallsStand, SharedCallsStand, StatusesHaveCauses, WhatIsLeftIsFound};
 
 use rpmb_card::RpmbPort;
 use tee_ports::{Entropy, FileRig, Sink, Source, StoreFile};
@@ -107,6 +107,24 @@ pub fn quiet_runs_are_done<S: Source, K: Sink, F: FileRig, R: RpmbPort, E: Entro
       source_ended = S.has_ended source;
       sink_failed = Rose (K.faults held) (K.faults sink);
       sink_full = K.is_full sink;
+    }) }
+{}
+
+/// What was answered stands in the next run, whatever a power cut between them left.
+pub fn next_runs_find_left<S: Source, K: Sink, F: FileRig, R: RpmbPort, E: Entropy>(
+    entropy: &E,
+    later: &E,
+)
+    ensures { (was source before behind : S) (held sink empty full : K) → NextRunsFindLeft F.state R.state F.crash_image (E.is_reliable entropy.now) (E.is_reliable later.now) (record {
+      source_failed = Rose (S.faults was) (S.faults source);
+      source_ended = S.has_ended source;
+      sink_failed = Rose (K.faults held) (K.faults sink);
+      sink_full = K.is_full sink;
+    }) (record {
+      source_failed = Rose (S.faults before) (S.faults behind);
+      source_ended = S.has_ended behind;
+      sink_failed = Rose (K.faults empty) (K.faults full);
+      sink_full = K.is_full full;
     }) }
 {}
 

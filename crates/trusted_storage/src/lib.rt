@@ -11,7 +11,7 @@ mod laws;
 pub use laws::{
     altered_files_agree, altered_phases_are_legal, calls_are_served_once, certificates_hold,
     cuts_at_exit, cuts_between_acts, cuts_inside_phases, cuts_keep, migrations_keep_objects,
-    phases_end_legal, quiet_runs_are_done, replies_are_legal, runs_are_fresh,
+    next_runs_find_left, phases_end_legal, quiet_runs_are_done, replies_are_legal, runs_are_fresh,
     runs_write_their_records, service_calls_stand, shared_calls_stand, statuses_have_causes,
     what_is_left_is_found,
 };
