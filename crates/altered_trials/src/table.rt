@@ -20,7 +20,7 @@ pub fn altered_head_line(alloc: Global) -> Result<String, AllocError> {
 /// A line of the table of alterations.
 pub fn altered_line(
     alloc: Global,
-    file: &str,
+    file: &'static str,
     alteration: Alteration,
     answers: &Answers,
 ) -> Result<String, AllocError> {

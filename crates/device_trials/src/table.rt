@@ -20,7 +20,7 @@ pub fn head_line(alloc: Global) -> Result<String, AllocError> {
 /// A line of the table.
 pub fn row_line(
     alloc: Global,
-    act: &str,
+    act: &'static str,
     device: Device,
     mishap: Mishap,
     tally: &Tally,
