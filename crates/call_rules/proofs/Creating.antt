@@ -1,5 +1,5 @@
 -- The rows of a create, in the words of the directory.
-use Rattle.std.proofs.Common.{subst, ◌≡◌, ◌∙◌, ◌++◌, ◌&&◌, ◌||◌, ◌<◌, ◌≤◌, ℕ, Bool, List, [], ◌∷◌, length, Option, Some, None, is_some, is_none, sym, ap, lt-ltb, le-ltb}
+use Rattle.std.proofs.Common.{subst, ◌≡◌, ◌∙◌, ◌++◌, ◌&&◌, ◌||◌, ◌<◌, ◌≤◌, ℕ, Bool, false, List, [], ◌∷◌, length, Option, Some, None, is_some, is_none, sym, ap, lt-ltb, le-ltb}
 use Rattle.std.specs.Prelude.{nat_lt}
 use Rattle.std.specs.List.{list_any}
 use Rattle.tee_types.specs.declared.flags.Flags.{Flags}
@@ -9,8 +9,9 @@ use Rattle.tee_types.specs.declared.reply.Code.TheVariants.{NoSpace}
 use Rattle.tee_types.specs.Limits.{most_data_bytes}
 use Rattle.store_model.specs.declared.name.ObjectName.{ObjectName}
 use Rattle.store_model.specs.Object.{holds}
-use Rattle.store_model.specs.Machine.{Session, MachineState, name_in, first_refusal, has_all_handles}
+use Rattle.store_model.specs.Machine.{Session, MachineState, session_at, name_in, first_refusal, has_all_handles}
 use Rattle.store_model.specs.Handles.{has_open, create_refusals, lacks_room}
+use Rattle.app_totals.proofs.MeantCreates.{create_rows as machine_rows}
 use Rattle.dir_index.specs.Index.{named}
 use Rattle.dir_records.specs.declared.entry.DirEntry.{DirEntry}
 use Rattle.open_table.specs.Table.{TableState}
@@ -26,7 +27,7 @@ use Rattle.call_rules.proofs.Room.{lacks_is}
 use Rattle.call_rules.proofs.Refusals.{rows_before, rows_after}
 
 -- the row for want of room
-abbrev room_row : List ℕ → Bool → List (Bool × Reply)
+abbrev pub room_row : List ℕ → Bool → List (Bool × Reply)
 room_row bytes lacks = (nat_lt most_data_bytes (length bytes) || lacks, Refused NoSpace) ∷ []
 
 -- the rows with equal tests
@@ -48,21 +49,34 @@ module _ (entries : List (Option DirEntry)) (table : TableState) (caller : Sessi
   same_name : named caller.application id ≡ name
   same_name = ap (λ (x : Session). named x.application id) (sym m.session)
 
-  found_in : IsEntryNamed entries name found
+  pub found_in : IsEntryNamed entries name found
   found_in = subst (λ (n : ObjectName). IsEntryNamed entries n found) same_name is
 
-  -- the machine's rows are these
-  rows_are : create_refusals s i name flags attributes bytes
-      ≡ create_rows flags (has_all_handles caller) (length attributes) (is_some found) (is_busy table found) ++ room_row bytes (lacks_room s.objects name)
-  rows_are =
-      ap (λ (x : Session). create_rows flags (has_all_handles x) (length attributes) (holds s.objects name) (holds s.objects name && list_any (has_open name) s.sessions) ++ room_row bytes (lacks_room s.objects name)) m.session
-      ∙ ap (λ (b : Bool). create_rows flags (has_all_handles caller) (length attributes) b (holds s.objects name && list_any (has_open name) s.sessions) ++ room_row bytes (lacks_room s.objects name))
+  -- the machine's rows are these, whatever it says of room
+  pub rows_with : (lacks : Bool) → machine_rows flags attributes bytes (session_at s i) (holds s.objects name) (list_any (has_open name) s.sessions) lacks
+      ≡ create_rows flags (has_all_handles caller) (length attributes) (is_some found) (is_busy table found) ++ room_row bytes lacks
+  rows_with lacks =
+      ap (λ (x : Session). create_rows flags (has_all_handles x) (length attributes) (holds s.objects name) (holds s.objects name && list_any (has_open name) s.sessions) ++ room_row bytes lacks) m.session
+      ∙ ap (λ (b : Bool). create_rows flags (has_all_handles caller) (length attributes) b (holds s.objects name && list_any (has_open name) s.sessions) ++ room_row bytes lacks)
       (held_is entries s.objects m.shaped name found found_in)
-      ∙ ap (λ (b : Bool). create_rows flags (has_all_handles caller) (length attributes) (is_some found) b ++ room_row bytes (lacks_room s.objects name))
+      ∙ ap (λ (b : Bool). create_rows flags (has_all_handles caller) (length attributes) (is_some found) b ++ room_row bytes lacks)
       (busy_is entries table caller s i are m name found found_in)
 
-  abbrev early : List (Bool × Reply)
+  rows_are : create_refusals s i name flags attributes bytes
+      ≡ create_rows flags (has_all_handles caller) (length attributes) (is_some found) (is_busy table found) ++ room_row bytes (lacks_room s.objects name)
+  rows_are = rows_with (lacks_room s.objects name)
+
+  abbrev pub early : List (Bool × Reply)
   early = create_rows flags (has_all_handles caller) (length attributes) (is_some found) (is_busy table found)
+
+  -- the rows where there is room
+  pub early_in_room : (reply : Reply) → first_refusal early ≡ Some reply
+      → first_refusal (machine_rows flags attributes bytes (session_at s i) (holds s.objects name) (list_any (has_open name) s.sessions) false) ≡ Some reply
+  early_in_room reply refused = ap first_refusal (rows_with false) ∙ rows_before early (room_row bytes false) reply refused
+
+  pub late_in_room : first_refusal early ≡ None
+      → first_refusal (machine_rows flags attributes bytes (session_at s i) (holds s.objects name) (list_any (has_open name) s.sessions) false) ≡ first_refusal (room_row bytes false)
+  late_in_room passed = ap first_refusal (rows_with false) ∙ rows_after early (room_row bytes false) passed
 
   pub create_early : (reply : Reply) → first_refusal early ≡ Some reply → first_refusal (create_refusals s i name flags attributes bytes) ≡ Some reply
   create_early reply refused = ap first_refusal rows_are ∙ rows_before early (room_row bytes (lacks_room s.objects name)) reply refused

@@ -38,6 +38,10 @@ pub mod EventOpens
 pub mod ChangedShapes
 pub mod MadeShapes
 pub mod CountedShapes
+pub mod WeighedShapes
+pub mod SoundMatches
+pub mod Growths
+pub mod CreateGrowths
 pub mod Rooms
 pub mod ShownNames
 pub mod NextObjects

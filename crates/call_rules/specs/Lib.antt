@@ -5,6 +5,7 @@ pub mod Decided
 pub mod Places
 pub mod Objects
 pub mod Rows
+pub mod Growth
 pub mod Nexts
 pub mod Shapes
 pub mod MappedLaws

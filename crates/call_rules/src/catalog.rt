@@ -1,12 +1,14 @@
 //! What the rules ask of the directory and of the open handles.
 
-ghost use Rattle.std.specs.Prelude.{◌≡◌, List, Option};
+ghost use Rattle.std.specs.Prelude.{◌≡◌, ◌≤◌, ◌*◌, ◌^◌, List, Option};
 ghost use Rattle.dir_index.specs.Index.{named};
 ghost use Rattle.dir_records.specs.declared.entry.DirEntry.{DirEntry};
 ghost use Rattle.open_table.specs.Table.{TableState, allows_on_file, is_file_open};
+ghost use Rattle.app_totals.specs.EntryTotals.{entry_totals};
 ghost use Rattle.core_laws.specs.DirectoryLaws.{AreEntries};
 ghost use Rattle.dir_index.specs.EntryNames.{IsEntryNamed, IsFirstFree, IsNextAbove};
 
+use app_totals::Totals;
 use dir_index::Held;
 use dir_records::DirEntry;
 use tee_types::{AppId, Flags, ObjectId};
@@ -20,6 +22,14 @@ pub trait Catalog {
     /// The entry of that name, with its index.
     fn look(&self, app: AppId, id: ObjectId) -> Option<Held>
         ensures named { IsEntryNamed (entries self.now) (named app id) result }
+        // What always holds of a directory.
+        ensures entries { AreEntries (entries self.now) };
+
+    /// How many objects the application has, and how many bytes of data.
+    fn totals(&self, app: AppId) -> Totals
+        ensures told { result ≡ entry_totals app (entries self.now) }
+        ensures objects_fit { result.objects ≤ 256 }
+        ensures bytes_fit { result.bytes ≤ 256 * 2 ^ 32 }
         // What always holds of a directory.
         ensures entries { AreEntries (entries self.now) };
 

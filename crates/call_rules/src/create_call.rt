@@ -22,7 +22,7 @@ use tee_types::{
 };
 
 // Whether a handle is open on the object of that entry.
-fn is_busy<C: Catalog>(catalog: &C, found: &Option<Held>) -> bool
+pub(crate) fn is_busy<C: Catalog>(catalog: &C, found: &Option<Held>) -> bool
     ensures { result ≡ is_busy (C.handles catalog.now) found.now }
 {
     match found {
@@ -45,7 +45,7 @@ fn new_place<C: Catalog>(catalog: &C, found: Option<Held>) -> Option<NewPlace>
 }
 
 // Why a create is refused, but for want of room.
-fn create_refusal(
+pub(crate) fn create_refusal(
     session: &Session,
     flags: Flags,
     attributes: usize,

@@ -14,6 +14,7 @@ mod create_call;
 mod decision;
 mod delete_call;
 mod enumerator_calls;
+mod growth;
 mod info_call;
 mod laws;
 mod open_call;
@@ -30,6 +31,7 @@ pub use decision::{Decision, NewPlace, OpenObject};
 pub use delete_call::delete;
 pub use dir_index::Held;
 pub use enumerator_calls::{enum_free, enum_new, enum_next, enum_reset, enum_start};
+pub use growth::grown;
 pub use info_call::info;
 pub use laws::events::{
     doubtful_events_keep_open, landed_events_keep_open, made_events_keep_open,
@@ -46,7 +48,7 @@ pub use laws::opens::{
 pub use laws::shapes::{
     applications_are_listed, changes_keep_shape, free_places_are_room, held_names_are_listed,
     landed_entries_have_shape, mapped_entries_have_shape, named_entries_are_objects,
-    next_entries_are_next_objects, objects_are_entries, objects_fit_entries,
+    next_entries_are_next_objects, objects_are_entries, objects_fit_entries, totals_are_of_entries,
 };
 pub use laws::sharing::{files_allow_as_names, files_are_open_as_names};
 pub use open_call::open;

@@ -1,5 +1,7 @@
 pub mod OwnDoubts
 pub mod GateCauses
+pub mod GoingOn
+pub mod Foreseen
 pub mod Resolves
 pub mod HeldUps
 pub mod Ruled

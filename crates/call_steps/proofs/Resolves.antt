@@ -1,10 +1,13 @@
 -- How the settling of a commit in doubt went.
 use Rattle.std.proofs.Common.{◌≡◌, ℕ, true, false, true≢false, Bool, not, is_some, Option, Some, None, IfSome, refl, sym, ap, ◌∙◌, subst, option_map}
-use Rattle.history_seats.specs.Views.{GateView}
+use Rattle.store_model.specs.History.{count_of}
+use Rattle.store_model.specs.Record.{events_of}
+use Rattle.history_seats.specs.Views.{GateView, PassView, Sight}
 use Rattle.core_laws.specs.Stores.{Store}
 use Rattle.commit_gate.specs.CallerSessions.{CallerSession, IsCallerOf, session_value}
 use Rattle.commit_gate.specs.SessionViews.{BeginsAll, SeesAll}
-use Rattle.commit_gate.proofs.ShownViews.{shown_extend}
+use Rattle.commit_gate.proofs.SessionShowing.{some_same}
+use Rattle.commit_gate.proofs.ShownViews.{none-past, shown_extend}
 use Rattle.commit_gate.specs.declared.Doubted.{Doubted}
 use Rattle.call_steps.specs.Seen.{GoesOn}
 
@@ -28,5 +31,18 @@ at-some o P d is h = subst (λ (x : Option Doubted). IfSome x P) is h
 -- the session that was shown the history
 pub shown-goes : {E : Type 0} (store : Store) (knows : GateView) (old new : CallerSession E) → IsCallerOf store old → BeginsAll knows old.pass → SeesAll knows new.pass
     → new.number ≡ old.number → GoesOn store old new
-shown-goes store knows old new caller begins sees number after event place extends =
-    shown_extend store knows (session_value old) (session_value new) after event place caller.session begins sees number extends
+shown-goes store knows old new caller begins sees number = record {
+  continues = record {
+    was = begins.seat;
+    now = sees.seat;
+    had = begins.is;
+    has = sees.is;
+    between = begins.fits.sees.begins.rest;
+    is = begins.fits.sees.begins.is ∙ sym sees.whole;
+    none = ap (λ (n : ℕ). count_of n (events_of begins.fits.sees.begins.rest)) own ∙ none-past knows begins.seat.knows begins.fits;
+  };
+  extends = λ after event place x. shown_extend store knows (session_value old) (session_value new) after event place caller.session begins sees number x;
+}
+  where
+    own : old.number ≡ begins.seat.knows.session
+    own = caller.session.number ∙ ap (λ (p : Sight PassView). p.knows.session) (some_same caller.session.pass begins.seat (sym caller.session.is ∙ begins.is))

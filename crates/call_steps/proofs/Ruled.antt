@@ -63,6 +63,7 @@ extends-moved store s state after event place x = record {
   event_is = x.event_is;
   none_between = x.none_between;
   at = x.at;
+  decided = x.decided;
   fair = x.fair;
   number = x.number;
 }

@@ -16,6 +16,7 @@ use Rattle.commit_gate.specs.GuardedGates.{GuardedGateValue}
 use Rattle.commit_gate.specs.declared.placed_reply.PlacedReply.{PlacedReply}
 use Rattle.call_steps.specs.Resolved.{IsSettled, WasResolved}
 use Rattle.call_steps.specs.Seen.{GoesOn}
+use Rattle.call_steps.proofs.GoingOn.{goes-then}
 use Rattle.call_steps.proofs.Resolves.{shown-goes}
 use Rattle.call_steps.specs.GateServed.{IsLeft, IsMisused, IsServed, IsUnserved, Ruled, ServesAlone, ServesAtOnce, ServesByRules}
 
@@ -25,7 +26,7 @@ module _ {E F R : Type 0} (store : Store) (before between : CallerSession E) (go
   served-from call answer old new after x = record {
     caller = x.caller;
     extends =
-        goes_on (session_value after) (CallEvent before.number before.made call answer.reply Unchanged) answer.place
+        goes_on.extends (session_value after) (CallEvent before.number before.made call answer.reply Unchanged) answer.place
         (subst (λ (p : ℕ × ℕ). Extends store (session_value between) (session_value after) (CallEvent p.0 p.1 call answer.reply Unchanged) answer.place) (λ i. (number i, made i)) x.extends);
     number = x.number ∙ number;
     made = x.made ∙ ap (λ (n : ℕ). n + 1) made;
@@ -87,7 +88,7 @@ module _ {F R : Type 0} (of_file : F → FileState) (of_port : R → PortState) 
     calm = x.calm;
     number = x.number ∙ number;
     made = x.made ∙ made;
-    goes_on = λ later event place e. goes later event place (x.goes_on later event place e);
+    goes_on = goes-then store before shown after number goes x.goes_on;
   }
   serves-shown store call old new before shown after (Err none) goes number made x = record {
     gate = x.gate;
@@ -95,7 +96,7 @@ module _ {F R : Type 0} (of_file : F → FileState) (of_port : R → PortState) 
     caller = x.caller;
     number = x.number ∙ number;
     made = x.made ∙ made;
-    goes_on = λ later event place e. goes later event place (x.goes_on later event place e);
+    goes_on = goes-then store before shown after number goes x.goes_on;
   }
 
 -- the same of the session that `catch_up` gives

@@ -1,6 +1,7 @@
 pub mod Seen
 pub mod Resolved
 pub mod GateServed
+pub mod Foreseen
 pub mod Rulings
 pub mod SlotCatchUp
 pub mod ObjectLoading
@@ -55,6 +56,7 @@ pub use Rattle.object_slots.specs.Fills
 pub use Rattle.commit_gate.specs.FinishedPhases
 pub use Rattle.object_slots.specs.FirstSlots
 pub use Rattle.object_slots.specs.Fits
+pub use Rattle.commit_gate.specs.Forecasts
 pub use Rattle.commit_gate.specs.GateEnds
 pub use Rattle.commit_gate.specs.Gates
 pub use Rattle.object_slots.specs.GuardedReads

@@ -11,6 +11,7 @@ ghost use Rattle.call_rules.specs.Told.{IsTold};
 ghost use Rattle.commit_gate.specs.Commits.{IsCalm};
 ghost use Rattle.call_steps.specs.Rulings.{is_on_object};
 ghost use Rattle.call_steps.specs.Seen.{HasSeen};
+ghost use Rattle.call_steps.specs.Foreseen.{IsEarly};
 ghost use Rattle.call_steps.specs.GateServed.{IsLeft, IsMisused, IsServed, IsServedAlone, ServesAlone, ServesAtOnce, ServesByRules};
 
 use crate::call_rulings::misuse;
@@ -91,6 +92,7 @@ fn settle_for<F: StoreFile + Drop, R: RpmbPort + Drop, L: StoreName, E: Entropy>
     ensures reliable { E.is_reliable session.old.entropy → E.is_reliable session.new.entropy }
     ensures still { E.is_reliable session.old.entropy → E.faults session.new.entropy ≡ E.faults session.old.entropy }
     ensures undrawn { IsNone result → E.faults session.new.entropy ≡ E.faults session.old.entropy }
+    ensures early { IfSome result (λ answer. IsEarly answer.reply) }
 {
     match settle(gate, session) {
         Ok(()) => None,
@@ -98,7 +100,45 @@ fn settle_for<F: StoreFile + Drop, R: RpmbPort + Drop, L: StoreName, E: Entropy>
     }
 }
 
-// What comes before the rules, where a commit is in doubt: a misuse is answered, and the commit is resolved.
+/// What comes before all else: a misuse is answered, and else a commit in doubt is resolved.
+///
+/// # Errors
+///
+/// Memory ran out. Gate and session are as they were.
+pub(crate) fn answer_first<F: StoreFile + Drop, R: RpmbPort + Drop, L: StoreName, E: Entropy>(
+    alloc: Global,
+    gate: &mut GuardedGate<F, R, L>,
+    session: &mut Session<E>,
+    call: &Call,
+) -> Result<Option<PlacedReply>, NoMemory>
+    requires room { 2 ≤ gate.old.journal.spare }
+    requires seen { HasSeen L.store gate.old.journal.knows session.old }
+    ensures serves { ServesAlone F.state R.state (E.is_reliable session.old.entropy) (E.faults session.old.entropy) (E.faults session.new.entropy)
+        L.store call.now gate.old gate.new session.old session.new result }
+    ensures room { IfOk result (λ answer. IsNone answer → 1 ≤ gate.new.journal.spare) }
+    ensures counted { E.faults session.old.entropy ≤ E.faults session.new.entropy }
+    ensures reliable { E.is_reliable session.old.entropy → E.is_reliable session.new.entropy }
+    ensures still { E.is_reliable session.old.entropy → E.faults session.new.entropy ≡ E.faults session.old.entropy }
+    ensures undrawn { IfOk result (λ answer. IsNone answer → E.faults session.new.entropy ≡ E.faults session.old.entropy) }
+    ensures let_be { gate.old.gate.doubt ≡ None → session.new.entropy ≡ session.old.entropy }
+    ensures at_once { IsMisused gate.old session.old.state call.now → ServesAtOnce L.store call.now gate.old gate.new session.old session.new result }
+    ensures early { IfOk result (λ found. IfSome found (λ answer. IsEarly answer.reply)) }
+{
+    if let Some(reason) = misuse(&*gate, session.state(), call) {
+        let kept = call.copy(alloc)?;
+        return Ok(Some(answer_misuse(gate, session, kept, reason)));
+    }
+    if gate.doubt().is_none() {
+        let Ok(()) = settle(gate, session) else {
+            unreachable!()
+        };
+        return Ok(None);
+    }
+    let waiting = call.copy(alloc)?;
+    Ok(settle_for(gate, session, waiting))
+}
+
+// The same, where no misuse is looked for unless a commit is in doubt: else the rules find it.
 fn answer_early<F: StoreFile + Drop, R: RpmbPort + Drop, L: StoreName, E: Entropy>(
     alloc: Global,
     gate: &mut GuardedGate<F, R, L>,
@@ -117,17 +157,13 @@ fn answer_early<F: StoreFile + Drop, R: RpmbPort + Drop, L: StoreName, E: Entrop
     ensures let_be { gate.old.gate.doubt ≡ None → session.new.entropy ≡ session.old.entropy }
     ensures at_once { IsMisused gate.old session.old.state call.now → ServesAtOnce L.store call.now gate.old gate.new session.old session.new result }
 {
-    if gate.doubt().is_none() {
-        let Ok(()) = settle(gate, session) else {
-            unreachable!()
-        };
-        return Ok(None);
+    if gate.doubt().is_some() {
+        return answer_first(alloc, gate, session, call);
     }
-    let kept = call.copy(alloc)?;
-    if let Some(reason) = misuse(&*gate, session.state(), call) {
-        return Ok(Some(answer_misuse(gate, session, kept, reason)));
-    }
-    Ok(settle_for(gate, session, kept))
+    let Ok(()) = settle(gate, session) else {
+        unreachable!()
+    };
+    Ok(None)
 }
 
 /// Serves a call as far as the gate does alone: the answer, or none where the call is on an object and no misuse was found before. Then no

@@ -54,6 +54,23 @@ fn describe<F: StoreFile + Drop, L: StoreName>(
     })
 }
 
+/// Tells what is known of a slot's object, which is loaded, by a handle on it. No call of its file is made, and the gate has no part in this.
+///
+/// # Errors
+///
+/// Memory ran out.
+pub fn describe_live<F: StoreFile + Drop, L: StoreName>(
+    alloc: Global,
+    slot: &Slot<F>,
+    handle: Handle,
+) -> Result<Reply, NoMemory>
+    requires guarded { SlotInvariant L.store slot.now }
+    requires live { IsLive slot.now.holds }
+    ensures { (v : Version) → GivesVersion slot.now v → IfOk result (DescribesObject L.store slot.now.file slot.now v handle) }
+{
+    describe::<F, L>(alloc, slot, handle)
+}
+
 /// Loads the object of an entry, at which the slot stands, where nothing is loaded, and tells what is known of it, by a handle on it.
 /// `tsk` is the key of the entry's application. The gate has no part in this.
 ///

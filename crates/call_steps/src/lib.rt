@@ -18,6 +18,7 @@ mod count_laws;
 mod doubt_settling;
 mod doubt_waits;
 mod fault_replies;
+mod forecasting;
 mod gate_answers;
 mod info_call;
 mod object_commit;
@@ -51,8 +52,9 @@ pub use count_laws::{rising_counts_are_above, rising_counts_are_apart, rising_co
 pub use doubt_settling::settle;
 pub use doubt_waits::held_up;
 pub use fault_replies::fault_reply;
+pub use forecasting::forecast;
 pub use gate_answers::answer_alone;
-pub use info_call::{answer_info, describe_object, info};
+pub use info_call::{answer_info, describe_live, describe_object, info};
 pub use object_commit::commit_change;
 pub use object_loading::load_or_reply;
 pub use object_slots::{
@@ -60,7 +62,7 @@ pub use object_slots::{
     stage_truncate, stage_write,
 };
 pub use open_call::{answer_open, open};
-pub use read_call::{answer_read, read, read_object};
+pub use read_call::{answer_read, read, read_live, read_object};
 pub use replies::{copied, twice};
 pub use rule_answers::answer_ruled;
 pub use slot_catch_up::{catch_up_entry, catch_up_slot};

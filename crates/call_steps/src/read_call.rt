@@ -98,6 +98,30 @@ pub fn read_object<F: StoreFile + Drop, L: StoreName>(
     read_bytes::<F, L>(alloc, slot, at, count, entry.size)
 }
 
+/// Reads at most so many bytes of a slot's object, which is loaded, from the place `at` on, fewer where the end is nearer. The gate has no
+/// part in this.
+///
+/// # Errors
+///
+/// Memory ran out.
+pub fn read_live<F: StoreFile + Drop, L: StoreName>(
+    alloc: Global,
+    slot: &mut Slot<F>,
+    at: u32,
+    count: u32,
+) -> Result<Reply, NoMemory>
+    requires guarded { SlotInvariant L.store slot.old }
+    requires live { IsLive slot.old.holds }
+    ensures same { slot.new ≡ record slot.old { file = slot.new.file } }
+    ensures guarded { SlotInvariant L.store slot.new }
+    ensures rests { Rests slot.old.file slot.new.file }
+    ensures passed { OnErr result (FilePassed slot.old.file slot.new.file) }
+    ensures reads { (v : Version) → GivesVersion slot.old v → IfOk result (ReadsAnswer L.store slot.old.file slot.new v at count) }
+{
+    let size = object_slots::size::<F, L>(slot);
+    read_bytes::<F, L>(alloc, slot, at, count, size)
+}
+
 // Moves the handle behind the bytes that a reply gives.
 fn advance<E: Entropy>(session: &mut Session<E>, number: u32, handle: Handle, reply: &Reply)
     requires live { handle_at session.old.state number ≡ Some handle }

@@ -2,6 +2,7 @@
 use Rattle.std.specs.Prelude.{◌≡◌, ◌⊎◌, ℕ, ◌+◌, ◌<◌, ◌≤◌, cond, Bool, true, false, List, [], ◌∷◌, ◌++◌, length, Option, Some, None, IsSome}
 use Rattle.store_model.specs.declared.name.ObjectName.{ObjectName}
 use Rattle.store_model.specs.Name.{name_eq}
+use Rattle.rpmb_card.specs.Protocol.{last_counter}
 use Rattle.card_maps.specs.declared.name.CardName.{CardName}
 use Rattle.card_maps.specs.Form.{most_card_bytes}
 use Rattle.card_maps.specs.CardMaps.{CardMap, blocks_free, blocks_needed, bytes_at}
@@ -67,14 +68,11 @@ pub record IsBegun (a : CardSide) (name : ObjectName) (bytes : Option (List ℕ)
 abbrev pub writes_of : (size : ℕ) → ℕ
 writes_of size = blocks_needed size + 1
 
-abbrev pub last_count : ℕ
-last_count = 4294967295
-
 -- the object fits, and the counter leaves room for its writes
 pub record HasRoom (m : CardMap) (counter size : ℕ) : Type 0 where
   pub small : size ≤ most_card_bytes
   pub fits : blocks_needed size ≤ blocks_free m
-  pub writes : counter + writes_of size ≤ last_count
+  pub writes : counter + writes_of size ≤ last_counter
 
 -- What a call answers where these stand before it and the card's counter is at that number, and what it leaves.
 abbrev pub Answers : CardSide → (counter : ℕ) → CardCall → CardReply → CardSide → Type 0
@@ -87,15 +85,15 @@ Answers a counter (Put name bytes) (TooLarge size) b = (most_card_bytes < length
 Answers a counter (Put name bytes) (Full need free) b =
     (length bytes ≤ most_card_bytes) × (free < need) × (need ≡ blocks_needed (length bytes)) × (free ≡ blocks_free a.map) × IsRead a b
 Answers a counter (Put name bytes) Spent b =
-    (length bytes ≤ most_card_bytes) × (blocks_needed (length bytes) ≤ blocks_free a.map) × (last_count < counter + writes_of (length bytes)) × IsRead a b
+    (length bytes ≤ most_card_bytes) × (blocks_needed (length bytes) ≤ blocks_free a.map) × (last_counter < counter + writes_of (length bytes)) × IsRead a b
 Answers a counter (Put name bytes) Done b = HasRoom a.map counter (length bytes) × IsMade a name (Some bytes) b
 Answers a counter (Put name bytes) Failed b =
     (HasRoom a.map counter (length bytes) × IsBegun a name (Some bytes) b) ⊎ ((length bytes ≤ most_card_bytes) × StaysUnread a b)
 Answers a counter (Put name bytes) _ b = ⊥
 Answers a counter (Remove name) NotFound b = (bytes_at a.map name ≡ None) × IsRead a b
-Answers a counter (Remove name) Spent b = IsSome (bytes_at a.map name) × (last_count < counter + 1) × IsRead a b
-Answers a counter (Remove name) Done b = IsSome (bytes_at a.map name) × (counter + 1 ≤ last_count) × IsMade a name None b
-Answers a counter (Remove name) Failed b = (IsSome (bytes_at a.map name) × (counter + 1 ≤ last_count) × IsBegun a name None b) ⊎ StaysUnread a b
+Answers a counter (Remove name) Spent b = IsSome (bytes_at a.map name) × (last_counter < counter + 1) × IsRead a b
+Answers a counter (Remove name) Done b = IsSome (bytes_at a.map name) × (counter + 1 ≤ last_counter) × IsMade a name None b
+Answers a counter (Remove name) Failed b = (IsSome (bytes_at a.map name) × (counter + 1 ≤ last_counter) × IsBegun a name None b) ⊎ StaysUnread a b
 Answers a counter (Remove name) _ b = ⊥
 Answers a counter ListNames (Listed names) b = IsListing a.shown names × (b ≡ a)
 Answers a counter ListNames Starved b = b ≡ a

@@ -89,6 +89,7 @@ module _ {E : Type 0} (store : Store) (gate : GateView) (r : HistoryRecord) (s :
       event_is = extended.event_is ∙ event;
       none_between = extended.none_between;
       at = extended.at;
+      decided = extended.decided;
       fair = extended.fair;
       number = extended.number;
     }

@@ -37,6 +37,7 @@ module _ {E : Type 0} (store : Store) (before after : GateView) (call : Call) (t
       event_is = of.extends.event_is;
       none_between = of.extends.none_between;
       at = of.extends.at;
+      decided = of.extends.decided;
       fair = of.extends.fair;
       number = of.extends.number;
     };

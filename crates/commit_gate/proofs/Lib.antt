@@ -1,4 +1,5 @@
 pub mod Knowing
+pub mod Forecasts
 pub mod AloneCalls
 pub mod RuledAnswers
 pub mod DoubtResolving

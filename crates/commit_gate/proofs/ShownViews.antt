@@ -1,5 +1,5 @@
 -- The views of a session: within the history, as it begins, and over what it was shown.
-use Rattle.std.proofs.Common.{◌≡◌, ◌==◌, ◌≤◌, ◌<◌, ℕ, suc, Bool, true, false, cond, List, [], ◌∷◌, ◌++◌, length, map, Some, slice_index_or, refl, sym, ap, ◌∙◌, arith, append_assoc, length-append}
+use Rattle.std.proofs.Common.{subst, ◌≡◌, ◌==◌, ◌≤◌, ◌<◌, ℕ, suc, Bool, true, false, cond, List, [], ◌∷◌, ◌++◌, length, map, Some, slice_index_or, refl, sym, ap, ◌∙◌, arith, append_assoc, length-append}
 use Rattle.std.proofs.lemmas.List.{length-map}
 use Rattle.std.proofs.Math.ListN.{get_or-map}
 use Rattle.store_model.specs.declared.event.Event.{Event}
@@ -8,10 +8,11 @@ use Rattle.store_model.specs.History.{count_of, numbers_of}
 use Rattle.store_model.specs.Machine.{Session, new_session}
 use Rattle.store_model.specs.Record.{events_of}
 use Rattle.history_seats.specs.Records.{HistoryRecord}
-use Rattle.history_seats.specs.Settling.{calm}
+use Rattle.history_seats.specs.Settling.{IsDecidedBelow, calm}
 use Rattle.history_seats.specs.Views.{GateView, PassView, Sight}
 use Rattle.history_seats.specs.Known.{session_from}
 use Rattle.history_seats.specs.Rule.{PassFits}
+use Rattle.history_seats.proofs.Doubts.{decided-on}
 use Rattle.history_seats.proofs.Numbering.{count-append, count-begins}
 use Rattle.history_seats.proofs.Places.{open-calm}
 use Rattle.core_laws.specs.Sessions.{IsSessionOf, SessionValue}
@@ -89,6 +90,7 @@ shown_extend store gate before between after event place x begins sees number e 
     ap (λ (n : ℕ). count_of n (events_of e.between)) (sym number) ∙ e.none_between,
   );
   at = ap length (sym begun) ∙ e.at;
+  decided = subst (IsDecidedBelow z 0) (sym whole) (decided-on z gate.decided 0 gate.all (e.between ++ e.last ∷ []) begins.fits.sees.decided_before (omega (arith, begins.within)) begins.fits.sees.decided_below later);
   fair = e.fair;
   number = e.number ∙ number;
 }
@@ -101,6 +103,22 @@ shown_extend store gate before between after event place x begins sees number e 
         ap (λ (l : List HistoryRecord). l ++ e.between)
         (ap (λ (p : Sight PassView). (p.knows).seen) (some_same e.old sees.seat (sym e.was ∙ sees.is)) ∙ sees.whole ∙ sym begins.fits.sees.begins.is)
         ∙ append_assoc (begins.seat.knows).seen rest e.between
+
+    z : ℕ
+    z = begins.seat.knows.decided
+
+    same : e.old ≡ sees.seat
+    same = some_same e.old sees.seat (sym e.was ∙ sees.is)
+
+    whole : e.new.knows.seen ≡ gate.all ++ (e.between ++ e.last ∷ [])
+    whole =
+        e.extends
+        ∙ ap (λ (l : List HistoryRecord). (l ++ e.between) ++ e.last ∷ []) (ap (λ (p : Sight PassView). (p.knows).seen) same ∙ sees.whole)
+        ∙ append_assoc gate.all e.between (e.last ∷ [])
+
+    later : IsDecidedBelow gate.decided 0 (gate.all ++ (e.between ++ e.last ∷ []))
+    later =
+        subst (λ (x : ℕ × List HistoryRecord). IsDecidedBelow x.0 0 x.1) (λ i. ((ap (λ (p : Sight PassView). (p.knows).decided) same ∙ sees.place) i, whole i)) e.decided
 
     own : before.number ≡ (begins.seat.knows).session
     own = x.number ∙ ap (λ (p : Sight PassView). (p.knows).session) (some_same x.pass begins.seat (sym x.is ∙ begins.is))

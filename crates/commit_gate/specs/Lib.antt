@@ -32,6 +32,7 @@ pub mod ReserveSteps
 pub mod CommitFacts
 pub mod CoreTies
 pub mod Finishing
+pub mod Forecasts
 pub use Rattle.store_commit.specs.CardCauses
 pub use Rattle.store_commit.specs.CardEnds
 pub use Rattle.store_commit.specs.Causes

@@ -1,5 +1,5 @@
 -- A session that sees the whole history, and has learnt what became of its commit in doubt.
-use Rattle.std.specs.Prelude.{◌≡◌, ℕ, Option, Some, None}
+use Rattle.std.specs.Prelude.{◌≡◌, ◌≤◌, ℕ, length, Option, Some, None}
 use Rattle.store_model.specs.declared.event.Event.{Event}
 use Rattle.store_model.specs.Machine.{Session}
 use Rattle.history_seats.specs.Views.{GateView, PassView, Sight}
@@ -60,6 +60,7 @@ pub record BeginsAll (gate : GateView) (pass : Option (Sight PassView)) : Type 0
   pub seat : Sight PassView
   pub is : pass ≡ Some seat
   pub fits : PassFits gate seat.knows
+  pub within : gate.decided ≤ length gate.all
 
 -- What extends the view of a session that was shown the whole history extends the view before it.
 abbrev pub ShownSessionsExtend : Type 0

@@ -5,6 +5,7 @@ ghost use Rattle.dir_records.specs.declared.entry.DirEntry.{DirEntry};
 ghost use Rattle.open_table.specs.Table.{TableState};
 
 use crate::guarded_gate::GuardedGate;
+use app_totals::Totals;
 use call_rules::{Catalog, Held};
 use core_laws::StoreName;
 use dir_records::DirEntry;
@@ -20,6 +21,11 @@ impl<F: StoreFile + Drop, R: RpmbPort + Drop, L: StoreName> Catalog for GuardedG
     fn look(&self, app: AppId, id: ObjectId) -> Option<Held> {
         let _doubt = self.doubt();
         self.gate.look(app, id)
+    }
+
+    fn totals(&self, app: AppId) -> Totals {
+        let _doubt = self.doubt();
+        self.gate.totals(app)
     }
 
     fn next_above(&self, app: AppId, after: Option<ObjectId>) -> Option<DirEntry> {

@@ -96,6 +96,9 @@ impl<F: StoreFile + Drop, R: RpmbPort + Drop, L: StoreName> GuardedGate<F, R, L>
         ensures gate { self.new.gate ≡ record self.old.gate { open_handles = self.new.gate.open_handles; room = self.new.gate.room } }
         ensures knows { self.new.journal.knows ≡ self.old.journal.knows }
         ensures closing { self.new.closing ≡ self.old.closing }
+        // There is no less room than before.
+        ensures grows { (self.old.gate.room ≤ self.new.gate.room) × (self.old.gate.open_handles.spare ≤ self.new.gate.open_handles.spare) }
+        ensures spare { self.old.journal.spare ≤ self.new.journal.spare }
     {
         self.journal.reserve(2)?;
         self.gate.reserve()

@@ -5,7 +5,7 @@ ghost use Rattle.store_model.specs.Record.{events_of};
 ghost use Rattle.history_seats.specs.Settling.{IsOpenDoubt};
 ghost use Rattle.history_seats.specs.Numbers.{is_in};
 ghost use Rattle.history_seats.specs.Rule.{Agrees};
-ghost use Rattle.history_seats.specs.Changes.{IsFitting, IsNextOf, IsOf, doubt_dropped, landing_of, new_slot, pass_renewed, record_of, seat_renewed, together, view_in, with_record, with_slot_out, without_pass, without_slot};
+ghost use Rattle.history_seats.specs.Changes.{IsFitting, IsNextOf, IsOf, beside, doubt_dropped, landing_of, new_slot, pass_renewed, record_of, seat_renewed, together, view_in, with_record, with_slot_out, without_pass, without_slot};
 ghost use Rattle.core_laws.specs.TamperScenarios.{TamperScenario};
 ghost use Rattle.core_laws.specs.Answered.{IsFairAt};
 ghost use Rattle.commit_gate.specs.Journals.{IsDoubtOf, IsJournal, IsJournalOf};
@@ -14,7 +14,9 @@ ghost use Rattle.commit_gate.specs.Outcomes.{outcome_at};
 use crate::doubt_outcome::{Settled, first_landing, settled_by};
 use crate::versions_name::VersionsName;
 use core_laws::StoreName;
-use history_seats::{Appended, GateSeat, HistoryTable, PassSeat, Refreshed, SlotSeat};
+use history_seats::{
+    Appended, GateSeat, HalfSeat, Halves, HistoryTable, KeptSeat, PassSeat, Refreshed, SlotSeat,
+};
 use std::marker::{Model, PhantomData};
 use store_model::{Event, History};
 use tee_types::NoMemory;
@@ -122,6 +124,39 @@ impl<L: StoreName> Journal<L> {
         ensures kept { IsJournal L.store self.new.knows }
     {
         self.seat.retire_pass(&self.table, pass);
+    }
+
+    /// Cuts a session's seat in two halves. Each sees what the seat saw.
+    pub fn halve(&mut self, pass: PassSeat) -> Halves
+        requires { pass.table ≡ L.store.table }
+        ensures journal { self.new ≡ self.old }
+        ensures one { result.one ≡ pass }
+        ensures other { result.other ≡ pass }
+        ensures kept { IsJournal L.store self.new.knows }
+    {
+        self.seat.halve(&self.table, pass)
+    }
+
+    /// Joins the two halves of a session's seat. It sees what the caller's half saw.
+    pub fn whole(&mut self, one: HalfSeat, other: KeptSeat) -> PassSeat
+        requires table { (one.table ≡ L.store.table) × (other.table ≡ L.store.table) }
+        requires session { other.knows.session ≡ one.knows.session }
+        ensures journal { self.new ≡ self.old }
+        ensures pass { result ≡ one }
+        ensures kept { IsJournal L.store self.new.knows }
+    {
+        self.seat.whole(&self.table, one, other)
+    }
+
+    /// Shows a kept half the whole history: past what it saw, its session has no event.
+    pub fn show_kept(&mut self, half: KeptSeat) -> KeptSeat
+        requires { half.table ≡ L.store.table }
+        ensures journal { self.new ≡ self.old }
+        ensures half { result ≡ record half { knows = pass_renewed self.old.knows half.knows } }
+        ensures agreed { Agrees (beside self.old.knows half.knows) }
+        ensures kept { IsJournal L.store self.new.knows }
+    {
+        self.seat.show_kept(&self.table, half)
     }
 
     /// Appends an event, into the room that is there. Its tag has the file and the generation of the slot that comes with it, and the

@@ -14,7 +14,9 @@ mod doubt_outcome;
 mod doubt_resolution;
 mod end_versions;
 mod file_answers;
+mod file_hints;
 mod file_seats;
+mod forecast;
 mod gate_answers;
 mod gate_catalog;
 mod gate_commit;
@@ -29,6 +31,7 @@ mod placed_reply;
 pub mod reply_laws;
 mod session;
 mod session_catch_up;
+mod session_halves;
 mod session_moves;
 mod versions_name;
 

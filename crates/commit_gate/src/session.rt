@@ -6,6 +6,7 @@ ghost use Rattle.store_model.specs.Machine.{handle_at, has_all_handles, with_han
 ghost use Rattle.history_seats.specs.Views.{PassView, Sight};
 ghost use Rattle.commit_gate.specs.CallerSessions.{landed_by, landing_of_call, renamed};
 
+use crate::file_hints::FileHints;
 use crate::own_doubt::{Landing, OwnDoubt, landing_of};
 use enumerators::{Cursor, EnumFault};
 use history_seats::PassSeat;
@@ -26,6 +27,8 @@ pub struct Session<E> {
     state: SessionState,
     doubt: Option<OwnDoubt>,
     entropy: E,
+    // Nothing depends on it.
+    hints: FileHints,
 }
 
 impl<E> Model for Session<E> {
@@ -59,6 +62,7 @@ impl<E: Entropy> Session<E> {
             state,
             doubt: None,
             entropy,
+            hints: FileHints::new(),
         }
     }
 
@@ -121,6 +125,7 @@ impl<E: Entropy> Session<E> {
             state: _,
             doubt: _,
             entropy: _,
+            hints: _,
         } = self;
         let Some(pass) = pass else { unreachable!() };
         pass
@@ -132,6 +137,18 @@ impl<E: Entropy> Session<E> {
         ensures { self.new ≡ record self.old { made = self.old.made + 1 } }
     {
         self.made += 1;
+    }
+
+    /// The file in which the object of that handle may be. Whoever looks there compares what is found.
+    pub fn hint(&self, handle: u32) -> Option<u16> {
+        self.hints.file(handle)
+    }
+
+    /// Notes that the object of that handle is in that file.
+    pub fn note_file(&mut self, handle: u32, file: u16)
+        ensures { self.new ≡ self.old }
+    {
+        self.hints.note(handle, file);
     }
 
     /// The machine's session.

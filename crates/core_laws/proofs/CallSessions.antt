@@ -9,12 +9,13 @@ use Rattle.store_model.specs.Machine.{Session}
 use Rattle.store_model.specs.Record.{events_of}
 use Rattle.history_seats.specs.Records.{HistoryRecord}
 use Rattle.history_seats.specs.Mounts.{Entry}
-use Rattle.history_seats.specs.Settling.{Pending, calm, dropped, open_from, settled, settling}
+use Rattle.history_seats.specs.Settling.{Pending, calm, dropped, is_landing, open_from, settled, settling}
 use Rattle.history_seats.specs.Known.{session_from}
 use Rattle.history_seats.specs.SessionLaws.{MayBeDropped}
 use Rattle.history_seats.specs.Views.{GateView, PassView}
 use Rattle.history_seats.specs.Changes.{pass_renewed}
 use Rattle.history_seats.specs.Rule.{PassFits}
+use Rattle.history_seats.proofs.Doubts.{decided-snoc}
 use Rattle.history_seats.proofs.Numbering.{count-append, count-begins, count-own}
 use Rattle.core_laws.specs.TamperScenarios.{TamperScenario}
 use Rattle.core_laws.specs.Stores.{entries_at, entry_named, replay_at, start_under}
@@ -108,6 +109,7 @@ calls_extend store s x gate fits r call reply mark event fair state application 
     event_is = refl;
     none_between = ap (λ (n : ℕ). count_of n (events_of fits.sees.begins.rest)) x.number ∙ none-past gate x.pass.knows fits;
     at = ap length fits.sees.begins.is;
+    decided = decided-snoc x.pass.knows.decided 0 gate.all r fits.sees.decided_below (ap is_landing event);
     fair = fair;
     number = sym x.number;
   };

@@ -5,7 +5,7 @@ use Rattle.store_model.specs.History.{count_of}
 use Rattle.store_model.specs.Machine.{Session}
 use Rattle.store_model.specs.Record.{events_of}
 use Rattle.history_seats.specs.Records.{HistoryRecord}
-use Rattle.history_seats.specs.Settling.{Pending}
+use Rattle.history_seats.specs.Settling.{IsDecidedBelow, Pending}
 use Rattle.history_seats.specs.Known.{session_from}
 use Rattle.history_seats.specs.Views.{PassView, Sight}
 use Rattle.core_laws.specs.TamperScenarios.{TamperScenario}
@@ -46,5 +46,7 @@ pub record Extends (store : Store) (before after : SessionValue) (event : Event)
   pub event_is : last.event ≡ event
   pub none_between : count_of before.number (events_of between) ≡ 0
   pub at : length (old.knows.seen ++ between) ≡ place
+  -- a doubt that was decided before does not land
+  pub decided : IsDecidedBelow old.knows.decided 0 new.knows.seen
   pub fair : IsFairHistory store new.knows.seen
   pub number : after.number ≡ before.number

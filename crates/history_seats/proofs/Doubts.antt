@@ -1,6 +1,6 @@
 -- Places below which each doubt is decided.
-use Rattle.std.proofs.Common.{◌≡◌, ◌⊎◌, ℕ, suc, ◌+◌, ◌<◌, ◌≤◌, List, [], ◌∷◌, ◌++◌, length, Bool, true, false, true≢false, cond, not, ◌&&◌, refl, sym, ap, inl, inr, ⊎_elim, arith}
-use Rattle.std.proofs.lemmas.Bool.{lt-leb}
+use Rattle.std.proofs.Common.{◌≡◌, ◌⊎◌, ℕ, suc, ◌+◌, ◌<◌, ◌≤◌, List, [], ◌∷◌, ◌++◌, length, Bool, true, false, true≢false, cond, not, ◌&&◌, refl, sym, ap, ◌∙◌, inl, inr, ⊎_elim, arith}
+use Rattle.std.proofs.lemmas.Bool.{le-leb, lt-leb, lt-ltb}
 use borrow.Author.Tests.{ltb-true}
 use Rattle.std.specs.Prelude.{nat_le}
 use Rattle.std.specs.List.{list_any}
@@ -69,6 +69,42 @@ decided-lands z k (x ∷ front) d back r le is s = (
   (λ q l. early-snoc z (suc k) (front ++ d ∷ back) r (s.0 q l) (inl (any_within front d back is))),
   decided-lands z (suc k) front d back r (omega arith) is s.1,
 )
+
+either : (b a c p q : Bool) → cond b a p ≡ true → (a ≡ true → c ≡ true) → (p ≡ true → q ≡ true) → cond b c q ≡ true
+either true a c p q h f g = f h
+either false a c p q h f g = g h
+
+either_both : (b a c p q r : Bool) → cond b a p ≡ true → cond b c q ≡ true → (p ≡ true → q ≡ true → r ≡ true) → cond b a r ≡ true
+either_both true a c p q r h i f = h
+either_both false a c p q r h i f = f h i
+
+not_first : (b c : Bool) → c ≡ true → not (b && c) ≡ true → b ≡ false
+not_first true c is h = absurd (true≢false (sym h ∙ ap not is))
+not_first false c is h = refl
+
+-- what is decided below a place, and stays so below a later one past these records, stays so with more behind them
+early-lower : (z y k : ℕ) (more : List HistoryRecord) → z ≤ y → y ≤ k → is_early y k more ≡ true → is_early z k more ≡ true
+early-lower z y k [] le within e = refl
+early-lower z y k (x ∷ more) le within e =
+    either (settles x.event) (not (is_landing x.event && nat_le y k)) (not (is_landing x.event && nat_le z k)) (is_early y (suc k) more) (is_early z (suc k) more) e
+    (λ h. off_first (is_landing x.event) (nat_le z k) (not_first (is_landing x.event) (nat_le y k) (le-leb y k within) h))
+    (λ h. early-lower z y (suc k) more le (omega (arith, within)) h)
+
+early-on : (z y k : ℕ) (rs more : List HistoryRecord) → z ≤ y → y ≤ k + length rs → is_early z k rs ≡ true → is_early y k (rs ++ more) ≡ true → is_early z k (rs ++ more) ≡ true
+early-on z y k [] more le within e f = early-lower z y k more le (omega (arith, within)) f
+early-on z y k (x ∷ rs) more le within e f =
+    either_both (settles x.event) (not (is_landing x.event && nat_le z k)) (not (is_landing x.event && nat_le y k)) (is_early z (suc k) rs) (is_early y (suc k) (rs ++ more))
+    (is_early z (suc k) (rs ++ more)) e f (λ h i. early-on z y (suc k) rs more le (omega (arith, within)) h i)
+
+pub decided-on : (z y k : ℕ) (rs more : List HistoryRecord) → z ≤ y → y ≤ k + length rs → IsDecidedBelow z k rs → IsDecidedBelow y k (rs ++ more) → IsDecidedBelow z k (rs ++ more)
+decided-on z y k [] more le within s t = decided-above z k more (omega (arith, le, within))
+decided-on z y k (x ∷ rs) more le within s t = (
+  (λ d l. early-on z y (suc k) rs more le (omega (arith, within)) (s.0 d l) (t.0 d (lt-ltb k y (below (ltb-true k z l))))),
+  decided-on z y (suc k) rs more le (omega (arith, within)) s.1 t.1,
+)
+  where
+    below : k < z → k < y
+    below lt = omega (arith, lt, le)
 
 -- a doubtful event settles the doubt before it
 pub marked-settles : (commit : ℕ) (event : Event) → HasMark (Doubtful commit) event → settles event ≡ true

@@ -6,14 +6,14 @@ use lib.ListN.{get_elem?}
 use Rattle.atomic_table.specs.Table.{State, Splits, Joins, Allows, keeps, Final, Seen}
 use Rattle.history_seats.specs.Mounts.{Mounted}
 use Rattle.history_seats.specs.Views.{SlotView, PassView, Joined, SeatView}
-use Rattle.history_seats.specs.Views.SeatView.{Gate, Slot, Pass, Spent}
+use Rattle.history_seats.specs.Views.SeatView.{Gate, Slot, Pass, Half, Kept, Spent}
 use Rattle.history_seats.specs.Numbers.{is_in}
 use Rattle.history_seats.specs.Rule.{SeatRule}
 use Rattle.history_seats.specs.Changes.{with_slot_out, new_slot, with_pass_out, new_pass}
-use Rattle.history_seats.specs.Steps.{on_gate, slot_from, pass_from, slot_taken_in, pass_taken_in, slot_let_out, slot_inside, pass_let_out, pass_inside, Moved}
+use Rattle.history_seats.specs.Steps.{on_gate, slot_from, pass_from, slot_taken_in, pass_taken_in, kept_taken_in, half_cut, half_kept, made_whole, slot_let_out, slot_inside, pass_let_out, pass_inside, kept_let_out, kept_inside, Moved}
 use Rattle.history_seats.proofs.Keeping.{at_gate}
 use Rattle.history_seats.proofs.WordSteps.{Keeps}
-use Rattle.history_seats.proofs.SeatSteps.{slot_split, pass_split, slot_leave, pass_leave, slot_enter, pass_enter}
+use Rattle.history_seats.proofs.SeatSteps.{slot_split, pass_split, slot_leave, pass_leave, slot_enter, pass_enter, pass_cut, pass_whole, kept_enter, kept_leave}
 
 abbrev pub InRule : State (Unit {0}) SeatView → Type 0
 InRule s = SeatRule s.words s.views
@@ -50,6 +50,27 @@ lets_pass_out id v j p is pass =
     subst (λ (x : SeatView). Splits InRule id x (pass_let_out x) (pass_inside x)) (sym is)
     (subst (λ (w : SeatView). Splits InRule id (Gate j) (pass_let_out (Gate j)) w) (sym one) (λ t h at. pass_leave id j p pass t.words t.views h at))
 
+pub cuts_pass : (id : ℕ) (v : SeatView) (p : PassView) → v ≡ Pass p → Splits InRule id v (half_cut v) (half_kept v)
+cuts_pass id v p is =
+    subst (λ (x : SeatView). Splits InRule id x (half_cut x) (half_kept x)) (sym is)
+    (λ s h at. pass_cut id p s.words s.views h at)
+
+pub makes_whole : (id other : ℕ) (v w : SeatView) (p q : PassView) → v ≡ Half p → w ≡ Kept q → q.session ≡ p.session → Joins InRule id v other w (made_whole v w) Spent
+makes_whole id other v w p q one two same =
+    subst (λ (x : SeatView × SeatView). Joins InRule id x.0 other x.1 (made_whole x.0 x.1) Spent) (λ i. (sym one i, sym two i))
+    (λ t h at apart there. pass_whole id p other q same t.words t.views h at apart there)
+
+pub takes_kept : (id other : ℕ) (v w : SeatView) (j : Joined) (q : PassView) → v ≡ Gate j → w ≡ Kept q → j.kept ≡ None → Joins InRule id v other w (kept_taken_in v w) Spent
+takes_kept id other v w j q is kept free =
+    subst (λ (x : SeatView × SeatView). Joins InRule id x.0 other x.1 (kept_taken_in x.0 x.1) Spent) (λ i. (sym is i, sym kept i))
+    (λ t h at apart there. kept_enter id j other q free t.words t.views h at apart there)
+
+pub lets_kept_out : (id : ℕ) (v : SeatView) (j : Joined) (q : PassView) → v ≡ Gate j → j.kept ≡ Some q → Splits InRule id v (kept_let_out v) (kept_inside v)
+lets_kept_out id v j q is kept =
+    let one : kept_inside (Gate j) ≡ Kept q = rw kept refl in
+    subst (λ (x : SeatView). Splits InRule id x (kept_let_out x) (kept_inside x)) (sym is)
+    (subst (λ (w : SeatView). Splits InRule id (Gate j) (kept_let_out (Gate j)) w) (sym one) (λ t h at. kept_leave id j q kept t.words t.views h at))
+
 -- a step of the gate's seat on the word, once it is shown to keep the rule
 pub moves : (change : Joined → Joined) (n : ℕ → ℕ) (slots id : ℕ) (me : SeatView × List (ℕ × Unit {0})) (j : Joined) → me.0 ≡ Gate j → Keeps change n id j
     → Allows InRule slots id me 0 n (λ k w. Moved change me.0 k w.0 × (w.1 ≡ me.1))
@@ -67,5 +88,5 @@ pub closes : (id : ℕ) (v : SeatView) (j : Joined) (words : List ℕ) (slots : 
 closes id v j words slots n is final found =
     let s = final.0 in
     let o = at_gate s.words s.views id j final.1.0 (final.1.1 ∙ ap some is) in
-    let same : length j.gate.all ∷ [] ≡ words = sym o.2.word ∙ final.2 in
+    let same : length j.gate.all ∷ [] ≡ words = sym o.3.word ∙ final.2 in
     some-injective n (length j.gate.all) (sym found ∙ ap (λ (ws : List ℕ). get_elem? ws 0) (sym same))

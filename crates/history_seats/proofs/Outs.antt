@@ -1,5 +1,5 @@
 -- Who has the seat of each number that is out.
-use Rattle.std.proofs.Common.{◌≡◌, ◌≢◌, ℕ, ◌==◌, List, ◌∷◌, true, false, true≢false, Option, Some, None, sym, ap, ◌∙◌, subst, ⊎_elim}
+use Rattle.std.proofs.Common.{◌≡◌, ◌≢◌, ℕ, ◌==◌, List, ◌∷◌, true, false, true≢false, Option, Some, None, refl, sym, ap, ◌∙◌, subst, ⊎_elim}
 use Rattle.std.proofs.lemmas.Bool.Decides.{eqb_tells}
 use Rattle.history_seats.specs.Numbers.{is_in, without}
 use Rattle.history_seats.proofs.Lists.{or_left, or_right, none_or_some, put, put_here, put_else}
@@ -44,3 +44,11 @@ out-less at numbers k all = λ n seat e.
 -- a number without a seat is out no more
 pub out-without : (at : ℕ → Option ℕ) (numbers : List ℕ) (k : ℕ) → at k ≡ None → AllOut at numbers → AllOut at (without k numbers)
 out-without at numbers k free all = λ n seat e. is_in-without n k numbers (all n seat e) (not_the_same at k n seat free e)
+
+-- a number that is not out has no seat
+pub none-out : (at : ℕ → Option ℕ) (numbers : List ℕ) (k : ℕ) → AllOut at numbers → is_in k numbers ≡ false → at k ≡ None
+none-out at numbers k all new = one (at k) refl
+  where
+    one : (o : Option ℕ) → at k ≡ o → at k ≡ None
+    one None e = e
+    one (Some seat) e = absurd (true≢false (sym (all k seat e) ∙ new))

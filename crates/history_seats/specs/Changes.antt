@@ -95,4 +95,8 @@ seat_renewed gate (Some slot) = Some (record slot { knows = slot_renewed gate sl
 
 -- the gate with these seats
 abbrev pub together : GateView → Option SlotView → Option PassView → Joined
-together gate slot pass = record { gate = gate; slot = slot; pass = pass }
+together gate slot pass = record { gate = gate; slot = slot; pass = pass; kept = None }
+
+-- the gate with a kept half
+abbrev pub beside : GateView → PassView → Joined
+beside gate kept = record { gate = gate; slot = None; pass = None; kept = Some kept }

@@ -3,7 +3,7 @@ use Rattle.std.specs.Prelude.{◌≡◌, ℕ, true, List, length, Option, Some, 
 use Rattle.store_model.specs.Record.{concerns_file}
 use Rattle.history_seats.specs.Records.{HistoryRecord}
 use Rattle.history_seats.specs.Views.{GateView, SlotView, PassView, Joined, SeatView, alone}
-use Rattle.history_seats.specs.Views.SeatView.{Gate, Slot, Pass, Spent}
+use Rattle.history_seats.specs.Views.SeatView.{Gate, Slot, Pass, Half, Kept, Spent}
 use Rattle.history_seats.specs.Numbers.{without}
 use Rattle.history_seats.specs.Rule.{Agrees}
 use Rattle.history_seats.specs.Changes.{IsNextOf, with_record, slot_renewed, pass_renewed, doubt_dropped}
@@ -18,7 +18,12 @@ passes_renewed gate (Some pass) = Some (pass_renewed gate pass)
 
 -- what was taken in sees the whole history
 abbrev pub renewed : Joined → Joined
-renewed joined = record { gate = joined.gate; slot = slots_renewed joined.gate joined.slot; pass = passes_renewed joined.gate joined.pass }
+renewed joined = record {
+  gate = joined.gate;
+  slot = slots_renewed joined.gate joined.slot;
+  pass = passes_renewed joined.gate joined.pass;
+  kept = passes_renewed joined.gate joined.kept;
+}
 
 -- a record is appended, and what was taken in sees it
 abbrev pub appended : HistoryRecord → Joined → Joined
@@ -65,6 +70,23 @@ abbrev pub pass_taken_in : SeatView → SeatView → SeatView
 pass_taken_in (Gate joined) (Pass pass) = Gate (record joined { pass = Some pass })
 pass_taken_in view other = view
 
+abbrev pub kept_taken_in : SeatView → SeatView → SeatView
+kept_taken_in (Gate joined) (Kept kept) = Gate (record joined { kept = Some kept })
+kept_taken_in view other = view
+
+-- a pass is cut in two halves of its view, and two halves are one pass again, with the caller's view
+abbrev pub half_cut : SeatView → SeatView
+half_cut (Pass pass) = Half pass
+half_cut view = view
+
+abbrev pub half_kept : SeatView → SeatView
+half_kept (Pass pass) = Kept pass
+half_kept view = Spent
+
+abbrev pub made_whole : SeatView → SeatView → SeatView
+made_whole (Half pass) (Kept kept) = Pass pass
+made_whole view other = view
+
 abbrev pub spent : SeatView
 spent = Spent
 
@@ -75,6 +97,10 @@ slot_or_spent (Some slot) = Slot slot
 abbrev pub pass_or_spent : Option PassView → SeatView
 pass_or_spent None = Spent
 pass_or_spent (Some pass) = Pass pass
+
+abbrev pub kept_or_spent : Option PassView → SeatView
+kept_or_spent None = Spent
+kept_or_spent (Some kept) = Kept kept
 
 -- what was taken in leaves again
 abbrev pub slot_let_out : SeatView → SeatView
@@ -92,6 +118,14 @@ pass_let_out view = view
 abbrev pub pass_inside : SeatView → SeatView
 pass_inside (Gate joined) = pass_or_spent joined.pass
 pass_inside view = Spent
+
+abbrev pub kept_let_out : SeatView → SeatView
+kept_let_out (Gate joined) = Gate (record joined { kept = None })
+kept_let_out view = view
+
+abbrev pub kept_inside : SeatView → SeatView
+kept_inside (Gate joined) = kept_or_spent joined.kept
+kept_inside view = Spent
 
 -- What a step on the word tells: it found the length of the history, the gate's view was changed so, and all that is in it agrees.
 abbrev pub Moved : (Joined → Joined) → SeatView → ℕ → SeatView → Type 0

@@ -28,17 +28,21 @@ pub record PassView : Type 0 where
   pub decided : ℕ
   pub session : ℕ
 
--- the gate's view, with the seats that it has taken in
+-- the gate's view, with the seats that it has taken in; `kept` is one half of a pass that is in halves
 pub record Joined : Type 0 where
   pub gate : GateView
   pub slot : Option SlotView
   pub pass : Option PassView
+  pub kept : Option PassView
 
 -- what a seat knows; a spent one knows nothing
 pub data SeatView : Type 0 where
   Gate : Joined → SeatView
   Slot : SlotView → SeatView
   Pass : PassView → SeatView
+  -- the two halves of a pass: that of the session's caller, and the one that is kept elsewhere
+  Half : PassView → SeatView
+  Kept : PassView → SeatView
   Spent : SeatView
 
 -- What contracts see of a seat: its table, and what it knows.
@@ -48,7 +52,7 @@ pub record Sight (Known : Type 0) : Type 0 where
 
 -- with no seat taken in
 abbrev pub alone : GateView → Joined
-alone gate = record { gate = gate; slot = None; pass = None }
+alone gate = record { gate = gate; slot = None; pass = None; kept = None }
 
 abbrev pub new_gate : GateView
 new_gate = record { mounted = None; all = []; decided = 0; files = []; sessions = [] }
@@ -65,6 +69,17 @@ abbrev pub slot_of : SeatView → SlotView
 slot_of (Slot slot) = slot
 slot_of _ = record { mounted = no_mount; seen = []; decided = 0; file = 0; generation = 0 }
 
+abbrev pub no_pass : PassView
+no_pass = record { mounted = no_mount; seen = []; decided = 0; session = 0 }
+
 abbrev pub pass_of : SeatView → PassView
 pass_of (Pass pass) = pass
-pass_of _ = record { mounted = no_mount; seen = []; decided = 0; session = 0 }
+pass_of _ = no_pass
+
+abbrev pub half_of : SeatView → PassView
+half_of (Half pass) = pass
+half_of _ = no_pass
+
+abbrev pub kept_of : SeatView → PassView
+kept_of (Kept pass) = pass
+kept_of _ = no_pass

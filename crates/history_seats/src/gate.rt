@@ -6,11 +6,11 @@ ghost use Rattle.history_seats.specs.Settling.{IsOpenDoubt};
 ghost use Rattle.history_seats.specs.Mounts.{Mounted};
 ghost use Rattle.history_seats.specs.Numbers.{is_in};
 ghost use Rattle.history_seats.specs.Rule.{Agrees};
-ghost use Rattle.history_seats.specs.Changes.{TagVersions, record_of, landing_of, IsNextOf, IsFitting, with_record, with_slot_out, new_slot, with_pass_out, new_pass, pass_renewed, doubt_dropped, without_slot, without_pass, view_in, IsOf, seat_renewed, together};
+ghost use Rattle.history_seats.specs.Changes.{TagVersions, record_of, landing_of, IsNextOf, IsFitting, with_record, with_slot_out, new_slot, with_pass_out, new_pass, pass_renewed, doubt_dropped, without_slot, without_pass, view_in, IsOf, seat_renewed, together, beside};
 ghost use Rattle.history_seats.specs.Steps.{IsTagIn};
 
-use crate::rule::{NewPass, NewSlot, PassName, RecordName, SlotName};
-use crate::seats::{GateSeat, HistoryTable, PassSeat, SlotSeat};
+use crate::rule::{Halving, Mending, NewPass, NewSlot, PassName, RecordName, SlotName};
+use crate::seats::{GateSeat, HalfSeat, HistoryTable, KeptSeat, PassSeat, SlotSeat};
 use crate::steps;
 use std::marker::Brand;
 use store_model::{Event, History};
@@ -33,6 +33,15 @@ pub struct Refreshed {
     pub slot: Option<SlotSeat>,
     /// The session's seat.
     pub pass: PassSeat,
+}
+
+/// The two halves of a session's seat. Only both together append an event of the session.
+#[derive(Drop)]
+pub struct Halves {
+    /// The half of the session's caller.
+    pub one: HalfSeat,
+    /// The half that is kept elsewhere.
+    pub other: KeptSeat,
 }
 
 impl GateSeat {
@@ -220,6 +229,55 @@ impl GateSeat {
     {
         steps::take_pass(&mut self.seat, table, pass);
         steps::keep_joined(&mut self.seat, table);
+    }
+
+    /// Cuts a session's seat in two halves. Each sees what the seat saw.
+    pub fn halve(&mut self, table: &HistoryTable, pass: PassSeat) -> Halves
+        requires { (self.old.table ≡ table.now) × (pass.table ≡ table.now) }
+        ensures gate { self.new ≡ self.old }
+        ensures one { result.one ≡ pass }
+        ensures other { result.other ≡ pass }
+    {
+        let PassSeat { seat, session } = pass;
+        let mut seat = seat;
+        let other = table.table.shared.split_seat::<Halving>(&mut seat);
+        Halves {
+            one: HalfSeat { seat, session },
+            other: KeptSeat {
+                seat: other,
+                session,
+            },
+        }
+    }
+
+    /// Joins the two halves of a session's seat. It sees what the caller's half saw.
+    pub fn whole(&mut self, table: &HistoryTable, one: HalfSeat, other: KeptSeat) -> PassSeat
+        requires table { (self.old.table ≡ table.now) × (one.table ≡ table.now) × (other.table ≡ table.now) }
+        requires session { other.knows.session ≡ one.knows.session }
+        ensures gate { self.new ≡ self.old }
+        ensures pass { result ≡ one }
+    {
+        let HalfSeat { seat, session } = one;
+        let KeptSeat {
+            seat: other,
+            session: _,
+        } = other;
+        let mut seat = seat;
+        table.table.shared.join_seat::<Mending>(&mut seat, other);
+        PassSeat { seat, session }
+    }
+
+    /// Shows a kept half the history as it stands: past what it saw, the session has no event.
+    pub fn show_kept(&mut self, table: &HistoryTable, kept: KeptSeat) -> KeptSeat
+        requires { (self.old.table ≡ table.now) × (kept.table ≡ table.now) }
+        ensures gate { self.new ≡ self.old }
+        ensures kept { result ≡ record kept { knows = pass_renewed self.old.knows kept.knows } }
+        ensures agreed { Agrees (beside self.old.knows kept.knows) }
+    {
+        let session = kept.session();
+        steps::take_kept(&mut self.seat, table, kept);
+        steps::look(&mut self.seat, table);
+        steps::let_kept_out(&mut self.seat, table, session)
     }
 
     /// Ends the table, and tells the length of the history.

@@ -149,6 +149,47 @@ impl Split<View> for PassInside {
     ghost right = { pass_inside };
 }
 
+/// A pass is cut in two halves.
+pub struct Halving;
+
+impl Split<View> for Halving {
+    ghost use Rattle.history_seats.specs.Steps.{half_cut, half_kept};
+
+    ghost left = { half_cut };
+
+    ghost right = { half_kept };
+}
+
+/// Two halves are one pass again.
+pub struct Mending;
+
+impl Join<View> for Mending {
+    ghost use Rattle.history_seats.specs.Steps.{made_whole, spent};
+
+    ghost both = { made_whole };
+
+    ghost spent = { spent };
+}
+
+/// A kept half is joined to the gate's seat, and split off again.
+pub struct KeptInside;
+
+impl Join<View> for KeptInside {
+    ghost use Rattle.history_seats.specs.Steps.{kept_taken_in, spent};
+
+    ghost both = { kept_taken_in };
+
+    ghost spent = { spent };
+}
+
+impl Split<View> for KeptInside {
+    ghost use Rattle.history_seats.specs.Steps.{kept_let_out, kept_inside};
+
+    ghost left = { kept_let_out };
+
+    ghost right = { kept_inside };
+}
+
 /// A record is appended, and what was joined sees it.
 pub struct Appends<N> {
     of: PhantomData<N>,

@@ -83,6 +83,62 @@ impl Model for PassSeat {
     ghost invariant = { λ s. (s.seat.me ≡ (Pass (pass_of s.seat.me.0), [])) × (s.session ≡ (pass_of s.seat.me.0).session) };
 }
 
+/// The half of a session's seat that its caller has. Nothing is appended with it alone.
+#[derive(Drop)]
+pub struct HalfSeat {
+    pub(crate) seat: Seat<(), View>,
+    pub(crate) session: u32,
+}
+
+impl Model for HalfSeat {
+    ghost use Rattle.std.specs.Prelude.{◌≡◌, []};
+    ghost use Rattle.history_seats.specs.Views.{Sight, PassView, half_of};
+    ghost use Rattle.history_seats.specs.Views.SeatView.{Half};
+
+    ghost Value = { Sight PassView };
+
+    ghost view = { λ s. record { table = s.seat.table_id; knows = half_of s.seat.me.0 } };
+
+    ghost invariant = { λ s. (s.seat.me ≡ (Half (half_of s.seat.me.0), [])) × (s.session ≡ (half_of s.seat.me.0).session) };
+}
+
+/// The other half, which is kept elsewhere. Whoever has it knows that the session has no event past its view.
+#[derive(Drop)]
+pub struct KeptSeat {
+    pub(crate) seat: Seat<(), View>,
+    pub(crate) session: u32,
+}
+
+impl Model for KeptSeat {
+    ghost use Rattle.std.specs.Prelude.{◌≡◌, []};
+    ghost use Rattle.history_seats.specs.Views.{Sight, PassView, kept_of};
+    ghost use Rattle.history_seats.specs.Views.SeatView.{Kept};
+
+    ghost Value = { Sight PassView };
+
+    ghost view = { λ s. record { table = s.seat.table_id; knows = kept_of s.seat.me.0 } };
+
+    ghost invariant = { λ s. (s.seat.me ≡ (Kept (kept_of s.seat.me.0), [])) × (s.session ≡ (kept_of s.seat.me.0).session) };
+}
+
+impl HalfSeat {
+    /// The session's number.
+    pub fn session(&self) -> u32
+        ensures { result ≡ self.now.knows.session }
+    {
+        self.session
+    }
+}
+
+impl KeptSeat {
+    /// The session's number.
+    pub fn session(&self) -> u32
+        ensures { result ≡ self.now.knows.session }
+    {
+        self.session
+    }
+}
+
 impl SlotSeat {
     /// The file.
     pub fn file(&self) -> u16

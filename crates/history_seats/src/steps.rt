@@ -9,9 +9,9 @@ ghost use Rattle.history_seats.specs.Changes.{landing_of, IsFitting, view_in, Is
 ghost use Rattle.history_seats.specs.Steps.{appended, landing_appended, doubts_dropped, retired, renewed, IsTagIn, IsEventIn, ids_in};
 
 use crate::rule::{
-    Appends, Drops, Lands, Looks, PassInside, RecordName, Retires, SlotInside, View,
+    Appends, Drops, KeptInside, Lands, Looks, PassInside, RecordName, Retires, SlotInside, View,
 };
-use crate::seats::{HistoryTable, PassSeat, SlotSeat};
+use crate::seats::{HistoryTable, KeptSeat, PassSeat, SlotSeat};
 use atomic_table::Seat;
 
 /// The file and the generation of a slot's seat that may be there.
@@ -113,11 +113,42 @@ pub(crate) fn let_pass_out(
     PassSeat { seat, session }
 }
 
+/// Joins a kept half, where none is joined.
+pub(crate) fn take_kept(seat: &mut Seat<(), View>, table: &HistoryTable, kept: KeptSeat)
+    requires table { (seat.old.table_id ≡ table.now) × (kept.table ≡ table.now) }
+    requires gate { seat.old.me ≡ (Gate (gate_of seat.old.me.0), []) }
+    requires free { (gate_of seat.old.me.0).kept ≡ None }
+    ensures { (seat.new.table_id ≡ seat.old.table_id) × (seat.new.me ≡ (Gate (record (gate_of seat.old.me.0) { kept = Some kept.knows }), [])) }
+{
+    let KeptSeat {
+        seat: other,
+        session: _,
+    } = kept;
+    table.table.shared.join_seat::<KeptInside>(seat, other);
+}
+
+/// Splits the joined kept half off again.
+pub(crate) fn let_kept_out(
+    seat: &mut Seat<(), View>,
+    table: &HistoryTable,
+    session: u32,
+) -> KeptSeat
+    requires table { seat.old.table_id ≡ table.now }
+    requires gate { seat.old.me ≡ (Gate (gate_of seat.old.me.0), []) }
+    requires kept { (p : PassView) × ((gate_of seat.old.me.0).kept ≡ Some p) × (p.session ≡ session) }
+    ensures seat { (seat.new.table_id ≡ seat.old.table_id) × (seat.new.me ≡ (Gate (record (gate_of seat.old.me.0) { kept = None }), [])) }
+    ensures kept { (result.table ≡ table.now) × ((gate_of seat.old.me.0).kept ≡ Some result.knows) }
+{
+    let seat = table.table.shared.split_seat::<KeptInside>(seat);
+    KeptSeat { seat, session }
+}
+
 /// Counts one more record, which `N` names.
 pub(crate) fn add_record<N: RecordName>(seat: &mut Seat<(), View>, table: &HistoryTable) -> u64
     requires table { seat.old.table_id ≡ table.now }
     requires gate { seat.old.me ≡ (Gate (gate_of seat.old.me.0), []) }
     requires room { length (gate_of seat.old.me.0).gate.all + 1 < 2 ^ 64 }
+    requires whole { (gate_of seat.old.me.0).kept ≡ None }
     requires tag { IsTagIn (gate_of seat.old.me.0) N.entry }
     requires event { IsEventIn (gate_of seat.old.me.0) N.entry }
     requires fitting { IsFitting (gate_of seat.old.me.0).gate N.entry }
@@ -137,7 +168,7 @@ pub(crate) fn add_landing<N: RecordName>(
     requires name { N.entry ≡ landing_of commit }
     requires table { seat.old.table_id ≡ table.now }
     requires gate { seat.old.me ≡ (Gate (gate_of seat.old.me.0), []) }
-    requires alone { ((gate_of seat.old.me.0).slot ≡ None) × ((gate_of seat.old.me.0).pass ≡ None) }
+    requires alone { ((gate_of seat.old.me.0).slot ≡ None) × ((gate_of seat.old.me.0).pass ≡ None) × ((gate_of seat.old.me.0).kept ≡ None) }
     requires room { length (gate_of seat.old.me.0).gate.all + 1 < 2 ^ 64 }
     requires doubt { IsOpenDoubt commit (gate_of seat.old.me.0).gate.decided (gate_of seat.old.me.0).gate.all }
     ensures seat { (seat.new.table_id ≡ seat.old.table_id) × (seat.new.me ≡ (Gate (landing_appended (landing_of commit) (gate_of seat.old.me.0)), [])) }
@@ -152,7 +183,7 @@ pub(crate) fn add_landing<N: RecordName>(
 pub(crate) fn drop_doubts(seat: &mut Seat<(), View>, table: &HistoryTable)
     requires table { seat.old.table_id ≡ table.now }
     requires gate { seat.old.me ≡ (Gate (gate_of seat.old.me.0), []) }
-    requires alone { ((gate_of seat.old.me.0).slot ≡ None) × ((gate_of seat.old.me.0).pass ≡ None) }
+    requires alone { ((gate_of seat.old.me.0).slot ≡ None) × ((gate_of seat.old.me.0).pass ≡ None) × ((gate_of seat.old.me.0).kept ≡ None) }
     ensures seat { (seat.new.table_id ≡ seat.old.table_id) × (seat.new.me ≡ (Gate (doubts_dropped (gate_of seat.old.me.0)), [])) }
     ensures agrees { Agrees (gate_of seat.old.me.0) }
 {
@@ -163,6 +194,7 @@ pub(crate) fn drop_doubts(seat: &mut Seat<(), View>, table: &HistoryTable)
 pub(crate) fn keep_joined(seat: &mut Seat<(), View>, table: &HistoryTable)
     requires table { seat.old.table_id ≡ table.now }
     requires gate { seat.old.me ≡ (Gate (gate_of seat.old.me.0), []) }
+    requires whole { (gate_of seat.old.me.0).kept ≡ None }
     ensures seat { (seat.new.table_id ≡ seat.old.table_id) × (seat.new.me ≡ (Gate (retired (gate_of seat.old.me.0)), [])) }
     ensures agrees { Agrees (gate_of seat.old.me.0) }
 {

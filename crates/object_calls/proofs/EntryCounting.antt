@@ -5,11 +5,15 @@ use Rattle.std.specs.Int.{from_bool}
 use Rattle.std.specs.Option.{option_map}
 use Rattle.std.specs.declared.cmp.Ordering.TheVariants.{Less, Equal, Greater}
 use Rattle.std.proofs.lemmas.List.{take_all}
-use Rattle.std.proofs.lemmas.List.Sums.{count_by_more_no, count_by_more_yes, sum_by-cons}
+use Rattle.std.proofs.lemmas.List.Sums.{count_by_more_no, count_by_more_yes, length-filter, sum_by-cons}
 use Rattle.hmac_keys.specs.declared.Keys.{Keys}
 use Rattle.store_model.specs.declared.name.ObjectName.{ObjectName}
 use Rattle.store_model.specs.Name.{name_cmp}
-use Rattle.store_model.specs.Object.{Object, ObjectMap, with_object}
+use Rattle.store_model.specs.Enumerating.{is_of}
+use Rattle.store_model.specs.Object.{Object, ObjectMap, holds, object_at, with_object}
+use Rattle.app_totals.specs.EntryTotals.{is_entry_of}
+use Rattle.app_totals.specs.Totals.{objects_of}
+use Rattle.app_totals.proofs.Weights.{one_of, one_of-by_name, weigh-with}
 use Rattle.dir_records.specs.declared.entry.DirEntry.{DirEntry}
 use Rattle.crash_core.specs.Entries.{name_of}
 use Rattle.crash_core.specs.EntryLists.{AreDistinct, entry_at}
@@ -49,6 +53,32 @@ module _ (keys : Keys) (images : ℕ → List ℕ) where
       let rest = length-map_of entries (apart_behind (Some e) entries apart) in
       let step : count_by is_some (Some e ∷ entries) ≡ 1 + count_by is_some entries = sum_by-cons (λ o. cond (is_some o) 1 0) (Some e) entries in
       length-inserted (map_of (all_held_in keys images entries)) (name_of e) _ (lacks_rest e entries apart) ∙ omega (arith, rest, step)
+
+-- a name that the map lacks is not held
+free-lacked : (m : ObjectMap) (a : ObjectName) → Lacks a m → holds m a ≡ false
+free-lacked [] a lacks = refl
+free-lacked (e ∷ m) a lacks = ap (λ (b : Bool). is_some (cond b (Some e.1) (object_at m a))) lacks.0 ∙ free-lacked m a lacks.1
+
+module _ (app : List ℕ) (keys : Keys) (images : ℕ → List ℕ) where
+  weigh-held : (e : DirEntry) (m : ObjectMap) → Lacks (name_of e) m
+      → length (objects_of app (with_object m (name_of e) (held_in keys images e).object)) ≡ length (objects_of app m) + cond (is_entry_of app (Some e)) 1 0
+  weigh-held e m lacks =
+      let object = (held_in keys images e).object in
+      let more = length-filter (is_of app) (with_object m (name_of e) object) in
+      let before = length-filter (is_of app) m in
+      let one = weigh-with (one_of app) (one_of-by_name app) (name_of e) object m (free-lacked m (name_of e) lacks) in
+      omega (arith, more, before, one)
+
+  -- the map has an object of the application for each entry of one
+  pub length-objects_of : (entries : List (Option DirEntry)) → AreDistinct entries → length (objects_of app (map_of (all_held_in keys images entries))) ≡ count_by (is_entry_of app) entries
+  length-objects_of [] apart = refl
+  length-objects_of (None ∷ entries) apart = length-objects_of entries (apart_behind keys images None entries apart)
+  length-objects_of (Some e ∷ entries) apart =
+      let rest = length-objects_of entries (apart_behind keys images (Some e) entries apart) in
+      let step : count_by (is_entry_of app) (Some e ∷ entries) ≡ cond (is_entry_of app (Some e)) 1 0 + count_by (is_entry_of app) entries =
+      sum_by-cons (λ (o : Option DirEntry). cond (is_entry_of app o) 1 0) (Some e) entries in
+      let more = weigh-held e (map_of (all_held_in keys images entries)) (lacks_rest keys images e entries apart) in
+      omega (arith, rest, step, more)
 
 -- so many of the first entries are not free
 pub record IsCount (entries : List (Option DirEntry)) (index count : ℕ) : Type 0 where

@@ -85,7 +85,7 @@ module _ (old new : GateView) (same : IsSameHistory old new) where
 
   pub counted_back : {E : Type 0} (s : CallerSession E) → BeginsAll new s.pass → s.made ≡ count_of s.number (events_of new.all) → HasCounted old s
   counted_back s begins made = record {
-    begins = record { seat = begins.seat; is = begins.is; fits = pass_back begins.seat.knows begins.fits };
+    begins = record { seat = begins.seat; is = begins.is; fits = pass_back begins.seat.knows begins.fits; within = subst (λ (x : ℕ × List HistoryRecord). x.0 ≤ length x.1) (λ i. (same.decided i, same.all i)) begins.within };
     made = made ∙ ap (λ (l : List HistoryRecord). count_of s.number (events_of l)) same.all;
   }
 

@@ -43,7 +43,7 @@ pub use mount_laws::{mounted_slots_are_guarded, mounts_begin_gates, mounts_tell_
 pub use mounting::mount;
 pub use opening::Opening;
 pub use phase_end::{Closed, close_slots};
-pub use serial_calls::Session;
+pub use serial_calls::{QuotaOutcome, Session};
 pub use service::Service;
 pub use service_call::Answer;
 pub use service_parts::ServiceParts;

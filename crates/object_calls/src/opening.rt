@@ -4,6 +4,7 @@ ghost use Rattle.std.specs.Prelude.{◌≡◌, ◌≤◌, [], ℕ, length, vec_l
 ghost use Rattle.std.specs.Vec.{vec_capacity};
 ghost use Rattle.hmac_keys.specs.declared.Keys.{Keys};
 ghost use Rattle.tee_types.specs.Limits.{file_count};
+ghost use Rattle.app_totals.specs.Totals.{objects_of};
 ghost use Rattle.crash_core.specs.Opening.{opening_map};
 ghost use Rattle.object_calls.specs.Begins.{IsWholeOpening};
 ghost use Rattle.object_calls.specs.ObjectMaps.{OpensObjectMap};
@@ -112,6 +113,13 @@ impl<F: StoreFile + Drop, R: RpmbPort + Drop> Opening<F, R> {
         ensures opening { IsOpening F.state self.now.gate self.now.files self.now.storage_key }
     {
         count_entries(&self.gate)
+    }
+
+    /// How many objects the application has.
+    pub fn held(&self, app: AppId) -> u16
+        ensures { (keys : Keys) → length (objects_of app (opening_map keys (bench_files F.state self.now) (entries_in self.now))) ≡ result }
+    {
+        self.gate.totals(app).objects
     }
 
     /// Gives the bench back. Every picture of it mounts to the objects that were found. No device is called, and no memory is taken.

@@ -1,6 +1,6 @@
 //! How a served store answers a call.
 
-ghost use Rattle.std.specs.Prelude.{◌≡◌, IsNone, None};
+ghost use Rattle.std.specs.Prelude.{◌≡◌, IsNone, None, OnErr};
 ghost use Rattle.core_laws.specs.Shown.{IsPartial};
 ghost use Rattle.rpmb_card.specs.Protocol.{last_counter};
 ghost use Rattle.serial_calls.specs.CallerSessions.{IsCallerOf};
@@ -9,12 +9,14 @@ ghost use Rattle.serial_calls.specs.SessionViews.{shown};
 ghost use Rattle.serial_calls.specs.ChangeChecks.{AreOnlyRead};
 ghost use Rattle.serial_calls.specs.Rising.{devices_in};
 ghost use Rattle.serial_calls.specs.Unfailed.{NoneFailed};
-ghost use Rattle.object_calls.specs.Calling.{AnswersAtOnceAt, AnswersCall, serving};
+ghost use Rattle.serial_calls.specs.QuotaCallers.{IfRefused, IsRefusedRightly, KeepsLimits, answer_in};
+ghost use Rattle.object_calls.specs.Calling.{AnswersAtOnceAt, AnswersCall, AnswersWithin, serving};
 
 use crate::service::Service;
+use app_totals::Totals;
 use core_laws::StoreName;
 use rpmb_card::RpmbPort;
-use serial_calls::{Session, serve};
+use serial_calls::{QuotaOutcome, Session, serve, serve_within};
 use tee_ports::{Entropy, StoreFile};
 use tee_types::{Call, NoMemory, Reply};
 
@@ -67,5 +69,38 @@ impl<F: StoreFile + Drop, R: RpmbPort + Drop, L: StoreName> Service<F, R, L> {
                 reply: Reply::NoMemory,
             },
         }
+    }
+
+    /// Answers a session's call as `call` does. But where it would leave its application more than `limit`, it is refused and has no event.
+    ///
+    /// # Errors
+    ///
+    /// Memory ran out. The call has no event, nothing changed but that a commit in doubt may have landed, and no device failed.
+    pub fn call_within<E: Entropy>(
+        &mut self,
+        session: &mut Session<E>,
+        limit: Totals,
+        call: &Call,
+    ) -> Result<QuotaOutcome, NoMemory>
+        requires { IsCallerOf L.store session.old }
+        ensures answers { AnswersWithin F.state R.state E.faults L.store self.old self.new session.old session.new call.now (answer_in result) }
+        ensures limits { KeepsLimits L.store limit session.old session.new }
+        ensures refused { IfRefused result (IsRefusedRightly L.store limit session.old session.new call.now) }
+        ensures reliable { E.is_reliable session.old.entropy → E.is_reliable session.new.entropy }
+        // A generator that never fails counts no fault.
+        ensures still { E.is_reliable session.old.entropy → E.faults session.new.entropy ≡ E.faults session.old.entropy }
+        // Where it was refused, or memory ran out, no device counted a fault.
+        ensures passed { OnErr (answer_in result) (NoneFailed (devices_in F.state R.state E.faults (serving self.old session.old))
+            (devices_in F.state R.state E.faults (serving self.new session.new))) }
+    {
+        serve_within(
+            self.alloc,
+            &mut self.gate,
+            &mut self.slots,
+            &self.storage_key,
+            session,
+            limit,
+            call,
+        )
     }
 }

@@ -116,6 +116,19 @@ impl<F: StoreFile + Drop> Slot<F> {
         }
     }
 
+    /// Whether its committed object is loaded, and nothing is staged.
+    pub fn is_live(&self) -> bool
+        ensures { IsTrue result ↔ IsLive self.now.holds }
+    {
+        match &self.content {
+            Some(Content::Live(_)) => true,
+            Some(Content::Free(_)) => false,
+            Some(Content::Made(_)) => false,
+            Some(Content::Staged(_)) => false,
+            None => unreachable!(),
+        }
+    }
+
     /// The place of the event that left its commit in doubt, if one did.
     pub fn doubt_place(&self) -> Option<u64>
         ensures { result ≡ self.now.doubt }

@@ -4,7 +4,8 @@ use Rattle.store_model.specs.declared.name.ObjectName.{ObjectName}
 use Rattle.rpmb_card.specs.Port.{PortState}
 use Rattle.card_maps.specs.declared.change.TableChange.{TableChange}
 use Rattle.card_maps.specs.CardMaps.{CardMap, blocks_needed, bytes_at}
-use Rattle.card_maps.specs.Course.{last_count, writes_of}
+use Rattle.card_maps.specs.Course.{writes_of}
+use Rattle.rpmb_card.specs.Protocol.{last_counter}
 use Rattle.card_maps.specs.Form.{data_blocks}
 use Rattle.card_maps.specs.Plans.{IsPutOf}
 use Rattle.card_maps.specs.TableStates.{TableState}
@@ -21,9 +22,9 @@ parts port key draws t doubt =
 
 -- what is planned for an object of so many bytes
 abbrev pub PutPlanned : TableState → (counter : ℕ) → ObjectName → (size : ℕ) → Result TableChange CardFault → Type 0
-PutPlanned t counter name size (Ok change) = IsPutOf t name size change × (counter + writes_of size ≤ last_count)
+PutPlanned t counter name size (Ok change) = IsPutOf t name size change × (counter + writes_of size ≤ last_counter)
 PutPlanned t counter name size (Err (Full need free)) = (free < need) × (need ≡ blocks_needed size) × (free ≡ length (unused t.used))
-PutPlanned t counter name size (Err Spent) = (blocks_needed size ≤ length (unused t.used)) × (last_count < counter + writes_of size)
+PutPlanned t counter name size (Err Spent) = (blocks_needed size ≤ length (unused t.used)) × (last_counter < counter + writes_of size)
 PutPlanned t counter name size (Err fault) = ⊥
 
 -- the entry of a name, the least, and where it is; or there is none

@@ -24,7 +24,15 @@ use Rattle.run_acts.specs.Seen.{seen_by}
 use Rattle.run_acts.proofs.ThreadDraws.{carried-rise, draws_of-more}
 use Rattle.run_acts.proofs.Calls.{calls_in-append, calls_in-more, calls_of-append, calls_of-none}
 
--- a view that goes on by events of others and one more
+-- a view that goes on by events of others
+calls_of-quiet : (session : ℕ) (seen between : List HistoryRecord) → calls_of session (events_of between) ≡ [] → calls_of session (events_of (seen ++ between)) ≡ calls_of session (events_of seen)
+calls_of-quiet session seen between none =
+    ap (calls_of session) (map-append (λ (r : HistoryRecord). r.event) seen between)
+    ∙ calls_of-append session (events_of seen) (events_of between)
+    ∙ ap (λ (l : List Call). calls_of session (events_of seen) ++ l) none
+    ∙ append-nil (calls_of session (events_of seen))
+
+-- and by one more
 calls_of-more : (session : ℕ) (seen between : List HistoryRecord) (last : HistoryRecord) → calls_of session (events_of between) ≡ []
     → calls_of session (events_of ((seen ++ between) ++ last ∷ [])) ≡ calls_of session (events_of seen) ++ calls_of session (last.event ∷ [])
 calls_of-more session seen between last none =
@@ -86,7 +94,25 @@ module _ {E : Type 0} (is_reliable : E → Type 0) (draws : E → ℕ) (store : 
           ∙ ap (λ (pass : Option (Sight PassView)). draws_of was.number (events_of (seen_by pass)) ++ told_of Entropy answer.reply) (sym e.was)
 
   pub stopped_one : (was now : CallerSession E) (call : Call) → IsWaiting store was now → HasStopped store was now (call ∷ [])
-  stopped_one was now call w = record { caller = w.whole; number = w.number; fewer = omega (arith, w.made) }
+  stopped_one was now call w = record {
+    caller = w.whole;
+    number = w.number;
+    front = [];
+    rest = call ∷ [];
+    cut = refl;
+    left = omega arith;
+    made = omega (arith, w.made);
+    calls_are = calls_same ∙ sym (append-nil (own_calls was));
+  }
+    where
+      calls_same : own_calls now ≡ own_calls was
+      calls_same =
+          let c = w.goes_on.continues in
+          ap (λ (n : ℕ). calls_of n (events_of (seen_by now.pass))) w.number
+          ∙ ap (λ (pass : Option (Sight PassView)). calls_of was.number (events_of (seen_by pass))) c.has
+          ∙ ap (λ (l : List HistoryRecord). calls_of was.number (events_of l)) (sym c.is)
+          ∙ calls_of-quiet was.number c.was.knows.seen c.between (calls_of-none was.number (events_of c.between) c.none)
+          ∙ ap (λ (pass : Option (Sight PassView)). calls_of was.number (events_of (seen_by pass))) (sym c.had)
 
   -- ONE AFTER ANOTHER
   module _ (a b c : CallerSession E) (first then : List Call) (made : Made a b first) where
@@ -109,7 +135,12 @@ module _ {E : Type 0} (is_reliable : E → Type 0) (draws : E → ℕ) (store : 
     stopped_then rest s = record {
       caller = s.caller;
       number = s.number ∙ made.number;
-      fewer = omega (arith, made.made, s.fewer, length-append (first ++ then) rest, length-append first then);
+      front = first ++ s.front;
+      rest = s.rest ++ rest;
+      cut = ap (λ (l : List Call). (first ++ l) ++ rest) s.cut ∙ ap (λ (l : List Call). l ++ rest) (sym (append_assoc first s.front s.rest)) ∙ append_assoc (first ++ s.front) s.rest rest;
+      left = omega (arith, s.left, length-append s.rest rest);
+      made = omega (arith, made.made, s.made, length-append first s.front);
+      calls_are = s.calls_are ∙ ap (λ (l : List Call). l ++ s.front) made.calls_are ∙ append_assoc (own_calls a) first s.front;
     }
 
   -- the steps up to one of them, and that step

@@ -1,5 +1,5 @@
 -- The steps that events serve.
-use Rattle.std.proofs.Common.{◌≡◌, ◌==◌, ℕ, cond, List, [], ◌∷◌, ◌++◌, refl, sym, ap, ◌∙◌, inl}
+use Rattle.std.proofs.Common.{◌≡◌, ◌==◌, ℕ, cond, List, [], ◌∷◌, ◌++◌, refl, sym, ap, ◌∙◌}
 use Rattle.std.proofs.lemmas.List.{append-nil}
 use Rattle.store_model.specs.declared.event.Event.{Event}
 use Rattle.store_model.specs.declared.event.Event.TheVariants.{Call as CallEvent, Landed}
@@ -32,4 +32,4 @@ events_in_order_serve mode steps events is = record {
 -- what serves all of the steps serves the first of them
 pub serves_all : (mode : Mode) (steps : List Step) (events : List Event) → ServesSteps mode steps events → ServesFront mode steps events
 serves_all Serial steps events s = ([], sym (append-nil (steps_served events) ∙ s.in_script_order refl))
-serves_all Threads steps events s = λ app. inl (s.of_each_application app)
+serves_all Threads steps events s = λ app. ([], sym (append-nil (calls_of app events) ∙ s.of_each_application app))

@@ -1,6 +1,7 @@
 -- What a store that was shared is, once it is closed.
-use Rattle.std.proofs.Common.{◌≤◌, ◌≡◌, ◌∙◌, ◌+◌, ◌<◌, ◌⊎◌, ℕ, List, [], ◌∷◌, ◌++◌, length, slice_index_or, true, Option, refl, sym, ap, subst, inl, inr, arith}
+use Rattle.std.proofs.Common.{◌≤◌, ◌≡◌, ◌∙◌, ◌+◌, ◌<◌, ◌⊎◌, ℕ, List, [], ◌∷◌, ◌++◌, length, slice_index_or, true, Option, refl, sym, ap, subst, inl, inr, length-append, arith}
 use Rattle.std.specs.List.{list_all}
+use Rattle.std.proofs.lemmas.List.{append-nil}
 use Rattle.std.proofs.lemmas.Bool.{cases_eq, cases_lt, eqb-true}
 use Rattle.std.proofs.lemmas.List.Sums.{AllPass-from_list_all}
 use Rattle.disk_model.specs.Calls.{GoesOn}
@@ -41,7 +42,7 @@ use Rattle.run_acts.specs.OwnCalls.{HasMade, HasStopped, HaveWorked, is_done, ow
 use Rattle.run_acts.specs.OwnDraws.{own_draws}
 use Rattle.run_acts.specs.Seen.{seen_by}
 use Rattle.run_acts.specs.Sharing.{AreKept, IsBenchOf}
-use Rattle.run_acts.proofs.Calls.{calls_in-past, calls_of-begins, calls_of-none, calls_of-past, length-calls_of}
+use Rattle.run_acts.proofs.Calls.{calls_in-past, calls_of-begins, calls_of-none, calls_of-past}
 use Rattle.run_acts.proofs.ThreadDraws.{draws_of-begins, draws_of-none}
 use Rattle.history_seats.specs.Tags.{AreTagged}
 use Rattle.run_acts.proofs.Sharings.{each_counted, each_goes_on}
@@ -87,7 +88,7 @@ module _ {E : Type 0} (is_reliable : E → Type 0) (draws : E → ℕ) (store : 
   made_all was now steps none done (inl made) = made
   made_all was now steps none done (inr stopped) =
       let all : now.made ≡ length (calls_in was.number steps) = eqb-true now.made (length (calls_in now.number steps)) done ∙ ap (λ (n : ℕ). length (calls_in n steps)) stopped.number in
-      absurd (omega (arith, stopped.fewer, none, all))
+      absurd (omega (arith, stopped.made, stopped.left, none, all, ap length stopped.cut, length-append stopped.front stopped.rest))
 
   module _ (was now : List (CallerSession E)) (steps : List Step) (seated : AreSeated store was) (unmade : HaveNoEvents was) (many : length now ≡ length was)
       (worked : HaveWorked is_reliable draws store steps was now) (view : GateView) (counted : HaveCounted view now) where
@@ -104,13 +105,18 @@ module _ {E : Type 0} (is_reliable : E → Type 0) (draws : E → ℕ) (store : 
       number : first.number ≡ app
       number = seated.numbered app d within
 
-      -- the session has fewer events than calls
-      one_fewer : HasStopped store first last (calls_in first.number steps) → length (calls_of app (events_of view.all)) < length (calls_in app steps)
-      one_fewer stopped =
-          let events : length (calls_of last.number (events_of view.all)) ≡ last.made = length-calls_of last.number (events_of view.all) ∙ sym (counted app d still).made in
-          let same : length (calls_of app (events_of view.all)) ≡ last.made = ap (λ (n : ℕ). length (calls_of n (events_of view.all))) (sym (stopped.number ∙ number)) ∙ events in
-          let calls : length (calls_in first.number steps) ≡ length (calls_in app steps) = ap (λ (n : ℕ). length (calls_in n steps)) number in
-          omega (arith, same, calls, stopped.fewer, unmade app d within)
+      -- the session made the first of its calls
+      one_began : HasStopped store first last (calls_in first.number steps) → (rest : List Call) × (calls_in app steps ≡ calls_of app (events_of view.all) ++ rest)
+      one_began stopped = (
+        stopped.rest,
+        ap (λ (n : ℕ). calls_in n steps) (sym number)
+            ∙ stopped.cut
+            ∙ ap (λ (l : List Call). l ++ stopped.rest) (sym (
+            ap (λ (n : ℕ). calls_of n (events_of view.all)) (sym (stopped.number ∙ number))
+            ∙ own_in_all view last stopped.caller (counted app d still)
+            ∙ stopped.calls_are
+            ∙ ap (λ (l : List Call). l ++ stopped.front) (unmade_calls first (seated.each app d within) (unmade app d within)))),
+      )
 
       module _ (made : HasMade is_reliable draws store first last (calls_in first.number steps)) where
         one_serves : calls_of app (events_of view.all) ≡ calls_in app steps
@@ -146,17 +152,20 @@ module _ {E : Type 0} (is_reliable : E → Type 0) (draws : E → ℕ) (store : 
     other_serves app past calls known =
         calls_of-past (length store.mounted.applications) app (events_of view.all) (omega (arith, past, seated.many)) known ∙ sym (calls_in-past (length was) app steps past calls)
 
-    one_front : (app : ℕ) (d : CallerSession E) → app < length was → (calls_of app (events_of view.all) ≡ calls_in app steps) ⊎ (length (calls_of app (events_of view.all)) < length (calls_in app steps))
+    all_of : (app : ℕ) → calls_of app (events_of view.all) ≡ calls_in app steps → (rest : List Call) × (calls_in app steps ≡ calls_of app (events_of view.all) ++ rest)
+    all_of app serves = ([], sym (append-nil (calls_of app (events_of view.all)) ∙ serves))
+
+    one_front : (app : ℕ) (d : CallerSession E) → app < length was → (rest : List Call) × (calls_in app steps ≡ calls_of app (events_of view.all) ++ rest)
     one_front app d within = elim (worked app d within) [
-      | inl made ↦ inl (one_serves app d within made)
-      | inr stopped ↦ inr (one_fewer app d within stopped)
+      | inl made ↦ all_of app (one_serves app d within made)
+      | inr stopped ↦ one_began app d within stopped
     ]
 
-    -- So each application made its calls, or has fewer events.
+    -- So the events of each application are its first calls.
     pub front_serves : AreCalls (length was) steps → AreOfSessions (length store.mounted.applications) (events_of view.all) → ServesFront Threads steps (events_of view.all)
     front_serves calls known app = elim (cases_lt app (length was)) [
-      | inl within ↦ at_each (λ n. (calls_of n (events_of view.all) ≡ calls_in n steps) ⊎ (length (calls_of n (events_of view.all)) < length (calls_in n steps))) one_front was refl app within
-      | inr past ↦ inl (other_serves app (omega (arith, past)) calls known)
+      | inl within ↦ at_each (λ n. (rest : List Call) × (calls_in n steps ≡ calls_of n (events_of view.all) ++ rest)) one_front was refl app within
+      | inr past ↦ all_of app (other_serves app (omega (arith, past)) calls known)
     ]
 
     -- Where all are done, the calls of each application in the history are those of the steps.

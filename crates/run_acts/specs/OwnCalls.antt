@@ -1,5 +1,5 @@
 -- The calls that a session makes of a phase's steps, and those that its view has.
-use Rattle.std.specs.Prelude.{◌≡◌, ◌==◌, ◌+◌, ◌++◌, ◌<◌, ◌⊎◌, ℕ, Bool, List, length, slice_index_or}
+use Rattle.std.specs.Prelude.{◌≡◌, ◌==◌, ◌+◌, ◌++◌, ◌<◌, ◌≤◌, ◌⊎◌, ℕ, Bool, List, length, slice_index_or}
 use Rattle.tee_types.specs.declared.call.Call.{Call}
 use Rattle.store_model.specs.History.{calls_of}
 use Rattle.store_model.specs.Record.{events_of}
@@ -22,11 +22,16 @@ pub record HasMade {E : Type 0} (is_reliable : E → Type 0) (draws : E → ℕ)
   pub calls_are : own_calls now ≡ own_calls was ++ calls
   pub drawn : HasDrawn is_reliable draws was now
 
--- Memory ran out before the session had made all of these calls.
+-- Memory ran out before the session had made all of these calls: it made the first of them, and no other.
 pub record HasStopped {E : Type 0} (store : Store) (was now : CallerSession E) (calls : List Call) : Type 0 where
   pub caller : IsCallerOf store now
   pub number : now.number ≡ was.number
-  pub fewer : now.made < was.made + length calls
+  pub front : List Call
+  pub rest : List Call
+  pub cut : calls ≡ front ++ rest
+  pub left : 1 ≤ length rest
+  pub made : now.made ≡ was.made + length front
+  pub calls_are : own_calls now ≡ own_calls was ++ front
 
 -- Each session made the calls of its application among the steps, or memory ran out before it had.
 abbrev pub HaveWorked : {E : Type 0} → (is_reliable : E → Type 0) → (draws : E → ℕ) → Store → List Step → (was now : List (CallerSession E)) → Type 0

@@ -1,5 +1,5 @@
 -- The calls of a phase as the steps of a script, and the events that they become.
-use Rattle.std.specs.Prelude.{ℕ, ◌≡◌, ◌==◌, ◌<◌, ◌⊎◌, List, [], ◌∷◌, ◌++◌, length, if◌then◌else◌, true, All}
+use Rattle.std.specs.Prelude.{ℕ, ◌≡◌, ◌==◌, List, [], ◌∷◌, ◌++◌, if◌then◌else◌, true, All}
 use Rattle.tee_types.specs.declared.call.Call.{Call}
 use Rattle.store_model.specs.declared.event.Event.{Event}
 use Rattle.store_model.specs.declared.event.Event.TheVariants.{Call as CallEvent, Landed}
@@ -33,8 +33,8 @@ pub record ServesSteps (mode : Mode) (steps : List Step) (events : List Event) :
   -- in a serial phase all stand in the script's order
   pub in_script_order : mode ≡ Serial → steps_served events ≡ steps
 
--- Memory ran out before all of them were made. In a serial phase the events are the calls of the first steps; on threads each application made
--- its calls, or has fewer events.
+-- Memory ran out before all of them were made. In a serial phase the events are the calls of the first steps; on threads those of each
+-- application are its first calls.
 abbrev pub ServesFront : Mode → (steps : List Step) → List Event → Type 0
 ServesFront Serial steps events = (rest : List Step) × (steps ≡ steps_served events ++ rest)
-ServesFront Threads steps events = (app : ℕ) → (calls_of app events ≡ calls_in app steps) ⊎ (length (calls_of app events) < length (calls_in app steps))
+ServesFront Threads steps events = (app : ℕ) → (rest : List Call) × (calls_in app steps ≡ calls_of app events ++ rest)

@@ -34,7 +34,7 @@ use std::thread::Threads;
 use tee_ports::{Entropy, StoreFile};
 use tee_types::{MAX_FILE, MAX_SESSIONS};
 
-// Makes the calls of all sessions, those of each on a thread of its own. A session in which memory ran out has fewer events than calls.
+// Makes the calls of all sessions, those of each on a thread of its own. A session in which memory ran out made the first of its calls.
 fn make_beside<
     W: Threads + Wait + Sync,
     F: StoreFile + Drop + Send,

@@ -21,7 +21,8 @@ use Rattle.script_runner.specs.RunCauses.{World}
 use Rattle.script_runner.specs.CardRecords.{CardRecord, Named, Told, map_reply}
 use Rattle.script_runner.specs.CardPoints.{device_replies}
 use Rattle.script_runner.specs.CardRuns.{CardTrace, EndsCard, EndsLines, IsSilentCard, all_done, at_mount, cut_off, no_script, ran, starved, unread}
-use Rattle.script_runner.specs.CardRunLaws.{CardRunsCount, RoseBy}
+use Rattle.rpmb_files.specs.Counts.{RoseBy}
+use Rattle.script_runner.specs.CardRunLaws.{CardRunsCount}
 use Rattle.script_runner.specs.CardSteps.{DoesLine, FailsFor, GoesThrough, IsRefusedAt, MakesCall, StandsAt, at_first, at_line}
 use Rattle.script_runner.proofs.CardPointLaws.{HasCard-rearmed, same_key}
 

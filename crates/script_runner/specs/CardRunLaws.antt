@@ -1,7 +1,8 @@
 -- What holds of every run of a script of the card.
-use Rattle.std.specs.Prelude.{◌≡◌, ◌⊎◌, ◌+◌, ◌-◌, ◌^◌, ◌≤◌, ℕ, min, List, [], ◌∷◌, ◌++◌, length, Option, Ok, IsTrue}
+use Rattle.std.specs.Prelude.{◌≡◌, ◌⊎◌, ◌+◌, ◌-◌, ◌≤◌, ℕ, List, [], ◌∷◌, ◌++◌, length, Option, Ok, IsTrue}
 use Rattle.rpmb_card.specs.Card.{CardState}
 use Rattle.rpmb_card.specs.Port.{PortState}
+use Rattle.rpmb_files.specs.Counts.{RoseBy}
 use Rattle.rpmb_host.specs.Honest.{HasCard}
 use Rattle.card_script.specs.declared.card_line.CardLine.{CardLine}
 use Rattle.card_script.specs.declared.card_line.CardLine.TheVariants.{Stop}
@@ -28,10 +29,6 @@ pub record RunsOnCard (key : List ℕ) (t : CardTrace) (card : CardState) (m : C
   pub last : CardPoint
   pub goes : LinesOnCard done t.records (mounted_on card m) last
   pub ends : EndsOnCard key last given
-
--- the count rose by at least so many, or stands at its last value
-abbrev pub RoseBy : (number old new : ℕ) → Type 0
-RoseBy number old new = min (old + number) (2 ^ 64 - 1) ≤ new
 
 -- no line arms the card
 abbrev pub ArmNothing : List CardLine → Type 0

@@ -7,6 +7,8 @@ pub mod CreatedCalls
 pub mod ServeSettling
 pub mod HeldSettling
 pub mod RuledCalls
+pub mod QuotaCallers
+pub mod QuotaCalls
 pub mod WholeCalls
 pub mod AtOnce
 pub mod Replies
@@ -42,11 +44,14 @@ pub use Rattle.call_steps.proofs.CarriedCounts
 pub use Rattle.call_steps.proofs.ClosedStores
 pub use Rattle.call_steps.proofs.GivenPictures
 pub use Rattle.call_steps.proofs.Contents
+pub use Rattle.call_steps.proofs.ChangeAnswers
 pub use Rattle.call_steps.proofs.CountGrowth
+pub use Rattle.call_steps.proofs.GoingOn
 pub use Rattle.call_steps.proofs.Journals
 pub use Rattle.call_steps.proofs.Knowing
 pub use Rattle.call_steps.proofs.PortArms
 pub use Rattle.call_steps.proofs.MetAgain
+pub use Rattle.call_steps.proofs.Meetings
 pub use Rattle.call_steps.proofs.MoreRecords
 pub use Rattle.call_steps.proofs.Rises
 pub use Rattle.call_steps.proofs.SameMaps

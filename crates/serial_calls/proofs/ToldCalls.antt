@@ -3,7 +3,7 @@ use Rattle.std.proofs.Common.{◌≡◌, ◌+◌, ◌-◌, ◌<◌, ℕ, List, E
 use Rattle.std.specs.Prelude.{slice_set}
 use Rattle.std.proofs.lemmas.List.{get_or_default}
 use Rattle.tee_types.specs.Limits.{IsObjectFile}
-use Rattle.call_steps.specs.CallerSessions.{CallerSession, IsCallerOf, session_value}
+use Rattle.call_steps.specs.CallerSessions.{CallerSession, IsCallerOf}
 use Rattle.disk_model.specs.Calls.{GoesOn as FileGoesOn}
 use Rattle.disk_model.specs.Faults.{Rose}
 use Rattle.disk_model.specs.State.{FileState}
@@ -18,7 +18,6 @@ use Rattle.call_steps.specs.SlotValues.{SlotValue}
 use Rattle.rpmb_card.specs.Port.{PortState}
 use Rattle.call_steps.specs.Gates.{GateValue}
 use Rattle.store_model.specs.declared.event.Mark.TheVariants.{Unchanged}
-use Rattle.core_laws.specs.Sessions.{Extends}
 use Rattle.core_laws.specs.Stores.{Store}
 use Rattle.tee_types.specs.declared.call.Call.{Call}
 use Rattle.tee_types.specs.declared.reply.Cause.TheVariants.{CardResult, Fault, Frame}
@@ -31,6 +30,8 @@ use Rattle.call_steps.specs.Devices.{AccusesRightly, CostsDoubt, Devices, Device
 use Rattle.call_steps.specs.Slots.{AreSlots}
 use Rattle.serial_calls.specs.ServeReplay.{ServesObject}
 use Rattle.call_steps.specs.Rising.{Serving, devices_in}
+use Rattle.call_steps.specs.Seen.{GoesOn}
+use Rattle.call_steps.proofs.GoingOn.{goes-drawn}
 use Rattle.call_steps.proofs.CountGrowth.{same_file_goes_on, same_port_goes_on}
 use Rattle.serial_calls.proofs.SlotLists.{file_changed, files_go_on, slots_after}
 
@@ -60,7 +61,7 @@ none_appended store old new was now caller same session = record {
   whole = subst (IsCallerOf store) (sym session) (record { session = caller.session; doubt = caller.doubt });
   number = ap (λ (s : CallerSession _). s.number) session;
   made = ap (λ (s : CallerSession _). s.made) session;
-  goes_on = λ after event place x. subst (λ (s : CallerSession _). Extends store (session_value s) after event place) session x;
+  goes_on = subst (GoesOn store was) (sym session) (goes-drawn store was now.entropy caller);
 }
 
 pub same_gate : {F R : Type 0} (old new : GateValue F R) → new ≡ old → new ≡ record old { open_handles = new.open_handles }

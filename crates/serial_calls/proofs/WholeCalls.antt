@@ -7,7 +7,7 @@ use Rattle.disk_model.specs.Faults.{Rose}
 use Rattle.disk_model.specs.State.{FileState}
 use Rattle.disk_model.proofs.Goings.{goes_on_none}
 use Rattle.call_steps.specs.Resolved.{HasResolved, StaysInDoubt}
-use Rattle.call_steps.specs.Seen.{GoesOn}
+use Rattle.call_steps.specs.Seen.{ExtendsBack, GoesOn}
 use Rattle.call_steps.specs.GateServed.{IsServedAlone, IsUnserved, Precedes}
 use Rattle.call_steps.specs.GateServed.Precedes.{HeldUp, Misused, Ruled}
 use Rattle.history_seats.specs.Records.{HistoryRecord}
@@ -43,6 +43,7 @@ use Rattle.serial_calls.specs.ServeReplay.{ServesObject}
 use Rattle.call_steps.specs.Rising.{Serving, devices_in}
 use Rattle.call_steps.proofs.Cards.{doubted_counts}
 use Rattle.call_steps.proofs.HeardAnswers.{answered_heard}
+use Rattle.call_steps.proofs.GoingOn.{goes-then}
 use Rattle.call_steps.proofs.CountGrowth.{counts_grow, devices_go_on_then, grows_le, grows_rose, grows_twice}
 use Rattle.call_steps.proofs.MoreRecords.{events_more, tagged_more}
 use Rattle.serial_calls.proofs.ServeSettling.{Settles, reserved_settles, same_settles, settled_settles, stays_settles, was_settles}
@@ -82,7 +83,7 @@ length_events records = sym (length-map records (λ (r : HistoryRecord). r.event
 
 module _ {F R E : Type 0} (of_file : F → FileState) (of_port : R → PortState) (draws : E → ℕ) (store : Store) (old mid new : GuardedGateValue F R) (was now : CallerSession E) (settled : Settles of_file of_port (card_key store) old mid) where
   -- the call's event follows the landing
-  appends_goes_on : (shown : CallerSession E) (call : Call) (answer : PlacedReply) → shown.number ≡ was.number → shown.made ≡ was.made → GoesOn store was shown
+  appends_goes_on : (shown : CallerSession E) (call : Call) (answer : PlacedReply) → shown.number ≡ was.number → shown.made ≡ was.made → ExtendsBack store was shown
       → AppendsCall store mid new shown now call answer → GoesOnWith store old new was now call answer
   appends_goes_on shown call answer number made goes_on a = record {
     landed = settled.landed;
@@ -133,7 +134,7 @@ module _ {F R E : Type 0} (of_file : F → FileState) (of_port : R → PortState
   unfolding appends_goes_on
   object_serves call X (Ok answer) s = record {
     answers = record {
-      goes_on = appends_goes_on of_file of_port draws store old mid new was now settled shown call answer number made goes_on s.answers.appends;
+      goes_on = appends_goes_on of_file of_port draws store old mid new was now settled shown call answer number made goes_on.extends s.answers.appends;
       accuses = accuses_since (card_key store) d0 dm da began answer.reply s.answers.accuses;
       costs = costs_since (card_key store) d0 dm da began s.answers.appends.mark answer.reply s.answers.costs;
     };
@@ -145,7 +146,7 @@ module _ {F R E : Type 0} (of_file : F → FileState) (of_port : R → PortState
   }
   object_serves call X (Err e) s = record {
     answers = none_goes_on of_file of_port draws store old mid new was now settled s.answers.whole (s.answers.number ∙ number) (s.answers.made ∙ made)
-        (λ end event place x. goes_on end event place (s.answers.goes_on end event place x)) s.answers.all;
+        (goes-then store was shown now number goes_on s.answers.goes_on) s.answers.all;
     slots = s.slots;
     tagged = λ files. subst AreOfObjectFiles (sym s.answers.all) (settled.tagged files);
     held = λ held. s.held (settled_held held);

@@ -3,6 +3,7 @@ pub mod ServeReady
 pub mod ServeReplay
 pub mod Unfailed
 pub mod Appended
+pub mod QuotaCallers
 pub mod ServedAnswers
 pub mod ChangeReplies
 pub mod ChangeCauses
@@ -37,6 +38,8 @@ pub use Rattle.call_steps.specs.Fills
 pub use Rattle.call_steps.specs.FinishedPhases
 pub use Rattle.call_steps.specs.FirstSlots
 pub use Rattle.call_steps.specs.Fits
+pub use Rattle.call_steps.specs.Forecasts
+pub use Rattle.call_steps.specs.Foreseen
 pub use Rattle.call_steps.specs.GateEnds
 pub use Rattle.call_steps.specs.GateServed
 pub use Rattle.call_steps.specs.Gates

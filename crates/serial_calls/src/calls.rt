@@ -28,7 +28,7 @@ use tee_ports::{Entropy, StoreFile};
 use tee_types::{Call, NoMemory};
 
 // Serves a call on an object, while no commit is in doubt.
-fn serve_object<F: StoreFile + Drop, R: RpmbPort + Drop, L: StoreName, E: Entropy>(
+pub(crate) fn serve_object<F: StoreFile + Drop, R: RpmbPort + Drop, L: StoreName, E: Entropy>(
     alloc: Global,
     gate: &mut GuardedGate<F, R, L>,
     slots: &mut Vec<GuardedSlot<F, L>>,

@@ -33,6 +33,8 @@ mod failure_replies;
 mod file_slots;
 mod handle_calls;
 mod name_calls;
+mod quota_calls;
+mod quota_outcome;
 mod read_calls;
 mod rename_call;
 mod reply_appending;
@@ -46,7 +48,8 @@ mod write_call;
 pub use call_steps::{
     Closing, CommitEnd, EntryChange, GuardedGate, GuardedSlot, Journal, PlacedReply, Session, Slot,
     SlotParts, answer_alone, answer_info, answer_open, answer_read, answer_ruled, catch_up_entry,
-    describe_object, load_or_reply, read_object, retire_session,
+    describe_live, describe_object, forecast, load_or_reply, read_live, read_object,
+    retire_session,
 };
 pub use calls::serve;
 pub use core_laws::StoreName;
@@ -58,6 +61,8 @@ pub use create_object::{give_up, make, make_unless_spent};
 pub use create_slot::clear;
 pub use delete_call::delete;
 pub use early_answers::answer_meant;
+pub use quota_calls::serve_within;
+pub use quota_outcome::QuotaOutcome;
 pub use rename_call::rename;
 pub use stage_catch_up::catch_up_staged;
 pub use stage_result::Staged;

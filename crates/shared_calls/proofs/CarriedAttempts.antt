@@ -24,3 +24,7 @@ module _ (first mid last : ℕ) where
   attempt-grown (Ok (Some answer)) grows carries = carries-grown answer.reply grows carries
   attempt-grown (Ok None) grows carries = tt
   attempt-grown (Err none) grows carries = tt
+
+  pub call-grown : {X : Type 0} (result : Result PlacedReply X) → Grows first mid → IfOk result (λ answer. CarriesDraws mid last answer.reply) → IfOk result (λ answer. CarriesDraws first last answer.reply)
+  call-grown (Ok answer) grows carries = carries-grown answer.reply grows carries
+  call-grown (Err none) grows carries = tt

@@ -18,6 +18,11 @@ use Rattle.shared_calls.specs.SharedInfo.{HasDescribed}
 use Rattle.shared_calls.specs.SharedCatchUp.{IsMet}
 use Rattle.shared_calls.proofs.SharedVersions.{gives-moved}
 
+pub described-of : {X : Type 0} (store : Store) (slot : SlotValue) (v : Version) (handle : Handle) → GivesVersion slot v → (result : Result Reply X)
+    → IfOk result (DescribesObject store slot.file slot v handle) → IfOk result (HasDescribed store slot handle)
+described-of store slot v handle gives (Ok reply) describes = record { version = v; gives = gives; was = slot.file; describes = describes }
+described-of store slot v handle gives (Err none) describes = tt
+
 module _ {X : Type 0} (store : Store) (old new : SlotValue) (e : DirEntry) (handle : Handle) (given : GivesEntry old e) (same : new ≡ record old { file = new.file; holds = new.holds }) where
   pub has-described : (result : Result Reply X) → ((v : Version) → GivesVersion old v → IfOk result (DescribesObject store old.file new v handle)) → IfOk result (HasDescribed store new handle)
   has-described (Ok reply) describes =

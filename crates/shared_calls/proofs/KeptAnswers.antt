@@ -81,6 +81,11 @@ module _ (before : Devices) where
     keeps-read X (Ok reply) cause = counted (told_of (File new.number) reply) (told-rise old.file new.file new.number reply cause rests.goes_on.faults)
     keeps-read X (Err e) cause = none
 
+    pub keeps-given : {X : Type 0} (result : Result Reply X) → IfOk result (λ reply. HasToldCause old.file new.file new.number reply)
+        → IfOk result (λ reply. KeepsSlot before new (told_of (File new.number) reply))
+    keeps-given (Ok reply) cause = counted (told_of (File new.number) reply) (told-rise old.file new.file new.number reply cause rests.goes_on.faults)
+    keeps-given (Err e) cause = tt
+
     loaded : (store : Store) (v : Version) (unloaded : Option Reply) → IsReady store old.file new v unloaded → KeepsSlot before new (told_if new.number unloaded)
     loaded store v None ready = none
     loaded store v (Some reply) ready = counted (told_of (File new.number) reply) (told-rise old.file new.file new.number reply ready.cause rests.goes_on.faults)

@@ -17,6 +17,7 @@ mod SparedGates
 mod KeptGates
 mod KeptCalls
 mod CarriedDraws
+mod ForeseenCalls
 mod KeptAnswers
 mod SpentCalls
 pub mod Waiting
@@ -28,3 +29,4 @@ pub use Rattle.serial_calls.proofs.CountGrowth
 pub use Rattle.serial_calls.proofs.Rises
 pub use Rattle.serial_calls.proofs.SameMaps
 pub use Rattle.serial_calls.proofs.Tellings
+pub use Rattle.serial_calls.proofs.QuotaCallers

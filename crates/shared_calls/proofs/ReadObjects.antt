@@ -16,11 +16,14 @@ use Rattle.shared_calls.specs.SharedCatchUp.{IsMet}
 use Rattle.shared_calls.specs.SharedRead.{HasRead}
 use Rattle.shared_calls.proofs.SharedVersions.{gives-moved}
 
+pub has-read-of : {X : Type 0} (store : Store) (old new : SlotValue) (v : Version) (at count : ℕ) → GivesVersion old v → new ≡ record old { file = new.file; holds = new.holds } → (result : Result Reply X)
+    → IfOk result (ReadsAnswer store old.file new v at count) → IfOk result (HasRead store new at count)
+has-read-of store old new v at count gives same (Ok reply) reads = record { version = v; gives = gives-moved old new v same gives; was = old.file; reads = reads }
+has-read-of store old new v at count gives same (Err none) reads = tt
+
 module _ {X : Type 0} (store : Store) (old new : SlotValue) (e : DirEntry) (at count : ℕ) (given : GivesEntry old e) (same : new ≡ record old { file = new.file; holds = new.holds }) where
   pub has-read : (result : Result Reply X) → ((v : Version) → GivesVersion old v → IfOk result (ReadsAnswer store old.file new v at count)) → IfOk result (HasRead store new at count)
-  has-read (Ok reply) reads =
-      record { version = given.version; gives = gives-moved old new given.version same given.gives; was = old.file; reads = reads given.version given.gives }
-  has-read (Err none) reads = tt
+  has-read result reads = has-read-of store old new given.version at count given.gives same result (reads given.version given.gives)
 
 -- it is of the entry at which the slot stands now
 pub read-entry : (store : Store) (knows : GateView) (old new : SlotValue) (e : DirEntry) (at count : ℕ) (reply : Reply) → HasRead store old at count reply

@@ -30,6 +30,7 @@ use Rattle.shared_calls.proofs.AnsweredSlots.{keeps-served}
 use Rattle.shared_calls.proofs.KeptAnswers.{told-rise}
 use Rattle.shared_calls.proofs.KeptSlots.{keeps-called, keeps-seen, own-file}
 use Rattle.shared_calls.proofs.SharedViews.{keeps-shown_slot, shown_slot}
+use Rattle.shared_calls.proofs.Waiting.{waits-same}
 
 -- a reply that the file gave accuses no generator
 pub told-undrawn : (from to : FileState) (number first last : ℕ) (reply : Reply) → HasToldCause from to number reply → CarriesDraws first last reply
@@ -43,8 +44,7 @@ told-undrawn from to number first last reply cause = tt
 
 -- a session that is as it was waits still
 pub stays-waiting : {E : Type 0} (store : Store) (was now : CallerSession E) → IsCallerOf store was → now ≡ was → IsWaiting store was now
-stays-waiting store was now whole same =
-    subst (IsWaiting store was) (sym same) (record { whole = whole; number = refl; made = refl; goes_on = λ after event place e. e })
+stays-waiting store was now whole same = subst (IsWaiting store was) (sym same) (waits-same store was whole)
 
 -- the file was not even read
 pub reads-none : {E : Type 0} (from to : FileState) (was now : CallerSession E) → to ≡ from → now.entropy ≡ was.entropy → OnlyReads from to was now

@@ -8,6 +8,7 @@ use Rattle.disk_model.specs.State.{FileState}
 use Rattle.serial_calls.specs.Stores.{Store}
 use Rattle.tee_types.specs.declared.reply.Reply.{Reply}
 use Rattle.serial_calls.specs.Devices.{AccusesRightly, Devices, Grows}
+use Rattle.serial_calls.proofs.GoingOn.{goes-drawn}
 use Rattle.serial_calls.proofs.ChangedCalls.{change_accuses_file, change_drawn, change_still}
 use Rattle.shared_calls.specs.SharedChange.{CarriesStaged}
 use Rattle.shared_calls.specs.Names.{no_devices}
@@ -20,7 +21,7 @@ drawn-waits store was entropy whole = record {
   whole = record { session = whole.session; doubt = whole.doubt };
   number = refl;
   made = refl;
-  goes_on = λ after event place e. e;
+  goes_on = goes-drawn store was entropy whole;
 }
 
 -- the devices of a stage: a file and the session's entropy

@@ -10,6 +10,7 @@ pub mod SharedChange
 pub mod Names
 pub mod Kept
 pub mod Attempts
+pub mod ForeseenCalls
 pub mod SharedCounts
 pub use Rattle.serial_calls.specs.CallerSessions
 pub use Rattle.serial_calls.specs.Cards
@@ -19,3 +20,5 @@ pub use Rattle.serial_calls.specs.EventCounts
 pub use Rattle.serial_calls.specs.GuardedGates
 pub use Rattle.serial_calls.specs.Rising
 pub use Rattle.serial_calls.specs.SlotValues
+pub use Rattle.serial_calls.specs.QuotaCallers
+pub use Rattle.serial_calls.specs.Stores

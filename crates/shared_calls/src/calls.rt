@@ -90,6 +90,46 @@ pub fn file_of<F: StoreFile + Drop, R: RpmbPort + Drop, L: StoreName + DevicesNa
     }
 }
 
+/// An attempt of a Read or an Info in one look at the gate, with the lock of the slot in which the session found its object before. None where it
+/// has to go the long way, as each other call has.
+///
+/// # Errors
+///
+/// Memory ran out. The session has no event more.
+pub fn attempt_at_once<
+    W: Wait,
+    F: StoreFile + Drop,
+    R: RpmbPort + Drop,
+    L: StoreName + DevicesName,
+    E: Entropy,
+>(
+    rt: &W,
+    alloc: Global,
+    gate: &Mutex<SharedGate<F, R, L>>,
+    slot: &mut GuardedSlot<F, L>,
+    session: &mut Session<E>,
+    call: &Call,
+) -> Result<Option<PlacedReply>, NoMemory>
+    requires caller { IsCallerOf L.store session.old }
+    requires kept { KeepsSlot L.devices slot.old [] }
+    ensures ends { EndsAttempt L.store session.old session.new call.now result }
+    ensures counted { E.faults session.old.entropy ≤ E.faults session.new.entropy }
+    ensures reliable { E.is_reliable session.old.entropy → E.is_reliable session.new.entropy }
+    ensures still { E.is_reliable session.old.entropy → E.faults session.new.entropy ≡ E.faults session.old.entropy }
+    ensures kept { KeepsSlot L.devices slot.new [] }
+    ensures drawn { IfOk result (λ found. IfSome found (λ answer. CarriesDraws (E.faults session.old.entropy) (E.faults session.new.entropy) answer.reply)) }
+{
+    match call {
+        Call::Read { handle, size } => {
+            read_call::attempt_at_once(rt, alloc, gate, slot, session, *handle, *size)
+        }
+        Call::Info { handle } => {
+            info_call::attempt_at_once(rt, alloc, gate, slot, session, *handle)
+        }
+        _ => Ok(None),
+    }
+}
+
 /// An attempt of a call, with the lock of the slot of the file that it needs: each validation at the gate takes the gate's lock, and the first has it
 /// already, `first`, which is given back before the slot's file is at work. None where the call has to begin again, as one that is on no
 /// object has.

@@ -1,8 +1,9 @@
 //! TEE_GetObjectInfo1, with the gate's lock taken for each validation alone.
 
-ghost use Rattle.std.specs.Prelude.{◌≡◌, ◌≤◌, IfOk, IfSome, MatchResult, []};
+ghost use Rattle.std.specs.Prelude.{◌≡◌, ◌≤◌, IfOk, IfSome, MatchResult, None, []};
 ghost use Rattle.hmac_keys.specs.KeyTable.{ssk};
 ghost use Rattle.serial_calls.specs.CallerSessions.{IsCallerOf};
+ghost use Rattle.serial_calls.specs.SlotValues.{IsLive};
 ghost use Rattle.call_rules.specs.Objects.{IsOpenObject};
 ghost use Rattle.shared_calls.specs.SharedInfo.{HasDescribed};
 ghost use Rattle.shared_calls.specs.Validations.{EndsLook, IfAnswered, IfFound};
@@ -16,14 +17,15 @@ ghost use Rattle.tee_types.specs.declared.reply.Device.TheVariants.{File};
 
 use crate::gate_entry::begin;
 use crate::gate_lock::spin_then_lock;
-use crate::slot_catch_up::catch_up_held;
+use crate::slot_catch_up::{catch_up_held, is_loaded};
 use crate::validation::Validation;
 use crate::{DevicesName, SharedGate};
 use call_rules::{Decision, OpenObject};
 use hmac_keys::tsk;
 use rpmb_card::RpmbPort;
 use serial_calls::{
-    GuardedSlot, PlacedReply, Session, StoreName, answer_info, answer_ruled, describe_object,
+    GuardedSlot, PlacedReply, Session, StoreName, answer_info, answer_ruled, describe_live,
+    describe_object,
 };
 use std::alloc::Global;
 use std::sync::{Mutex, MutexGuard, Wait};
@@ -179,6 +181,70 @@ fn describe_slot<F: StoreFile + Drop, L: StoreName + DevicesName>(
 {
     let key = tsk(storage_key, &found.held.entry.app.bytes());
     describe_object::<F, L>(alloc, &mut slot.slot, &found.held.entry, &key, found.handle)
+}
+
+// Tells what is known of the slot's object, which is loaded. The gate's lock is not taken.
+fn describe_loaded<F: StoreFile + Drop, L: StoreName + DevicesName>(
+    alloc: Global,
+    slot: &GuardedSlot<F, L>,
+    by: &Handle,
+) -> Result<Reply, NoMemory>
+    requires live { IsLive slot.now.holds }
+    requires settled { slot.now.doubt ≡ None }
+    requires kept { KeepsSlot L.devices slot.now [] }
+    ensures described { IfOk result (HasDescribed L.store slot.now by.now) }
+    ensures kept { IfOk result (λ reply. KeepsSlot L.devices slot.now (told_of (File slot.now.number) reply)) }
+{
+    describe_live::<F, L>(alloc, &slot.slot, *by)
+}
+
+/// An attempt of an Info in one look at the gate, with the lock of the slot in which the session found its object before: where an object is loaded
+/// there, what is known of it is told, and the gate is asked then whether that is what the call asks. None where it is not.
+///
+/// # Errors
+///
+/// Memory ran out. The session has no event more.
+pub(crate) fn attempt_at_once<
+    W: Wait,
+    F: StoreFile + Drop,
+    R: RpmbPort + Drop,
+    L: StoreName + DevicesName,
+    E: Entropy,
+>(
+    rt: &W,
+    alloc: Global,
+    gate: &Mutex<SharedGate<F, R, L>>,
+    slot: &mut GuardedSlot<F, L>,
+    session: &mut Session<E>,
+    handle: u32,
+) -> Result<Option<PlacedReply>, NoMemory>
+    requires caller { IsCallerOf L.store session.old }
+    requires kept { KeepsSlot L.devices slot.old [] }
+    ensures ends { EndsAttempt L.store session.old session.new (Call.Info handle) result }
+    ensures counted { E.faults session.old.entropy ≤ E.faults session.new.entropy }
+    ensures reliable { E.is_reliable session.old.entropy → E.is_reliable session.new.entropy }
+    ensures still { E.is_reliable session.old.entropy → E.faults session.new.entropy ≡ E.faults session.old.entropy }
+    ensures kept { KeepsSlot L.devices slot.new [] }
+    ensures drawn { IfOk result (λ found. IfSome found (λ answer. CarriesDraws (E.faults session.old.entropy) (E.faults session.new.entropy) answer.reply)) }
+{
+    let Some(by) = session.handle(handle) else {
+        return Ok(None);
+    };
+    if !is_loaded(slot) {
+        return Ok(None);
+    }
+    let reply = describe_loaded(alloc, slot, &by)?;
+    let told = reply.copy(alloc)?;
+    validate_last(
+        alloc,
+        &mut spin_then_lock(rt, gate),
+        slot,
+        session,
+        handle,
+        by,
+        reply,
+        told,
+    )
 }
 
 /// An attempt of an Info, with the lock of the slot of its object's file: two validations at the gate, and between them the object is loaded where it

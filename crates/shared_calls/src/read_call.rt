@@ -1,9 +1,10 @@
 //! TEE_ReadObjectData, with the gate's lock taken for each validation alone.
 
-ghost use Rattle.std.specs.Prelude.{◌≡◌, ◌≤◌, IfOk, IfSome, MatchResult, []};
+ghost use Rattle.std.specs.Prelude.{◌≡◌, ◌≤◌, IfOk, IfSome, MatchResult, None, []};
 ghost use Rattle.tee_types.specs.Rights.{read_bit};
 ghost use Rattle.hmac_keys.specs.KeyTable.{ssk};
 ghost use Rattle.serial_calls.specs.CallerSessions.{IsCallerOf};
+ghost use Rattle.serial_calls.specs.SlotValues.{IsLive};
 ghost use Rattle.call_rules.specs.Objects.{IsRightful};
 ghost use Rattle.shared_calls.specs.Validations.{EndsLook, IfAnswered, IfFound};
 ghost use Rattle.shared_calls.specs.SharedCatchUp.{MayLoad};
@@ -17,14 +18,14 @@ ghost use Rattle.tee_types.specs.declared.reply.Device.TheVariants.{File};
 
 use crate::gate_entry::begin;
 use crate::gate_lock::spin_then_lock;
-use crate::slot_catch_up::catch_up_held;
+use crate::slot_catch_up::{catch_up_held, is_loaded};
 use crate::validation::Validation;
 use crate::{DevicesName, SharedGate};
 use call_rules::{Decision, OpenObject};
 use hmac_keys::tsk;
 use rpmb_card::RpmbPort;
 use serial_calls::{
-    GuardedSlot, PlacedReply, Session, StoreName, answer_read, answer_ruled, read_object,
+    GuardedSlot, PlacedReply, Session, StoreName, answer_read, answer_ruled, read_live, read_object,
 };
 use std::alloc::Global;
 use std::sync::{Mutex, MutexGuard, Wait};
@@ -191,6 +192,73 @@ fn read_slot<F: StoreFile + Drop, L: StoreName + DevicesName>(
         &key,
         found.handle.position,
         size,
+    )
+}
+
+// Reads the slot's object, which is loaded. The gate's lock is not taken.
+fn read_loaded<F: StoreFile + Drop, L: StoreName + DevicesName>(
+    alloc: Global,
+    slot: &mut GuardedSlot<F, L>,
+    at: u32,
+    size: u32,
+) -> Result<Reply, NoMemory>
+    requires live { IsLive slot.old.holds }
+    requires settled { slot.old.doubt ≡ None }
+    requires kept { KeepsSlot L.devices slot.old [] }
+    ensures read { IfOk result (HasRead L.store slot.new at size) }
+    ensures kept { MatchResult result (λ reply. KeepsSlot L.devices slot.new (told_of (File slot.new.number) reply)) (λ none. KeepsSlot L.devices slot.new []) }
+{
+    read_live::<F, L>(alloc, &mut slot.slot, at, size)
+}
+
+/// An attempt of a Read in one look at the gate, with the lock of the slot in which the session found its object before: where an object is loaded
+/// there, it is read from the handle's position on, and the gate is asked then whether that is what the call reads. None where it is not.
+///
+/// # Errors
+///
+/// Memory ran out. The session has no event more.
+pub(crate) fn attempt_at_once<
+    W: Wait,
+    F: StoreFile + Drop,
+    R: RpmbPort + Drop,
+    L: StoreName + DevicesName,
+    E: Entropy,
+>(
+    rt: &W,
+    alloc: Global,
+    gate: &Mutex<SharedGate<F, R, L>>,
+    slot: &mut GuardedSlot<F, L>,
+    session: &mut Session<E>,
+    handle: u32,
+    size: u32,
+) -> Result<Option<PlacedReply>, NoMemory>
+    requires caller { IsCallerOf L.store session.old }
+    requires kept { KeepsSlot L.devices slot.old [] }
+    ensures ends { EndsAttempt L.store session.old session.new (Call.Read handle size) result }
+    ensures counted { E.faults session.old.entropy ≤ E.faults session.new.entropy }
+    ensures reliable { E.is_reliable session.old.entropy → E.is_reliable session.new.entropy }
+    ensures still { E.is_reliable session.old.entropy → E.faults session.new.entropy ≡ E.faults session.old.entropy }
+    ensures kept { KeepsSlot L.devices slot.new [] }
+    ensures drawn { IfOk result (λ found. IfSome found (λ answer. CarriesDraws (E.faults session.old.entropy) (E.faults session.new.entropy) answer.reply)) }
+{
+    let Some(by) = session.handle(handle) else {
+        return Ok(None);
+    };
+    if !is_loaded(slot) {
+        return Ok(None);
+    }
+    let reply = read_loaded(alloc, slot, by.position, size)?;
+    let told = reply.copy(alloc)?;
+    validate_last(
+        alloc,
+        &mut spin_then_lock(rt, gate),
+        slot,
+        session,
+        handle,
+        size,
+        by.position,
+        reply,
+        told,
     )
 }
 

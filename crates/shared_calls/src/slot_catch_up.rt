@@ -1,10 +1,11 @@
 //! How the slot of the object's file is shown the history, at a validation of a call at the gate.
 
-ghost use Rattle.std.specs.Prelude.{◌≡◌, ℕ, true, List, Some};
+ghost use Rattle.std.specs.Prelude.{◌≡◌, ℕ, true, List, None, Some};
 ghost use Rattle.crash_core.specs.EntryLists.{entry_at};
 ghost use Rattle.history_seats.specs.Records.{Version};
 ghost use Rattle.serial_calls.specs.GuardedReads.{GivesVersion};
 ghost use Rattle.serial_calls.specs.SlotCatchUp.{StillGives};
+ghost use Rattle.serial_calls.specs.SlotValues.{IsLive};
 ghost use Rattle.shared_calls.specs.SharedCatchUp.{IsMet};
 ghost use Rattle.shared_calls.specs.SharedReady.{IsReady};
 ghost use Rattle.shared_calls.specs.Kept.{KeepsSlot};
@@ -14,6 +15,13 @@ use dir_index::Held;
 use rpmb_card::RpmbPort;
 use serial_calls::{GuardedSlot, Session, StoreName, catch_up_entry};
 use tee_ports::{Entropy, StoreFile};
+
+/// Whether the slot's object is loaded, and no commit of it is in doubt.
+pub(crate) fn is_loaded<F: StoreFile + Drop, L: StoreName>(slot: &GuardedSlot<F, L>) -> bool
+    ensures { result ≡ true → IsLive slot.now.holds × (slot.now.doubt ≡ None) }
+{
+    slot.slot.is_live() && slot.slot.doubt_place().is_none()
+}
 
 /// Shows the slot of an entry's file the whole history, so that it stands at the entry. False where the slot is another file's, which
 /// stays as it is. What the slot gave before it gives still.

@@ -5,3 +5,4 @@ pub use Rattle.shared_calls.proofs.KeptSlots
 pub use Rattle.shared_calls.proofs.Rises
 pub use Rattle.shared_calls.proofs.SameMaps
 pub use Rattle.shared_calls.proofs.Tellings
+pub use Rattle.shared_calls.proofs.QuotaCallers

@@ -9,3 +9,6 @@ pub use Rattle.shared_calls.specs.Rising
 pub use Rattle.shared_calls.specs.Attempts
 pub use Rattle.shared_calls.specs.SharedCounts
 pub use Rattle.shared_calls.specs.SlotValues
+pub use Rattle.shared_calls.specs.ForeseenCalls
+pub use Rattle.shared_calls.specs.QuotaCallers
+pub use Rattle.shared_calls.specs.Stores

@@ -6,5 +6,8 @@
 
 mod store;
 
-pub use shared_calls::{DevicesName, GuardedSlot, PlacedReply, Session, SharedGate, SharedSlot};
+pub use shared_calls::{
+    DevicesName, GuardedGate, GuardedSlot, PlacedReply, QuotaOutcome, Session, SharedGate,
+    SharedSlot, StoreName, forecast,
+};
 pub use store::SharedStore;

@@ -11,7 +11,7 @@ ghost use Rattle.shared_calls.specs.Attempts.{EndsCall, EndsAttempt};
 use rpmb_card::RpmbPort;
 use shared_calls::{
     DevicesName, PlacedReply, Session, SharedGate, SharedSlot, StoreName, Validation, attempt,
-    file_of, spin_then_lock,
+    attempt_at_once, file_of, spin_then_lock,
 };
 use std::alloc::Global;
 use std::sync::{Mutex, MutexGuard, Wait};
@@ -28,6 +28,28 @@ pub struct SharedStore<F: StoreFile + Drop, R: RpmbPort + Drop, L: StoreName + D
     ghost keyed: { storage_key ≡ ssk L.store.keys.huk L.store.keys.chip },
     ghost few: { length L.store.mounted.applications ≤ 16 },
     ghost many: { vec_len slots ≡ last_file },
+}
+
+// The handle by which a call tells of its object without changing it.
+fn told_handle(call: &Call) -> Option<u32> {
+    match call {
+        Call::Read { handle, .. } | Call::Info { handle } => Some(*handle),
+        _ => None,
+    }
+}
+
+// The file in which the session found the object of such a call before.
+fn hinted_file<E: Entropy>(session: &Session<E>, call: &Call) -> Option<u16> {
+    session.hint(told_handle(call)?)
+}
+
+// Notes the file of such a call's object.
+fn note_file<E: Entropy>(session: &mut Session<E>, call: &Call, file: u16)
+    ensures { session.new ≡ session.old }
+{
+    if let Some(handle) = told_handle(call) {
+        session.note_file(handle, file);
+    }
 }
 
 impl<F: StoreFile + Drop, R: RpmbPort + Drop, L: StoreName + DevicesName> SharedStore<F, R, L> {
@@ -80,12 +102,17 @@ impl<F: StoreFile + Drop, R: RpmbPort + Drop, L: StoreName + DevicesName> Shared
         }
         drop(gate);
         let slot = lock.lock(rt);
-        (spin_then_lock(rt, &self.gate), slot)
+        (self.gate(rt), slot)
     }
 
-    // Validates the call at the gate, and makes an attempt with the lock of the slot that the call needs, if it needs one. Where that lock is free, the first validation
-    // of the attempt is made before the gate's is given back. None where the call has to begin again.
-    fn try_once<W: Wait, E: Entropy>(
+    /// Takes the gate's lock.
+    pub fn gate<'a, W: Wait>(&'a self, rt: &W) -> MutexGuard<'a, SharedGate<F, R, L>> {
+        spin_then_lock(rt, &self.gate)
+    }
+
+    // Makes an attempt in one look at the gate, with the lock of the slot in which the session found the call's object before. None where that is
+    // not known, where another thread has the lock, and where the call has to go the long way.
+    fn try_at_once<W: Wait, E: Entropy>(
         &self,
         rt: &W,
         alloc: Global,
@@ -99,13 +126,39 @@ impl<F: StoreFile + Drop, R: RpmbPort + Drop, L: StoreName + DevicesName> Shared
         ensures still { E.is_reliable session.old.entropy → E.faults session.new.entropy ≡ E.faults session.old.entropy }
         ensures drawn { IfOk result (λ found. IfSome found (λ answer. CarriesDraws (E.faults session.old.entropy) (E.faults session.new.entropy) answer.reply)) }
     {
+        let Some(lock) = hinted_file(session, call).and_then(|file| self.slot_of(file)) else {
+            return Ok(None);
+        };
+        let Some(mut slot) = lock.try_lock() else {
+            return Ok(None);
+        };
+        attempt_at_once(rt, alloc, &self.gate, &mut slot.slot, session, call)
+    }
+
+    // Validates the call at the gate, and makes an attempt with the lock of the slot that the call needs, if it needs one. Where that lock is free, the first validation
+    // of the attempt is made before the gate's is given back. None where the call has to begin again.
+    fn try_once<'a, W: Wait, E: Entropy>(
+        &'a self,
+        rt: &W,
+        alloc: Global,
+        mut gate: MutexGuard<'a, SharedGate<F, R, L>>,
+        session: &mut Session<E>,
+        call: &Call,
+    ) -> Result<Option<PlacedReply>, NoMemory>
+        requires caller { IsCallerOf L.store session.old }
+        ensures ends { EndsAttempt L.store session.old session.new call.now result }
+        ensures counted { Grows (E.faults session.old.entropy) (E.faults session.new.entropy) }
+        ensures reliable { E.is_reliable session.old.entropy → E.is_reliable session.new.entropy }
+        ensures still { E.is_reliable session.old.entropy → E.faults session.new.entropy ≡ E.faults session.old.entropy }
+        ensures drawn { IfOk result (λ found. IfSome found (λ answer. CarriesDraws (E.faults session.old.entropy) (E.faults session.new.entropy) answer.reply)) }
+    {
         let key = &self.storage_key;
-        let mut gate = spin_then_lock(rt, &self.gate);
         let file = match file_of(alloc, &mut gate, session, call)? {
             Validation::Answered(answer) => return Ok(Some(answer)),
             Validation::Found(file) => file,
             Validation::Retry => return Ok(None),
         };
+        note_file(session, call, file);
         let Some(lock) = self.slot_of(file) else {
             return Ok(None);
         };
@@ -143,10 +196,38 @@ impl<F: StoreFile + Drop, R: RpmbPort + Drop, L: StoreName + DevicesName> Shared
         ensures still { E.is_reliable session.old.entropy → E.faults session.new.entropy ≡ E.faults session.old.entropy }
         ensures drawn { IfOk result (λ answer. CarriesDraws (E.faults session.old.entropy) (E.faults session.new.entropy) answer.reply) }
     {
+        if let Some(answer) = self.try_at_once(rt, alloc, session, call)? {
+            return Ok(answer);
+        }
+        self.call_from(rt, alloc, self.gate(rt), session, call)
+    }
+
+    /// Serves a call as `call` does, of a caller who has the gate's lock already: the call looks at the gate with it first, and gives it back.
+    ///
+    /// # Errors
+    ///
+    /// Memory ran out. The session has no event more.
+    pub fn call_from<'a, W: Wait, E: Entropy>(
+        &'a self,
+        rt: &W,
+        alloc: Global,
+        gate: MutexGuard<'a, SharedGate<F, R, L>>,
+        session: &mut Session<E>,
+        call: &Call,
+    ) -> Result<PlacedReply, NoMemory>
+        requires caller { IsCallerOf L.store session.old }
+        ensures ends { EndsCall L.store session.old session.new call.now result }
+        ensures counted { Grows (E.faults session.old.entropy) (E.faults session.new.entropy) }
+        ensures reliable { E.is_reliable session.old.entropy → E.is_reliable session.new.entropy }
+        ensures still { E.is_reliable session.old.entropy → E.faults session.new.entropy ≡ E.faults session.old.entropy }
+        ensures drawn { IfOk result (λ answer. CarriesDraws (E.faults session.old.entropy) (E.faults session.new.entropy) answer.reply) }
+    {
+        let mut gate = gate;
         for _ in rt.forever() {
-            if let Some(answer) = self.try_once(rt, alloc, session, call)? {
+            if let Some(answer) = self.try_once(rt, alloc, gate, session, call)? {
                 return Ok(answer);
             }
+            gate = self.gate(rt);
         }
         unreachable!()
     }

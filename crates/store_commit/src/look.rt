@@ -1,10 +1,12 @@
 //! Entries of a gate's directory, by name and by index.
 
-ghost use Rattle.std.specs.Prelude.{◌≡◌, length};
+ghost use Rattle.std.specs.Prelude.{◌≡◌, ◌≤◌, ◌*◌, ◌^◌, length};
 ghost use Rattle.dir_index.specs.Index.{named};
 ghost use Rattle.dir_index.specs.EntryNames.{IsEntryNamed, IsFirstFree, IsNextAbove};
+ghost use Rattle.app_totals.specs.EntryTotals.{entry_totals};
 
 use crate::gate::{Gate, entry_of};
+use app_totals::{Totals, entry_totals};
 use dir_index::Held;
 use dir_records::DirEntry;
 use rpmb_card::RpmbPort;
@@ -47,5 +49,14 @@ impl<F: StoreFile + Drop, R: RpmbPort + Drop> Gate<F, R> {
         ensures { IsFirstFree self.now.dir.dir.entries result }
     {
         first_free(self.dir.entries())
+    }
+
+    /// How many objects the application has, and how many bytes of data, by the committed entries.
+    pub fn totals(&self, app: AppId) -> Totals
+        ensures told { result ≡ entry_totals app self.now.dir.dir.entries }
+        ensures objects_fit { result.objects ≤ 256 }
+        ensures bytes_fit { result.bytes ≤ 256 * 2 ^ 32 }
+    {
+        entry_totals(app, self.dir.entries())
     }
 }

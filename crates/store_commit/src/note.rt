@@ -70,6 +70,8 @@ impl<F: StoreFile + Drop, R: RpmbPort + Drop> Gate<F, R> {
         ensures room { OnOk result ((1 ≤ self.new.room) × (1 ≤ self.new.open_handles.spare)) }
         ensures handles { self.new.open_handles.records ≡ self.old.open_handles.records }
         ensures same { self.new ≡ record self.old { open_handles = self.new.open_handles; room = self.new.room } }
+        // There is no less room than before.
+        ensures grows { (self.old.room ≤ self.new.room) × (self.old.open_handles.spare ≤ self.new.open_handles.spare) }
     {
         reserve_name(&mut self.index, &self.doubt)?;
         self.handles.reserve()

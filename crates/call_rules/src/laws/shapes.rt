@@ -3,7 +3,7 @@
 ghost use Rattle.call_rules.specs.ChangeLaws.{ChangesKeepShape};
 ghost use Rattle.call_rules.specs.LookLaws.{ApplicationsAreListed, FreePlacesAreRoom, NamedEntriesAreObjects, NextEntriesAreNextObjects};
 ghost use Rattle.call_rules.specs.MappedLaws.{LandedEntriesHaveShape, MappedEntriesHaveShape};
-ghost use Rattle.call_rules.specs.ShapeLaws.{HeldNamesAreListed, ObjectsAreEntries, ObjectsFitEntries};
+ghost use Rattle.call_rules.specs.ShapeLaws.{HeldNamesAreListed, ObjectsAreEntries, ObjectsFitEntries, TotalsAreOfEntries};
 
 /// A map that is in step with the history has the names and the sizes of the directory's entries.
 pub fn mapped_entries_have_shape()
@@ -28,6 +28,11 @@ pub fn objects_are_entries()
 /// There are at most as many objects as places of entries.
 pub fn objects_fit_entries()
     ensures { ObjectsFitEntries }
+{}
+
+/// An application has as many objects, and as many bytes of data, as the entries tell.
+pub fn totals_are_of_entries()
+    ensures { TotalsAreOfEntries }
 {}
 
 /// A name that is held is that of an entry.

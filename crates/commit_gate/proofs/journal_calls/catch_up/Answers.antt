@@ -28,6 +28,7 @@ returns-clause-begins g c = record {
   seat = c.lend_pass-pass.result;
   is = c.lend_pass-pass.ensures.pass;
   fits = (c.refresh-slot.ensures.agreed.pass c.lend_pass-pass.result.knows refl).0;
+  within = c.refresh-slot.ensures.agreed.gate.decided_within;
 }
 
 pub returns-clause-whole : goal.returns-clause-whole

@@ -29,6 +29,7 @@ returns-clause-begins g c = record {
   seat = c.into_pass-pass.result;
   is = c.into_pass-pass.ensures;
   fits = (c.retire_pass.ensures.agreed.pass c.into_pass-pass.result.knows refl).0;
+  within = c.retire_pass.ensures.agreed.gate.decided_within;
 }
 
 pub returns-clause-made : goal.returns-clause-made

@@ -14,5 +14,5 @@ fetch_add-requires g c =
       omega (arith, c.table.invariant.0),
       moves (landing_appended g.N.RecordName.entry) (λ n. (n + 1) % 2 ^ 64) _ seat.id seat.me joined (ap (λ m. m.0) c.requires.gate)
           (subst (λ (r : HistoryRecord). Keeps (landing_appended r) (λ n. (n + 1) % 2 ^ 64) seat.id joined) (sym c.requires.name)
-          (landing_keeps c.args.commit seat.id joined c.requires.room c.requires.alone.0 c.requires.alone.1 c.requires.doubt)),
+          (landing_keeps c.args.commit seat.id joined c.requires.room c.requires.alone.0 c.requires.alone.1 c.requires.alone.2 c.requires.doubt)),
     )

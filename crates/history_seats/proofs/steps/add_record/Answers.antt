@@ -13,5 +13,5 @@ fetch_add-requires g c =
       c.requires.table ∙ sym c.table.view_is,
       omega (arith, c.table.invariant.0),
       moves (appended entry) (λ n. (n + 1) % 2 ^ 64) _ seat.id seat.me joined (ap (λ m. m.0) c.requires.gate)
-          (append_keeps entry seat.id joined c.requires.room c.requires.tag c.requires.event c.requires.fitting),
+          (append_keeps entry seat.id joined c.requires.room c.requires.whole c.requires.tag c.requires.event c.requires.fitting),
     )

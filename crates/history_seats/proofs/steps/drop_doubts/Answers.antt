@@ -11,5 +11,5 @@ load-requires c =
     let joined = gate_of seat.me.0 in (
       c.requires.table ∙ sym c.table.view_is,
       omega (arith, c.table.invariant.0),
-      moves doubts_dropped (λ n. n) _ seat.id seat.me joined (ap (λ m. m.0) c.requires.gate) (drop_keeps seat.id joined c.requires.alone.0 c.requires.alone.1),
+      moves doubts_dropped (λ n. n) _ seat.id seat.me joined (ap (λ m. m.0) c.requires.gate) (drop_keeps seat.id joined c.requires.alone.0 c.requires.alone.1 c.requires.alone.2),
     )

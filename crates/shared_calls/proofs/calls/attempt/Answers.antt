@@ -3,6 +3,7 @@ use Rattle.std.proofs.Common.{subst, sym}
 use Rattle.tee_types.specs.declared.call.Call.{Call}
 use Rattle.serial_calls.proofs.CountGrowth.{grows_le}
 use Rattle.shared_calls.specs.Attempts.{EndsAttempt}
+use Rattle.shared_calls.proofs.Waiting.{waits-same}
 use Rattle.shared_calls.proofs.calls.attempt.Goals as goal
 
 pub returns-in-Open-clause-counted : goal.returns-in-Open-clause-counted
@@ -36,3 +37,6 @@ returns-in-Info-clause-ends g c =
 pub returns-in-Info-clause-counted : goal.returns-in-Info-clause-counted
 returns-in-Info-clause-counted g c =
     grows_le (g.E.Entropy.faults c.args.session.now.entropy) (g.E.Entropy.faults c.attempt-in-Info.new.session.entropy) c.attempt-in-Info.ensures.counted
+
+pub returns-in_default-clause-ends : goal.returns-in_default-clause-ends
+returns-in_default-clause-ends g c = waits-same g.L.StoreName.store c.args.session.now c.requires.caller

@@ -6,11 +6,17 @@ use Rattle.serial_calls.specs.GuardedGates.{GuardedGateValue}
 use Rattle.serial_calls.specs.GateServed.{IsLeft, ServesAlone}
 use Rattle.serial_calls.specs.declared.PlacedReply.{PlacedReply}
 use Rattle.shared_calls.proofs.KeptCalls.{keeps-alone, keeps-left, keeps-reserved, keeps-unserved}
+use Rattle.shared_calls.proofs.Waiting.{starves, waits-same}
 use Rattle.shared_calls.proofs.gate_entry.begin.Goals as goal
 
 pub invariant_of-gate : goal.invariant_of-gate
 invariant_of-gate g c =
     keeps-reserved g.F.StoreFile.state g.R.RpmbPort.state g.L.StoreName.store g.L.DevicesName.devices c.gate.inside.gate c.reserve.new.self c.reserve.ensures.gate c.reserve.ensures.knows c.gate.invariant
+
+pub returns-in_err-reserve-clause-ends : goal.returns-in_err-reserve-clause-ends
+returns-in_err-reserve-clause-ends g c =
+    starves g.L.StoreName.store c.args.session.now c.args.session.now c.args.call.now c.from_residual.result c.from_residual.ensures.0
+    (waits-same g.L.StoreName.store c.args.session.now c.requires.caller)
 
 pub invariant_of-gate-in_err-answer : goal.invariant_of-gate-in_err-answer
 invariant_of-gate-in_err-answer g c =

@@ -1,7 +1,7 @@
 use Rattle.std.proofs.Common.{◌≡◌}
 use Rattle.shared_calls.specs.Devices.{Grows}
 use Rattle.shared_calls.specs.Attempts.{IsWaiting}
-use Rattle.shared_store.proofs.store.SharedStore.call.Given as goal
+use Rattle.shared_store.proofs.store.SharedStore.call_from.Given as goal
 
 abbrev pub invariant-loop : goal.invariant-loop
 invariant-loop g l = record {

@@ -3,7 +3,7 @@ use Rattle.std.proofs.Common.{refl, ap, subst}
 use Rattle.tee_types.specs.declared.call.Call.{Call}
 use Rattle.store_model.specs.Files.{is_misuse}
 use Rattle.call_steps.specs.GateServed.{IsServed, Misused}
-use Rattle.call_steps.proofs.gate_answers.answer_early.Goals as goal
+use Rattle.call_steps.proofs.gate_answers.answer_first.Goals as goal
 
 pub returns-in-Some-clause-serves : goal.returns-in-Some-clause-serves
 returns-in-Some-clause-serves g c = record {

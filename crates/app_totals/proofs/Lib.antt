@@ -1,0 +1,9 @@
+pub mod Names
+pub mod OwnHandles
+pub mod ReplayedHandles
+pub mod Listings
+pub mod MeantReplies
+pub mod MeantCreates
+pub mod MeantTotals
+pub mod Weights
+pub mod LeftTotals

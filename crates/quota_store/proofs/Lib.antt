@@ -1,0 +1,11 @@
+pub mod QuietForecasts
+pub mod LimitedCalls
+pub mod LockedCalls
+pub mod AppCalls
+pub mod TurnedLists
+pub mod KeptHalves
+pub mod KeptSeats
+pub mod ShownHalves
+pub mod AppSessions
+pub mod CutSessions
+pub mod QuotaHistories
