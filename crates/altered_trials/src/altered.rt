@@ -3,11 +3,10 @@
 use crate::table::{altered_head_line, altered_line};
 use anyhow::Context;
 use node_image::{FORMAT, block_offset, head_offset, node_offset};
-use script_runner::blank_bench;
 use std::alloc::{AllocError, Global};
 use std::sync::Wait;
 use std::thread::Threads;
-use trial_runs::{reliable, try_script};
+use trial_runs::{blank_bench, reliable, try_script};
 
 /// The files that are altered, each with how many blocks it has: the directory's, those of two objects, and the one that a create takes.
 const FILES: [(&str, u32); 4] = [("dir", 8), ("1", 3), ("2", 2), ("3", 2)];

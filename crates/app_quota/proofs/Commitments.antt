@@ -1,14 +1,13 @@
 -- Applications that are told once each, and what quotas commit the store to.
-use Rattle.std.proofs.Common.{◌≡◌, ◌+◌, ◌-◌, ◌<◌, ℕ, zero, suc, Bool, true, false, true≢false, cond, max, ◌||◌, List, [], ◌∷◌, ◌++◌, length, fold, refl, sym, ap, ◌∙◌, subst, slice_index_or, arith}
+use Rattle.std.proofs.Common.{◌≡◌, ◌+◌, ◌-◌, ◌<◌, ℕ, zero, suc, Bool, true, false, true≢false, cond, max, ◌||◌, List, [], ◌∷◌, ◌++◌, length, fold, refl, sym, ap, ◌∙◌, slice_index_or, arith}
 use Rattle.std.proofs.lemmas.List.Sums.{sum_by-cons}
 use Rattle.std.specs.Prelude.{sum_by}
-use Rattle.std.specs.List.{list_any}
 use Rattle.std.specs.Ordering.{is_eq}
 use Rattle.tee_types.specs.Identifier.{bytes_cmp}
 use Rattle.store_model.specs.Object.{ObjectMap}
 use Rattle.app_totals.specs.Totals.{objects_of}
 use Rattle.app_totals.proofs.Names.{itself, same_bytes}
-use Rattle.app_quota.specs.Commitments.{AreDistinctApps, claim_of, committed_objects, distinct_apps, is_among, others_of, unclaimed_of, with_app}
+use Rattle.app_quota.specs.Commitments.{AreDistinctApps, claim_of, is_among, unclaimed_of, with_app}
 use Rattle.app_quota.specs.Limits.{Limits}
 use Rattle.app_quota.specs.Laws.{CommitmentsAreSums, DistinctAppsAreApart}
 use Rattle.app_quota.proofs.AppCounts.{count_split}

@@ -1,8 +1,7 @@
 -- No event raises a number of an application above its limit, where each call was within.
-use Rattle.std.proofs.Common.{◌≡◌, ◌<◌, ℕ, Bool, true, false, cond, ◌&&◌, ◌||◌, List, [], ◌∷◌, length, map, refl, sym, ap, ◌∙◌, subst, inl, inr, Option, Some, None, true≢false, arith}
+use Rattle.std.proofs.Common.{◌≡◌, ◌<◌, ℕ, Bool, true, false, cond, ◌&&◌, ◌||◌, List, [], ◌∷◌, length, refl, sym, ap, ◌∙◌, subst, inl, inr, Option, Some, None, true≢false, arith}
 use Rattle.std.specs.Prelude.{nat_lt}
 use Rattle.std.proofs.lemmas.Bool.Decides.{nat_tests}
-use Rattle.std.specs.List.{AllByRecursion}
 use Rattle.tee_types.specs.declared.call.Call.{Call}
 use Rattle.tee_types.specs.declared.reply.Reply.{Reply}
 use Rattle.store_model.specs.declared.event.Event.{Event}
@@ -10,7 +9,7 @@ use Rattle.store_model.specs.declared.event.Event.TheVariants.{Call as CallEvent
 use Rattle.store_model.specs.declared.event.Mark.{Mark}
 use Rattle.store_model.specs.declared.event.Mark.TheVariants.{Unchanged, Made, Doubtful}
 use Rattle.store_model.specs.Object.{ObjectMap}
-use Rattle.store_model.specs.Machine.{MachineState, new_session, session_at}
+use Rattle.store_model.specs.Machine.{MachineState, session_at}
 use Rattle.store_model.specs.Calls.{reply_of, state_after, is_commit}
 use Rattle.store_model.specs.Record.{Record, file_of}
 use Rattle.store_model.specs.Doubt.{Doubt}
@@ -21,7 +20,7 @@ use Rattle.store_model.proofs.QuietCalls.{unchanged_maps_stay}
 use Rattle.app_totals.specs.declared.numbers.Totals.{Totals}
 use Rattle.app_totals.specs.Totals.{data_bytes, totals_of}
 use Rattle.app_totals.specs.Meant.{held_by, left_by, raises}
-use Rattle.app_totals.specs.OwnHandles.{HasOwnHandles, HaveOwnHandles}
+use Rattle.app_totals.specs.OwnHandles.{HaveOwnHandles}
 use Rattle.app_totals.proofs.Names.{same_bytes}
 use Rattle.app_totals.proofs.OwnHandles.{calls_keep_own_handles, landings_keep_own_handles}
 use Rattle.app_totals.proofs.ReplayedHandles.{new_own}

@@ -1,34 +1,30 @@
 -- The calls of one session within their limits.
-use Rattle.std.proofs.Common.{◌≡◌, ◌==◌, ◌<◌, ℕ, Bool, true, false, cond, List, [], ◌∷◌, ◌++◌, length, refl, sym, ap, ◌∙◌, subst, inl, inr, Option, Some, None, true≢false, arith}
+use Rattle.std.proofs.Common.{◌≡◌, ◌==◌, ℕ, Bool, true, false, cond, List, [], ◌∷◌, length, refl, sym, ap, ◌∙◌, inl, inr, Option, Some, None, true≢false, arith}
 use Rattle.std.proofs.lemmas.Bool.Decides.{nat_tests}
-use Rattle.std.specs.List.Sorted.{IsStrictlySortedBy}
-use Rattle.std.specs.Map.{keys_of}
 use Rattle.tee_types.specs.declared.call.Call.{Call}
 use Rattle.tee_types.specs.declared.reply.Reply.{Reply}
 use Rattle.tee_types.specs.declared.reply.Reply.TheVariants.{Misuse, NotAvailable}
 use Rattle.store_model.specs.declared.event.Event.{Event}
 use Rattle.store_model.specs.declared.event.Event.TheVariants.{Call as CallEvent, Landed}
 use Rattle.store_model.specs.declared.event.Mark.TheVariants.{Unchanged}
-use Rattle.store_model.specs.Name.{name_cmp}
-use Rattle.store_model.specs.Machine.{MachineState, Session, session_at, new_session}
+use Rattle.store_model.specs.Machine.{MachineState, session_at}
 use Rattle.store_model.specs.Calls.{reply_of}
 use Rattle.store_model.specs.Files.{is_misuse}
 use Rattle.store_model.specs.Refusal.{is_of_device, is_refusal}
 use Rattle.store_model.specs.History.{count_of, numbers_of}
 use Rattle.store_model.specs.Record.{Record, events_of, file_of}
-use Rattle.store_model.specs.ReplayState.{ReplayState, replay, replay_after}
-use Rattle.store_model.specs.Legal.{IsLegalAnswer, IsLegalEvent, meant_by}
+use Rattle.store_model.specs.ReplayState.{ReplayState, replay_after}
+use Rattle.store_model.specs.Legal.{IsLegalAnswer}
 use Rattle.store_model.specs.Legal.IsLegalAnswer.{Answered, Unavailable, Doubted, FoundCorrupt, Spent}
 use Rattle.store_model.proofs.Refusals.{replies_name_no_device}
-use Rattle.app_totals.specs.declared.numbers.Totals.{Totals}
-use Rattle.app_totals.specs.Meant.{grown, held_by, left_by, may_grow, meant_reply, raises}
-use Rattle.app_totals.specs.OwnHandles.{HasOwnHandles, HaveOwnHandles}
+use Rattle.app_totals.specs.Meant.{grown, held_by, left_by, meant_reply, raises}
+use Rattle.app_totals.specs.OwnHandles.{HasOwnHandles}
 use Rattle.app_totals.proofs.OwnHandles.{any_session_has}
 use Rattle.app_totals.proofs.LeftTotals.{quiet-none}
 use Rattle.app_totals.proofs.MeantTotals.{misuses_are_meant, refusals_raise_nothing}
 use Rattle.app_quota.specs.Parts.{part_of}
 use Rattle.app_quota.specs.Limits.{Limits, is_beyond, is_early}
-use Rattle.app_quota.specs.Isolation.{AreOwnWithin, AreWithin, IsOwnWithin, IsWithin}
+use Rattle.app_quota.specs.Isolation.{AreOwnWithin, IsOwnWithin, IsWithin}
 use Rattle.app_quota.specs.Laws.{OtherCallsAreWithin, OwnCallsJoin, PartsTellBeyond, QuietSessionsAreWithin, SessionsWithinAreWithin, UndoneCallsAreWithin}
 use Rattle.app_quota.proofs.MeantParts.{same_beyond}
 use Rattle.app_quota.proofs.Raises.{exceeds-none}

@@ -1,5 +1,5 @@
 -- A history leaves each application's handles on objects of its own, legal or not.
-use Rattle.std.proofs.Common.{◌≡◌, ℕ, true, false, List, [], ◌∷◌, map, refl, ◌∙◌, Option, Some, None}
+use Rattle.std.proofs.Common.{ℕ, true, false, List, [], ◌∷◌, map, refl, ◌∙◌, Option, Some, None}
 use Rattle.std.specs.List.{AllByRecursion}
 use Rattle.tee_types.specs.declared.call.Call.{Call}
 use Rattle.tee_types.specs.declared.reply.Reply.{Reply}
@@ -9,9 +9,9 @@ use Rattle.store_model.specs.declared.event.Mark.{Mark}
 use Rattle.store_model.specs.declared.event.Mark.TheVariants.{Unchanged, Made, Doubtful}
 use Rattle.store_model.specs.Machine.{MachineState, new_session}
 use Rattle.store_model.specs.Calls.{state_after}
-use Rattle.store_model.specs.Record.{Record, file_of}
+use Rattle.store_model.specs.Record.{file_of}
 use Rattle.store_model.specs.Doubt.{Doubt}
-use Rattle.store_model.specs.ReplayState.{ReplayState, is_undone, state_unless_undone, replay_after, replay_after_call, replay_landed, replay}
+use Rattle.store_model.specs.ReplayState.{ReplayState, is_undone, state_unless_undone, replay_after, replay_after_call, replay_landed}
 use Rattle.app_totals.specs.OwnHandles.{HasOwnHandles, HaveOwnHandles, KeepsOwnHandles}
 use Rattle.app_totals.specs.Laws.{ReplaysKeepOwnHandles}
 use Rattle.app_totals.proofs.OwnHandles.{calls_keep_own_handles, landings_keep_own_handles}

@@ -1,5 +1,5 @@
 -- What a create leaves its application.
-use Rattle.std.proofs.Common.{◌≡◌, ◌∙◌, ◌+◌, ◌<◌, ◌≤◌, ◌||◌, ℕ, Bool, true, false, List, [], ◌∷◌, length, cond, Option, Some, None, is_some, refl, sym, ap, subst, lt-ltb, le-ltb}
+use Rattle.std.proofs.Common.{◌≡◌, ◌∙◌, ◌<◌, ◌≤◌, ◌||◌, ℕ, Bool, true, false, List, [], ◌∷◌, length, cond, Option, Some, None, refl, ap, lt-ltb, le-ltb}
 use Rattle.std.specs.Prelude.{nat_lt}
 use Rattle.std.specs.List.{list_any}
 use Rattle.tee_types.specs.Limits.{most_data_bytes}
@@ -10,7 +10,7 @@ use Rattle.tee_types.specs.declared.reply.Reply.{Reply}
 use Rattle.tee_types.specs.declared.reply.Reply.TheVariants.{Refused}
 use Rattle.tee_types.specs.declared.reply.Code.TheVariants.{NoSpace}
 use Rattle.store_model.specs.declared.name.ObjectName.{ObjectName}
-use Rattle.store_model.specs.Object.{Object, Sound, object_at, size_of, holds, with_object}
+use Rattle.store_model.specs.Object.{Object, Sound, holds, with_object}
 use Rattle.store_model.specs.Machine.{Session, MachineState, session_at, name_in, first_refusal}
 use Rattle.store_model.specs.Handles.{has_open}
 use Rattle.store_model.specs.Refusal.{is_refusal}
@@ -30,7 +30,7 @@ use Rattle.app_totals.proofs.LeftTotals.{raised-with, raised-held}
 use Rattle.core_laws.specs.DirectoryLaws.{AreEntries}
 use Rattle.call_rules.specs.Growth.{placed_totals}
 use Rattle.call_rules.specs.Matches.{Matches}
-use Rattle.call_rules.proofs.Creating.{early, room_row, found_in, early_in_room, late_in_room}
+use Rattle.call_rules.proofs.Creating.{early, found_in, early_in_room, late_in_room}
 use Rattle.call_rules.proofs.Growths.{held-entries}
 use Rattle.call_rules.proofs.Lookups.{entry_object, held_is}
 

@@ -1,5 +1,5 @@
 -- What a call on the data of an object leaves its application.
-use Rattle.std.proofs.Common.{◌≡◌, ◌∙◌, ◌+◌, ◌-◌, ◌≤◌, ℕ, Bool, true, false, List, [], ◌∷◌, length, max, cond, Option, Some, None, refl, sym, ap, subst, arith}
+use Rattle.std.proofs.Common.{◌≡◌, ◌∙◌, ◌+◌, ◌-◌, ◌≤◌, ℕ, Bool, true, false, List, [], ◌∷◌, length, max, cond, Option, Some, None, refl, sym, ap, arith}
 use Rattle.std.specs.Prelude.{nat_lt}
 use Rattle.std.specs.List.{list_any}
 use Rattle.std.specs.Ordering.{is_eq}
@@ -33,7 +33,7 @@ use Rattle.app_totals.proofs.LeftTotals.{raised-changed, over-sound, unmoved-non
 use Rattle.core_laws.specs.EntryLists.{AreDistinct}
 use Rattle.call_rules.specs.Growth.{allowed_totals}
 use Rattle.call_rules.specs.Matches.{Matches}
-use Rattle.call_rules.specs.Objects.{HasObject, IsOfObject}
+use Rattle.call_rules.specs.Objects.{IsOfObject}
 use Rattle.call_rules.specs.Told.{IsTold, told}
 use Rattle.call_rules.proofs.SoundMatches.{IsGood, all_good}
 use Rattle.call_rules.proofs.WeighedShapes.{totals_entries}

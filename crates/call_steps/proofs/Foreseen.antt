@@ -1,20 +1,17 @@
 -- What is told of a call that is forecast.
-use Rattle.std.proofs.Common.{◌≡◌, ◌≤◌, ℕ, Option, Some, None, Result, Ok, Err, IsErr, length, sym, subst}
+use Rattle.std.proofs.Common.{◌≡◌, ℕ, Option, None, Result, Ok, Err, IsErr, subst}
 use Rattle.disk_model.specs.State.{FileState}
 use Rattle.rpmb_card.specs.Port.{PortState}
 use Rattle.tee_types.specs.declared.call.Call.{Call}
 use Rattle.app_totals.specs.declared.numbers.Forecast.{Forecast}
-use Rattle.history_seats.specs.Settling.{IsOpenDoubt}
 use Rattle.core_laws.specs.Stores.{Store}
 use Rattle.core_laws.specs.Ties.{IsTied}
 use Rattle.commit_gate.specs.CallerSessions.{CallerSession}
-use Rattle.commit_gate.specs.Forecasts.{IsForecastAt}
-use Rattle.commit_gate.specs.Gates.{GateValue}
 use Rattle.commit_gate.specs.GuardedGates.{GateInvariant, GuardedGateValue, change_in_doubt}
 use Rattle.commit_gate.specs.declared.Doubted.{Doubted}
 use Rattle.commit_gate.specs.declared.placed_reply.PlacedReply.{PlacedReply}
-use Rattle.call_steps.specs.Foreseen.{AreRisingAt, Forecasts, HasNoOpenDoubt, IsEarly}
-use Rattle.call_steps.specs.GateServed.{IsLeft, ServesAlone}
+use Rattle.call_steps.specs.Foreseen.{AreRisingAt, Forecasts, HasNoOpenDoubt}
+use Rattle.call_steps.specs.GateServed.{ServesAlone}
 
 -- the names of the machine's objects rise
 pub names-rise : {F R : Type 0} (store : Store) (v : GuardedGateValue F R) → GateInvariant store v.gate v.journal.knows v.closing → AreRisingAt store v.journal.knows.all

@@ -1,5 +1,5 @@
 -- Views of a session that go on.
-use Rattle.std.proofs.Common.{◌≡◌, ◌+◌, ℕ, List, [], ◌++◌, Some, refl, sym, ap, ◌∙◌, append-nil, append_assoc, arith}
+use Rattle.std.proofs.Common.{◌≡◌, ◌+◌, ℕ, List, [], ◌++◌, refl, sym, ap, ◌∙◌, append-nil, append_assoc, arith}
 use Rattle.store_model.specs.History.{count_of}
 use Rattle.store_model.specs.Record.{events_of}
 use Rattle.history_seats.specs.Records.{HistoryRecord}
@@ -8,7 +8,7 @@ use Rattle.history_seats.proofs.Numbering.{count-append}
 use Rattle.core_laws.specs.Stores.{Store}
 use Rattle.commit_gate.specs.CallerSessions.{CallerSession, IsCallerOf}
 use Rattle.commit_gate.proofs.SessionShowing.{some_same}
-use Rattle.call_steps.specs.Seen.{Continues, GoesOn}
+use Rattle.call_steps.specs.Seen.{GoesOn}
 
 module _ {E : Type 0} (store : Store) where
   -- a session whose entropy may have drawn

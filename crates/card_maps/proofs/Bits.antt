@@ -1,15 +1,15 @@
 -- The map block of some entries says which they are, and has its form.
-use Rattle.std.proofs.Common.{◌≡◌, ℕ, zero, suc, ◌+◌, ◌-◌, ◌*◌, ◌/◌, ◌%◌, ◌^◌, ◌<◌, ◌≤◌, ◌==◌, ◌&&◌, ◌||◌, Bool, true, false, cond, ltb, List, [], ◌∷◌, ◌++◌, length, map, get_or, Option, Some, None, refl, sym, ap, ◌∙◌, subst, inl, inr, true≢false, arith}
+use Rattle.std.proofs.Common.{◌≡◌, ℕ, zero, suc, ◌+◌, ◌-◌, ◌*◌, ◌/◌, ◌%◌, ◌^◌, ◌<◌, ◌≤◌, ◌==◌, ◌&&◌, ◌||◌, Bool, true, false, cond, ltb, List, length, map, get_or, None, refl, sym, ap, ◌∙◌, inl, inr, arith}
 use Rattle.std.specs.Prelude.{nat_lt, replicate}
 use Rattle.std.specs.List.{range_with_len}
 use Rattle.std.proofs.lemmas.Bool.{and_parts, cases_Bool, cases_lt, cond-true, cond-false, eq-eqb, eqb-true, lt-ltb, ltb-true, or_left, or_right}
 use Rattle.std.proofs.Math.Seq.{get_or-append_right}
 use Rattle.std.proofs.lemmas.List.{ext_get_or, get_or_append_left, get_or-replicate, length-append, length-replicate}
 use Rattle.std.proofs.lemmas.List.FromFn.{get_or-map-range_with_len, length-map-range_with_len}
-use Rattle.card_maps.specs.Form.{byte_at, first_wrong, is_live, map_fault}
+use Rattle.card_maps.specs.Form.{byte_at, is_live, map_fault}
 use Rattle.card_maps.specs.CardMaps.{Live}
 use Rattle.card_maps.specs.Puts.{bit, live_byte, map_block}
-use Rattle.card_maps.proofs.Ranges.{differ, false_or, none_wrong, wrong_none}
+use Rattle.card_maps.proofs.Ranges.{differ, none_wrong, wrong_none}
 
 one_bit : (x : Bool) → (bit x == 1) ≡ x
 one_bit true = refl

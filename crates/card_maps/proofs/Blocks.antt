@@ -1,10 +1,10 @@
 -- Block 0 stays.
-use Rattle.std.proofs.Common.{◌≡◌, ◌≢◌, ◌⊎◌, ℕ, zero, suc, ◌==◌, Bool, true, false, cond, List, [], ◌∷◌, length, refl, sym, ap, ◌∙◌}
+use Rattle.std.proofs.Common.{◌≡◌, ◌≢◌, ◌⊎◌, ℕ, zero, suc, ◌==◌, Bool, true, false, cond, List, [], ◌∷◌, refl, ap, ◌∙◌}
 use Rattle.std.specs.Prelude.{slice_index_or, slice_set}
 use Rattle.rpmb_card.specs.Card.{CardState}
 use Rattle.rpmb_card.specs.Protocol.{done_result}
-use Rattle.rpmb_host.specs.Honest.{write_end, written_card}
-use Rattle.card_maps.specs.Steps.{CardRuns, HasMap, HasPut, HasRemoved, IsCardRun, IsCardWrite, RunsKeepBlockZero}
+use Rattle.rpmb_host.specs.Honest.{write_end}
+use Rattle.card_maps.specs.Steps.{HasMap, HasPut, HasRemoved, IsCardRun, IsCardWrite, RunsKeepBlockZero}
 
 first_stays : (blocks : List (List ℕ)) (address : ℕ) (block : List ℕ) → address ≢ 0 → slice_index_or (slice_set blocks address block) 0 [] ≡ slice_index_or blocks 0 []
 first_stays [] zero block ne = absurd (ne refl)

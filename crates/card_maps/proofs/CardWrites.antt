@@ -1,15 +1,15 @@
 -- What a write of the host does to the blocks of a card, and so to its map.
-use Rattle.std.proofs.Common.{◌≡◌, ◌≢◌, ◌⊎◌, inl, inr, ℕ, ◌<◌, ◌≤◌, ◌==◌, Bool, true, false, cond, List, [], length, Result, Ok, refl, sym, ap, ◌∙◌, subst, arith}
+use Rattle.std.proofs.Common.{◌≡◌, inl, inr, ℕ, ◌<◌, ◌==◌, Bool, true, false, cond, List, [], length, sym, ap, ◌∙◌, arith}
 use Rattle.std.specs.Prelude.{slice_index_or, slice_set}
 use Rattle.std.proofs.lemmas.Bool.{cases_Bool, cond-true, cond-false, eq-eqb, eqb-true}
 use Rattle.std.proofs.lemmas.List.{get_or-set_same, get_or-set_other}
-use Rattle.rpmb_card.specs.Card.{CardState, IsCard}
+use Rattle.rpmb_card.specs.Card.{CardState}
 use Rattle.rpmb_card.specs.Protocol.{done_result}
 use Rattle.rpmb_host.specs.Honest.{write_end, written_card}
-use Rattle.card_maps.specs.CardMaps.{BadCard, Blocks, CardMap, blocks_of, card_map, map_of_blocks}
-use Rattle.card_maps.specs.Puts.{IsFree, live_after, live_without, map_block, with_block}
+use Rattle.card_maps.specs.CardMaps.{blocks_of, map_of_blocks}
+use Rattle.card_maps.specs.Puts.{live_after, live_without, map_block, with_block}
 use Rattle.card_maps.specs.CardWrites.{FreeCardWritesKeepMaps, MapCardWritesClear, MapCardWritesFlip, live_in}
-use Rattle.card_maps.proofs.Ranges.{differ, not_same}
+use Rattle.card_maps.proofs.Ranges.{not_same}
 use Rattle.card_maps.proofs.Writes.{free_keeps}
 use Rattle.card_maps.proofs.Flips.{clears, flips}
 

@@ -1,20 +1,17 @@
 -- The blocks that are not used are those that the map leaves free.
-use Rattle.std.proofs.Common.{◌≡◌, ◌≢◌, ◌⊎◌, inl, inr, ℕ, zero, suc, ◌+◌, ◌-◌, ◌*◌, ◌<◌, ◌≤◌, ◌==◌, ◌&&◌, ◌||◌, Bool, true, false, cond, List, [], ◌∷◌, ◌++◌, length, map, take, get_or, refl, sym, ap, ◌∙◌, subst, true≢false, length-append, arith}
+use Rattle.std.proofs.Common.{◌≡◌, ◌≢◌, inl, inr, ℕ, zero, suc, ◌+◌, ◌-◌, ◌*◌, ◌<◌, ◌≤◌, ◌==◌, ◌&&◌, ◌||◌, Bool, true, false, cond, List, [], ◌∷◌, ◌++◌, length, map, get_or, refl, sym, ap, ◌∙◌, true≢false, length-append, arith}
 use Rattle.std.specs.Prelude.{nat_lt}
 use Rattle.std.specs.List.{list_any, range_with_len}
-use Rattle.std.proofs.lemmas.Bool.{and_from, and_parts, cases_Bool, cases_lt, cond-true, cond-false, eq-eqb, eqb-true, ltb-true, or_left, or_right}
-use Rattle.std.proofs.lemmas.List.{length-take-le}
-use Rattle.std.proofs.Math.Seq.{get_or-append_right}
-use Rattle.std.proofs.lemmas.List.{get_or_append_left}
-use Rattle.card_maps.specs.Form.{data_blocks, number_at, numbers_in, size_in}
-use Rattle.card_maps.specs.CardMaps.{Blocks, CardMap, CardObject, Live, blocks_needed, blocks_taken, has_number, joined, object_in, objects_from}
+use Rattle.std.proofs.lemmas.Bool.{and_from, and_parts, cases_Bool, cases_lt, eq-eqb, eqb-true, ltb-true, or_left, or_right}
+use Rattle.card_maps.specs.Form.{data_blocks, number_at, size_in}
+use Rattle.card_maps.specs.CardMaps.{Blocks, Live, has_number, joined}
 use Rattle.card_maps.specs.Puts.{bit}
 use Rattle.card_maps.specs.Tables.{is_used, unused_below, uses}
-use Rattle.card_maps.proofs.Ranges.{differ, false_or}
+use Rattle.card_maps.proofs.Ranges.{differ}
 use Rattle.card_maps.proofs.Entries.{AreEntries}
 use Rattle.card_maps.proofs.Lists.{any_map}
 use Rattle.card_maps.proofs.Steps.{any_more, unused_next}
-use Rattle.card_maps.proofs.Users.{IsUser, any_some, bool_ext, number_of, number_up, one_user, some_any, used_user, user_up, user_used}
+use Rattle.card_maps.proofs.Users.{IsUser, any_some, bool_ext, number_of, one_user, some_any, used_user, user_up, user_used}
 
 -- how many numbers below n pass a test
 abbrev pub count : (ℕ → Bool) → ℕ → ℕ

@@ -1,8 +1,8 @@
 -- Calls in a row are those of a finite map.
-use Rattle.std.proofs.Common.{◌≡◌, ◌⊎◌, inl, inr, ℕ, Bool, true, false, List, [], ◌∷◌, ◌++◌, Option, Some, None, refl, sym, ap, ◌∙◌, subst}
+use Rattle.std.proofs.Common.{◌≡◌, inl, inr, ℕ, Bool, true, false, List, [], ◌∷◌, Some, None, refl, ap, subst}
 use Rattle.store_model.specs.declared.name.ObjectName.{ObjectName}
 use Rattle.card_maps.specs.CardMaps.{CardMap, bytes_at}
-use Rattle.card_maps.specs.Course.{Answers, AreReplies, CardCall, CardEvent, CardReply, CardSide, CoursesAreOfAMap, CoursesGoOn, Done, Failed, Found, Get, IsBegun, IsCourse, IsRead, ListNames, Listed, NotFound, Objects, Put, Remove, Says, Spent, Starved, TooLarge, Full, objects_after}
+use Rattle.card_maps.specs.Course.{Answers, AreReplies, CardCall, CardReply, CardSide, CoursesAreOfAMap, CoursesGoOn, Done, Failed, Found, Get, IsBegun, ListNames, Listed, NotFound, Objects, Put, Remove, Says, Spent, Starved, TooLarge, Full, objects_after}
 
 pub course_goes_on : CoursesGoOn
 course_goes_on a b [] event is answers = (subst (λ (s : CardSide). Answers s event.counter event.call event.reply event.left) is answers, refl)

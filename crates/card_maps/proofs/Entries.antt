@@ -1,13 +1,12 @@
 -- What it is that no entry is outside the form.
-use Rattle.std.proofs.Common.{◌≡◌, ◌≢◌, ◌⊎◌, inl, inr, ℕ, zero, suc, ◌+◌, ◌-◌, ◌<◌, ◌≤◌, ◌==◌, ◌&&◌, ◌||◌, not, Bool, true, false, cond, leb, List, [], ◌∷◌, map, Option, Some, None, Result, Ok, Err, refl, sym, ap, ◌∙◌, subst, true≢false, arith}
+use Rattle.std.proofs.Common.{◌≡◌, ◌≢◌, inl, inr, ℕ, zero, suc, ◌+◌, ◌-◌, ◌<◌, ◌≤◌, ◌==◌, ◌&&◌, not, Bool, true, false, cond, map, Option, Some, None, Ok, refl, sym, ap, ◌∙◌, subst, true≢false, arith}
 use Rattle.std.specs.Prelude.{nat_le}
 use Rattle.std.specs.List.{list_any, range_with_len}
-use Rattle.std.proofs.lemmas.Bool.{false≢true, and_from, and_left, and_parts, cases_Bool, cases_lt, cond-true, cond-false}
-use Rattle.store_model.specs.declared.name.ObjectName.{ObjectName}
+use Rattle.std.proofs.lemmas.Bool.{and_from, and_left, and_parts, cases_Bool, cases_lt, cond-true, cond-false}
 use Rattle.store_model.specs.Name.{name_eq}
-use Rattle.card_maps.specs.Form.{data_blocks, first_wrong, front_fault, is_live, map_fault, name_in, number_at, numbers_in, or_next, rest_fault, size_in}
-use Rattle.card_maps.specs.CardMaps.{BadCard, Blocks, CardMap, Live, any_before, bad_at, bytes_at, entry_fault, first_bad, has_number, is_good_number, is_repeated, map_of_blocks, map_or, numbers_fault, objects_of}
-use Rattle.card_maps.proofs.Ranges.{any_none, differ, false_or, next_none, none_any, none_next, none_wrong, not_false, not_same, turned, wrong_none}
+use Rattle.card_maps.specs.Form.{data_blocks, front_fault, is_live, map_fault, name_in, number_at, or_next, rest_fault, size_in}
+use Rattle.card_maps.specs.CardMaps.{BadCard, Blocks, CardMap, Live, any_before, bad_at, entry_fault, first_bad, has_number, is_good_number, is_repeated, map_of_blocks, map_or, numbers_fault, objects_of}
+use Rattle.card_maps.proofs.Ranges.{any_none, next_none, none_any, none_next, none_wrong, not_false, turned, wrong_none}
 
 -- number i of entry b
 pub record IsGood (blocks : Blocks) (live : Live) (b i : ℕ) : Type 0 where

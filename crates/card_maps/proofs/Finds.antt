@@ -1,5 +1,5 @@
 -- The entry of a name, found in the table of a card.
-use Rattle.std.proofs.Common.{◌≡◌, ◌≢◌, ◌⊎◌, inl, inr, ℕ, ◌+◌, ◌<◌, ◌≤◌, ◌==◌, Bool, true, false, cond, List, length, get_or, Option, Some, None, Result, Ok, refl, sym, ap, ◌∙◌, subst, true≢false, arith}
+use Rattle.std.proofs.Common.{◌≡◌, ◌≢◌, inl, inr, ℕ, ◌<◌, ◌≤◌, ◌==◌, Bool, true, false, cond, List, length, get_or, Option, Some, None, refl, sym, ap, ◌∙◌, true≢false, arith}
 use Rattle.std.specs.Prelude.{nat_lt, position}
 use Rattle.std.specs.List.{position_or_len}
 use Rattle.std.proofs.lemmas.Bool.{cases_Bool, cases_lt, cond-true, cond-false, eq-eqb, eqb-true, lt-ltb}
@@ -8,14 +8,14 @@ use Rattle.std.proofs.lemmas.List.Sums.{fails_before_first}
 use Rattle.store_model.specs.declared.name.ObjectName.{ObjectName}
 use Rattle.store_model.specs.Name.{name_eq}
 use Rattle.rpmb_card.specs.Card.{CardState}
-use Rattle.card_maps.specs.Form.{is_live, name_in}
+use Rattle.card_maps.specs.Form.{name_in}
 use Rattle.card_maps.specs.CardMaps.{CardMap, blocks_of}
 use Rattle.card_maps.specs.CardWrites.{live_in}
 use Rattle.card_maps.specs.TableStates.{TableState}
 use Rattle.card_maps.specs.Tables.{IsTableOf, entry_at, has_name, is_at}
-use Rattle.card_maps.proofs.Bits.{first_dead, live_low, second_dead}
+use Rattle.card_maps.proofs.Bits.{first_dead, second_dead}
 use Rattle.card_maps.proofs.Entries.{HoldMap, map_holds}
-use Rattle.card_maps.proofs.Ranges.{differ, false_or, later, name_turned, same_name, self_name}
+use Rattle.card_maps.proofs.Ranges.{later, name_turned, same_name}
 
 -- where none passes a test
 pub position_none : {X : Type 0} (p : X → Bool) (xs : List X) (d : X) → position p xs ≡ None → (k : ℕ) → k < length xs → p (get_or xs k d) ≡ false

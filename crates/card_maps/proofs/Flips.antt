@@ -1,16 +1,16 @@
 -- The write of the map block makes the map the one after a put, or after a removal.
-use Rattle.std.proofs.Common.{◌≡◌, ◌≢◌, ◌⊎◌, inl, inr, ℕ, zero, suc, ◌+◌, ◌-◌, ◌<◌, ◌≤◌, ◌==◌, ◌&&◌, ◌||◌, not, Bool, true, false, cond, List, [], ◌∷◌, Option, Some, None, Result, Ok, refl, sym, ap, ◌∙◌, subst, true≢false, arith}
+use Rattle.std.proofs.Common.{◌≡◌, ◌≢◌, ◌⊎◌, inl, inr, ℕ, zero, suc, ◌+◌, ◌-◌, ◌<◌, ◌≤◌, ◌==◌, ◌&&◌, ◌||◌, not, Bool, true, false, cond, List, ◌∷◌, Option, Some, None, Ok, refl, sym, ap, ◌∙◌, subst, true≢false, arith}
 use Rattle.std.specs.Prelude.{nat_le}
-use Rattle.std.proofs.lemmas.Bool.{false≢true, and_from, and_left, and_parts, cases_Bool, cases_lt, cond-true, cond-false, eq-eqb, eqb-true, le-leb, leb-true, or_from, or_left, or_right}
+use Rattle.std.proofs.lemmas.Bool.{and_from, and_left, and_parts, cases_Bool, cases_lt, cond-true, cond-false, eq-eqb, eqb-true, le-leb, leb-true, or_from, or_left, or_right}
 use Rattle.store_model.specs.declared.name.ObjectName.{ObjectName}
 use Rattle.store_model.specs.Name.{name_eq}
 use Rattle.card_maps.specs.Form.{data_blocks, front_fault, is_live, map_fault, name_in, number_at, rest_fault, size_in}
 use Rattle.card_maps.specs.CardMaps.{Blocks, CardMap, CardObject, Live, bytes_at, has_number, map_of_blocks, objects_from, objects_of, object_in}
-use Rattle.card_maps.specs.Puts.{IsFree, IsReady, MapWritesFlip, MapWritesClear, live_after, live_without, map_block, with_block}
+use Rattle.card_maps.specs.Puts.{IsReady, MapWritesFlip, MapWritesClear, live_after, live_without, map_block, with_block}
 use Rattle.card_maps.proofs.Ranges.{differ, false_or, later, name_turned, not_false, not_same, same_name, self_name, true_or, turned}
 use Rattle.card_maps.proofs.Bits.{first_dead, live_low, map_formed, map_says, second_dead}
 use Rattle.card_maps.proofs.Entries.{AreEntries, HoldMap, IsEntry, IsGood, holds_map, map_holds}
-use Rattle.card_maps.proofs.Lists.{moved_entry, no_number, number_none, objects_alike, same_object, written_off}
+use Rattle.card_maps.proofs.Lists.{moved_entry, no_number, number_none, same_object, written_off}
 
 -- ENTRIES UNDER ANOTHER SET
 -- `other` has the same blocks from 2 on; under `next` those of `live` are entries that are not old, and perhaps entry b.

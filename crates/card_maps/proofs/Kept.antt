@@ -1,14 +1,14 @@
 -- A table stays that of a card while its entries and their blocks do.
-use Rattle.std.proofs.Common.{◌≡◌, ℕ, zero, suc, ◌+◌, ◌<◌, ◌≤◌, ◌&&◌, ◌||◌, Bool, true, false, cond, List, [], ◌∷◌, Option, Some, None, Result, Ok, refl, sym, ap, ◌∙◌, subst, inl, inr, arith}
+use Rattle.std.proofs.Common.{◌≡◌, ℕ, ◌&&◌, ◌||◌, Bool, true, false, cond, List, [], ◌∷◌, Some, None, Ok, refl, sym, ap, ◌∙◌, inl, inr, arith}
 use Rattle.std.specs.Prelude.{nat_lt}
 use Rattle.std.specs.List.{list_any, range_with_len}
 use Rattle.std.proofs.lemmas.Bool.{cases_Bool, cond-false}
 use Rattle.rpmb_card.specs.Card.{CardState}
 use Rattle.card_maps.specs.Form.{data_blocks, number_at, size_in}
-use Rattle.card_maps.specs.CardMaps.{Blocks, CardMap, Live, blocks_of, card_map, has_number}
+use Rattle.card_maps.specs.CardMaps.{CardMap, blocks_of, card_map, has_number}
 use Rattle.card_maps.specs.CardWrites.{live_in}
 use Rattle.card_maps.specs.TableStates.{TableState}
-use Rattle.card_maps.specs.Tables.{IsTableOf, is_used}
+use Rattle.card_maps.specs.Tables.{IsTableOf}
 
 any_alike : (p q : ℕ → Bool) (xs : List ℕ) → ((c : ℕ) → p c ≡ q c) → list_any p xs ≡ list_any q xs
 any_alike p q [] same = refl

@@ -1,14 +1,13 @@
 -- Entries and objects under another map block, or beside another block.
-use Rattle.std.proofs.Common.{◌≡◌, ◌≢◌, ◌⊎◌, inl, inr, ℕ, zero, suc, ◌+◌, ◌-◌, ◌<◌, ◌≤◌, ◌==◌, ◌&&◌, ◌||◌, not, Bool, true, false, cond, leb, List, [], ◌∷◌, map, take, Option, Some, None, Result, Ok, Err, refl, sym, ap, ◌∙◌, subst, true≢false, arith}
+use Rattle.std.proofs.Common.{◌≡◌, ◌≢◌, ℕ, zero, suc, ◌+◌, ◌-◌, ◌<◌, ◌≤◌, ◌==◌, ◌||◌, Bool, true, false, cond, List, [], ◌∷◌, map, take, refl, sym, ap, ◌∙◌, subst, arith}
 use Rattle.std.specs.Prelude.{nat_le}
 use Rattle.std.specs.List.{list_any, range_with_len}
-use Rattle.std.proofs.lemmas.Bool.{false≢true, and_from, and_left, and_parts, cases_Bool, cases_lt, cond-true, cond-false, eq-eqb, or_left, or_right}
-use Rattle.store_model.specs.declared.name.ObjectName.{ObjectName}
+use Rattle.std.proofs.lemmas.Bool.{cond-true, cond-false, eq-eqb, or_left, or_right}
 use Rattle.store_model.specs.Name.{name_eq}
-use Rattle.card_maps.specs.Form.{data_blocks, front_fault, is_live, name_in, number_at, numbers_in, rest_fault, size_in}
-use Rattle.card_maps.specs.CardMaps.{Blocks, CardMap, CardObject, Live, bytes_at, has_number, joined, object_in, objects_from}
+use Rattle.card_maps.specs.Form.{data_blocks, front_fault, name_in, number_at, numbers_in, rest_fault, size_in}
+use Rattle.card_maps.specs.CardMaps.{Blocks, Live, has_number, joined, object_in, objects_from}
 use Rattle.card_maps.specs.Puts.{with_block}
-use Rattle.card_maps.proofs.Ranges.{any_none, differ, false_or, later, none_any, self_name}
+use Rattle.card_maps.proofs.Ranges.{any_none, differ, none_any}
 use Rattle.card_maps.proofs.Entries.{IsEntry, IsGood}
 
 pub written_off : (blocks : Blocks) (b c : ℕ) (bytes : List ℕ) → c ≢ b → with_block blocks b bytes c ≡ blocks c

@@ -1,18 +1,17 @@
 -- The table of a card, read entry by entry: it is the card's, or the first fault is that of the card.
-use Rattle.std.proofs.Common.{◌≡◌, ◌≢◌, ◌⊎◌, inl, inr, ℕ, zero, suc, ◌+◌, ◌-◌, ◌<◌, ◌≤◌, ◌==◌, ◌&&◌, ◌||◌, not, Bool, true, false, cond, List, [], ◌∷◌, length, get_or, Option, Some, None, Result, Ok, Err, refl, sym, ap, ◌∙◌, subst, true≢false, arith}
+use Rattle.std.proofs.Common.{◌≡◌, ◌≢◌, ◌⊎◌, inl, inr, ℕ, zero, suc, ◌+◌, ◌-◌, ◌<◌, ◌≤◌, ◌==◌, ◌&&◌, ◌||◌, not, Bool, true, false, cond, List, [], ◌∷◌, length, get_or, Option, Some, None, Err, refl, sym, ap, ◌∙◌, subst, true≢false, arith}
 use Rattle.std.specs.Prelude.{nat_le, nat_lt, slice_set}
 use Rattle.std.specs.List.{list_any, range_with_len}
 use Rattle.std.proofs.lemmas.Bool.{false≢true, and_from, and_parts, cases_Bool, cases_lt, cond-true, cond-false, eqb-true, le-leb, leb-true, lt-ltb, ltb-true}
 use Rattle.std.proofs.lemmas.List.{get_or-set_other, get_or-set_same, length-set}
-use Rattle.store_model.specs.declared.name.ObjectName.{ObjectName}
 use Rattle.store_model.specs.Name.{name_eq}
 use Rattle.rpmb_card.specs.Card.{CardState}
-use Rattle.card_maps.specs.Form.{data_blocks, first_wrong, front_fault, is_live, map_fault, name_in, number_at, or_next, rest_fault, size_in}
-use Rattle.card_maps.specs.CardMaps.{BadCard, Blocks, CardMap, Live, any_before, bad_at, blocks_of, card_map, entry_fault, first_bad, has_number, is_good_number, is_repeated, map_or, numbers_fault, objects_of}
+use Rattle.card_maps.specs.Form.{data_blocks, first_wrong, front_fault, map_fault, name_in, number_at, or_next, rest_fault, size_in}
+use Rattle.card_maps.specs.CardMaps.{BadCard, Blocks, Live, any_before, bad_at, blocks_of, card_map, entry_fault, first_bad, has_number, is_good_number, is_repeated, map_or, numbers_fault, objects_of}
 use Rattle.card_maps.specs.CardWrites.{live_in}
 use Rattle.card_maps.specs.Loading.{HasEntries, HasNone, IsAdded, IsRefused}
 use Rattle.card_maps.specs.TableStates.{TableState}
-use Rattle.card_maps.specs.Tables.{IsTableOf, entry_at, entry_fault_in, fresh_fault, has_name, is_fresh, is_used, is_used_at}
+use Rattle.card_maps.specs.Tables.{IsTableOf, entry_at, entry_fault_in, fresh_fault, has_name, is_fresh, is_used_at}
 use Rattle.card_maps.proofs.Bits.{first_dead, live_low, second_dead}
 use Rattle.card_maps.proofs.Ranges.{false_or, later, not_false, not_same, turned}
 use Rattle.card_maps.proofs.Steps.{any_more}

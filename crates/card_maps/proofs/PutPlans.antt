@@ -1,7 +1,7 @@
 -- What the writes of a put leave of a card, one after another.
-use Rattle.std.proofs.Common.{◌≡◌, ◌≢◌, ◌⊎◌, inl, inr, ℕ, zero, suc, ◌+◌, ◌-◌, ◌*◌, ◌/◌, ◌<◌, ◌≤◌, ◌==◌, ◌&&◌, ◌||◌, not, Bool, true, false, cond, List, [], ◌∷◌, ◌++◌, length, map, take, drop, get_or, Option, Some, None, Result, Ok, refl, sym, ap, ◌∙◌, subst, true≢false, arith}
+use Rattle.std.proofs.Common.{◌≡◌, ◌≢◌, ◌⊎◌, inl, inr, ℕ, suc, ◌+◌, ◌-◌, ◌*◌, ◌<◌, ◌≤◌, ◌==◌, ◌&&◌, ◌||◌, not, Bool, true, false, cond, List, [], ◌∷◌, ◌++◌, length, map, take, drop, get_or, Option, Some, None, refl, sym, ap, ◌∙◌, subst, true≢false, arith}
 use Rattle.std.specs.Prelude.{is_some, nat_lt, position, slice_set}
-use Rattle.std.proofs.lemmas.Bool.{and_from, and_left, and_parts, cases_Bool, cases_lt, cond-true, cond-false, eq-eqb, eqb-true, lt-ltb, ltb-true, or_left, or_right}
+use Rattle.std.proofs.lemmas.Bool.{and_from, and_parts, cases_Bool, cases_lt, cond-true, cond-false, eq-eqb, eqb-true, lt-ltb, ltb-true, or_left}
 use Rattle.std.proofs.lemmas.List.{drop-drop, get_or-set_other, get_or-set_same, get_or-take, length-set, length-take-le}
 use Rattle.store_model.specs.declared.name.ObjectName.{ObjectName}
 use Rattle.store_model.specs.Name.{name_eq}
@@ -11,24 +11,24 @@ use Rattle.rpmb_host.specs.Honest.{write_end, written_card}
 use Rattle.card_maps.specs.declared.change.TableChange.{TableChange}
 use Rattle.card_maps.specs.declared.change.TableChange.TheVariants.{Put}
 use Rattle.card_maps.specs.Form.{data_blocks, front_fault, is_live, name_in, number_at, numbers_in, rest_fault, size_in}
-use Rattle.card_maps.specs.CardMaps.{Blocks, CardMap, Live, blocks_of, bytes_at, card_map, joined, map_of_blocks, object_in}
+use Rattle.card_maps.specs.CardMaps.{Blocks, CardMap, blocks_of, bytes_at, joined, map_of_blocks, object_in}
 use Rattle.card_maps.specs.CardWrites.{live_in}
 use Rattle.card_maps.specs.Plans.{CardWrite, filled, write_of, written_upto}
 use Rattle.card_maps.specs.Puts.{IsFree, IsReady, entry_block, live_after, map_block, with_block}
 use Rattle.card_maps.specs.Steps.{HasMap, HasPut, PutRuns}
 use Rattle.card_maps.specs.TableStates.{TableState}
-use Rattle.card_maps.specs.Tables.{IsChangedTable, IsTableOf, entry_at, has_name, is_at, is_used, is_used_at, live_changed, live_of, unused, used_changed, used_without, uses, uses_at, without}
+use Rattle.card_maps.specs.Tables.{IsChangedTable, IsTableOf, has_name, is_at, live_changed, live_of, unused, uses, without}
 use Rattle.card_maps.proofs.Bits.{live_low, map_block_alike, map_says}
 use Rattle.card_maps.proofs.Changes.{gone_of, gone_old, left_of, old_gone, without_at, without_long, without_used}
 use Rattle.card_maps.proofs.CardWrites.{done_blocks}
 use Rattle.card_maps.proofs.Chosen.{IsChosen, chosen}
 use Rattle.card_maps.proofs.Chunks.{chunked, chunks}
 use Rattle.card_maps.proofs.Codec.{front_back, name_back, number_back, numbers_back, rest_back, size_back}
-use Rattle.card_maps.proofs.Finds.{entry_live, found_is, found_live, held, live_up}
+use Rattle.card_maps.proofs.Finds.{found_is, found_live, held, live_up}
 use Rattle.card_maps.proofs.Flips.{flips}
 use Rattle.card_maps.proofs.Kept.{kept_table}
 use Rattle.card_maps.proofs.Lists.{written_at, written_off}
-use Rattle.card_maps.proofs.Prefixes.{IsAfter, after, blocks_long, counter_up, runs_on, runs_upto, write_done}
+use Rattle.card_maps.proofs.Prefixes.{IsAfter, after, counter_up, runs_on, runs_upto, write_done}
 use Rattle.card_maps.proofs.Ranges.{differ, false_or, later, not_false, not_same, turned}
 use Rattle.card_maps.proofs.Users.{IsUser, unused_free, used_after}
 

@@ -1,13 +1,12 @@
 -- What the write of a removal leaves of a card.
-use Rattle.std.proofs.Common.{◌≡◌, ◌≢◌, ◌⊎◌, inl, inr, ℕ, zero, suc, ◌+◌, ◌<◌, ◌≤◌, ◌==◌, ◌&&◌, ◌||◌, not, Bool, true, false, cond, List, [], ◌∷◌, length, get_or, Option, Some, None, Result, Ok, refl, sym, ap, ◌∙◌, subst, true≢false, arith}
+use Rattle.std.proofs.Common.{◌≡◌, ◌≢◌, ◌⊎◌, inl, inr, ℕ, ◌+◌, ◌<◌, ◌≤◌, ◌&&◌, ◌||◌, not, Bool, true, false, cond, List, [], length, get_or, Option, Some, None, refl, sym, ap, ◌∙◌, true≢false, arith}
 use Rattle.std.specs.Prelude.{is_some, position}
-use Rattle.std.proofs.lemmas.Bool.{and_from, and_parts, cases_Bool, cond-true, cond-false, eq-eqb}
+use Rattle.std.proofs.lemmas.Bool.{and_from, and_parts, cases_Bool, cond-false, eq-eqb}
 use Rattle.store_model.specs.declared.name.ObjectName.{ObjectName}
 use Rattle.store_model.specs.Name.{name_eq}
 use Rattle.rpmb_card.specs.Card.{CardState}
 use Rattle.rpmb_card.specs.Protocol.{done_result}
 use Rattle.rpmb_host.specs.Honest.{write_end, written_card}
-use Rattle.card_maps.specs.declared.change.TableChange.{TableChange}
 use Rattle.card_maps.specs.declared.change.TableChange.TheVariants.{Remove}
 use Rattle.card_maps.specs.Form.{data_blocks, is_live, name_in, number_at, size_in}
 use Rattle.card_maps.specs.CardMaps.{Blocks, CardMap, blocks_of, map_of_blocks}
@@ -15,14 +14,14 @@ use Rattle.card_maps.specs.CardWrites.{live_in}
 use Rattle.card_maps.specs.Puts.{live_without, map_block, with_block}
 use Rattle.card_maps.specs.Steps.{HasMap, HasRemoved, RemoveRuns}
 use Rattle.card_maps.specs.TableStates.{TableState}
-use Rattle.card_maps.specs.Tables.{IsChangedTable, IsTableOf, has_name, is_at, is_used, live_changed, live_of, uses, without}
+use Rattle.card_maps.specs.Tables.{IsChangedTable, IsTableOf, has_name, is_at, is_used, live_changed, live_of, uses}
 use Rattle.card_maps.proofs.Bits.{live_low, map_block_alike, map_says}
 use Rattle.card_maps.proofs.CardWrites.{done_blocks}
 use Rattle.card_maps.proofs.Changes.{gone_of, gone_old, left_of, old_gone, without_at, without_long, without_used}
 use Rattle.card_maps.proofs.Finds.{found_is, found_live, held, live_up}
 use Rattle.card_maps.proofs.Flips.{clears}
 use Rattle.card_maps.proofs.Lists.{written_at, written_off}
-use Rattle.card_maps.proofs.Prefixes.{blocks_long, counter_up, runs_on, write_done}
+use Rattle.card_maps.proofs.Prefixes.{counter_up, runs_on, write_done}
 use Rattle.card_maps.proofs.Ranges.{not_false, turned}
 use Rattle.card_maps.proofs.Users.{IsUser, used_after}
 

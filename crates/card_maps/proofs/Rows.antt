@@ -1,10 +1,10 @@
 -- Rows, computed.
-use Rattle.std.specs.Prelude.{◌≡◌, ℕ, ◌==◌, ◌||◌, cond, Bool, false, List, [], ◌∷◌, length, replicate, Option, Some, None, Result, Ok, Err, refl}
+use Rattle.std.specs.Prelude.{◌≡◌, ℕ, ◌==◌, ◌||◌, cond, List, [], ◌∷◌, replicate, None, Ok, Err, refl}
 use Rattle.std.specs.List.{range_with_len}
 use Rattle.store_model.specs.declared.name.ObjectName.{ObjectName}
 use Rattle.card_maps.specs.Form.{first_wrong, is_live}
-use Rattle.card_maps.specs.CardMaps.{BadCard, Blocks, CardMap, CardObject, Live, blocks_free, blocks_needed, first_bad, map_of_blocks, objects_from}
-use Rattle.card_maps.specs.Puts.{entry_block, live_after, map_block, with_block}
+use Rattle.card_maps.specs.CardMaps.{Blocks, blocks_free, blocks_needed, first_bad, map_of_blocks, objects_from}
+use Rattle.card_maps.specs.Puts.{entry_block, map_block, with_block}
 
 named : ℕ → ObjectName
 named n = record { app = replicate 16 1; id = n ∷ [] }

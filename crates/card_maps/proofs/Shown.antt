@@ -1,24 +1,23 @@
 -- What a table tells of the map of its card: the names, the blocks that are left, and where an object is.
-use Rattle.std.proofs.Common.{◌≡◌, ◌≢◌, ◌⊎◌, inl, inr, ℕ, zero, suc, ◌+◌, ◌-◌, ◌*◌, ◌/◌, ◌<◌, ◌≤◌, ◌==◌, Bool, true, false, cond, List, [], ◌∷◌, ◌++◌, length, map, take, drop, get_or, Option, Some, None, Result, Ok, refl, sym, ap, ◌∙◌, subst, true≢false, length-append, arith}
+use Rattle.std.proofs.Common.{◌≡◌, ◌≢◌, inl, inr, ℕ, zero, suc, ◌+◌, ◌-◌, ◌*◌, ◌<◌, ◌≤◌, Bool, true, false, cond, List, [], ◌∷◌, length, map, take, drop, get_or, Option, Some, None, refl, sym, ap, ◌∙◌, arith}
 use Rattle.std.specs.Prelude.{position}
 use Rattle.std.specs.List.{range_with_len}
 use Rattle.std.proofs.Math.Seq.{drop-cons}
-use Rattle.std.proofs.lemmas.Bool.{cases_Bool, cases_lt, cond-true, cond-false, eq-eqb, eqb-true}
+use Rattle.std.proofs.lemmas.Bool.{cond-true, cond-false}
 use Rattle.std.proofs.lemmas.List.{length-take-le}
 use Rattle.std.proofs.lemmas.List.FromFn.{get_or-map-range_with_len, length-map-range_with_len}
 use Rattle.store_model.specs.declared.name.ObjectName.{ObjectName}
 use Rattle.store_model.specs.Name.{name_eq}
 use Rattle.rpmb_card.specs.Card.{CardState, IsCard}
-use Rattle.card_maps.specs.declared.name.CardName.{CardName}
 use Rattle.card_maps.specs.Form.{data_blocks, name_in, number_at, numbers_in, size_in}
-use Rattle.card_maps.specs.CardMaps.{Blocks, CardMap, CardObject, Live, blocks_free, blocks_of, blocks_taken, bytes_at, joined, object_in, objects_from, objects_of}
+use Rattle.card_maps.specs.CardMaps.{Blocks, CardMap, Live, blocks_free, blocks_of, blocks_taken, bytes_at, joined, object_in, objects_from}
 use Rattle.card_maps.specs.CardWrites.{live_in}
-use Rattle.card_maps.specs.Names.{name_of, names_of}
+use Rattle.card_maps.specs.Names.{names_of}
 use Rattle.card_maps.specs.TableStates.{TableState}
-use Rattle.card_maps.specs.Tables.{IsTableOf, entry_at, entry_name, has_name, is_at, is_used, names_in, unused, unused_below}
+use Rattle.card_maps.specs.Tables.{IsTableOf, entry_at, has_name, is_at, is_used, names_in, unused, unused_below}
 use Rattle.card_maps.proofs.Counting.{count, count_alike, joined_long, unused_count, used_weight, weight}
 use Rattle.card_maps.proofs.Finds.{entry_dead, entry_live, found_is, found_live, held, live_up}
-use Rattle.card_maps.proofs.Ranges.{differ, later, not_same}
+use Rattle.card_maps.proofs.Ranges.{differ, later}
 
 module _ (t : TableState) (card : CardState) (m : CardMap) (table : IsTableOf t card m) (sound : IsCard card) where
   abbrev B : Blocks

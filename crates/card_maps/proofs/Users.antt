@@ -1,14 +1,14 @@
 -- Which entries use a block.
-use Rattle.std.proofs.Common.{◌≡◌, ◌≢◌, ◌⊎◌, inl, inr, ℕ, zero, suc, ◌+◌, ◌-◌, ◌<◌, ◌≤◌, ◌==◌, ◌&&◌, ◌||◌, not, Bool, true, false, cond, List, [], ◌∷◌, map, refl, sym, ap, ◌∙◌, subst, true≢false, arith}
-use Rattle.std.specs.Prelude.{nat_le, nat_lt}
+use Rattle.std.proofs.Common.{◌≡◌, ◌≢◌, ◌⊎◌, inl, inr, ℕ, zero, suc, ◌+◌, ◌-◌, ◌<◌, ◌≤◌, ◌==◌, ◌&&◌, ◌||◌, not, Bool, true, false, List, refl, sym, ap, ◌∙◌, true≢false, arith}
+use Rattle.std.specs.Prelude.{nat_lt}
 use Rattle.std.specs.List.{list_any, range_with_len}
-use Rattle.std.proofs.lemmas.Bool.{false≢true, and_from, and_parts, cases_Bool, cases_lt, eq-eqb, eqb-true, leb-true, lt-ltb, ltb-true, or_from, or_left, or_parts, or_right}
-use Rattle.card_maps.specs.Form.{data_blocks, number_at, numbers_in, size_in}
+use Rattle.std.proofs.lemmas.Bool.{false≢true, and_from, and_parts, cases_Bool, cases_lt, eq-eqb, eqb-true, leb-true, lt-ltb, ltb-true, or_left, or_parts, or_right}
+use Rattle.card_maps.specs.Form.{data_blocks, number_at, size_in}
 use Rattle.card_maps.specs.CardMaps.{Blocks, Live, has_number}
 use Rattle.card_maps.specs.Puts.{IsFree}
 use Rattle.card_maps.specs.Tables.{is_used, uses}
-use Rattle.card_maps.proofs.Ranges.{false_or, later, none_any, not_false, not_same, true_or, turned}
-use Rattle.card_maps.proofs.Entries.{AreEntries, IsEntry}
+use Rattle.card_maps.proofs.Ranges.{false_or, later, none_any, not_false, true_or, turned}
+use Rattle.card_maps.proofs.Entries.{AreEntries}
 use Rattle.card_maps.proofs.Lists.{any_map}
 
 pub bool_ext : (a b : Bool) → (a ≡ true → b ≡ true) → (b ≡ true → a ≡ true) → a ≡ b

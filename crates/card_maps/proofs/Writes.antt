@@ -1,9 +1,8 @@
 -- A write of a free block leaves the map.
-use Rattle.std.proofs.Common.{◌≡◌, ◌≢◌, ℕ, ◌+◌, ◌<◌, ◌≤◌, ◌==◌, Bool, true, false, List, Option, Some, None, Result, Ok, refl, sym, ap, ◌∙◌, subst, true≢false, arith}
-use Rattle.store_model.specs.declared.name.ObjectName.{ObjectName}
+use Rattle.std.proofs.Common.{◌≡◌, ◌≢◌, ℕ, ◌+◌, ◌<◌, ◌≤◌, true, false, List, Ok, sym, ap, ◌∙◌, true≢false, arith}
 use Rattle.store_model.specs.Name.{name_eq}
-use Rattle.card_maps.specs.Form.{data_blocks, is_live, map_fault, name_in, number_at, size_in}
-use Rattle.card_maps.specs.CardMaps.{Blocks, CardMap, CardObject, Live, has_number, map_of_blocks, objects_of, object_in}
+use Rattle.card_maps.specs.Form.{is_live, map_fault, name_in, number_at}
+use Rattle.card_maps.specs.CardMaps.{Blocks, CardMap, Live, has_number, map_of_blocks, object_in}
 use Rattle.card_maps.specs.Puts.{FreeWritesKeepMaps, IsFree, with_block}
 use Rattle.card_maps.proofs.Entries.{HoldMap, IsEntry, holds_map, map_holds}
 use Rattle.card_maps.proofs.Lists.{moved_entry, objects_alike, same_object, written_off}

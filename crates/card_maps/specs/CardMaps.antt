@@ -1,10 +1,10 @@
 -- The map of objects that the blocks of a card hold, or the first byte outside the form.
-use Rattle.std.specs.Prelude.{◌≡◌, ℕ, zero, suc, ◌+◌, ◌-◌, ◌*◌, ◌/◌, ◌<◌, ◌≤◌, ◌==◌, ◌&&◌, ◌||◌, not, nat_le, nat_lt, cond, Bool, true, false, List, [], ◌∷◌, ◌++◌, length, map, take, get_or, slice_index_or, Option, Some, None, Result, Ok, Err}
+use Rattle.std.specs.Prelude.{ℕ, zero, suc, ◌+◌, ◌-◌, ◌==◌, ◌&&◌, not, nat_le, cond, Bool, List, [], ◌∷◌, ◌++◌, length, map, take, slice_index_or, Option, Some, None, Result, Ok, Err}
 use Rattle.std.specs.List.{list_any, range_with_len}
 use Rattle.store_model.specs.declared.name.ObjectName.{ObjectName}
 use Rattle.store_model.specs.Name.{name_eq}
 use Rattle.rpmb_card.specs.Card.{CardState}
-use Rattle.card_maps.specs.Form.{byte_at, data_blocks, first_wrong, front_fault, is_live, map_fault, name_in, number_at, numbers_in, or_next, rest_fault, size_in}
+use Rattle.card_maps.specs.Form.{data_blocks, first_wrong, front_fault, is_live, map_fault, name_in, number_at, numbers_in, or_next, rest_fault, size_in}
 
 -- where the first byte outside the form stands
 pub record BadCard : Type 0 where

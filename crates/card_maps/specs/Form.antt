@@ -1,11 +1,10 @@
 -- The form of the blocks of a card that hold objects: the map block, which says which blocks are live entries, and a live entry, which
 -- names an object and its data blocks.
-use Rattle.std.specs.Prelude.{◌≡◌, ℕ, zero, suc, ◌+◌, ◌-◌, ◌*◌, ◌/◌, ◌%◌, ◌^◌, ◌==◌, ◌&&◌, ◌||◌, not, nat_le, nat_lt, cond, Bool, List, [], ◌∷◌, ◌++◌, length, map, replicate, get_or, Option, Some, None}
-use Rattle.std.specs.Int.{w16, from_be_bytes, to_be_bytes}
-use Rattle.std.specs.List.{list_any, range_with_len}
+use Rattle.std.specs.Prelude.{ℕ, zero, suc, ◌+◌, ◌-◌, ◌/◌, ◌%◌, ◌^◌, ◌==◌, ◌&&◌, ◌||◌, nat_le, nat_lt, cond, Bool, List, length, map, get_or, Option, Some, None}
+use Rattle.std.specs.Int.{w16, from_be_bytes}
+use Rattle.std.specs.List.{range_with_len}
 use Rattle.byte_fields.specs.Field.{field}
 use Rattle.store_model.specs.declared.name.ObjectName.{ObjectName}
-use Rattle.store_model.specs.Name.{name_eq}
 
 -- the greatest object, and how many data blocks hold so many bytes
 abbrev pub most_card_bytes : ℕ

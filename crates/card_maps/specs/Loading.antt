@@ -1,5 +1,5 @@
 -- The table of a card, read entry by entry.
-use Rattle.std.specs.Prelude.{◌≡◌, ℕ, ◌+◌, ◌-◌, ◌<◌, ◌≤◌, ◌&&◌, ◌||◌, nat_lt, cond, true, List, length, slice_index_or, slice_set, Option, Some, None}
+use Rattle.std.specs.Prelude.{◌≡◌, ℕ, ◌-◌, ◌<◌, ◌≤◌, ◌&&◌, ◌||◌, nat_lt, cond, true, List, length, slice_index_or, slice_set, Some, None}
 use Rattle.std.specs.List.{list_any, range_with_len}
 use Rattle.card_maps.specs.Form.{data_blocks, number_at, size_in}
 use Rattle.card_maps.specs.CardMaps.{Blocks, Live, entry_fault, has_number}

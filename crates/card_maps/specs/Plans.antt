@@ -1,5 +1,5 @@
 -- The writes of a call of a card store, in their order.
-use Rattle.std.specs.Prelude.{◌≡◌, ℕ, zero, suc, ◌+◌, ◌-◌, ◌*◌, ◌<◌, ◌≤◌, ◌==◌, nat_lt, cond, List, ◌++◌, length, take, drop, position, replicate, slice_index_or}
+use Rattle.std.specs.Prelude.{◌≡◌, ℕ, zero, suc, ◌+◌, ◌-◌, ◌*◌, ◌≤◌, ◌==◌, nat_lt, cond, List, ◌++◌, length, take, drop, position, replicate, slice_index_or}
 use Rattle.store_model.specs.declared.name.ObjectName.{ObjectName}
 use Rattle.rpmb_card.specs.Card.{CardState}
 use Rattle.rpmb_host.specs.Honest.{written_card}

@@ -1,11 +1,11 @@
 -- What a put writes, and that the map of the card flips with the write of its map block alone.
-use Rattle.std.specs.Prelude.{◌≡◌, ◌≢◌, ◌⊎◌, ℕ, zero, suc, ◌+◌, ◌-◌, ◌*◌, ◌/◌, ◌%◌, ◌<◌, ◌≤◌, ◌==◌, ◌&&◌, ◌||◌, not, cond, Bool, true, false, List, [], ◌∷◌, ◌++◌, length, map, take, replicate, get_or, Option, Some, None, Result, Ok, Err}
+use Rattle.std.specs.Prelude.{◌≡◌, ◌≢◌, ℕ, ◌+◌, ◌-◌, ◌*◌, ◌<◌, ◌≤◌, ◌==◌, ◌&&◌, ◌||◌, not, cond, Bool, true, false, List, ◌∷◌, ◌++◌, length, map, replicate, Some, None, Ok}
 use Rattle.std.specs.Int.{w16, to_be_bytes}
-use Rattle.std.specs.List.{list_any, range_with_len}
+use Rattle.std.specs.List.{range_with_len}
 use Rattle.store_model.specs.declared.name.ObjectName.{ObjectName}
 use Rattle.store_model.specs.Name.{name_eq}
-use Rattle.card_maps.specs.Form.{data_blocks, front_fault, is_live, map_fault, name_in, number_at, numbers_in, rest_fault, size_in}
-use Rattle.card_maps.specs.CardMaps.{BadCard, Blocks, CardMap, Live, bytes_at, has_number, map_of_blocks, object_in}
+use Rattle.card_maps.specs.Form.{data_blocks, front_fault, is_live, name_in, number_at, rest_fault, size_in}
+use Rattle.card_maps.specs.CardMaps.{Blocks, CardMap, Live, bytes_at, has_number, map_of_blocks, object_in}
 
 -- the bits of eight blocks, the least first, as a byte
 abbrev pub bit : Bool → ℕ

@@ -1,10 +1,10 @@
 -- What a call of a card store does to the card: writes, one by one, and which map each of them leaves.
-use Rattle.std.specs.Prelude.{◌≡◌, ◌≢◌, ◌⊎◌, ℕ, ◌+◌, ◌<◌, ◌≤◌, cond, Bool, List, [], ◌∷◌, length, Option, Some, None, Result, Ok, Err, slice_index_or, IfSome}
+use Rattle.std.specs.Prelude.{◌≡◌, ◌≢◌, ◌⊎◌, ℕ, cond, List, [], ◌∷◌, Some, None, Ok, slice_index_or}
 use Rattle.store_model.specs.declared.name.ObjectName.{ObjectName}
 use Rattle.store_model.specs.Name.{name_eq}
 use Rattle.rpmb_card.specs.Card.{CardState}
 use Rattle.rpmb_host.specs.Honest.{written_card}
-use Rattle.card_maps.specs.CardMaps.{BadCard, Blocks, CardMap, blocks_free, blocks_needed, bytes_at, card_map}
+use Rattle.card_maps.specs.CardMaps.{CardMap, bytes_at, card_map}
 
 -- one authenticated write that the card took, of a block that is not block 0
 pub record IsCardWrite (old new : CardState) : Type 0 where

@@ -1,5 +1,5 @@
 -- A table of the live entries of a card: for each block that is one its bytes, and which blocks are used.
-use Rattle.std.specs.Prelude.{◌≡◌, ℕ, ◌+◌, ◌-◌, ◌<◌, ◌≤◌, ◌==◌, ◌&&◌, ◌||◌, not, nat_le, nat_lt, cond, Bool, true, false, List, [], ◌∷◌, length, filter, slice_index_or, slice_set, Option, Some, None, is_some, Result, Ok}
+use Rattle.std.specs.Prelude.{◌≡◌, ℕ, ◌-◌, ◌<◌, ◌==◌, ◌&&◌, ◌||◌, not, nat_le, nat_lt, cond, Bool, true, false, List, [], ◌∷◌, length, filter, slice_index_or, slice_set, Option, Some, None, is_some, Ok}
 use Rattle.std.specs.List.{list_any, range_with_len}
 use Rattle.store_model.specs.declared.name.ObjectName.{ObjectName}
 use Rattle.store_model.specs.Name.{name_eq}
@@ -10,7 +10,7 @@ use Rattle.card_maps.specs.declared.change.TableChange.TheVariants.{Put, Remove}
 use Rattle.card_maps.specs.TableStates.{TableState}
 use Rattle.card_maps.specs.Form.{data_blocks, first_wrong, front_fault, name_in, number_at, or_next, rest_fault, size_in}
 use Rattle.card_maps.specs.CardMaps.{Blocks, CardMap, Live, blocks_of, card_map, has_number}
-use Rattle.card_maps.specs.Puts.{live_after, live_without, map_block}
+use Rattle.card_maps.specs.Puts.{live_after, live_without}
 use Rattle.card_maps.specs.CardWrites.{live_in}
 
 abbrev pub entry_at : TableState → (b : ℕ) → Option (List ℕ)

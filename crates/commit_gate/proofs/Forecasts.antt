@@ -6,7 +6,6 @@ use Rattle.app_totals.specs.declared.numbers.Forecast.{Forecast}
 use Rattle.app_totals.specs.EntryTotals.{entry_totals}
 use Rattle.app_totals.specs.Meant.{IsForecastOf, grown, held_by}
 use Rattle.app_totals.specs.OwnHandles.{HasOwnHandles}
-use Rattle.app_totals.specs.Totals.{totals_of}
 use Rattle.app_totals.proofs.OwnHandles.{any_session_has}
 use Rattle.app_totals.proofs.ReplayedHandles.{new_own, replays_keep_own_handles}
 use Rattle.store_model.specs.Machine.{MachineState, Session, session_at}

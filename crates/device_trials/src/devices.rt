@@ -5,8 +5,8 @@ ghost use Rattle.tee_types.specs.Limits.{file_count};
 
 use crate::kept_port::KeptPort;
 use mem_files::MemFile;
-use script_runner::{Bench, blank_bench};
 use std::alloc::{AllocError, Global};
+use trial_runs::{Bench, blank_bench};
 
 /// Files in memory, and a card that keeps its frames.
 pub type KeptBench = Bench<MemFile, KeptPort>;

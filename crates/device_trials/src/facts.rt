@@ -12,12 +12,11 @@ use dir_records::DirEntry;
 use hmac_keys::{dir_tsk, ssk, tsk};
 use node_image::{FORMAT, RootRef};
 use rpmb_frame::Frame;
-use script_runner::{Bench, card_block, simulator_keys};
 use std::alloc::Global;
 use store_commit::{Gate, root_in};
 use tee_ports::FileRig;
 use tee_types::DIRECTORY_FILE;
-use trial_runs::reliable;
+use trial_runs::{Bench, card_block, reliable, simulator_keys};
 
 /// The requests that carry a nonce: a read of the counter, and of a block.
 const WITH_NONCE: [u16; 2] = [2, 4];

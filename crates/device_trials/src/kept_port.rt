@@ -2,9 +2,9 @@
 
 use rpmb_card::{CardRig, NoMemory, RpmbPort, WRITE_BLOCK};
 use rpmb_frame::Frame;
-use script_runner::CardPort;
 use std::alloc::Global;
 use tee_ports::Failed;
+use trial_runs::CardPort;
 
 /// A port to a simulated card that keeps each frame that it is given, while there is memory.
 #[derive(Drop)]
@@ -39,7 +39,7 @@ impl KeptPort {
 impl RpmbPort for KeptPort {
     ghost use Rattle.std.specs.Prelude.{box_value};
     ghost use Rattle.rpmb_card.specs.SimPort.{port_sound};
-    ghost use Rattle.script_runner.specs.Port.{card_port_state};
+    ghost use Rattle.trial_runs.specs.Port.{card_port_state};
 
     ghost state = { λ p. card_port_state p.port };
 

@@ -4,11 +4,10 @@ use crate::alterations::Case;
 use crate::exports::{Exported, MADE, export_made, fail_first, run_form};
 use anyhow::Context;
 use mem_files::MemFile;
-use script_runner::{FileFault, FilePlace, Status, status_number};
 use std::alloc::{AllocError, Global};
 use std::sync::Wait;
 use std::thread::Threads;
-use trial_runs::reliable;
+use trial_runs::{FileFault, FilePlace, Status, reliable, status_number};
 
 /// What an audit of an exported folder says once a file of it is altered.
 pub fn audit_lines<W: Threads + Wait + Sync>(

@@ -9,11 +9,11 @@ use htree_file::Tree;
 use image_audit::{CertFault, ProofFault, audit_object, check};
 use mem_files::MemFile;
 use node_image::RootRef;
-use script_runner::simulator_keys;
 use std::alloc::{AllocError, Global};
 use store_commit::root_in;
 use tee_ports::FileRig;
 use tee_types::{BENCH_FILES, DIRECTORY_FILE};
+use trial_runs::simulator_keys;
 
 // A file that reads as the folder's of a number.
 fn copy_of(alloc: Global, folder: &[MemFile], number: u16) -> anyhow::Result<MemFile> {

@@ -6,16 +6,15 @@ ghost use Rattle.folder_export.specs.Folders.{folder_count};
 
 use anyhow::{Context, bail};
 use mem_files::MemFile;
-use script_runner::{
-    CardPort, FOLDER_FILES, FileFault, FilePlace, SimBench, Status, blank_bench, card_block,
-    simulator_keys,
-};
 use std::alloc::{AllocError, Global};
 use std::sync::Wait;
 use std::thread::Threads;
 use tee_ports::{FileRig, Image, ListEntropy};
 use tee_types::BENCH_FILES;
-use trial_runs::{Ended, new_folder, reliable, run_into};
+use trial_runs::{
+    CardPort, Ended, FOLDER_FILES, FileFault, FilePlace, SimBench, Status, blank_bench, card_block,
+    new_folder, reliable, run_into, simulator_keys,
+};
 
 /// Makes the store that is exported.
 pub const MADE: &str = "app a 00000000-0000-0000-0000-000000000001

@@ -12,7 +12,7 @@ use Rattle.history_seats.specs.Tags.{AreTagsRight}
 use Rattle.history_seats.specs.Views.{SlotView, PassView, Joined, SeatView}
 use Rattle.history_seats.specs.Views.SeatView.{Gate, Slot, Pass, Half, Kept, Spent}
 use Rattle.history_seats.specs.Numbers.{is_in}
-use Rattle.history_seats.specs.Rule.{SlotFits, PassFits, IsCut, Fits, Holds, slot_file, pass_session, file_taken, session_taken, AreHeld, AreKept, SeatRule}
+use Rattle.history_seats.specs.Rule.{SlotFits, PassFits, IsCut, Fits, slot_file, pass_session, file_taken, session_taken, AreHeld, AreKept, SeatRule}
 use Rattle.history_seats.specs.Changes.{with_slot_out, new_slot, with_pass_out, new_pass}
 use Rattle.history_seats.proofs.Lists.{at_front, at_set_here, no_some, none_or_some, or_right, put, put_here, put_else}
 use Rattle.history_seats.proofs.Numbers.{distinct-more}

@@ -2,11 +2,10 @@
 
 use crate::histories::{answers_in, push_done_calls, unconfirmed_call};
 use anyhow::Context;
-use script_runner::blank_bench;
 use std::alloc::{AllocError, Global};
 use std::sync::Wait;
 use std::thread::Threads;
-use trial_runs::{Mishap, Trouble, push_arms, reliable, run_script};
+use trial_runs::{Mishap, Trouble, blank_bench, push_arms, reliable, run_script};
 
 /// The sessions, each of an application of its own.
 const SESSIONS: &str =

@@ -2,13 +2,13 @@
 // their applications see them.
 
 use anyhow::{Context, bail};
-use script_runner::{Shown, ShownObject, print_object};
 use script_text::{Control, Script, Step, print_control, print_event};
 use std::alloc::{AllocError, Global};
 use std::marker::Model;
 use store_model::{Event, Mark, State};
 use tee_types::{AppId, Call, Flags, ObjectId, READ, Reply};
 use tree_paths::NodeSet;
+use trial_runs::{Shown, ShownObject, print_object};
 
 /// A store has no more objects.
 const MOST_OBJECTS: u32 = 256;

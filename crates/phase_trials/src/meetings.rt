@@ -5,12 +5,11 @@ ghost use Rattle.tee_types.specs.Limits.{file_count};
 
 use crate::meeting_file::{Meeting, MeetingFile};
 use anyhow::bail;
-use script_runner::{Bench, CardPort, blank_bench};
 use std::alloc::{AllocError, Global};
 use std::sync::{Arc, Wait};
 use std::thread::Threads;
 use tee_types::BENCH_FILES;
-use trial_runs::{reliable, run_script};
+use trial_runs::{Bench, CardPort, blank_bench, reliable, run_script};
 
 /// Files that may wait, and a card.
 type MeetingBench = Bench<MeetingFile, CardPort>;

@@ -3,14 +3,13 @@
 use crate::histories::{call_in, push_done_calls};
 use crate::machine::Machine;
 use anyhow::{Context, bail};
-use script_runner::blank_bench;
 use script_text::{Script, parse};
 use seed_words::SeedEntropy;
 use std::alloc::{AllocError, Global};
 use std::sync::Wait;
 use std::thread::Threads;
 use tee_ports::Entropy;
-use trial_runs::{reliable, run_script};
+use trial_runs::{blank_bench, reliable, run_script};
 
 /// How many scripts are run.
 const SCRIPTS: u8 = 200;

@@ -1,13 +1,12 @@
 // Soaks, run twice, and their calls on the machine of the model.
 
 use crate::machine::Machine;
-use script_runner::blank_bench;
 use seed_words::soak_script;
 use sha2::{Digest, Sha256};
 use std::alloc::Global;
 use std::sync::Wait;
 use std::thread::Threads;
-use trial_runs::{reliable, run_words};
+use trial_runs::{blank_bench, reliable, run_words};
 
 /// The numbers of the soaks.
 const NUMBERS: [u32; 4] = [0, 1, 2, u32::MAX];

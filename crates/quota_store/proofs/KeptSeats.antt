@@ -1,5 +1,5 @@
 -- The halves of a session's seat, as they are joined and cut.
-use Rattle.std.proofs.Common.{◌≡◌, ◌<◌, ◌∙◌, ℕ, List, length, Option, Some, None, refl, sym, ap, subst}
+use Rattle.std.proofs.Common.{◌≡◌, ◌<◌, ◌∙◌, ℕ, length, Some, sym, ap, subst}
 use Rattle.std.specs.Prelude.{slice_set}
 use Rattle.history_seats.specs.Rule.{PassFits}
 use Rattle.history_seats.specs.Views.{GateView, PassView, Sight}

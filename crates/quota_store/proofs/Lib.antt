@@ -9,3 +9,10 @@ pub mod ShownHalves
 pub mod AppSessions
 pub mod CutSessions
 pub mod QuotaHistories
+pub use Rattle.shared_store.proofs.Cards
+pub use Rattle.shared_store.proofs.CarriedCounts
+pub use Rattle.shared_store.proofs.CountGrowth
+pub use Rattle.shared_store.proofs.KeptSlots
+pub use Rattle.shared_store.proofs.Rises
+pub use Rattle.shared_store.proofs.SameMaps
+pub use Rattle.shared_store.proofs.Tellings

@@ -19,7 +19,7 @@ use Rattle.core_laws.specs.Stores.{Store, replay_at}
 use Rattle.core_laws.proofs.Mending.{some_same}
 use Rattle.shared_store.specs.Attempts.{IsAnswered, IsWaiting}
 use Rattle.shared_store.specs.ForeseenCalls.{IsAnsweredEarly}
-use Rattle.shared_calls.proofs.Waiting.{answers-then}
+use Rattle.shared_store.proofs.Waiting.{answers-then}
 use Rattle.shared_store.specs.CallerSessions.{CallerSession, IsCallerOf}
 use Rattle.shared_store.specs.QuotaCallers.{IsRefusedRightly, KeepsLimits}
 use Rattle.shared_store.proofs.QuotaCallers.{continued-kept, early-limits, early_is, forecast-is, other-limits}

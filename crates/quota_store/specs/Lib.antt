@@ -6,3 +6,15 @@ pub mod LockedCalls
 pub mod Draws
 pub mod Sharing
 pub mod QuotaHistories
+pub use Rattle.shared_store.specs.CallerSessions
+pub use Rattle.shared_store.specs.Cards
+pub use Rattle.shared_store.specs.DeviceCounts
+pub use Rattle.shared_store.specs.Devices
+pub use Rattle.shared_store.specs.EventCounts
+pub use Rattle.shared_store.specs.Kept
+pub use Rattle.shared_store.specs.GuardedGates
+pub use Rattle.shared_store.specs.Rising
+pub use Rattle.shared_store.specs.Attempts
+pub use Rattle.shared_store.specs.SharedCounts
+pub use Rattle.shared_store.specs.SlotValues
+pub use Rattle.shared_store.specs.QuotaCallers

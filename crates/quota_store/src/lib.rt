@@ -25,4 +25,8 @@ pub use laws::{
 pub use quota_room::{JoinRoom, QuotaRoom};
 pub use quota_session::QuotaSession;
 pub use quota_store::QuotaStore;
+pub use shared_store::{
+    DevicesName, GuardedSlot, PlacedReply, QuotaOutcome, Session, SharedGate, SharedSlot,
+    SharedStore,
+};
 pub use sharing::{SharedSessions, share_sessions};

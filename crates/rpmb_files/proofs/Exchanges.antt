@@ -1,26 +1,22 @@
 -- Single exchanges: what they keep, and why they give nothing.
-use Rattle.std.proofs.Common.{◌≡◌, ◌≢◌, ◌⊎◌, ◌∙◌, ◌+◌, ◌≤◌, ◌<◌, ◌==◌, ◌^◌, ℕ, Bool, true, false, List, Option, Some, Result, Ok, Err, IsTrue, if◌then◌else◌, nat_lt, refl, sym, ap, subst, inl, inr, arith}
+use Rattle.std.proofs.Common.{◌≡◌, ◌∙◌, ◌≤◌, ◌<◌, ℕ, Bool, true, false, List, Result, Ok, Err, IsTrue, if◌then◌else◌, nat_lt, refl, sym, ap, subst, arith}
 use Rattle.tee_ports.specs.Faults.{Rose}
 use Rattle.std.proofs.lemmas.Bool.{ltb-true}
 use Rattle.rpmb_card.specs.Card.{CardState, given_result}
 use Rattle.rpmb_card.specs.Port.{PortState}
-use Rattle.rpmb_card.specs.Protocol.{address_failure, last_counter}
+use Rattle.rpmb_card.specs.Protocol.{address_failure}
 use Rattle.card_maps.specs.CardMaps.{blocks_of}
 use Rattle.card_maps.proofs.Ranges.{false_or}
 use Rattle.rpmb_host.specs.declared.fault.HostFault.{HostFault}
 use Rattle.rpmb_host.specs.declared.fault.HostFault.TheVariants.{Failed as NoAnswer, BadFrame, CardResult as RefusedBy, Spent}
-use Rattle.rpmb_host.specs.Calls.{FaultCounts, has_failed, is_failure}
-use Rattle.rpmb_host.specs.Honest.{HadCard, HasCard, card_block, written_card}
+use Rattle.rpmb_host.specs.Calls.{FaultCounts, is_failure}
+use Rattle.rpmb_host.specs.Honest.{card_block}
 use Rattle.tee_types.specs.declared.reply.Cause.{Cause}
 use Rattle.tee_types.specs.declared.reply.Cause.TheVariants.{Fault, Frame as OfFrame, CardResult}
 use Rattle.tee_types.specs.declared.reply.Device.TheVariants.{Dir, File, Card, Entropy}
-use Rattle.rpmb_files.specs.declared.link.Asked.{Asked}
-use Rattle.rpmb_files.specs.declared.link.Asked.TheVariants.{Same, Next, Untold}
-use Rattle.rpmb_files.specs.declared.link.WriteEnd.{WriteEnd}
-use Rattle.rpmb_files.specs.declared.link.WriteEnd.TheVariants.{Landed, Lost, Unknown}
-use Rattle.rpmb_files.specs.Devices.{Devices, GoesOn, devices}
-use Rattle.rpmb_files.specs.Causes.{CauseStands, DrawFailed, HeardCause, NoCard, NoCardAt, NotDrawn, NotOfCard}
-use Rattle.rpmb_files.specs.Links.{AskCause, AskTells, EndCause, EndLeaves, FaultIs, NoneOfBoth}
+use Rattle.rpmb_files.specs.Devices.{Devices, GoesOn}
+use Rattle.rpmb_files.specs.Causes.{CauseStands, DrawFailed, HeardCause, NotDrawn, NotOfCard}
+use Rattle.rpmb_files.specs.Links.{FaultIs}
 
 pub err_ok : {A : Type 0} (fault : HostFault) (value : A) → (let r : Result A HostFault = Err fault in r ≡ Ok value) → ⊥
 err_ok fault value is = absurd (cc (is))

@@ -1,12 +1,12 @@
 -- How a write ends: what it leaves, and why.
-use Rattle.std.proofs.Common.{◌≡◌, ◌≢◌, ◌⊎◌, ◌∙◌, ◌+◌, ◌≤◌, ◌<◌, ◌==◌, ℕ, Bool, true, false, List, Option, Some, Result, Ok, Err, IsTrue, if◌then◌else◌, refl, sym, ap, subst, inl, inr, arith}
+use Rattle.std.proofs.Common.{◌≡◌, ◌≢◌, ◌⊎◌, ◌∙◌, ◌+◌, ◌≤◌, ◌<◌, ℕ, Bool, List, Some, Result, Ok, Err, IsTrue, if◌then◌else◌, sym, ap, inl, inr, arith}
 use Rattle.std.proofs.lemmas.Bool.{eq-eqb}
 use Rattle.rpmb_card.specs.Card.{CardState, given_result}
 use Rattle.rpmb_card.specs.Port.{PortState}
 use Rattle.rpmb_card.specs.Protocol.{done_result, last_counter}
 use Rattle.rpmb_host.specs.declared.fault.HostFault.{HostFault}
 use Rattle.rpmb_host.specs.declared.fault.HostFault.TheVariants.{Failed as NoAnswer, BadFrame, CardResult as RefusedBy, Spent}
-use Rattle.rpmb_host.specs.Calls.{FaultCounts, is_failure}
+use Rattle.rpmb_host.specs.Calls.{FaultCounts}
 use Rattle.rpmb_host.specs.Honest.{HadCard, HasCard, card_write, write_end, written_card}
 use Rattle.card_maps.proofs.Prefixes.{counter_up, write_done}
 use Rattle.rpmb_files.specs.Devices.{Devices, GoesOn}

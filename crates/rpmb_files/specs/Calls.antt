@@ -1,13 +1,13 @@
 -- What a call of a card store leaves.
-use Rattle.std.specs.Prelude.{◌≡◌, ◌≢◌, ℕ, ◌+◌, true, List, [], length, slice_index_or, Option, Some, Result, Ok, Err, IsTrue}
+use Rattle.std.specs.Prelude.{◌≡◌, ℕ, ◌+◌, List, [], length, slice_index_or, Ok, Err}
 use Rattle.rpmb_card.specs.Card.{CardState}
 use Rattle.rpmb_host.specs.Honest.{HasCard}
-use Rattle.card_maps.specs.CardMaps.{BadCard, CardMap, card_map}
+use Rattle.card_maps.specs.CardMaps.{CardMap, card_map}
 use Rattle.card_maps.specs.Steps.{PutRuns, RemoveRuns}
 use Rattle.card_maps.specs.Course.{Answers, CardCall, CardReply, Done, Get, ListNames, Put, Remove, side, writes_of}
 use Rattle.card_maps.specs.Names.{names_of}
 use Rattle.rpmb_files.specs.declared.fault.CardFault.{CardFault}
-use Rattle.rpmb_files.specs.declared.fault.CardFault.TheVariants.{TooLarge, NotFound, Full, Spent, Device, Bad, NoMemory}
+use Rattle.rpmb_files.specs.declared.fault.CardFault.TheVariants.{Device, Bad, NoMemory}
 use Rattle.rpmb_files.specs.Devices.{Devices}
 use Rattle.rpmb_files.specs.Causes.{CauseStands, NoCard}
 use Rattle.rpmb_files.specs.Stores.{OverCards, StoreState}

@@ -6,12 +6,11 @@ use Rattle.card_maps.specs.declared.change.TableChange.{TableChange}
 use Rattle.card_maps.specs.CardMaps.{CardMap, blocks_needed, bytes_at}
 use Rattle.card_maps.specs.Course.{writes_of}
 use Rattle.rpmb_card.specs.Protocol.{last_counter}
-use Rattle.card_maps.specs.Form.{data_blocks}
 use Rattle.card_maps.specs.Plans.{IsPutOf}
 use Rattle.card_maps.specs.TableStates.{TableState}
 use Rattle.card_maps.specs.Tables.{entry_at, has_name, names_in, unused}
 use Rattle.rpmb_files.specs.declared.fault.CardFault.{CardFault}
-use Rattle.rpmb_files.specs.declared.fault.CardFault.TheVariants.{TooLarge, NotFound, Full, Spent, Device, Bad, NoMemory}
+use Rattle.rpmb_files.specs.declared.fault.CardFault.TheVariants.{NotFound, Full, Spent, Device, NoMemory}
 use Rattle.rpmb_files.specs.declared.store.Doubt.{Doubt}
 use Rattle.rpmb_files.specs.Devices.{devices}
 use Rattle.rpmb_files.specs.Stores.{StoreState}

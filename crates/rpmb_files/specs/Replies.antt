@@ -1,9 +1,7 @@
 -- What a call of a card store answers, as a reply of the finite map.
 use Rattle.std.specs.Prelude.{ℕ, List, Result, Ok, Err}
-use Rattle.card_maps.specs.declared.name.CardName.{CardName}
 use Rattle.card_maps.specs.Course as course
 use Rattle.card_maps.specs.Course.{CardReply}
-use Rattle.tee_types.specs.declared.reply.Cause.{Cause}
 use Rattle.rpmb_files.specs.declared.fault.CardFault.{CardFault}
 use Rattle.rpmb_files.specs.declared.fault.CardFault.TheVariants.{TooLarge, NotFound, Full, Spent, Device, Bad, NoMemory}
 use Rattle.rpmb_files.specs.Devices.{Devices}

@@ -1,5 +1,5 @@
 -- A card store, as contracts see it.
-use Rattle.std.specs.Prelude.{◌≡◌, ℕ, Bool, List, Option, Ok, IsTrue, is_none}
+use Rattle.std.specs.Prelude.{◌≡◌, ℕ, Bool, List, Ok, IsTrue}
 use Rattle.rpmb_card.specs.Card.{CardState}
 use Rattle.rpmb_card.specs.Port.{PortState}
 use Rattle.rpmb_host.specs.Calls.{HostState}

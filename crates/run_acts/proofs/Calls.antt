@@ -14,7 +14,7 @@ use Rattle.script_text.specs.declared.script.Step.{Step}
 use Rattle.script_text.specs.declared.script.Step.TheVariants.{Call as CallStep, Control as ControlStep}
 use Rattle.script_text.specs.Script.{IsPlaced, is_call}
 use Rattle.run_acts.specs.ServedSteps.{AreCalls, calls_in}
-use Rattle.shared_store.specs.Kept.{AreOfSessions}
+use Rattle.quota_store.specs.Kept.{AreOfSessions}
 
 cond-append : (own : Bool) (call : Call) (first then : List Call) → cond own (call ∷ (first ++ then)) (first ++ then) ≡ cond own (call ∷ first) first ++ then
 cond-append true call first then = refl
@@ -69,17 +69,21 @@ length-calls_of session (Landed commit ∷ events) = length-calls_of session eve
 pub calls_of-none : (session : ℕ) (events : List Event) → count_of session events ≡ 0 → calls_of session events ≡ []
 calls_of-none session events none = nil_from_length (calls_of session events) (length-calls_of session events ∙ none)
 
+-- behind a view that lacks no event of a session there is none
+pub count-rest : (session : ℕ) (seen whole : List HistoryRecord) (b : IsUpToDate (is_of_session session) seen whole) → count_of session (events_of b.rest) ≡ 0
+count-rest session seen whole b =
+    let counted : count_of session (events_of whole) ≡ count_of session (events_of seen) + count_of session (events_of b.rest) =
+    ap (λ (l : List HistoryRecord). count_of session (events_of l)) (sym b.is) ∙ count-append session seen b.rest in
+    omega (arith, counted, count-begins session seen whole b)
+
 -- a view that lacks no event of a session has all its calls
 pub calls_of-begins : (session : ℕ) (seen whole : List HistoryRecord) → IsUpToDate (is_of_session session) seen whole
     → calls_of session (events_of whole) ≡ calls_of session (events_of seen)
 calls_of-begins session seen whole b =
-    let counted : count_of session (events_of whole) ≡ count_of session (events_of seen) + count_of session (events_of b.rest) =
-    ap (λ (l : List HistoryRecord). count_of session (events_of l)) (sym b.is) ∙ count-append session seen b.rest in
-    let none : count_of session (events_of b.rest) ≡ 0 = omega (arith, counted, count-begins session seen whole b) in
     ap (λ (l : List HistoryRecord). calls_of session (events_of l)) (sym b.is)
     ∙ ap (calls_of session) (map-append (λ (r : HistoryRecord). r.event) seen b.rest)
     ∙ calls_of-append session (events_of seen) (events_of b.rest)
-    ∙ ap (λ (calls : List Call). calls_of session (events_of seen) ++ calls) (calls_of-none session (events_of b.rest) none)
+    ∙ ap (λ (calls : List Call). calls_of session (events_of seen) ++ calls) (calls_of-none session (events_of b.rest) (count-rest session seen whole b))
     ∙ append-nil (calls_of session (events_of seen))
 
 -- no event is of a session past the last, and no step of an application past it

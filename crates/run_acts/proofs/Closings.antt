@@ -1,5 +1,5 @@
 -- A store that was served is closed: what its devices are, before its calls and behind them.
-use Rattle.std.proofs.Common.{◌≡◌, ◌∙◌, ◌+◌, ◌-◌, ◌<◌, ℕ, suc, List, [], ◌++◌, length, Option, inl, inr, refl, sym, ap, subst, arith}
+use Rattle.std.proofs.Common.{◌≡◌, ◌≢◌, ◌∙◌, ◌+◌, ◌-◌, ◌<◌, ℕ, suc, List, [], ◌++◌, drop, length, take, Option, inl, inr, refl, sym, ap, subst, arith}
 use Rattle.std.proofs.lemmas.Bool.{cases_eq}
 use Rattle.disk_model.specs.Calls.{GoesOn}
 use Rattle.disk_model.specs.State.{FileState}
@@ -9,20 +9,21 @@ use Rattle.tee_types.proofs.FileNumbers.{other_on_bench}
 use Rattle.rpmb_card.specs.Port.{PortState}
 use Rattle.tee_types.specs.declared.reply.Device.{Device}
 use Rattle.tee_types.specs.declared.reply.Device.TheVariants.{Dir, File, Card, Entropy}
+use Rattle.app_quota.specs.declared.quotas.Quota.{Quota}
 use Rattle.store_model.specs.declared.event.Event.{Event}
 use Rattle.store_model.specs.Record.{events_of}
 use Rattle.core_laws.specs.Stores.{Store}
-use Rattle.shared_store.specs.CallerSessions.{CallerSession}
+use Rattle.quota_store.specs.CallerSessions.{CallerSession}
 use Rattle.store_commit.specs.Gates.{GateValue}
-use Rattle.shared_store.specs.SlotValues.{SlotValue}
+use Rattle.quota_store.specs.SlotValues.{SlotValue}
 use Rattle.script_text.specs.declared.script.Mode.{Mode}
 use Rattle.script_text.specs.declared.script.Mode.TheVariants.{Serial}
 use Rattle.script_text.specs.declared.script.Step.{Step}
-use Rattle.shared_store.specs.EventCounts.{events_at}
-use Rattle.shared_store.specs.Cards.{TellsCard}
-use Rattle.shared_store.specs.DeviceCounts.{Rise, counts_of, draws_of}
-use Rattle.shared_store.specs.Devices.{PortGoesOn, file_in, no_slot}
-use Rattle.shared_store.proofs.CountGrowth.{same_file_goes_on}
+use Rattle.quota_store.specs.EventCounts.{events_at}
+use Rattle.quota_store.specs.Cards.{TellsCard}
+use Rattle.quota_store.specs.DeviceCounts.{Rise, counts_of, draws_of}
+use Rattle.quota_store.specs.Devices.{PortGoesOn, file_in, no_slot}
+use Rattle.quota_store.proofs.CountGrowth.{same_file_goes_on}
 use Rattle.object_calls.specs.declared.bench.Bench.{Bench}
 use Rattle.object_calls.specs.OpeningArms.{IsOnBench}
 use Rattle.object_calls.specs.OpeningFiles.{files_of}
@@ -37,6 +38,10 @@ use Rattle.run_acts.specs.ServedSteps.{ServesSteps}
 use Rattle.run_acts.specs.Benches.{BenchState, bench_state, opening_state}
 use Rattle.run_acts.specs.Closing.{BenchGoesOn, ClosesEarly, ClosesStore, faults_on, served}
 use Rattle.run_acts.specs.PhaseServing.{HasDevices}
+use Rattle.run_acts.specs.QuotaClosing.{ClosesWithin}
+use Rattle.run_acts.specs.QuotaRefusals.{HoldsOfAdmitted, KeepsPhaseQuotas, admitted, admitted_from}
+use Rattle.run_acts.specs.declared.refused_call.RefusedCall.{RefusedCall}
+use Rattle.run_acts.proofs.Admissions.{admitted-cut}
 use Rattle.run_acts.proofs.Phases.{serves_made}
 use Rattle.run_acts.proofs.Draws.{drawn_from_0, undrawn_from_0}
 
@@ -155,6 +160,39 @@ closes_where Streams Generator store before mode calls closed events never c = r
   drawn = c.drawn;
   undrawn = λ generator. c.undrawn (never generator);
 }
+
+-- so under quotas
+pub closes_within_where : (Streams Generator : Type 0) (store : Store) (quotas : List Quota) (before : BenchState) (mode : Mode) (calls : List Step) (closed : BenchState) (events : List Event) (refused : List RefusedCall)
+    → (Generator → Streams) → ClosesWithin Streams store quotas before mode calls closed events refused → ClosesWithin Generator store quotas before mode calls closed events refused
+unfolding closes_where
+closes_within_where Streams Generator store quotas before mode calls closed events refused never c = record {
+  closes = closes_where Streams Generator store before mode (admitted refused calls) closed events never c.closes;
+  quotas_kept = c.quotas_kept;
+}
+
+module _ {F R E : Type 0} (of_file : F → FileState) (of_port : R → PortState) (draws : E → ℕ) (is_reliable : E → Type 0) (store : Store) (old new : ServiceValue F R) (before closed : BenchState)
+    (was now : List (CallerSession E)) (steps : List Step) (refused : List RefusedCall) (has_before : HasDevices of_file of_port old before) (has_closed : HasDevices of_file of_port new closed) where
+  -- the calls that were admitted were made one after another
+  pub closes_within : (quotas : List Quota) → MakesCalls of_file of_port draws store old new was now (admitted refused steps) → (doubt : Option ℕ) (events : List Event)
+      → length was ≡ length store.mounted.applications → AreFresh draws was → StayReliable is_reliable draws was now → events_at old.gate ≡ [] → events ≡ events_of new.gate.journal.knows.all
+      → LeavesStore store new.gate.journal.knows closed.files closed.card doubt → KeepsPhaseQuotas quotas store new.gate.journal.knows.all steps refused
+      → ClosesWithin (AreReliable is_reliable was) store quotas before Serial steps closed events refused
+  unfolding closes_store
+  closes_within quotas makes doubt events many fresh stay empty is leaves kept = record {
+    closes = closes_store of_file of_port draws is_reliable store old new before closed was now (admitted refused steps) has_before has_closed makes Serial doubt events many fresh stay empty
+        (λ none. serves_made of_file of_port draws store old new was now (admitted refused steps) makes none) is leaves;
+    quotas_kept = kept;
+  }
+
+  -- memory ran out behind these
+  pub closes_early_within : (quotas : List Quota) → quotas ≢ [] → (made : ℕ) → MakesCalls of_file of_port draws store old new was now (admitted refused (take made steps)) → (doubt : Option ℕ)
+      → events_at old.gate ≡ [] → LeavesStore store new.gate.journal.knows closed.files closed.card doubt → HoldsOfAdmitted quotas steps (λ l. ClosesEarly store before Serial l closed)
+  closes_early_within quotas some made makes doubt empty leaves = record {
+    refused = refused;
+    unrefused = λ none. absurd (some none);
+    holds = closes_early of_file of_port draws is_reliable store old new before closed was now (admitted refused (take made steps)) has_before has_closed makes (admitted refused steps)
+        (admitted_from (0 + length (take made steps)) refused (drop made steps)) doubt empty (admitted-cut refused made steps) leaves;
+  }
 
 -- a store that was closed as it was, has the devices of its opening
 pub closed_state : {F R : Type 0} (of_file : F → FileState) (of_port : R → PortState) (o left : OpeningValue F R) (bench : Bench F R) → left ≡ o

@@ -1,6 +1,6 @@
 -- Sessions that draw from what they drew from.
 use Rattle.std.proofs.Common.{◌≡◌, ◌∙◌, ◌<◌, ℕ, List, length, sym, ap, subst}
-use Rattle.shared_store.specs.CallerSessions.{CallerSession}
+use Rattle.quota_store.specs.CallerSessions.{CallerSession}
 use Rattle.object_calls.specs.OpeningSessions.{DrawAlike}
 use Rattle.run_acts.specs.Reliable.{AreFresh, AreReliable}
 

@@ -2,9 +2,9 @@
 use Rattle.std.proofs.Common.{◌≡◌, ◌∙◌, ◌<◌, ℕ, List, [], ◌∷◌, ◌++◌, length, slice_index_or, sym, subst, inl, inr, arith}
 use Rattle.std.proofs.lemmas.Bool.{cases_eq}
 use Rattle.std.proofs.lemmas.List.{get_or_append_left, get_or_push, length_push}
-use Rattle.shared_store.specs.CallerSessions.{CallerSession}
-use Rattle.shared_store.specs.DeviceCounts.{Rise}
-use Rattle.shared_store.proofs.Rises.{Rise-still}
+use Rattle.quota_store.specs.CallerSessions.{CallerSession}
+use Rattle.quota_store.specs.DeviceCounts.{Rise}
+use Rattle.quota_store.proofs.Rises.{Rise-still}
 use Rattle.run_acts.specs.Reliable.{AreFresh, AreReliable}
 
 module _ {E : Type 0} where

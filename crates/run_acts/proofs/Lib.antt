@@ -51,3 +51,17 @@ pub mod MigrationEnds
 pub mod HeldRefusals
 pub mod BadTexts
 pub mod ShownObjects
+pub mod Tests
+pub mod Admissions
+pub mod OwnQuotas
+pub mod QuotaLists
+pub mod QuotasKept
+pub mod Committed
+pub mod QuotaLaws
+pub mod QuotaThreads
+pub mod QuotaCrews
+pub mod QuotaSharing
+pub mod QuotaSteps
+pub mod QuotaMakings
+pub mod QuotaClosings
+pub use Rattle.object_calls.proofs.Files

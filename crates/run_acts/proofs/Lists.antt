@@ -1,4 +1,4 @@
--- Lists that are equal place by place.
+-- Lists, place by place.
 use Rattle.std.proofs.Common.{◌≡◌, ℕ, suc, ◌<◌, List, [], ◌∷◌, length, map, get_or, arith, ap, refl, sym, ◌∙◌}
 use Rattle.std.proofs.lemmas.List.{get_or-map}
 
@@ -14,3 +14,8 @@ map-same f (x ∷ xs) (y ∷ ys) len each =
 
 pub map-at : {X : Type 0} (f : X → ℕ) (xs : List X) (ys : List ℕ) → map f xs ≡ ys → (k : ℕ) (d : X) → k < length xs → f (get_or xs k d) ≡ get_or ys k 0
 map-at f xs ys is k d lt = sym (get_or-map f xs k d 0 lt) ∙ ap (λ zs. get_or zs k 0) is
+
+-- what holds at each place of a list holds at each number below its length
+pub at_each : {X : Type 0} (xs : List X) (P : ℕ → Type 0) → ((i : ℕ) (d : X) → i < length xs → P i) → (i : ℕ) → i < length xs → P i
+at_each [] P all i below = absurd (omega (arith, below))
+at_each (x ∷ xs) P all i below = all i x below

@@ -8,20 +8,20 @@ use Rattle.store_model.specs.Record.{events_of}
 use Rattle.history_seats.specs.Records.{HistoryRecord}
 use Rattle.history_seats.specs.Views.{PassView, Sight}
 use Rattle.core_laws.specs.Stores.{Store}
-use Rattle.shared_store.specs.CallerSessions.{CallerSession, IsCallerOf}
-use Rattle.shared_store.specs.declared.PlacedReply.{PlacedReply}
-use Rattle.shared_store.specs.Attempts.{IsAnswered, IsWaiting}
+use Rattle.quota_store.specs.CallerSessions.{CallerSession, IsCallerOf}
+use Rattle.quota_store.specs.declared.PlacedReply.{PlacedReply}
+use Rattle.quota_store.specs.Attempts.{IsAnswered, IsWaiting}
 use Rattle.script_text.specs.declared.script.Step.{Step}
 use Rattle.run_acts.specs.ServedSteps.{calls_in}
 use Rattle.tee_types.specs.declared.reply.Device.TheVariants.{Entropy}
-use Rattle.shared_store.specs.DeviceCounts.{Rise, draws_of, told_of}
-use Rattle.shared_store.specs.Devices.{Grows}
-use Rattle.shared_store.proofs.Rises.{Rise-append}
-use Rattle.shared_store.specs.SharedCounts.{CarriesDraws}
+use Rattle.quota_store.specs.DeviceCounts.{Rise, draws_of, told_of}
+use Rattle.quota_store.specs.Devices.{Grows}
+use Rattle.quota_store.proofs.Rises.{Rise-append}
+use Rattle.quota_store.specs.SharedCounts.{CarriesDraws}
 use Rattle.run_acts.specs.OwnCalls.{HasMade, HasStopped, own_calls}
 use Rattle.run_acts.specs.OwnDraws.{own_draws}
 use Rattle.run_acts.specs.Seen.{seen_by}
-use Rattle.run_acts.proofs.ThreadDraws.{carried-rise, draws_of-more}
+use Rattle.run_acts.proofs.ThreadDraws.{carried-rise, draws_of-more, draws_of-quiet}
 use Rattle.run_acts.proofs.Calls.{calls_in-append, calls_in-more, calls_of-append, calls_of-none}
 
 -- a view that goes on by events of others
@@ -43,6 +43,36 @@ calls_of-more session seen between last none =
     ∙ ap (λ (l : List Call). l ++ own)
     (calls_of-append session (events_of seen) (events_of between) ∙ ap (λ (l : List Call). calls_of session (events_of seen) ++ l) none ∙ append-nil (calls_of session (events_of seen)))
 
+-- a session without events has no calls
+pub unmade-own : {E : Type 0} (store : Store) (s : CallerSession E) → IsCallerOf store s → s.made ≡ 0 → own_calls s ≡ []
+unmade-own store s caller none =
+    ap (λ (p : Option (Sight PassView)). calls_of s.number (events_of (seen_by p))) caller.session.is
+    ∙ calls_of-none s.number (events_of caller.session.pass.knows.seen) (sym caller.session.made ∙ none)
+
+-- in the session's view the call that was answered stands behind those that it had, and one that waits is not there
+module _ {E : Type 0} (store : Store) (was now : CallerSession E) where
+  pub calls-answered : (call : Call) (answer : PlacedReply) → IsAnswered store was now call answer → own_calls now ≡ own_calls was ++ call ∷ []
+  calls-answered call answer a =
+      let e = a.extends in
+      ap (λ (n : ℕ). calls_of n (events_of (seen_by now.pass))) a.number
+      ∙ ap (λ (pass : Option (Sight PassView)). calls_of was.number (events_of (seen_by pass))) e.is
+      ∙ ap (λ (l : List HistoryRecord). calls_of was.number (events_of l)) e.extends
+      ∙ calls_of-more was.number e.old.knows.seen e.between e.last (calls_of-none was.number (events_of e.between) e.none_between)
+      ∙ ap (λ (l : List Call). calls_of was.number (events_of e.old.knows.seen) ++ l) own
+      ∙ ap (λ (pass : Option (Sight PassView)). calls_of was.number (events_of (seen_by pass)) ++ call ∷ []) (sym e.was)
+    where
+      own : calls_of was.number (a.extends.last.event ∷ []) ≡ call ∷ []
+      own = ap (λ (event : Event). calls_of was.number (event ∷ [])) a.extends.event_is ∙ rw (eq-eqb was.number was.number refl) refl
+
+  pub calls-waiting : IsWaiting store was now → own_calls now ≡ own_calls was
+  calls-waiting w =
+      let c = w.goes_on.continues in
+      ap (λ (n : ℕ). calls_of n (events_of (seen_by now.pass))) w.number
+      ∙ ap (λ (pass : Option (Sight PassView)). calls_of was.number (events_of (seen_by pass))) c.has
+      ∙ ap (λ (l : List HistoryRecord). calls_of was.number (events_of l)) (sym c.is)
+      ∙ calls_of-quiet was.number c.was.knows.seen c.between (calls_of-none was.number (events_of c.between) c.none)
+      ∙ ap (λ (pass : Option (Sight PassView)). calls_of was.number (events_of (seen_by pass))) (sym c.had)
+
 module _ {E : Type 0} (is_reliable : E → Type 0) (draws : E → ℕ) (store : Store) where
   abbrev Made : (was now : CallerSession E) → List Call → Type 0
   Made was now calls = HasMade is_reliable draws store was now calls
@@ -57,7 +87,7 @@ module _ {E : Type 0} (is_reliable : E → Type 0) (draws : E → ℕ) (store : 
     caller = a.whole;
     number = a.number;
     made = omega (arith, a.made);
-    calls_are = calls_are;
+    calls_are = calls-answered store was now call answer a;
     drawn = record {
       rises = λ first rise.
           subst (Rise first (draws now.entropy)) (sym draws_are)
@@ -67,19 +97,6 @@ module _ {E : Type 0} (is_reliable : E → Type 0) (draws : E → ℕ) (store : 
     };
   }
     where
-      own : calls_of was.number (a.extends.last.event ∷ []) ≡ call ∷ []
-      own = ap (λ (event : Event). calls_of was.number (event ∷ [])) a.extends.event_is ∙ rw (eq-eqb was.number was.number refl) refl
-
-      calls_are : own_calls now ≡ own_calls was ++ call ∷ []
-      calls_are =
-          let e = a.extends in
-          ap (λ (n : ℕ). calls_of n (events_of (seen_by now.pass))) a.number
-          ∙ ap (λ (pass : Option (Sight PassView)). calls_of was.number (events_of (seen_by pass))) e.is
-          ∙ ap (λ (l : List HistoryRecord). calls_of was.number (events_of l)) e.extends
-          ∙ calls_of-more was.number e.old.knows.seen e.between e.last (calls_of-none was.number (events_of e.between) e.none_between)
-          ∙ ap (λ (l : List Call). calls_of was.number (events_of e.old.knows.seen) ++ l) own
-          ∙ ap (λ (pass : Option (Sight PassView)). calls_of was.number (events_of (seen_by pass)) ++ call ∷ []) (sym e.was)
-
       own_told : draws_of was.number (a.extends.last.event ∷ []) ≡ told_of Entropy answer.reply
       own_told = ap (λ (event : Event). draws_of was.number (event ∷ [])) a.extends.event_is ∙ rw (eq-eqb was.number was.number refl) (append-nil (told_of Entropy answer.reply))
 
@@ -102,21 +119,36 @@ module _ {E : Type 0} (is_reliable : E → Type 0) (draws : E → ℕ) (store : 
     cut = refl;
     left = omega arith;
     made = omega (arith, w.made);
-    calls_are = calls_same ∙ sym (append-nil (own_calls was));
+    calls_are = calls-waiting store was now w ∙ sym (append-nil (own_calls was));
+  }
+
+  -- one that was refused
+  pub refused_one : (was now : CallerSession E) → IsWaiting store was now → Grows (draws was.entropy) (draws now.entropy)
+      → (is_reliable was.entropy → is_reliable now.entropy × (draws now.entropy ≡ draws was.entropy)) → Made was now []
+  refused_one was now w grows steady = record {
+    caller = w.whole;
+    number = w.number;
+    made = omega (arith, w.made);
+    calls_are = calls-waiting store was now w ∙ sym (append-nil (own_calls was));
+    drawn = record {
+      rises = λ first rise.
+          subst (Rise first (draws now.entropy)) (append-nil (own_draws was) ∙ sym draws_same) (Rise-append first (draws was.entropy) (draws now.entropy) (own_draws was) [] rise grows);
+      steady = steady;
+    };
   }
     where
-      calls_same : own_calls now ≡ own_calls was
-      calls_same =
+      draws_same : own_draws now ≡ own_draws was
+      draws_same =
           let c = w.goes_on.continues in
-          ap (λ (n : ℕ). calls_of n (events_of (seen_by now.pass))) w.number
-          ∙ ap (λ (pass : Option (Sight PassView)). calls_of was.number (events_of (seen_by pass))) c.has
-          ∙ ap (λ (l : List HistoryRecord). calls_of was.number (events_of l)) (sym c.is)
-          ∙ calls_of-quiet was.number c.was.knows.seen c.between (calls_of-none was.number (events_of c.between) c.none)
-          ∙ ap (λ (pass : Option (Sight PassView)). calls_of was.number (events_of (seen_by pass))) (sym c.had)
+          ap (λ (n : ℕ). draws_of n (events_of (seen_by now.pass))) w.number
+          ∙ ap (λ (pass : Option (Sight PassView)). draws_of was.number (events_of (seen_by pass))) c.has
+          ∙ ap (λ (l : List HistoryRecord). draws_of was.number (events_of l)) (sym c.is)
+          ∙ draws_of-quiet was.number c.was.knows.seen c.between c.none
+          ∙ ap (λ (pass : Option (Sight PassView)). draws_of was.number (events_of (seen_by pass))) (sym c.had)
 
   -- ONE AFTER ANOTHER
   module _ (a b c : CallerSession E) (first then : List Call) (made : Made a b first) where
-    made_then : Made b c then → Made a c (first ++ then)
+    pub made_then : Made b c then → Made a c (first ++ then)
     made_then m = record {
       caller = m.caller;
       number = m.number ∙ made.number;
@@ -131,7 +163,7 @@ module _ {E : Type 0} (is_reliable : E → Type 0) (draws : E → ℕ) (store : 
       };
     }
 
-    stopped_then : (rest : List Call) → HasStopped store b c then → HasStopped store a c ((first ++ then) ++ rest)
+    pub stopped_then : (rest : List Call) → HasStopped store b c then → HasStopped store a c ((first ++ then) ++ rest)
     stopped_then rest s = record {
       caller = s.caller;
       number = s.number ∙ made.number;

@@ -14,15 +14,15 @@ use Rattle.store_model.specs.declared.event.Event.TheVariants.{Call as CallEvent
 use Rattle.store_model.specs.declared.event.Mark.{Mark}
 use Rattle.script_text.specs.declared.script.Step.TheVariants.{Call as CallStep}
 use Rattle.core_laws.specs.Stores.{Store}
-use Rattle.shared_store.specs.CallerSessions.{CallerSession}
-use Rattle.shared_store.specs.EventCounts.{events_at, landing_events}
-use Rattle.shared_store.specs.DeviceCounts.{Rise, told_of}
-use Rattle.shared_store.specs.Devices.{CountsGrow, Devices, DevicesGoOn, faults_of}
-use Rattle.shared_store.specs.Rising.{devices_in}
-use Rattle.shared_store.proofs.CarriedCounts.{added_by, counts_of-call, counts_of-landing, draws_of-call, draws_of-landing}
-use Rattle.shared_store.proofs.Cards.{TellsCard-call, TellsCard-landing}
-use Rattle.shared_store.proofs.CountGrowth.{counts_grow}
-use Rattle.shared_store.proofs.Tellings.{Rise-told_of}
+use Rattle.quota_store.specs.CallerSessions.{CallerSession}
+use Rattle.quota_store.specs.EventCounts.{events_at, landing_events}
+use Rattle.quota_store.specs.DeviceCounts.{Rise, told_of}
+use Rattle.quota_store.specs.Devices.{CountsGrow, Devices, DevicesGoOn, faults_of}
+use Rattle.quota_store.specs.Rising.{devices_in}
+use Rattle.quota_store.proofs.CarriedCounts.{added_by, counts_of-call, counts_of-landing, draws_of-call, draws_of-landing}
+use Rattle.quota_store.proofs.Cards.{TellsCard-call, TellsCard-landing}
+use Rattle.quota_store.proofs.CountGrowth.{counts_grow}
+use Rattle.quota_store.proofs.Tellings.{Rise-told_of}
 use Rattle.object_calls.specs.OpeningArms.{IsOnBench}
 use Rattle.object_calls.specs.Calling.{AnswersCall, serving}
 use Rattle.object_calls.specs.Services.{ServiceValue}

@@ -12,6 +12,7 @@ use Rattle.rpmb_card.specs.Port.{PortState}
 use Rattle.rpmb_host.specs.Honest.{HadCard, HasCard}
 use Rattle.tee_types.specs.declared.reply.Device.{Device}
 use Rattle.tee_types.specs.declared.reply.Device.TheVariants.{Dir, File, Card, Entropy}
+use Rattle.app_quota.specs.declared.quotas.Quota.{Quota}
 use Rattle.store_model.specs.declared.event.Event.{Event}
 use Rattle.store_model.specs.Object.{ObjectMap}
 use Rattle.store_model.specs.ReplayState.{ReplayState}
@@ -27,6 +28,7 @@ use Rattle.run_acts.specs.Between.{AreReadable}
 use Rattle.run_acts.specs.Left.{AreLeft, HoldsLeft, replay_left}
 use Rattle.run_acts.specs.PhaseArms.{ArmsAll, ArmsOneOf}
 use Rattle.run_acts.specs.Phases.{RunsPhase}
+use Rattle.run_acts.specs.declared.refused_call.RefusedCall.{RefusedCall}
 use Rattle.run_acts.proofs.ArmedFiles.{arms_keep}
 use Rattle.run_acts.proofs.Mounted.{opens_with_left}
 use Rattle.run_acts.proofs.PhasesLeft.{phases_leave}
@@ -70,8 +72,8 @@ all_card : (arms : List Arm) (old new : BenchState) → ArmsAll arms old new →
 all_card [] old new s = ap (λ (p : PortState). p.card) s.1
 all_card (arm ∷ arms) old new (between, its, others) = all_card arms between new others ∙ one_card arm old between its
 
-module _ {F R : Type 0} (of_file : F → FileState) (of_port : R → PortState) (Reliable : Type 0) (keys : Keys) (applications : List (List ℕ)) (arms : List Arm) (mode : Mode) (calls : List Step) (old new : BenchState)
-    (opening : ObjectMap) (events : List Event) (r : RunsPhase of_file of_port Reliable keys applications arms mode calls old new opening events) where
+module _ {F R : Type 0} (of_file : F → FileState) (of_port : R → PortState) (Reliable : Type 0) (keys : Keys) (applications : List (List ℕ)) (quotas : List Quota) (arms : List Arm) (mode : Mode) (calls : List Step) (old new : BenchState)
+    (opening : ObjectMap) (events : List Event) (refused : List RefusedCall) (r : RunsPhase of_file of_port Reliable keys applications quotas arms mode calls old new opening events refused) where
   open r use {closed, disarms}
 
   abbrev armed : BenchState
@@ -98,7 +100,7 @@ module _ {F R : Type 0} (of_file : F → FileState) (of_port : R → PortState) 
         subst (AreLeft s) (sym r.objects) (opens_with_left of_file of_port keys old r.opened r.mounts s card holds r.sound readable_opening has)
 
     pub leaves_held : HoldsLeft keys new (replay_left opening applications events)
-    leaves_held = phases_leave of_file of_port Reliable keys applications arms mode calls old new opening events r honest
+    leaves_held = phases_leave of_file of_port Reliable keys applications quotas arms mode calls old new opening events refused r honest
 
   -- a card with the key is told as the phase ends, where one was as it began
   pub phase_card : (card : CardState) → HasCard old.card (rpmb_key keys.huk) card → HadCard new.card (rpmb_key keys.huk)

@@ -5,19 +5,19 @@ use Rattle.disk_model.specs.State.{FileState}
 use Rattle.rpmb_card.specs.Port.{PortState}
 use Rattle.hmac_keys.specs.KeyTable.{rpmb_key}
 use Rattle.core_laws.specs.Stores.{Store}
-use Rattle.shared_store.proofs.CountGrowth.{devices_go_on_none, devices_go_on_then}
+use Rattle.quota_store.proofs.CountGrowth.{devices_go_on_none, devices_go_on_then}
 use Rattle.tee_types.specs.declared.reply.Device.{Device}
 use Rattle.tee_types.specs.declared.reply.Device.TheVariants.{Card}
 use Rattle.store_model.specs.declared.event.Event.{Event}
 use Rattle.script_text.specs.declared.script.Mode.{Mode}
 use Rattle.script_text.specs.declared.script.Step.{Step}
-use Rattle.shared_store.specs.CallerSessions.{CallerSession}
-use Rattle.shared_store.specs.EventCounts.{events_at}
-use Rattle.shared_store.specs.Cards.{TellsCard}
-use Rattle.shared_store.specs.DeviceCounts.{Rise, counts_of, draws_of}
-use Rattle.shared_store.proofs.CarriedCounts.{counts_of-append, draws_of-append}
-use Rattle.shared_store.proofs.Cards.{TellsCard-append, TellsCard-none}
-use Rattle.shared_store.proofs.Rises.{Rise-append}
+use Rattle.quota_store.specs.CallerSessions.{CallerSession}
+use Rattle.quota_store.specs.EventCounts.{events_at}
+use Rattle.quota_store.specs.Cards.{TellsCard}
+use Rattle.quota_store.specs.DeviceCounts.{Rise, counts_of, draws_of}
+use Rattle.quota_store.proofs.CarriedCounts.{counts_of-append, draws_of-append}
+use Rattle.quota_store.proofs.Cards.{TellsCard-append, TellsCard-none}
+use Rattle.quota_store.proofs.Rises.{Rise-append}
 use Rattle.object_calls.specs.OpeningArms.{IsOnBench}
 use Rattle.object_calls.specs.Services.{ServiceValue}
 use Rattle.run_acts.specs.MadeCalls.{MakesCalls, MakesFront, bench_devices, faults_at}

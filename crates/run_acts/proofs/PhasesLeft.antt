@@ -10,6 +10,7 @@ use Rattle.rpmb_host.specs.Honest.{HasCard}
 use Rattle.script_text.specs.declared.script.Arm.{Arm}
 use Rattle.script_text.specs.declared.script.Mode.{Mode}
 use Rattle.script_text.specs.declared.script.Step.{Step}
+use Rattle.app_quota.specs.declared.quotas.Quota.{Quota}
 use Rattle.store_model.specs.declared.event.Event.{Event}
 use Rattle.store_model.specs.Machine.{opened_store}
 use Rattle.store_model.specs.Object.{ObjectMap}
@@ -21,6 +22,7 @@ use Rattle.object_calls.specs.Opening.{OpeningValue}
 use Rattle.object_calls.specs.FinishedPhase.{AreAllHonest, IsMapLeft, IsMapWith, end_replay}
 use Rattle.run_acts.specs.Benches.{BenchState}
 use Rattle.run_acts.specs.Phases.{RunsPhase}
+use Rattle.run_acts.specs.declared.refused_call.RefusedCall.{RefusedCall}
 use Rattle.run_acts.specs.DeviceLaws.{CountersAreOfCards, PhasesLeave}
 use Rattle.run_acts.specs.Left.{HoldsLeft, replay_left}
 use Rattle.run_acts.proofs.CrashedLaws.{card_of}
@@ -32,18 +34,18 @@ left_of : (keys : Keys) (picture : Picture) (s : ReplayState) (doubt : Option �
 left_of keys picture s None is = inl is
 left_of keys picture s (Some commit) is = is
 
-module _ {F R : Type 0} (of_file : F → FileState) (of_port : R → PortState) (Reliable : Type 0) (keys : Keys) (applications : List (List ℕ)) (arms : List Arm) (mode : Mode) (calls : List Step) (old new : BenchState)
-    (opening : ObjectMap) (events : List Event) (r : RunsPhase of_file of_port Reliable keys applications arms mode calls old new opening events) where
+module _ {F R : Type 0} (of_file : F → FileState) (of_port : R → PortState) (Reliable : Type 0) (keys : Keys) (applications : List (List ℕ)) (quotas : List Quota) (arms : List Arm) (mode : Mode) (calls : List Step) (old new : BenchState)
+    (opening : ObjectMap) (events : List Event) (refused : List RefusedCall) (r : RunsPhase of_file of_port Reliable keys applications quotas arms mode calls old new opening events refused) where
   open r use {closed, disarms}
 
   abbrev s : Store
   s = (r.serves).store
 
   -- the store's objects and applications are the phase's
-  objects_are : s.objects ≡ opening
+  pub objects_are : s.objects ≡ opening
   objects_are = (r.serves).opens ∙ sym r.objects
 
-  applications_are : (s.mounted).applications ≡ applications
+  pub applications_are : (s.mounted).applications ≡ applications
   applications_are = ap (λ (x : Store). (x.mounted).applications) ((r.serves).is_store).is
       ∙ ready-applications of_file of_port applications arms r.opened (r.serves).armed (r.serves).ready
 
@@ -66,7 +68,7 @@ module _ {F R : Type 0} (of_file : F → FileState) (of_port : R → PortState) 
       ∙ sym ((gate.settled).named card here).counted
 
   module _ (honest : AreAllHonest new.files) where
-    closed_honest : AreAllHonest closed.files
+    pub closed_honest : AreAllHonest closed.files
     closed_honest file = subst (λ (x : FileState). IsTrue x.honest) (disarms.files file) (honest file)
 
     closed_card : (card : CardState) → HasCard new.card (rpmb_key keys.huk) card → HasCard closed.card (rpmb_key (s.keys).huk) card
@@ -94,8 +96,8 @@ module _ {F R : Type 0} (of_file : F → FileState) (of_port : R → PortState) 
     }
 
 pub phases_leave : {F R : Type 0} (of_file : F → FileState) (of_port : R → PortState) (Reliable : Type 0) → PhasesLeave of_file of_port Reliable
-phases_leave of_file of_port Reliable keys applications arms mode calls old new opening events r honest = holds of_file of_port Reliable keys applications arms mode calls old new opening events r honest
+phases_leave of_file of_port Reliable keys applications quotas arms mode calls old new opening events refused r honest = holds of_file of_port Reliable keys applications quotas arms mode calls old new opening events refused r honest
 
 pub counters_are_of_cards : {F R : Type 0} (of_file : F → FileState) (of_port : R → PortState) (Reliable : Type 0) → CountersAreOfCards of_file of_port Reliable
-counters_are_of_cards of_file of_port Reliable keys applications arms mode calls old new opening events card r has =
-    counter_is of_file of_port Reliable keys applications arms mode calls old new opening events r card has
+counters_are_of_cards of_file of_port Reliable keys applications quotas arms mode calls old new opening events refused card r has =
+    counter_is of_file of_port Reliable keys applications quotas arms mode calls old new opening events refused r card has

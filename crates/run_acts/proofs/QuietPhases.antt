@@ -15,6 +15,7 @@ use Rattle.rpmb_card.specs.Port.{PortState}
 use Rattle.rpmb_host.specs.Honest.{HadCard}
 use Rattle.tee_types.specs.declared.reply.Device.{Device}
 use Rattle.tee_types.specs.declared.reply.Device.TheVariants.{Card, Dir, Entropy, File}
+use Rattle.app_quota.specs.declared.quotas.Quota.{Quota}
 use Rattle.store_model.specs.declared.event.Event.{Event}
 use Rattle.store_model.specs.Machine.{new_session}
 use Rattle.store_model.specs.Object.{ObjectMap}
@@ -22,8 +23,8 @@ use Rattle.store_model.specs.ReplayState.{opening}
 use Rattle.core_laws.specs.Stores.{Store, phase_of}
 use Rattle.script_text.specs.declared.script.Mode.{Mode}
 use Rattle.script_text.specs.declared.script.Step.{Step}
-use Rattle.shared_store.specs.DeviceCounts.{Rise, counts_of}
-use Rattle.shared_store.proofs.Rises.{Rise-still}
+use Rattle.quota_store.specs.DeviceCounts.{Rise, counts_of}
+use Rattle.quota_store.proofs.Rises.{Rise-still}
 use Rattle.object_calls.specs.OpeningArms.{IsOnBench}
 use Rattle.object_calls.specs.FinishedPhase.{AreAllHonest}
 use Rattle.run_acts.specs.Alterations.{AltersFile, FlipsFile, RestoresFile}
@@ -33,6 +34,7 @@ use Rattle.run_acts.specs.Crashes.{Crashes}
 use Rattle.run_acts.specs.ListedBenches.{ListsBench}
 use Rattle.run_acts.specs.Opens.{FormsBench, ReadsBlock, found, made}
 use Rattle.run_acts.specs.Phases.{RunsPhase}
+use Rattle.run_acts.specs.declared.refused_call.RefusedCall.{RefusedCall}
 use Rattle.run_acts.specs.Quiet.{AreOfMachine, IsQuiet, IsQuietFile, OpeningsStayQuiet, QuietPhasesAreOfMachine, QuietPhasesStayQuiet}
 use Rattle.run_acts.proofs.Mounted.{mount_goes_on}
 use Rattle.run_acts.proofs.MountedBenches.{each_file}
@@ -42,8 +44,8 @@ use Rattle.run_acts.proofs.Untold.{Untold, of_machine_all}
 pub not_risen : (n m : ℕ) → m ≡ n → n < 2 ^ 64 - 1 → Rose n m → ⊥
 not_risen n m same below rose = omega (arith, same, below, rose)
 
-module _ {F R : Type 0} (of_file : F → FileState) (of_port : R → PortState) (Reliable : Type 0) (keys : Keys) (applications : List (List ℕ)) (mode : Mode) (calls : List Step) (old new : BenchState)
-    (objects : ObjectMap) (events : List Event) (r : RunsPhase of_file of_port Reliable keys applications [] mode calls old new objects events)
+module _ {F R : Type 0} (of_file : F → FileState) (of_port : R → PortState) (Reliable : Type 0) (keys : Keys) (applications : List (List ℕ)) (quotas : List Quota) (mode : Mode) (calls : List Step) (old new : BenchState)
+    (objects : ObjectMap) (events : List Event) (refused : List RefusedCall) (r : RunsPhase of_file of_port Reliable keys applications quotas [] mode calls old new objects events refused)
     (was_quiet : IsQuiet keys old) where
   open r use {closed}
 
@@ -124,22 +126,22 @@ or_true : (first second : Bool) → IsTrue second → IsTrue (first || second)
 or_true true second is = refl
 or_true false second is = is
 
-module _ {F R : Type 0} (of_file : F → FileState) (of_port : R → PortState) (Reliable : Type 0) (keys : Keys) (applications : List (List ℕ)) (mode : Mode) (calls : List Step) (old new : BenchState)
-    (objects : ObjectMap) (events : List Event)
-    (r : RunsPhase of_file of_port Reliable keys applications [] mode calls old new objects events) (was_quiet : IsQuiet keys old) where
+module _ {F R : Type 0} (of_file : F → FileState) (of_port : R → PortState) (Reliable : Type 0) (keys : Keys) (applications : List (List ℕ)) (quotas : List Quota) (mode : Mode) (calls : List Step) (old new : BenchState)
+    (objects : ObjectMap) (events : List Event) (refused : List RefusedCall)
+    (r : RunsPhase of_file of_port Reliable keys applications quotas [] mode calls old new objects events refused) (was_quiet : IsQuiet keys old) where
   open r use {closed, disarms}
 
   abbrev before : BenchState
   before = opening_state of_file of_port (r.serves).armed
 
   before_quiet : IsQuiet keys before
-  before_quiet = quiet of_file of_port Reliable keys applications mode calls old new objects events r was_quiet
+  before_quiet = quiet of_file of_port Reliable keys applications quotas mode calls old new objects events refused r was_quiet
 
   left_file : (file : ℕ) → file < file_count → IsQuietFile (new.files file)
   left_file file within =
       let began = before_quiet.files file within in
-      let same = file_same of_file of_port Reliable keys applications mode calls old new objects events r was_quiet file within in
-      let starved = starved_same of_file of_port Reliable keys applications mode calls old new objects events r was_quiet file in
+      let same = file_same of_file of_port Reliable keys applications quotas mode calls old new objects events refused r was_quiet file within in
+      let starved = starved_same of_file of_port Reliable keys applications quotas mode calls old new objects events refused r was_quiet file in
       subst IsQuietFile (sym (disarms.files file)) (record {
         calm = or_true (closed.files file).tells_arms (closed.files file).calm (((((r.serves).closes).devices).files file within).calm began.calm);
         faults = subst (λ (n : ℕ). n < 2 ^ 64 - 1) (sym same) began.faults;
@@ -158,16 +160,16 @@ module _ {F R : Type 0} (of_file : F → FileState) (of_port : R → PortState) 
     files = left_file;
     calm = left_calm;
     faults = left_faults;
-    card = phase_card of_file of_port Reliable keys applications [] mode calls old new objects events r (was_quiet.card).0 (was_quiet.card).1;
+    card = phase_card of_file of_port Reliable keys applications quotas [] mode calls old new objects events refused r (was_quiet.card).0 (was_quiet.card).1;
   }
 
 pub quiet_phases_are_of_machine : {F R : Type 0} (of_file : F → FileState) (of_port : R → PortState) (Reliable : Type 0) → QuietPhasesAreOfMachine of_file of_port Reliable
-quiet_phases_are_of_machine of_file of_port Reliable keys applications mode calls old new objects events r quiet reliable honest =
-    quiet_of_machine of_file of_port Reliable keys applications mode calls old new objects events r quiet reliable honest
+quiet_phases_are_of_machine of_file of_port Reliable keys applications quotas mode calls old new objects events refused r quiet reliable honest =
+    quiet_of_machine of_file of_port Reliable keys applications quotas mode calls old new objects events refused r quiet reliable honest
 
 pub quiet_phases_stay_quiet : {F R : Type 0} (of_file : F → FileState) (of_port : R → PortState) (Reliable : Type 0) → QuietPhasesStayQuiet of_file of_port Reliable
-quiet_phases_stay_quiet of_file of_port Reliable keys applications mode calls old new objects events r quiet =
-    left_quiet of_file of_port Reliable keys applications mode calls old new objects events r quiet
+quiet_phases_stay_quiet of_file of_port Reliable keys applications quotas mode calls old new objects events refused r quiet =
+    left_quiet of_file of_port Reliable keys applications quotas mode calls old new objects events refused r quiet
 
 -- SO DOES A LIST, AND A CRASH
 pub quiet_list : {F R : Type 0} (of_file : F → FileState) (of_port : R → PortState) (keys : Keys) (old new : BenchState) (objects : ObjectMap) (lines : List ℕ)

@@ -4,7 +4,7 @@ use Rattle.std.specs.Prelude.{slice_set}
 use Rattle.std.proofs.lemmas.Bool.{cases_eq}
 use Rattle.std.proofs.lemmas.List.{get_or-set_other, get_or-set_same, get_or_default, length-set}
 use Rattle.core_laws.specs.Stores.{Store}
-use Rattle.shared_store.specs.CallerSessions.{CallerSession, IsCallerOf}
+use Rattle.quota_store.specs.CallerSessions.{CallerSession, IsCallerOf}
 use Rattle.object_calls.specs.OpeningSessions.{AreSeated}
 use Rattle.run_acts.specs.Reliable.{StayReliable}
 

@@ -8,19 +8,23 @@ use Rattle.tee_types.proofs.FileNumbers.{other_on_bench}
 use Rattle.rpmb_card.specs.Port.{PortState}
 use Rattle.tee_types.specs.declared.reply.Device.{Device}
 use Rattle.tee_types.specs.declared.reply.Device.TheVariants.{Card, Dir, Entropy, File}
+use Rattle.app_quota.specs.declared.quotas.Quota.{Quota}
 use Rattle.store_model.specs.declared.event.Event.{Event}
 use Rattle.core_laws.specs.Stores.{Store}
 use Rattle.script_text.specs.declared.script.Mode.TheVariants.{Serial, Threads}
 use Rattle.script_text.specs.declared.script.Step.{Step}
-use Rattle.shared_store.specs.DeviceCounts.{Rise, counts_of}
+use Rattle.quota_store.specs.DeviceCounts.{Rise, counts_of}
 use Rattle.object_calls.specs.OpeningArms.{IsOnBench}
 use Rattle.object_calls.specs.Opening.{OpeningValue}
 use Rattle.object_calls.proofs.Files.{directory_here}
-use Rattle.shared_store.proofs.CountGrowth.{same_file_goes_on}
+use Rattle.quota_store.proofs.CountGrowth.{same_file_goes_on}
 use Rattle.run_acts.specs.Benches.{BenchState, opening_state}
 use Rattle.run_acts.specs.Closing.{ClosesStore, faults_on}
+use Rattle.run_acts.specs.QuotaClosing.{ClosesSharedWithin, ClosesWithin}
+use Rattle.run_acts.specs.QuotaRefusals.{admitted}
 use Rattle.run_acts.specs.SharedClosing.{ClosesShared}
 use Rattle.run_acts.specs.Sharing.{opening_devices}
+use Rattle.run_acts.specs.declared.refused_call.RefusedCall.{RefusedCall}
 
 threads_not_serial : Threads ≡ Serial → ⊥
 threads_not_serial is = cc
@@ -58,3 +62,13 @@ module _ {F R : Type 0} (of_file : F → FileState) (of_port : R → PortState) 
     drawn = c.drawn;
     undrawn = c.undrawn;
   }
+
+-- so under quotas
+pub shared_within : {F R : Type 0} (of_file : F → FileState) (of_port : R → PortState) (Reliable : Type 0) (store : Store) (o : OpeningValue F R) (quotas : List Quota) (calls : List Step) (closed : BenchState)
+    (events : List Event) (refused : List RefusedCall) → ClosesSharedWithin Reliable store quotas (opening_devices of_file of_port o) calls closed.files closed.card events refused
+    → ClosesWithin Reliable store quotas (opening_state of_file of_port o) Threads calls closed events refused
+unfolding shared_closes
+shared_within of_file of_port Reliable store o quotas calls closed events refused c = record {
+  closes = shared_closes of_file of_port Reliable store o (admitted refused calls) closed events c.closes;
+  quotas_kept = c.quotas_kept;
+}

@@ -14,10 +14,10 @@ use Rattle.history_seats.specs.Records.{HistoryRecord}
 use Rattle.history_seats.specs.Views.{GateView, Sight, SlotView}
 use Rattle.core_laws.specs.Stores.{Store}
 use Rattle.core_laws.proofs.Mending.{some_same}
-use Rattle.shared_store.specs.SlotValues.{SlotValue}
+use Rattle.quota_store.specs.SlotValues.{SlotValue}
 use Rattle.store_commit.specs.Gates.{GateValue}
-use Rattle.shared_store.specs.Devices.{Devices}
-use Rattle.shared_store.proofs.CountGrowth.{same_file_goes_on, same_port_goes_on}
+use Rattle.quota_store.specs.Devices.{Devices}
+use Rattle.quota_store.proofs.CountGrowth.{same_file_goes_on, same_port_goes_on}
 use Rattle.object_calls.specs.OpeningFiles.{files_of}
 use Rattle.object_calls.specs.Opening.{OpeningValue, bench_files, entries_in}
 use Rattle.object_calls.specs.Retiring.{IsPlaced}
@@ -25,12 +25,12 @@ use Rattle.object_calls.specs.Services.{ServiceValue, slot_for}
 use Rattle.object_calls.specs.ServedPhases.{ServesOpening}
 use Rattle.run_acts.proofs.Closings.{file_opened}
 use Rattle.object_calls.proofs.FirstParts.{none_tagged}
-use Rattle.shared_store.specs.Cards.{TellsCard}
-use Rattle.shared_store.specs.DeviceCounts.{Rise, counts_of}
-use Rattle.shared_store.proofs.Cards.{TellsCard-none}
+use Rattle.quota_store.specs.Cards.{TellsCard}
+use Rattle.quota_store.specs.DeviceCounts.{Rise, counts_of}
+use Rattle.quota_store.proofs.Cards.{TellsCard-none}
 use Rattle.history_seats.specs.Tags.{AreTagged}
-use Rattle.shared_store.specs.Kept.{AreOfSessions, KeepsGate, KeepsSlot}
-use Rattle.shared_store.proofs.KeptSlots.{counts-seen}
+use Rattle.quota_store.specs.Kept.{AreOfSessions, KeepsGate, KeepsSlot}
+use Rattle.quota_store.proofs.KeptSlots.{counts-seen}
 use Rattle.run_acts.specs.Sharing.{AreKept, opening_devices}
 
 -- ONE SLOT AFTER ANOTHER

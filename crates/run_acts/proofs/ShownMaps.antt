@@ -14,7 +14,7 @@ use Rattle.crash_core.specs.Holding.{held_at}
 use Rattle.crash_core.specs.Mounting.{Held, map_of}
 use Rattle.crash_core.proofs.EntryMaps.{IsApart}
 use Rattle.crash_core.proofs.Lists.{map_at}
-use Rattle.shared_store.proofs.SameMaps.{map_found, map_none, map_rising, same_maps}
+use Rattle.quota_store.proofs.SameMaps.{map_found, map_none, map_rising, same_maps}
 use Rattle.object_calls.specs.OpeningEntries.{IsNonePast}
 use Rattle.run_acts.specs.ListedObjects.{ShownStep, ShowsAll, name_shown, objects_of}
 use Rattle.run_acts.proofs.ShownOrder.{HaveAll, find_named, shows_absent, shows_rising, shows_under}

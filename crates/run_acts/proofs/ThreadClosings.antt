@@ -1,5 +1,5 @@
 -- What a store that was shared is, once it is closed.
-use Rattle.std.proofs.Common.{◌≤◌, ◌≡◌, ◌∙◌, ◌+◌, ◌<◌, ◌⊎◌, ℕ, List, [], ◌∷◌, ◌++◌, length, slice_index_or, true, Option, refl, sym, ap, subst, inl, inr, length-append, arith}
+use Rattle.std.proofs.Common.{◌≤◌, ◌≡◌, ◌∙◌, ◌+◌, ◌<◌, ◌⊎◌, ℕ, List, [], ◌++◌, length, slice_index_or, true, Option, sym, ap, subst, inl, inr, length-append, arith}
 use Rattle.std.specs.List.{list_all}
 use Rattle.std.proofs.lemmas.List.{append-nil}
 use Rattle.std.proofs.lemmas.Bool.{cases_eq, cases_lt, eqb-true}
@@ -11,23 +11,24 @@ use Rattle.tee_types.specs.Limits.{directory_file, file_count, last_file, old_di
 use Rattle.tee_types.proofs.FileNumbers.{other_on_bench}
 use Rattle.rpmb_card.specs.Port.{PortState}
 use Rattle.tee_types.specs.declared.call.Call.{Call}
+use Rattle.app_quota.specs.declared.quotas.Quota.{Quota}
 use Rattle.store_model.specs.declared.event.Event.{Event}
 use Rattle.store_model.specs.History.{calls_of}
 use Rattle.store_model.specs.Record.{events_of}
 use Rattle.history_seats.specs.Views.{GateView, PassView, Sight}
 use Rattle.core_laws.specs.Stores.{Store}
 use Rattle.core_laws.proofs.Mending.{some_same}
-use Rattle.shared_store.specs.CallerSessions.{CallerSession, IsCallerOf}
+use Rattle.quota_store.specs.CallerSessions.{CallerSession, IsCallerOf}
 use Rattle.script_text.specs.declared.script.Mode.TheVariants.{Threads}
 use Rattle.script_text.specs.declared.script.Step.{Step}
-use Rattle.shared_store.specs.SlotValues.{SlotValue}
-use Rattle.shared_store.specs.GuardedGates.{GuardedGateValue}
+use Rattle.quota_store.specs.SlotValues.{SlotValue}
+use Rattle.quota_store.specs.GuardedGates.{GuardedGateValue}
 use Rattle.tee_types.specs.declared.reply.Device.TheVariants.{Card, Dir, File}
-use Rattle.shared_store.specs.Cards.{TellsCard}
-use Rattle.shared_store.specs.DeviceCounts.{Rise, counts_of, draws_of}
-use Rattle.shared_store.specs.Devices.{Devices, PortGoesOn}
-use Rattle.shared_store.proofs.CountGrowth.{same_file_goes_on}
-use Rattle.shared_store.proofs.Rises.{Rise-still}
+use Rattle.quota_store.specs.Cards.{TellsCard}
+use Rattle.quota_store.specs.DeviceCounts.{Rise, counts_of, draws_of}
+use Rattle.quota_store.specs.Devices.{Devices, PortGoesOn}
+use Rattle.quota_store.proofs.CountGrowth.{same_file_goes_on}
+use Rattle.quota_store.proofs.Rises.{Rise-still}
 use Rattle.object_calls.specs.OpeningFiles.{files_of}
 use Rattle.object_calls.specs.FinishedPhase.{HasCounted, HaveCounted, LeavesStore}
 use Rattle.object_calls.specs.Retiring.{IsPlaced}
@@ -36,25 +37,24 @@ use Rattle.run_acts.specs.Reliable.{AreFresh, AreReliable}
 use Rattle.run_acts.specs.ServedSteps.{AreCalls, ServesFront, calls_in}
 use Rattle.run_acts.specs.Benches.{BenchState}
 use Rattle.run_acts.specs.Closing.{BenchGoesOn}
-use Rattle.shared_store.specs.Kept.{AreOfSessions, KeepsGate}
+use Rattle.quota_store.specs.Kept.{AreOfSessions, KeepsGate}
 use Rattle.run_acts.specs.SharedClosing.{ClosesShared}
 use Rattle.run_acts.specs.OwnCalls.{HasMade, HasStopped, HaveWorked, is_done, own_calls}
+use Rattle.run_acts.specs.QuotaClosing.{ClosesSharedWithin}
+use Rattle.run_acts.specs.QuotaRefusals.{KeepsPhaseQuotas, admitted}
+use Rattle.run_acts.specs.declared.refused_call.RefusedCall.{RefusedCall}
 use Rattle.run_acts.specs.OwnDraws.{own_draws}
 use Rattle.run_acts.specs.Seen.{seen_by}
 use Rattle.run_acts.specs.Sharing.{AreKept, IsBenchOf}
-use Rattle.run_acts.proofs.Calls.{calls_in-past, calls_of-begins, calls_of-none, calls_of-past}
+use Rattle.run_acts.proofs.Calls.{calls_in-past, calls_of-begins, calls_of-past}
+use Rattle.run_acts.proofs.Lists.{at_each}
+use Rattle.run_acts.proofs.Makings.{unmade-own}
 use Rattle.run_acts.proofs.ThreadDraws.{draws_of-begins, draws_of-none}
 use Rattle.history_seats.specs.Tags.{AreTagged}
 use Rattle.run_acts.proofs.Sharings.{each_counted, each_goes_on}
 
 module _ {E : Type 0} (is_reliable : E → Type 0) (draws : E → ℕ) (store : Store) where
-  -- a session without events has no calls
-  unmade_calls : (s : CallerSession E) → IsCallerOf store s → s.made ≡ 0 → own_calls s ≡ []
-  unmade_calls s caller none =
-      let pass = caller.session.pass in
-      ap (λ (p : Option (Sight PassView)). calls_of s.number (events_of (seen_by p))) caller.session.is
-      ∙ calls_of-none s.number (events_of pass.knows.seen) (sym caller.session.made ∙ none)
-
+  -- a session without events has drawn nothing
   unmade_draws : (s : CallerSession E) → IsCallerOf store s → s.made ≡ 0 → own_draws s ≡ []
   unmade_draws s caller none =
       let pass = caller.session.pass in
@@ -115,7 +115,7 @@ module _ {E : Type 0} (is_reliable : E → Type 0) (draws : E → ℕ) (store : 
             ap (λ (n : ℕ). calls_of n (events_of view.all)) (sym (stopped.number ∙ number))
             ∙ own_in_all view last stopped.caller (counted app d still)
             ∙ stopped.calls_are
-            ∙ ap (λ (l : List Call). l ++ stopped.front) (unmade_calls first (seated.each app d within) (unmade app d within)))),
+            ∙ ap (λ (l : List Call). l ++ stopped.front) (unmade-own store first (seated.each app d within) (unmade app d within)))),
       )
 
       module _ (made : HasMade is_reliable draws store first last (calls_in first.number steps)) where
@@ -124,7 +124,7 @@ module _ {E : Type 0} (is_reliable : E → Type 0) (draws : E → ℕ) (store : 
             ap (λ (n : ℕ). calls_of n (events_of view.all)) (sym (made.number ∙ number))
             ∙ own_in_all view last made.caller (counted app d still)
             ∙ made.calls_are
-            ∙ ap (λ (l : List Call). l ++ calls_in first.number steps) (unmade_calls first (seated.each app d within) (unmade app d within))
+            ∙ ap (λ (l : List Call). l ++ calls_in first.number steps) (unmade-own store first (seated.each app d within) (unmade app d within))
             ∙ ap (λ (n : ℕ). calls_in n steps) number
 
         one_drawn : own_draws last ≡ draws_of app (events_of view.all)
@@ -141,11 +141,6 @@ module _ {E : Type 0} (is_reliable : E → Type 0) (draws : E → ℕ) (store : 
         one_still fresh reliable =
             let none : draws last.entropy ≡ 0 = (made.drawn.steady reliable).1 ∙ fresh app d within in
             Rise-still 0 (draws_of app (events_of view.all)) (omega arith) (subst (λ (n : ℕ). Rise 0 n (draws_of app (events_of view.all))) none (one_rises fresh))
-
-    -- what holds of each place of a list holds of each number below its length
-    at_each : (P : ℕ → Type 0) → ((app : ℕ) (d : CallerSession E) → app < length was → P app) → (l : List (CallerSession E)) → l ≡ was → (app : ℕ) → app < length l → P app
-    at_each P all [] is app within = absurd (omega (arith, within))
-    at_each P all (s ∷ l) is app within = all app s (subst (λ (x : List (CallerSession E)). app < length x) is within)
 
     -- no session has a greater number
     other_serves : (app : ℕ) → length was ≤ app → (calls : AreCalls (length was) steps) → AreOfSessions (length store.mounted.applications) (events_of view.all) → calls_of app (events_of view.all) ≡ calls_in app steps
@@ -164,7 +159,7 @@ module _ {E : Type 0} (is_reliable : E → Type 0) (draws : E → ℕ) (store : 
     -- So the events of each application are its first calls.
     pub front_serves : AreCalls (length was) steps → AreOfSessions (length store.mounted.applications) (events_of view.all) → ServesFront Threads steps (events_of view.all)
     front_serves calls known app = elim (cases_lt app (length was)) [
-      | inl within ↦ at_each (λ n. (rest : List Call) × (calls_in n steps ≡ calls_of n (events_of view.all) ++ rest)) one_front was refl app within
+      | inl within ↦ at_each was (λ n. (rest : List Call) × (calls_in n steps ≡ calls_of n (events_of view.all) ++ rest)) one_front app within
       | inr past ↦ all_of app (other_serves app (omega (arith, past)) calls known)
     ]
 
@@ -177,18 +172,18 @@ module _ {E : Type 0} (is_reliable : E → Type 0) (draws : E → ℕ) (store : 
 
       pub all_serve : AreCalls (length was) steps → AreOfSessions (length store.mounted.applications) (events_of view.all) → (app : ℕ) → calls_of app (events_of view.all) ≡ calls_in app steps
       all_serve calls known app = elim (cases_lt app (length was)) [
-        | inl within ↦ at_each (λ n. calls_of n (events_of view.all) ≡ calls_in n steps) (λ n d below. one_serves n d below (made n d below)) was refl app within
+        | inl within ↦ at_each was (λ n. calls_of n (events_of view.all) ≡ calls_in n steps) (λ n d below. one_serves n d below (made n d below)) app within
         | inr past ↦ other_serves app (omega (arith, past)) calls known
       ]
 
       pub all_drawn : AreFresh draws was → (session : ℕ) → session < length store.mounted.applications → (last : ℕ) × Rise 0 last (draws_of session (events_of view.all))
       all_drawn fresh session within =
-          at_each (λ n. (last : ℕ) × Rise 0 last (draws_of n (events_of view.all))) (λ n d below. (draws (slice_index_or now n d).entropy, one_rises n d below (made n d below) fresh)) was refl session
+          at_each was (λ n. (last : ℕ) × Rise 0 last (draws_of n (events_of view.all))) (λ n d below. (draws (slice_index_or now n d).entropy, one_rises n d below (made n d below) fresh)) session
           (omega (arith, within, seated.many))
 
       pub all_undrawn : AreFresh draws was → AreReliable is_reliable was → (session : ℕ) → session < length store.mounted.applications → draws_of session (events_of view.all) ≡ []
       all_undrawn fresh reliable session within =
-          at_each (λ n. draws_of n (events_of view.all) ≡ []) (λ n d below. one_still n d below (made n d below) fresh (reliable n d below)) was refl session (omega (arith, within, seated.many))
+          at_each was (λ n. draws_of n (events_of view.all) ≡ []) (λ n d below. one_still n d below (made n d below) fresh (reliable n d below)) session (omega (arith, within, seated.many))
 
 -- each session is the store's still
 pub worked_callers : {E : Type 0} (is_reliable : E → Type 0) (draws : E → ℕ) (store : Store) (steps : List Step) (was now : List (CallerSession E)) → length now ≡ length was → HaveWorked is_reliable draws store steps was now → AreCallers store now
@@ -250,6 +245,18 @@ module _ {F R : Type 0} (of_file : F → FileState) (of_port : R → PortState) 
     undrawn = λ reliable session within. ap (draws_of session) is ∙ undrawn reliable session within;
   }
 
+  -- under quotas, which its history keeps
+  pub closes_shared_within : (Reliable : Type 0) (quotas : List Quota) (calls : List Step) (refused : List RefusedCall) (events : List Event) (doubt : Option ℕ) → events ≡ all
+      → ((app : ℕ) → calls_of app all ≡ calls_in app (admitted refused calls)) → ((session : ℕ) → session < length store.mounted.applications → (last : ℕ) × Rise 0 last (draws_of session all))
+      → (Reliable → (session : ℕ) → session < length store.mounted.applications → draws_of session all ≡ [])
+      → card ≡ gate.gate.host.port → LeavesStore store gate.journal.knows (files_of of_file files) (of_port card) doubt → KeepsPhaseQuotas quotas store gate.journal.knows.all calls refused
+      → ClosesSharedWithin Reliable store quotas before calls (files_of of_file files) (of_port card) events refused
+  unfolding closes_shared
+  closes_shared_within Reliable quotas calls refused events doubt is serve drawn undrawn port leaves quotas_kept = record {
+    closes = closes_shared Reliable (admitted refused calls) events doubt is serve drawn undrawn port leaves;
+    quotas_kept = quotas_kept;
+  }
+
 -- under a narrower premise on the generators
 pub closes_where : (A B : Type 0) (store : Store) (before : Devices) (calls : List Step) (files : ℕ → FileState) (card : PortState) (events : List Event) → (B → A)
     → ClosesShared A store before calls files card events → ClosesShared B store before calls files card events
@@ -269,4 +276,12 @@ closes_where A B store before calls files card events narrower c = record {
   told = c.told;
   drawn = c.drawn;
   undrawn = λ b. c.undrawn (narrower b);
+}
+
+pub closes_within_where : (A B : Type 0) (store : Store) (quotas : List Quota) (before : Devices) (calls : List Step) (files : ℕ → FileState) (card : PortState) (events : List Event) (refused : List RefusedCall) → (B → A)
+    → ClosesSharedWithin A store quotas before calls files card events refused → ClosesSharedWithin B store quotas before calls files card events refused
+unfolding closes_where
+closes_within_where A B store quotas before calls files card events refused narrower c = record {
+  closes = closes_where A B store before (admitted refused calls) files card events narrower c.closes;
+  quotas_kept = c.quotas_kept;
 }

@@ -12,10 +12,10 @@ use Rattle.store_model.specs.History.{count_of, numbers_of}
 use Rattle.store_model.specs.Record.{events_of}
 use Rattle.history_seats.specs.Records.{HistoryRecord, IsUpToDate, is_of_session}
 use Rattle.history_seats.proofs.Numbering.{count-append, count-begins}
-use Rattle.shared_store.specs.DeviceCounts.{Rise, draws_of, told_of}
-use Rattle.shared_store.specs.Devices.{Grows}
-use Rattle.shared_store.proofs.CarriedCounts.{draws_of-append}
-use Rattle.shared_store.specs.SharedCounts.{CarriesDraws}
+use Rattle.quota_store.specs.DeviceCounts.{Rise, draws_of, told_of}
+use Rattle.quota_store.specs.Devices.{Grows}
+use Rattle.quota_store.proofs.CarriedCounts.{draws_of-append}
+use Rattle.quota_store.specs.SharedCounts.{CarriesDraws}
 
 -- a session without events has no counts
 cond-none : (own : Bool) (number : ℕ) (numbers told rest : List ℕ) → length (cond own (number ∷ numbers) numbers) ≡ 0 → (length numbers ≡ 0 → rest ≡ []) → cond own (told ++ rest) rest ≡ []
@@ -28,7 +28,15 @@ draws_of-none session (CallEvent s number call reply mark ∷ events) none =
     cond-none (s == session) number (numbers_of session events) (told_of Entropy reply) (draws_of session events) none (draws_of-none session events)
 draws_of-none session (Landed commit ∷ events) none = draws_of-none session events none
 
--- a view that goes on by events of others and one more
+-- a view that goes on by events of others
+pub draws_of-quiet : (session : ℕ) (seen between : List HistoryRecord) → count_of session (events_of between) ≡ 0 → draws_of session (events_of (seen ++ between)) ≡ draws_of session (events_of seen)
+draws_of-quiet session seen between none =
+    ap (draws_of session) (map-append (λ (r : HistoryRecord). r.event) seen between)
+    ∙ draws_of-append session (events_of seen) (events_of between)
+    ∙ ap (λ (l : List ℕ). draws_of session (events_of seen) ++ l) (draws_of-none session (events_of between) none)
+    ∙ append-nil (draws_of session (events_of seen))
+
+-- and one more
 pub draws_of-more : (session : ℕ) (seen between : List HistoryRecord) (last : HistoryRecord) → count_of session (events_of between) ≡ 0
     → draws_of session (events_of ((seen ++ between) ++ last ∷ [])) ≡ draws_of session (events_of seen) ++ draws_of session (last.event ∷ [])
 draws_of-more session seen between last none =

@@ -2,7 +2,7 @@
 use Rattle.std.proofs.Common.{◌≡◌, ◌∙◌, ◌+◌, ◌<◌, ℕ, List, [], ◌∷◌, ◌++◌, length, slice_index_or, refl, sym, ap, inl, inr, arith}
 use Rattle.std.proofs.lemmas.Bool.{cases_eq}
 use Rattle.std.proofs.lemmas.List.{get_or_append_left, get_or_push, length_push}
-use Rattle.shared_store.specs.CallerSessions.{CallerSession}
+use Rattle.quota_store.specs.CallerSessions.{CallerSession}
 use Rattle.object_calls.specs.OpeningSessions.{AreUnseated, unseated}
 
 module _ {E : Type 0} where

@@ -14,6 +14,7 @@ use Rattle.rpmb_host.specs.Honest.{HasCard}
 use Rattle.script_text.specs.declared.script.Arm.{Arm}
 use Rattle.script_text.specs.declared.script.Mode.{Mode}
 use Rattle.script_text.specs.declared.script.Step.{Step}
+use Rattle.app_quota.specs.declared.quotas.Quota.{Quota}
 use Rattle.store_model.specs.declared.event.Event.{Event}
 use Rattle.store_model.specs.Object.{ObjectMap}
 use Rattle.object_calls.specs.Opening.{OpeningValue, bench_files}
@@ -26,6 +27,7 @@ use Rattle.run_acts.specs.Left.{AreLeft, HoldsLeft, replay_left}
 use Rattle.run_acts.specs.MountedDevices.{IsMounted}
 use Rattle.run_acts.specs.Opens.{FormsBench, found, made}
 use Rattle.run_acts.specs.Phases.{RunsPhase}
+use Rattle.run_acts.specs.declared.refused_call.RefusedCall.{RefusedCall}
 use Rattle.run_acts.specs.Untainted.{AreUntainted, ArmNoMask, CrashesStayUntainted, FlipsStayUntainted, RestoresStayUntainted, IsUntainted, ListsStayUntainted, OpeningsStayUntainted, PhasesStayUntainted, RefusalsStayHonest, UntaintedFilesAreHonest}
 use Rattle.run_acts.proofs.ArmedFiles.{unmasked_keep}
 use Rattle.run_acts.proofs.CrashedLaws.{card_of, crashes_keep}
@@ -131,8 +133,8 @@ untainted_readable of_file of_port keys old o m u file = elim (cases_lt file fil
   | inr beyond ↦ inr (subst (λ (s : FileState). IsTrue s.steady) (sym (u.past file beyond)) refl)
 ]
 
-module _ {F R : Type 0} (of_file : F → FileState) (of_port : R → PortState) (Reliable : Type 0) (keys : Keys) (applications : List (List ℕ)) (arms : List Arm) (mode : Mode) (calls : List Step) (old new : BenchState)
-    (opening : ObjectMap) (events : List Event) (r : RunsPhase of_file of_port Reliable keys applications arms mode calls old new opening events) (unmasked : ArmNoMask arms) (u : AreUntainted old.files) where
+module _ {F R : Type 0} (of_file : F → FileState) (of_port : R → PortState) (Reliable : Type 0) (keys : Keys) (applications : List (List ℕ)) (quotas : List Quota) (arms : List Arm) (mode : Mode) (calls : List Step) (old new : BenchState)
+    (opening : ObjectMap) (events : List Event) (refused : List RefusedCall) (r : RunsPhase of_file of_port Reliable keys applications quotas arms mode calls old new opening events refused) (unmasked : ArmNoMask arms) (u : AreUntainted old.files) where
   open r use {closed, disarms}
 
   abbrev opened : BenchState
@@ -152,20 +154,20 @@ module _ {F R : Type 0} (of_file : F → FileState) (of_port : R → PortState) 
   phase_untainted = record { each = left_untainted; past = r.past }
 
 pub phases_stay_untainted : {F R : Type 0} (of_file : F → FileState) (of_port : R → PortState) (Reliable : Type 0) → PhasesStayUntainted of_file of_port Reliable
-phases_stay_untainted of_file of_port Reliable keys applications arms mode calls old new opening events r unmasked u =
-    phase_untainted of_file of_port Reliable keys applications arms mode calls old new opening events r unmasked u
+phases_stay_untainted of_file of_port Reliable keys applications quotas arms mode calls old new opening events refused r unmasked u =
+    phase_untainted of_file of_port Reliable keys applications quotas arms mode calls old new opening events refused r unmasked u
 
 pub next_openings_are_left : {F R : Type 0} (of_file : F → FileState) (of_port : R → PortState) (Reliable : Type 0) → NextOpeningsAreLeft of_file of_port Reliable
-next_openings_are_left of_file of_port Reliable keys applications arms mode calls old new opening events between o card r unmasked u may sound m has =
+next_openings_are_left of_file of_port Reliable keys applications quotas arms mode calls old new opening events refused between o card r unmasked u may sound m has =
     let left = replay_left opening applications events in
-    let after = phase_untainted of_file of_port Reliable keys applications arms mode calls old new opening events r unmasked u in
+    let after = phase_untainted of_file of_port Reliable keys applications quotas arms mode calls old new opening events refused r unmasked u in
     let honest = untainted_files_are_honest new.files after in
-    let holds : HoldsLeft keys between left = crashes_keep keys left new between (phases_leave of_file of_port Reliable keys applications arms mode calls old new opening events r honest) may in
+    let holds : HoldsLeft keys between left = crashes_keep keys left new between (phases_leave of_file of_port Reliable keys applications quotas arms mode calls old new opening events refused r honest) may in
     let there : HasCard between.card (rpmb_key keys.huk) card =
     card_of between.card new.card (rpmb_key keys.huk) card (ap (λ (p : PortState). p.card) (sym may.card)) has in
     mounts_open_with_left of_file of_port keys left between o card holds sound m (untainted_readable of_file of_port keys between o m (crashes_stay_untainted new between after may)) there
 
 pub next_phases_open_with_left : {F R : Type 0} (of_file : F → FileState) (of_port : R → PortState) (Reliable : Type 0) → NextPhasesOpenWithLeft of_file of_port Reliable
-next_phases_open_with_left of_file of_port Reliable keys applications later arms more mode next calls others old new between last opening objects events after card r unmasked u may second has =
+next_phases_open_with_left of_file of_port Reliable keys applications later quotas allowed arms more mode next calls others old new between last opening objects events after refused declined card r unmasked u may second has =
     subst (AreLeft (replay_left opening applications events)) (sym second.objects)
-    (next_openings_are_left of_file of_port Reliable keys applications arms mode calls old new opening events between second.opened card r unmasked u may second.sound second.mounts has)
+    (next_openings_are_left of_file of_port Reliable keys applications quotas arms mode calls old new opening events refused between second.opened card r unmasked u may second.sound second.mounts has)

@@ -20,8 +20,8 @@ use Rattle.store_model.specs.Legal.IsLegalAnswer.{Answered, Doubted, FoundCorrup
 use Rattle.store_model.specs.Record.{Record, events_of, fault_in_reply, file_of}
 use Rattle.store_model.specs.ReplayState.{ReplayState, keeps_doubt, replay_after, replay_after_call}
 use Rattle.store_model.proofs.Sessions.{length-after}
-use Rattle.shared_store.specs.Cards.{TellNoFrame}
-use Rattle.shared_store.specs.DeviceCounts.{counts_of, draws_of, told_of}
+use Rattle.quota_store.specs.Cards.{TellNoFrame}
+use Rattle.quota_store.specs.DeviceCounts.{counts_of, draws_of, told_of}
 use Rattle.object_calls.specs.OpeningArms.{IsOnBench}
 use Rattle.run_acts.specs.Quiet.{AreOfMachine, IsOfMachine}
 

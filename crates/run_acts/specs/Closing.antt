@@ -11,9 +11,9 @@ use Rattle.history_seats.specs.Views.{GateView}
 use Rattle.core_laws.specs.Stores.{Store}
 use Rattle.script_text.specs.declared.script.Mode.{Mode}
 use Rattle.script_text.specs.declared.script.Step.{Step}
-use Rattle.shared_store.specs.Cards.{TellsCard}
-use Rattle.shared_store.specs.DeviceCounts.{Rise, counts_of, draws_of}
-use Rattle.shared_store.specs.Devices.{PortGoesOn}
+use Rattle.quota_store.specs.Cards.{TellsCard}
+use Rattle.quota_store.specs.DeviceCounts.{Rise, counts_of, draws_of}
+use Rattle.quota_store.specs.Devices.{PortGoesOn}
 use Rattle.object_calls.specs.OpeningArms.{IsOnBench}
 use Rattle.object_calls.specs.FinishedPhase.{LeavesStore}
 use Rattle.run_acts.specs.Benches.{BenchState}

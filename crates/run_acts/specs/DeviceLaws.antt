@@ -10,6 +10,7 @@ use Rattle.script_text.specs.declared.script.Arm.{Arm}
 use Rattle.script_text.specs.declared.script.Mode.{Mode}
 use Rattle.script_text.specs.declared.script.Step.{Step}
 use Rattle.store_commit.specs.declared.fault.MountFault.{MountFault}
+use Rattle.app_quota.specs.declared.quotas.Quota.{Quota}
 use Rattle.store_model.specs.declared.event.Event.{Event}
 use Rattle.store_model.specs.Object.{ObjectMap}
 use Rattle.store_model.specs.ReplayState.{ReplayState}
@@ -25,6 +26,7 @@ use Rattle.run_acts.specs.Phases.{RunsPhase}
 use Rattle.run_acts.specs.Between.{AreReadable, AreSound, AreSteady, MayCrash}
 use Rattle.run_acts.specs.Untainted.{AreUntainted, ArmNoMask}
 use Rattle.run_acts.specs.Left.{AreLeft, HoldsLeft, replay_left}
+use Rattle.run_acts.specs.declared.refused_call.RefusedCall.{RefusedCall}
 
 -- a crash of all files, whatever image each takes
 abbrev pub CrashesMayBe : Type 0
@@ -70,15 +72,17 @@ module _ {F R : Type 0} (of_file : F → FileState) (of_port : R → PortState) 
   -- A phase leaves a bench that holds what its history leaves, where every file is honest still.
   abbrev pub PhasesLeave : (Reliable : Type 0) → Type 0
   PhasesLeave Reliable =
-      (keys : Keys) (applications : List (List ℕ)) (arms : List Arm) (mode : Mode) (calls : List Step) (old new : BenchState) (opening : ObjectMap) (events : List Event)
-      → RunsPhase of_file of_port Reliable keys applications arms mode calls old new opening events → AreAllHonest new.files
+      (keys : Keys) (applications : List (List ℕ)) (quotas : List Quota) (arms : List Arm) (mode : Mode) (calls : List Step) (old new : BenchState) (opening : ObjectMap) (events : List Event)
+      (refused : List RefusedCall)
+      → RunsPhase of_file of_port Reliable keys applications quotas arms mode calls old new opening events refused → AreAllHonest new.files
       → HoldsLeft keys new (replay_left opening applications events)
 
   -- The counter from which a phase's history is legal is that of the card, where one with the key is told as the phase begins.
   abbrev pub CountersAreOfCards : (Reliable : Type 0) → Type 0
   CountersAreOfCards Reliable =
-      (keys : Keys) (applications : List (List ℕ)) (arms : List Arm) (mode : Mode) (calls : List Step) (old new : BenchState) (opening : ObjectMap) (events : List Event) (card : CardState)
-      → (r : RunsPhase of_file of_port Reliable keys applications arms mode calls old new opening events) → HasCard old.card (rpmb_key keys.huk) card
+      (keys : Keys) (applications : List (List ℕ)) (quotas : List Quota) (arms : List Arm) (mode : Mode) (calls : List Step) (old new : BenchState) (opening : ObjectMap) (events : List Event)
+      (refused : List RefusedCall) (card : CardState)
+      → (r : RunsPhase of_file of_port Reliable keys applications quotas arms mode calls old new opening events refused) → HasCard old.card (rpmb_key keys.huk) card
       → ((r.serves).store).counter ≡ card.counter
 
   -- A bench is mounted with objects that it holds.
@@ -92,19 +96,20 @@ module _ {F R : Type 0} (of_file : F → FileState) (of_port : R → PortState) 
   -- phase began, the objects are those that the phase's history leaves, or those with its commit in doubt.
   abbrev pub NextOpeningsAreLeft : (Reliable : Type 0) → Type 0
   NextOpeningsAreLeft Reliable =
-      (keys : Keys) (applications : List (List ℕ)) (arms : List Arm) (mode : Mode) (calls : List Step) (old new : BenchState) (opening : ObjectMap) (events : List Event)
+      (keys : Keys) (applications : List (List ℕ)) (quotas : List Quota) (arms : List Arm) (mode : Mode) (calls : List Step) (old new : BenchState) (opening : ObjectMap) (events : List Event)
+      (refused : List RefusedCall)
       (between : BenchState) (o : OpeningValue F R) (card : CardState)
-      → RunsPhase of_file of_port Reliable keys applications arms mode calls old new opening events → ArmNoMask arms → AreUntainted old.files → MayCrash new between
+      → RunsPhase of_file of_port Reliable keys applications quotas arms mode calls old new opening events refused → ArmNoMask arms → AreUntainted old.files → MayCrash new between
       → AreSound between.files → IsMounted of_file of_port keys between o → HasCard new.card (rpmb_key keys.huk) card
       → AreLeft (replay_left opening applications events) (objects_in of_file of_port keys o)
 
   -- So the next phase opens with them.
   abbrev pub NextPhasesOpenWithLeft : (Reliable : Type 0) → Type 0
   NextPhasesOpenWithLeft Reliable =
-      (keys : Keys) (applications later : List (List ℕ)) (arms more : List Arm) (mode next : Mode) (calls others : List Step) (old new between last : BenchState)
-      (opening objects : ObjectMap) (events after : List Event) (card : CardState)
-      → RunsPhase of_file of_port Reliable keys applications arms mode calls old new opening events → ArmNoMask arms → AreUntainted old.files → MayCrash new between
-      → RunsPhase of_file of_port Reliable keys later more next others between last objects after → HasCard new.card (rpmb_key keys.huk) card
+      (keys : Keys) (applications later : List (List ℕ)) (quotas allowed : List Quota) (arms more : List Arm) (mode next : Mode) (calls others : List Step) (old new between last : BenchState)
+      (opening objects : ObjectMap) (events after : List Event) (refused declined : List RefusedCall) (card : CardState)
+      → RunsPhase of_file of_port Reliable keys applications quotas arms mode calls old new opening events refused → ArmNoMask arms → AreUntainted old.files → MayCrash new between
+      → RunsPhase of_file of_port Reliable keys later allowed more next others between last objects after declined → HasCard new.card (rpmb_key keys.huk) card
       → AreLeft (replay_left opening applications events) objects
 
   -- A list shows them.

@@ -2,8 +2,16 @@ pub mod PhaseArms
 pub mod Disarming
 pub mod PhaseServing
 pub mod Closing
+pub mod QuotaRefusals
+pub mod OwnQuotas
+pub mod QuotaCalls
+pub mod QuotaWork
+pub mod QuotaCrews
+pub mod QuotaClosing
 pub mod Phases
 pub mod PhaseRefusals
+pub mod PhaseOutcomes
+pub mod QuotaLaws
 pub mod Alterations
 pub mod Benches
 pub mod Crashes
@@ -33,3 +41,6 @@ pub mod LineObjects
 pub mod LineLaws
 -- what a phase leaves
 pub use Rattle.object_calls.specs.FinishedPhase
+pub use Rattle.object_calls.specs.MountRefusals
+pub use Rattle.object_calls.specs.Opening
+pub use Rattle.object_calls.specs.OpeningFiles

@@ -5,12 +5,12 @@ use Rattle.hmac_keys.specs.KeyTable.{rpmb_key}
 use Rattle.rpmb_card.specs.Port.{PortState}
 use Rattle.tee_types.specs.declared.reply.Device.{Device}
 use Rattle.store_model.specs.declared.event.Event.{Event}
-use Rattle.shared_store.specs.CallerSessions.{CallerSession}
+use Rattle.quota_store.specs.CallerSessions.{CallerSession}
 use Rattle.script_text.specs.declared.script.Step.{Step}
-use Rattle.shared_store.specs.EventCounts.{events_at}
-use Rattle.shared_store.specs.Cards.{TellsCard}
-use Rattle.shared_store.specs.DeviceCounts.{Rise, counts_of, draws_of}
-use Rattle.shared_store.specs.Devices.{Devices, DevicesGoOn, devices_of, faults_of}
+use Rattle.quota_store.specs.EventCounts.{events_at}
+use Rattle.quota_store.specs.Cards.{TellsCard}
+use Rattle.quota_store.specs.DeviceCounts.{Rise, counts_of, draws_of}
+use Rattle.quota_store.specs.Devices.{Devices, DevicesGoOn, devices_of, faults_of}
 use Rattle.core_laws.specs.Stores.{Store}
 use Rattle.object_calls.specs.OpeningArms.{IsOnBench}
 use Rattle.object_calls.specs.Services.{ServiceValue}

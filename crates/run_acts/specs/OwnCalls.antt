@@ -4,7 +4,7 @@ use Rattle.tee_types.specs.declared.call.Call.{Call}
 use Rattle.store_model.specs.History.{calls_of}
 use Rattle.store_model.specs.Record.{events_of}
 use Rattle.core_laws.specs.Stores.{Store}
-use Rattle.shared_store.specs.CallerSessions.{CallerSession, IsCallerOf}
+use Rattle.quota_store.specs.CallerSessions.{CallerSession, IsCallerOf}
 use Rattle.script_text.specs.declared.script.Step.{Step}
 use Rattle.run_acts.specs.ServedSteps.{calls_in}
 use Rattle.run_acts.specs.OwnDraws.{HasDrawn}

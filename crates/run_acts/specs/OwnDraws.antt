@@ -1,8 +1,8 @@
 -- What a session's events tell of its entropy.
 use Rattle.std.specs.Prelude.{ℕ, ◌≡◌, List}
 use Rattle.store_model.specs.Record.{events_of}
-use Rattle.shared_store.specs.CallerSessions.{CallerSession}
-use Rattle.shared_store.specs.DeviceCounts.{Rise, draws_of}
+use Rattle.quota_store.specs.CallerSessions.{CallerSession}
+use Rattle.quota_store.specs.DeviceCounts.{Rise, draws_of}
 use Rattle.run_acts.specs.Seen.{seen_by}
 
 -- the counts that the session's events carry for its entropy in its view, in order

@@ -3,7 +3,7 @@ use Rattle.std.specs.Prelude.{◌≡◌, ◌+◌, ◌<◌, ℕ, slice_index_or}
 use Rattle.disk_model.specs.State.{FileState}
 use Rattle.tee_types.specs.Limits.{directory_file, last_file, old_directory_file}
 use Rattle.rpmb_card.specs.Port.{PortState}
-use Rattle.shared_store.specs.SlotValues.{SlotValue}
+use Rattle.quota_store.specs.SlotValues.{SlotValue}
 use Rattle.object_calls.specs.Services.{ServiceValue}
 use Rattle.run_acts.specs.Benches.{BenchState}
 

@@ -6,6 +6,7 @@ use Rattle.hmac_keys.specs.KeyTable.{rpmb_key}
 use Rattle.tee_types.specs.Limits.{file_count}
 use Rattle.rpmb_card.specs.Port.{PortState}
 use Rattle.rpmb_host.specs.Honest.{HadCard}
+use Rattle.app_quota.specs.declared.quotas.Quota.{Quota}
 use Rattle.store_model.specs.declared.event.Event.{Event}
 use Rattle.store_model.specs.declared.event.Event.TheVariants.{Call as CallEvent, Landed}
 use Rattle.store_model.specs.Legal.{IsAnswered, IsSpent}
@@ -20,6 +21,7 @@ use Rattle.object_calls.specs.FinishedPhase.{AreAllHonest}
 use Rattle.run_acts.specs.Benches.{BenchState}
 use Rattle.run_acts.specs.Opens.{OpensBench}
 use Rattle.run_acts.specs.Phases.{RunsPhase}
+use Rattle.run_acts.specs.declared.refused_call.RefusedCall.{RefusedCall}
 
 -- A file that fails only for want of memory, and whose counts are below the last value of 64 bits.
 pub record IsQuietFile (file : FileState) : Type 0 where
@@ -51,19 +53,21 @@ AreOfMachine s (r ∷ records) = IsOfMachine s r.event × AreOfMachine (replay_a
 
 module _ {F R : Type 0} (of_file : F → FileState) (of_port : R → PortState) (Reliable : Type 0) where
   -- the machine answers each call of the phase, but for commits where the counter is at its end
-  abbrev pub IsPhaseOfMachine : (keys : Keys) (applications : List (List ℕ)) (arms : List Arm) (mode : Mode) (calls : List Step) (old new : BenchState) (objects : ObjectMap) (events : List Event)
-      → RunsPhase of_file of_port Reliable keys applications arms mode calls old new objects events → Type 0
-  IsPhaseOfMachine keys applications arms mode calls old new objects events r = AreOfMachine (opening (phase_of (r.serves).store)) (((r.serves).closes).view).all
+  abbrev pub IsPhaseOfMachine : (keys : Keys) (applications : List (List ℕ)) (quotas : List Quota) (arms : List Arm) (mode : Mode) (calls : List Step) (old new : BenchState) (objects : ObjectMap) (events : List Event)
+      (refused : List RefusedCall) → RunsPhase of_file of_port Reliable keys applications quotas arms mode calls old new objects events refused → Type 0
+  IsPhaseOfMachine keys applications quotas arms mode calls old new objects events refused r = AreOfMachine (opening (phase_of (r.serves).store)) (((r.serves).closes).view).all
 
   -- A phase of a quiet bench for which nothing is armed, whose generator never fails, and that leaves every file honest: it is the machine's.
   abbrev pub QuietPhasesAreOfMachine : Type 0
   QuietPhasesAreOfMachine =
-      (keys : Keys) (applications : List (List ℕ)) (mode : Mode) (calls : List Step) (old new : BenchState) (objects : ObjectMap) (events : List Event)
-      → (r : RunsPhase of_file of_port Reliable keys applications [] mode calls old new objects events) → IsQuiet keys old → Reliable → AreAllHonest new.files
-      → IsPhaseOfMachine keys applications [] mode calls old new objects events r
+      (keys : Keys) (applications : List (List ℕ)) (quotas : List Quota) (mode : Mode) (calls : List Step) (old new : BenchState) (objects : ObjectMap) (events : List Event)
+      (refused : List RefusedCall)
+      → (r : RunsPhase of_file of_port Reliable keys applications quotas [] mode calls old new objects events refused) → IsQuiet keys old → Reliable → AreAllHonest new.files
+      → IsPhaseOfMachine keys applications quotas [] mode calls old new objects events refused r
 
   -- It leaves the bench quiet.
   abbrev pub QuietPhasesStayQuiet : Type 0
   QuietPhasesStayQuiet =
-      (keys : Keys) (applications : List (List ℕ)) (mode : Mode) (calls : List Step) (old new : BenchState) (objects : ObjectMap) (events : List Event)
-      → RunsPhase of_file of_port Reliable keys applications [] mode calls old new objects events → IsQuiet keys old → IsQuiet keys new
+      (keys : Keys) (applications : List (List ℕ)) (quotas : List Quota) (mode : Mode) (calls : List Step) (old new : BenchState) (objects : ObjectMap) (events : List Event)
+      (refused : List RefusedCall)
+      → RunsPhase of_file of_port Reliable keys applications quotas [] mode calls old new objects events refused → IsQuiet keys old → IsQuiet keys new

@@ -1,6 +1,6 @@
 -- What sessions draw from.
 use Rattle.std.specs.Prelude.{ℕ, ◌≡◌, ◌<◌, List, length, slice_index_or}
-use Rattle.shared_store.specs.CallerSessions.{CallerSession}
+use Rattle.quota_store.specs.CallerSessions.{CallerSession}
 
 -- no generator of these sessions counted a fault yet
 abbrev pub AreFresh : {E : Type 0} → (draws : E → ℕ) → List (CallerSession E) → Type 0

@@ -3,10 +3,10 @@ use Rattle.std.specs.Prelude.{◌≡◌, ◌≢◌, ◌<◌, ℕ, List, [], slic
 use Rattle.disk_model.specs.State.{FileState}
 use Rattle.tee_types.specs.Limits.{directory_file}
 use Rattle.rpmb_card.specs.Port.{PortState}
-use Rattle.shared_store.specs.SlotValues.{SlotValue}
-use Rattle.shared_store.specs.Devices.{Devices}
+use Rattle.quota_store.specs.SlotValues.{SlotValue}
+use Rattle.quota_store.specs.Devices.{Devices}
 use Rattle.object_calls.specs.Opening.{OpeningValue, bench_files}
-use Rattle.shared_store.specs.Kept.{KeepsSlot}
+use Rattle.quota_store.specs.Kept.{KeepsSlot}
 use Rattle.run_acts.specs.Benches.{BenchState}
 
 -- the devices of a store that is mounted, with no generator

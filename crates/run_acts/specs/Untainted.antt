@@ -8,6 +8,7 @@ use Rattle.script_text.specs.declared.script.Arm.{Arm}
 use Rattle.script_text.specs.declared.script.Arm.TheVariants.{Taint}
 use Rattle.script_text.specs.declared.script.Mode.{Mode}
 use Rattle.script_text.specs.declared.script.Step.{Step}
+use Rattle.app_quota.specs.declared.quotas.Quota.{Quota}
 use Rattle.store_model.specs.declared.event.Event.{Event}
 use Rattle.store_model.specs.Object.{ObjectMap}
 use Rattle.store_commit.specs.declared.fault.MountFault.{MountFault}
@@ -20,6 +21,7 @@ use Rattle.run_acts.specs.ListedBenches.{ListsBench}
 use Rattle.run_acts.specs.MountedDevices.{IsMountRefused}
 use Rattle.run_acts.specs.Opens.{OpensBench}
 use Rattle.run_acts.specs.Phases.{RunsPhase}
+use Rattle.run_acts.specs.declared.refused_call.RefusedCall.{RefusedCall}
 
 -- An honest file that tells its arms, with no mask among them.
 pub record IsUntainted (file : FileState) : Type 0 where
@@ -67,8 +69,9 @@ module _ {F R : Type 0} (of_file : F → FileState) (of_port : R → PortState) 
   -- They stay untainted in a phase that arms no mask.
   abbrev pub PhasesStayUntainted : (Reliable : Type 0) → Type 0
   PhasesStayUntainted Reliable =
-      (keys : Keys) (applications : List (List ℕ)) (arms : List Arm) (mode : Mode) (calls : List Step) (old new : BenchState) (opening : ObjectMap) (events : List Event)
-      → RunsPhase of_file of_port Reliable keys applications arms mode calls old new opening events → ArmNoMask arms → AreUntainted old.files → AreUntainted new.files
+      (keys : Keys) (applications : List (List ℕ)) (quotas : List Quota) (arms : List Arm) (mode : Mode) (calls : List Step) (old new : BenchState) (opening : ObjectMap) (events : List Event)
+      (refused : List RefusedCall)
+      → RunsPhase of_file of_port Reliable keys applications quotas arms mode calls old new opening events refused → ArmNoMask arms → AreUntainted old.files → AreUntainted new.files
 
   -- And in a list.
   abbrev pub ListsStayUntainted : Type 0

@@ -5,8 +5,8 @@ ghost use Rattle.std.specs.List.{list_all};
 ghost use Rattle.run_acts.specs.ServedSteps.{calls_in};
 ghost use Rattle.run_acts.specs.OwnCalls.{is_done};
 
+use quota_store::Session;
 use script_text::Step;
-use shared_store::Session;
 use tee_ports::Entropy;
 
 // How many calls of that application the step is: one or none.

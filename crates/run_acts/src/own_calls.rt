@@ -1,14 +1,14 @@
 // The calls of one session.
 
 ghost use Rattle.std.specs.Prelude.{[], ◌∷◌, OnErr, OnOk};
-ghost use Rattle.shared_store.specs.CallerSessions.{IsCallerOf};
+ghost use Rattle.quota_store.specs.CallerSessions.{IsCallerOf};
 ghost use Rattle.run_acts.specs.ServedSteps.{calls_in};
 ghost use Rattle.run_acts.specs.OwnCalls.{HasMade, HasStopped};
 
 use core_laws::StoreName;
+use quota_store::{DevicesName, Session, SharedStore};
 use rpmb_card::RpmbPort;
 use script_text::Step;
-use shared_store::{DevicesName, Session, SharedStore};
 use std::alloc::Global;
 use std::sync::Wait;
 use tee_ports::{Entropy, StoreFile};

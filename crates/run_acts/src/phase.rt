@@ -1,42 +1,51 @@
 //! A phase.
 
-ghost use Rattle.std.specs.Prelude.{◌≡◌, ◌+◌, ◌*◌, ◌<◌, ◌≤◌, ◌^◌, ℕ, List, [], length, map, vec_len, All, IfErr, IfOk, MatchResult, OnErr, OnOk};
+ghost use Rattle.std.specs.Prelude.{◌≡◌, ◌≢◌, ◌+◌, ◌*◌, ◌<◌, ◌≤◌, ◌^◌, ℕ, List, [], length, map, vec_len, All, IfErr, IfOk, MatchResult, IfNone, IfSome, OnErr, OnOk};
 ghost use Rattle.tee_types.specs.Limits.{file_count};
+ghost use Rattle.hmac_keys.specs.declared.Keys.{Keys};
+ghost use Rattle.app_quota.specs.Commitments.{committed_objects, distinct_apps};
+ghost use Rattle.app_quota.specs.Quotas.{limit_of};
 ghost use Rattle.script_text.specs.Laws.{IsArm};
 ghost use Rattle.store_commit.specs.Counts.{RefusalNotDrawn};
-ghost use Rattle.store_model.specs.Object.{ObjectMap};
+ghost use Rattle.store_model.specs.Object.{most_objects};
 ghost use Rattle.object_calls.specs.Opening.{IsKeyed};
 ghost use Rattle.object_calls.specs.OpeningSessions.{AreUnseated};
 ghost use Rattle.run_acts.specs.Reliable.{AreFresh, AreReliable};
 ghost use Rattle.run_acts.specs.ServedSteps.{AreCalls};
 ghost use Rattle.run_acts.specs.Benches.{HasPassed, KeepsDevices, bench_state, opening_state};
 ghost use Rattle.run_acts.specs.Between.{AreSound};
-ghost use Rattle.run_acts.specs.MountedDevices.{IsMounted};
+ghost use Rattle.run_acts.specs.MountedDevices.{IsMounted, objects_in};
 ghost use Rattle.run_acts.specs.PhaseArms.{ArmsFront, IsReady};
 ghost use Rattle.run_acts.specs.Disarming.{Disarms};
 ghost use Rattle.script_text.specs.declared.script.Arm.{Arm};
 ghost use Rattle.script_text.specs.declared.script.Mode.{Mode};
 ghost use Rattle.script_text.specs.declared.script.Step.{Step};
-ghost use Rattle.run_acts.specs.Phases.{RunsPhase, ServesOpened};
+ghost use Rattle.run_acts.specs.Phases.{ServesOpened};
+ghost use Rattle.run_acts.specs.PhaseOutcomes.{EndsPhase, bench_left};
 ghost use Rattle.run_acts.specs.PhaseRefusals.{ClosesOpened, IsGivenUp};
+ghost use Rattle.run_acts.specs.QuotaRefusals.{AreRoomFor, HoldsOfAdmitted};
 
 use crate::arming::arm_devices;
+use crate::commitments::committed_objects;
 use crate::disarming::disarm_bench;
-use crate::serial_phase::serve_once;
+use crate::quota_closed::QuotaClosed;
+use crate::quota_phase::serve_within;
+use crate::refused_call::RefusedCall;
 use crate::sessions::open_sessions;
 use crate::{had_memory, mount_bench, starved_counts};
+use app_quota::Quota;
 use hmac_keys::Keys;
-use object_calls::{Bench, Closed, Halted, Opening};
+use object_calls::{Bench, Halted, Opening};
+use quota_store::Session;
 use rpmb_card::CardRig;
 use script_text::{Arm, Mode, Step};
-use shared_store::Session;
 use std::alloc::Global;
 use std::sync::Wait;
 use std::thread::Threads;
 use store_commit::MountFault;
 use store_model::History;
 use tee_ports::{Entropy, FileRig};
-use tee_types::{AppId, NoMemory};
+use tee_types::{AppId, MAX_OBJECTS, NoMemory};
 
 /// What a phase gives back.
 #[derive(Drop)]
@@ -47,6 +56,22 @@ pub struct PhaseEnd<F, R> {
     pub objects: u16,
     /// The events of all sessions, in their one order.
     pub history: History,
+    /// The calls that were refused under the quotas: those of the first application first, and of each in the order of their steps.
+    pub refused: Vec<RefusedCall>,
+}
+
+/// What a phase comes to.
+#[derive(Drop)]
+pub enum PhaseOutcome<F, R> {
+    /// It was served.
+    Served(PhaseEnd<F, R>),
+    /// The quotas commit more than 256 objects. Nothing was armed, and no call was made.
+    OverCommitted {
+        /// The bench, as the mount left it.
+        bench: Bench<F, R>,
+        /// How many objects the quotas commit.
+        sum: u32,
+    },
 }
 
 // A phase was given up for want of memory: its bench is disarmed.
@@ -114,6 +139,29 @@ fn make_ready<F: FileRig + Drop, R: CardRig + Drop, E: Entropy>(
     Ok(sessions)
 }
 
+// How many objects the quotas commit the store to, where these are more than it has room for.
+fn find_excess<F: FileRig + Drop, R: CardRig + Drop>(
+    opening: &Opening<F, R>,
+    quotas: &[Quota],
+    applications: &[AppId],
+) -> Option<u32>
+    requires { length applications.now ≤ 16 }
+    ensures room { (keys : Keys) → IfNone result (AreRoomFor quotas.now applications.now (objects_in F.state R.state keys opening.now)) }
+    ensures some { IfSome result (λ sum. quotas.now ≢ []) }
+    ensures sum { (keys : Keys) → IfSome result (λ sum. sum ≡ committed_objects (limit_of quotas.now) (distinct_apps applications.now) (objects_in F.state R.state keys opening.now)) }
+    ensures over { IfSome result (λ sum. most_objects < sum) }
+{
+    if quotas.is_empty() {
+        return None;
+    }
+    let sum = committed_objects(opening, quotas, applications);
+    if sum as usize > MAX_OBJECTS {
+        Some(sum)
+    } else {
+        None
+    }
+}
+
 // Serves the calls of a phase on a store that is mounted, and closes it.
 fn serve_opened<
     W: Threads + Wait + Sync,
@@ -129,28 +177,33 @@ fn serve_opened<
     number: u64,
     mode: Mode,
     applications: &[AppId],
+    quotas: &[Quota],
     arms: &[Arm],
     calls: &[Step],
-) -> Result<Closed<F, R>, Bench<F, R>>
+) -> Result<QuotaClosed<F, R>, Bench<F, R>>
     requires keyed { IsKeyed keys.now opening }
     requires none { opening.applications ≡ [] }
     requires few { length applications.now ≤ 16 }
     requires number { 16 * number + 16 < 2 ^ 32 }
     requires arms { All IsArm arms.now }
     requires calls { AreCalls (length applications.now) calls.now }
-    ensures serves { IfOk result (λ c. ServesOpened F.state R.state (E.is_reliable entropy.now) keys.now applications.now arms.now mode calls.now opening (bench_state F.state R.state c.bench) c.history.events) }
-    ensures early { IfErr result (λ b. ClosesOpened F.state R.state keys.now applications.now arms.now mode calls.now opening (bench_state F.state R.state b)) }
-    ensures whole { MatchResult result (λ c. vec_len c.bench.files ≡ file_count) (λ b. vec_len b.files ≡ file_count) }
+    ensures serves { IfOk result (λ c. ServesOpened F.state R.state (E.is_reliable entropy.now) keys.now applications.now quotas.now arms.now mode calls.now opening
+        (bench_state F.state R.state c.closed.bench) c.closed.history.events c.refused.items) }
+    ensures early { IfErr result (λ b. HoldsOfAdmitted quotas.now calls.now (λ steps. ClosesOpened F.state R.state keys.now applications.now arms.now mode steps opening (bench_state F.state R.state b))) }
+    ensures whole { MatchResult result (λ c. vec_len c.closed.bench.files ≡ file_count) (λ b. vec_len b.files ≡ file_count) }
 {
     let mut opening = opening;
     match make_ready(alloc, &mut opening, entropy, number, applications, arms) {
-        Ok(sessions) => serve_once(rt, alloc, opening, sessions, keys, mode, calls),
+        Ok(sessions) => serve_within(rt, alloc, opening, sessions, keys, mode, quotas, calls),
         Err(NoMemory {}) => Err(opening.close()),
     }
 }
 
 /// Runs a phase: mounts the bench, opens a session for each application, arms its devices, serves the calls as the mode says, closes the
 /// store, and disarms the bench. The sessions draw from streams of `entropy`, sixteen for each phase, by the phase's number.
+///
+/// Where there are quotas, a call that would leave its application more than it may have is refused: it has no event. Quotas that commit
+/// more objects than a store has room for are told once the bench is mounted, before anything is armed.
 ///
 /// # Errors
 ///
@@ -170,20 +223,20 @@ pub fn run_phase<
     number: u64,
     mode: Mode,
     applications: &[AppId],
+    quotas: &[Quota],
     arms: &[Arm],
     calls: &[Step],
-) -> Result<PhaseEnd<F, R>, Halted<F, R>>
+) -> Result<PhaseOutcome<F, R>, Halted<F, R>>
     requires whole { vec_len bench.files ≡ file_count }
     requires few { length applications.now ≤ 16 }
     requires number { 16 * number + 16 < 2 ^ 32 }
     requires calls { AreCalls (length applications.now) calls.now }
     requires arms { All IsArm arms.now }
-    ensures runs { IfOk result (λ p. (opening : ObjectMap) × (length opening ≡ p.objects)
-        × RunsPhase F.state R.state (E.is_reliable entropy.old) keys.now applications.now arms.now mode calls.now (bench_state F.state R.state bench) (bench_state F.state R.state p.bench) opening p.history.events) }
-    ensures refused { IfErr result (λ h. IsGivenUp F.state R.state keys.now applications.now arms.now mode calls.now (bench_state F.state R.state bench) (bench_state F.state R.state h.bench)
-        (E.faults entropy.old) (E.faults entropy.new) h.fault) }
+    ensures ends { IfOk result (EndsPhase F.state R.state (E.is_reliable entropy.old) keys.now applications.now quotas.now arms.now mode calls.now (bench_state F.state R.state bench)) }
+    ensures refused { IfErr result (λ h. HoldsOfAdmitted quotas.now calls.now (λ steps. IsGivenUp F.state R.state keys.now applications.now arms.now mode steps
+        (bench_state F.state R.state bench) (bench_state F.state R.state h.bench) (E.faults entropy.old) (E.faults entropy.new) h.fault)) }
     ensures undrawn { IfOk result (λ p. E.faults entropy.new ≡ E.faults entropy.old) }
-    ensures whole { IfOk result (λ p. vec_len p.bench.files ≡ file_count) }
+    ensures whole { IfOk result (λ p. vec_len (bench_left p).files ≡ file_count) }
     ensures whole_err { IfErr result (λ h. vec_len h.bench.files ≡ file_count) }
     ensures drawn { E.is_reliable entropy.old → IfErr result (λ h. RefusalNotDrawn h.fault) }
     ensures reliable { E.is_reliable entropy.old → E.is_reliable entropy.new }
@@ -193,6 +246,12 @@ pub fn run_phase<
     };
     let starved = before.as_slice();
     let opening = mount_with_memory(alloc, bench, keys, entropy, starved)?;
+    if let Some(sum) = find_excess(&opening, quotas, applications) {
+        return Ok(PhaseOutcome::OverCommitted {
+            bench: opening.close(),
+            sum,
+        });
+    }
     let objects = opening.objects();
     match serve_opened(
         rt,
@@ -203,15 +262,19 @@ pub fn run_phase<
         number,
         mode,
         applications,
+        quotas,
         arms,
         calls,
     ) {
-        Ok(closed) if had_memory(closed.bench.files.as_slice(), starved) => Ok(PhaseEnd {
-            bench: disarm_bench(closed.bench),
-            objects,
-            history: closed.history,
-        }),
-        Ok(closed) => Err(starved_bench(closed.bench)),
+        Ok(served) if had_memory(served.closed.bench.files.as_slice(), starved) => {
+            Ok(PhaseOutcome::Served(PhaseEnd {
+                bench: disarm_bench(served.closed.bench),
+                objects,
+                history: served.closed.history,
+                refused: served.refused,
+            }))
+        }
+        Ok(served) => Err(starved_bench(served.closed.bench)),
         Err(bench) => Err(starved_bench(bench)),
     }
 }

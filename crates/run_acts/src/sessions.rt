@@ -5,8 +5,8 @@ ghost use Rattle.object_calls.specs.OpeningSessions.{AreUnseated, unseated};
 ghost use Rattle.run_acts.specs.Reliable.{AreFresh, AreReliable};
 
 use object_calls::{Opening, SessionFault};
+use quota_store::Session;
 use rpmb_card::RpmbPort;
-use shared_store::Session;
 use std::alloc::Global;
 use tee_ports::{Entropy, StoreFile};
 use tee_types::{AppId, NoMemory};

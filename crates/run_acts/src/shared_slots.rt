@@ -6,7 +6,7 @@ ghost use Rattle.tee_types.specs.Limits.{last_file};
 ghost use Rattle.run_acts.specs.Sharing.{AreKept};
 
 use core_laws::StoreName;
-use shared_store::{DevicesName, GuardedSlot, SharedSlot};
+use quota_store::{DevicesName, GuardedSlot, SharedSlot};
 use std::sync::Mutex;
 use tee_ports::StoreFile;
 

@@ -7,7 +7,7 @@ use Rattle.rpmb_card.specs.Port.{PortState}
 use Rattle.script_text.specs.declared.script.Arm.{Arm}
 use Rattle.script_text.specs.declared.script.Mode.{Mode}
 use Rattle.script_text.specs.declared.script.Step.{Step}
-use Rattle.script_text.specs.declared.script.Control.TheVariants.{Arm as ArmControl, Crash, Flip, List as ListControl, Mode as ModeControl, Phase, Restore, Save}
+use Rattle.script_text.specs.declared.script.Control.TheVariants.{Arm as ArmControl, Crash, Flip, List as ListControl, Mode as ModeControl, Phase, Quota as QuotaControl, Restore, Save}
 use Rattle.store_model.specs.declared.event.Event.{Event}
 use Rattle.store_model.specs.Object.{ObjectMap}
 use Rattle.object_calls.specs.Opening.{OpeningValue}
@@ -15,9 +15,11 @@ use Rattle.run_acts.specs.Benches.{BenchState}
 use Rattle.run_acts.specs.ListedBenches.{ListsBench}
 use Rattle.run_acts.specs.MountedDevices.{IsMounted}
 use Rattle.run_acts.specs.Phases.{RunsPhase}
+use Rattle.run_acts.specs.declared.refused_call.RefusedCall.{RefusedCall}
+use Rattle.app_quota.specs.declared.quotas.Quota.{Quota}
 use Rattle.run_acts.specs.Alterations.{file_number}
 use Rattle.script_runner.specs.Course.{Goes}
-use Rattle.script_runner.specs.SavedFiles.{Standing, saves_files, with_bench}
+use Rattle.script_runner.specs.SavedFiles.{Standing, quota_for, saves_files, sets_quota, with_bench}
 use Rattle.script_runner.proofs.CalmFiles.{card_put_back}
 use Rattle.script_runner.specs.Text.{Act, Controlled, Do, Listed, Ran, RunRecord, Serve}
 use Rattle.run_freshness.specs.Course.{AreFresh, CoursesAreFresh, HasItsCard, IsFreshSince, IsListedSince}
@@ -48,18 +50,18 @@ module _ {F R : Type 0} (of_file : F → FileState) (of_port : R → PortState) 
   )
 
   module _ (image : FileState → ℕ → ℕ → List ℕ) (Reliable : Type 0) (applications : List (List ℕ)) where
-    begins_since : (closed : Option BenchState) (arms : List Arm) (mode : Mode) (calls : List Step) (old new : BenchState) (opening : ObjectMap) (events : List Event) → HasItsCard closed old
-        → (p : RunsPhase of_file of_port Reliable keys applications arms mode calls old new opening events) → BeginsSince of_file of_port Reliable closed p
-    begins_since None arms mode calls old new opening events has p = tt
-    begins_since (Some closed) arms mode calls old new opening events has p =
-        begins_beside of_file of_port all_sound Reliable keys applications arms mode calls old new opening events p closed has.1 has.0
+    begins_since : (closed : Option BenchState) (quotas : List Quota) (arms : List Arm) (mode : Mode) (calls : List Step) (old new : BenchState) (opening : ObjectMap) (events : List Event) (refused : List RefusedCall) → HasItsCard closed old
+        → (p : RunsPhase of_file of_port Reliable keys applications quotas arms mode calls old new opening events refused) → BeginsSince of_file of_port Reliable closed p
+    begins_since None quotas arms mode calls old new opening events refused has p = tt
+    begins_since (Some closed) quotas arms mode calls old new opening events refused has p =
+        begins_beside of_file of_port all_sound Reliable keys applications quotas arms mode calls old new opening events refused p closed has.1 has.0
 
     pub goes_fresh : (closed : Option BenchState) (arms : List Arm) (acts : List Act) (records : List RunRecord) (old new : Standing) → HasItsCard closed old.bench
         → (goes : Goes of_file of_port image Reliable keys applications arms acts records old new)
         → AreFresh of_file of_port image Reliable keys applications closed arms acts records old new goes
     goes_fresh closed arms (Serve mode calls ∷ acts) (Ran phase ∷ records) old new has goes = (
       mount_since closed old.bench (goes.1).opened has (goes.1).mounts,
-      begins_since closed arms mode calls old.bench goes.0 phase.opening phase.events has goes.1,
+      begins_since closed old.quotas arms mode calls old.bench goes.0 phase.opening phase.events phase.refused has goes.1,
       goes_fresh (Some goes.0) [] acts records (with_bench old goes.0) new (refl, (goes.1).sound_left) goes.2,
     )
     goes_fresh closed arms (Do (ModeControl mode) ∷ acts) (Controlled ∷ records) old new has goes = goes_fresh closed arms acts records old new has goes
@@ -68,6 +70,7 @@ module _ {F R : Type 0} (of_file : F → FileState) (of_port : R → PortState) 
     goes_fresh closed arms (Do (Crash seed) ∷ acts) (Controlled ∷ records) old new has goes =
         goes_fresh closed arms acts records (with_bench old goes.0) new (card_then closed old.bench goes.0 (ap (λ (p : PortState). p.card) (goes.1).card) has) goes.2
     goes_fresh closed arms (Do (Save mark) ∷ acts) (Controlled ∷ records) old new has goes = goes_fresh closed arms acts records (saves_files mark old) new has goes
+    goes_fresh closed arms (Do (QuotaControl app objects bytes) ∷ acts) (Controlled ∷ records) old new has goes = goes_fresh closed arms acts records (sets_quota (quota_for app objects bytes) old) new has goes
     goes_fresh closed arms (Do (Restore file mark) ∷ acts) (Controlled ∷ records) old new has goes =
         goes_fresh closed arms acts records (with_bench old goes.0) new
         (card_then closed old.bench goes.0 (ap (λ (p : PortState). p.card) (card_put_back (file_number file) (old.saved mark (file_number file)) old.bench goes.0 goes.1)) has) goes.2

@@ -9,15 +9,15 @@ use Rattle.run_acts.specs.Benches.{BenchState}
 use Rattle.run_acts.specs.declared.MountFault.{MountFault}
 use Rattle.run_acts.specs.Opens.{OpensBench, found, made}
 use Rattle.script_runner.specs.declared.status.Status.{Status}
-use Rattle.script_runner.specs.declared.status.Status.TheVariants.{BadLine, CardMapRefused, DeviceFault, Done, FileFault, MountRefused, NoMemory, ReadFault, TooLong, Usage, WriteFault}
-use Rattle.script_runner.specs.Course.{GoesUntil}
+use Rattle.script_runner.specs.declared.status.Status.TheVariants.{DeviceFault, Done, MountRefused, NoMemory, OverCommitted, WriteFault}
+use Rattle.script_runner.specs.Course.{GoesUntil, GoesUntilExceeded}
 use Rattle.script_runner.specs.Ending.{EndsActs, EndsBench, EndsForMemory, EndsRun, RecordsRefusal}
 use Rattle.script_runner.specs.RunCauses.{World}
-use Rattle.script_runner.specs.SavedFiles.{Standing, begins_with}
+use Rattle.script_runner.specs.SavedFiles.{Standing, begins_with, with_bench}
 use Rattle.script_runner.specs.Text.{Act, RunRecord, acts_of}
 use Rattle.script_runner.specs.Trace.{Trace, applications_of}
 use Rattle.run_freshness.specs.Course.{HasItsCard}
-use Rattle.run_freshness.specs.Runs.{AreFreshActs, AreFreshRefused, AreFreshStarved, AreFreshUntil, IsFreshRun, IsFreshSource, RunsAreFresh, closed_at_first}
+use Rattle.run_freshness.specs.Runs.{AreFreshActs, AreFreshExceeded, AreFreshRefused, AreFreshStarved, AreFreshUntil, IsFreshRun, IsFreshSource, RunsAreFresh, closed_at_first}
 use Rattle.run_freshness.proofs.Course.{card_then, goes_fresh}
 
 -- the card is that of the bench that was closed last, also behind a format
@@ -30,34 +30,36 @@ module _ {F R : Type 0} (of_file : F → FileState) (of_port : R → PortState) 
   module _ (applications : List (List ℕ)) (closed : Option BenchState) (acts : List Act) (records : List RunRecord) (old : Standing) (new : BenchState) (has : HasItsCard closed old.bench) where
     until_fresh : (left : List Act) (g : GoesUntil of_file of_port image Reliable keys applications [] acts records left old new)
         → AreFreshUntil of_file of_port image Reliable keys applications closed acts records old new left g
-    until_fresh left g = goes_fresh of_file of_port all_sound keys image Reliable applications closed [] g.done records old (record { bench = new; saved = g.saved }) has g.goes
+    until_fresh left g = goes_fresh of_file of_port all_sound keys image Reliable applications closed [] g.done records old (with_bench g.there new) has g.goes
 
     refused_fresh : (drew draws : ℕ) (fault : MountFault) (r : RecordsRefusal of_file of_port image Reliable drew draws keys applications [] acts records old new fault)
         → AreFreshRefused of_file of_port image Reliable keys applications closed acts records old new drew draws fault r
     refused_fresh drew draws fault (front, is, g) =
-        goes_fresh of_file of_port all_sound keys image Reliable applications closed [] (g.goes).done front old (record { bench = g.between; saved = (g.goes).saved }) has (g.goes).goes
+        goes_fresh of_file of_port all_sound keys image Reliable applications closed [] (g.goes).done front old (with_bench (g.goes).there g.between) has (g.goes).goes
 
     starved_fresh : (drew draws : ℕ) (ends : EndsForMemory of_file of_port image Reliable drew draws keys applications [] acts records old new)
         → AreFreshStarved of_file of_port image Reliable keys applications closed acts records old new drew draws ends
     starved_fresh drew draws (inl (left, g)) = until_fresh left g
     starved_fresh drew draws (inr (inl (fault, may, r))) = refused_fresh drew draws fault r
     starved_fresh drew draws (inr (inr g)) =
-        goes_fresh of_file of_port all_sound keys image Reliable applications closed [] (g.goes).done records old (record { bench = g.between; saved = (g.goes).saved }) has (g.goes).goes
+        goes_fresh of_file of_port all_sound keys image Reliable applications closed [] (g.goes).done records old (with_bench (g.goes).there g.between) has (g.goes).goes
+
+    exceeded_fresh : (sum : ℕ) (g : GoesUntilExceeded of_file of_port image Reliable keys applications [] acts records old new sum)
+        → AreFreshExceeded of_file of_port image Reliable keys applications closed acts records old new sum g
+    exceeded_fresh sum g =
+        goes_fresh of_file of_port all_sound keys image Reliable applications closed [] (g.goes).done records old (with_bench (g.goes).there g.between) has (g.goes).goes
 
     acts_fresh : (drew draws : ℕ) (status : Status) (ends : EndsActs of_file of_port image Reliable drew draws keys applications [] acts records old new status)
         → AreFreshActs of_file of_port image Reliable keys applications closed acts records old new drew draws status ends
     acts_fresh drew draws Done g = until_fresh [] g
     acts_fresh drew draws WriteFault (inl (left, g)) = until_fresh left g
-    acts_fresh drew draws WriteFault (inr (fault, refusal, r)) = refused_fresh drew draws fault r
+    acts_fresh drew draws WriteFault (inr (inl (fault, refusal, r))) = refused_fresh drew draws fault r
+    acts_fresh drew draws WriteFault (inr (inr (sum, g))) = exceeded_fresh sum g
     acts_fresh drew draws (MountRefused fault) r = refused_fresh drew draws fault r
     acts_fresh drew draws (DeviceFault fault) r = refused_fresh drew draws fault r
+    acts_fresh drew draws (OverCommitted sum) g = exceeded_fresh sum g
     acts_fresh drew draws NoMemory ends = starved_fresh drew draws ends
-    acts_fresh drew draws Usage ends = tt
-    acts_fresh drew draws (FileFault broken) ends = tt
-    acts_fresh drew draws (CardMapRefused block offset) ends = tt
-    acts_fresh drew draws (BadLine line) ends = tt
-    acts_fresh drew draws ReadFault ends = tt
-    acts_fresh drew draws (TooLong excess) ends = tt
+    acts_fresh drew draws status ends = tt
 
   module _ (closed : Option BenchState) (drew draws : ℕ) (t : Trace) (handed given : BenchState) (has : HasItsCard closed handed) where
     run_fresh : (applications : List (List ℕ)) (acts : List Act) (status : Status) (ends : EndsRun of_file of_port image Reliable drew draws keys applications acts t.start t.records handed given status)
@@ -77,14 +79,10 @@ module _ {F R : Type 0} (of_file : F → FileState) (of_port : R → PortState) 
     source_fresh WriteFault (script, read, ends) = script_fresh script WriteFault ends
     source_fresh (MountRefused fault) (script, read, ends) = script_fresh script (MountRefused fault) ends
     source_fresh (DeviceFault fault) (script, read, ends) = script_fresh script (DeviceFault fault) ends
+    source_fresh (OverCommitted sum) (script, read, ends) = script_fresh script (OverCommitted sum) ends
     source_fresh NoMemory (inl silent) = tt
     source_fresh NoMemory (inr (script, read, ends)) = script_fresh script NoMemory ends
-    source_fresh Usage same = tt
-    source_fresh (FileFault broken) same = tt
-    source_fresh (CardMapRefused block offset) same = tt
-    source_fresh (BadLine line) same = tt
-    source_fresh ReadFault same = tt
-    source_fresh (TooLong excess) same = tt
+    source_fresh status same = tt
 
 pub runs_fresh : {F R : Type 0} (of_file : F → FileState) (of_port : R → PortState) (image : FileState → ℕ → ℕ → List ℕ) (Reliable : Type 0) (w : World) → ((file : F) → Sound (of_file file))
     → RunsAreFresh of_file of_port image Reliable w

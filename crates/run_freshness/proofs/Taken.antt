@@ -38,6 +38,8 @@ use Rattle.object_calls.proofs.OpeningMaps.{object_at-opening}
 use Rattle.run_acts.specs.Benches.{BenchState}
 use Rattle.run_acts.specs.Between.{AreSound}
 use Rattle.run_acts.specs.Phases.{RunsPhase}
+use Rattle.run_acts.specs.declared.refused_call.RefusedCall.{RefusedCall}
+use Rattle.app_quota.specs.declared.quotas.Quota.{Quota}
 use Rattle.freshness_laws.specs.Pictures.{HoldsStore}
 use Rattle.freshness_laws.specs.SeenStores.{map_seen}
 use Rattle.freshness_laws.specs.Takings.{TakesStore}
@@ -83,8 +85,9 @@ entry_found keys files (Some x ∷ entries) (suc index) e alone there =
 single_files : (entries : List (Option DirEntry)) → AreEntriesOf entries → AreSingle entries
 single_files entries are = files_single entries (ap (λ (n : ℕ). first_double entries 0 n) are.whole ∙ are.apart)
 
-module _ {F R : Type 0} (of_file : F → FileState) (of_port : R → PortState) (all_sound : (file : F) → Sound (of_file file)) (Reliable : Type 0) (keys : Keys) (applications : List (List ℕ)) (arms : List Arm) (mode : Mode)
-    (calls : List Step) (old new : BenchState) (opening : ObjectMap) (events : List Event) (p : RunsPhase of_file of_port Reliable keys applications arms mode calls old new opening events) where
+module _ {F R : Type 0} (of_file : F → FileState) (of_port : R → PortState) (all_sound : (file : F) → Sound (of_file file)) (Reliable : Type 0) (keys : Keys) (applications : List (List ℕ)) (quotas : List Quota)
+    (arms : List Arm) (mode : Mode) (calls : List Step) (old new : BenchState) (opening : ObjectMap) (events : List Event) (refused : List RefusedCall)
+    (p : RunsPhase of_file of_port Reliable keys applications quotas arms mode calls old new opening events refused) where
   abbrev store : Store
   store = (p.serves).store
 
@@ -173,5 +176,5 @@ module _ {F R : Type 0} (of_file : F → FileState) (of_port : R → PortState) 
       ]
 
 pub phases_begin_beside : {F R : Type 0} (of_file : F → FileState) (of_port : R → PortState) (Reliable : Type 0) → ((file : F) → Sound (of_file file)) → PhasesBeginBeside of_file of_port Reliable
-phases_begin_beside of_file of_port Reliable all_sound keys applications arms mode calls closed old new opening events sound keeps p =
-    begins_beside of_file of_port all_sound Reliable keys applications arms mode calls old new opening events p closed sound keeps
+phases_begin_beside of_file of_port Reliable all_sound keys applications quotas arms mode calls closed old new opening events refused sound keeps p =
+    begins_beside of_file of_port all_sound Reliable keys applications quotas arms mode calls old new opening events refused p closed sound keeps

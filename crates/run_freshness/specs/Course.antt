@@ -8,13 +8,13 @@ use Rattle.rpmb_card.specs.Card.{CardState}
 use Rattle.rpmb_card.specs.Port.{PortState}
 use Rattle.rpmb_host.specs.Honest.{HasCard}
 use Rattle.script_text.specs.declared.script.Arm.{Arm}
-use Rattle.script_text.specs.declared.script.Control.TheVariants.{Arm as ArmControl, Crash, Flip, List as ListControl, Mode as ModeControl, Phase, Restore, Save}
+use Rattle.script_text.specs.declared.script.Control.TheVariants.{Arm as ArmControl, Crash, Flip, List as ListControl, Mode as ModeControl, Phase, Quota as QuotaControl, Restore, Save}
 use Rattle.object_calls.specs.Opening.{OpeningValue}
 use Rattle.run_acts.specs.Benches.{BenchState}
 use Rattle.run_acts.specs.Between.{AreSound}
 use Rattle.run_acts.specs.ListedObjects.{ShownStep}
 use Rattle.script_runner.specs.Course.{Goes}
-use Rattle.script_runner.specs.SavedFiles.{Standing, saves_files, with_bench}
+use Rattle.script_runner.specs.SavedFiles.{Standing, quota_for, saves_files, sets_quota, with_bench}
 use Rattle.script_runner.specs.Text.{Act, Controlled, Do, Listed, Ran, RunRecord, Serve}
 use Rattle.run_freshness.specs.Seen.{HasSameEntries, IsFreshMount}
 use Rattle.run_freshness.specs.Shown.{IsFreshList}
@@ -52,6 +52,7 @@ module _ {F R : Type 0} (of_file : F → FileState) (of_port : R → PortState) 
     AreFresh keys applications closed arms (Do (ArmControl arm) ∷ acts) (Controlled ∷ records) old new goes = AreFresh keys applications closed (arms ++ arm ∷ []) acts records old new goes
     AreFresh keys applications closed arms (Do (Crash seed) ∷ acts) (Controlled ∷ records) old new goes = AreFresh keys applications closed arms acts records (with_bench old goes.0) new goes.2
     AreFresh keys applications closed arms (Do (Save mark) ∷ acts) (Controlled ∷ records) old new goes = AreFresh keys applications closed arms acts records (saves_files mark old) new goes
+    AreFresh keys applications closed arms (Do (QuotaControl app objects bytes) ∷ acts) (Controlled ∷ records) old new goes = AreFresh keys applications closed arms acts records (sets_quota (quota_for app objects bytes) old) new goes
     AreFresh keys applications closed arms (Do (Restore file mark) ∷ acts) (Controlled ∷ records) old new goes = AreFresh keys applications closed arms acts records (with_bench old goes.0) new goes.2
     AreFresh keys applications closed arms (Do (Flip file at mask) ∷ acts) (Controlled ∷ records) old new goes = AreFresh keys applications closed arms acts records (with_bench old goes.0) new goes.2
     AreFresh keys applications closed arms (Do ListControl ∷ acts) (Listed objects ∷ records) old new goes =

@@ -9,12 +9,12 @@ use Rattle.run_acts.specs.Benches.{BenchState}
 use Rattle.run_acts.specs.declared.MountFault.{MountFault}
 use Rattle.run_acts.specs.Opens.{OpensBench, found, made}
 use Rattle.script_runner.specs.declared.status.Status.{Status}
-use Rattle.script_runner.specs.declared.status.Status.TheVariants.{DeviceFault, Done, MountRefused, NoMemory, WriteFault}
-use Rattle.script_runner.specs.Course.{GoesUntil, GoesUntilCrashed}
+use Rattle.script_runner.specs.declared.status.Status.TheVariants.{DeviceFault, Done, MountRefused, NoMemory, OverCommitted, WriteFault}
+use Rattle.script_runner.specs.Course.{GoesUntil, GoesUntilCrashed, GoesUntilExceeded}
 use Rattle.script_runner.specs.Ending.{EndsActs, EndsBench, EndsForMemory, EndsRun, RecordsRefusal}
 use Rattle.script_runner.specs.RunCauses.{World}
 use Rattle.script_runner.specs.Runs.{RunsSource}
-use Rattle.script_runner.specs.SavedFiles.{Standing, begins_with}
+use Rattle.script_runner.specs.SavedFiles.{Standing, begins_with, with_bench}
 use Rattle.script_runner.specs.Text.{Act, RunRecord, acts_of}
 use Rattle.script_runner.specs.Trace.{Trace, applications_of}
 use Rattle.run_freshness.specs.Course.{AreFresh, HasItsCard}
@@ -28,17 +28,22 @@ module _ {F R : Type 0} (of_file : F → FileState) (of_port : R → PortState) 
   module _ (applications : List (List ℕ)) (closed : Option BenchState) (acts : List Act) (records : List RunRecord) (old : Standing) (new : BenchState) where
     -- each mount and each list of the acts that were done is fresh
     abbrev pub AreFreshUntil : (left : List Act) → GoesUntil of_file of_port image Reliable keys applications [] acts records left old new → Type 0
-    AreFreshUntil left g = AreFresh of_file of_port image Reliable keys applications closed [] g.done records old (record { bench = new; saved = g.saved }) g.goes
+    AreFreshUntil left g = AreFresh of_file of_port image Reliable keys applications closed [] g.done records old (with_bench g.there new) g.goes
 
     -- so of those before an act that was refused, which shows nothing
     abbrev pub AreFreshRefused : (drew draws : ℕ) (fault : MountFault) → RecordsRefusal of_file of_port image Reliable drew draws keys applications [] acts records old new fault → Type 0
     AreFreshRefused drew draws fault (front, is, g) =
-        AreFresh of_file of_port image Reliable keys applications closed [] (g.goes).done front old (record { bench = g.between; saved = (g.goes).saved }) (g.goes).goes
+        AreFresh of_file of_port image Reliable keys applications closed [] (g.goes).done front old (with_bench (g.goes).there g.between) (g.goes).goes
 
     -- and of those before a crash in which memory ran out
     abbrev pub AreFreshCrashed : GoesUntilCrashed of_file of_port image Reliable keys applications [] acts records old new → Type 0
     AreFreshCrashed g =
-        AreFresh of_file of_port image Reliable keys applications closed [] (g.goes).done records old (record { bench = g.between; saved = (g.goes).saved }) (g.goes).goes
+        AreFresh of_file of_port image Reliable keys applications closed [] (g.goes).done records old (with_bench (g.goes).there g.between) (g.goes).goes
+
+    -- and of those before a phase whose quotas are over-committed
+    abbrev pub AreFreshExceeded : (sum : ℕ) → GoesUntilExceeded of_file of_port image Reliable keys applications [] acts records old new sum → Type 0
+    AreFreshExceeded sum g =
+        AreFresh of_file of_port image Reliable keys applications closed [] (g.goes).done records old (with_bench (g.goes).there g.between) (g.goes).goes
 
     abbrev pub AreFreshStarved : (drew draws : ℕ) → EndsForMemory of_file of_port image Reliable drew draws keys applications [] acts records old new → Type 0
     AreFreshStarved drew draws (inl (left, g)) = AreFreshUntil left g
@@ -48,9 +53,11 @@ module _ {F R : Type 0} (of_file : F → FileState) (of_port : R → PortState) 
     abbrev pub AreFreshActs : (drew draws : ℕ) (status : Status) → EndsActs of_file of_port image Reliable drew draws keys applications [] acts records old new status → Type 0
     AreFreshActs drew draws Done g = AreFreshUntil [] g
     AreFreshActs drew draws WriteFault (inl (left, g)) = AreFreshUntil left g
-    AreFreshActs drew draws WriteFault (inr (fault, refusal, r)) = AreFreshRefused drew draws fault r
+    AreFreshActs drew draws WriteFault (inr (inl (fault, refusal, r))) = AreFreshRefused drew draws fault r
+    AreFreshActs drew draws WriteFault (inr (inr (sum, g))) = AreFreshExceeded sum g
     AreFreshActs drew draws (MountRefused fault) r = AreFreshRefused drew draws fault r
     AreFreshActs drew draws (DeviceFault fault) r = AreFreshRefused drew draws fault r
+    AreFreshActs drew draws (OverCommitted sum) g = AreFreshExceeded sum g
     AreFreshActs drew draws NoMemory ends = AreFreshStarved drew draws ends
     AreFreshActs drew draws _ ends = Unit {0}
 
@@ -72,6 +79,8 @@ module _ {F R : Type 0} (of_file : F → FileState) (of_port : R → PortState) 
       IsFreshRun (applications_of script) closed (acts_of Serial script.steps) drew draws t handed given (MountRefused fault) ends
   IsFreshSource closed drew draws t handed given (DeviceFault fault) (script, read, ends) =
       IsFreshRun (applications_of script) closed (acts_of Serial script.steps) drew draws t handed given (DeviceFault fault) ends
+  IsFreshSource closed drew draws t handed given (OverCommitted sum) (script, read, ends) =
+      IsFreshRun (applications_of script) closed (acts_of Serial script.steps) drew draws t handed given (OverCommitted sum) ends
   IsFreshSource closed drew draws t handed given NoMemory (inl silent) = Unit {0}
   IsFreshSource closed drew draws t handed given NoMemory (inr (script, read, ends)) =
       IsFreshRun (applications_of script) closed (acts_of Serial script.steps) drew draws t handed given NoMemory ends

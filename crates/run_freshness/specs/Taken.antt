@@ -28,6 +28,8 @@ use Rattle.object_calls.specs.Opening.{bench_files}
 use Rattle.run_acts.specs.Benches.{BenchState}
 use Rattle.run_acts.specs.Between.{AreSound}
 use Rattle.run_acts.specs.Phases.{RunsPhase}
+use Rattle.run_acts.specs.declared.refused_call.RefusedCall.{RefusedCall}
+use Rattle.app_quota.specs.declared.quotas.Quota.{Quota}
 use Rattle.freshness_laws.specs.Readings.{ReadTree}
 use Rattle.freshness_laws.specs.SeenStores.{SeenStore, map_seen, object_read}
 use Rattle.freshness_laws.specs.Takings.{ClashesOwn, TakesStore}
@@ -48,10 +50,11 @@ module _ {keys : Keys} {block : List ℕ} (before : SeenStore keys block) (e : D
     pub clash : ClashesOwn keys (version_in keys files e) read
 
 module _ {F R : Type 0} (of_file : F → FileState) (of_port : R → PortState) (Reliable : Type 0) where
-  module _ {keys : Keys} {applications : List (List ℕ)} {arms : List Arm} {mode : Mode} {calls : List Step} {old new : BenchState} {opening : ObjectMap} {events : List Event} where
+  module _ {keys : Keys} {applications : List (List ℕ)} {quotas : List Quota} {arms : List Arm} {mode : Mode} {calls : List Step} {old new : BenchState} {opening : ObjectMap} {events : List Event}
+      {refused : List RefusedCall} where
     -- A tamper scenario takes what the closed bench held. The files that are not honest are those of the phase's end. Under it the phase's history
     -- is answered, or the promises end at a first event; and each object in such a file begins with no more damage than it had, or there is a clash.
-    pub record BeginsTaken (closed : BenchState) (card : CardState) (objects : ObjectMap) (p : RunsPhase of_file of_port Reliable keys applications arms mode calls old new opening events) : Type 0 where
+    pub record BeginsTaken (closed : BenchState) (card : CardState) (objects : ObjectMap) (p : RunsPhase of_file of_port Reliable keys applications quotas arms mode calls old new opening events refused) : Type 0 where
       pub before : ClosedStore keys closed card
       pub objects_are : objects ≡ map_seen before.seen
       pub scenario : TamperScenario
@@ -61,18 +64,19 @@ module _ {F R : Type 0} (of_file : F → FileState) (of_port : R → PortState) 
           → BeginsMended before.seen e (p.serves).store scenario ⊎ OpeningClash before.seen e (bench_files of_file (p.serves).armed)
 
     -- So beside a bench that mounts; or the directory that the phase's mount read clashes with its own.
-    abbrev pub BeginsBeside : (closed : BenchState) → RunsPhase of_file of_port Reliable keys applications arms mode calls old new opening events → Type 0
+    abbrev pub BeginsBeside : (closed : BenchState) → RunsPhase of_file of_port Reliable keys applications quotas arms mode calls old new opening events refused → Type 0
     BeginsBeside closed p =
         (card : CardState) (objects : ObjectMap) → HasCard closed.card (rpmb_key keys.huk) card → mounted keys (picture_read closed card) ≡ Ok objects
         → BeginsTaken closed card objects p ⊎ MountedDirectoryClash of_file of_port keys closed card (old.files directory_file) p.opened
 
     -- beside the bench that was closed last, if one was
-    abbrev pub BeginsSince : (closed : Option BenchState) → RunsPhase of_file of_port Reliable keys applications arms mode calls old new opening events → Type 0
+    abbrev pub BeginsSince : (closed : Option BenchState) → RunsPhase of_file of_port Reliable keys applications quotas arms mode calls old new opening events refused → Type 0
     BeginsSince None p = Unit {0}
     BeginsSince (Some closed) p = BeginsBeside closed p
 
   -- Every phase begins so beside a bench that was closed before it under the same card, whatever was done to the files since.
   abbrev pub PhasesBeginBeside : Type 0
   PhasesBeginBeside =
-      (keys : Keys) (applications : List (List ℕ)) (arms : List Arm) (mode : Mode) (calls : List Step) (closed old new : BenchState) (opening : ObjectMap) (events : List Event)
-      → AreSound closed.files → KeepsCard closed old → (p : RunsPhase of_file of_port Reliable keys applications arms mode calls old new opening events) → BeginsBeside closed p
+      (keys : Keys) (applications : List (List ℕ)) (quotas : List Quota) (arms : List Arm) (mode : Mode) (calls : List Step) (closed old new : BenchState) (opening : ObjectMap) (events : List Event)
+      (refused : List RefusedCall)
+      → AreSound closed.files → KeepsCard closed old → (p : RunsPhase of_file of_port Reliable keys applications quotas arms mode calls old new opening events refused) → BeginsBeside closed p

@@ -6,11 +6,13 @@ ghost use Rattle.tee_types.specs.Limits.{file_count};
 use crate::old_stores::{LISTED, old_bench};
 use anyhow::{Context, bail};
 use mem_files::MemFile;
-use script_runner::{CardPort, SimBench};
 use std::alloc::{AllocError, Global};
 use std::sync::Wait;
 use std::thread::Threads;
-use trial_runs::{Device, Mishap, RanOver, Trouble, arm_bench, crash_bench, reliable, run_words};
+use trial_runs::{
+    CardPort, Device, Mishap, RanOver, SimBench, Trouble, arm_bench, crash_bench, reliable,
+    run_words,
+};
 
 /// The devices that a migration calls: both files that a directory may have, those of the objects, those that they are moved into, and the
 /// card.

@@ -11,11 +11,11 @@ use htree_file::{Page, Tree};
 use mem_files::MemFile;
 use node_image::{RootRef, block_offset, greatest_node, node_offset};
 use rpmb_host::Host;
-use script_runner::{Bench, CardPort, SimBench, blank_bench, simulator_keys};
 use std::alloc::{AllocError, Global};
 use store_commit::root_block;
 use tee_ports::{FileRig, ListEntropy};
 use tee_types::{AppId, ObjectId};
+use trial_runs::{Bench, CardPort, SimBench, blank_bench, simulator_keys};
 use uuid::Uuid;
 
 /// The old format.

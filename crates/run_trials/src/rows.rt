@@ -2,8 +2,8 @@
 // that does, and how many rows there are.
 //
 // The rows are read from standard input. A row begins with a line `== NAME status NUMBER`, where behind status 3 stands
-// `line N`, behind status 8 `bytes` or `apps N`, and behind status 6 of a card's objects `card-map BLOCK OFFSET`. Lines of settings may follow, then the script, then a line `--`, and then
-// what must be put, where empty lines are passed over. What stands before the first row is passed over, too.
+// `line N`, behind status 8 `bytes` or `apps N`, behind status 10 `sum N`, and behind status 6 of a card's objects `card-map BLOCK OFFSET`. Lines
+// of settings may follow, then the script, then a line `--`, and then what must be put, where empty lines are passed over. What stands before the first row is passed over, too.
 //
 // A setting is `= words WORD..` (the command line, else `run`), `= source fails N` (its call N), `= sink holds N` (so many bytes),
 // `= padded to N` (empty lines behind the script, up to so many bytes), `= card fails N` (its exchange N), `= same bench` (the one that the row
@@ -19,10 +19,10 @@
 
 use anyhow::Context;
 use row::Row;
-use script_runner::SimBench;
 use std::sync::Wait;
 use std::thread::Threads;
 use trial::{difference, run_row};
+use trial_runs::SimBench;
 
 mod bench;
 mod ends;

@@ -2,7 +2,7 @@
 use Rattle.std.proofs.Common.{ℕ, ◌∙◌, List, [], ◌++◌, Option, Ok, Err, inl, inr, refl, sym, subst}
 use Rattle.std.proofs.lemmas.List.{append-nil}
 use Rattle.hmac_keys.specs.declared.Keys.{Keys}
-use Rattle.object_calls.specs.OpeningFiles.{no_file}
+use Rattle.run_acts.specs.OpeningFiles.{no_file}
 use Rattle.folder_export.specs.declared.fault.FileFault.{FileFault as FolderFault}
 use Rattle.folder_audit.specs.declared.fault.AuditFault.TheVariants.{Failed as FileFailed, NoMemory as NoRoom, Refused}
 use Rattle.folder_audit.specs.Audit.{AuditsFolder, FolderStates}
@@ -12,7 +12,7 @@ use Rattle.run_acts.specs.declared.MountFault.{MountFault}
 use Rattle.run_acts.specs.declared.MountFault.TheVariants.{CardBlock, CardResult, Directory, Failed, Frame, NoMemory as NoCardMemory, NoStore, OldFormat, Spent}
 use Rattle.run_acts.specs.Lines.{refusal_line}
 use Rattle.script_runner.specs.declared.status.Status.{Status}
-use Rattle.script_runner.specs.declared.status.Status.TheVariants.{BadLine, CardMapRefused, DeviceFault, Done, FileFault, MountRefused, NoMemory, ReadFault, TooLong, Usage, WriteFault}
+use Rattle.script_runner.specs.declared.status.Status.TheVariants.{DeviceFault, Done, FileFault, MountRefused, NoMemory, WriteFault}
 use Rattle.script_runner.specs.Audits.{RunsAudit}
 use Rattle.script_runner.specs.Prints.{PrintsLines, PrintsRefusal}
 use Rattle.script_runner.specs.RunRefusals.{IsDeviceFault, IsRefusal}
@@ -40,15 +40,7 @@ module _ (keys : Keys) (failed : Type 0) (held_old held_new : Option (List ℕ))
     ends = tt;
     cause = t.0;
   }
-  runs_listed audits Usage t = absurd t
-  runs_listed audits (BadLine line) t = absurd t
-  runs_listed audits ReadFault t = absurd t
-  runs_listed audits (TooLong excess) t = absurd t
-  runs_listed audits NoMemory t = absurd t
-  runs_listed audits (MountRefused fault) t = absurd t
-  runs_listed audits (DeviceFault fault) t = absurd t
-  runs_listed audits (FileFault fault) t = absurd t
-  runs_listed audits (CardMapRefused block offset) t = absurd t
+  runs_listed audits status t = absurd t
 
   -- those of the first objects, where a call of a file failed
   pub runs_failed : (fault : FolderFault) → AuditsFolder keys old new lines {A = Unit {0}} (Err (FileFailed fault)) → (told : Status) → PrintsLines failed held_old held_new lines told
@@ -73,15 +65,7 @@ module _ (keys : Keys) (failed : Type 0) (held_old held_new : Option (List ℕ))
     ends = refl;
     cause = inr t.0;
   }
-  runs_failed fault audits Usage t = absurd t
-  runs_failed fault audits (BadLine line) t = absurd t
-  runs_failed fault audits ReadFault t = absurd t
-  runs_failed fault audits (TooLong excess) t = absurd t
-  runs_failed fault audits NoMemory t = absurd t
-  runs_failed fault audits (MountRefused refusal) t = absurd t
-  runs_failed fault audits (DeviceFault refusal) t = absurd t
-  runs_failed fault audits (FileFault other) t = absurd t
-  runs_failed fault audits (CardMapRefused block offset) t = absurd t
+  runs_failed fault audits status t = absurd t
 
   -- or memory ran out
   pub runs_starved : AuditsFolder keys old new lines {A = Unit {0}} (Err NoRoom) → (told : Status) → PrintsLines failed held_old held_new lines told → RunsAudit keys failed held_old held_new old new NoMemory
@@ -105,15 +89,7 @@ module _ (keys : Keys) (failed : Type 0) (held_old held_new : Option (List ℕ))
     ends = tt;
     cause = tt;
   }
-  runs_starved audits Usage t = absurd t
-  runs_starved audits (BadLine line) t = absurd t
-  runs_starved audits ReadFault t = absurd t
-  runs_starved audits (TooLong excess) t = absurd t
-  runs_starved audits NoMemory t = absurd t
-  runs_starved audits (MountRefused refusal) t = absurd t
-  runs_starved audits (DeviceFault refusal) t = absurd t
-  runs_starved audits (FileFault other) t = absurd t
-  runs_starved audits (CardMapRefused block offset) t = absurd t
+  runs_starved audits status t = absurd t
 
   -- A STORE THAT IS REFUSED
   -- it is refused for what was read
@@ -178,10 +154,4 @@ module _ (keys : Keys) (failed : Type 0) (held_old held_new : Option (List ℕ))
       no_device (Failed cause) is device = is
       no_device Spent is device = is
       no_device NoCardMemory is device = is
-  runs_refused fault audits Done t = absurd t
-  runs_refused fault audits Usage t = absurd t
-  runs_refused fault audits (BadLine line) t = absurd t
-  runs_refused fault audits ReadFault t = absurd t
-  runs_refused fault audits (TooLong excess) t = absurd t
-  runs_refused fault audits (FileFault other) t = absurd t
-  runs_refused fault audits (CardMapRefused block offset) t = absurd t
+  runs_refused fault audits status t = absurd t

@@ -22,7 +22,7 @@ use Rattle.script_text.specs.declared.script.Step.{Step}
 use Rattle.store_commit.specs.declared.fault.MountFault.{MountFault}
 use Rattle.store_model.specs.declared.event.Event.{Event}
 use Rattle.store_model.specs.Object.{ObjectMap}
-use Rattle.object_calls.specs.Opening.{OpeningValue}
+use Rattle.run_acts.specs.Opening.{OpeningValue}
 use Rattle.run_acts.specs.Alterations.{AltersFile, FlipsFile}
 use Rattle.run_acts.specs.Benches.{BenchState, opening_state}
 use Rattle.run_acts.specs.Closing.{ClosesEarly, served, unserved}
@@ -32,6 +32,8 @@ use Rattle.run_acts.specs.Opens.{FormsBench, IsNotFormed, IsOpenRefused, OpensBe
 use Rattle.run_acts.specs.PhaseArms.{ArmsAll, ArmsFront, ArmsOneOf}
 use Rattle.run_acts.specs.PhaseRefusals.{ClosesOpened, IsGivenUp, LeavesStarved, in_part, mounted, uncalled, unmounted, unready}
 use Rattle.run_acts.specs.Phases.{RunsPhase}
+use Rattle.run_acts.specs.declared.refused_call.RefusedCall.{RefusedCall}
+use Rattle.app_quota.specs.declared.quotas.Quota.{Quota}
 use Rattle.run_acts.proofs.Mounted.{mount_goes_on}
 use Rattle.run_acts.proofs.MountedBenches.{each_file, refused_keeps}
 use Rattle.script_runner.specs.CountLaws.{ArmsCard, ArmsFile}
@@ -205,7 +207,8 @@ stands_all_armed (arm ∷ arms) old new (between, its, others) a file none stand
 
 -- A PHASE
 module _ {F R : Type 0} (of_file : F → FileState) (of_port : R → PortState) (keys : Keys) (applications : List (List ℕ)) (arms : List Arm) (mode : Mode) (calls : List Step) where
-  module _ (Reliable : Type 0) (old new : BenchState) (objects : ObjectMap) (events : List Event) (r : RunsPhase of_file of_port Reliable keys applications arms mode calls old new objects events) where
+  module _ (Reliable : Type 0) (quotas : List Quota) (old new : BenchState) (objects : ObjectMap) (events : List Event) (refused : List RefusedCall)
+      (r : RunsPhase of_file of_port Reliable keys applications quotas arms mode calls old new objects events refused) where
     open r use {closed, disarms}
 
     abbrev armed : BenchState

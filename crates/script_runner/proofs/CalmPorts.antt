@@ -22,9 +22,9 @@ use Rattle.store_commit.specs.declared.fault.MountFault.TheVariants.{CardBlock, 
 use Rattle.store_commit.specs.Formats.{FormatHeard, IsFormatRefused}
 use Rattle.store_commit.specs.Reads.{AsksBlock, AsksCounter, IsCardRead, IsRootWritten, OfHost}
 use Rattle.store_model.specs.Object.{ObjectMap}
-use Rattle.object_calls.specs.MountRefusals.{BenchCounts}
-use Rattle.object_calls.specs.Opening.{OpeningValue}
-use Rattle.object_calls.specs.OpeningFiles.{no_file}
+use Rattle.run_acts.specs.MountRefusals.{BenchCounts}
+use Rattle.run_acts.specs.Opening.{OpeningValue}
+use Rattle.run_acts.specs.OpeningFiles.{no_file}
 use Rattle.run_acts.specs.Benches.{BenchState, opening_state}
 use Rattle.run_acts.specs.ListedBenches.{IsListRefused, ListRefusal, ListsBench, StopsListing, starved, stopped, unasked, unmounted, unshown}
 use Rattle.run_acts.specs.MountedDevices.{IsMounted, IsMountRefused}

@@ -1,12 +1,11 @@
 -- How often a run over a card that has the key was answered for a device.
-use Rattle.std.proofs.Common.{◌≡◌, ◌+◌, ◌-◌, ◌^◌, ◌≤◌, ◌⊎◌, min, ℕ, List, [], ◌∷◌, ◌++◌, Option, Result, Ok, Err, refl, sym, ap, subst, ◌∙◌, arith}
+use Rattle.std.proofs.Common.{◌≡◌, ◌+◌, ◌≤◌, ℕ, List, [], ◌∷◌, Option, refl, sym, ap, subst, arith}
 use Rattle.tee_types.specs.declared.reply.Cause.{Cause}
 use Rattle.tee_types.specs.declared.reply.Cause.TheVariants.{CardResult, Fault, Frame}
 use Rattle.tee_types.specs.declared.reply.Device.TheVariants.{Card, Dir, Entropy, File}
 use Rattle.rpmb_card.specs.Arms.{Arms}
-use Rattle.rpmb_card.specs.Card.{CardState}
 use Rattle.rpmb_card.specs.Port.{PortState, Rearmed}
-use Rattle.rpmb_host.specs.Honest.{HadCard, HasCard}
+use Rattle.rpmb_host.specs.Honest.{HadCard}
 use Rattle.card_script.specs.declared.card_line.CardLine.{CardLine}
 use Rattle.card_script.specs.declared.card_line.CardLine.TheVariants.{Put, Get, Remove, List as ListLine, Stop, Remount}
 use Rattle.card_script.specs.declared.card_line.CardReply.{CardReply}
@@ -14,7 +13,6 @@ use Rattle.card_script.specs.declared.card_line.CardReply.TheVariants.{Done, Con
 use Rattle.card_maps.specs.Course as course
 use Rattle.rpmb_files.specs.declared.fault.CardFault.{CardFault}
 use Rattle.rpmb_files.specs.Causes.{CauseStands, NoCard, NotDrawn}
-use Rattle.rpmb_files.specs.Devices.{Devices, GoesOn, devices}
 use Rattle.rpmb_files.specs.Stores.{StoreState}
 use Rattle.script_runner.specs.declared.status.Status.{Status}
 use Rattle.script_runner.specs.RunCauses.{World}
@@ -23,7 +21,7 @@ use Rattle.script_runner.specs.CardPoints.{device_replies}
 use Rattle.script_runner.specs.CardRuns.{CardTrace, EndsCard, EndsLines, IsSilentCard, all_done, at_mount, cut_off, no_script, ran, starved, unread}
 use Rattle.rpmb_files.specs.Counts.{RoseBy}
 use Rattle.script_runner.specs.CardRunLaws.{CardRunsCount}
-use Rattle.script_runner.specs.CardSteps.{DoesLine, FailsFor, GoesThrough, IsRefusedAt, MakesCall, StandsAt, at_first, at_line}
+use Rattle.script_runner.specs.CardSteps.{DoesLine, GoesThrough, IsRefusedAt, MakesCall, StandsAt, at_first, at_line}
 use Rattle.script_runner.proofs.CardPointLaws.{HasCard-rearmed, same_key}
 
 stays : (old new : ℕ) → old ≤ new → RoseBy 0 old new

@@ -1,5 +1,5 @@
 -- How a run of the lines of the card ends.
-use Rattle.std.proofs.Common.{◌≡◌, ◌+◌, ◌<◌, ◌≤◌, ◌⊎◌, inl, inr, ℕ, List, [], ◌∷◌, ◌++◌, length, take, drop, get_or, Option, Some, None, refl, sym, ap, subst, ◌∙◌, append_assoc, arith}
+use Rattle.std.proofs.Common.{◌≡◌, ◌+◌, ◌<◌, ◌≤◌, ◌⊎◌, inl, inr, ℕ, List, [], ◌∷◌, ◌++◌, length, take, drop, get_or, Option, Some, None, refl, sym, ap, subst, ◌∙◌, append_assoc}
 use Rattle.std.proofs.lemmas.List.{append-nil, drop_all, take-append-drop}
 use Rattle.tee_types.specs.declared.reply.Cause.{Cause}
 use Rattle.tee_types.specs.declared.reply.Cause.TheVariants.{CardResult, Fault, Frame}
@@ -10,7 +10,7 @@ use Rattle.card_script.specs.declared.card_line.CardLine.{CardLine}
 use Rattle.card_script.specs.declared.card_line.CardLine.TheVariants.{Remount}
 use Rattle.card_maps.specs.Course as course
 use Rattle.rpmb_files.specs.declared.fault.CardFault.{CardFault}
-use Rattle.rpmb_files.specs.declared.fault.CardFault.TheVariants.{Bad, Device, Full, NoMemory as Starved, NotFound, Spent, TooLarge}
+use Rattle.rpmb_files.specs.declared.fault.CardFault.TheVariants.{Bad, Device, NoMemory as Starved}
 use Rattle.rpmb_files.specs.Devices.{devices}
 use Rattle.rpmb_files.specs.Stores.{StoreState, store_state}
 use Rattle.run_acts.specs.declared.MountFault.{MountFault}
@@ -24,7 +24,7 @@ use Rattle.script_runner.specs.Prints.{PrintsLines}
 use Rattle.script_runner.specs.RunRefusals.{IsDeviceFault, IsRefusal}
 use Rattle.script_runner.specs.CardRecords.{CardRecord, lines_text, mount_line, told_mount}
 use Rattle.script_runner.specs.CardSteps.{GoesThrough, IsRefusedAt, MakesCall, MountsOn, RefusesMount, StandsAt, at_first, at_line}
-use Rattle.script_runner.specs.CardRuns.{EndsAtMount, EndsLines, PrintsMount, RunsLines, all_done, at_mount, cut_off, starved}
+use Rattle.script_runner.specs.CardRuns.{EndsAtMount, PrintsMount, RunsLines, all_done, at_mount, cut_off, starved}
 use Rattle.script_runner.specs.CardRunning.{CardStops, unlisted, unmade, unmounted, unsent}
 use Rattle.script_runner.proofs.Sent.{Stops-append, Stops-sent}
 use Rattle.script_runner.proofs.CardLoops.{GoesThrough-length, LinesDone, goes-more, lines_text-front, rest, text-more}

@@ -1,5 +1,5 @@
 -- One line of a script of the card, and its text.
-use Rattle.std.proofs.Common.{◌≡◌, ◌+◌, ◌⊎◌, ℕ, List, Vec, Global, Option, Result, Ok, Err, refl, sym, ap, subst, ◌∙◌}
+use Rattle.std.proofs.Common.{◌≡◌, ◌+◌, ℕ, List, Vec, Global, Option, Result, Ok, Err, refl, sym, ap, subst}
 use Rattle.std.specs.Prelude.{IfErr, IfOk, IsOkAnd, IsTrue, MatchResult}
 use Rattle.rpmb_card.specs.Arms.{arm_stop}
 use Rattle.rpmb_card.specs.Port.{PortState, Rearmed}

@@ -1,5 +1,5 @@
 -- The replies of a run over a card that has the key are those of a finite map.
-use Rattle.std.proofs.Common.{◌≡◌, ◌+◌, ◌⊎◌, inl, inr, ℕ, List, [], ◌∷◌, ◌++◌, Option, Result, Ok, Err, refl, sym, ap, subst, ◌∙◌}
+use Rattle.std.proofs.Common.{◌≡◌, inl, inr, ℕ, List, [], ◌∷◌, ◌++◌, Option, Result, Ok, refl, sym, subst, ◌∙◌}
 use Rattle.rpmb_card.specs.Card.{CardState}
 use Rattle.rpmb_card.specs.Port.{PortState}
 use Rattle.rpmb_host.specs.Honest.{HasCard}
@@ -14,10 +14,10 @@ use Rattle.script_runner.specs.declared.status.Status.{Status}
 use Rattle.script_runner.specs.RunCauses.{World}
 use Rattle.script_runner.specs.CardRecords.{CardRecord}
 use Rattle.script_runner.specs.CardPoints.{CardPoint, LinesOnCard, mounted_on}
-use Rattle.script_runner.specs.CardRuns.{CardTrace, EndsCard, EndsLines, IsSilentCard, RunsCard, all_done, at_mount, cut_off, no_script, ran, starved, unread}
+use Rattle.script_runner.specs.CardRuns.{CardTrace, EndsCard, EndsLines, IsSilentCard, all_done, at_mount, cut_off, no_script, ran, starved, unread}
 use Rattle.script_runner.specs.CardRunLaws.{CardRunsAreOfAMap, EndsOnCard, RunsOnCard}
 use Rattle.script_runner.specs.CardSteps.{IsRefusedAt, StandsAt, at_first, at_line}
-use Rattle.script_runner.proofs.CardPointLaws.{HasCard-rearmed, LeavesPoints, call-on_card, lines-on_card, mounted-on_card, point_at}
+use Rattle.script_runner.proofs.CardPointLaws.{HasCard-rearmed, call-on_card, lines-on_card, mounted-on_card, point_at}
 
 -- what the lines of a script left of a card
 pub record LinesLeft (key : List ℕ) (lines : List CardLine) (records : List CardRecord) (card : CardState) (m : CardMap) (given : PortState) : Type 0 where

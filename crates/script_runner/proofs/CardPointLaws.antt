@@ -1,5 +1,5 @@
 -- The lines of a script over a card that has the key.
-use Rattle.std.proofs.Common.{◌≡◌, ◌+◌, ℕ, List, [], ◌∷◌, ◌++◌, true, Result, Ok, Err, refl, sym, ap, subst, ◌∙◌}
+use Rattle.std.proofs.Common.{◌≡◌, ℕ, List, [], ◌∷◌, Result, Ok, sym, ap, subst, ◌∙◌}
 use Rattle.rpmb_card.specs.Card.{CardState}
 use Rattle.rpmb_card.specs.Arms.{Arms}
 use Rattle.rpmb_card.specs.Port.{PortState, Rearmed}
@@ -11,11 +11,11 @@ use Rattle.card_maps.specs.Course as course
 use Rattle.card_maps.specs.Course.{side}
 use Rattle.card_maps.specs.Names.{names_of}
 use Rattle.card_maps.specs.Tables.{named}
-use Rattle.rpmb_files.specs.Devices.{Devices, devices}
+use Rattle.rpmb_files.specs.Devices.{Devices}
 use Rattle.rpmb_files.specs.Stores.{StoreState}
 use Rattle.script_runner.specs.CardRecords.{CardRecord, Named, Told, map_reply}
-use Rattle.script_runner.specs.CardPoints.{CallOnCard, CardPoint, LineOnCard, LinesOnCard, ListOnCard, mounted_on}
-use Rattle.script_runner.specs.CardSteps.{Arms as ArmsStore, Disarms, DoesLine, GivesNames, GoesThrough, MakesCall, MountsOn, Remounts}
+use Rattle.script_runner.specs.CardPoints.{CallOnCard, CardPoint, LineOnCard, LinesOnCard, mounted_on}
+use Rattle.script_runner.specs.CardSteps.{DoesLine, GoesThrough, MakesCall, MountsOn}
 
 -- the point of a store over a card with this map
 abbrev pub point_at : StoreState → CardState → CardMap → CardPoint

@@ -1,7 +1,6 @@
 -- A run of the card on devices that do not fail.
-use Rattle.std.proofs.Common.{◌≡◌, ◌≤◌, ◌⊎◌, ◌||◌, inl, inr, true, false, Bool, ℕ, List, [], ◌∷◌, ◌++◌, Option, Result, Ok, Err, refl, sym, ap, subst, ◌∙◌, ⊎_elim, arith, length}
+use Rattle.std.proofs.Common.{◌≡◌, ◌≤◌, ◌⊎◌, ◌||◌, inl, inr, true, false, Bool, ℕ, List, [], ◌∷◌, ◌++◌, Option, Result, Ok, Err, refl, sym, subst, ◌∙◌, ⊎_elim, arith, length}
 use Rattle.std.specs.Prelude.{IsTrue}
-use Rattle.tee_types.specs.declared.reply.Cause.{Cause}
 use Rattle.tee_types.specs.declared.reply.Cause.TheVariants.{CardResult, Fault, Frame}
 use Rattle.tee_types.specs.declared.reply.Device.TheVariants.{Card, Dir, Entropy, File}
 use Rattle.rpmb_card.specs.Card.{CardState}
@@ -17,18 +16,18 @@ use Rattle.rpmb_files.specs.declared.fault.CardFault.{CardFault}
 use Rattle.rpmb_files.specs.declared.fault.CardFault.TheVariants.{Bad, Device, Full, NoMemory as Starved, NotFound, Spent, TooLarge}
 use Rattle.rpmb_files.specs.Devices.{Devices, devices}
 use Rattle.rpmb_files.specs.Stores.{StoreState}
-use Rattle.script_runner.specs.declared.status.Excess.TheVariants.{Apps, Bytes}
+use Rattle.script_runner.specs.declared.status.Excess.TheVariants.{Bytes}
 use Rattle.script_runner.specs.declared.status.Status.{Status}
-use Rattle.script_runner.specs.declared.status.Status.TheVariants.{BadLine, CardMapRefused, DeviceFault, Done, FileFault, MountRefused, NoMemory, ReadFault, TooLong, Usage, WriteFault}
+use Rattle.script_runner.specs.declared.status.Status.TheVariants.{BadLine, Done, NoMemory, ReadFault, TooLong, WriteFault}
 use Rattle.script_runner.specs.RunCauses.{World}
 use Rattle.script_runner.specs.Sending.{IsWriteError}
 use Rattle.script_runner.specs.ScriptReading.{IsReadError}
 use Rattle.script_runner.specs.CardRecords.{CardRecord, Named, Told}
-use Rattle.script_runner.specs.CardRuns.{CardTrace, EndsAtMount, EndsCard, EndsLines, IsCardScriptError, WasTaken, all_done, at_mount, cut_off, no_script, ran, starved, unread}
+use Rattle.script_runner.specs.CardRuns.{CardTrace, EndsAtMount, EndsCard, EndsLines, IsCardScriptError, all_done, at_mount, cut_off, no_script, ran, starved, unread}
 use Rattle.script_runner.specs.CardRunLaws.{ArmNothing, QuietCardRunsEnd}
-use Rattle.script_runner.specs.CardSteps.{DoesLine, GoesThrough, IsRefusedAt, RefusesMount, StandsAt, at_first, at_line}
+use Rattle.script_runner.specs.CardSteps.{GoesThrough, IsRefusedAt, RefusesMount, StandsAt, at_first, at_line}
 use Rattle.script_runner.proofs.CardPointLaws.{HasCard-rearmed}
-use Rattle.script_runner.proofs.CardMapRuns.{Stood, one_script, stood}
+use Rattle.script_runner.proofs.CardMapRuns.{one_script, stood}
 
 arm-nothing-front : (front back : List CardLine) → ArmNothing (front ++ back) → ArmNothing front
 arm-nothing-front [] back none = tt

@@ -1,13 +1,13 @@
 -- The text of lines of the card, sent piece after piece.
-use Rattle.std.proofs.Common.{◌≡◌, ◌+◌, ◌<◌, ◌≤◌, ℕ, zero, suc, List, [], ◌∷◌, ◌++◌, length, take, drop, get_or, Option, refl, sym, ap, ◌∙◌, append_assoc, arith, subst}
+use Rattle.std.proofs.Common.{◌≡◌, ◌+◌, ◌<◌, ◌≤◌, ℕ, List, [], ◌∷◌, ◌++◌, length, take, drop, get_or, Option, refl, sym, ap, ◌∙◌, append_assoc, subst}
 use Rattle.std.proofs.lemmas.List.{append-nil, take_more, take-append-drop, take_all}
 use Rattle.card_script.specs.declared.card_line.CardLine.{CardLine}
 use Rattle.card_script.specs.declared.card_line.CardReply.TheVariants.{Done}
 use Rattle.card_script.specs.CardText.{answer_line, listed_line}
 use Rattle.card_maps.specs.declared.name.CardName.{CardName}
 use Rattle.script_runner.specs.Sending.{Sends, Stops}
-use Rattle.script_runner.specs.CardRecords.{CardRecord, lines_text, names_text, record_text}
-use Rattle.script_runner.proofs.Sent.{Sends-append, Stops-append, Stops-longer}
+use Rattle.script_runner.specs.CardRecords.{names_text}
+use Rattle.script_runner.proofs.Sent.{Stops-append, Stops-longer}
 
 abbrev pub name_line : CardName → List ℕ
 name_line name = listed_line name.app name.id name.size

@@ -1,5 +1,5 @@
 -- From the parts of a run of the card to the whole.
-use Rattle.std.proofs.Common.{◌≡◌, ◌≤◌, ◌⊎◌, ℕ, List, [], length, Option, Some, None, Result, Ok, Err, refl, sym, ap, subst, ◌∙◌, ⊎_elim, arith}
+use Rattle.std.proofs.Common.{◌≡◌, ◌≤◌, ℕ, List, [], length, Option, Some, None, Result, Ok, Err, refl, sym, ap, subst, ◌∙◌, ⊎_elim, arith}
 use Rattle.rpmb_card.specs.Port.{PortState}
 use Rattle.card_script.specs.declared.card_line.CardLine.{CardLine}
 use Rattle.card_script.specs.declared.reading.CardScriptFault.{CardScriptFault}

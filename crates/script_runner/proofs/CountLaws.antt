@@ -4,48 +4,40 @@ use Rattle.disk_model.specs.State.{FileState}
 use Rattle.hmac_keys.specs.declared.Keys.{Keys}
 use Rattle.tee_types.specs.Limits.{file_count}
 use Rattle.rpmb_card.specs.Port.{PortState}
+use Rattle.app_quota.specs.declared.quotas.Quota.{Quota}
 use Rattle.script_text.specs.declared.script.Arm.{Arm}
-use Rattle.script_text.specs.declared.script.Control.TheVariants.{Arm as ArmControl, Crash, Flip, List as ListControl, Mode as ModeControl, Phase, Restore, Save}
+use Rattle.script_text.specs.declared.script.Mode.{Mode}
+use Rattle.script_text.specs.declared.script.Step.{Step}
+use Rattle.script_text.specs.declared.script.Control.TheVariants.{Arm as ArmControl, Crash, Flip, List as ListControl, Mode as ModeControl, Phase, Quota as QuotaControl, Restore, Save}
 use Rattle.store_commit.specs.Causes.{StaysCalm}
 use Rattle.run_acts.specs.Benches.{BenchState}
 use Rattle.run_acts.specs.declared.MountFault.{MountFault}
 use Rattle.run_acts.specs.Lines.{objects_text}
+use Rattle.run_acts.specs.PhaseOutcomes.{OverCommits}
+use Rattle.run_acts.specs.QuotaRefusals.{admitted}
 use Rattle.script_runner.specs.Course.{RefusesFirst}
 use Rattle.script_runner.specs.CountLaws.{ArmsCard, ArmsFile, CountsAsArmed, NoneArms, RunsCountAsArmed}
 use Rattle.script_runner.specs.RunBenches.{next_act}
 use Rattle.script_runner.specs.RunCauses.{World}
+use Rattle.script_runner.specs.SavedFiles.{Standing}
 use Rattle.script_runner.specs.Text.{Act, Do, RunRecord, Serve}
 use Rattle.script_runner.specs.Trace.{Trace, applications_of}
 use Rattle.run_acts.specs.Alterations.{file_number}
 use Rattle.script_runner.proofs.CalmFiles.{NoneOf, StandsCalm, given_up_calm, given_up_stands, goes_opened, goes_shut, none_of-then, phase_calm, phase_stands, card_put_back, stands_crash, stands_first, stands_flipped, stands_part, stands_put_back, stands_then}
-use Rattle.script_runner.proofs.CalmPorts.{CalmStep, calm_listed, calm_opened, calm_same, calm_shut, calm_unlisted}
+use Rattle.script_runner.proofs.CalmPorts.{CalmStep, calm_listed, calm_mounted, calm_opened, calm_same, calm_shut, calm_unlisted}
 use Rattle.script_runner.proofs.RunBenches.{WalksOf, hold_source}
 
 -- what no act arms, none of the first does
 none_front : (Arms : Arm → Type 0) (before : List Act) (act : Act) → NoneArms Arms (before ++ act ∷ []) → NoneArms Arms before
 none_front Arms [] act none = tt
-none_front Arms (Serve mode calls ∷ before) act none = none_front Arms before act none
-none_front Arms (Do (ModeControl mode) ∷ before) act none = none_front Arms before act none
-none_front Arms (Do Phase ∷ before) act none = none_front Arms before act none
 none_front Arms (Do (ArmControl arm) ∷ before) act none = (none.0, none_front Arms before act none.1)
-none_front Arms (Do (Crash seed) ∷ before) act none = none_front Arms before act none
-none_front Arms (Do (Save mark) ∷ before) act none = none_front Arms before act none
-none_front Arms (Do (Restore file mark) ∷ before) act none = none_front Arms before act none
-none_front Arms (Do (Flip file at mask) ∷ before) act none = none_front Arms before act none
-none_front Arms (Do ListControl ∷ before) act none = none_front Arms before act none
+none_front Arms (first ∷ before) act none = none_front Arms before act none
 
 -- and not the last
 none_last : (Arms : Arm → Type 0) (before : List Act) (arm : Arm) → NoneArms Arms (before ++ Do (ArmControl arm) ∷ []) → Arms arm → ⊥
 none_last Arms [] arm none = none.0
-none_last Arms (Serve mode calls ∷ before) arm none = none_last Arms before arm none
-none_last Arms (Do (ModeControl mode) ∷ before) arm none = none_last Arms before arm none
-none_last Arms (Do Phase ∷ before) arm none = none_last Arms before arm none
 none_last Arms (Do (ArmControl first) ∷ before) arm none = none_last Arms before arm none.1
-none_last Arms (Do (Crash seed) ∷ before) arm none = none_last Arms before arm none
-none_last Arms (Do (Save mark) ∷ before) arm none = none_last Arms before arm none
-none_last Arms (Do (Restore file mark) ∷ before) arm none = none_last Arms before arm none
-none_last Arms (Do (Flip file at mask) ∷ before) arm none = none_last Arms before arm none
-none_last Arms (Do ListControl ∷ before) arm none = none_last Arms before arm none
+none_last Arms (first ∷ before) arm none = none_last Arms before arm none
 
 module _ (handed : BenchState) where
   -- A device that was calm and that no act armed has no arms that wait, and stands so.
@@ -83,26 +75,29 @@ module _ (handed : BenchState) where
       acted before act arms arms bench bench s (λ Arms none waits. waits) (λ a file within none stands. stands) (λ none. calm_same bench.card bench.card refl)
 
   module _ {F R : Type 0} (of_file : F → FileState) (of_port : R → PortState) (image : FileState → ℕ → ℕ → List ℕ) (Reliable : Type 0) (keys : Keys) (drew draws : ℕ) (t : Trace) (given : BenchState) (apps : List (List ℕ)) where
-    refused_counts : (before : List Act) (told : List RunRecord) (arms : List Arm) (left : List Act) (fault : MountFault) (old : BenchState)
-        → RefusesFirst of_file of_port image Reliable drew draws keys apps arms left old given fault → StandsUnarmed before arms old → CountsAsArmed handed (before ++ next_act left) given
-    refused_counts before told arms [] fault old refuses s = absurd refuses
+    refused_counts : (before : List Act) (told : List RunRecord) (arms : List Arm) (left : List Act) (fault : MountFault) (old : Standing)
+        → RefusesFirst of_file of_port image Reliable drew draws keys apps arms left old given fault → StandsUnarmed before arms old.bench → CountsAsArmed handed (before ++ next_act left) given
     refused_counts before told arms (Serve mode calls ∷ left) fault old refuses s =
+        let made = admitted refuses.refused calls in
         counts_of (before ++ Serve mode calls ∷ []) [] given
-        (acted before (Serve mode calls) arms [] old given s (λ Arms none waits. tt)
-        (λ a file within none stands. given_up_stands of_file of_port keys apps arms mode calls old drew draws given fault refuses a file within none stands)
-        (given_up_calm of_file of_port keys apps arms mode calls old drew draws given fault refuses))
-    refused_counts before told arms (Do (ModeControl mode) ∷ left) fault old refuses s = absurd refuses
-    refused_counts before told arms (Do Phase ∷ left) fault old refuses s = absurd refuses
-    refused_counts before told arms (Do (ArmControl arm) ∷ left) fault old refuses s = absurd refuses
-    refused_counts before told arms (Do (Crash seed) ∷ left) fault old refuses s = absurd refuses
-    refused_counts before told arms (Do (Save mark) ∷ left) fault old refuses s = absurd refuses
-    refused_counts before told arms (Do (Restore file mark) ∷ left) fault old refuses s = absurd refuses
-    refused_counts before told arms (Do (Flip file at mask) ∷ left) fault old refuses s = absurd refuses
+        (acted before (Serve mode calls) arms [] old.bench given s (λ Arms none waits. tt)
+        (λ a file within none stands. given_up_stands of_file of_port keys apps arms mode made old.bench drew draws given fault refuses.holds a file within none stands)
+        (given_up_calm of_file of_port keys apps arms mode made old.bench drew draws given fault refuses.holds))
     refused_counts before told arms (Do ListControl ∷ left) fault old refuses s =
         counts_of (before ++ Do ListControl ∷ []) arms given
-        (acted before (Do ListControl) arms arms old given s (λ Arms none waits. waits)
-        (λ a file within none stands. stands_then a (old.files file) (given.files file) stands ((((refuses.keeps).files file).keeps).goes_on))
-        (λ none. calm_unlisted keys of_file of_port old given drew draws fault refuses))
+        (acted before (Do ListControl) arms arms old.bench given s (λ Arms none waits. waits)
+        (λ a file within none stands. stands_then a ((old.bench).files file) (given.files file) stands ((((refuses.keeps).files file).keeps).goes_on))
+        (λ none. calm_unlisted keys of_file of_port old.bench given drew draws fault refuses))
+    refused_counts before told arms left fault old refuses s = absurd refuses
+
+    -- the quotas of a phase were over-committed: the bench was mounted
+    exceeded_counts : (before : List Act) (quotas : List Quota) (arms : List Arm) (mode : Mode) (calls : List Step) (old : BenchState) (sum : ℕ) → OverCommits of_file of_port keys apps quotas old given sum
+        → StandsUnarmed before arms old → CountsAsArmed handed (before ++ Serve mode calls ∷ []) given
+    exceeded_counts before quotas arms mode calls old sum over s =
+        counts_of (before ++ Serve mode calls ∷ []) [] given
+        (acted before (Serve mode calls) arms [] old given s (λ Arms none waits. tt)
+        (λ a file within none stands. stands_then a (old.files file) (given.files file) stands (((over.keeps).files file).keeps).goes_on)
+        (λ none. subst (λ (b : BenchState). CalmStep old.card b.card) (sym over.closed) (calm_mounted keys of_file of_port old over.opened over.mounts)))
 
     first_counts : (bench : BenchState) → ((file : ℕ) → IsTrue (handed.files file).calm → StandsCalm (handed.files file) (bench.files file)) → CalmStep handed.card bench.card → StandsUnarmed [] [] bench
     first_counts bench files card = record {
@@ -113,10 +108,10 @@ module _ (handed : BenchState) where
     counts_walk : WalksOf of_file of_port image Reliable keys (λ done records bench. CountsAsArmed handed done bench) (λ before told arms bench. StandsUnarmed before arms bench) drew draws t handed given apps
     counts_walk = record {
       gives = λ before told arms bench s. counts_of before arms bench s;
-      phase = λ before told arms mode calls phase old new r s.
+      phase = λ before told quotas arms mode calls phase old new r s.
           acted before (Serve mode calls) arms [] old new s (λ Arms none waits. tt)
-          (phase_stands of_file of_port keys apps arms mode calls Reliable old new phase.opening phase.events r)
-          (phase_calm of_file of_port keys apps arms mode calls Reliable old new phase.opening phase.events r);
+          (phase_stands of_file of_port keys apps arms mode calls Reliable quotas old new phase.opening phase.events phase.refused r)
+          (phase_calm of_file of_port keys apps arms mode calls Reliable quotas old new phase.opening phase.events phase.refused r);
       mode = λ before told arms mode bench s. same_acted before (Do (ModeControl mode)) arms bench s;
       mark = λ before told arms bench s. same_acted before (Do Phase) arms bench s;
       arm = λ before told arms arm bench s.
@@ -125,6 +120,7 @@ module _ (handed : BenchState) where
       crash = λ before told arms seed old new c s.
           acted before (Do (Crash seed)) arms arms old new s (λ Arms none waits. waits) (λ a file within none stands. stands_crash image seed old new c a file stands) (λ none. calm_same old.card new.card c.card);
       save = λ before told arms mark bench s. same_acted before (Do (Save mark)) arms bench s;
+      quota = λ before told arms app objects bytes bench s. same_acted before (Do (QuotaControl app objects bytes)) arms bench s;
       restore = λ before told arms file mark kept old new puts s.
           acted before (Do (Restore file mark)) arms arms old new s (λ Arms none waits. waits) (λ a k within none stands. stands_put_back (file_number file) kept old new puts a k stands)
           (λ none. calm_same old.card new.card (card_put_back (file_number file) kept old new puts));
@@ -141,6 +137,7 @@ module _ (handed : BenchState) where
           counts_of [] [] given (first_counts given (λ file calm. stands_then (handed.files file) (handed.files file) (given.files file) (stands_first (handed.files file) calm) (goes_shut keys handed given drew draws fault refused file))
           (calm_shut keys handed given drew draws fault refused));
       refused = refused_counts;
+      exceeded = λ before told quotas arms mode calls old sum over past s. exceeded_counts before quotas arms mode calls old sum over s;
       crashed = λ before told arms seed old c s.
           counts_of (before ++ Do (Crash seed) ∷ []) arms given
           (acted before (Do (Crash seed)) arms arms old given s (λ Arms none waits. waits) (λ a file within none stands. stands_part image seed old given c a file stands) (λ none. calm_same old.card given.card c.card));

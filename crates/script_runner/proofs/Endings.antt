@@ -1,68 +1,59 @@
 -- How a run ends, from an earlier point of it.
-use Rattle.std.proofs.Common.{◌≡◌, ◌⊎◌, inl, inr, ◌+◌, ℕ, List, [], ◌∷◌, ◌++◌, refl, sym, ap, ◌∙◌, subst, arith, append_assoc, append-nil, Option}
+use Rattle.std.proofs.Common.{◌≡◌, ◌≤◌, ◌⊎◌, inl, inr, ◌+◌, ℕ, List, [], ◌∷◌, ◌++◌, refl, sym, ap, ◌∙◌, subst, arith, append_assoc, append-nil, Option}
 use Rattle.disk_model.specs.State.{FileState}
 use Rattle.hmac_keys.specs.declared.Keys.{Keys}
+use Rattle.tee_types.specs.Limits.{file_count}
 use Rattle.rpmb_card.specs.Port.{PortState}
 use Rattle.run_acts.specs.declared.MountFault.{MountFault}
 use Rattle.run_acts.specs.declared.MountFault.TheVariants.{Failed, Spent}
 use Rattle.script_text.specs.declared.script.Arm.{Arm}
 use Rattle.script_text.specs.declared.script.Control.TheVariants.{Crash, List as ListControl}
+use Rattle.script_text.specs.declared.script.Mode.{Mode}
+use Rattle.script_text.specs.declared.script.Step.{Step}
 use Rattle.script_text.specs.Script.{ScriptValue}
 use Rattle.tee_ports.specs.Streams.{Appends}
 use Rattle.tee_ports.proofs.Streams.{Appends-append, Appends-none}
 use Rattle.run_acts.specs.Lines.{refusal_line, why_text}
 use Rattle.run_acts.specs.Benches.{BenchState}
 use Rattle.run_acts.specs.Crashes.{CrashesInPart}
+use Rattle.run_acts.specs.PhaseOutcomes.{OverCommits}
+use Rattle.run_acts.specs.OpeningFiles.{no_file}
 use Rattle.script_runner.specs.declared.status.Status.{Status}
-use Rattle.script_runner.specs.declared.status.Status.TheVariants.{BadLine, CardMapRefused, DeviceFault, Done, FileFault, MountRefused, NoMemory, ReadFault, TooLong, Usage, WriteFault}
+use Rattle.script_runner.specs.declared.status.Status.TheVariants.{DeviceFault, Done, MountRefused, NoMemory, OverCommitted, WriteFault}
 use Rattle.script_runner.specs.Sending.{Begins, IsWriteError, Sends, Stops}
 use Rattle.script_runner.proofs.Sent.{Sends-append, Stops-longer}
 use Rattle.script_runner.specs.Text.{Act, Do, Refused, RunRecord, Serve, acts_of, acts_text}
 use Rattle.script_runner.specs.Trace.{applications_of}
-use Rattle.script_runner.specs.Course.{Goes, GoesUntil, GoesUntilCrashed, GoesUntilRefused, RefusesFirst}
-use Rattle.script_runner.specs.SavedFiles.{Standing}
+use Rattle.script_runner.specs.Course.{Goes, GoesUntil, GoesUntilCrashed, GoesUntilExceeded, GoesUntilRefused, RefusesFirst}
+use Rattle.script_runner.specs.SavedFiles.{Standing, with_bench}
 use Rattle.script_runner.specs.Ending.{EndsActs, EndsForMemory, RecordsRefusal}
 use Rattle.script_runner.specs.RunRefusals.{IsDeviceFault, IsRefusal}
 use Rattle.script_runner.specs.Points.{Point, arms_behind, phases_in, standing_at}
 use Rattle.script_runner.specs.Running.{Advances, EndsFrom}
-use Rattle.script_runner.specs.Prints.{HasActCause, PrintsRefusal}
+use Rattle.script_runner.specs.Prints.{HasActCause, PrintsExcess, PrintsRefusal}
 use Rattle.script_runner.proofs.Goings.{Goes-append, acts_text-append, arms_behind-append, phases_in-append}
 
 -- what was put behind a front has the cause of what was put alone
 pub HasActCause-behind : (failed : Type 0) (front put text all : List ℕ) (status : Status) → all ≡ front ++ text → HasActCause failed put text status → HasActCause failed (front ++ put) all status
 HasActCause-behind failed front put text all Done e h = ap (λ t. front ++ t) h ∙ sym e
-HasActCause-behind failed front put text all Usage e h = h
-HasActCause-behind failed front put text all (FileFault broken) e h = h
-HasActCause-behind failed front put text all (CardMapRefused block offset) e h = h
-HasActCause-behind failed front put text all (BadLine line) e h = h
-HasActCause-behind failed front put text all ReadFault e h = h
-HasActCause-behind failed front put text all WriteFault e h = h
-HasActCause-behind failed front put text all (TooLong excess) e h = h
-HasActCause-behind failed front put text all NoMemory e h = h
+HasActCause-behind failed front put text all (OverCommitted sum) e h = ap (λ t. front ++ t) h ∙ sym e
 HasActCause-behind failed front put text all (MountRefused fault) e h = (h.0, ap (λ t. front ++ t) h.1 ∙ sym e)
 HasActCause-behind failed front put text all (DeviceFault fault) e h = (h.0, one h.1)
   where
     one : (put ≡ text) ⊎ failed → (front ++ put ≡ all) ⊎ failed
     one (inl is) = inl (ap (λ t. front ++ t) is ∙ sym e)
     one (inr f) = inr f
+HasActCause-behind failed front put text all status e h = h
 
 -- a fault of the sink that holds of more of the run
 pub HasActCause-failed : (failed more : Type 0) (put text : List ℕ) (status : Status) → (failed → more) → HasActCause failed put text status → HasActCause more put text status
-HasActCause-failed failed more put text Done f h = h
-HasActCause-failed failed more put text Usage f h = h
-HasActCause-failed failed more put text (FileFault broken) f h = h
-HasActCause-failed failed more put text (CardMapRefused block offset) f h = h
-HasActCause-failed failed more put text (BadLine line) f h = h
-HasActCause-failed failed more put text ReadFault f h = h
 HasActCause-failed failed more put text WriteFault f h = f h
-HasActCause-failed failed more put text (TooLong excess) f h = h
-HasActCause-failed failed more put text NoMemory f h = h
-HasActCause-failed failed more put text (MountRefused fault) f h = h
 HasActCause-failed failed more put text (DeviceFault fault) f h = (h.0, one h.1)
   where
     one : (put ≡ text) ⊎ failed → (put ≡ text) ⊎ more
     one (inl is) = inl is
     one (inr x) = inr (f x)
+HasActCause-failed failed more put text status f h = h
 
 -- of a device that failed nothing is printed
 pub refusal_line-none : (fault : MountFault) → IsDeviceFault fault → refusal_line fault ≡ []
@@ -99,8 +90,8 @@ module _ {F R : Type 0} (of_file : F → FileState) (of_port : R → PortState) 
   until-behind apps arms done acts records more left old mid new h g = record {
     done = done ++ g.done;
     front = ap (λ a. done ++ a) g.front ∙ sym (append_assoc done g.done left);
-    saved = g.saved;
-    goes = Goes-append of_file of_port image Reliable keys apps arms done g.done records more old mid (record { bench = new; saved = g.saved }) h g.goes;
+    there = g.there;
+    goes = Goes-append of_file of_port image Reliable keys apps arms done g.done records more old mid (with_bench g.there new) h g.goes;
   }
 
   until_refused-behind : (apps : List (List ℕ)) (arms : List Arm) (done acts : List Act) (records more : List RunRecord) (old mid : Standing) (new : BenchState) (fault : MountFault) → GoesThere apps arms done records old mid → GoesUntilRefused of_file of_port image Reliable drew draws keys apps (arms_behind arms done) acts more mid new fault → GoesUntilRefused of_file of_port image Reliable drew draws keys apps arms (done ++ acts) (records ++ more) old new fault
@@ -109,7 +100,7 @@ module _ {F R : Type 0} (of_file : F → FileState) (of_port : R → PortState) 
     left = g.left;
     between = g.between;
     goes = until-behind apps arms done acts records more g.left old mid g.between h g.goes;
-    refused = subst (λ (w : List Arm). RefusesFirst of_file of_port image Reliable drew draws keys apps w g.left g.between new fault) (sym (arms_behind-append arms done g.goes.done)) g.refused;
+    refused = subst (λ (w : List Arm). RefusesFirst of_file of_port image Reliable drew draws keys apps w g.left (with_bench (g.goes).there g.between) new fault) (sym (arms_behind-append arms done g.goes.done)) g.refused;
   }
 
   until_crashed-behind : (apps : List (List ℕ)) (arms : List Arm) (done acts : List Act) (records more : List RunRecord) (old mid : Standing) (new : BenchState) → GoesThere apps arms done records old mid → GoesUntilCrashed of_file of_port image Reliable keys apps (arms_behind arms done) acts more mid new → GoesUntilCrashed of_file of_port image Reliable keys apps arms (done ++ acts) (records ++ more) old new
@@ -119,6 +110,19 @@ module _ {F R : Type 0} (of_file : F → FileState) (of_port : R → PortState) 
     between = g.between;
     goes = until-behind apps arms done acts records more (Do (Crash g.seed) ∷ g.left) old mid g.between h g.goes;
     crashes = g.crashes;
+  }
+
+  until_exceeded-behind : (apps : List (List ℕ)) (arms : List Arm) (done acts : List Act) (records more : List RunRecord) (old mid : Standing) (new : BenchState) (sum : ℕ) → GoesThere apps arms done records old mid
+      → GoesUntilExceeded of_file of_port image Reliable keys apps (arms_behind arms done) acts more mid new sum → GoesUntilExceeded of_file of_port image Reliable keys apps arms (done ++ acts) (records ++ more) old new sum
+  unfolding until-behind
+  until_exceeded-behind apps arms done acts records more old mid new sum h g = record {
+    mode = g.mode;
+    calls = g.calls;
+    left = g.left;
+    between = g.between;
+    goes = until-behind apps arms done acts records more (Serve g.mode g.calls ∷ g.left) old mid g.between h g.goes;
+    over = g.over;
+    past = g.past;
   }
 
   refusal-behind : (apps : List (List ℕ)) (arms : List Arm) (done acts : List Act) (records more : List RunRecord) (old mid : Standing) (new : BenchState) (fault : MountFault) → GoesThere apps arms done records old mid → RecordsRefusal of_file of_port image Reliable drew draws keys apps (arms_behind arms done) acts more mid new fault → RecordsRefusal of_file of_port image Reliable drew draws keys apps arms (done ++ acts) (records ++ more) old new fault
@@ -131,18 +135,13 @@ module _ {F R : Type 0} (of_file : F → FileState) (of_port : R → PortState) 
   -- how acts end behind others that were done
   EndsActs-behind : (apps : List (List ℕ)) (arms : List Arm) (done acts : List Act) (records more : List RunRecord) (old mid : Standing) (new : BenchState) (status : Status) → GoesThere apps arms done records old mid → EndsActs of_file of_port image Reliable drew draws keys apps (arms_behind arms done) acts more mid new status → EndsActs of_file of_port image Reliable drew draws keys apps arms (done ++ acts) (records ++ more) old new status
   EndsActs-behind apps arms done acts records more old mid new Done h g = until-behind apps arms done acts records more [] old mid new h g
-  EndsActs-behind apps arms done acts records more old mid new Usage h g = g
-  EndsActs-behind apps arms done acts records more old mid new (FileFault broken) h g = g
-  EndsActs-behind apps arms done acts records more old mid new (CardMapRefused block offset) h g = g
-  EndsActs-behind apps arms done acts records more old mid new (BadLine line) h g = g
-  EndsActs-behind apps arms done acts records more old mid new ReadFault h g = g
   EndsActs-behind apps arms done acts records more old mid new WriteFault h g = one g
     where
-      one : ((left : List Act) × GoesUntil of_file of_port image Reliable keys apps (arms_behind arms done) acts more left mid new) ⊎ ((fault : MountFault) × IsRefusal fault × RecordsRefusal of_file of_port image Reliable drew draws keys apps (arms_behind arms done) acts more mid new fault)
-          → ((left : List Act) × GoesUntil of_file of_port image Reliable keys apps arms (done ++ acts) (records ++ more) left old new) ⊎ ((fault : MountFault) × IsRefusal fault × RecordsRefusal of_file of_port image Reliable drew draws keys apps arms (done ++ acts) (records ++ more) old new fault)
+      one : EndsActs of_file of_port image Reliable drew draws keys apps (arms_behind arms done) acts more mid new WriteFault → EndsActs of_file of_port image Reliable drew draws keys apps arms (done ++ acts) (records ++ more) old new WriteFault
       one (inl x) = inl (x.0, until-behind apps arms done acts records more x.0 old mid new h x.1)
-      one (inr x) = inr (x.0, x.1, refusal-behind apps arms done acts records more old mid new x.0 h x.2)
-  EndsActs-behind apps arms done acts records more old mid new (TooLong excess) h g = g
+      one (inr (inl x)) = inr (inl (x.0, x.1, refusal-behind apps arms done acts records more old mid new x.0 h x.2))
+      one (inr (inr x)) = inr (inr (x.0, until_exceeded-behind apps arms done acts records more old mid new x.0 h x.1))
+  EndsActs-behind apps arms done acts records more old mid new (OverCommitted sum) h g = until_exceeded-behind apps arms done acts records more old mid new sum h g
   EndsActs-behind apps arms done acts records more old mid new NoMemory h g = one g
     where
       one : EndsForMemory of_file of_port image Reliable drew draws keys apps (arms_behind arms done) acts more mid new → EndsForMemory of_file of_port image Reliable drew draws keys apps arms (done ++ acts) (records ++ more) old new
@@ -151,6 +150,7 @@ module _ {F R : Type 0} (of_file : F → FileState) (of_port : R → PortState) 
       one (inr (inr x)) = inr (inr (until_crashed-behind apps arms done acts records more old mid new h x))
   EndsActs-behind apps arms done acts records more old mid new (MountRefused fault) h g = refusal-behind apps arms done acts records more old mid new fault h g
   EndsActs-behind apps arms done acts records more old mid new (DeviceFault fault) h g = refusal-behind apps arms done acts records more old mid new fault h g
+  EndsActs-behind apps arms done acts records more old mid new status h g = g
 
   -- a run that ends from a later point on ends from the earlier one
   pub EndsFrom-behind : (script : ScriptValue) (failed : Type 0) (old mid : Point) (held : Option (List ℕ)) (given : BenchState) (status : Status) → Advances of_file of_port image Reliable keys script old mid → EndsFrom of_file of_port image Reliable drew draws keys script failed mid held given status → EndsFrom of_file of_port image Reliable drew draws keys script failed old held given status
@@ -186,7 +186,7 @@ module _ {F R : Type 0} (of_file : F → FileState) (of_port : R → PortState) 
     records = [];
     appended = Appends-none old.held;
     begins = (_, refl);
-    ends = inl (acts_of old.mode old.steps, record { done = []; front = refl; saved = old.saved; goes = refl });
+    ends = inl (acts_of old.mode old.steps, record { done = []; front = refl; there = standing_at old; goes = refl });
     cause = tt;
   }
 
@@ -197,7 +197,7 @@ module _ {F R : Type 0} (of_file : F → FileState) (of_port : R → PortState) 
     records = [];
     appended = Appends-none old.held;
     begins = (_, refl);
-    ends = inr (inr (record { seed = seed; left = left; between = old.bench; goes = record { done = []; front = next; saved = old.saved; goes = refl }; crashes = crashes }));
+    ends = inr (inr (record { seed = seed; left = left; between = old.bench; goes = record { done = []; front = next; there = standing_at old; goes = refl }; crashes = crashes }));
     cause = tt;
   }
 
@@ -210,40 +210,33 @@ module _ {F R : Type 0} (of_file : F → FileState) (of_port : R → PortState) 
         records = [];
         appended = put;
         begins = ([], text ∙ sym (append-nil old.kept));
-        ends = record { done = []; front = acts; saved = old.saved; goes = refl };
+        ends = record { done = []; front = acts; there = standing_at old; goes = refl };
         cause = sym text;
       }
 
   -- the text of these acts, of which the first was refused
-  refusal_text : (script : ScriptValue) (number : ℕ) (apps : List (List ℕ)) (arms : List Arm) (acts : List Act) (old new : BenchState) (fault : MountFault) → RefusesFirst of_file of_port image Reliable drew draws keys apps arms acts old new fault → acts_text script number acts (Refused fault ∷ []) ≡ refusal_line fault
+  refusal_text : (script : ScriptValue) (number : ℕ) (apps : List (List ℕ)) (arms : List Arm) (acts : List Act) (old : Standing) (new : BenchState) (fault : MountFault) → RefusesFirst of_file of_port image Reliable drew draws keys apps arms acts old new fault → acts_text script number acts (Refused fault ∷ []) ≡ refusal_line fault
   refusal_text script number apps arms [] old new fault h = absurd h
   refusal_text script number apps arms (Serve mode calls ∷ acts) old new fault h = refl
   refusal_text script number apps arms (Do ListControl ∷ acts) old new fault h = refl
   refusal_text script number apps arms (Do control ∷ acts) old new fault h = absurd h
 
-  until_refused-now : (apps : List (List ℕ)) (arms : List Arm) (acts : List Act) (old : Standing) (new : BenchState) (fault : MountFault) → RefusesFirst of_file of_port image Reliable drew draws keys apps arms acts old.bench new fault → GoesUntilRefused of_file of_port image Reliable drew draws keys apps arms acts [] old new fault
-  until_refused-now apps arms acts old new fault h = record { left = acts; between = old.bench; goes = record { done = []; front = refl; saved = old.saved; goes = refl }; refused = h }
+  until_refused-now : (apps : List (List ℕ)) (arms : List Arm) (acts : List Act) (old : Standing) (new : BenchState) (fault : MountFault) → RefusesFirst of_file of_port image Reliable drew draws keys apps arms acts old new fault → GoesUntilRefused of_file of_port image Reliable drew draws keys apps arms acts [] old new fault
+  until_refused-now apps arms acts old new fault h = record { left = acts; between = old.bench; goes = record { done = []; front = refl; there = old; goes = refl }; refused = h }
 
   -- the next act was refused
-  pub EndsFrom-refused : (script : ScriptValue) (failed : Type 0) (old : Point) (held : Option (List ℕ)) (given : BenchState) (fault : MountFault) (status : Status) → RefusesFirst of_file of_port image Reliable drew draws keys (applications_of script) old.arms (acts_of old.mode old.steps) old.bench given fault → PrintsRefusal failed old.held held old.kept fault status → EndsFrom of_file of_port image Reliable drew draws keys script failed old held given status
-  EndsFrom-refused script failed old held given fault Done h t = absurd t
-  EndsFrom-refused script failed old held given fault Usage h t = absurd t
-  EndsFrom-refused script failed old held given fault (FileFault broken) h t = absurd t
-  EndsFrom-refused script failed old held given fault (CardMapRefused block offset) h t = absurd t
-  EndsFrom-refused script failed old held given fault (BadLine line) h t = absurd t
-  EndsFrom-refused script failed old held given fault ReadFault h t = absurd t
+  pub EndsFrom-refused : (script : ScriptValue) (failed : Type 0) (old : Point) (held : Option (List ℕ)) (given : BenchState) (fault : MountFault) (status : Status) → RefusesFirst of_file of_port image Reliable drew draws keys (applications_of script) old.arms (acts_of old.mode old.steps) (standing_at old) given fault → PrintsRefusal failed old.held held old.kept fault status → EndsFrom of_file of_port image Reliable drew draws keys script failed old held given status
   EndsFrom-refused script failed old held given fault WriteFault h t =
-      let text = refusal_text script old.number (applications_of script) old.arms (acts_of old.mode old.steps) old.bench given fault h in record {
+      let text = refusal_text script old.number (applications_of script) old.arms (acts_of old.mode old.steps) (standing_at old) given fault h in record {
         put = t.2.0;
         records = Refused fault ∷ [];
         appended = t.2.1;
         begins = subst (λ x. Begins t.2.0 (old.kept ++ x)) (sym text) t.2.2;
-        ends = inr (fault, t.0, ([], refl, until_refused-now (applications_of script) old.arms (acts_of old.mode old.steps) (standing_at old) given fault h));
+        ends = inr (inl (fault, t.0, ([], refl, until_refused-now (applications_of script) old.arms (acts_of old.mode old.steps) (standing_at old) given fault h)));
         cause = t.1;
       }
-  EndsFrom-refused script failed old held given fault (TooLong excess) h t = absurd t
   EndsFrom-refused script failed old held given fault NoMemory h t =
-      let text = refusal_text script old.number (applications_of script) old.arms (acts_of old.mode old.steps) old.bench given fault h in record {
+      let text = refusal_text script old.number (applications_of script) old.arms (acts_of old.mode old.steps) (standing_at old) given fault h in record {
         put = t.1.0;
         records = Refused fault ∷ [];
         appended = t.1.1;
@@ -253,7 +246,7 @@ module _ {F R : Type 0} (of_file : F → FileState) (of_port : R → PortState) 
       }
   EndsFrom-refused script failed old held given fault (MountRefused printed) h t =
       let text : old.kept ++ acts_text script old.number (acts_of old.mode old.steps) (Refused fault ∷ []) ≡ old.kept ++ refusal_line fault =
-      ap (λ x. old.kept ++ x) (refusal_text script old.number (applications_of script) old.arms (acts_of old.mode old.steps) old.bench given fault h) in
+      ap (λ x. old.kept ++ x) (refusal_text script old.number (applications_of script) old.arms (acts_of old.mode old.steps) (standing_at old) given fault h) in
       let ends : RecordsRefusal of_file of_port image Reliable drew draws keys (applications_of script) old.arms (acts_of old.mode old.steps) (Refused fault ∷ []) (standing_at old) given fault =
       ([], refl, until_refused-now (applications_of script) old.arms (acts_of old.mode old.steps) (standing_at old) given fault h) in record {
         put = old.kept ++ refusal_line fault;
@@ -269,7 +262,7 @@ module _ {F R : Type 0} (of_file : F → FileState) (of_port : R → PortState) 
       acts = acts_of old.mode old.steps
 
       text : old.kept ++ acts_text script old.number acts (Refused fault ∷ []) ≡ old.kept
-      text = ap (λ x. old.kept ++ x) (refusal_text script old.number (applications_of script) old.arms acts old.bench given fault h ∙ refusal_line-none fault t.1) ∙ append-nil old.kept
+      text = ap (λ x. old.kept ++ x) (refusal_text script old.number (applications_of script) old.arms acts (standing_at old) given fault h ∙ refusal_line-none fault t.1) ∙ append-nil old.kept
 
       ends : RecordsRefusal of_file of_port image Reliable drew draws keys (applications_of script) old.arms acts (Refused fault ∷ []) (standing_at old) given printed
       ends = subst (λ (f : MountFault). RecordsRefusal of_file of_port image Reliable drew draws keys (applications_of script) old.arms acts (Refused fault ∷ []) (standing_at old) given f) (sym t.0)
@@ -292,6 +285,47 @@ module _ {F R : Type 0} (of_file : F → FileState) (of_port : R → PortState) 
         ends = ends;
         cause = (subst IsDeviceFault (sym t.0) t.1, inr x.0);
       }
+  EndsFrom-refused script failed old held given fault status h t = absurd t
+
+  -- the quotas of the next phase are over-committed
+  pub EndsFrom-exceeded : (script : ScriptValue) (failed : Type 0) (old : Point) (held : Option (List ℕ)) (given : BenchState) (sum : ℕ) (mode : Mode) (calls : List Step) (left : List Act)
+      → acts_of old.mode old.steps ≡ Serve mode calls ∷ left → OverCommits of_file of_port keys (applications_of script) old.quotas old.bench given sum
+      → ((file : ℕ) → file_count ≤ file → given.files file ≡ no_file) → (status : Status) → PrintsExcess failed old.held held old.kept sum status
+      → EndsFrom of_file of_port image Reliable drew draws keys script failed old held given status
+  EndsFrom-exceeded script failed old held given sum mode calls left next over past status t = one status t
+    where
+      text : old.kept ++ acts_text script old.number (acts_of old.mode old.steps) [] ≡ old.kept
+      text = ap (λ a. old.kept ++ acts_text script old.number a []) next ∙ append-nil old.kept
+
+      exceeded : GoesUntilExceeded of_file of_port image Reliable keys (applications_of script) old.arms (acts_of old.mode old.steps) [] (standing_at old) given sum
+      exceeded = record {
+        mode = mode;
+        calls = calls;
+        left = left;
+        between = old.bench;
+        goes = record { done = []; front = next; there = standing_at old; goes = refl };
+        over = over;
+        past = past;
+      }
+
+      one : (s : Status) → PrintsExcess failed old.held held old.kept sum s → EndsFrom of_file of_port image Reliable drew draws keys script failed old held given s
+      one (OverCommitted told) x = record {
+        put = old.kept;
+        records = [];
+        appended = x.1;
+        begins = ([], text ∙ sym (append-nil old.kept));
+        ends = subst (λ n. GoesUntilExceeded of_file of_port image Reliable keys (applications_of script) old.arms (acts_of old.mode old.steps) [] (standing_at old) given n) (sym x.0) exceeded;
+        cause = sym text;
+      }
+      one WriteFault x = record {
+        put = x.1.0;
+        records = [];
+        appended = x.1.1;
+        begins = (x.1.2.0, text ∙ sym (append-nil old.kept) ∙ x.1.2.1);
+        ends = inr (inr (sum, exceeded));
+        cause = x.0;
+      }
+      one s x = absurd x
 
   -- the text of acts that were done could not be put
   pub EndsFrom-text : (script : ScriptValue) (failed : Type 0) (old : Point) (held : Option (List ℕ)) (given : Standing) (done left : List Act) (records : List RunRecord) (status : Status) → acts_of old.mode old.steps ≡ done ++ left → Goes of_file of_port image Reliable keys (applications_of script) old.arms done records (standing_at old) given
@@ -311,7 +345,7 @@ module _ {F R : Type 0} (of_file : F → FileState) (of_port : R → PortState) 
         records = records;
         appended = longer.1;
         begins = longer.2;
-        ends = inl (left, record { done = done; front = front; saved = given.saved; goes = goes });
+        ends = inl (left, record { done = done; front = front; there = given; goes = goes });
         cause = x;
       }
       one NoMemory x = record {
@@ -319,15 +353,7 @@ module _ {F R : Type 0} (of_file : F → FileState) (of_port : R → PortState) 
         records = records;
         appended = longer.1;
         begins = longer.2;
-        ends = inl (left, record { done = done; front = front; saved = given.saved; goes = goes });
+        ends = inl (left, record { done = done; front = front; there = given; goes = goes });
         cause = tt;
       }
-      one Done x = absurd x
-      one Usage x = absurd x
-      one (FileFault broken) x = absurd x
-      one (CardMapRefused block offset) x = absurd x
-      one (BadLine line) x = absurd x
-      one ReadFault x = absurd x
-      one (TooLong excess) x = absurd x
-      one (MountRefused fault) x = absurd x
-      one (DeviceFault fault) x = absurd x
+      one status x = absurd x

@@ -10,7 +10,7 @@ use Rattle.run_acts.specs.Benches.{BenchState}
 use Rattle.run_acts.specs.declared.MountFault.{MountFault}
 use Rattle.run_acts.specs.Opens.{IsBlockUnread}
 use Rattle.script_runner.specs.declared.status.Status.{Status}
-use Rattle.script_runner.specs.declared.status.Status.TheVariants.{BadLine, CardMapRefused, DeviceFault, Done, FileFault, MountRefused, NoMemory, ReadFault, TooLong, Usage, WriteFault}
+use Rattle.script_runner.specs.declared.status.Status.TheVariants.{DeviceFault, Done, FileFault, MountRefused, NoMemory, OverCommitted, WriteFault}
 use Rattle.script_runner.specs.Exports.{EndsCopies, ExportsBench, ExportsItsScript, RunsExport, copied, exported, undone, unread}
 use Rattle.script_runner.specs.Prints.{PrintsRefusal}
 use Rattle.script_runner.specs.RunCauses.{RunsItsScript, World}
@@ -29,13 +29,7 @@ PrintsRefusal-failed failed more held_old held_new kept fault (DeviceFault print
     one (inl put) = inl put
     one (inr x) = inr (f x.0, x.1)
 PrintsRefusal-failed failed more held_old held_new kept fault NoMemory f t = t
-PrintsRefusal-failed failed more held_old held_new kept fault Done f t = absurd t
-PrintsRefusal-failed failed more held_old held_new kept fault Usage f t = absurd t
-PrintsRefusal-failed failed more held_old held_new kept fault (BadLine line) f t = absurd t
-PrintsRefusal-failed failed more held_old held_new kept fault ReadFault f t = absurd t
-PrintsRefusal-failed failed more held_old held_new kept fault (TooLong excess) f t = absurd t
-PrintsRefusal-failed failed more held_old held_new kept fault (FileFault broken) f t = absurd t
-PrintsRefusal-failed failed more held_old held_new kept fault (CardMapRefused block offset) f t = absurd t
+PrintsRefusal-failed failed more held_old held_new kept fault status f t = absurd t
 
 pub ExportsBench-failed : (keys : Keys) (drew draws : ℕ) (handed given : BenchState) (folder_old folder_new : ℕ → FileState) (failed more : Type 0) (held_old held_new : Option (List ℕ)) (status : Status)
     → (failed → more) → ExportsBench keys drew draws handed given folder_old folder_new failed held_old held_new status → ExportsBench keys drew draws handed given folder_old folder_new more held_old held_new status
@@ -57,12 +51,8 @@ its_script NoMemory runs = tt
 its_script (MountRefused fault) runs = tt
 its_script (DeviceFault fault) runs = tt
 its_script (FileFault broken) runs = tt
-its_script (CardMapRefused block offset) runs = absurd runs
-its_script Usage runs = absurd runs
-its_script (BadLine line) runs = absurd runs
-its_script ReadFault runs = absurd runs
-its_script WriteFault runs = absurd runs
-its_script (TooLong excess) runs = absurd runs
+its_script (OverCommitted sum) runs = tt
+its_script status runs = absurd runs
 
 refused_script : (failed : Type 0) (held_old held_new : Option (List ℕ)) (kept : List ℕ) (fault : MountFault) (status : Status) → (failed → ⊥)
     → PrintsRefusal failed held_old held_new kept fault status → ExportsItsScript status
@@ -71,25 +61,14 @@ refused_script failed held_old held_new kept fault NoMemory not t = tt
 refused_script failed held_old held_new kept fault (MountRefused printed) not t = tt
 refused_script failed held_old held_new kept fault (DeviceFault printed) not t = tt
 refused_script failed held_old held_new kept fault (FileFault broken) not t = tt
-refused_script failed held_old held_new kept fault (CardMapRefused block offset) not t = absurd t
 refused_script failed held_old held_new kept fault WriteFault not t = absurd (not t.1)
-refused_script failed held_old held_new kept fault Usage not t = absurd t
-refused_script failed held_old held_new kept fault (BadLine line) not t = absurd t
-refused_script failed held_old held_new kept fault ReadFault not t = absurd t
-refused_script failed held_old held_new kept fault (TooLong excess) not t = absurd t
+refused_script failed held_old held_new kept fault status not t = absurd t
 
 copied_script : (files_old files_new folder_old folder_new : ℕ → FileState) (block : List ℕ) (status : Status) → EndsCopies files_old files_new folder_old folder_new block status → ExportsItsScript status
 copied_script files_old files_new folder_old folder_new block Done ends = tt
 copied_script files_old files_new folder_old folder_new block NoMemory ends = tt
 copied_script files_old files_new folder_old folder_new block (FileFault broken) ends = tt
-copied_script files_old files_new folder_old folder_new block (CardMapRefused number offset) ends = absurd ends
-copied_script files_old files_new folder_old folder_new block (MountRefused fault) ends = absurd ends
-copied_script files_old files_new folder_old folder_new block (DeviceFault fault) ends = absurd ends
-copied_script files_old files_new folder_old folder_new block WriteFault ends = absurd ends
-copied_script files_old files_new folder_old folder_new block Usage ends = absurd ends
-copied_script files_old files_new folder_old folder_new block (BadLine line) ends = absurd ends
-copied_script files_old files_new folder_old folder_new block ReadFault ends = absurd ends
-copied_script files_old files_new folder_old folder_new block (TooLong excess) ends = absurd ends
+copied_script files_old files_new folder_old folder_new block status ends = absurd ends
 
 bench_script : (keys : Keys) (drew draws : ℕ) (handed given : BenchState) (folder_old folder_new : ℕ → FileState) (failed : Type 0) (held_old held_new : Option (List ℕ)) (status : Status) → (failed → ⊥)
     → ExportsBench keys drew draws handed given folder_old folder_new failed held_old held_new status → ExportsItsScript status

@@ -6,7 +6,7 @@ use Rattle.disk_model.proofs.Goings.{goes_on_none, rests_none}
 use Rattle.folder_export.specs.declared.fault.FileFault.{FileFault as Fault}
 use Rattle.folder_export.specs.Exports.{ExportsStore, StopsExport}
 use Rattle.folder_export.specs.Folders.{states_of}
-use Rattle.object_calls.specs.OpeningFiles.{files_of, no_file}
+use Rattle.run_acts.specs.OpeningFiles.{files_of, no_file}
 use Rattle.script_runner.specs.declared.status.Status.TheVariants.{Done, FileFault, NoMemory}
 use Rattle.script_runner.specs.Exports.{CopiesFiles, FilesHadMemory}
 

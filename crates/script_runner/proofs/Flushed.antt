@@ -7,7 +7,7 @@ use Rattle.rpmb_card.specs.Port.{PortState}
 use Rattle.script_text.specs.Script.{ScriptValue}
 use Rattle.run_acts.specs.Benches.{bench_state}
 use Rattle.script_runner.specs.declared.status.Status.{Status}
-use Rattle.script_runner.specs.declared.status.Status.TheVariants.{BadLine, CardMapRefused, DeviceFault, Done, FileFault, MountRefused, NoMemory, ReadFault, TooLong, Usage, WriteFault}
+use Rattle.script_runner.specs.declared.status.Status.TheVariants.{Done, WriteFault}
 use Rattle.script_runner.specs.Sending.{IsWriteError, Stops}
 use Rattle.script_runner.specs.declared.run_state.Run.{Run}
 use Rattle.script_runner.specs.Text.{acts_of}
@@ -27,12 +27,4 @@ module _ {F R : Type 0} (of_file : F → FileState) (of_port : R → PortState) 
   pub EndsFrom-printed : (status : Status) → PrintsLines failed held_old held_new run.kept.items status → Ends status
   EndsFrom-printed Done t = EndsFrom-done of_file of_port image Reliable drew draws keys script failed (point_of of_file of_port script held_old run) held_new (drop_all run.at script.steps all) t
   EndsFrom-printed WriteFault t = not_put WriteFault t.1 t.0
-  EndsFrom-printed Usage t = absurd t
-  EndsFrom-printed (FileFault broken) t = absurd t
-  EndsFrom-printed (CardMapRefused block offset) t = absurd t
-  EndsFrom-printed (BadLine line) t = absurd t
-  EndsFrom-printed ReadFault t = absurd t
-  EndsFrom-printed (TooLong excess) t = absurd t
-  EndsFrom-printed NoMemory t = absurd t
-  EndsFrom-printed (MountRefused fault) t = absurd t
-  EndsFrom-printed (DeviceFault fault) t = absurd t
+  EndsFrom-printed status t = absurd t

@@ -5,13 +5,13 @@ use Rattle.hmac_keys.specs.declared.Keys.{Keys}
 use Rattle.rpmb_card.specs.Port.{PortState}
 use Rattle.tee_types.specs.declared.reply.Device.{Device}
 use Rattle.script_text.specs.declared.script.Arm.{Arm}
-use Rattle.script_text.specs.declared.script.Control.TheVariants.{Arm as ArmControl, Crash, Flip, List as ListControl, Mode as ModeControl, Phase, Restore, Save}
+use Rattle.script_text.specs.declared.script.Control.TheVariants.{Arm as ArmControl, Crash, Flip, List as ListControl, Mode as ModeControl, Phase, Quota as QuotaControl, Restore, Save}
 use Rattle.script_text.specs.declared.script.Mode.{Mode}
 use Rattle.script_text.specs.declared.script.Step.{Step}
 use Rattle.store_model.specs.Object.{ObjectMap}
-use Rattle.script_runner.specs.Text.{Act, Controlled, Do, Listed, PhaseRecord, Ran, Refused, RunRecord, Serve}
+use Rattle.script_runner.specs.Text.{Act, Controlled, Do, Listed, PhaseRecord, Ran, RunRecord, Serve}
 use Rattle.script_runner.specs.Course.{Goes}
-use Rattle.script_runner.specs.SavedFiles.{Standing, saves_files, with_bench}
+use Rattle.script_runner.specs.SavedFiles.{Standing, quota_for, saves_files, sets_quota, with_bench}
 
 module _ {F R : Type 0} (of_file : F → FileState) (of_port : R → PortState) (image : FileState → ℕ → ℕ → List ℕ) (Reliable : Type 0) (keys : Keys) (apps : List (List ℕ)) where
   abbrev pub GoesAll : (arms : List Arm) → List Act → List RunRecord → (old new : Standing) → Type 0
@@ -33,6 +33,9 @@ module _ {F R : Type 0} (of_file : F → FileState) (of_port : R → PortState) 
           (goes : GoesAll arms (Do (Crash seed) ∷ acts) (Controlled ∷ records) old new) → P arms acts records (with_bench old goes.0) new goes.2 → P arms (Do (Crash seed) ∷ acts) (Controlled ∷ records) old new goes
       pub save : (arms : List Arm) (mark : List ℕ) (acts : List Act) (records : List RunRecord) (old new : Standing)
           (goes : GoesAll arms acts records (saves_files mark old) new) → P arms acts records (saves_files mark old) new goes → P arms (Do (Save mark) ∷ acts) (Controlled ∷ records) old new goes
+      pub quota : (arms : List Arm) (app : List ℕ) (objects bytes : ℕ) (acts : List Act) (records : List RunRecord) (old new : Standing)
+          (goes : GoesAll arms acts records (sets_quota (quota_for app objects bytes) old) new) → P arms acts records (sets_quota (quota_for app objects bytes) old) new goes
+          → P arms (Do (QuotaControl app objects bytes) ∷ acts) (Controlled ∷ records) old new goes
       pub restore : (arms : List Arm) (file : Device) (mark : List ℕ) (acts : List Act) (records : List RunRecord) (old new : Standing)
           (goes : GoesAll arms (Do (Restore file mark) ∷ acts) (Controlled ∷ records) old new) → P arms acts records (with_bench old goes.0) new goes.2
           → P arms (Do (Restore file mark) ∷ acts) (Controlled ∷ records) old new goes
@@ -50,43 +53,8 @@ module _ {F R : Type 0} (of_file : F → FileState) (of_port : R → PortState) 
     fold_going s arms (Do (ArmControl arm) ∷ acts) (Controlled ∷ records) old new goes = s.arm arms arm acts records old new goes (fold_going s (arms ++ arm ∷ []) acts records old new goes)
     fold_going s arms (Do (Crash seed) ∷ acts) (Controlled ∷ records) old new goes = s.crash arms seed acts records old new goes (fold_going s arms acts records (with_bench old goes.0) new goes.2)
     fold_going s arms (Do (Save mark) ∷ acts) (Controlled ∷ records) old new goes = s.save arms mark acts records old new goes (fold_going s arms acts records (saves_files mark old) new goes)
+    fold_going s arms (Do (QuotaControl app objects bytes) ∷ acts) (Controlled ∷ records) old new goes = s.quota arms app objects bytes acts records old new goes (fold_going s arms acts records (sets_quota (quota_for app objects bytes) old) new goes)
     fold_going s arms (Do (Restore file mark) ∷ acts) (Controlled ∷ records) old new goes = s.restore arms file mark acts records old new goes (fold_going s arms acts records (with_bench old goes.0) new goes.2)
     fold_going s arms (Do (Flip file at mask) ∷ acts) (Controlled ∷ records) old new goes = s.flip arms file at mask acts records old new goes (fold_going s arms acts records (with_bench old goes.0) new goes.2)
     fold_going s arms (Do ListControl ∷ acts) (Listed objects ∷ records) old new goes = s.list arms acts objects records old new goes (fold_going s arms acts records (with_bench old goes.0) new goes.2)
-    fold_going s arms [] (r ∷ records) old new goes = absurd goes
-    fold_going s arms (Serve mode calls ∷ acts) [] old new goes = absurd goes
-    fold_going s arms (Serve mode calls ∷ acts) (Listed objects ∷ records) old new goes = absurd goes
-    fold_going s arms (Serve mode calls ∷ acts) (Controlled ∷ records) old new goes = absurd goes
-    fold_going s arms (Serve mode calls ∷ acts) (Refused fault ∷ records) old new goes = absurd goes
-    fold_going s arms (Do (ModeControl mode) ∷ acts) [] old new goes = absurd goes
-    fold_going s arms (Do (ModeControl mode) ∷ acts) (Ran phase ∷ records) old new goes = absurd goes
-    fold_going s arms (Do (ModeControl mode) ∷ acts) (Listed objects ∷ records) old new goes = absurd goes
-    fold_going s arms (Do (ModeControl mode) ∷ acts) (Refused fault ∷ records) old new goes = absurd goes
-    fold_going s arms (Do Phase ∷ acts) [] old new goes = absurd goes
-    fold_going s arms (Do Phase ∷ acts) (Ran phase ∷ records) old new goes = absurd goes
-    fold_going s arms (Do Phase ∷ acts) (Listed objects ∷ records) old new goes = absurd goes
-    fold_going s arms (Do Phase ∷ acts) (Refused fault ∷ records) old new goes = absurd goes
-    fold_going s arms (Do (ArmControl arm) ∷ acts) [] old new goes = absurd goes
-    fold_going s arms (Do (ArmControl arm) ∷ acts) (Ran phase ∷ records) old new goes = absurd goes
-    fold_going s arms (Do (ArmControl arm) ∷ acts) (Listed objects ∷ records) old new goes = absurd goes
-    fold_going s arms (Do (ArmControl arm) ∷ acts) (Refused fault ∷ records) old new goes = absurd goes
-    fold_going s arms (Do (Crash seed) ∷ acts) [] old new goes = absurd goes
-    fold_going s arms (Do (Crash seed) ∷ acts) (Ran phase ∷ records) old new goes = absurd goes
-    fold_going s arms (Do (Crash seed) ∷ acts) (Listed objects ∷ records) old new goes = absurd goes
-    fold_going s arms (Do (Crash seed) ∷ acts) (Refused fault ∷ records) old new goes = absurd goes
-    fold_going s arms (Do (Save mark) ∷ acts) [] old new goes = absurd goes
-    fold_going s arms (Do (Save mark) ∷ acts) (Ran phase ∷ records) old new goes = absurd goes
-    fold_going s arms (Do (Save mark) ∷ acts) (Listed objects ∷ records) old new goes = absurd goes
-    fold_going s arms (Do (Save mark) ∷ acts) (Refused fault ∷ records) old new goes = absurd goes
-    fold_going s arms (Do (Restore file mark) ∷ acts) [] old new goes = absurd goes
-    fold_going s arms (Do (Restore file mark) ∷ acts) (Ran phase ∷ records) old new goes = absurd goes
-    fold_going s arms (Do (Restore file mark) ∷ acts) (Listed objects ∷ records) old new goes = absurd goes
-    fold_going s arms (Do (Restore file mark) ∷ acts) (Refused fault ∷ records) old new goes = absurd goes
-    fold_going s arms (Do (Flip file at mask) ∷ acts) [] old new goes = absurd goes
-    fold_going s arms (Do (Flip file at mask) ∷ acts) (Ran phase ∷ records) old new goes = absurd goes
-    fold_going s arms (Do (Flip file at mask) ∷ acts) (Listed objects ∷ records) old new goes = absurd goes
-    fold_going s arms (Do (Flip file at mask) ∷ acts) (Refused fault ∷ records) old new goes = absurd goes
-    fold_going s arms (Do ListControl ∷ acts) [] old new goes = absurd goes
-    fold_going s arms (Do ListControl ∷ acts) (Ran phase ∷ records) old new goes = absurd goes
-    fold_going s arms (Do ListControl ∷ acts) (Controlled ∷ records) old new goes = absurd goes
-    fold_going s arms (Do ListControl ∷ acts) (Refused fault ∷ records) old new goes = absurd goes
+    fold_going s arms acts records old new goes = absurd goes

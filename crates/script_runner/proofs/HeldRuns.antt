@@ -7,21 +7,26 @@ use Rattle.hmac_keys.specs.KeyTable.{rpmb_key}
 use Rattle.tee_types.specs.Limits.{directory_file}
 use Rattle.rpmb_card.specs.Card.{CardState}
 use Rattle.rpmb_card.specs.Port.{PortState}
+use Rattle.app_quota.specs.declared.quotas.Quota.{Quota}
 use Rattle.rpmb_host.specs.Honest.{HasCard}
 use Rattle.script_text.specs.declared.reading.ScriptFault.{ScriptFault}
 use Rattle.script_text.specs.declared.reading.ScriptFault.TheVariants.{BadLine as BadLineFault, TooManyApps}
 use Rattle.script_text.specs.declared.script.Arm.{Arm}
-use Rattle.script_text.specs.declared.script.Control.TheVariants.{Arm as ArmControl, Crash, Flip, List as ListControl, Mode as ModeControl, Phase, Restore, Save}
+use Rattle.script_text.specs.declared.script.Control.TheVariants.{Arm as ArmControl, Crash, Flip, List as ListControl, Mode as ModeControl, Phase, Quota as QuotaControl, Restore, Save}
+use Rattle.script_text.specs.declared.script.Mode.{Mode}
 use Rattle.script_text.specs.declared.script.Mode.TheVariants.{Serial}
+use Rattle.script_text.specs.declared.script.Step.{Step}
 use Rattle.script_text.specs.Grammar.{script_of}
 use Rattle.script_text.specs.Script.{ScriptValue}
 use Rattle.store_model.specs.ReplayState.{ReplayState}
 use Rattle.store_commit.specs.Formats.{FormatRefused}
 use Rattle.store_commit.specs.Mounts.{CardRefused}
-use Rattle.run_acts.specs.Benches.{BenchState}
+use Rattle.run_acts.specs.Benches.{BenchState, KeepsDevices}
 use Rattle.run_acts.specs.declared.MountFault.{MountFault}
 use Rattle.run_acts.specs.declared.MountFault.TheVariants.{CardBlock, CardResult, Directory, Failed, Frame, NoMemory as NoMemoryFault, NoStore, OldFormat, Spent}
 use Rattle.run_acts.specs.Left.{replay_left}
+use Rattle.run_acts.specs.PhaseRefusals.{IsGivenUp}
+use Rattle.run_acts.specs.QuotaRefusals.{admitted}
 use Rattle.run_acts.specs.Opens.{IsOpenRefused, OpensBench, StopsOpening, found, is_blank, made, starved, stopped, unasked, unformed, unread}
 use Rattle.run_acts.specs.Untainted.{ArmNoMask, AreUntainted}
 use Rattle.run_acts.proofs.CrashedLaws.{card_of, crashes_keep, kept_devices_hold, part_may_be}
@@ -31,7 +36,7 @@ use Rattle.run_acts.proofs.Opened.{formed_benches_hold_none}
 use Rattle.run_acts.proofs.Untainted.{crashes_stay_untainted, openings_stay_untainted, untainted_files_are_honest, untainted_then}
 use Rattle.script_runner.specs.declared.status.Excess.TheVariants.{Apps, Bytes}
 use Rattle.script_runner.specs.declared.status.Status.{Status}
-use Rattle.script_runner.specs.declared.status.Status.TheVariants.{BadLine, CardMapRefused, DeviceFault, Done, FileFault, MountRefused, NoMemory, ReadFault, TooLong, Usage, WriteFault}
+use Rattle.script_runner.specs.declared.status.Status.TheVariants.{BadLine, DeviceFault, Done, MountRefused, NoMemory, OverCommitted, ReadFault, TooLong, WriteFault}
 use Rattle.script_runner.specs.Course.{RefusesFirst}
 use Rattle.script_runner.specs.Ending.{EndsBench, EndsRun, EndsScript, NotOpened, Shut}
 use Rattle.script_runner.specs.HeldRuns.{BeginsWith, FormattedRunsStand, HoldsBehind, IsBlankBench, IsWhole, NoneStarved, RunsHoldLeft}
@@ -42,7 +47,7 @@ use Rattle.script_runner.specs.RunLaws.{RecordsStand}
 use Rattle.script_runner.specs.RunRefusals.{IsDeviceFault, IsRefusal}
 use Rattle.script_runner.specs.Text.{Act, Controlled, Do, Listed, Ran, Refused, RunRecord, Serve, acts_of}
 use Rattle.script_runner.specs.Trace.{IsSilent, OfScript, Trace, applications_of}
-use Rattle.script_runner.specs.SavedFiles.{Standing, begins_with}
+use Rattle.script_runner.specs.SavedFiles.{Standing, begins_with, quota_for, saves_files, sets_quota}
 use Rattle.script_runner.proofs.Alterings.{alter_front, alter_last, mask_none}
 use Rattle.script_runner.proofs.CalmFiles.{goes_refused}
 use Rattle.script_runner.proofs.GoingFold.{GoesAll}
@@ -108,13 +113,17 @@ module _ (keys : Keys) where
     HeldBehind before told arms bench = AlterNothing before → ArmNoMask arms × Held told bench
 
     -- and one more
-    more_held : (before : List Act) (told : List RunRecord) (arms later : List Arm) (act : Act) (one : RunRecord) (old new : BenchState)
-        → (ArmNoMask arms → AltersNothing act → ArmNoMask later) → (AltersNothing act → GoesAll of_file of_port image Reliable keys apps arms (act ∷ []) (one ∷ []) (begins_with old) (begins_with new))
-        → HeldBehind before told arms old → HeldBehind (before ++ act ∷ []) (told ++ one ∷ []) later new
+    more_held : (before : List Act) (told : List RunRecord) (arms later : List Arm) (act : Act) (one : RunRecord) (old new : Standing)
+        → (ArmNoMask arms → AltersNothing act → ArmNoMask later) → (AltersNothing act → GoesAll of_file of_port image Reliable keys apps arms (act ∷ []) (one ∷ []) old new)
+        → HeldBehind before told arms old.bench → HeldBehind (before ++ act ∷ []) (told ++ one ∷ []) later new.bench
     more_held before told arms later act one old new waits goes held none =
         let last = alter_last before act none in
         let was = held (alter_front before (act ∷ []) none) in
-        (waits was.0 last, one_more told arms act one (begins_with old) (begins_with new) was.0 last (goes last) was.1)
+        (waits was.0 last, one_more told arms act one old new was.0 last (goes last) was.1)
+
+    -- a bench between two acts, with those quotas
+    abbrev under : List Quota → BenchState → Standing
+    under quotas bench = record (begins_with bench) { quotas = quotas }
 
     -- what was only read and synced
     goes_untainted : (old new : BenchState) → ((file : ℕ) → GoesOn (old.files file) (new.files file)) → IsWhole new → AreUntainted old.files → AreUntainted new.files
@@ -124,27 +133,9 @@ module _ (keys : Keys) where
       abbrev Behind : List Act → List RunRecord → BenchState → Type 0
       Behind done records bench = AlterNothing done → NoneStarved records → HoldsBehind keys apps done bench (left_behind apps s records)
 
-      refused_held : (told : List RunRecord) (arms : List Arm) (left : List Act) (fault : MountFault) (old : BenchState)
-          → RefusesFirst of_file of_port image Reliable drew draws keys apps arms left old given fault → Held told old → (fault ≡ NoMemoryFault → ⊥) → HoldsUntainted keys given (left_behind apps s told)
-      refused_held told arms [] fault old refuses held some = absurd refuses
-      refused_held told arms (Serve mode calls ∷ left) fault old (inl (m, memory)) held some =
-          let files : AreUntainted given.files = goes_untainted old given (goes_refused keys old given drew draws fault m) whole held.files in
-          let card = held.card in
-          record {
-            files = files;
-            holds = refused_mounts_keep keys (left_behind apps s told) old given drew draws fault held.holds m (untainted_files_are_honest given.files files);
-            card = (card.0, card_of given.card old.card (rpmb_key keys.huk) card.0 (sym (m.leaves).card) card.1);
-          }
-      refused_held told arms (Serve mode calls ∷ left) fault old (inr ends) held some = absurd (some ends.fault_is)
-      refused_held told arms (Do (ModeControl mode) ∷ left) fault old refuses held some = absurd refuses
-      refused_held told arms (Do Phase ∷ left) fault old refuses held some = absurd refuses
-      refused_held told arms (Do (ArmControl arm) ∷ left) fault old refuses held some = absurd refuses
-      refused_held told arms (Do (Crash seed) ∷ left) fault old refuses held some = absurd refuses
-      refused_held told arms (Do (Save mark) ∷ left) fault old refuses held some = absurd refuses
-      refused_held told arms (Do (Restore file mark) ∷ left) fault old refuses held some = absurd refuses
-      refused_held told arms (Do (Flip file at mask) ∷ left) fault old refuses held some = absurd refuses
-      refused_held told arms (Do ListControl ∷ left) fault old refuses held some =
-          let keeps = refuses.keeps in
+      -- a bench of which nothing was asked but reads and syncs
+      kept_held : (told : List RunRecord) (old : BenchState) → KeepsDevices old given → Held told old → HoldsUntainted keys given (left_behind apps s told)
+      kept_held told old keeps held =
           let files : AreUntainted given.files = goes_untainted old given (λ file. ((keeps.files file).keeps).goes_on) whole held.files in
           let card = held.card in
           record {
@@ -153,8 +144,26 @@ module _ (keys : Keys) where
             card = (card.0, card_of given.card old.card (rpmb_key keys.huk) card.0 (sym keeps.card) card.1);
           }
 
-      refused_behind : (before : List Act) (told : List RunRecord) (arms : List Arm) (left : List Act) (fault : MountFault) (old : BenchState)
-          → RefusesFirst of_file of_port image Reliable drew draws keys apps arms left old given fault → HeldBehind before told arms old → Behind (before ++ next_act left) (told ++ Refused fault ∷ []) given
+      given_up_held : (told : List RunRecord) (arms : List Arm) (mode : Mode) (steps : List Step) (fault : MountFault) (old : BenchState)
+          → IsGivenUp of_file of_port keys apps arms mode steps old given drew draws fault → Held told old → (fault ≡ NoMemoryFault → ⊥) → HoldsUntainted keys given (left_behind apps s told)
+      given_up_held told arms mode steps fault old (inl (m, memory)) held some =
+          let files : AreUntainted given.files = goes_untainted old given (goes_refused keys old given drew draws fault m) whole held.files in
+          let card = held.card in
+          record {
+            files = files;
+            holds = refused_mounts_keep keys (left_behind apps s told) old given drew draws fault held.holds m (untainted_files_are_honest given.files files);
+            card = (card.0, card_of given.card old.card (rpmb_key keys.huk) card.0 (sym (m.leaves).card) card.1);
+          }
+      given_up_held told arms mode steps fault old (inr ends) held some = absurd (some ends.fault_is)
+
+      refused_held : (told : List RunRecord) (arms : List Arm) (left : List Act) (fault : MountFault) (old : Standing)
+          → RefusesFirst of_file of_port image Reliable drew draws keys apps arms left old given fault → Held told old.bench → (fault ≡ NoMemoryFault → ⊥) → HoldsUntainted keys given (left_behind apps s told)
+      refused_held told arms (Serve mode calls ∷ left) fault old refuses held some = given_up_held told arms mode (admitted refuses.refused calls) fault old.bench refuses.holds held some
+      refused_held told arms (Do ListControl ∷ left) fault old refuses held some = kept_held told old.bench refuses.keeps held
+      refused_held told arms left fault old refuses held some = absurd refuses
+
+      refused_behind : (before : List Act) (told : List RunRecord) (arms : List Arm) (left : List Act) (fault : MountFault) (old : Standing)
+          → RefusesFirst of_file of_port image Reliable drew draws keys apps arms left old given fault → HeldBehind before told arms old.bench → Behind (before ++ next_act left) (told ++ Refused fault ∷ []) given
       refused_behind before told arms [] fault old refuses held unaltered none = absurd refuses
       refused_behind before told arms (act ∷ left) fault old refuses held unaltered none =
           behind_some apps before act given (left_behind apps s (told ++ Refused fault ∷ []))
@@ -164,21 +173,22 @@ module _ (keys : Keys) where
         held_walk : WalksOf of_file of_port image Reliable keys Behind HeldBehind drew draws t handed given apps
         held_walk = record {
           gives = λ before told arms bench held unaltered none. behind_any apps before bench (left_behind apps s told) (held unaltered).1;
-          phase = λ before told arms mode calls phase old new r. more_held before told arms [] (Serve mode calls) (Ran phase) old new (λ unmasked last. tt) (λ last. (new, r, refl));
-          mode = λ before told arms mode bench. more_held before told arms arms (Do (ModeControl mode)) Controlled bench bench (λ unmasked last. unmasked) (λ last. refl);
-          mark = λ before told arms bench. more_held before told arms arms (Do Phase) Controlled bench bench (λ unmasked last. unmasked) (λ last. refl);
-          arm = λ before told arms arm bench. more_held before told arms (arms ++ arm ∷ []) (Do (ArmControl arm)) Controlled bench bench (mask_none arms arm) (λ last. refl);
-          crash = λ before told arms seed old new c. more_held before told arms arms (Do (Crash seed)) Controlled old new (λ unmasked last. unmasked) (λ last. (new, c, refl));
-          save = λ before told arms mark bench held none. (
-            (held (alter_front before (Do (Save mark) ∷ []) none)).0,
-            subst (HoldsUntainted keys bench) (sym (left_behind-then apps s told (Controlled ∷ []))) (held (alter_front before (Do (Save mark) ∷ []) none)).1,
-          );
+          phase = λ before told quotas arms mode calls phase old new r. more_held before told arms [] (Serve mode calls) (Ran phase) (under quotas old) (under quotas new) (λ unmasked last. tt) (λ last. (new, r, refl));
+          mode = λ before told arms mode bench. more_held before told arms arms (Do (ModeControl mode)) Controlled (begins_with bench) (begins_with bench) (λ unmasked last. unmasked) (λ last. refl);
+          mark = λ before told arms bench. more_held before told arms arms (Do Phase) Controlled (begins_with bench) (begins_with bench) (λ unmasked last. unmasked) (λ last. refl);
+          arm = λ before told arms arm bench. more_held before told arms (arms ++ arm ∷ []) (Do (ArmControl arm)) Controlled (begins_with bench) (begins_with bench) (mask_none arms arm) (λ last. refl);
+          crash = λ before told arms seed old new c. more_held before told arms arms (Do (Crash seed)) Controlled (begins_with old) (begins_with new) (λ unmasked last. unmasked) (λ last. (new, c, refl));
+          save = λ before told arms mark bench. more_held before told arms arms (Do (Save mark)) Controlled (begins_with bench) (saves_files mark (begins_with bench)) (λ unmasked last. unmasked) (λ last. refl);
+          quota = λ before told arms app objects bytes bench.
+              more_held before told arms arms (Do (QuotaControl app objects bytes)) Controlled (begins_with bench) (sets_quota (quota_for app objects bytes) (begins_with bench)) (λ unmasked last. unmasked) (λ last. refl);
           restore = λ before told arms file mark kept old new puts held none. absurd (alter_last before (Do (Restore file mark)) none);
           flip = λ before told arms file at mask old new flips held none. absurd (alter_last before (Do (Flip file at mask)) none);
-          list = λ before told arms objects old new l. more_held before told arms arms (Do ListControl) (Listed objects) old new (λ unmasked last. unmasked) (λ last. (new, l, refl));
+          list = λ before told arms objects old new l. more_held before told arms arms (Do ListControl) (Listed objects) (begins_with old) (begins_with new) (λ unmasked last. unmasked) (λ last. (new, l, refl));
           opened = λ between opens none. (tt, begun_opened handed between begins opens);
           shut = λ fault is refused. let no : ◌≡◌ {A = Option MountFault} None (Some fault) = sym started ∙ is in absurd cc;
           refused = refused_behind;
+          exceeded = λ before told quotas arms mode calls old sum over past behind unaltered none.
+              behind_some apps before (Serve mode calls) given (left_behind apps s told) (kept_held told old over.keeps (behind (alter_front before (Serve mode calls ∷ []) unaltered)).1);
           crashed = λ before told arms seed old c behind unaltered none.
               let held = (behind (alter_front before (Do (Crash seed) ∷ []) unaltered)).1 in
               let may = part_may_be image seed old given c in
@@ -283,13 +293,7 @@ module _ (keys : Keys) where
     stands_shut (MountRefused fault) cause n = not_opened (MountRefused fault) fault (λ done. cc) (λ other same. cause fault refl) n
     stands_shut (DeviceFault fault) cause n = not_opened (DeviceFault fault) fault (λ done. cc) (λ other same. absurd cc) n
     stands_shut NoMemory cause (fault, may, n) = not_opened NoMemory fault (λ done. cc) (λ other same. absurd cc) n
-    stands_shut Done cause ends = absurd ends
-    stands_shut Usage cause ends = absurd ends
-    stands_shut (FileFault broken) cause ends = absurd ends
-    stands_shut (CardMapRefused block offset) cause ends = absurd ends
-    stands_shut (BadLine line) cause ends = absurd ends
-    stands_shut ReadFault cause ends = absurd ends
-    stands_shut (TooLong excess) cause ends = absurd ends
+    stands_shut status cause ends = absurd ends
 
     stands_run : (acts : List Act) (status : Status) → AlterNothing acts → ((fault : MountFault) → status ≡ MountRefused fault → IsRefusal fault) → EndsRun of_file of_port image Reliable drew draws keys apps acts t.start t.records handed given status → Stands status
     stands_run acts status none cause (inl o) =
@@ -320,15 +324,14 @@ module _ (keys : Keys) where
     formatted_stands WriteFault cause ends = stands_script WriteFault (λ fault same. absurd cc) ends
     formatted_stands (MountRefused fault) cause ends = stands_script (MountRefused fault) (λ other same. let one : fault ≡ other = cc in subst IsRefusal one cause.1) ends
     formatted_stands (DeviceFault fault) cause ends = stands_script (DeviceFault fault) (λ other same. absurd cc) ends
+    formatted_stands (OverCommitted sum) cause ends = stands_script (OverCommitted sum) (λ fault same. absurd cc) ends
     formatted_stands NoMemory cause (inl (same, silent)) = stands_silent NoMemory (λ done. cc) (λ fault same. cc) silent
     formatted_stands NoMemory cause (inr ends) = stands_script NoMemory (λ fault same. absurd cc) ends
-    formatted_stands Usage cause ends = absurd cause
-    formatted_stands (FileFault broken) cause ends = absurd cause
-    formatted_stands (CardMapRefused block offset) cause ends = absurd cause
     formatted_stands (BadLine line) cause ends = absurd (no_fault (BadLineFault line) cause.1)
     formatted_stands ReadFault cause ends = stands_silent ReadFault (λ done. cc) (λ fault same. cc) cause.2
     formatted_stands (TooLong Bytes) cause ends = stands_silent (TooLong Bytes) (λ done. cc) (λ fault same. cc) cause.1
     formatted_stands (TooLong (Apps n)) cause ends = absurd (no_fault (TooManyApps n) cause.1)
+    formatted_stands status cause ends = absurd cause
 
 pub formatted_runs_stand : {F R : Type 0} (of_file : F → FileState) (of_port : R → PortState) (image : FileState → ℕ → ℕ → List ℕ) (Reliable : Type 0) (w : World) → FormattedRunsStand of_file of_port image Reliable w
 formatted_runs_stand of_file of_port image Reliable w left_old left_new held_old held_new drew draws keys handed given status script r b is unaltered =

@@ -13,10 +13,12 @@ pub mod ExportedFiles
 pub mod Exported
 pub mod Soaks
 pub mod Sent
+pub mod RefusedLines
 pub mod GoingFold
 pub mod Alterings
 pub mod RecordLaws
 pub mod QuietRuns
+pub mod QuotaRuns
 pub mod RunLaws
 pub mod QuietEnds
 pub mod MigrationEnds

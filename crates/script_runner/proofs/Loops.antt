@@ -57,11 +57,11 @@ module _ {F R : Type 0} (of_file : F → FileState) (of_port : R → PortState) 
   }
 
   -- from a run that has done nothing yet
-  pub EndsFrom-first : (was drew draws : ℕ) (failed : Type 0) (held_old held_new : Option (List ℕ)) (run : Run F R) (given : BenchState) (status : Status) → was ≡ drew → run.at ≡ 0 → run.number ≡ 0 → run.mode ≡ Serial → run.arms.items ≡ [] → run.kept.items ≡ [] → saved_of run.saved ≡ nothing_saved
+  pub EndsFrom-first : (was drew draws : ℕ) (failed : Type 0) (held_old held_new : Option (List ℕ)) (run : Run F R) (given : BenchState) (status : Status) → was ≡ drew → run.at ≡ 0 → run.number ≡ 0 → run.mode ≡ Serial → run.arms.items ≡ [] → run.kept.items ≡ [] → saved_of run.saved ≡ nothing_saved → run.quotas.items ≡ []
       → EndsFrom of_file of_port image Reliable was draws keys script failed (point_of of_file of_port script held_old run) held_new given status → EndsFrom of_file of_port image Reliable drew draws keys script failed (first_point held_old (bench_state of_file of_port run.bench) script) held_new given status
-  EndsFrom-first was drew draws failed held_old held_new run given status same at number mode arms kept saved e =
+  EndsFrom-first was drew draws failed held_old held_new run given status same at number mode arms kept saved quotas e =
       let here : point_of of_file of_port script held_old run ≡ first_point held_old (bench_state of_file of_port run.bench) script =
-      (λ i. record { held = held_old; kept = kept i; bench = bench_state of_file of_port run.bench; saved = saved i; steps = drop (at i) script.steps; arms = arms i; number = number i; mode = mode i }) in
+      (λ i. record { held = held_old; kept = kept i; bench = bench_state of_file of_port run.bench; saved = saved i; quotas = quotas i; steps = drop (at i) script.steps; arms = arms i; number = number i; mode = mode i }) in
       subst (λ (p : Point). EndsFrom of_file of_port image Reliable drew draws keys script failed p held_new given status) here
       (subst (λ n. EndsFrom of_file of_port image Reliable n draws keys script failed (point_of of_file of_port script held_old run) held_new given status) same e)
 

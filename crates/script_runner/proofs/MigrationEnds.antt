@@ -11,7 +11,7 @@ use Rattle.run_acts.specs.MigrationLaws.{IsUndisturbed}
 use Rattle.run_acts.specs.MigratedBenches.{IsBenchNotMoved, starved, stopped, unasked}
 use Rattle.run_acts.proofs.MigrationEnds.{moved_benches_are_listed, undisturbed_benches_are_moved}
 use Rattle.script_runner.specs.declared.status.Status.{Status}
-use Rattle.script_runner.specs.declared.status.Status.TheVariants.{BadLine, CardMapRefused, DeviceFault, Done, FileFault, MountRefused, NoMemory, ReadFault, TooLong, Usage, WriteFault}
+use Rattle.script_runner.specs.declared.status.Status.TheVariants.{BadLine, CardMapRefused, DeviceFault, Done, FileFault, MountRefused, NoMemory, OverCommitted, ReadFault, TooLong, Usage, WriteFault}
 use Rattle.script_runner.specs.MigrationLaws.{MigrationsEnd, MigrationsTellNoOldFile}
 use Rattle.script_runner.specs.Migrations.{EndsMigration, EndsRefused, GivenUp, MigratesThen, MigrationRecord, Shown, Starved, Unlisted, migration_output, told_behind}
 use Rattle.script_runner.specs.Prints.{HasActCause}
@@ -27,6 +27,7 @@ ends_starved fault is (DeviceFault told) ends = (subst (λ (f : MountFault). End
 ends_starved fault is Usage ends = subst (λ (f : MountFault). EndsRefused f Usage) is ends
 ends_starved fault is (FileFault broken) ends = subst (λ (f : MountFault). EndsRefused f (FileFault broken)) is ends
 ends_starved fault is (CardMapRefused block offset) ends = subst (λ (f : MountFault). EndsRefused f (CardMapRefused block offset)) is ends
+ends_starved fault is (OverCommitted sum) ends = subst (λ (f : MountFault). EndsRefused f (OverCommitted sum)) is ends
 ends_starved fault is (BadLine line) ends = subst (λ (f : MountFault). EndsRefused f (BadLine line)) is ends
 ends_starved fault is ReadFault ends = subst (λ (f : MountFault). EndsRefused f ReadFault) is ends
 ends_starved fault is (TooLong excess) ends = subst (λ (f : MountFault). EndsRefused f (TooLong excess)) is ends
@@ -37,27 +38,11 @@ ends_shown : (failed : Type 0) → (failed → ⊥) → (put text : List ℕ) (d
 ends_shown failed not put text directory moved objects Done ends cause = tt
 ends_shown failed not put text directory moved objects NoMemory ends cause = tt
 ends_shown failed not put text directory moved objects WriteFault ends cause = absurd (not cause)
-ends_shown failed not put text directory moved objects (MountRefused told) ends cause = absurd ends
-ends_shown failed not put text directory moved objects (DeviceFault told) ends cause = absurd ends
-ends_shown failed not put text directory moved objects Usage ends cause = absurd ends
-ends_shown failed not put text directory moved objects (FileFault broken) ends cause = absurd ends
-ends_shown failed not put text directory moved objects (CardMapRefused block offset) ends cause = absurd ends
-ends_shown failed not put text directory moved objects (BadLine line) ends cause = absurd ends
-ends_shown failed not put text directory moved objects ReadFault ends cause = absurd ends
-ends_shown failed not put text directory moved objects (TooLong excess) ends cause = absurd ends
+ends_shown failed not put text directory moved objects status ends cause = absurd ends
 
 ends_memory : (directory : Bool) (moved : ℕ) (status : Status) → EndsMigration (Starved directory moved) status → IsDoneOrStarved status
 ends_memory directory moved NoMemory ends = tt
-ends_memory directory moved Done ends = absurd ends
-ends_memory directory moved WriteFault ends = absurd ends
-ends_memory directory moved (MountRefused told) ends = absurd ends
-ends_memory directory moved (DeviceFault told) ends = absurd ends
-ends_memory directory moved Usage ends = absurd ends
-ends_memory directory moved (FileFault broken) ends = absurd ends
-ends_memory directory moved (CardMapRefused block offset) ends = absurd ends
-ends_memory directory moved (BadLine line) ends = absurd ends
-ends_memory directory moved ReadFault ends = absurd ends
-ends_memory directory moved (TooLong excess) ends = absurd ends
+ends_memory directory moved status ends = absurd ends
 
 module _ {F R : Type 0} (of_file : F → FileState) (of_port : R → PortState) (keys : Keys) (drew draws : ℕ) (failed : Type 0) (handed given : BenchState) (status : Status) (u : IsUndisturbed keys drew draws handed given)
     (not : failed → ⊥) where

@@ -14,7 +14,7 @@ use Rattle.run_acts.specs.Lines.{objects_text, refusal_line}
 use Rattle.run_acts.specs.ListedBenches.{IsListRefused, ListsBench}
 use Rattle.run_acts.specs.MigratedBenches.{IsBenchNotMoved, MovesBench}
 use Rattle.script_runner.specs.declared.status.Status.{Status}
-use Rattle.script_runner.specs.declared.status.Status.TheVariants.{BadLine, CardMapRefused, DeviceFault, Done, FileFault, MountRefused, NoMemory, ReadFault, TooLong, Usage, WriteFault}
+use Rattle.script_runner.specs.declared.status.Status.TheVariants.{DeviceFault, Done, MountRefused, NoMemory, WriteFault}
 use Rattle.script_runner.specs.Migrations.{EndsMigration, EndsRefused, GivenUp, MigratesThen, MigrationRecord, PrintsBehind, RunsMigration, Shown, Starved, Unlisted, migration_output, told_behind}
 use Rattle.script_runner.specs.Prints.{PrintsLines, PrintsRefusal}
 use Rattle.script_runner.specs.RunRefusals.{IsDeviceFault, IsRefusal}
@@ -27,28 +27,13 @@ pub prints_behind : (failed : Type 0) (held_old held_new : Option (List ℕ)) (k
     → PrintsBehind failed held_old held_new kept lines status
 prints_behind failed held_old held_new kept lines text is Done t = subst (Appends held_old held_new) is t
 prints_behind failed held_old held_new kept lines text is WriteFault t = (t.0, (t.1.0, t.1.1, (t.1.2.0, sym is ∙ sym (append-nil text) ∙ t.1.2.1)))
-prints_behind failed held_old held_new kept lines text is NoMemory t = absurd t
-prints_behind failed held_old held_new kept lines text is Usage t = absurd t
-prints_behind failed held_old held_new kept lines text is (FileFault broken) t = absurd t
-prints_behind failed held_old held_new kept lines text is (CardMapRefused block offset) t = absurd t
-prints_behind failed held_old held_new kept lines text is (BadLine line) t = absurd t
-prints_behind failed held_old held_new kept lines text is ReadFault t = absurd t
-prints_behind failed held_old held_new kept lines text is (TooLong excess) t = absurd t
-prints_behind failed held_old held_new kept lines text is (MountRefused fault) t = absurd t
-prints_behind failed held_old held_new kept lines text is (DeviceFault fault) t = absurd t
+prints_behind failed held_old held_new kept lines text is status t = absurd t
 
 module _ {F R : Type 0} (of_file : F → FileState) (of_port : R → PortState) (keys : Keys) (drew draws : ℕ) (failed : Type 0) (held_old held_new : Option (List ℕ)) (handed given : BenchState) where
   -- a refusal, with its line behind the text so far
   module _ (what : MigrationRecord) (kept : List ℕ) (fault : MountFault) (line : migration_output what ≡ kept ++ refusal_line fault) (done : MigratesThen of_file of_port keys drew draws what handed given)
       (ends : (status : Status) → EndsRefused fault status → EndsMigration what status) where
     runs_refused : (status : Status) → PrintsRefusal failed held_old held_new kept fault status → RunsMigration of_file of_port keys drew draws failed held_old held_new handed given status
-    runs_refused Done t = absurd t
-    runs_refused Usage t = absurd t
-    runs_refused (FileFault broken) t = absurd t
-    runs_refused (CardMapRefused block offset) t = absurd t
-    runs_refused (BadLine n) t = absurd t
-    runs_refused ReadFault t = absurd t
-    runs_refused (TooLong excess) t = absurd t
     runs_refused WriteFault t = record {
       put = t.2.0;
       what = what;
@@ -102,6 +87,7 @@ module _ {F R : Type 0} (of_file : F → FileState) (of_port : R → PortState) 
               ends = ends (DeviceFault printed) (t.0, t.1);
               cause = (subst IsDeviceFault (sym t.0) t.1, inr x.0);
             }
+    runs_refused status t = absurd t
 
   -- the bench was not migrated to the end
   pub runs_given_up : (kept : List ℕ) → kept ≡ [] → (fault : MountFault) → IsBenchNotMoved keys handed given drew draws fault → (status : Status) → PrintsRefusal failed held_old held_new kept fault status
@@ -149,14 +135,7 @@ module _ {F R : Type 0} (of_file : F → FileState) (of_port : R → PortState) 
         ends = tt;
         cause = tt;
       }
-      runs_shown Usage t = absurd t
-      runs_shown (FileFault broken) t = absurd t
-      runs_shown (CardMapRefused block offset) t = absurd t
-      runs_shown (BadLine n) t = absurd t
-      runs_shown ReadFault t = absurd t
-      runs_shown (TooLong excess) t = absurd t
-      runs_shown (MountRefused fault) t = absurd t
-      runs_shown (DeviceFault fault) t = absurd t
+      runs_shown status t = absurd t
 
     pub runs_listed : (objects : ObjectMap) (lines : List ℕ) → ListsBench of_file of_port keys between given objects lines → (status : Status) → PrintsBehind failed held_old held_new kept lines status
         → RunsMigration of_file of_port keys drew draws failed held_old held_new handed given status

@@ -1,12 +1,12 @@
 -- One act of a run.
-use Rattle.std.proofs.Common.{◌≡◌, ◌≢◌, ◌<◌, ◌+◌, ℕ, List, [], ◌∷◌, ◌++◌, refl, sym, ap, ◌∙◌, subst, arith, All, Option, drop, length, vec_len, append-nil}
+use Rattle.std.proofs.Common.{◌≡◌, ◌≢◌, ◌<◌, ◌≤◌, ◌+◌, ℕ, List, [], ◌∷◌, ◌++◌, refl, sym, ap, ◌∙◌, subst, arith, All, Option, drop, length, vec_len, append-nil}
 use Rattle.disk_model.specs.State.{FileState}
 use Rattle.hmac_keys.specs.declared.Keys.{Keys}
 use Rattle.tee_types.specs.Limits.{file_count}
 use Rattle.rpmb_card.specs.Port.{PortState}
 use Rattle.run_acts.specs.declared.MountFault.{MountFault}
 use Rattle.script_text.specs.declared.script.Control.{Control}
-use Rattle.script_text.specs.declared.script.Control.TheVariants.{Arm as ArmControl, Crash, Flip, List as ListControl, Mode as ModeControl, Phase, Restore, Save}
+use Rattle.script_text.specs.declared.script.Control.TheVariants.{Arm as ArmControl, Crash, Flip, List as ListControl, Mode as ModeControl, Phase, Quota as QuotaControl, Restore, Save}
 use Rattle.script_text.specs.declared.script.Mode.{Mode}
 use Rattle.script_text.specs.declared.script.Step.{Step}
 use Rattle.script_text.specs.declared.script.Step.TheVariants.{Control as ControlStep}
@@ -22,15 +22,18 @@ use Rattle.script_runner.specs.declared.status.Status.{Status}
 use Rattle.script_runner.specs.declared.status.Status.TheVariants.{NoMemory}
 use Rattle.script_runner.specs.declared.run_state.Run.{Run}
 use Rattle.script_runner.specs.declared.run_state.RunEnd.{RunEnd}
+use Rattle.script_runner.specs.RefusedLines.{refused_lines}
 use Rattle.script_runner.specs.Text.{Act, Controlled, Do, Listed, PhaseRecord, Ran, RunRecord, Serve, acts_of, acts_text, mode_behind, phase_text}
 use Rattle.script_runner.specs.Trace.{applications_of}
 use Rattle.script_runner.specs.Course.{Goes, RefusesFirst}
 use Rattle.script_runner.specs.Points.{arms_behind, phases_in, point_of, standing_of}
 use Rattle.script_runner.specs.RunReady.{IsNext, IsReady}
 use Rattle.script_runner.specs.Running.{EndsAt, EndsFrom, GoesOn}
-use Rattle.script_runner.specs.Prints.{IsCutOff, IsSent, PrintsRefusal}
+use Rattle.script_runner.specs.Prints.{IsCutOff, IsSent, PrintsExcess, PrintsRefusal}
+use Rattle.run_acts.specs.OpeningFiles.{files_of, no_file}
 use Rattle.run_acts.specs.Crashes.{CrashesInPart}
-use Rattle.script_runner.proofs.Endings.{EndsFrom-crashed, EndsFrom-no_memory, EndsFrom-refused, EndsFrom-text}
+use Rattle.run_acts.specs.PhaseOutcomes.{OverCommits}
+use Rattle.script_runner.proofs.Endings.{EndsFrom-crashed, EndsFrom-exceeded, EndsFrom-no_memory, EndsFrom-refused, EndsFrom-text}
 
 -- the text of a control that is no list
 pub control_text : (script : ScriptValue) (number : ℕ) (control : Control) → control ≢ ListControl → acts_text script number (Do control ∷ []) (Controlled ∷ []) ≡ control_line control
@@ -39,6 +42,7 @@ control_text script number Phase h = append-nil _
 control_text script number (ArmControl arm) h = append-nil _
 control_text script number (Crash seed) h = append-nil _
 control_text script number (Save mark) h = append-nil _
+control_text script number (QuotaControl app objects bytes) h = append-nil _
 control_text script number (Restore file mark) h = append-nil _
 control_text script number (Flip file at mask) h = append-nil _
 control_text script number ListControl h = absurd (h refl)
@@ -48,8 +52,10 @@ pub list_text : (script : ScriptValue) (number : ℕ) (objects : ObjectMap) (lin
 list_text script number objects lines e = append-nil (control_line ListControl ++ objects_text objects) ∙ ap (λ t. control_line ListControl ++ t) (sym e)
 
 -- the text of a phase
-pub phase_text_is : (script : ScriptValue) (number : ℕ) (mode : Mode) (objects : ℕ) (calls : List Step) (phase : PhaseRecord) → length phase.opening ≡ objects → acts_text script number (Serve mode calls ∷ []) (Ran phase ∷ []) ≡ phase_line number mode objects ++ events_text script 0 phase.events
-phase_text_is script number mode objects calls phase e = append-nil (phase_text script number mode phase) ∙ ap (λ n. phase_line number mode n ++ events_text script 0 phase.events) e
+pub phase_text_is : (script : ScriptValue) (number : ℕ) (mode : Mode) (objects : ℕ) (calls : List Step) (phase : PhaseRecord) → length phase.opening ≡ objects
+    → acts_text script number (Serve mode calls ∷ []) (Ran phase ∷ []) ≡ phase_line number mode objects ++ events_text script 0 phase.events ++ refused_lines script calls phase.refused
+phase_text_is script number mode objects calls phase e =
+    append-nil (phase_text script number mode calls phase) ∙ ap (λ n. phase_line number mode n ++ events_text script 0 phase.events ++ refused_lines script calls phase.refused) e
 
 module _ {F R : Type 0} (of_file : F → FileState) (of_port : R → PortState) (image : FileState → ℕ → ℕ → List ℕ) (Reliable : Type 0) (keys : Keys) (script : ScriptValue) where
   -- What an act did to a run, but for its text: `behind` is the run with the bench, the arms, the mode and the place as they are then.
@@ -93,7 +99,7 @@ module _ {F R : Type 0} (of_file : F → FileState) (of_port : R → PortState) 
       done = act ∷ [];
       records = records;
       acts = rw (s.at, s.mode) d.acts;
-      goes = rw (s.bench, s.saved) d.goes;
+      goes = rw (s.bench, s.saved, s.quotas) d.goes;
       arms_are = rw s.arms d.arms_are;
       number_is = s.number ∙ d.number_is;
       sent = subst (λ k. Sends held_old held_new k next.kept.items (acts_text script run.number (act ∷ []) records)) d.kept_is s.sends;
@@ -111,7 +117,7 @@ module _ {F R : Type 0} (of_file : F → FileState) (of_port : R → PortState) 
     whole = rw s.bench d.ready.whole;
   }
 
-  pub EndsAt-refused : (failed : Type 0) (held_old held_new : Option (List ℕ)) (run : Run F R) (end : RunEnd F R) (fault : MountFault) → RefusesFirst of_file of_port image Reliable drew draws keys (applications_of script) run.arms.items (acts_of run.mode (drop run.at script.steps)) (bench_state of_file of_port run.bench) (bench_state of_file of_port end.bench) fault → PrintsRefusal failed held_old held_new run.kept.items fault end.status → vec_len end.bench.files ≡ file_count → EndsAt of_file of_port image Reliable drew draws keys script failed held_old held_new run end
+  pub EndsAt-refused : (failed : Type 0) (held_old held_new : Option (List ℕ)) (run : Run F R) (end : RunEnd F R) (fault : MountFault) → RefusesFirst of_file of_port image Reliable drew draws keys (applications_of script) run.arms.items (acts_of run.mode (drop run.at script.steps)) (standing_of of_file of_port run) (bench_state of_file of_port end.bench) fault → PrintsRefusal failed held_old held_new run.kept.items fault end.status → vec_len end.bench.files ≡ file_count → EndsAt of_file of_port image Reliable drew draws keys script failed held_old held_new run end
   EndsAt-refused failed held_old held_new run end fault h t whole = record {
     ends = EndsFrom-refused of_file of_port image Reliable drew draws keys script failed (point_of of_file of_port script held_old run) held_new (bench_state of_file of_port end.bench) fault end.status h t;
     whole = whole;
@@ -136,5 +142,17 @@ module _ {F R : Type 0} (of_file : F → FileState) (of_port : R → PortState) 
     ends = rw is
         (EndsFrom-crashed of_file of_port image Reliable drew draws keys script failed (point_of of_file of_port script held run) (bench_state of_file of_port end.bench) seed
         (acts_of run.mode (drop (run.at + 1) script.steps)) (ap (acts_of run.mode) next) crashes);
+    whole = whole;
+  }
+
+  -- the quotas of the next phase are over-committed
+  pub EndsAt-exceeded : (failed : Type 0) (held_old held_new : Option (List ℕ)) (run : Run F R) (end : RunEnd F R) (mode : Mode) (calls : List Step) (left : List Act) (sum : ℕ)
+      → acts_of run.mode (drop run.at script.steps) ≡ Serve mode calls ∷ left
+      → OverCommits of_file of_port keys (applications_of script) run.quotas.items (bench_state of_file of_port run.bench) (bench_state of_file of_port end.bench) sum
+      → ((file : ℕ) → file_count ≤ file → files_of of_file end.bench.files.items file ≡ no_file) → PrintsExcess failed held_old held_new run.kept.items sum end.status → vec_len end.bench.files ≡ file_count
+      → EndsAt of_file of_port image Reliable drew draws keys script failed held_old held_new run end
+  EndsAt-exceeded failed held_old held_new run end mode calls left sum next over past prints whole = record {
+    ends = EndsFrom-exceeded of_file of_port image Reliable drew draws keys script failed (point_of of_file of_port script held_old run) held_new (bench_state of_file of_port end.bench) sum mode calls left
+        next over past end.status prints;
     whole = whole;
   }

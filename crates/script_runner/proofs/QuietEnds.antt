@@ -6,7 +6,7 @@ use Rattle.hmac_keys.specs.declared.Keys.{Keys}
 use Rattle.rpmb_card.specs.Port.{PortState}
 use Rattle.script_text.specs.declared.reading.ScriptFault.{ScriptFault}
 use Rattle.script_text.specs.declared.script.Arm.{Arm}
-use Rattle.script_text.specs.declared.script.Control.TheVariants.{Arm as ArmControl, Crash, Flip, List as ListControl, Mode as ModeControl, Phase, Restore, Save}
+use Rattle.script_text.specs.declared.script.Control.TheVariants.{Arm as ArmControl, List as ListControl}
 use Rattle.script_text.specs.declared.script.Mode.TheVariants.{Serial}
 use Rattle.script_text.specs.Script.{ScriptValue}
 use Rattle.store_model.specs.ReplayState.{ReplayState}
@@ -17,11 +17,12 @@ use Rattle.run_acts.specs.declared.MountFault.TheVariants.{CardBlock, CardResult
 use Rattle.run_acts.specs.MountingLaws.{IsOfDevice}
 use Rattle.run_acts.specs.Opens.{OpensBench}
 use Rattle.run_acts.specs.Quiet.{IsQuiet}
+use Rattle.run_acts.specs.QuotaRefusals.{admitted}
 use Rattle.run_acts.specs.Untainted.{AreUntainted}
 use Rattle.run_acts.proofs.HeldOpenings.{opens_same}
 use Rattle.run_acts.proofs.QuietPhases.{openings_stay_quiet}
 use Rattle.run_acts.proofs.QuietRefusals.{quiet_list_refusal, quiet_phase_refusal}
-use Rattle.script_runner.specs.declared.status.Status.TheVariants.{BadLine, CardMapRefused, DeviceFault, Done, FileFault, MountRefused, NoMemory, ReadFault, TooLong, Usage, WriteFault}
+use Rattle.script_runner.specs.declared.status.Status.TheVariants.{DeviceFault, Done, MountRefused, NoMemory, OverCommitted}
 use Rattle.script_runner.specs.Course.{RefusesFirst}
 use Rattle.script_runner.specs.Ending.{EndsRun, EndsScript, RecordsRefusal}
 use Rattle.script_runner.specs.QuietLaws.{ArmNothing}
@@ -31,7 +32,7 @@ use Rattle.script_runner.specs.RunLaws.{QuietRunsEnd}
 use Rattle.script_runner.specs.RunRefusals.{IsDeviceFault}
 use Rattle.script_runner.specs.Text.{Act, Do, RunRecord, Serve, acts_of}
 use Rattle.script_runner.specs.Trace.{applications_of}
-use Rattle.script_runner.specs.SavedFiles.{Standing, begins_with}
+use Rattle.script_runner.specs.SavedFiles.{Standing, begins_with, with_bench}
 use Rattle.script_runner.proofs.Alterings.{alter_front}
 use Rattle.script_runner.proofs.QuietRuns.{quiet_runs_are_of_machine}
 use Rattle.script_runner.proofs.RecordLaws.{records_find_left}
@@ -40,30 +41,17 @@ use Rattle.script_runner.proofs.RunLaws.{refusal_of_device, runs_stand_behind, s
 -- the first of acts that arm nothing arm nothing
 arm_nothing-front : (done left : List Act) → ArmNothing (done ++ left) → ArmNothing done
 arm_nothing-front [] left none = tt
-arm_nothing-front (Serve mode calls ∷ done) left none = arm_nothing-front done left none
-arm_nothing-front (Do (ModeControl mode) ∷ done) left none = arm_nothing-front done left none
-arm_nothing-front (Do Phase ∷ done) left none = arm_nothing-front done left none
 arm_nothing-front (Do (ArmControl arm) ∷ done) left none = none
-arm_nothing-front (Do (Crash seed) ∷ done) left none = arm_nothing-front done left none
-arm_nothing-front (Do (Save mark) ∷ done) left none = arm_nothing-front done left none
-arm_nothing-front (Do (Restore file mark) ∷ done) left none = arm_nothing-front done left none
-arm_nothing-front (Do (Flip file at mask) ∷ done) left none = arm_nothing-front done left none
-arm_nothing-front (Do ListControl ∷ done) left none = arm_nothing-front done left none
+arm_nothing-front (act ∷ done) left none = arm_nothing-front done left none
 
 module _ {F R : Type 0} (of_file : F → FileState) (of_port : R → PortState) (image : FileState → ℕ → ℕ → List ℕ) (Reliable : Type 0) (drew draws : ℕ) (keys : Keys) (undrawn : Rose drew draws → ⊥) where
   -- no first act of a quiet bench is refused for a failure
-  quiet_first : (apps : List (List ℕ)) (arms : List Arm) (acts : List Act) (old new : BenchState) (cause : Cause) → IsQuiet keys old → AreUntainted old.files
+  quiet_first : (apps : List (List ℕ)) (arms : List Arm) (acts : List Act) (old : Standing) (new : BenchState) (cause : Cause) → IsQuiet keys old.bench → AreUntainted (old.bench).files
       → RefusesFirst of_file of_port image Reliable drew draws keys apps arms acts old new (Failed cause) → ⊥
-  quiet_first apps arms [] old new cause quiet files refuses = refuses
-  quiet_first apps arms (Serve mode calls ∷ acts) old new cause quiet files refuses = quiet_phase_refusal keys old new drew draws quiet undrawn files of_file of_port apps arms mode calls cause refuses
-  quiet_first apps arms (Do ListControl ∷ acts) old new cause quiet files refuses = quiet_list_refusal keys old new drew draws quiet undrawn files of_file of_port cause refuses
-  quiet_first apps arms (Do (ModeControl mode) ∷ acts) old new cause quiet files refuses = refuses
-  quiet_first apps arms (Do Phase ∷ acts) old new cause quiet files refuses = refuses
-  quiet_first apps arms (Do (ArmControl arm) ∷ acts) old new cause quiet files refuses = refuses
-  quiet_first apps arms (Do (Crash seed) ∷ acts) old new cause quiet files refuses = refuses
-  quiet_first apps arms (Do (Save mark) ∷ acts) old new cause quiet files refuses = refuses
-  quiet_first apps arms (Do (Restore file mark) ∷ acts) old new cause quiet files refuses = refuses
-  quiet_first apps arms (Do (Flip file at mask) ∷ acts) old new cause quiet files refuses = refuses
+  quiet_first apps arms (Serve mode calls ∷ acts) old new cause quiet files refuses =
+      quiet_phase_refusal keys old.bench new drew draws quiet undrawn files of_file of_port apps arms mode (admitted refuses.refused calls) cause refuses.holds
+  quiet_first apps arms (Do ListControl ∷ acts) old new cause quiet files refuses = quiet_list_refusal keys old.bench new drew draws quiet undrawn files of_file of_port cause refuses
+  quiet_first apps arms acts old new cause quiet files refuses = refuses
 
   module _ (apps : List (List ℕ)) (acts : List Act) (records : List RunRecord) (between given : BenchState) (s : ReplayState) (held : HoldsUntainted keys between s) (quiet : IsQuiet keys between) (reliable : Reliable)
       (unarmed : ArmNothing acts) (unaltered : AlterNothing acts) where
@@ -72,10 +60,10 @@ module _ {F R : Type 0} (of_file : F → FileState) (of_port : R → PortState) 
         let goes = (g.goes).goes in
         let done = (g.goes).done in
         let none = arm_nothing-front done g.left (subst ArmNothing (g.goes).front unarmed) in
-        let there : Standing = record { bench = g.between; saved = (g.goes).saved } in
+        let there = with_bench (g.goes).there g.between in
         let found = records_find_left of_file of_port image Reliable keys apps [] done front (begins_with between) there s tt (alter_front done g.left (subst AlterNothing (g.goes).front unaltered)) goes held in
         let after = quiet_runs_are_of_machine of_file of_port image Reliable keys apps done front (begins_with between) there goes held.files none quiet reliable in
-        quiet_first apps _ g.left g.between given cause after.1 (found.1).files g.refused
+        quiet_first apps _ g.left there given cause after.1 (found.1).files g.refused
 
     none_failed : (fault : MountFault) → IsDeviceFault fault → RecordsRefusal of_file of_port image Reliable drew draws keys apps [] acts records (begins_with between) given fault → IsOfDevice fault → ⊥
     none_failed (Failed cause) is refusal device = quiet_refused cause refusal
@@ -100,20 +88,15 @@ module _ {F R : Type 0} (of_file : F → FileState) (of_port : R → PortState) 
     none_ends fault is (inr shut) = let e : ◌≡◌ {A = Option MountFault} None (Some fault) = sym opened ∙ shut.shown in cc
 
 pub quiet_runs_end : {F R : Type 0} (of_file : F → FileState) (of_port : R → PortState) (image : FileState → ℕ → ℕ → List ℕ) (Reliable : Type 0) (w : World) → QuietRunsEnd of_file of_port image Reliable w
-quiet_runs_end of_file of_port image Reliable w left_old left_new held_old held_new drew draws keys handed given Done s script r held is opened quiet reliable undrawn unarmed unaltered runs = tt
-quiet_runs_end of_file of_port image Reliable w left_old left_new held_old held_new drew draws keys handed given NoMemory s script r held is opened quiet reliable undrawn unarmed unaltered runs = tt
-quiet_runs_end of_file of_port image Reliable w left_old left_new held_old held_new drew draws keys handed given (MountRefused fault) s script r held is opened quiet reliable undrawn unarmed unaltered runs =
+quiet_runs_end of_file of_port image Reliable w left_old left_new held_old held_new drew draws keys handed given Done s script r held is opened quiet reliable undrawn unarmed unaltered runs within = tt
+quiet_runs_end of_file of_port image Reliable w left_old left_new held_old held_new drew draws keys handed given NoMemory s script r held is opened quiet reliable undrawn unarmed unaltered runs within = tt
+quiet_runs_end of_file of_port image Reliable w left_old left_new held_old held_new drew draws keys handed given (MountRefused fault) s script r held is opened quiet reliable undrawn unarmed unaltered runs within =
     ((runs_stand_behind of_file of_port image Reliable w left_old left_new held_old held_new drew draws keys handed given (MountRefused fault) s script r held is unaltered).stands).stored fault refl
-quiet_runs_end of_file of_port image Reliable w left_old left_new held_old held_new drew draws keys handed given (DeviceFault fault) s script r held is opened quiet reliable undrawn unarmed unaltered runs =
+quiet_runs_end of_file of_port image Reliable w left_old left_new held_old held_new drew draws keys handed given (DeviceFault fault) s script r held is opened quiet reliable undrawn unarmed unaltered runs within =
     let e : ◌≡◌ {A = Result ScriptValue ScriptFault} (Ok (r.2.0)) (Ok script) = sym (r.2.1) ∙ is in
     let same : r.2.0 ≡ script = cc in
     none_ends of_file of_port image Reliable drew draws keys undrawn (applications_of script) (acts_of Serial script.steps) (r.0).start opened (r.0).records handed given s held
     (λ between opens. openings_stay_quiet keys handed between opens quiet) reliable unarmed unaltered fault
     (((r.1).cause).1) (subst (λ (other : ScriptValue). EndsScript of_file of_port image Reliable drew draws keys other (r.0).start (r.0).records handed given (DeviceFault fault)) same r.2.2)
-quiet_runs_end of_file of_port image Reliable w left_old left_new held_old held_new drew draws keys handed given WriteFault s script r held is opened quiet reliable undrawn unarmed unaltered runs = absurd runs
-quiet_runs_end of_file of_port image Reliable w left_old left_new held_old held_new drew draws keys handed given Usage s script r held is opened quiet reliable undrawn unarmed unaltered runs = absurd runs
-quiet_runs_end of_file of_port image Reliable w left_old left_new held_old held_new drew draws keys handed given (FileFault broken) s script r held is opened quiet reliable undrawn unarmed unaltered runs = absurd runs
-quiet_runs_end of_file of_port image Reliable w left_old left_new held_old held_new drew draws keys handed given (CardMapRefused block offset) s script r held is opened quiet reliable undrawn unarmed unaltered runs = absurd runs
-quiet_runs_end of_file of_port image Reliable w left_old left_new held_old held_new drew draws keys handed given (BadLine line) s script r held is opened quiet reliable undrawn unarmed unaltered runs = absurd runs
-quiet_runs_end of_file of_port image Reliable w left_old left_new held_old held_new drew draws keys handed given ReadFault s script r held is opened quiet reliable undrawn unarmed unaltered runs = absurd runs
-quiet_runs_end of_file of_port image Reliable w left_old left_new held_old held_new drew draws keys handed given (TooLong excess) s script r held is opened quiet reliable undrawn unarmed unaltered runs = absurd runs
+quiet_runs_end of_file of_port image Reliable w left_old left_new held_old held_new drew draws keys handed given (OverCommitted sum) s script r held is opened quiet reliable undrawn unarmed unaltered runs within = absurd (within sum refl)
+quiet_runs_end of_file of_port image Reliable w left_old left_new held_old held_new drew draws keys handed given status s script r held is opened quiet reliable undrawn unarmed unaltered runs within = absurd runs

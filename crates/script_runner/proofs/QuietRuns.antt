@@ -4,7 +4,7 @@ use Rattle.disk_model.specs.State.{FileState}
 use Rattle.hmac_keys.specs.declared.Keys.{Keys}
 use Rattle.rpmb_card.specs.Port.{PortState}
 use Rattle.script_text.specs.declared.script.Arm.{Arm}
-use Rattle.script_text.specs.declared.script.Control.TheVariants.{Arm as ArmControl, Crash, Flip, List as ListControl, Mode as ModeControl, Phase, Restore, Save}
+use Rattle.script_text.specs.declared.script.Control.TheVariants.{Arm as ArmControl, Crash, Flip, List as ListControl, Mode as ModeControl, Phase, Quota as QuotaControl, Restore, Save}
 use Rattle.script_text.specs.declared.script.Mode.{Mode}
 use Rattle.script_text.specs.declared.script.Step.{Step}
 use Rattle.store_model.specs.Object.{ObjectMap}
@@ -19,7 +19,7 @@ use Rattle.run_acts.proofs.QuietPhases.{left_quiet, openings_stay_quiet, quiet_c
 use Rattle.run_acts.proofs.Untainted.{crashes_stay_untainted, flips_stay_untainted, lists_stay_untainted, openings_stay_untainted, phases_stay_untainted, restores_stay_untainted, untainted_files_are_honest}
 use Rattle.script_runner.specs.QuietLaws.{ArmNothing, OpenedRunsAreOfMachine, PhasesAreOfMachine, QuietRunsAreOfMachine}
 use Rattle.script_runner.specs.Text.{Act, Controlled, Do, Listed, PhaseRecord, Ran, RunRecord, Serve}
-use Rattle.script_runner.specs.SavedFiles.{PutsBack, Standing, begins_with, saves_files, with_bench}
+use Rattle.script_runner.specs.SavedFiles.{PutsBack, Standing, begins_with, quota_for, saves_files, sets_quota, with_bench}
 use Rattle.script_runner.proofs.GoingFold.{GoesAll, Steps, fold_going}
 
 module _ {F R : Type 0} (of_file : F → FileState) (of_port : R → PortState) (image : FileState → ℕ → ℕ → List ℕ) (Reliable : Type 0) (keys : Keys) (apps : List (List ℕ)) (reliable : Reliable) where
@@ -40,9 +40,9 @@ module _ {F R : Type 0} (of_file : F → FileState) (of_port : R → PortState) 
       (goes : Goes' arms (Serve mode calls ∷ acts) (Ran phase ∷ records) old new) → Quiet' [] acts records (with_bench old goes.0) new goes.2 → Quiet' arms (Serve mode calls ∷ acts) (Ran phase ∷ records) old new goes
   quiet_phase [] mode calls acts phase records old new goes rest = λ unarmed quiet files.
       let between = goes.0 in
-      let after = phases_stay_untainted of_file of_port Reliable keys apps [] mode calls old.bench between phase.opening phase.events goes.1 tt files in
-      let found = rest unarmed (left_quiet of_file of_port Reliable keys apps mode calls old.bench between phase.opening phase.events goes.1 quiet) after in
-      ((quiet_of_machine of_file of_port Reliable keys apps mode calls old.bench between phase.opening phase.events goes.1 quiet reliable (untainted_files_are_honest between.files after), found.0), found.1)
+      let after = phases_stay_untainted of_file of_port Reliable keys apps old.quotas [] mode calls old.bench between phase.opening phase.events phase.refused goes.1 tt files in
+      let found = rest unarmed (left_quiet of_file of_port Reliable keys apps old.quotas mode calls old.bench between phase.opening phase.events phase.refused goes.1 quiet) after in
+      ((quiet_of_machine of_file of_port Reliable keys apps old.quotas mode calls old.bench between phase.opening phase.events phase.refused goes.1 quiet reliable (untainted_files_are_honest between.files after), found.0), found.1)
   quiet_phase (arm ∷ arms) mode calls acts phase records old new goes rest = tt
 
   quiet_mode : (arms : List Arm) (mode : Mode) (acts : List Act) (records : List RunRecord) (old new : Standing)
@@ -71,6 +71,12 @@ module _ {F R : Type 0} (of_file : F → FileState) (of_port : R → PortState) 
   quiet_saved [] mark acts records old new goes rest = rest
   quiet_saved (arm ∷ arms) mark acts records old new goes rest = tt
 
+  quiet_quota : (arms : List Arm) (app : List ℕ) (objects bytes : ℕ) (acts : List Act) (records : List RunRecord) (old new : Standing)
+      (goes : Goes' arms acts records (sets_quota (quota_for app objects bytes) old) new) → Quiet' arms acts records (sets_quota (quota_for app objects bytes) old) new goes
+      → Quiet' arms (Do (QuotaControl app objects bytes) ∷ acts) (Controlled ∷ records) old new goes
+  quiet_quota [] app objects bytes acts records old new goes rest = rest
+  quiet_quota (arm ∷ arms) app objects bytes acts records old new goes rest = tt
+
   quiet_put_back : (file : ℕ) (kept : Option (List ℕ)) (old new : BenchState) → PutsBack file kept old new → IsQuiet keys old → AreUntainted old.files → IsQuiet keys new × AreUntainted new.files
   quiet_put_back file None old new same quiet files = (subst (IsQuiet keys) (sym same) quiet, subst (λ (b : BenchState). AreUntainted b.files) (sym same) files)
   quiet_put_back file (Some bytes) old new a quiet files = (quiet_restored keys file bytes old new a quiet, restores_stay_untainted file bytes old new a files)
@@ -96,7 +102,7 @@ module _ {F R : Type 0} (of_file : F → FileState) (of_port : R → PortState) 
   quiet_listed (arm ∷ arms) acts objects records old new goes rest = tt
 
   quiet_steps : Steps of_file of_port image Reliable keys apps Quiet'
-  quiet_steps = record { none = quiet_none; phase = quiet_phase; mode = quiet_mode; mark = quiet_mark; arm = quiet_arm; crash = quiet_crashed; save = quiet_saved; restore = quiet_restore; flip = quiet_flip; list = quiet_listed }
+  quiet_steps = record { none = quiet_none; phase = quiet_phase; mode = quiet_mode; mark = quiet_mark; arm = quiet_arm; crash = quiet_crashed; save = quiet_saved; quota = quiet_quota; restore = quiet_restore; flip = quiet_flip; list = quiet_listed }
 
 pub quiet_runs_are_of_machine : {F R : Type 0} (of_file : F → FileState) (of_port : R → PortState) (image : FileState → ℕ → ℕ → List ℕ) (Reliable : Type 0) → QuietRunsAreOfMachine of_file of_port image Reliable
 quiet_runs_are_of_machine of_file of_port image Reliable keys applications acts records old new goes files unarmed quiet reliable =

@@ -16,25 +16,25 @@ use Rattle.run_acts.specs.Left.{replay_left}
 use Rattle.run_acts.specs.declared.MountFault.{MountFault}
 use Rattle.run_acts.specs.declared.MountFault.TheVariants.{CardBlock, CardResult, Directory, Failed, Frame, NoMemory as NoMemoryFault, NoStore, OldFormat, Spent}
 use Rattle.run_acts.specs.MountingLaws.{IsOfDevice}
-use Rattle.run_acts.proofs.CrashedLaws.{card_of, crashes_keep, part_may_be}
+use Rattle.run_acts.proofs.CrashedLaws.{card_of, crashes_keep, kept_devices_hold, part_may_be}
 use Rattle.run_acts.proofs.HeldOpenings.{IsSame, opens_same, refused_same}
 use Rattle.run_acts.proofs.Opened.{same_held}
-use Rattle.run_acts.proofs.Untainted.{crashes_stay_untainted}
+use Rattle.run_acts.proofs.Untainted.{crashes_stay_untainted, untainted_files_are_honest, untainted_then}
 use Rattle.script_runner.specs.declared.status.Status.{Status}
-use Rattle.script_runner.specs.declared.status.Status.TheVariants.{BadLine, CardMapRefused, DeviceFault, Done, FileFault, MountRefused, NoMemory, ReadFault, TooLong, Usage, WriteFault}
+use Rattle.script_runner.specs.declared.status.Status.TheVariants.{BadLine, DeviceFault, Done, MountRefused, NoMemory, OverCommitted, ReadFault, TooLong, WriteFault}
 use Rattle.script_runner.specs.declared.status.Excess.TheVariants.{Apps, Bytes}
-use Rattle.script_runner.specs.Course.{GoesUntil, GoesUntilCrashed}
+use Rattle.script_runner.specs.Course.{GoesUntil, GoesUntilCrashed, GoesUntilExceeded}
 use Rattle.script_runner.specs.Ending.{EndsActs, EndsBench, EndsRun, EndsScript, NotOpened, RecordsRefusal, Shut}
 use Rattle.script_runner.specs.Points.{arms_behind}
 use Rattle.script_runner.specs.RecordLaws.{AlterNothing, FindLeft, HoldsUntainted, left_behind}
 use Rattle.script_runner.specs.RunCauses.{HasCause, World}
 use Rattle.script_runner.specs.RunLaws.{NoneRefused, RefusedByDevices, RunsStandBehind, StandsBehind}
 use Rattle.script_runner.specs.RunRefusals.{IsRefusal}
-use Rattle.script_runner.specs.Text.{Act, Controlled, Do, Listed, Ran, Refused, RunRecord, acts_of}
+use Rattle.script_runner.specs.Text.{Act, Controlled, Do, Listed, Ran, Refused, RunRecord, Serve, acts_of}
 use Rattle.script_runner.specs.Trace.{IsSilent, OfScript, Trace, applications_of}
-use Rattle.script_runner.specs.SavedFiles.{Standing, begins_with}
+use Rattle.script_runner.specs.SavedFiles.{Standing, begins_with, with_bench}
 use Rattle.script_text.specs.declared.script.Control.TheVariants.{Crash}
-use Rattle.run_acts.specs.Untainted.{ArmNoMask}
+use Rattle.run_acts.specs.Untainted.{AreUntainted, ArmNoMask}
 use Rattle.script_runner.proofs.Alterings.{alter_front}
 use Rattle.script_runner.proofs.GoingFold.{GoesAll, Steps, fold_going}
 use Rattle.script_runner.proofs.RecordLaws.{first_refusal, records_find_left}
@@ -91,6 +91,7 @@ module _ {F R : Type 0} (of_file : F → FileState) (of_port : R → PortState) 
     arm = λ arms arm acts records old new goes rest. rest;
     crash = λ arms seed acts records old new goes rest. rest;
     save = λ arms mark acts records old new goes rest. rest;
+    quota = λ arms app objects bytes acts records old new goes rest. rest;
     restore = λ arms file mark acts records old new goes rest. rest;
     flip = λ arms file at mask acts records old new goes rest. rest;
     list = λ arms acts objects records old new goes rest. rest;
@@ -135,7 +136,7 @@ module _ {F R : Type 0} (of_file : F → FileState) (of_port : R → PortState) 
       stands_until : (status : Status) (left : List Act) → ((fault : MountFault) → status ≡ MountRefused fault → ⊥) → GoesUntil of_file of_port image Reliable keys apps arms acts records left between given
           → Stands start records given status
       stands_until status left stored g =
-          let there : Standing = record { bench = given; saved = g.saved } in
+          let there = with_bench g.there given in
           let found = records_find_left of_file of_port image Reliable keys apps arms g.done records between there s unmasked (done_none g.done left g.front) g.goes held in
           let free = goes_unrefused apps arms g.done records between there g.goes in
           record {
@@ -146,14 +147,14 @@ module _ {F R : Type 0} (of_file : F → FileState) (of_port : R → PortState) 
 
       pub refusal_of_device : (fault : MountFault) → RecordsRefusal of_file of_port image Reliable drew draws keys apps arms acts records between given fault → IsOfDevice fault
       refusal_of_device fault (front, is, g) =
-          let there : Standing = record { bench = g.between; saved = (g.goes).saved } in
+          let there = with_bench (g.goes).there g.between in
           let found = records_find_left of_file of_port image Reliable keys apps arms (g.goes).done front between there s unmasked (done_none (g.goes).done g.left (g.goes).front) (g.goes).goes held in
-          first_refusal of_file of_port image Reliable drew draws keys apps (arms_behind arms (g.goes).done) g.left g.between given (left_behind apps s front) fault found.1 g.refused
+          first_refusal of_file of_port image Reliable drew draws keys apps (arms_behind arms (g.goes).done) g.left there given (left_behind apps s front) fault found.1 g.refused
 
       stands_refused : (status : Status) (fault : MountFault) → (status ≡ Done → ⊥) → ((other : MountFault) → status ≡ MountRefused other → ⊥)
           → RecordsRefusal of_file of_port image Reliable drew draws keys apps arms acts records between given fault → Stands start records given status
       stands_refused status fault undone stored (front, is, g) =
-          let there : Standing = record { bench = g.between; saved = (g.goes).saved } in
+          let there = with_bench (g.goes).there g.between in
           let found = records_find_left of_file of_port image Reliable keys apps arms (g.goes).done front between there s unmasked (done_none (g.goes).done g.left (g.goes).front) (g.goes).goes held in
           let free = goes_unrefused apps arms (g.goes).done front between there (g.goes).goes in
           subst (λ (l : List RunRecord). Stands start l given status) (sym is) (record {
@@ -169,7 +170,7 @@ module _ {F R : Type 0} (of_file : F → FileState) (of_port : R → PortState) 
 
       stands_crashed : (status : Status) → ((fault : MountFault) → status ≡ MountRefused fault → ⊥) → GoesUntilCrashed of_file of_port image Reliable keys apps arms acts records between given → Stands start records given status
       stands_crashed status stored g =
-          let there : Standing = record { bench = g.between; saved = (g.goes).saved } in
+          let there = with_bench (g.goes).there g.between in
           let found = records_find_left of_file of_port image Reliable keys apps arms (g.goes).done records between there s unmasked (done_none (g.goes).done (Do (Crash g.seed) ∷ g.left) (g.goes).front) (g.goes).goes held in
           let free = goes_unrefused apps arms (g.goes).done records between there (g.goes).goes in
           let may = part_may_be image g.seed g.between given g.crashes in
@@ -185,22 +186,42 @@ module _ {F R : Type 0} (of_file : F → FileState) (of_port : R → PortState) 
             opened = not_opened start none;
           }
 
+      stands_exceeded : (status : Status) (sum : ℕ) → (status ≡ Done → ⊥) → ((fault : MountFault) → status ≡ MountRefused fault → ⊥)
+          → GoesUntilExceeded of_file of_port image Reliable keys apps arms acts records between given sum → Stands start records given status
+      stands_exceeded status sum undone stored g =
+          let there = with_bench (g.goes).there g.between in
+          let found = records_find_left of_file of_port image Reliable keys apps arms (g.goes).done records between there s unmasked (done_none (g.goes).done (Serve g.mode g.calls ∷ g.left) (g.goes).front) (g.goes).goes held in
+          let free = goes_unrefused apps arms (g.goes).done records between there (g.goes).goes in
+          let keeps = (g.over).keeps in
+          let before = found.1 in
+          let card = before.card in
+          let files : AreUntainted given.files = record {
+            each = λ file within. untainted_then ((g.between).files file) (given.files file) (((keeps.files file).keeps).goes_on) ((before.files).each file within);
+            past = g.past;
+          } in
+          record {
+            stands = record { finds = found.0; done = λ is. absurd (undone is); refused = by_devices-none records free; stored = stored };
+            leaves = λ unrefused. record {
+              files = files;
+              holds = kept_devices_hold keys (left_behind apps s records) g.between given before.holds keeps (untainted_files_are_honest given.files files);
+              card = (card.0, card_of given.card (g.between).card (rpmb_key keys.huk) card.0 (sym keeps.card) card.1);
+            };
+            opened = not_opened start none;
+          }
+
       pub stands_acts : (status : Status) → ((fault : MountFault) → status ≡ MountRefused fault → IsRefusal fault) → EndsActs of_file of_port image Reliable drew draws keys apps arms acts records between given status
           → Stands start records given status
       stands_acts Done cause ends = stands_until Done [] (λ fault is. cc) ends
       stands_acts WriteFault cause (inl (left, g)) = stands_until WriteFault left (λ fault is. cc) g
-      stands_acts WriteFault cause (inr (fault, refusal, r)) = stands_refused WriteFault fault (λ is. cc) (λ other is. cc) r
+      stands_acts WriteFault cause (inr (inl (fault, refusal, r))) = stands_refused WriteFault fault (λ is. cc) (λ other is. cc) r
+      stands_acts WriteFault cause (inr (inr (sum, g))) = stands_exceeded WriteFault sum (λ is. cc) (λ other is. cc) g
       stands_acts (MountRefused fault) cause ends = absurd (not_both fault (refusal_of_device fault ends) (cause fault refl))
       stands_acts (DeviceFault fault) cause ends = stands_refused (DeviceFault fault) fault (λ is. cc) (λ other is. cc) ends
+      stands_acts (OverCommitted sum) cause g = stands_exceeded (OverCommitted sum) sum (λ is. cc) (λ other is. cc) g
       stands_acts NoMemory cause (inl (left, g)) = stands_until NoMemory left (λ fault is. cc) g
       stands_acts NoMemory cause (inr (inl (fault, may, r))) = stands_refused NoMemory fault (λ is. cc) (λ other is. cc) r
       stands_acts NoMemory cause (inr (inr g)) = stands_crashed NoMemory (λ fault is. cc) g
-      stands_acts Usage cause ends = absurd ends
-      stands_acts (FileFault broken) cause ends = absurd ends
-      stands_acts (CardMapRefused block offset) cause ends = absurd ends
-      stands_acts (BadLine line) cause ends = absurd ends
-      stands_acts ReadFault cause ends = absurd ends
-      stands_acts (TooLong excess) cause ends = absurd ends
+      stands_acts status cause ends = absurd ends
 
     module _ (start : Option MountFault) (records : List RunRecord) (handed given : BenchState) (held : HoldsUntainted keys handed s) where
       abbrev NotOpenedFor : MountFault → Type 0
@@ -220,13 +241,7 @@ module _ {F R : Type 0} (of_file : F → FileState) (of_port : R → PortState) 
       stands_shut (MountRefused fault) cause n = absurd (not_both fault (open_failed fault n).1 (cause fault refl))
       stands_shut (DeviceFault fault) cause n = stands_unopened (DeviceFault fault) fault (λ other is. cc) n
       stands_shut NoMemory cause (fault, may, n) = stands_unopened NoMemory fault (λ other is. cc) n
-      stands_shut Done cause ends = absurd ends
-      stands_shut Usage cause ends = absurd ends
-      stands_shut (FileFault broken) cause ends = absurd ends
-      stands_shut (CardMapRefused block offset) cause ends = absurd ends
-      stands_shut (BadLine line) cause ends = absurd ends
-      stands_shut ReadFault cause ends = absurd ends
-      stands_shut (TooLong excess) cause ends = absurd ends
+      stands_shut status cause ends = absurd ends
 
       stands_run : (acts : List Act) (status : Status) → AlterNothing acts → ((fault : MountFault) → status ≡ MountRefused fault → IsRefusal fault) → EndsRun of_file of_port image Reliable drew draws keys apps acts start records handed given status
           → Stands start records given status
@@ -265,15 +280,14 @@ module _ {F R : Type 0} (of_file : F → FileState) (of_port : R → PortState) 
     stands_source (MountRefused fault) cause ends =
         behind_script (MountRefused fault) (λ other same. let one : fault ≡ other = cc in subst IsRefusal one cause.1) ends
     stands_source (DeviceFault fault) cause ends = behind_script (DeviceFault fault) (λ other same. absurd cc) ends
+    stands_source (OverCommitted sum) cause ends = behind_script (OverCommitted sum) (λ fault same. absurd cc) ends
     stands_source NoMemory cause (inl (same, silent)) = behind_silent NoMemory (λ fault is. cc) same silent
     stands_source NoMemory cause (inr ends) = behind_script NoMemory (λ fault same. absurd cc) ends
-    stands_source Usage cause ends = absurd cause
-    stands_source (FileFault broken) cause ends = absurd cause
-    stands_source (CardMapRefused block offset) cause ends = absurd cause
     stands_source (BadLine line) cause ends = absurd (no_fault (BadLineFault line) cause.1)
     stands_source ReadFault cause ends = behind_silent ReadFault (λ fault is. cc) ends cause.2
     stands_source (TooLong Bytes) cause ends = behind_silent (TooLong Bytes) (λ fault is. cc) ends cause.1
     stands_source (TooLong (Apps n)) cause ends = absurd (no_fault (TooManyApps n) cause.1)
+    stands_source status cause ends = absurd cause
 
 pub runs_stand_behind : {F R : Type 0} (of_file : F → FileState) (of_port : R → PortState) (image : FileState → ℕ → ℕ → List ℕ) (Reliable : Type 0) (w : World) → RunsStandBehind of_file of_port image Reliable w
 runs_stand_behind of_file of_port image Reliable w left_old left_new held_old held_new drew draws keys handed given status s script r held is unaltered =

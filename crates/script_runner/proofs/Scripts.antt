@@ -12,7 +12,7 @@ use Rattle.run_acts.specs.Lines.{refusal_line}
 use Rattle.run_acts.specs.Benches.{BenchState}
 use Rattle.run_acts.specs.Opens.{IsOpenRefused, OpensBench}
 use Rattle.script_runner.specs.declared.status.Status.{Status}
-use Rattle.script_runner.specs.declared.status.Status.TheVariants.{BadLine, CardMapRefused, DeviceFault, Done, FileFault, MountRefused, NoMemory, ReadFault, TooLong, Usage, WriteFault}
+use Rattle.script_runner.specs.declared.status.Status.TheVariants.{DeviceFault, MountRefused, NoMemory, WriteFault}
 use Rattle.script_runner.specs.Sending.{Begins, Stops}
 use Rattle.script_runner.specs.RunRefusals.{IsDeviceFault, IsRefusal}
 use Rattle.script_runner.specs.Text.{Act, RunRecord}
@@ -25,7 +25,7 @@ use Rattle.script_runner.proofs.Endings.{refusal_line-none}
 
 -- a run that has done nothing yet, on this bench
 abbrev pub first_point : Option (List ℕ) → BenchState → ScriptValue → Point
-first_point held bench script = record { held = held; kept = []; bench = bench; saved = nothing_saved; steps = script.steps; arms = []; number = 0; mode = Serial }
+first_point held bench script = record { held = held; kept = []; bench = bench; saved = nothing_saved; quotas = []; steps = script.steps; arms = []; number = 0; mode = Serial }
 
 module _ {F R : Type 0} (of_file : F → FileState) (of_port : R → PortState) (image : FileState → ℕ → ℕ → List ℕ) (Reliable : Type 0) (drew draws : ℕ) (keys : Keys) (failed : Type 0) (held_old held_new : Option (List ℕ)) (handed : BenchState) where
   -- a front of nothing is nothing
@@ -37,13 +37,6 @@ module _ {F R : Type 0} (of_file : F → FileState) (of_port : R → PortState) 
   module _ (applications : List (List ℕ)) (acts : List Act) (output : Option MountFault → List RunRecord → List ℕ) (start : Option MountFault) (records : List RunRecord) (given : BenchState) (fault : MountFault) (line : output start records ≡ refusal_line fault) where
     pub RunsActs-refused : (status : Status) → EndsRun of_file of_port image Reliable drew draws keys applications acts start records handed given status → PrintsRefusal failed held_old held_new [] fault status
         → RunsActs of_file of_port image Reliable drew draws keys applications acts output failed held_old held_new handed given status
-    RunsActs-refused Done ends t = absurd t
-    RunsActs-refused Usage ends t = absurd t
-    RunsActs-refused (FileFault broken) ends t = absurd t
-    RunsActs-refused (CardMapRefused block offset) ends t = absurd t
-    RunsActs-refused (BadLine n) ends t = absurd t
-    RunsActs-refused ReadFault ends t = absurd t
-    RunsActs-refused (TooLong excess) ends t = absurd t
     RunsActs-refused WriteFault ends t = record {
       put = t.2.0;
       start = start;
@@ -84,6 +77,7 @@ module _ {F R : Type 0} (of_file : F → FileState) (of_port : R → PortState) 
         one : Appends held_old held_new [] ⊎ (failed × Stops held_old held_new [] []) → Appends held_old held_new []
         one (inl put) = put
         one (inr x) = nothing x.1.0 x.1.1 x.1.2.0 x.1.2.1
+    RunsActs-refused status ends t = absurd t
 
   -- the bench was not opened
   module _ (given : BenchState) (fault : MountFault) (refused : IsOpenRefused keys handed given drew draws fault) where
@@ -91,17 +85,11 @@ module _ {F R : Type 0} (of_file : F → FileState) (of_port : R → PortState) 
     not_opened printed same = subst (λ (f : MountFault). NotOpened of_file of_port image Reliable drew draws keys (Some fault) [] handed given f) (sym same) (record { shown = refl; none = refl; refused = refused })
 
     shut : (status : Status) → PrintsRefusal failed held_old held_new [] fault status → Shut of_file of_port image Reliable drew draws keys (Some fault) [] handed given status
-    shut Done t = absurd t
-    shut Usage t = absurd t
-    shut (FileFault broken) t = absurd t
-    shut (CardMapRefused block offset) t = absurd t
-    shut (BadLine n) t = absurd t
-    shut ReadFault t = absurd t
-    shut (TooLong excess) t = absurd t
     shut WriteFault t = (fault, t.0, not_opened fault refl)
     shut NoMemory t = (fault, t.0, not_opened fault refl)
     shut (MountRefused printed) t = not_opened printed t.0
     shut (DeviceFault printed) t = not_opened printed t.0
+    shut status t = absurd t
 
     -- where no text was kept
     pub RunsActs-unopened : (applications : List (List ℕ)) (acts : List Act) (output : Option MountFault → List RunRecord → List ℕ) → output (Some fault) [] ≡ refusal_line fault → (kept : List ℕ) → kept ≡ [] → (status : Status) → PrintsRefusal failed held_old held_new kept fault status

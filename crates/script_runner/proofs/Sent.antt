@@ -2,7 +2,7 @@
 use Rattle.std.proofs.Common.{◌≡◌, ◌+◌, ◌<◌, ◌≤◌, ℕ, List, [], ◌∷◌, ◌++◌, length, take, drop, get_or, Option, sym, ap, ◌∙◌, append_assoc, arith, suc, subst, slice_get, Some, Result, Ok, Err, OnErr}
 use Rattle.std.proofs.lemmas.List.{append-nil, take_more, take-append-drop, length-take-le, take_all}
 use Rattle.std.proofs.lemmas.Option.{get_or_from_slice_get}
-use Rattle.tee_ports.proofs.Streams.{Appends-append}
+use Rattle.tee_ports.proofs.Streams.{Appends-append, Appends-none}
 use Rattle.store_model.specs.declared.event.Event.{Event}
 use Rattle.script_text.specs.Script.{ScriptValue}
 use Rattle.script_text.specs.declared.script.Mode.{Mode}
@@ -28,6 +28,17 @@ Stops-append held between new kept kept_between first second a b = (
   Appends-append held between new a.0 b.0 a.1 b.1,
   (b.2.0, append_behind kept first second a.0 kept_between a.2 ∙ ap (λ t. a.0 ++ t) b.2.1 ∙ sym (append_assoc a.0 b.0 b.2.0)),
 )
+
+-- no text
+pub Sends-none : (held : Option (List ℕ)) (kept : List ℕ) → Sends held held kept kept []
+Sends-none held kept = ([], Appends-none held, append-nil kept)
+
+-- a text that was put behind what was kept before it was sent
+pub Sends-kept : (held new : Option (List ℕ)) (kept kept_new text with_text : List ℕ) → with_text ≡ kept ++ text → Sends held new with_text kept_new [] → Sends held new kept kept_new text
+Sends-kept held new kept kept_new text with_text is s = (s.0, s.1, sym is ∙ sym (append-nil with_text) ∙ s.2)
+
+pub Stops-kept : (held new : Option (List ℕ)) (kept text with_text : List ℕ) → with_text ≡ kept ++ text → Stops held new with_text [] → Stops held new kept text
+Stops-kept held new kept text with_text is s = (s.0, s.1, (s.2.0, sym is ∙ sym (append-nil with_text) ∙ s.2.1))
 
 -- what stops a text stops a longer one
 pub Stops-longer : (held new : Option (List ℕ)) (kept text more : List ℕ) → Stops held new kept text → Stops held new kept (text ++ more)

@@ -7,7 +7,6 @@ use Rattle.hmac_keys.specs.declared.Keys.{Keys}
 use Rattle.rpmb_card.specs.Port.{PortState}
 use Rattle.run_acts.specs.declared.MountFault.{MountFault}
 use Rattle.run_acts.specs.declared.MountFault.TheVariants.{NoMemory as NoMemoryFault}
-use Rattle.store_model.specs.declared.event.Event.{Event}
 use Rattle.store_model.specs.Object.{ObjectMap}
 use Rattle.script_text.specs.declared.script.Control.TheVariants.{List as ListControl}
 use Rattle.script_text.specs.declared.script.Mode.TheVariants.{Threads}
@@ -21,16 +20,17 @@ use Rattle.run_acts.specs.ListedBenches.{IsListRefused, ListsBench}
 use Rattle.run_acts.specs.Opens.{OpensBench}
 use Rattle.run_acts.specs.Phases.{RunsPhase}
 use Rattle.run_acts.specs.PhaseRefusals.{IsGivenUp}
+use Rattle.run_acts.specs.QuotaRefusals.{HoldsOfAdmitted}
 use Rattle.run_acts.proofs.Ready.{runs_where}
 use Rattle.script_runner.specs.declared.status.Status.{Status}
-use Rattle.script_runner.specs.declared.status.Status.TheVariants.{BadLine, CardMapRefused, DeviceFault, Done, FileFault, MountRefused, NoMemory, ReadFault, TooLong, Usage, WriteFault}
+use Rattle.script_runner.specs.declared.status.Status.TheVariants.{DeviceFault, Done, MountRefused, NoMemory, WriteFault}
 use Rattle.seed_words.specs.Joined.{joined}
 use Rattle.seed_words.specs.Scripts.{app_calls, app_steps, soak_calls, soak_script}
 use Rattle.script_runner.specs.Trace.{applications_of}
 use Rattle.script_runner.specs.RunRefusals.{IsDeviceFault, IsRefusal}
 use Rattle.script_runner.specs.Text.{Do, Listed, PhaseRecord, Ran, Refused, RunRecord, Serve}
 use Rattle.script_runner.specs.Ending.{EndsActs, EndsForMemory, EndsRun, RecordsRefusal}
-use Rattle.script_runner.specs.SavedFiles.{begins_with, nothing_saved}
+use Rattle.script_runner.specs.SavedFiles.{begins_with}
 use Rattle.script_runner.specs.Soaks.{GoesThrough, IsBroken, RunsSoak, PrintsObjects, broken, soak_acts, soak_applications, soak_output, starved}
 use Rattle.script_runner.specs.Prints.{PrintsLines, PrintsRefusal}
 use Rattle.script_runner.proofs.Scripts.{RunsActs-refused}
@@ -80,58 +80,61 @@ as_soak number P script applications calls is apps_are calls_are holds =
     subst (P (soak_applications number)) steps (subst (λ (a : List (List ℕ)). P a calls) apps holds)
 
 module _ {F R : Type 0} (of_file : F → FileState) (of_port : R → PortState) (image : FileState → ℕ → ℕ → List ℕ) (Reliable : Type 0) (keys : Keys) (number : ℕ) where
+  -- its phase: without quotas, and with nothing armed
+  abbrev SoakPhase : (old new : BenchState) → PhaseRecord → Type 0
+  SoakPhase old new phase = RunsPhase of_file of_port Reliable keys (soak_applications number) [] [] Threads (soak_calls number) old new phase.opening phase.events phase.refused
+
   -- a phase of the calls behind the first step of its script
-  pub RunsPhase-soak : (Later : Type 0) (script : ScriptValue) (applications : List (List ℕ)) (calls : List Step) (old new : BenchState) (opening : ObjectMap) (events : List Event)
+  pub RunsPhase-soak : (Later : Type 0) (script : ScriptValue) (applications : List (List ℕ)) (calls : List Step) (old new : BenchState) (phase : PhaseRecord)
       → script ≡ soak_script number → applications ≡ applications_of script → calls ≡ take (prefix_len is_call (drop 1 script.steps)) (drop 1 script.steps) → (Reliable → Later)
-      → RunsPhase of_file of_port Later keys applications [] Threads calls old new opening events
-      → RunsPhase of_file of_port Reliable keys (soak_applications number) [] Threads (soak_calls number) old new opening events
-  RunsPhase-soak Later script applications calls old new opening events is apps_are calls_are lasts runs =
-      as_soak number (λ a c. RunsPhase of_file of_port Reliable keys a [] Threads c old new opening events) script applications calls is apps_are calls_are
-      (runs_where of_file of_port Later Reliable keys applications [] Threads calls old new opening events lasts runs)
+      → RunsPhase of_file of_port Later keys applications [] [] Threads calls old new phase.opening phase.events phase.refused
+      → SoakPhase old new phase
+  RunsPhase-soak Later script applications calls old new phase is apps_are calls_are lasts runs =
+      as_soak number (λ a c. RunsPhase of_file of_port Reliable keys a [] [] Threads c old new phase.opening phase.events phase.refused) script applications calls is apps_are calls_are
+      (runs_where of_file of_port Later Reliable keys applications [] [] Threads calls old new phase.opening phase.events phase.refused lasts runs)
 
   -- both acts were done
-  pub GoesThrough-acts : (old between new : BenchState) (opening : ObjectMap) (events : List Event) (lines : List ℕ)
-      → RunsPhase of_file of_port Reliable keys (soak_applications number) [] Threads (soak_calls number) old between opening events → PrintsObjects of_file of_port keys number events between new lines
+  pub GoesThrough-acts : (old between new : BenchState) (phase : PhaseRecord) (lines : List ℕ) → SoakPhase old between phase → PrintsObjects of_file of_port keys number phase.events between new lines
       → GoesThrough of_file of_port image Reliable keys number old new lines
-  GoesThrough-acts old between new opening events lines runs printed = record {
-    records = Ran (record { opening = opening; events = events }) ∷ Listed printed.objects ∷ [];
+  GoesThrough-acts old between new phase lines runs printed = record {
+    records = Ran phase ∷ Listed printed.objects ∷ [];
     goes = (between, runs, (new, printed.lists, refl));
     lines_are = printed.lines_are;
   }
 
   module _ (drew draws : ℕ) where
     -- the phase was given up
-    pub IsBroken-phase : (old new : BenchState) (fault : MountFault) → IsGivenUp of_file of_port keys (soak_applications number) [] Threads (soak_calls number) old new drew draws fault → IsBroken of_file of_port image Reliable keys number drew draws old new fault
+    pub IsBroken-phase : (old new : BenchState) (fault : MountFault)
+        → HoldsOfAdmitted [] (soak_calls number) (λ steps. IsGivenUp of_file of_port keys (soak_applications number) [] Threads steps old new drew draws fault)
+        → IsBroken of_file of_port image Reliable keys number drew draws old new fault
     IsBroken-phase old new fault given_up =
-        broken (Refused fault ∷ []) ([], refl, record { left = soak_acts number; between = old; goes = record { done = []; front = refl; saved = nothing_saved; goes = refl }; refused = given_up }) refl
+        broken (Refused fault ∷ []) ([], refl, record { left = soak_acts number; between = old; goes = record { done = []; front = refl; there = begins_with old; goes = refl }; refused = given_up }) refl
 
     -- the list was refused
-    IsBroken-list : (old between new : BenchState) (opening : ObjectMap) (events : List Event) (fault : MountFault)
-        → RunsPhase of_file of_port Reliable keys (soak_applications number) [] Threads (soak_calls number) old between opening events → IsListRefused of_file of_port keys between new drew draws fault
+    IsBroken-list : (old between new : BenchState) (phase : PhaseRecord) (fault : MountFault) → SoakPhase old between phase → IsListRefused of_file of_port keys between new drew draws fault
         → IsBroken of_file of_port image Reliable keys number drew draws old new fault
-    IsBroken-list old between new opening events fault runs refused = let phase : PhaseRecord = record { opening = opening; events = events } in
+    IsBroken-list old between new phase fault runs refused =
         broken (Ran phase ∷ Refused fault ∷ []) (
           Ran phase ∷ [],
           refl,
-          record { left = Do ListControl ∷ []; between = between; goes = record { done = Serve Threads (soak_calls number) ∷ []; front = refl; saved = nothing_saved; goes = (between, runs, refl) }; refused = refused },
+          record { left = Do ListControl ∷ []; between = between; goes = record { done = Serve Threads (soak_calls number) ∷ []; front = refl; there = begins_with old; goes = (between, runs, refl) }; refused = refused },
         ) refl
 
     -- there was no memory for the script, and nothing was done
     pub IsBroken-undone : (old : BenchState) → IsBroken of_file of_port image Reliable keys number drew draws old old NoMemoryFault
-    IsBroken-undone old = starved [] refl (inl (soak_acts number, record { done = []; front = refl; saved = nothing_saved; goes = refl }))
+    IsBroken-undone old = starved [] refl (inl (soak_acts number, record { done = []; front = refl; there = begins_with old; goes = refl }))
 
     -- what was printed of the list says that it was refused, or that there was no memory for the lines of all that was done; no draw failed in
     -- the phase
-    pub IsBroken-printed : (old between new : BenchState) (opening : ObjectMap) (events : List Event) (fault : MountFault)
-        → RunsPhase of_file of_port Reliable keys (soak_applications number) [] Threads (soak_calls number) old between opening events → (mid : ℕ) → mid ≡ drew
+    pub IsBroken-printed : (old between new : BenchState) (phase : PhaseRecord) (fault : MountFault) → SoakPhase old between phase → (mid : ℕ) → mid ≡ drew
         → ((fault ≡ NoMemoryFault) × ((objects : ObjectMap) × (lines : List ℕ) × ListsBench of_file of_port keys between new objects lines)) ⊎ IsListRefused of_file of_port keys between new mid draws fault
         → IsBroken of_file of_port image Reliable keys number drew draws old new fault
-    IsBroken-printed old between new opening events fault runs mid same (inl none) =
+    IsBroken-printed old between new phase fault runs mid same (inl none) =
         let objects = none.1.0 in
         let lists = subst (λ (t : List ℕ). ListsBench of_file of_port keys between new objects t) (none.1.2).lines_are none.1.2 in
-        starved (Ran (record { opening = opening; events = events }) ∷ Listed objects ∷ []) none.0 (inl ([], record { done = soak_acts number; front = refl; saved = nothing_saved; goes = (between, runs, (new, lists, refl)) }))
-    IsBroken-printed old between new opening events fault runs mid same (inr refused) =
-        IsBroken-list old between new opening events fault runs (subst (λ n. IsListRefused of_file of_port keys between new n draws fault) same refused)
+        starved (Ran phase ∷ Listed objects ∷ []) none.0 (inl ([], record { done = soak_acts number; front = refl; there = begins_with old; goes = (between, runs, (new, lists, refl)) }))
+    IsBroken-printed old between new phase fault runs mid same (inr refused) =
+        IsBroken-list old between new phase fault runs (subst (λ n. IsListRefused of_file of_port keys between new n draws fault) same refused)
 
     module _ (failed : Type 0) (held_old held_new : Option (List ℕ)) (handed between given : BenchState) (opens : OpensBench keys handed between) where
       opened : (records : List RunRecord) (status : Status) → EndsActs of_file of_port image Reliable drew draws keys (soak_applications number) [] (soak_acts number) records (begins_with between) given status
@@ -147,7 +150,7 @@ module _ {F R : Type 0} (of_file : F → FileState) (of_port : R → PortState) 
         records = through.records;
         appended = t;
         begins = ([], sym through.lines_are ∙ sym (append-nil lines));
-        ends = opened through.records Done (record { done = soak_acts number; front = refl; saved = nothing_saved; goes = through.goes });
+        ends = opened through.records Done (record { done = soak_acts number; front = refl; there = begins_with between; goes = through.goes });
         cause = through.lines_are;
       }
       RunsSoak-through lines through WriteFault t = record {
@@ -156,18 +159,10 @@ module _ {F R : Type 0} (of_file : F → FileState) (of_port : R → PortState) 
         records = through.records;
         appended = t.1.1;
         begins = (t.1.2.0, sym through.lines_are ∙ sym (append-nil lines) ∙ t.1.2.1);
-        ends = opened through.records WriteFault (inl ([], record { done = soak_acts number; front = refl; saved = nothing_saved; goes = through.goes }));
+        ends = opened through.records WriteFault (inl ([], record { done = soak_acts number; front = refl; there = begins_with between; goes = through.goes }));
         cause = t.0;
       }
-      RunsSoak-through lines through Usage t = absurd t
-      RunsSoak-through lines through (FileFault other_fault) t = absurd t
-      RunsSoak-through lines through (CardMapRefused block offset) t = absurd t
-      RunsSoak-through lines through (BadLine n) t = absurd t
-      RunsSoak-through lines through ReadFault t = absurd t
-      RunsSoak-through lines through (TooLong excess) t = absurd t
-      RunsSoak-through lines through NoMemory t = absurd t
-      RunsSoak-through lines through (MountRefused fault) t = absurd t
-      RunsSoak-through lines through (DeviceFault fault) t = absurd t
+      RunsSoak-through lines through status t = absurd t
 
       module _ (fault : MountFault) where
         printed : (records : List RunRecord) (other : MountFault) → other ≡ fault → RecordsRefusal of_file of_port image Reliable drew draws keys (soak_applications number) [] (soak_acts number) records (begins_with between) given fault
@@ -177,28 +172,15 @@ module _ {F R : Type 0} (of_file : F → FileState) (of_port : R → PortState) 
         ends : (records : List RunRecord) → RecordsRefusal of_file of_port image Reliable drew draws keys (soak_applications number) [] (soak_acts number) records (begins_with between) given fault
             → (status : Status) → PrintsRefusal failed held_old held_new [] fault status
             → EndsActs of_file of_port image Reliable drew draws keys (soak_applications number) [] (soak_acts number) records (begins_with between) given status
-        ends records refused Done t = absurd t
-        ends records refused Usage t = absurd t
-        ends records refused (FileFault other_fault) t = absurd t
-        ends records refused (CardMapRefused block offset) t = absurd t
-        ends records refused (BadLine n) t = absurd t
-        ends records refused ReadFault t = absurd t
-        ends records refused (TooLong excess) t = absurd t
-        ends records refused WriteFault t = inr (fault, t.0, refused)
+        ends records refused WriteFault t = inr (inl (fault, t.0, refused))
         ends records refused NoMemory t = inr (inl (fault, t.0, refused))
         ends records refused (MountRefused other) t = printed records other t.0 refused
         ends records refused (DeviceFault other) t = printed records other t.0 refused
+        ends records refused status t = absurd t
 
         -- memory ran out, and nothing was put
         unprinted : (records : List RunRecord) → fault ≡ NoMemoryFault → EndsForMemory of_file of_port image Reliable drew draws keys (soak_applications number) [] (soak_acts number) records (begins_with between) given
             → (status : Status) → PrintsRefusal failed held_old held_new [] fault status → RunsSoak of_file of_port image Reliable keys number drew draws failed held_old held_new handed given status
-        unprinted records is memory Done t = absurd t
-        unprinted records is memory Usage t = absurd t
-        unprinted records is memory (FileFault other_fault) t = absurd t
-        unprinted records is memory (CardMapRefused block offset) t = absurd t
-        unprinted records is memory (BadLine n) t = absurd t
-        unprinted records is memory ReadFault t = absurd t
-        unprinted records is memory (TooLong excess) t = absurd t
         unprinted records is memory WriteFault t = absurd (let no : IsRefusal NoMemoryFault = subst IsRefusal is t.0 in no)
         unprinted records is memory NoMemory t =
             let none : t.1.0 ≡ [] = front_of_none t.1.0 t.1.2.0 (refusal_line-memory fault is ∙ t.1.2.1) in
@@ -213,6 +195,7 @@ module _ {F R : Type 0} (of_file : F → FileState) (of_port : R → PortState) 
             }
         unprinted records is memory (MountRefused other) t = absurd (let no : IsRefusal NoMemoryFault = subst IsRefusal is t.1 in no)
         unprinted records is memory (DeviceFault other) t = absurd (let no : IsDeviceFault NoMemoryFault = subst IsDeviceFault is t.1 in no)
+        unprinted records is memory status t = absurd t
 
         -- the line of the refusal was put, or not; no text was kept
         pub RunsSoak-broken : IsBroken of_file of_port image Reliable keys number drew draws between given fault → (kept : List ℕ) → kept ≡ [] → (status : Status) → PrintsRefusal failed held_old held_new kept fault status

@@ -8,8 +8,9 @@ use Rattle.disk_model.specs.State.{FileState}
 use Rattle.hmac_keys.specs.declared.Keys.{Keys}
 use Rattle.tee_types.specs.Limits.{file_count}
 use Rattle.rpmb_card.specs.Port.{PortState}
+use Rattle.app_quota.specs.declared.quotas.Quota.{Quota}
 use Rattle.script_text.specs.declared.script.Arm.{Arm}
-use Rattle.script_text.specs.declared.script.Control.TheVariants.{Arm as ArmControl, Crash, Flip, List as ListControl, Mode as ModeControl, Phase, Restore, Save}
+use Rattle.script_text.specs.declared.script.Control.TheVariants.{Arm as ArmControl, Crash, Flip, List as ListControl, Mode as ModeControl, Phase, Quota as QuotaControl, Restore, Save}
 use Rattle.script_text.specs.declared.script.Mode.{Mode}
 use Rattle.script_text.specs.declared.script.Step.{Step}
 use Rattle.script_text.specs.declared.script.Step.TheVariants.{Control as ControlStep}
@@ -21,9 +22,11 @@ use Rattle.run_acts.specs.Alterations.{FlipsFile, file_number}
 use Rattle.run_acts.specs.Benches.{bench_state}
 use Rattle.run_acts.specs.Crashes.{Crashes}
 use Rattle.run_acts.specs.ListedBenches.{IsListRefused, ListsBench}
+use Rattle.run_acts.specs.PhaseOutcomes.{OverCommits}
 use Rattle.run_acts.specs.Phases.{RunsPhase}
+use Rattle.run_acts.specs.QuotaRefusals.{HoldsOfAdmitted}
+use Rattle.run_acts.proofs.PhaseChains.{files_none}
 use Rattle.script_runner.specs.declared.run_state.Run.{Run}
-use Rattle.script_runner.specs.declared.saved_files.SavedFiles.{SavedFiles}
 use Rattle.script_runner.specs.declared.run_state.RunEnd.{RunEnd}
 use Rattle.script_runner.specs.Text.{Act, Controlled, Do, Listed, PhaseRecord, Ran, RunRecord, Serve, acts_of, acts_text, mode_behind}
 use Rattle.script_runner.specs.Trace.{applications_of}
@@ -32,12 +35,26 @@ use Rattle.run_acts.specs.PhaseRefusals.{IsGivenUp}
 use Rattle.script_text.specs.declared.script.Control.{Control}
 use Rattle.script_runner.specs.Course.{Goes, RefusesFirst}
 use Rattle.script_runner.specs.Points.{arms_behind, standing_of}
-use Rattle.script_runner.specs.SavedFiles.{PutsBack, reads_saved, saved_of, with_bench, with_saved}
+use Rattle.script_runner.specs.SavedFiles.{PutsBack, quota_for, reads_saved, saved_of, with_bench, with_saved}
 use Rattle.script_runner.specs.RunReady.{IsCallFirst, IsNext, IsReady, IsSound}
 use Rattle.script_runner.specs.Running.{EndsAt, GoesOn}
-use Rattle.script_runner.specs.Prints.{IsCutOff, IsSent, PrintsRefusal}
+use Rattle.script_runner.specs.Prints.{IsCutOff, IsSent, PrintsExcess, PrintsRefusal}
 use Rattle.script_runner.proofs.Steps.{acts_of-calls, prefix_len-some}
-use Rattle.script_runner.proofs.Once.{EndsAt-act, EndsAt-refused, GoesOn-act, HasDone, HasDone-control}
+use Rattle.script_runner.proofs.Once.{EndsAt-act, EndsAt-exceeded, EndsAt-refused, GoesOn-act, HasDone, HasDone-control}
+
+-- the calls of the next phase
+abbrev pub next_calls : {F R : Type 0} → ScriptValue → Run F R → List Step
+next_calls script run = take (prefix_len is_call (drop run.at script.steps)) (drop run.at script.steps)
+
+-- what holds of what a phase was given, holds of what the run has
+pub as_given : {F R : Type 0} (script : ScriptValue) (run : Run F R) (P : List (List ℕ) → List Quota → List Arm → List Step → Type 0) (apps : List (List ℕ)) (quotas : List Quota) (arms : List Arm) (steps : List Step)
+    → apps ≡ applications_of script → quotas ≡ run.quotas.items → arms ≡ run.arms.items → steps ≡ next_calls script run → P apps quotas arms steps
+    → P (applications_of script) run.quotas.items run.arms.items (next_calls script run)
+as_given script run P apps quotas arms steps same_apps same_quotas same_arms same_steps holds =
+    subst (λ (s : List Step). P (applications_of script) run.quotas.items run.arms.items s) same_steps
+    (subst (λ (a : List Arm). P (applications_of script) run.quotas.items a steps) same_arms
+    (subst (λ (q : List Quota). P (applications_of script) q arms steps) same_quotas
+    (subst (λ (l : List (List ℕ)). P l quotas arms steps) same_apps holds)))
 
 -- what the next step carries is formed
 pub formed-next : (steps rest : List Step) (at : ℕ) (step : Step) → All IsFormed steps → drop at steps ≡ step ∷ rest → IsFormed step
@@ -48,9 +65,10 @@ module _ {F R : Type 0} (of_file : F → FileState) (of_port : R → PortState) 
   abbrev pub next_place : Run F R → Run F R
   next_place run = record run { at = run.at + 1 }
 
-  -- another bench, and the same that is saved
-  standing_with : (run other : Run F R) → other.saved ≡ run.saved → standing_of of_file of_port other ≡ with_bench (standing_of of_file of_port run) (bench_state of_file of_port other.bench)
-  standing_with run other same = ap (λ (saved : SavedFiles). record { bench = bench_state of_file of_port other.bench; saved = saved_of saved }) same
+  -- another bench, the same that is saved, and the same quotas
+  standing_with : (run other : Run F R) → other.saved ≡ run.saved → other.quotas ≡ run.quotas
+      → standing_of of_file of_port other ≡ with_bench (standing_of of_file of_port run) (bench_state of_file of_port other.bench)
+  standing_with run other saved quotas = (λ i. record { bench = bench_state of_file of_port other.bench; saved = saved_of (saved i); quotas = (quotas i).items })
 
   pub HasDone-mode : (mode : Mode) (run : Run F R) → IsReady script run → IsNext script run (ControlStep (ModeControl mode))
       → HasDone of_file of_port image Reliable keys script (Do (ModeControl mode)) (Controlled ∷ []) run (next_place (record run { mode = mode }))
@@ -82,7 +100,7 @@ module _ {F R : Type 0} (of_file : F → FileState) (of_port : R → PortState) 
   pub HasDone-crash : (seed : ℕ) (run crashed : Run F R) → IsReady script run → IsNext script run (ControlStep (Crash seed)) → crashed ≡ record run { bench = crashed.bench } → vec_len crashed.bench.files ≡ file_count
       → Crashes image seed (bench_state of_file of_port run.bench) (bench_state of_file of_port crashed.bench) → HasDone of_file of_port image Reliable keys script (Do (Crash seed)) (Controlled ∷ []) run (next_place crashed)
   HasDone-crash seed run crashed ready next same whole crashes =
-      HasDone-bench (Crash seed) run crashed ready next same whole (bench_state of_file of_port crashed.bench, crashes, standing_with run crashed (ap (λ (r : Run F R). r.saved) same)) refl refl
+      HasDone-bench (Crash seed) run crashed ready next same whole (bench_state of_file of_port crashed.bench, crashes, standing_with run crashed (ap (λ (r : Run F R). r.saved) same) (ap (λ (r : Run F R). r.quotas) same)) refl refl
 
   pub HasDone-save : (mark : List ℕ) (run saved : Run F R) → IsReady script run → IsNext script run (ControlStep (Save mark))
       → saved ≡ record run { saved = saved.saved } → saved_of saved.saved ≡ with_saved (saved_of run.saved) mark (reads_saved (bench_state of_file of_port run.bench).files)
@@ -90,27 +108,36 @@ module _ {F R : Type 0} (of_file : F → FileState) (of_port : R → PortState) 
   HasDone-save mark run saved ready next same kept =
       let arms : saved.arms.items ≡ run.arms.items = ap (λ (r : Run F R). r.arms.items) same in
       HasDone-control of_file of_port image Reliable keys script (Save mark) (Controlled ∷ []) run (next_place saved) ready next
-      (λ i. record { bench = ap (λ (r : Run F R). bench_state of_file of_port r.bench) same i; saved = kept i }) arms (subst (All IsArm) (sym arms) ready.arms)
+      (λ i. record { bench = ap (λ (r : Run F R). bench_state of_file of_port r.bench) same i; saved = kept i; quotas = ap (λ (r : Run F R). r.quotas.items) same i }) arms (subst (All IsArm) (sym arms) ready.arms)
+      (ap (λ (r : Run F R). vec_len r.bench.files) same ∙ ready.whole) (ap (λ (r : Run F R). r.number) same) (ap (λ (r : Run F R). r.mode) same) (ap (λ (r : Run F R). r.kept.items) same) (ap (λ (r : Run F R). r.at + 1) same)
+
+  pub HasDone-quota : (app : List ℕ) (objects bytes : ℕ) (run set : Run F R) → IsReady script run → IsNext script run (ControlStep (QuotaControl app objects bytes))
+      → set ≡ record run { quotas = set.quotas } → set.quotas.items ≡ run.quotas.items ++ quota_for app objects bytes ∷ []
+      → HasDone of_file of_port image Reliable keys script (Do (QuotaControl app objects bytes)) (Controlled ∷ []) run (next_place set)
+  HasDone-quota app objects bytes run set ready next same quotas =
+      let arms : set.arms.items ≡ run.arms.items = ap (λ (r : Run F R). r.arms.items) same in
+      HasDone-control of_file of_port image Reliable keys script (QuotaControl app objects bytes) (Controlled ∷ []) run (next_place set) ready next
+      (λ i. record { bench = ap (λ (r : Run F R). bench_state of_file of_port r.bench) same i; saved = ap (λ (r : Run F R). saved_of r.saved) same i; quotas = quotas i }) arms (subst (All IsArm) (sym arms) ready.arms)
       (ap (λ (r : Run F R). vec_len r.bench.files) same ∙ ready.whole) (ap (λ (r : Run F R). r.number) same) (ap (λ (r : Run F R). r.mode) same) (ap (λ (r : Run F R). r.kept.items) same) (ap (λ (r : Run F R). r.at + 1) same)
 
   pub HasDone-restore : (file : Device) (mark : List ℕ) (run altered : Run F R) → IsReady script run → IsNext script run (ControlStep (Restore file mark)) → altered ≡ record run { bench = altered.bench } → vec_len altered.bench.files ≡ file_count
       → PutsBack (file_number file) (saved_of run.saved mark (file_number file)) (bench_state of_file of_port run.bench) (bench_state of_file of_port altered.bench)
       → HasDone of_file of_port image Reliable keys script (Do (Restore file mark)) (Controlled ∷ []) run (next_place altered)
   HasDone-restore file mark run altered ready next same whole puts =
-      HasDone-bench (Restore file mark) run altered ready next same whole (bench_state of_file of_port altered.bench, puts, standing_with run altered (ap (λ (r : Run F R). r.saved) same)) refl refl
+      HasDone-bench (Restore file mark) run altered ready next same whole (bench_state of_file of_port altered.bench, puts, standing_with run altered (ap (λ (r : Run F R). r.saved) same) (ap (λ (r : Run F R). r.quotas) same)) refl refl
 
   pub HasDone-flip : (file : Device) (at : ℕ) (mask : List ℕ) (run altered : Run F R) → IsReady script run → IsNext script run (ControlStep (Flip file at mask)) → altered ≡ record run { bench = altered.bench } → vec_len altered.bench.files ≡ file_count
       → FlipsFile (file_number file) at mask (bench_state of_file of_port run.bench) (bench_state of_file of_port altered.bench)
       → HasDone of_file of_port image Reliable keys script (Do (Flip file at mask)) (Controlled ∷ []) run (next_place altered)
   HasDone-flip file at mask run altered ready next same whole flips =
-      HasDone-bench (Flip file at mask) run altered ready next same whole (bench_state of_file of_port altered.bench, flips, standing_with run altered (ap (λ (r : Run F R). r.saved) same)) refl refl
+      HasDone-bench (Flip file at mask) run altered ready next same whole (bench_state of_file of_port altered.bench, flips, standing_with run altered (ap (λ (r : Run F R). r.saved) same) (ap (λ (r : Run F R). r.quotas) same)) refl refl
 
   pub HasDone-list : (run listed : Run F R) (objects : ObjectMap) (lines : List ℕ) → IsReady script run → IsNext script run (ControlStep ListControl) → listed ≡ record run { bench = listed.bench; at = run.at + 1 } → vec_len listed.bench.files ≡ file_count
       → ListsBench of_file of_port keys (bench_state of_file of_port run.bench) (bench_state of_file of_port listed.bench) objects lines → HasDone of_file of_port image Reliable keys script (Do ListControl) (Listed objects ∷ []) run listed
   HasDone-list run listed objects lines ready next same whole lists =
       let arms : listed.arms.items ≡ run.arms.items = ap (λ (r : Run F R). r.arms.items) same in
       HasDone-control of_file of_port image Reliable keys script ListControl (Listed objects ∷ []) run listed ready next
-      (bench_state of_file of_port listed.bench, subst (λ t. ListsBench of_file of_port keys (bench_state of_file of_port run.bench) (bench_state of_file of_port listed.bench) objects t) lists.lines_are lists, standing_with run listed (ap (λ (r : Run F R). r.saved) same)) arms (subst (All IsArm) (sym arms) ready.arms)
+      (bench_state of_file of_port listed.bench, subst (λ t. ListsBench of_file of_port keys (bench_state of_file of_port run.bench) (bench_state of_file of_port listed.bench) objects t) lists.lines_are lists, standing_with run listed (ap (λ (r : Run F R). r.saved) same) (ap (λ (r : Run F R). r.quotas) same)) arms (subst (All IsArm) (sym arms) ready.arms)
       whole (ap (λ (r : Run F R). r.number) same) (ap (λ (r : Run F R). r.mode) same) (ap (λ (r : Run F R). r.kept.items) same) (ap (λ (r : Run F R). r.at) same)
 
   -- the steps behind a phase
@@ -118,10 +145,11 @@ module _ {F R : Type 0} (of_file : F → FileState) (of_port : R → PortState) 
   calls_length run = prefix_len is_call (drop run.at script.steps)
 
   pub HasDone-calls : (run ran : Run F R) (phase : PhaseRecord) → IsReady script run → IsCallFirst (drop run.at script.steps)
-      → RunsPhase of_file of_port Reliable keys (applications_of script) run.arms.items run.mode (take (calls_length run) (drop run.at script.steps)) (bench_state of_file of_port run.bench) (bench_state of_file of_port ran.bench) phase.opening phase.events
-      → ran.arms.items ≡ [] → ran.saved ≡ run.saved → vec_len ran.bench.files ≡ file_count → ran.number ≡ run.number + 1 → ran.mode ≡ run.mode → ran.kept.items ≡ run.kept.items → ran.at ≡ run.at + calls_length run → calls_length run ≤ length (drop run.at script.steps)
-      → HasDone of_file of_port image Reliable keys script (Serve run.mode (take (calls_length run) (drop run.at script.steps))) (Ran phase ∷ []) run ran
-  HasDone-calls run ran phase ready first runs arms saved whole number mode kept at within =
+      → RunsPhase of_file of_port Reliable keys (applications_of script) run.quotas.items run.arms.items run.mode (next_calls script run) (bench_state of_file of_port run.bench)
+      (bench_state of_file of_port ran.bench) phase.opening phase.events phase.refused
+      → ran.arms.items ≡ [] → ran.saved ≡ run.saved → ran.quotas ≡ run.quotas → vec_len ran.bench.files ≡ file_count → ran.number ≡ run.number + 1 → ran.mode ≡ run.mode → ran.kept.items ≡ run.kept.items → ran.at ≡ run.at + calls_length run → calls_length run ≤ length (drop run.at script.steps)
+      → HasDone of_file of_port image Reliable keys script (Serve run.mode (next_calls script run)) (Ran phase ∷ []) run ran
+  HasDone-calls run ran phase ready first runs arms saved quotas whole number mode kept at within =
       let count = calls_length run in
       let rest = drop run.at script.steps in
       let some = prefix_len-some rest first in
@@ -130,7 +158,7 @@ module _ {F R : Type 0} (of_file : F → FileState) (of_port : R → PortState) 
       let front : length (take run.at script.steps) ≡ run.at = length-take-le run.at script.steps ready.within in record {
         acts = acts_of-calls run.mode rest first ∙ ap (λ (m : Mode). Serve run.mode (take count rest) ∷ acts_of m (drop count rest)) (sym mode)
             ∙ ap (λ s. Serve run.mode (take count rest) ∷ acts_of ran.mode s) (sym behind);
-        goes = (bench_state of_file of_port ran.bench, runs, standing_with run ran saved);
+        goes = (bench_state of_file of_port ran.bench, runs, standing_with run ran saved quotas);
         arms_are = arms;
         number_is = number;
         kept_is = kept;
@@ -153,11 +181,23 @@ module _ {F R : Type 0} (of_file : F → FileState) (of_port : R → PortState) 
       → EndsAt of_file of_port image Reliable drew draws keys script failed held_old held_new run end
   EndsAt-list drew draws failed held_old held_new run end fault next refused prints whole =
       EndsAt-refused of_file of_port image Reliable drew draws keys script failed held_old held_new run end fault
-      (subst (λ (acts : List Act). RefusesFirst of_file of_port image Reliable drew draws keys (applications_of script) run.arms.items acts (bench_state of_file of_port run.bench) (bench_state of_file of_port end.bench) fault) (sym (ap (acts_of run.mode) next)) refused) prints whole
+      (subst (λ (acts : List Act). RefusesFirst of_file of_port image Reliable drew draws keys (applications_of script) run.arms.items acts (standing_of of_file of_port run) (bench_state of_file of_port end.bench) fault) (sym (ap (acts_of run.mode) next)) refused) prints whole
 
   pub EndsAt-calls : (drew draws : ℕ) (failed : Type 0) (held_old held_new : Option (List ℕ)) (run : Run F R) (end : RunEnd F R) (fault : MountFault) → IsCallFirst (drop run.at script.steps)
-      → IsGivenUp of_file of_port keys (applications_of script) run.arms.items run.mode (take (prefix_len is_call (drop run.at script.steps)) (drop run.at script.steps)) (bench_state of_file of_port run.bench) (bench_state of_file of_port end.bench) drew draws fault → PrintsRefusal failed held_old held_new run.kept.items fault end.status → vec_len end.bench.files ≡ file_count
+      → HoldsOfAdmitted run.quotas.items (next_calls script run)
+      (λ steps. IsGivenUp of_file of_port keys (applications_of script) run.arms.items run.mode steps (bench_state of_file of_port run.bench) (bench_state of_file of_port end.bench) drew draws fault)
+      → PrintsRefusal failed held_old held_new run.kept.items fault end.status → vec_len end.bench.files ≡ file_count
       → EndsAt of_file of_port image Reliable drew draws keys script failed held_old held_new run end
   EndsAt-calls drew draws failed held_old held_new run end fault first refused prints whole =
       EndsAt-refused of_file of_port image Reliable drew draws keys script failed held_old held_new run end fault
-      (subst (λ (acts : List Act). RefusesFirst of_file of_port image Reliable drew draws keys (applications_of script) run.arms.items acts (bench_state of_file of_port run.bench) (bench_state of_file of_port end.bench) fault) (sym (acts_of-calls run.mode (drop run.at script.steps) first)) refused) prints whole
+      (subst (λ (acts : List Act). RefusesFirst of_file of_port image Reliable drew draws keys (applications_of script) run.arms.items acts (standing_of of_file of_port run) (bench_state of_file of_port end.bench) fault) (sym (acts_of-calls run.mode (drop run.at script.steps) first)) refused) prints whole
+
+  -- the quotas of the next phase are over-committed
+  pub EndsAt-over : (drew draws : ℕ) (failed : Type 0) (held_old held_new : Option (List ℕ)) (run : Run F R) (end : RunEnd F R) (sum : ℕ) → IsCallFirst (drop run.at script.steps)
+      → OverCommits of_file of_port keys (applications_of script) run.quotas.items (bench_state of_file of_port run.bench) (bench_state of_file of_port end.bench) sum
+      → PrintsExcess failed held_old held_new run.kept.items sum end.status → vec_len end.bench.files ≡ file_count
+      → EndsAt of_file of_port image Reliable drew draws keys script failed held_old held_new run end
+  EndsAt-over drew draws failed held_old held_new run end sum first over prints whole =
+      EndsAt-exceeded of_file of_port image Reliable drew draws keys script failed held_old held_new run end run.mode (next_calls script run)
+      (acts_of run.mode (drop (calls_length run) (drop run.at script.steps))) sum (acts_of-calls run.mode (drop run.at script.steps) first) over
+      (λ file beyond. files_none of_file end.bench.files.items file (omega (arith, beyond, whole, end.bench.files.ok.0))) prints whole

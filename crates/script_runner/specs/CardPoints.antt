@@ -1,8 +1,6 @@
 -- The lines of a script over a card that has the key: its map, and the names that the store shows, line by line.
-use Rattle.std.specs.Prelude.{◌≡◌, ◌⊎◌, ◌+◌, ℕ, List, [], ◌∷◌, ◌++◌, true, Ok, IsTrue, slice_index_or}
+use Rattle.std.specs.Prelude.{◌≡◌, ◌+◌, ℕ, List, [], ◌∷◌, true, Ok, IsTrue, slice_index_or}
 use Rattle.rpmb_card.specs.Card.{CardState}
-use Rattle.rpmb_card.specs.Port.{PortState}
-use Rattle.rpmb_host.specs.Honest.{HasCard}
 use Rattle.card_script.specs.declared.card_line.CardLine.{CardLine}
 use Rattle.card_script.specs.declared.card_line.CardLine.TheVariants.{Put, Get, Remove, List as ListLine, Stop, Remount}
 use Rattle.card_script.specs.declared.card_line.CardReply.TheVariants.{Device}

@@ -1,5 +1,5 @@
 -- What holds of every run of a script of the card.
-use Rattle.std.specs.Prelude.{◌≡◌, ◌⊎◌, ◌+◌, ◌-◌, ◌≤◌, ℕ, List, [], ◌∷◌, ◌++◌, length, Option, Ok, IsTrue}
+use Rattle.std.specs.Prelude.{◌≡◌, ◌⊎◌, ◌≤◌, ℕ, List, [], ◌∷◌, ◌++◌, length, Option, Ok, IsTrue}
 use Rattle.rpmb_card.specs.Card.{CardState}
 use Rattle.rpmb_card.specs.Port.{PortState}
 use Rattle.rpmb_files.specs.Counts.{RoseBy}
@@ -12,7 +12,6 @@ use Rattle.card_maps.specs.Course as course
 use Rattle.script_runner.specs.declared.status.Status.{Status}
 use Rattle.script_runner.specs.declared.status.Status.TheVariants.{Done, NoMemory}
 use Rattle.script_runner.specs.RunCauses.{World}
-use Rattle.script_runner.specs.CardRecords.{CardRecord}
 use Rattle.script_runner.specs.CardPoints.{CallOnCard, CardPoint, LinesOnCard, device_replies, mounted_on}
 use Rattle.script_runner.specs.CardRuns.{CardTrace, RunsCard}
 

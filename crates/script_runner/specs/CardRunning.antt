@@ -1,13 +1,12 @@
 -- A run of lines, line after line.
-use Rattle.std.specs.Prelude.{◌≡◌, ◌⊎◌, ◌+◌, ℕ, List, Option, Result, Ok, Err, IsErr}
+use Rattle.std.specs.Prelude.{◌≡◌, ◌+◌, ℕ, List, Option}
 use Rattle.rpmb_card.specs.Port.{PortState}
 use Rattle.card_script.specs.declared.card_line.CardLine.{CardLine}
 use Rattle.card_script.specs.declared.card_line.CardLine.TheVariants.{Remount}
 use Rattle.card_maps.specs.Course as course
 use Rattle.rpmb_files.specs.declared.fault.CardFault.{CardFault}
 use Rattle.rpmb_files.specs.Devices.{Devices, devices}
-use Rattle.rpmb_files.specs.Stores.{StoreState, StoreValue, store_state}
-use Rattle.script_runner.specs.declared.status.Status.{Status}
+use Rattle.rpmb_files.specs.Stores.{StoreState, store_state}
 use Rattle.script_runner.specs.declared.status.Status.TheVariants.{NoMemory}
 use Rattle.script_runner.specs.declared.card_state.CardEnd.{CardEnd}
 use Rattle.script_runner.specs.declared.card_state.CardRun.{CardRun}

@@ -4,7 +4,7 @@ use Rattle.rpmb_card.specs.Port.{PortState}
 use Rattle.tee_ports.specs.Streams.{Appends, TakesFirst}
 use Rattle.card_script.specs.declared.card_line.CardLine.{CardLine}
 use Rattle.card_script.specs.declared.reading.CardScriptFault.{CardScriptFault}
-use Rattle.card_script.specs.declared.reading.CardScriptFault.TheVariants.{BadLine as BadLineFault, NoMemory as NoMemoryFault}
+use Rattle.card_script.specs.declared.reading.CardScriptFault.TheVariants.{BadLine as BadLineFault}
 use Rattle.card_script.specs.CardScripts.{script_of}
 use Rattle.card_maps.specs.Course as course
 use Rattle.rpmb_files.specs.declared.fault.CardFault.{CardFault}

@@ -1,11 +1,10 @@
 -- What the lines of a script do to the store on the card.
-use Rattle.std.specs.Prelude.{◌≡◌, ◌⊎◌, ℕ, List, [], ◌∷◌, ◌++◌, length, true, IsTrue, Option, Some, None}
+use Rattle.std.specs.Prelude.{◌≡◌, ℕ, List, [], ◌∷◌, ◌++◌, IsTrue}
 use Rattle.tee_types.specs.declared.reply.Cause.{Cause}
 use Rattle.rpmb_card.specs.Arms.{arm_stop, no_arms}
 use Rattle.rpmb_card.specs.Port.{PortState, Rearmed}
 use Rattle.card_script.specs.declared.card_line.CardLine.{CardLine}
 use Rattle.card_script.specs.declared.card_line.CardLine.TheVariants.{Put, Get, Remove, List as ListLine, Stop, Remount}
-use Rattle.card_script.specs.declared.card_line.CardReply.{CardReply}
 use Rattle.card_script.specs.declared.card_line.CardReply.TheVariants.{Done}
 use Rattle.card_maps.specs.declared.name.CardName.{CardName}
 use Rattle.card_maps.specs.Course as course

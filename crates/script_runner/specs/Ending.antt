@@ -10,11 +10,11 @@ use Rattle.script_text.specs.Script.{ScriptValue}
 use Rattle.run_acts.specs.Benches.{BenchState}
 use Rattle.run_acts.specs.Opens.{IsOpenRefused, OpensBench}
 use Rattle.script_runner.specs.declared.status.Status.{Status}
-use Rattle.script_runner.specs.declared.status.Status.TheVariants.{DeviceFault, Done, MountRefused, NoMemory, WriteFault}
+use Rattle.script_runner.specs.declared.status.Status.TheVariants.{DeviceFault, Done, MountRefused, NoMemory, OverCommitted, WriteFault}
 use Rattle.script_runner.specs.Text.{Act, Refused, RunRecord, acts_of}
 use Rattle.script_runner.specs.RunRefusals.{IsRefusal, MayWantMemory}
 use Rattle.script_runner.specs.Trace.{IsSilent, OfScript, Trace, applications_of}
-use Rattle.script_runner.specs.Course.{GoesUntil, GoesUntilRefused, GoesUntilCrashed}
+use Rattle.script_runner.specs.Course.{GoesUntil, GoesUntilCrashed, GoesUntilExceeded, GoesUntilRefused}
 use Rattle.script_runner.specs.SavedFiles.{Standing, begins_with}
 
 -- `drew` and `draws`: how many faults the generator of nonces counted before the run and behind it
@@ -38,8 +38,10 @@ module _ {F R : Type 0} (of_file : F → FileState) (of_port : R → PortState) 
   EndsActs drew draws keys applications arms acts records old new WriteFault =
       ((left : List Act) × GoesUntil of_file of_port image Reliable keys applications arms acts records left old new)
       ⊎ ((fault : MountFault) × IsRefusal fault × RecordsRefusal drew draws keys applications arms acts records old new fault)
+      ⊎ ((sum : ℕ) × GoesUntilExceeded of_file of_port image Reliable keys applications arms acts records old new sum)
   EndsActs drew draws keys applications arms acts records old new (MountRefused fault) = RecordsRefusal drew draws keys applications arms acts records old new fault
   EndsActs drew draws keys applications arms acts records old new (DeviceFault fault) = RecordsRefusal drew draws keys applications arms acts records old new fault
+  EndsActs drew draws keys applications arms acts records old new (OverCommitted sum) = GoesUntilExceeded of_file of_port image Reliable keys applications arms acts records old new sum
   EndsActs drew draws keys applications arms acts records old new NoMemory = EndsForMemory drew draws keys applications arms acts records old new
   EndsActs drew draws keys applications arms acts records old new _ = ⊥
 
@@ -80,6 +82,7 @@ module _ {F R : Type 0} (of_file : F → FileState) (of_port : R → PortState) 
   EndsBench drew draws keys t handed given WriteFault = OfScript t.taken (λ script. EndsScript drew draws keys script t.start t.records handed given WriteFault)
   EndsBench drew draws keys t handed given (MountRefused fault) = OfScript t.taken (λ script. EndsScript drew draws keys script t.start t.records handed given (MountRefused fault))
   EndsBench drew draws keys t handed given (DeviceFault fault) = OfScript t.taken (λ script. EndsScript drew draws keys script t.start t.records handed given (DeviceFault fault))
+  EndsBench drew draws keys t handed given (OverCommitted sum) = OfScript t.taken (λ script. EndsScript drew draws keys script t.start t.records handed given (OverCommitted sum))
   EndsBench drew draws keys t handed given NoMemory =
       ((given ≡ handed) × IsSilent t) ⊎ OfScript t.taken (λ script. EndsScript drew draws keys script t.start t.records handed given NoMemory)
   EndsBench drew draws keys t handed given _ = given ≡ handed

@@ -2,7 +2,7 @@
 use Rattle.std.specs.Prelude.{ℕ, List, codes}
 use Rattle.script_runner.specs.declared.status.Status.{Status}
 use Rattle.script_runner.specs.declared.status.Excess.TheVariants.{Bytes, Apps}
-use Rattle.script_runner.specs.declared.status.Status.TheVariants.{Done, Usage, BadLine, ReadFault, WriteFault, TooLong, NoMemory, MountRefused, DeviceFault, FileFault, CardMapRefused}
+use Rattle.script_runner.specs.declared.status.Status.TheVariants.{Done, Usage, BadLine, ReadFault, WriteFault, TooLong, NoMemory, MountRefused, DeviceFault, FileFault, CardMapRefused, OverCommitted}
 
 abbrev pub status_number : Status → ℕ
 status_number Done = 0
@@ -16,6 +16,7 @@ status_number (FileFault fault) = 7
 status_number (CardMapRefused block offset) = 6
 status_number (TooLong excess) = 8
 status_number NoMemory = 9
+status_number (OverCommitted sum) = 10
 
 abbrev pub status_text : Status → List ℕ
 status_text Done = codes ""
@@ -30,3 +31,4 @@ status_text (MountRefused fault) = codes "mount refused"
 status_text (DeviceFault fault) = codes "device fault"
 status_text (FileFault fault) = codes "device fault"
 status_text (CardMapRefused block offset) = codes "mount refused"
+status_text (OverCommitted sum) = codes "quotas exceed 256 objects"

@@ -12,7 +12,7 @@ use Rattle.script_text.specs.declared.script.Mode.TheVariants.{Serial}
 use Rattle.script_text.specs.Grammar.{script_of}
 use Rattle.script_text.specs.Script.{ScriptValue}
 use Rattle.store_model.specs.ReplayState.{ReplayState}
-use Rattle.object_calls.specs.OpeningFiles.{no_file}
+use Rattle.run_acts.specs.OpeningFiles.{no_file}
 use Rattle.run_acts.specs.Benches.{BenchState}
 use Rattle.run_acts.specs.declared.MountFault.{MountFault}
 use Rattle.run_acts.specs.declared.MountFault.TheVariants.{NoMemory}

@@ -1,10 +1,13 @@
+pub mod RefusedLines
 pub mod Text
 pub mod RunRefusals
 pub mod Trace
 pub mod SavedFiles
 pub mod Course
+pub mod EachPhase
 pub mod RecordLaws
 pub mod QuietLaws
+pub mod QuotaRuns
 pub mod RunLaws
 pub mod RunBenches
 pub mod CountLaws

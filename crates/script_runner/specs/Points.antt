@@ -2,6 +2,7 @@
 use Rattle.std.specs.Prelude.{ℕ, ◌+◌, List, [], ◌∷◌, ◌++◌, drop, Option}
 use Rattle.disk_model.specs.State.{FileState}
 use Rattle.rpmb_card.specs.Port.{PortState}
+use Rattle.app_quota.specs.declared.quotas.Quota.{Quota}
 use Rattle.script_text.specs.declared.script.Arm.{Arm}
 use Rattle.script_text.specs.declared.script.Control.TheVariants.{Arm as ArmControl}
 use Rattle.script_text.specs.declared.script.Mode.{Mode}
@@ -18,8 +19,9 @@ pub record Point : Type 0 where
   pub held : Option (List ℕ)
   pub kept : List ℕ
   pub bench : BenchState
-  -- what was saved of its files
+  -- what was saved of its files, and the quotas of the phases to come
   pub saved : Saved
+  pub quotas : List Quota
   -- the steps that are still to be done
   pub steps : List Step
   -- the arms that wait, and the number and the mode of the next phase
@@ -33,18 +35,19 @@ point_of of_file of_port script held run = record {
   kept = run.kept.items;
   bench = bench_state of_file of_port run.bench;
   saved = saved_of run.saved;
+  quotas = run.quotas.items;
   steps = drop run.at script.steps;
   arms = run.arms.items;
   number = run.number;
   mode = run.mode;
 }
 
--- the bench, and what was saved of its files
+-- the bench, what was saved of its files, and the quotas
 abbrev pub standing_at : Point → Standing
-standing_at p = record { bench = p.bench; saved = p.saved }
+standing_at p = record { bench = p.bench; saved = p.saved; quotas = p.quotas }
 
 abbrev pub standing_of : {F R : Type 0} → (F → FileState) → (R → PortState) → Run F R → Standing
-standing_of of_file of_port run = record { bench = bench_state of_file of_port run.bench; saved = saved_of run.saved }
+standing_of of_file of_port run = record { bench = bench_state of_file of_port run.bench; saved = saved_of run.saved; quotas = run.quotas.items }
 
 -- the arms that wait behind these acts
 abbrev pub arms_behind : List Arm → List Act → List Arm

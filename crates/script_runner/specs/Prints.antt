@@ -4,7 +4,7 @@ use Rattle.run_acts.specs.declared.MountFault.{MountFault}
 use Rattle.tee_ports.specs.Streams.{Appends}
 use Rattle.run_acts.specs.Lines.{refusal_line}
 use Rattle.script_runner.specs.declared.status.Status.{Status}
-use Rattle.script_runner.specs.declared.status.Status.TheVariants.{DeviceFault, Done, MountRefused, NoMemory, WriteFault}
+use Rattle.script_runner.specs.declared.status.Status.TheVariants.{DeviceFault, Done, MountRefused, NoMemory, OverCommitted, WriteFault}
 use Rattle.script_runner.specs.Sending.{IsWriteError, Sends, Stops}
 use Rattle.script_runner.specs.declared.run_state.Run.{Run}
 use Rattle.script_runner.specs.declared.run_state.RunEnd.{RunEnd}
@@ -16,6 +16,7 @@ HasActCause failed put text Done = put ≡ text
 HasActCause failed put text WriteFault = failed
 HasActCause failed put text (MountRefused fault) = IsRefusal fault × (put ≡ text)
 HasActCause failed put text (DeviceFault fault) = IsDeviceFault fault × ((put ≡ text) ⊎ failed)
+HasActCause failed put text (OverCommitted sum) = put ≡ text
 HasActCause failed put text NoMemory = Unit {0}
 HasActCause failed put text _ = ⊥
 
@@ -34,11 +35,18 @@ PrintsLines failed held_old held_new lines Done = Appends held_old held_new line
 PrintsLines failed held_old held_new lines WriteFault = failed × Stops held_old held_new lines []
 PrintsLines failed held_old held_new lines _ = ⊥
 
+-- The text so far was put, or the sink would not take it: the quotas of the next phase commit so many objects.
+abbrev pub PrintsExcess : (failed : Type 0) → (held_old held_new : Option (List ℕ)) → (kept : List ℕ) → (sum : ℕ) → Status → Type 0
+PrintsExcess failed held_old held_new kept sum (OverCommitted told) = (told ≡ sum) × Appends held_old held_new kept
+PrintsExcess failed held_old held_new kept sum WriteFault = failed × Stops held_old held_new kept []
+PrintsExcess failed held_old held_new kept sum _ = ⊥
+
 -- The text of an act went behind what was kept, and nothing else changed.
 pub record IsSent {F R : Type 0} (held_old held_new : Option (List ℕ)) (text : List ℕ) (run next : Run F R) : Type 0 where
   pub sends : Sends held_old held_new run.kept.items next.kept.items text
   pub bench : next.bench ≡ run.bench
   pub saved : next.saved ≡ run.saved
+  pub quotas : next.quotas ≡ run.quotas
   pub arms : next.arms ≡ run.arms
   pub number : next.number ≡ run.number
   pub mode : next.mode ≡ run.mode

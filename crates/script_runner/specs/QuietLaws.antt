@@ -1,17 +1,18 @@
 -- A run on devices that do not fail.
-use Rattle.std.specs.Prelude.{ℕ, List, [], ◌∷◌, ◌++◌}
+use Rattle.std.specs.Prelude.{ℕ, List, [], ◌∷◌}
 use Rattle.disk_model.specs.State.{FileState}
 use Rattle.hmac_keys.specs.declared.Keys.{Keys}
 use Rattle.rpmb_card.specs.Port.{PortState}
 use Rattle.script_text.specs.declared.script.Arm.{Arm}
-use Rattle.script_text.specs.declared.script.Control.TheVariants.{Arm as ArmControl, Crash, Flip, List as ListControl, Mode as ModeControl, Phase, Restore, Save}
+use Rattle.script_text.specs.declared.script.Control.TheVariants.{Arm as ArmControl}
 use Rattle.run_acts.specs.Benches.{BenchState}
 use Rattle.run_acts.specs.Opens.{OpensBench}
 use Rattle.run_acts.specs.Quiet.{IsPhaseOfMachine, IsQuiet}
 use Rattle.run_acts.specs.Untainted.{AreUntainted}
-use Rattle.script_runner.specs.Text.{Act, Controlled, Do, Listed, Ran, RunRecord, Serve}
+use Rattle.script_runner.specs.EachPhase.{EachPhase}
+use Rattle.script_runner.specs.Text.{Act, Do, RunRecord}
 use Rattle.script_runner.specs.Course.{Goes}
-use Rattle.script_runner.specs.SavedFiles.{Standing, begins_with, saves_files, with_bench}
+use Rattle.script_runner.specs.SavedFiles.{Standing, begins_with}
 
 -- none of these acts arms a fault
 abbrev pub ArmNothing : List Act → Type 0
@@ -23,24 +24,8 @@ module _ {F R : Type 0} (of_file : F → FileState) (of_port : R → PortState) 
   -- each phase of these acts is the machine's
   abbrev pub PhasesAreOfMachine : (keys : Keys) (applications : List (List ℕ)) (arms : List Arm) (acts : List Act) (records : List RunRecord) (old new : Standing)
       → Goes of_file of_port image Reliable keys applications arms acts records old new → Type 0
-  PhasesAreOfMachine keys applications arms [] [] old new goes = Unit {0}
-  PhasesAreOfMachine keys applications arms (Serve mode calls ∷ acts) (Ran phase ∷ records) old new goes =
-      IsPhaseOfMachine of_file of_port Reliable keys applications arms mode calls old.bench goes.0 phase.opening phase.events goes.1
-      × PhasesAreOfMachine keys applications [] acts records (with_bench old goes.0) new goes.2
-  PhasesAreOfMachine keys applications arms (Do (ModeControl mode) ∷ acts) (Controlled ∷ records) old new goes = PhasesAreOfMachine keys applications arms acts records old new goes
-  PhasesAreOfMachine keys applications arms (Do Phase ∷ acts) (Controlled ∷ records) old new goes = PhasesAreOfMachine keys applications arms acts records old new goes
-  PhasesAreOfMachine keys applications arms (Do (ArmControl arm) ∷ acts) (Controlled ∷ records) old new goes =
-      PhasesAreOfMachine keys applications (arms ++ arm ∷ []) acts records old new goes
-  PhasesAreOfMachine keys applications arms (Do (Crash seed) ∷ acts) (Controlled ∷ records) old new goes =
-      PhasesAreOfMachine keys applications arms acts records (with_bench old goes.0) new goes.2
-  PhasesAreOfMachine keys applications arms (Do (Save mark) ∷ acts) (Controlled ∷ records) old new goes = PhasesAreOfMachine keys applications arms acts records (saves_files mark old) new goes
-  PhasesAreOfMachine keys applications arms (Do (Restore file mark) ∷ acts) (Controlled ∷ records) old new goes =
-      PhasesAreOfMachine keys applications arms acts records (with_bench old goes.0) new goes.2
-  PhasesAreOfMachine keys applications arms (Do (Flip file at mask) ∷ acts) (Controlled ∷ records) old new goes =
-      PhasesAreOfMachine keys applications arms acts records (with_bench old goes.0) new goes.2
-  PhasesAreOfMachine keys applications arms (Do ListControl ∷ acts) (Listed objects ∷ records) old new goes =
-      PhasesAreOfMachine keys applications arms acts records (with_bench old goes.0) new goes.2
-  PhasesAreOfMachine keys applications arms acts records old new goes = ⊥
+  PhasesAreOfMachine keys applications = EachPhase of_file of_port image Reliable keys applications
+      (λ quotas arms mode calls old new phase r. IsPhaseOfMachine of_file of_port Reliable keys applications quotas arms mode calls old new phase.opening phase.events phase.refused r)
 
   -- Over a quiet bench of which no file is tainted, with a generator that never fails, each phase of acts that arm nothing is the machine's, and
   -- the bench is quiet behind them; files may be put back and struck between the phases.

@@ -68,4 +68,4 @@ module _ {F R : Type 0} (of_file : F → FileState) (of_port : R → PortState) 
   RefusalsAreOfDevices =
       (drew draws : ℕ) (keys : Keys) (applications : List (List ℕ)) (arms : List Arm) (acts left : List Act) (records : List RunRecord) (old between : Standing) (new : BenchState) (s : ReplayState) (fault : MountFault)
       → ArmNoMask arms → AlterNothing acts → Goes of_file of_port image Reliable keys applications arms acts records old between → HoldsUntainted keys old.bench s
-      → RefusesFirst of_file of_port image Reliable drew draws keys applications (arms_behind arms acts) left between.bench new fault → IsOfDevice fault
+      → RefusesFirst of_file of_port image Reliable drew draws keys applications (arms_behind arms acts) left between new fault → IsOfDevice fault

@@ -6,13 +6,13 @@ use Rattle.hmac_keys.specs.declared.Keys.{Keys}
 use Rattle.rpmb_card.specs.Port.{PortState}
 use Rattle.run_acts.specs.declared.MountFault.{MountFault}
 use Rattle.script_text.specs.declared.script.Arm.{Arm}
-use Rattle.script_text.specs.declared.script.Control.TheVariants.{Arm as ArmControl, Crash, Flip, List as ListControl, Mode as ModeControl, Phase, Restore, Save}
+use Rattle.script_text.specs.declared.script.Control.TheVariants.{Arm as ArmControl, Crash, Flip, List as ListControl, Mode as ModeControl, Phase, Quota as QuotaControl, Restore, Save}
 use Rattle.script_text.specs.declared.script.Mode.TheVariants.{Serial}
 use Rattle.run_acts.specs.Benches.{BenchState}
 use Rattle.script_runner.specs.declared.status.Status.{Status}
-use Rattle.script_runner.specs.declared.status.Status.TheVariants.{DeviceFault, Done, MountRefused, NoMemory, WriteFault}
-use Rattle.script_runner.specs.Course.{Goes, GoesUntil, GoesUntilCrashed}
-use Rattle.script_runner.specs.SavedFiles.{Standing, begins_with, saves_files, with_bench}
+use Rattle.script_runner.specs.declared.status.Status.TheVariants.{DeviceFault, Done, MountRefused, NoMemory, OverCommitted, WriteFault}
+use Rattle.script_runner.specs.Course.{Goes, GoesUntil, GoesUntilCrashed, GoesUntilExceeded}
+use Rattle.script_runner.specs.SavedFiles.{Standing, begins_with, quota_for, saves_files, sets_quota, with_bench}
 use Rattle.script_runner.specs.Ending.{EndsActs, EndsBench, EndsForMemory, EndsRun, RecordsRefusal}
 use Rattle.script_runner.specs.Text.{Act, Controlled, Do, Listed, Ran, RunRecord, Serve, acts_of}
 use Rattle.script_runner.specs.Trace.{Trace, applications_of}
@@ -40,6 +40,8 @@ module _ {F R : Type 0} (of_file : F → FileState) (of_port : R → PortState) 
       P before told old.bench × HoldsAlong (before ++ Do (Crash seed) ∷ []) (told ++ Controlled ∷ []) applications arms acts records (with_bench old goes.0) new goes.2
   HoldsAlong before told applications arms (Do (Save mark) ∷ acts) (Controlled ∷ records) old new goes =
       P before told old.bench × HoldsAlong (before ++ Do (Save mark) ∷ []) (told ++ Controlled ∷ []) applications arms acts records (saves_files mark old) new goes
+  HoldsAlong before told applications arms (Do (QuotaControl app objects bytes) ∷ acts) (Controlled ∷ records) old new goes =
+      P before told old.bench × HoldsAlong (before ++ Do (QuotaControl app objects bytes) ∷ []) (told ++ Controlled ∷ []) applications arms acts records (sets_quota (quota_for app objects bytes) old) new goes
   HoldsAlong before told applications arms (Do (Restore file mark) ∷ acts) (Controlled ∷ records) old new goes =
       P before told old.bench × HoldsAlong (before ++ Do (Restore file mark) ∷ []) (told ++ Controlled ∷ []) applications arms acts records (with_bench old goes.0) new goes.2
   HoldsAlong before told applications arms (Do (Flip file at mask) ∷ acts) (Controlled ∷ records) old new goes =
@@ -51,17 +53,22 @@ module _ {F R : Type 0} (of_file : F → FileState) (of_port : R → PortState) 
   module _ (applications : List (List ℕ)) (arms : List Arm) (acts : List Act) (records : List RunRecord) (old : Standing) (new : BenchState) where
     -- so of acts behind which others are left
     abbrev pub HoldsUntil : (left : List Act) → GoesUntil of_file of_port image Reliable keys applications arms acts records left old new → Type 0
-    HoldsUntil left g = HoldsAlong [] [] applications arms g.done records old (record { bench = new; saved = g.saved }) g.goes
+    HoldsUntil left g = HoldsAlong [] [] applications arms g.done records old (with_bench g.there new) g.goes
 
     -- and of the one that was refused
     abbrev pub HoldsRefused : (drew draws : ℕ) (fault : MountFault) → RecordsRefusal of_file of_port image Reliable drew draws keys applications arms acts records old new fault → Type 0
     HoldsRefused drew draws fault (front, is, g) =
-        HoldsAlong [] [] applications arms (g.goes).done front old (record { bench = g.between; saved = (g.goes).saved }) (g.goes).goes × P ((g.goes).done ++ next_act g.left) records new
+        HoldsAlong [] [] applications arms (g.goes).done front old (with_bench (g.goes).there g.between) (g.goes).goes × P ((g.goes).done ++ next_act g.left) records new
 
     -- and of a crash in which memory ran out
     abbrev pub HoldsCrashed : GoesUntilCrashed of_file of_port image Reliable keys applications arms acts records old new → Type 0
     HoldsCrashed g =
-        HoldsAlong [] [] applications arms (g.goes).done records old (record { bench = g.between; saved = (g.goes).saved }) (g.goes).goes × P ((g.goes).done ++ Do (Crash g.seed) ∷ []) records new
+        HoldsAlong [] [] applications arms (g.goes).done records old (with_bench (g.goes).there g.between) (g.goes).goes × P ((g.goes).done ++ Do (Crash g.seed) ∷ []) records new
+
+    -- and of a phase whose quotas are over-committed
+    abbrev pub HoldsExceeded : (sum : ℕ) → GoesUntilExceeded of_file of_port image Reliable keys applications arms acts records old new sum → Type 0
+    HoldsExceeded sum g =
+        HoldsAlong [] [] applications arms (g.goes).done records old (with_bench (g.goes).there g.between) (g.goes).goes × P ((g.goes).done ++ Serve g.mode g.calls ∷ []) records new
 
     abbrev pub HoldsStarved : (drew draws : ℕ) → EndsForMemory of_file of_port image Reliable drew draws keys applications arms acts records old new → Type 0
     HoldsStarved drew draws (inl (left, g)) = HoldsUntil left g
@@ -71,9 +78,11 @@ module _ {F R : Type 0} (of_file : F → FileState) (of_port : R → PortState) 
     abbrev pub HoldsOfActs : (drew draws : ℕ) (status : Status) → EndsActs of_file of_port image Reliable drew draws keys applications arms acts records old new status → Type 0
     HoldsOfActs drew draws Done g = HoldsUntil [] g
     HoldsOfActs drew draws WriteFault (inl (left, g)) = HoldsUntil left g
-    HoldsOfActs drew draws WriteFault (inr (fault, refusal, r)) = HoldsRefused drew draws fault r
+    HoldsOfActs drew draws WriteFault (inr (inl (fault, refusal, r))) = HoldsRefused drew draws fault r
+    HoldsOfActs drew draws WriteFault (inr (inr (sum, g))) = HoldsExceeded sum g
     HoldsOfActs drew draws (MountRefused fault) r = HoldsRefused drew draws fault r
     HoldsOfActs drew draws (DeviceFault fault) r = HoldsRefused drew draws fault r
+    HoldsOfActs drew draws (OverCommitted sum) g = HoldsExceeded sum g
     HoldsOfActs drew draws NoMemory ends = HoldsStarved drew draws ends
     HoldsOfActs drew draws _ ends = Unit {0}
 
@@ -91,6 +100,8 @@ module _ {F R : Type 0} (of_file : F → FileState) (of_port : R → PortState) 
       HoldsOfRun (applications_of script) (acts_of Serial script.steps) drew draws t handed given (MountRefused fault) ends
   HoldsOfSource drew draws t handed given (DeviceFault fault) (script, read, ends) =
       HoldsOfRun (applications_of script) (acts_of Serial script.steps) drew draws t handed given (DeviceFault fault) ends
+  HoldsOfSource drew draws t handed given (OverCommitted sum) (script, read, ends) =
+      HoldsOfRun (applications_of script) (acts_of Serial script.steps) drew draws t handed given (OverCommitted sum) ends
   HoldsOfSource drew draws t handed given NoMemory (inl (same, silent)) = P [] [] given
   HoldsOfSource drew draws t handed given NoMemory (inr (script, read, ends)) = HoldsOfRun (applications_of script) (acts_of Serial script.steps) drew draws t handed given NoMemory ends
   HoldsOfSource drew draws t handed given _ ends = P [] [] given

@@ -4,7 +4,7 @@ use Rattle.script_text.specs.declared.reading.ScriptFault.TheVariants.{BadLine a
 use Rattle.script_text.specs.Script.{ScriptValue}
 use Rattle.script_text.specs.Grammar.{script_of}
 use Rattle.script_runner.specs.declared.status.Status.{Status}
-use Rattle.script_runner.specs.declared.status.Status.TheVariants.{BadLine, CardMapRefused, DeviceFault, Done, FileFault, MountRefused, NoMemory, ReadFault, TooLong, Usage, WriteFault}
+use Rattle.script_runner.specs.declared.status.Status.TheVariants.{BadLine, CardMapRefused, DeviceFault, Done, FileFault, MountRefused, NoMemory, OverCommitted, ReadFault, TooLong, Usage, WriteFault}
 use Rattle.script_runner.specs.declared.status.Excess.TheVariants.{Bytes, Apps}
 use Rattle.script_runner.specs.RunRefusals.{IsDeviceFault, IsRefusal}
 use Rattle.script_runner.specs.Trace.{IsSilent, IsTraceOf, IsWholeTextOf, OfScript, Trace}
@@ -39,6 +39,7 @@ HasCause w t (TooLong Bytes) = (length t.taken ≡ 16777217) × IsSilent t
 HasCause w t (TooLong (Apps n)) = WasRead w t × (script_of t.taken ≡ Err (TooManyApps n)) × IsSilent t
 HasCause w t (MountRefused fault) = WasRead w t × IsRefusal fault × OfScript t.taken (IsWholeTextOf t)
 HasCause w t (DeviceFault fault) = WasRead w t × IsDeviceFault fault × OfScript t.taken (WasPrinted w t)
+HasCause w t (OverCommitted sum) = WasRead w t × OfScript t.taken (IsWholeTextOf t)
 HasCause w t NoMemory = Unit {0}
 HasCause w t (FileFault fault) = ⊥
 HasCause w t (CardMapRefused block offset) = ⊥
@@ -57,10 +58,11 @@ pub record IsRun (left_old left_new held_old held_new : Option (List ℕ)) (w : 
   pub cause : HasCause w t status
   pub exact : IsExact w t status
 
--- The script was run: to its end, or until a mount was refused or failed, or memory ran out.
+-- The script was run: to its end, or until a mount was refused or failed, quotas were over-committed, or memory ran out.
 abbrev pub RunsItsScript : Status → Type 0
 RunsItsScript Done = Unit {0}
 RunsItsScript NoMemory = Unit {0}
 RunsItsScript (MountRefused fault) = Unit {0}
 RunsItsScript (DeviceFault fault) = Unit {0}
+RunsItsScript (OverCommitted sum) = Unit {0}
 RunsItsScript _ = ⊥

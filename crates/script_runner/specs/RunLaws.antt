@@ -13,7 +13,7 @@ use Rattle.run_acts.specs.declared.MountFault.{MountFault}
 use Rattle.run_acts.specs.MountingLaws.{IsOfDevice}
 use Rattle.run_acts.specs.Quiet.{IsQuiet}
 use Rattle.script_runner.specs.declared.status.Status.{Status}
-use Rattle.script_runner.specs.declared.status.Status.TheVariants.{Done, MountRefused, NoMemory}
+use Rattle.script_runner.specs.declared.status.Status.TheVariants.{Done, MountRefused, NoMemory, OverCommitted}
 use Rattle.script_runner.specs.QuietLaws.{ArmNothing}
 use Rattle.script_runner.specs.RecordLaws.{AlterNothing, FindLeft, HoldsUntainted, left_behind}
 use Rattle.script_runner.specs.RunCauses.{RunsItsScript, World}
@@ -65,11 +65,12 @@ module _ {F R : Type 0} (of_file : F → FileState) (of_port : R → PortState) 
       → (r : RunsSource of_file of_port image Reliable left_old left_new held_old held_new w drew draws keys handed given status) → HoldsUntainted keys handed s → script_of (r.0).taken ≡ Ok script
       → AlterNothing (acts_of Serial script.steps) → StandsBehind keys (applications_of script) s (r.0).start (r.0).records given status
 
-  -- A script that is run, and arms and alters nothing, is done or wants memory: its bench was quiet and was opened, and no draw fails.
+  -- A script that is run, and arms and alters nothing, is done or wants memory, unless its quotas are over-committed: its bench was quiet and was
+  -- opened, and no draw fails.
   abbrev pub QuietRunsEnd : Type 0
   QuietRunsEnd =
       (left_old left_new held_old held_new : Option (List ℕ)) (drew draws : ℕ) (keys : Keys) (handed given : BenchState) (status : Status) (s : ReplayState) (script : ScriptValue)
       → (r : RunsSource of_file of_port image Reliable left_old left_new held_old held_new w drew draws keys handed given status) → HoldsUntainted keys handed s → script_of (r.0).taken ≡ Ok script
       → (r.0).start ≡ None → IsQuiet keys handed → Reliable → (Rose drew draws → ⊥) → ArmNothing (acts_of Serial script.steps)
       → AlterNothing (acts_of Serial script.steps)
-      → RunsItsScript status → IsDoneOrStarved status
+      → RunsItsScript status → ((sum : ℕ) → status ≡ OverCommitted sum → ⊥) → IsDoneOrStarved status

@@ -1,8 +1,9 @@
--- What a run keeps of the files under marks.
-use Rattle.std.specs.Prelude.{◌≡◌, ℕ, nat_lt, if◌then◌else◌, List, Option, Some, None, option_and_then, slice_get}
+-- What a run keeps between two acts: its bench, what was saved of the files under marks, and its quotas.
+use Rattle.std.specs.Prelude.{◌≡◌, ℕ, nat_lt, if◌then◌else◌, List, [], ◌∷◌, ◌++◌, Option, Some, None, option_and_then, slice_get}
 use Rattle.std.specs.Map.{lookup}
 use Rattle.std.proofs.Common.{Vec, Global}
 use Rattle.disk_model.specs.State.{FileState}
+use Rattle.app_quota.specs.declared.quotas.Quota.{Quota}
 use Rattle.tee_types.specs.Limits.{file_count}
 use Rattle.tee_types.specs.declared.reply.Device.{Device}
 use Rattle.script_text.specs.Words.{same_word}
@@ -32,21 +33,29 @@ reads_saved files file = if nat_lt file file_count then Some (files file).reads 
 abbrev pub with_saved : Saved → (mark : List ℕ) → (ℕ → Option (List ℕ)) → Saved
 with_saved saved mark images other file = if same_word other mark then images file else saved other file
 
--- a run between two acts: the bench, and what was kept of its files
+-- a run between two acts: the bench, what was kept of its files, and the quotas of the phases to come
 pub record Standing : Type 0 where
   pub bench : BenchState
   pub saved : Saved
+  pub quotas : List Quota
 
 abbrev pub with_bench : Standing → BenchState → Standing
 with_bench s bench = record s { bench = bench }
 
--- nothing was kept yet
+-- nothing was kept yet, and no quota was set
 abbrev pub begins_with : BenchState → Standing
-begins_with bench = record { bench = bench; saved = nothing_saved }
+begins_with bench = record { bench = bench; saved = nothing_saved; quotas = [] }
 
 -- the files were saved under that mark
 abbrev pub saves_files : (mark : List ℕ) → Standing → Standing
 saves_files mark s = record s { saved = with_saved s.saved mark (reads_saved (s.bench).files) }
+
+-- an application has a quota more: its last one counts
+abbrev pub quota_for : (app : List ℕ) → (objects bytes : ℕ) → Quota
+quota_for app objects bytes = record { app = app; objects = objects; bytes = bytes }
+
+abbrev pub sets_quota : Quota → Standing → Standing
+sets_quota quota s = record s { quotas = s.quotas ++ quota ∷ [] }
 
 -- These bytes were put back; where none are kept, nothing was done.
 abbrev pub PutsBack : (file : ℕ) → Option (List ℕ) → (old new : BenchState) → Type 0

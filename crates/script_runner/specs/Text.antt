@@ -12,11 +12,14 @@ use Rattle.script_text.specs.declared.script.Step.TheVariants.{Call as CallStep,
 use Rattle.script_text.specs.Script.{ScriptValue}
 use Rattle.script_text.specs.Text.{control_line, events_text, phase_line}
 use Rattle.run_acts.specs.Lines.{objects_text, refusal_line}
+use Rattle.run_acts.specs.declared.refused_call.RefusedCall.{RefusedCall}
+use Rattle.script_runner.specs.RefusedLines.{refused_lines}
 
--- what was recorded of a phase that was run: the objects as it opened, and its history
+-- what was recorded of a phase that was run: the objects as it opened, its history, and the calls that were refused under quotas
 pub record PhaseRecord : Type 0 where
   pub opening : ObjectMap
   pub events : List Event
+  pub refused : List RefusedCall
 
 -- What was recorded of an act: a phase that was run, a list that was done with the objects that it shows, another control that was done, or
 -- why a mount was refused.
@@ -26,8 +29,8 @@ pub data RunRecord : Type 0 where
   Controlled : RunRecord
   Refused : MountFault → RunRecord
 
-abbrev pub phase_text : ScriptValue → ℕ → Mode → PhaseRecord → List ℕ
-phase_text script number mode phase = phase_line number mode (length phase.opening) ++ events_text script 0 phase.events
+abbrev pub phase_text : ScriptValue → ℕ → Mode → List Step → PhaseRecord → List ℕ
+phase_text script number mode calls phase = phase_line number mode (length phase.opening) ++ events_text script 0 phase.events ++ refused_lines script calls phase.refused
 
 -- what a run of a script does: it serves the calls of a phase in its mode, or does a control
 pub data Act : Type 0 where
@@ -55,7 +58,7 @@ acts_of mode steps = acts_from mode [] steps
 abbrev pub acts_text : ScriptValue → ℕ → List Act → List RunRecord → List ℕ
 acts_text script number [] records = []
 acts_text script number (act ∷ acts) [] = []
-acts_text script number (Serve mode calls ∷ acts) (Ran phase ∷ records) = phase_text script number mode phase ++ acts_text script (number + 1) acts records
+acts_text script number (Serve mode calls ∷ acts) (Ran phase ∷ records) = phase_text script number mode calls phase ++ acts_text script (number + 1) acts records
 acts_text script number (Serve mode calls ∷ acts) (Refused fault ∷ records) = refusal_line fault
 acts_text script number (Serve mode calls ∷ acts) _ = []
 acts_text script number (Do ListControl ∷ acts) (Listed objects ∷ records) = control_line ListControl ++ objects_text objects ++ acts_text script number acts records

@@ -5,11 +5,13 @@ ghost use Rattle.script_text.specs.declared.script.Control.TheVariants.{List as 
 ghost use Rattle.tee_ports.specs.Faults.{Rose};
 ghost use Rattle.script_text.specs.Text.{control_line, events_text, phase_line};
 ghost use Rattle.script_runner.specs.Sending.{IsWriteError, Sends, Stops};
-ghost use Rattle.script_runner.specs.Prints.{IsCutOff, IsSent, PrintsLines};
+ghost use Rattle.script_runner.specs.Prints.{IsCutOff, IsSent, PrintsExcess, PrintsLines};
+ghost use Rattle.script_runner.specs.RefusedLines.{refused_lines};
 
 use crate::run_state::{Run, RunEnd};
 use crate::{Status, flush, send_control, send_lines, send_phase};
-use script_text::{Control, Mode, Script};
+use run_acts::RefusedCall;
+use script_text::{Control, Mode, Script, Step};
 use store_model::History;
 use tee_ports::Sink;
 
@@ -66,23 +68,35 @@ pub(crate) fn print_list<K: Sink, F: Drop, R: Drop>(
     }
 }
 
-/// Sends the text of a phase of that number and mode, which opened with so many objects and has this history.
+/// Sends the text of a phase of that number and mode, which opened with so many objects and has this history, some of its calls being refused.
 pub(crate) fn print_phase_act<K: Sink, F: Drop, R: Drop>(
     script: &Script,
     number: u64,
     mode: Mode,
     objects: u16,
     history: &History,
+    calls: &[Step],
+    refused: &[RefusedCall],
     run: Run<F, R>,
     sink: &mut K,
 ) -> Result<Run<F, R>, RunEnd<F, R>>
-    ensures ok { IfOk result (IsSent (K.held sink.old) (K.held sink.new) (phase_line number mode objects ++ events_text script.now 0 history.now.events) run) }
+    ensures ok { IfOk result (IsSent (K.held sink.old) (K.held sink.new) (phase_line number mode objects ++ events_text script.now 0 history.now.events ++ refused_lines script.now calls.now refused.now) run) }
     ensures err { IfErr result (IsCutOff (Rose (K.faults sink.old) (K.faults sink.new) ⊎ K.is_full sink.new) (K.held sink.old) (K.held sink.new)
-        (phase_line number mode objects ++ events_text script.now 0 history.now.events) run) }
+        (phase_line number mode objects ++ events_text script.now 0 history.now.events ++ refused_lines script.now calls.now refused.now) run) }
     ensures counted { K.faults sink.old ≤ K.faults sink.new }
 {
     let mut run = run;
-    match send_phase(script, number, mode, objects, history, sink, &mut run.kept) {
+    match send_phase(
+        script,
+        number,
+        mode,
+        objects,
+        history,
+        calls,
+        refused,
+        sink,
+        &mut run.kept,
+    ) {
         Ok(()) => Ok(run),
         Err(status) => Err(RunEnd {
             status,
@@ -99,6 +113,18 @@ pub(crate) fn print_last_lines<K: Sink>(lines: Vec<u8>, sink: &mut K) -> Status
     let mut kept = lines;
     match flush(sink, &mut kept, 0) {
         Ok(()) => Status::Done,
+        Err(status) => status,
+    }
+}
+
+/// Puts the text so far, where the quotas of the next phase commit so many objects, and says how the run ends.
+pub(crate) fn print_excess<K: Sink>(sum: u32, sink: &mut K, lines: Vec<u8>) -> Status
+    ensures prints { PrintsExcess (Rose (K.faults sink.old) (K.faults sink.new) ⊎ K.is_full sink.new) (K.held sink.old) (K.held sink.new) lines.items sum result }
+    ensures counted { K.faults sink.old ≤ K.faults sink.new }
+{
+    let mut kept = lines;
+    match flush(sink, &mut kept, 0) {
+        Ok(()) => Status::OverCommitted(sum),
         Err(status) => status,
     }
 }

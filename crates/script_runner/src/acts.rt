@@ -130,6 +130,7 @@ pub(crate) fn run_script<
             let run = Run {
                 bench,
                 saved: SavedFiles::new(alloc),
+                quotas: Vec::new(alloc),
                 arms: Vec::new(alloc),
                 number: 0,
                 mode: Mode::Serial,

@@ -12,7 +12,7 @@ ghost use Rattle.run_acts.specs.Benches.{bench_state};
 ghost use Rattle.run_acts.specs.Crashes.{Crashes, CrashesInPart};
 ghost use Rattle.script_runner.specs.RunReady.{IsNext, IsReady, IsSound};
 ghost use Rattle.script_runner.specs.Running.{EndsAt, GoesOn};
-ghost use Rattle.script_runner.specs.SavedFiles.{PutsBack, reads_saved, saved_of, with_saved};
+ghost use Rattle.script_runner.specs.SavedFiles.{PutsBack, quota_for, reads_saved, saved_of, with_saved};
 
 use crate::Status;
 use crate::act_text::{print_control_act, print_list};
@@ -22,13 +22,13 @@ use crate::saved_files::SavedFiles;
 use hmac_keys::Keys;
 use rpmb_card::CardRig;
 use run_acts::{
-    Bench, Halted, Listing, crash_files, file_number, flip_file, list_objects, restore_file,
+    Bench, Halted, Listing, Quota, crash_files, file_number, flip_file, list_objects, restore_file,
     save_files,
 };
 use script_text::{Arm, Control, Script};
 use std::alloc::Global;
 use tee_ports::{Entropy, FileRig, Sink};
-use tee_types::{Bytes, Device, NoMemory};
+use tee_types::{AppId, Bytes, Device, NoMemory};
 
 /// Puts an equal arm behind those that wait.
 fn push_arm(alloc: Global, arm: &Arm, arms: &mut Vec<Arm>) -> Result<(), NoMemory>
@@ -50,6 +50,32 @@ fn await_arm<F: Drop, R: Drop>(
 {
     let mut run = run;
     match push_arm(alloc, arm, &mut run.arms) {
+        Ok(()) => Ok(run),
+        Err(_) => Err(RunEnd {
+            status: Status::NoMemory,
+            bench: run.bench,
+        }),
+    }
+}
+
+/// Sets a quota for all phases to come.
+fn set_quota<F: Drop, R: Drop>(
+    app: AppId,
+    objects: u16,
+    bytes: u32,
+    run: Run<F, R>,
+) -> Result<Run<F, R>, RunEnd<F, R>>
+    ensures sets { IfOk result (λ next. next ≡ record run { quotas = next.quotas }) }
+    ensures quotas { IfOk result (λ next. next.quotas.items ≡ run.quotas.items ++ quota_for app objects bytes ∷ []) }
+    ensures err { IfErr result (λ end. end ≡ record { status = Status.NoMemory; bench = run.bench }) }
+{
+    let mut run = run;
+    let quota = Quota {
+        app,
+        objects,
+        bytes: u64::from(bytes),
+    };
+    match run.quotas.push(quota) {
         Ok(()) => Ok(run),
         Err(_) => Err(RunEnd {
             status: Status::NoMemory,
@@ -199,6 +225,7 @@ fn do_list<K: Sink, F: FileRig + Drop, R: CardRig + Drop, E: Entropy + Drop>(
     let Run {
         bench,
         saved,
+        quotas,
         arms,
         number,
         mode,
@@ -210,6 +237,7 @@ fn do_list<K: Sink, F: FileRig + Drop, R: CardRig + Drop, E: Entropy + Drop>(
             let run = Run {
                 bench,
                 saved,
+                quotas,
                 arms,
                 number,
                 mode,
@@ -293,6 +321,18 @@ pub(crate) fn do_control<K: Sink, F: FileRig + Drop, R: CardRig + Drop, E: Entro
             run.at += 1;
             print_control_act(control, run, sink)
         }
+        Control::Quota {
+            app,
+            objects,
+            bytes,
+        } => match set_quota(*app, *objects, *bytes, run) {
+            Ok(run) => {
+                let mut run = run;
+                run.at += 1;
+                print_control_act(control, run, sink)
+            }
+            Err(end) => Err(end),
+        },
         Control::List => do_list(alloc, run, sink, keys, entropy),
     }
 }

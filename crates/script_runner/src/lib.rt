@@ -25,6 +25,7 @@ mod mount_refusal;
 mod phase_act;
 mod phase_text;
 mod record_laws;
+mod refused_lines;
 mod run_state;
 mod saved_files;
 mod script_source;
@@ -42,8 +43,8 @@ pub use forms::{Form, folder_of, form_of, words_have_forms};
 pub use phase_text::{send_control, send_lines, send_phase};
 pub use record_laws::{
     formatted_runs_stand, migrations_end, migrations_tell_no_old_file, opened_runs_are_of_machine,
-    quiet_runs_are_of_machine, quiet_runs_end, records_find_left, refusals_are_of_devices,
-    runs_count_as_armed, runs_hold_left, runs_stand_behind,
+    quiet_runs_are_of_machine, quiet_runs_end, quota_runs_isolate, records_find_left,
+    refusals_are_of_devices, runs_count_as_armed, runs_hold_left, runs_stand_behind,
 };
 pub use run_acts::{Bench, Shown, ShownObject, card_block, print_object};
 pub use run_state::RunEnd;

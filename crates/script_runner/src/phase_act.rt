@@ -8,12 +8,12 @@ ghost use Rattle.tee_ports.specs.Faults.{Rose};
 ghost use Rattle.script_runner.specs.RunReady.{IsCallFirst, IsReady, IsSound};
 ghost use Rattle.script_runner.specs.Running.{EndsAt, GoesOn};
 
-use crate::act_text::print_phase_act;
+use crate::act_text::{print_excess, print_phase_act};
 use crate::mount_refusal::print_mount_refusal;
 use crate::run_state::{Run, RunEnd};
 use hmac_keys::Keys;
 use rpmb_card::CardRig;
-use run_acts::{Halted, PhaseEnd, run_phase};
+use run_acts::{Halted, PhaseEnd, PhaseOutcome, run_phase};
 use script_text::{Script, Step};
 use std::alloc::Global;
 use std::sync::Wait;
@@ -45,7 +45,7 @@ pub(crate) fn calls_from(script: &Script, at: usize) -> &[Step]
     &rest[..calls_length(rest)]
 }
 
-/// Runs the phase whose calls are the next steps, in the mode of the run, with the arms that wait, and sends its text.
+/// Runs the phase whose calls are the next steps, in the mode of the run, with its quotas and the arms that wait, and sends its text.
 pub(crate) fn do_phase<
     W: Threads + Wait + Sync,
     K: Sink,
@@ -73,6 +73,7 @@ pub(crate) fn do_phase<
     let Run {
         bench,
         saved,
+        quotas,
         arms,
         number,
         mode,
@@ -89,26 +90,42 @@ pub(crate) fn do_phase<
         number,
         mode,
         script.applications(),
+        quotas.as_slice(),
         arms.as_slice(),
         calls,
     ) {
-        Ok(
-            PhaseEnd {
+        Ok(PhaseOutcome::Served(end)) => {
+            let PhaseEnd {
                 bench,
                 objects,
                 history,
-            },
-        ) => {
+                refused,
+            } = end;
             let run = Run {
                 bench,
                 saved,
+                quotas,
                 arms: Vec::new(alloc),
                 number: number + 1,
                 mode,
                 at: at + calls.len(),
                 kept,
             };
-            print_phase_act(script, number, mode, objects, &history, run, sink)
+            print_phase_act(
+                script,
+                number,
+                mode,
+                objects,
+                &history,
+                calls,
+                refused.as_slice(),
+                run,
+                sink,
+            )
+        }
+        Ok(PhaseOutcome::OverCommitted { bench, sum }) => {
+            let status = print_excess(sum, sink, kept);
+            Err(RunEnd { status, bench })
         }
         Err(Halted { bench, fault }) => {
             let status = print_mount_refusal(fault, sink, kept);

@@ -6,6 +6,7 @@ ghost use Rattle.script_runner.specs.CountLaws.{RunsCountAsArmed};
 ghost use Rattle.script_runner.specs.HeldRuns.{FormattedRunsStand, RunsHoldLeft};
 ghost use Rattle.script_runner.specs.MigrationLaws.{MigrationsEnd, MigrationsTellNoOldFile};
 ghost use Rattle.script_runner.specs.QuietLaws.{OpenedRunsAreOfMachine, QuietRunsAreOfMachine};
+ghost use Rattle.script_runner.specs.QuotaRuns.{QuotaRunsIsolate};
 ghost use Rattle.script_runner.specs.RecordLaws.{RecordsFindLeft, RefusalsAreOfDevices};
 ghost use Rattle.script_runner.specs.RunLaws.{QuietRunsEnd, RunsStandBehind};
 
@@ -34,7 +35,7 @@ pub fn refusals_are_of_devices<F: FileRig, R: RpmbPort, E: Entropy>(entropy: &E)
     ensures { RefusalsAreOfDevices F.state R.state F.crash_image (E.is_reliable entropy.now) }
 {}
 
-/// On devices that do not fail, such a run ends with the status 0, or for want of memory.
+/// On devices that do not fail, such a run ends with the status 0, or for want of memory, unless its quotas are over-committed.
 pub fn quiet_runs_end<S: Source, K: Sink, F: FileRig, R: RpmbPort, E: Entropy>(entropy: &E)
     ensures { (was source : S) (held sink : K) → QuietRunsEnd F.state R.state F.crash_image (E.is_reliable entropy.now) (record {
       source_failed = Rose (S.faults was) (S.faults source);
@@ -52,6 +53,12 @@ pub fn quiet_runs_are_of_machine<F: FileRig, R: RpmbPort, E: Entropy>(entropy: &
 /// So is each phase of a bench that was quiet before its store was found or formatted.
 pub fn opened_runs_are_of_machine<F: FileRig, R: RpmbPort, E: Entropy>(entropy: &E)
     ensures { OpenedRunsAreOfMachine F.state R.state F.crash_image (E.is_reliable entropy.now) }
+{}
+
+/// In each phase with a quota, under those that were set before it: an event that raises a number of an application leaves it within its quota, a
+/// call that was refused is one that quotas refuse, and each application is answered by its own calls alone, or a device has the blame.
+pub fn quota_runs_isolate<F: FileRig, R: RpmbPort, E: Entropy>(entropy: &E)
+    ensures { QuotaRunsIsolate F.state R.state F.crash_image (E.is_reliable entropy.now) }
 {}
 
 /// A file or a card that fails only where it is armed, counts no fault over a whole run but where a line above armed it. So it is in each bench

@@ -2,7 +2,7 @@
 
 use crate::Status;
 use crate::saved_files::SavedFiles;
-use run_acts::Bench;
+use run_acts::{Bench, Quota};
 use script_text::{Arm, Mode};
 
 /// A run between two acts.
@@ -12,6 +12,8 @@ pub(crate) struct Run<F, R> {
     pub bench: Bench<F, R>,
     /// What was saved of its files.
     pub saved: SavedFiles,
+    /// The quotas of the phases to come.
+    pub quotas: Vec<Quota>,
     /// The arms that wait for the next phase.
     pub arms: Vec<Arm>,
     /// The number of the next phase.

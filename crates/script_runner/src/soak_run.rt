@@ -14,7 +14,9 @@ use crate::phase_act::calls_from;
 use crate::run_state::RunEnd;
 use hmac_keys::Keys;
 use rpmb_card::CardRig;
-use run_acts::{Bench, Halted, Listing, MountFault, PhaseEnd, list_objects, open_bench, run_phase};
+use run_acts::{
+    Bench, Halted, Listing, MountFault, PhaseEnd, PhaseOutcome, list_objects, open_bench, run_phase,
+};
 use script_text::Mode;
 use seed_words::{soak_lines, soak_script};
 use std::alloc::Global;
@@ -105,11 +107,15 @@ fn soak_opened<
         Mode::Threads,
         script.applications(),
         &[],
+        &[],
         calls,
     ) {
-        Ok(PhaseEnd { bench, history, .. }) => {
+        Ok(PhaseOutcome::Served(end)) => {
+            let PhaseEnd { bench, history, .. } = end;
             print_soak(alloc, number, bench, &history, keys, entropy)
         }
+        // It has no quotas.
+        Ok(PhaseOutcome::OverCommitted { .. }) => unreachable!(),
         Err(halted) => Err(halted),
     }
 }

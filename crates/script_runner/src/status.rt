@@ -37,6 +37,8 @@ pub enum Status {
         /// The first offset in it that is.
         offset: u8,
     },
+    /// The quotas of a phase commit so many objects, more than the 256 of a store.
+    OverCommitted(u32),
 }
 
 /// The limit that a script passes.
@@ -75,6 +77,7 @@ pub fn status_text(status: &Status) -> &'static str
         Status::NoMemory => "no memory",
         Status::MountRefused(_) | Status::CardMapRefused { .. } => "mount refused",
         Status::DeviceFault(_) | Status::FileFault(_) => "device fault",
+        Status::OverCommitted(_) => "quotas exceed 256 objects",
     }
 }
 
@@ -92,5 +95,6 @@ pub fn status_number(status: &Status) -> u8
         Status::DeviceFault(_) | Status::FileFault(_) => 7,
         Status::TooLong(_) => 8,
         Status::NoMemory => 9,
+        Status::OverCommitted(_) => 10,
     }
 }

@@ -10,7 +10,7 @@ ghost use Rattle.card_script.specs.declared.card_line.CardLine.{CardLine};
 ghost use Rattle.card_script.specs.CardScripts.{script_of as card_script_of};
 ghost use Rattle.folder_export.specs.Folders.{folder_count};
 ghost use Rattle.folder_audit.specs.Audit.{folder_states};
-ghost use Rattle.object_calls.specs.OpeningFiles.{files_of};
+ghost use Rattle.run_acts.specs.OpeningFiles.{files_of};
 ghost use Rattle.script_text.specs.Script.{ScriptValue};
 ghost use Rattle.script_text.specs.Grammar.{script_of};
 ghost use Rattle.run_acts.specs.Benches.{bench_state};
@@ -85,8 +85,8 @@ pub fn run<
           sink_full = K.is_full sink.new;
         }) (E.faults entropy.old) (E.faults entropy.new) keys.now (bench_state F.state R.state bench) (bench_state F.state R.state result.bench) result.status }
 
-    // A script within the limit is done, or a mount is refused or fails, or there is no memory, where the source and the sink do not
-    // fail and the sink has room.
+    // A script within the limit is done, or a mount is refused or fails, or its quotas exceed the store, or there is no memory, where the source
+    // and the sink do not fail and the sink has room.
     ensures complete { (bytes : List ℕ) (script : ScriptValue) → form_of (map string_bytes words.now) ≡ Some Form.Run
         → S.left source.old ≡ Some bytes → length bytes ≤ 16777216 → script_of bytes ≡ Ok script
         → ¬ Rose (S.faults source.old) (S.faults source.new)

@@ -5,18 +5,18 @@ use Rattle.std.specs.Option.{option_map}
 use Rattle.std.specs.Str.Parse.{digits_value}
 use Rattle.std.proofs.lemmas.Bool.{and_parts}
 use Rattle.std.proofs.lemmas.Bool.Decides.{nat_tests}
-use Rattle.tee_types.specs.Limits.{IsObjectFile, last_file}
+use Rattle.tee_types.specs.Limits.{IsObjectFile, last_file, most_objects}
 use Rattle.tee_types.specs.declared.reply.Device.{Device}
 use Rattle.tee_types.specs.declared.reply.Device.TheVariants.{Dir, File, Card, Entropy}
 use Rattle.script_text.specs.declared.controls.ControlVerb.{ControlVerb}
-use Rattle.script_text.specs.declared.controls.ControlVerb.TheVariants.{Serial as SerialVerb, Threads as ThreadsVerb, Phase as PhaseVerb, Stop as StopVerb, Fail as FailVerb, Lose as LoseVerb, Taint as TaintVerb, Crash as CrashVerb, Save as SaveVerb, Restore as RestoreVerb, Flip as FlipVerb, List as ListVerb}
+use Rattle.script_text.specs.declared.controls.ControlVerb.TheVariants.{Serial as SerialVerb, Threads as ThreadsVerb, Phase as PhaseVerb, Stop as StopVerb, Fail as FailVerb, Lose as LoseVerb, Taint as TaintVerb, Crash as CrashVerb, Save as SaveVerb, Restore as RestoreVerb, Flip as FlipVerb, Quota as QuotaVerb, List as ListVerb}
 use Rattle.script_text.specs.declared.script.Arm.{Arm}
 use Rattle.script_text.specs.declared.script.Arm.TheVariants.{Stop, Fail, Lose, Taint}
 use Rattle.script_text.specs.declared.script.Control.{Control}
-use Rattle.script_text.specs.declared.script.Control.TheVariants.{Mode as ModeControl, Phase, Arm as ArmControl, Crash, Save, Restore, Flip, List as ListControl}
+use Rattle.script_text.specs.declared.script.Control.TheVariants.{Mode as ModeControl, Phase, Arm as ArmControl, Crash, Save, Restore, Flip, Quota, List as ListControl}
 use Rattle.script_text.specs.declared.script.Mode.TheVariants.{Serial, Threads}
-use Rattle.script_text.specs.Words.{same_word, are_digits, numeral_of, number_of, if_positive, positive_of, place_of_call, seed_of, device_of, file_of, is_mark, mark_of, mask_of}
-use Rattle.script_text.specs.Controls.{stop_words, fail_words, lose_words, taint_words, crash_words, save_words, restore_words, flip_words, alone, arming, control_verb_of, control_words, control_of}
+use Rattle.script_text.specs.Words.{same_word, are_digits, numeral_of, uuid_of, number_of, object_count_of, if_positive, positive_of, place_of_call, seed_of, device_of, file_of, is_mark, mark_of, mask_of}
+use Rattle.script_text.specs.Controls.{stop_words, fail_words, lose_words, taint_words, crash_words, save_words, restore_words, flip_words, quota_words, alone, arming, control_verb_of, control_words, control_of}
 use Rattle.script_text.specs.Laws.{IsArmable, IsFileDevice, IsMask, IsArm, IsControl}
 use Rattle.script_text.proofs.FormedCalls.{mask-formed, from_bind, cond-some}
 
@@ -70,11 +70,11 @@ device-armable word device is = one (same_word word (codes "card")) is
     one true is = let same : Card ≡ device = cc (is) in subst IsArmable same tt
     one false is = file-armable device (file-formed word device is)
 
-place-formed : (word : List ℕ) (n : ℕ) → number_of word ≡ Some n → n < 2 ^ 32
-place-formed word n is = let most : n ≤ 4294967295 = numeral-most 10 4294967295 word n is in omega (arith, most)
+number-formed : (word : List ℕ) (n : ℕ) → number_of word ≡ Some n → n < 2 ^ 32
+number-formed word n is = let most : n ≤ 4294967295 = numeral-most 10 4294967295 word n is in omega (arith, most)
 
 laid-formed : (place word : List ℕ) (at : ℕ) (mask : List ℕ) → number_of place ≡ Some at → mask_of word ≡ Some mask → IsMask at mask
-laid-formed place word at mask placed masked = let formed = mask-formed word mask masked in (place-formed place at placed, formed.0, formed.1)
+laid-formed place word at mask placed masked = let formed = mask-formed word mask masked in (number-formed place at placed, formed.0, formed.1)
 
 mark-formed : (word mark : List ℕ) → mark_of word ≡ Some mark → is_mark mark ≡ true
 unfolding mark_of
@@ -164,6 +164,19 @@ flip-formed (file ∷ []) control is = absurd (cc (is))
 flip-formed (file ∷ at ∷ []) control is = absurd (cc (is))
 flip-formed (file ∷ at ∷ mask ∷ more ∷ words) control is = absurd (cc (is))
 
+quota-formed : (words : List (List ℕ)) (control : Control) → quota_words words ≡ Some control → IsControl control
+unfolding quota_words
+quota-formed (app ∷ objects ∷ bytes ∷ []) control is =
+    let a = from_bind (uuid_of app) _ control is in
+    let o = from_bind (object_count_of objects) _ control a.2 in
+    let b = from_bind (number_of bytes) _ control o.2 in
+    let same : Quota a.0 o.0 b.0 ≡ control = cc (b.2) in
+    subst IsControl same (numeral-most 10 most_objects objects o.0 o.1, number-formed bytes b.0 b.1)
+quota-formed [] control is = absurd (cc (is))
+quota-formed (app ∷ []) control is = absurd (cc (is))
+quota-formed (app ∷ objects ∷ []) control is = absurd (cc (is))
+quota-formed (app ∷ objects ∷ bytes ∷ more ∷ words) control is = absurd (cc (is))
+
 crash-formed : (words : List (List ℕ)) (control : Control) → crash_words words ≡ Some control → IsControl control
 unfolding crash_words
 crash-formed (seed ∷ []) control is =
@@ -194,6 +207,7 @@ verb-formed CrashVerb words control is = crash-formed words control is
 verb-formed SaveVerb words control is = save-formed words control is
 verb-formed RestoreVerb words control is = restore-formed words control is
 verb-formed FlipVerb words control is = flip-formed words control is
+verb-formed QuotaVerb words control is = quota-formed words control is
 verb-formed ListVerb words control is = alone-formed words ListControl control tt is
 
 -- the control of a line is well formed

@@ -1,8 +1,9 @@
 -- Printed forms and the text of a short phase, computed from the definitions.
-use Rattle.std.proofs.Common.{◌≡◌, List, [], ◌∷◌, ◌++◌, map, pos, negsuc, refl}
+use Rattle.std.proofs.Common.{◌≡◌, List, [], ◌∷◌, ◌++◌, map, replicate, pos, negsuc, refl}
 use Rattle.std.specs.Prelude.{codes}
 use Rattle.std.specs.Fmt.{digits}
 use Rattle.hex.specs.Hex.{encode_with}
+use Rattle.uuid.specs.Text.{by_index}
 use Rattle.tee_types.specs.declared.call.Call.TheVariants.{Create, Open, Close, Read, Write, Truncate, Seek, Rename, Delete, Info, EnumNew, EnumStart, EnumNext, EnumReset, EnumFree}
 use Rattle.tee_types.specs.declared.call.Whence.TheVariants.{Set, Cur, End}
 use Rattle.tee_types.specs.declared.reply.Reply.TheVariants.{Done, Handle, Content, Info as InfoReply, Found, Refused, Misuse, Corrupt, NotAvailable, CounterSpent, NoMemory}
@@ -14,10 +15,10 @@ use Rattle.store_model.specs.declared.event.Event.{Event}
 use Rattle.store_model.specs.declared.event.Event.TheVariants.{Call as CallEvent, Landed}
 use Rattle.store_model.specs.declared.event.Mark.TheVariants.{Unchanged, Made}
 use Rattle.script_text.specs.declared.script.Arm.TheVariants.{Stop, Fail, Lose, Taint}
-use Rattle.script_text.specs.declared.script.Control.TheVariants.{Mode as ModeControl, Phase, Arm as ArmControl, Crash, Save, Restore, Flip, List as ListControl}
+use Rattle.script_text.specs.declared.script.Control.TheVariants.{Mode as ModeControl, Phase, Arm as ArmControl, Crash, Save, Restore, Flip, Quota, List as ListControl}
 use Rattle.script_text.specs.declared.script.Mode.TheVariants.{Serial, Threads}
 use Rattle.script_text.specs.Script.{ScriptValue}
-use Rattle.script_text.specs.Forms.{flags_text, call_text, reply_text}
+use Rattle.script_text.specs.Forms.{uuid_text, flags_text, call_text, reply_text}
 use Rattle.script_text.specs.Text.{event_text, events_text, phase_line, control_line}
 
 calls : map call_text
@@ -81,3 +82,9 @@ controls : map control_line
     ∷ codes "# flip 1 4294967295 00\n" ∷ codes "# flip dir 4096 -\n" ∷ []
 unfolding digits encode_with
 controls = refl
+
+quotas : map control_line
+    (Quota (0 ∷ 1 ∷ 35 ∷ 69 ∷ 103 ∷ 137 ∷ 171 ∷ 205 ∷ 239 ∷ 255 ∷ 0 ∷ 0 ∷ 0 ∷ 0 ∷ 0 ∷ 160 ∷ []) 256 4294967295 ∷ Quota (replicate 16 0) 0 0 ∷ [])
+    ≡ codes "# quota 00012345-6789-abcd-efff-0000000000a0 256 4294967295\n" ∷ codes "# quota 00000000-0000-0000-0000-000000000000 0 0\n" ∷ []
+unfolding by_index digits uuid_text
+quotas = refl

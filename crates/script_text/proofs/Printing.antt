@@ -20,3 +20,7 @@ encode_lower-all bytes i out le = ap (λ t. out ++ t) (at_drop_all encode_lower 
 -- seven pieces behind a text
 pub append-seven : (old a b c d e f g : List ℕ) → ((((((old ++ a) ++ b) ++ c) ++ d) ++ e) ++ f) ++ g ≡ old ++ ((((((a ++ b) ++ c) ++ d) ++ e) ++ f) ++ g)
 append-seven old a b c d e f g = simp append_assoc
+
+-- eleven pieces behind a text
+pub append-eleven : (old a b c d e f g h i j k : List ℕ) → ((((((((((old ++ a) ++ b) ++ c) ++ d) ++ e) ++ f) ++ g) ++ h) ++ i) ++ j) ++ k ≡ old ++ ((((((((((a ++ b) ++ c) ++ d) ++ e) ++ f) ++ g) ++ h) ++ i) ++ j) ++ k)
+append-eleven old a b c d e f g h i j k = simp append_assoc

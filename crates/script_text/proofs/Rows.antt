@@ -11,7 +11,7 @@ use Rattle.tee_types.specs.declared.reply.Device.TheVariants.{Dir, File, Card}
 use Rattle.script_text.specs.declared.reading.ScriptFault.{ScriptFault}
 use Rattle.script_text.specs.declared.reading.ScriptFault.TheVariants.{BadLine, TooManyApps}
 use Rattle.script_text.specs.declared.script.Arm.TheVariants.{Stop, Fail, Lose, Taint}
-use Rattle.script_text.specs.declared.script.Control.TheVariants.{Mode as ModeControl, Phase, Arm as ArmControl, Crash, Save, Restore, Flip, List as ListControl}
+use Rattle.script_text.specs.declared.script.Control.TheVariants.{Mode as ModeControl, Phase, Arm as ArmControl, Crash, Save, Restore, Flip, Quota, List as ListControl}
 use Rattle.script_text.specs.declared.script.Mode.TheVariants.{Serial, Threads}
 use Rattle.script_text.specs.declared.script.Step.{Step}
 use Rattle.script_text.specs.declared.script.Step.TheVariants.{Call as CallStep, Control as ControlStep}
@@ -19,7 +19,7 @@ use Rattle.script_text.specs.Lines.{words_of}
 use Rattle.script_text.specs.Words.{is_name, mark_of, mask_of, id_of, bytes_of, numeral_of, positive_of, file_of, device_of, offset_of, whence_of, letter_flags_of, bits_of, flags_of}
 use Rattle.script_text.specs.Script.{ScriptValue, no_script}
 use Rattle.script_text.specs.Calls.{create_words, open_words, write_words, seek_words, rename_words, one_number, two_numbers, verb_of, call_words}
-use Rattle.script_text.specs.Controls.{stop_words, fail_words, lose_words, taint_words, crash_words, save_words, restore_words, flip_words, control_verb_of, control_of}
+use Rattle.script_text.specs.Controls.{stop_words, fail_words, lose_words, taint_words, crash_words, save_words, restore_words, flip_words, quota_words, control_verb_of, control_of}
 use Rattle.script_text.specs.Grammar.{call_line, app_line, control_line, step_line, words_line, line_of, script_from, script_of}
 
 abbrev app : List ℕ
@@ -178,16 +178,39 @@ bad_alterations : below
 unfolding words_of is_name mark_of mask_of bytes_of numeral_of positive_of file_of taint_words save_words restore_words flip_words verb_of call_words call_line control_verb_of control_of app_line control_line step_line words_line line_of script_from decode_pairs by_index
 bad_alterations = refl
 
--- a name again, an application below a call, a word too few and too many, and no UUID
+-- quotas of an application: each form of a UUID, the greatest numbers, and none; zeros may lead
+quotas : below
+    (codes "quota 00000000-0000-0000-0000-000000000001 16 16777216\nquota 00000000000000000000000000000001 256 4294967295\n quota {00000000-0000-0000-0000-000000000001}\t0016  00\nquota urn:uuid:00000000-0000-0000-0000-000000000001 0 0" ∷ [])
+    ≡ Ok (script_a (map ControlStep (Quota app 16 16777216 ∷ Quota app 256 4294967295 ∷ Quota app 16 0 ∷ Quota app 0 0 ∷ []))) ∷ []
+unfolding words_of is_name numeral_of quota_words control_verb_of control_of app_line control_line step_line words_line line_of script_from by_index
+quotas = refl
+
+-- too few words and too many, an object too many, a number past its bounds or with a sign, and no number
+bad_quotas : below
+    (map (λ words. codes "quota 00000000-0000-0000-0000-000000000001" ++ codes words)
+    ("" ∷ " 1" ∷ " 1 1 1" ∷ " 257 1" ∷ " 4294967552 1" ∷ " 1 4294967296" ∷ " -1 1" ∷ " +1 1" ∷ " 1 -1" ∷ " 1 +1" ∷ " 0x1 1" ∷ " 1 -" ∷ "0 1 1" ∷ []))
+    ≡ replicate 13 (Err (BadLine 2))
+unfolding words_of is_name numeral_of quota_words verb_of call_words call_line app_line control_verb_of control_of control_line step_line words_line line_of script_from by_index
+bad_quotas = refl
+
+-- no UUID: no word, a name, a digit too few, and one that is none
+bad_owners : below
+    (map codes ("quota" ∷ "quota 1 1" ∷ "quota a 1 1" ∷ "quota 0000000-0000-0000-0000-000000000001 1 1" ∷ "quota 00000000-0000-0000-0000-00000000000g 1 1" ∷ []))
+    ≡ replicate 5 (Err (BadLine 2))
+unfolding words_of is_name numeral_of quota_words verb_of call_words call_line app_line control_verb_of control_of control_line step_line words_line line_of script_from by_index
+bad_owners = refl
+
+-- a name again, an application below a call, a word too few and too many, no UUID, and words of controls for names
 bad_applications : below
     (codes "app a 00000000-0000-0000-0000-000000000002"
     ∷ codes "app b"
     ∷ codes "app b 00000000-0000-0000-0000-000000000002 c"
     ∷ codes "app b 00000000-0000-0000-0000-00000000000g"
     ∷ codes "app list 00000000-0000-0000-0000-000000000002"
+    ∷ codes "app quota 00000000-0000-0000-0000-000000000002"
     ∷ [])
     ++ below (codes "a enum\napp b 00000000-0000-0000-0000-000000000002" ∷ [])
-    ≡ replicate 5 (Err (BadLine 2)) ++ Err (BadLine 3) ∷ []
+    ≡ replicate 6 (Err (BadLine 2)) ++ Err (BadLine 3) ∷ []
 unfolding words_of is_name verb_of call_words call_line app_line control_verb_of control_of control_line step_line words_line line_of script_from by_index
 bad_applications = refl
 
@@ -222,6 +245,6 @@ names : map is_name (codes "a" ∷ codes "a_9" ∷ codes "abcdefghijklmnop" ∷ 
 unfolding is_name
 names = refl
 
-no_names : map is_name ([] ∷ codes "9a" ∷ codes "_a" ∷ codes "A" ∷ codes "a-b" ∷ codes "abcdefghijklmnopq" ∷ codes "app" ∷ codes "list" ∷ codes "restore" ∷ []) ≡ replicate 9 false
+no_names : map is_name ([] ∷ codes "9a" ∷ codes "_a" ∷ codes "A" ∷ codes "a-b" ∷ codes "abcdefghijklmnopq" ∷ codes "app" ∷ codes "list" ∷ codes "quota" ∷ codes "restore" ∷ []) ≡ replicate 10 false
 unfolding is_name
 no_names = refl

@@ -2,13 +2,13 @@
 use Rattle.std.specs.Prelude.{ℕ, List, [], ◌∷◌, if◌then◌else◌, codes, Option, Some, None}
 use Rattle.std.specs.Map.{lookup}
 use Rattle.script_text.specs.declared.controls.ControlVerb.{ControlVerb}
-use Rattle.script_text.specs.declared.controls.ControlVerb.TheVariants.{Serial as SerialVerb, Threads as ThreadsVerb, Phase as PhaseVerb, Stop as StopVerb, Fail as FailVerb, Lose as LoseVerb, Taint as TaintVerb, Crash as CrashVerb, Save as SaveVerb, Restore as RestoreVerb, Flip as FlipVerb, List as ListVerb}
+use Rattle.script_text.specs.declared.controls.ControlVerb.TheVariants.{Serial as SerialVerb, Threads as ThreadsVerb, Phase as PhaseVerb, Stop as StopVerb, Fail as FailVerb, Lose as LoseVerb, Taint as TaintVerb, Crash as CrashVerb, Save as SaveVerb, Restore as RestoreVerb, Flip as FlipVerb, Quota as QuotaVerb, List as ListVerb}
 use Rattle.script_text.specs.declared.script.Arm.{Arm}
 use Rattle.script_text.specs.declared.script.Arm.TheVariants.{Stop, Fail, Lose, Taint}
 use Rattle.script_text.specs.declared.script.Control.{Control}
-use Rattle.script_text.specs.declared.script.Control.TheVariants.{Mode as ModeControl, Phase, Arm as ArmControl, Crash, Save, Restore, Flip, List as ListControl}
+use Rattle.script_text.specs.declared.script.Control.TheVariants.{Mode as ModeControl, Phase, Arm as ArmControl, Crash, Save, Restore, Flip, Quota, List as ListControl}
 use Rattle.script_text.specs.declared.script.Mode.TheVariants.{Serial, Threads}
-use Rattle.script_text.specs.Words.{same_word, mask_of, number_of, place_of_call, seed_of, device_of, file_of, mark_of}
+use Rattle.script_text.specs.Words.{same_word, uuid_of, mask_of, number_of, object_count_of, place_of_call, seed_of, device_of, file_of, mark_of}
 use Rattle.script_text.specs.Calls.{◌>>=◌}
 
 -- `DEVICE N`: it passes so many calls
@@ -78,6 +78,15 @@ flip_words (file ∷ at ∷ mask ∷ []) = do
   Some (Flip f a m)
 flip_words _ = None
 
+-- `UUID OBJECTS BYTES`: the application may have so many objects, of so many bytes of data together
+unfoldable pub quota_words : List (List ℕ) → Option Control
+quota_words (app ∷ objects ∷ bytes ∷ []) = do
+  a ← uuid_of app
+  o ← object_count_of objects
+  b ← number_of bytes
+  Some (Quota a o b)
+quota_words _ = None
+
 -- nothing
 abbrev pub alone : Control → List (List ℕ) → Option Control
 alone control [] = Some control
@@ -94,7 +103,7 @@ abbrev pub control_verbs : List (List ℕ × ControlVerb)
 control_verbs =
     (codes "serial", SerialVerb) ∷ (codes "threads", ThreadsVerb) ∷ (codes "phase", PhaseVerb) ∷ (codes "stop", StopVerb)
     ∷ (codes "fail", FailVerb) ∷ (codes "lose", LoseVerb) ∷ (codes "taint", TaintVerb) ∷ (codes "crash", CrashVerb)
-    ∷ (codes "save", SaveVerb) ∷ (codes "restore", RestoreVerb) ∷ (codes "flip", FlipVerb) ∷ (codes "list", ListVerb) ∷ []
+    ∷ (codes "save", SaveVerb) ∷ (codes "restore", RestoreVerb) ∷ (codes "flip", FlipVerb) ∷ (codes "quota", QuotaVerb) ∷ (codes "list", ListVerb) ∷ []
 
 unfoldable pub control_verb_of : List ℕ → Option ControlVerb
 control_verb_of word = lookup (same_word word) control_verbs
@@ -112,6 +121,7 @@ control_words CrashVerb words = crash_words words
 control_words SaveVerb words = save_words words
 control_words RestoreVerb words = restore_words words
 control_words FlipVerb words = flip_words words
+control_words QuotaVerb words = quota_words words
 control_words ListVerb words = alone ListControl words
 
 -- the control of a line: its first word, and the words behind it

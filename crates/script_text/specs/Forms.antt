@@ -21,7 +21,7 @@ use Rattle.tee_types.specs.declared.reply.Cause.{Cause}
 use Rattle.tee_types.specs.declared.reply.Cause.TheVariants.{Fault, Frame, CardResult}
 use Rattle.tee_types.specs.Rights.{read_bit, write_bit, write_meta_bit, share_read_bit, share_write_bit, overwrite_bit, has, is_known}
 use Rattle.script_text.specs.declared.script.Control.{Control}
-use Rattle.script_text.specs.declared.script.Control.TheVariants.{Mode as ModeControl, Phase, Arm as ArmControl, Crash, Save, Restore, Flip, List as ListControl}
+use Rattle.script_text.specs.declared.script.Control.TheVariants.{Mode as ModeControl, Phase, Arm as ArmControl, Crash, Save, Restore, Flip, Quota, List as ListControl}
 use Rattle.script_text.specs.declared.script.Mode.{Mode}
 use Rattle.script_text.specs.declared.script.Mode.TheVariants.{Serial, Threads}
 use Rattle.script_text.specs.declared.script.Arm.{Arm}
@@ -107,6 +107,7 @@ control_text (Crash seed) = codes "crash " ++ decimal seed
 control_text (Save mark) = codes "save " ++ mark
 control_text (Restore file mark) = codes "restore " ++ device_word file ++ codes " " ++ mark
 control_text (Flip file at mask) = codes "flip " ++ device_word file ++ codes " " ++ decimal at ++ codes " " ++ bytes_text mask
+control_text (Quota app objects bytes) = codes "quota " ++ uuid_text app ++ codes " " ++ decimal objects ++ codes " " ++ decimal bytes
 control_text ListControl = codes "list"
 
 abbrev pub code_text : Code → List ℕ

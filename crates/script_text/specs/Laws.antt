@@ -1,13 +1,13 @@
 -- What holds of every script.
 use Rattle.std.specs.Prelude.{◌≡◌, ◌≤◌, ◌<◌, ◌^◌, ℕ, true, List, length, take, slice_get, All, Some, Ok}
-use Rattle.tee_types.specs.Limits.{IsObjectFile}
+use Rattle.tee_types.specs.Limits.{IsObjectFile, most_objects}
 use Rattle.tee_types.specs.declared.reply.Device.{Device}
 use Rattle.tee_types.specs.declared.reply.Device.TheVariants.{Dir, File, Card, Entropy}
 use Rattle.store_model.specs.Sound.{AreBytes, IsCall}
 use Rattle.script_text.specs.declared.script.Arm.{Arm}
 use Rattle.script_text.specs.declared.script.Arm.TheVariants.{Stop, Fail, Lose, Taint}
 use Rattle.script_text.specs.declared.script.Control.{Control}
-use Rattle.script_text.specs.declared.script.Control.TheVariants.{Mode as ModeControl, Phase, Arm as ArmControl, Crash, Save, Restore, Flip, List as ListControl}
+use Rattle.script_text.specs.declared.script.Control.TheVariants.{Mode as ModeControl, Phase, Arm as ArmControl, Crash, Save, Restore, Flip, Quota, List as ListControl}
 use Rattle.script_text.specs.declared.script.Step.{Step}
 use Rattle.script_text.specs.declared.script.Step.TheVariants.{Call as CallStep, Control as ControlStep}
 use Rattle.script_text.specs.Words.{is_mark}
@@ -48,6 +48,7 @@ IsControl (Crash seed) = seed < 2 ^ 64
 IsControl (Save mark) = is_mark mark ≡ true
 IsControl (Restore file mark) = IsFileDevice file × (is_mark mark ≡ true)
 IsControl (Flip file at mask) = IsFileDevice file × IsMask at mask
+IsControl (Quota app objects bytes) = (objects ≤ most_objects) × (bytes < 2 ^ 32)
 IsControl ListControl = Unit {0}
 
 -- what the step carries is well formed
@@ -55,7 +56,7 @@ abbrev pub IsFormed : Step → Type 0
 IsFormed (CallStep app call) = IsCall call
 IsFormed (ControlStep control) = IsControl control
 
--- The calls of a script carry identifiers and bytes, and its controls devices of the bench, marks and masks.
+-- The calls of a script carry identifiers and bytes, and its controls devices of the bench, marks, masks and quotas.
 abbrev pub ScriptsCallWell : Type 0
 ScriptsCallWell = (text : List ℕ) (script : ScriptValue) → script_of text ≡ Ok script → All IsFormed script.steps
 

@@ -1,6 +1,9 @@
 -- The text of a run.
 use Rattle.std.specs.Prelude.{ℕ, ◌+◌, Bool, cond, List, [], ◌∷◌, ◌++◌, codes, decimal, slice_get, unwrap_or}
 use Rattle.std.specs.Option.{option_map}
+use Rattle.tee_types.specs.declared.call.Call.{Call}
+use Rattle.tee_types.specs.declared.reply.Code.TheVariants.{NoSpace}
+use Rattle.tee_types.specs.declared.reply.Reply.TheVariants.{Refused}
 use Rattle.store_model.specs.declared.event.Event.{Event}
 use Rattle.store_model.specs.declared.event.Event.TheVariants.{Call as CallEvent, Landed}
 use Rattle.script_text.specs.declared.script.Control.{Control}
@@ -30,6 +33,12 @@ phase_line number mode objects = codes "# phase " ++ decimal number ++ codes " "
 -- the line of a migration: 1 where the directory was moved, else 0, and how many objects were
 unfoldable pub migration_line : Bool → ℕ → List ℕ
 migration_line directory objects = codes "# migrated directory " ++ decimal (cond directory 1 0) ++ codes " objects " ++ decimal objects ++ codes "\n"
+
+-- the line of a call that was refused under quotas, where so many events stood: its number is that among the application's calls of the phase
+unfoldable pub refused_call_line : ScriptValue → (place session number : ℕ) → Call → List ℕ
+refused_call_line script place session number call =
+    codes "# quota " ++ decimal place ++ codes " " ++ name_at script session ++ codes " " ++ decimal number ++ codes " " ++ call_text call ++ codes " -> "
+    ++ reply_text (Refused NoSpace) ++ codes "\n"
 
 -- the line of a control that is done
 abbrev pub control_line : Control → List ℕ

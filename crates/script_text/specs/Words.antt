@@ -9,7 +9,7 @@ use Rattle.std.specs.Result.{result_ok}
 use Rattle.std.specs.Str.Parse.{digits_value, starts_with_minus, without_leading_plus}
 use Rattle.hex.specs.Hex.{decode_of}
 use Rattle.uuid.specs.Text.{parsed}
-use Rattle.tee_types.specs.Limits.{last_file}
+use Rattle.tee_types.specs.Limits.{last_file, most_objects}
 use Rattle.tee_types.specs.declared.flags.Flags.{Flags}
 use Rattle.tee_types.specs.Rights.{read_bit, write_bit, write_meta_bit, share_read_bit, share_write_bit, overwrite_bit}
 use Rattle.tee_types.specs.declared.reply.Device.{Device}
@@ -31,7 +31,7 @@ is_small_letter byte = nat_le 97 byte && nat_le byte 122
 abbrev pub reserved_words : List (List ℕ)
 reserved_words =
     codes "app" ∷ codes "serial" ∷ codes "threads" ∷ codes "phase" ∷ codes "list" ∷ codes "stop" ∷ codes "fail"
-    ∷ codes "lose" ∷ codes "taint" ∷ codes "flip" ∷ codes "crash" ∷ codes "save" ∷ codes "restore" ∷ []
+    ∷ codes "lose" ∷ codes "taint" ∷ codes "flip" ∷ codes "quota" ∷ codes "crash" ∷ codes "save" ∷ codes "restore" ∷ []
 
 -- 1 to 16 of `a` to `z`, `0` to `9` and `_`, a letter first
 abbrev pub has_name_form : List ℕ → Bool
@@ -85,6 +85,10 @@ numeral_of base greatest word =
 -- N: decimal digits, of a number up to 4,294,967,295
 abbrev pub number_of : List ℕ → Option ℕ
 number_of word = numeral_of 10 4294967295 word
+
+-- OBJECTS: decimal digits, of a number of objects up to 256
+abbrev pub object_count_of : List ℕ → Option ℕ
+object_count_of word = numeral_of 10 most_objects word
 
 -- the number, where it is at least 1
 abbrev pub if_positive : ℕ → Option ℕ

@@ -2,10 +2,12 @@
 
 ghost use Rattle.std.specs.Prelude.{◌≡◌, IfOk};
 ghost use Rattle.script_text.specs.Lines.{words_of};
-ghost use Rattle.script_text.specs.Controls.{stop_words, fail_words, lose_words, taint_words, arming, crash_words, save_words, restore_words, flip_words, alone, control_verb_of, control_words, control_of};
+ghost use Rattle.script_text.specs.Controls.{stop_words, fail_words, lose_words, taint_words, arming, crash_words, save_words, restore_words, flip_words, quota_words, alone, control_verb_of, control_words, control_of};
 
 use crate::script::{Arm, Control, Mode};
-use crate::values::{device, file, mark, mask, number, place_of_call, same, seed};
+use crate::values::{
+    device, file, mark, mask, number, object_count, place_of_call, same, seed, uuid,
+};
 use crate::words::{cut_word, four, one, three, two};
 use std::alloc::Global;
 use tee_types::NoMemory;
@@ -24,6 +26,7 @@ pub(crate) enum ControlVerb {
     Save,
     Restore,
     Flip,
+    Quota,
     List,
 }
 
@@ -54,6 +57,8 @@ fn control_verb_of(word: &[u8]) -> Option<ControlVerb>
         Some(ControlVerb::Restore)
     } else if same(word, b"flip") {
         Some(ControlVerb::Flip)
+    } else if same(word, b"quota") {
+        Some(ControlVerb::Quota)
     } else if same(word, b"list") {
         Some(ControlVerb::List)
     } else {
@@ -191,6 +196,22 @@ fn flip(alloc: Global, words: &[u8]) -> Result<Option<Control>, NoMemory>
     Ok(Some(Control::Flip { file, at, mask }))
 }
 
+/// `UUID OBJECTS BYTES`
+#[tactic(auto, unfolding(crate::specs::Controls::quota_words))]
+fn quota(words: &[u8]) -> Option<Control>
+    ensures { result ≡ quota_words (words_of words.now) }
+{
+    let (app_word, objects_word, bytes_word) = three(words)?;
+    let app = uuid(app_word)?;
+    let objects = object_count(objects_word)?;
+    let bytes = number(bytes_word)?;
+    Some(Control::Quota {
+        app,
+        objects,
+        bytes,
+    })
+}
+
 /// The control, where no word stands behind it.
 fn alone(control: Control, words: &[u8]) -> Option<Control>
     ensures { result ≡ alone control (words_of words.now) }
@@ -217,6 +238,7 @@ fn control_of(alloc: Global, verb: ControlVerb, words: &[u8]) -> Result<Option<C
         ControlVerb::Save => save(alloc, words),
         ControlVerb::Restore => restore(alloc, words),
         ControlVerb::Flip => flip(alloc, words),
+        ControlVerb::Quota => Ok(quota(words)),
         ControlVerb::List => Ok(alone(Control::List, words)),
     }
 }

@@ -2,7 +2,7 @@
 
 ghost use Rattle.script_text.specs.Laws.{MarksAreSaved, ScriptsCallWell};
 
-/// The calls of a script carry identifiers and bytes, and its controls devices of the bench, marks and masks.
+/// The calls of a script carry identifiers and bytes, and its controls devices of the bench, marks, masks and quotas.
 #[tactic(auto, using(crate::proofs::FormedSteps::scripts_call_well))]
 pub fn scripts_call_well()
     ensures { ScriptsCallWell }

@@ -3,15 +3,15 @@
 ghost use Rattle.std.specs.Prelude.{◌≡◌, ◌++◌, length, take, codes, decimal, OnOk};
 ghost use Rattle.tee_types.specs.declared.call.Call.TheVariants.{Create, Open, Rename, Seek, Write};
 ghost use Rattle.script_text.specs.declared.script.Arm.TheVariants.{Taint};
-ghost use Rattle.script_text.specs.declared.script.Control.TheVariants.{Flip, Restore};
+ghost use Rattle.script_text.specs.declared.script.Control.TheVariants.{Flip, Quota, Restore};
 ghost use Rattle.script_text.specs.Forms.{arm_text, call_text, control_text, device_word, mode_text, whence_text};
 
 use crate::append_text::{
-    put, put_number, put_two, put_word_bytes, put_word_flags, put_word_hex, put_word_number,
-    put_word_numbers, put_word_signed,
+    put, put_number, put_two, put_uuid, put_word_bytes, put_word_flags, put_word_hex,
+    put_word_number, put_word_numbers, put_word_signed,
 };
 use crate::{Arm, Control, Mode};
-use tee_types::{Bytes, Call, Device, Flags, NoMemory, ObjectId, Whence};
+use tee_types::{AppId, Bytes, Call, Device, Flags, NoMemory, ObjectId, Whence};
 
 /// The name of the place from which a seek counts.
 fn whence_name(whence: Whence) -> &'static [u8]
@@ -208,6 +208,16 @@ fn put_flip(out: &mut Vec<u8>, file: Device, at: u32, mask: &Bytes) -> Result<()
     put_word_bytes(out, b" ", mask.as_slice())
 }
 
+/// Appends the words of a quota.
+fn put_quota(out: &mut Vec<u8>, app: AppId, objects: u16, bytes: u32) -> Result<(), NoMemory>
+    ensures ok { OnOk result (out.new.items ≡ out.old.items ++ control_text (Quota app objects bytes)) }
+    ensures kept { take (length out.old.items) out.new.items ≡ out.old.items }
+{
+    put(out, b"quota ")?;
+    put_uuid(out, app)?;
+    put_word_numbers(out, b" ", u32::from(objects), bytes)
+}
+
 /// Appends a control.
 pub(crate) fn put_control(out: &mut Vec<u8>, control: &Control) -> Result<(), NoMemory>
     ensures ok { OnOk result (out.new.items ≡ out.old.items ++ control_text control.now) }
@@ -221,6 +231,11 @@ pub(crate) fn put_control(out: &mut Vec<u8>, control: &Control) -> Result<(), No
         Control::Save { mark } => put_two(out, b"save ", mark.as_slice()),
         Control::Restore { file, mark } => put_restore(out, *file, mark),
         Control::Flip { file, at, mask } => put_flip(out, *file, *at, mask),
+        Control::Quota {
+            app,
+            objects,
+            bytes,
+        } => put_quota(out, *app, *objects, *bytes),
         Control::List => put(out, b"list"),
     }
 }

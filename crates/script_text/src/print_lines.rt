@@ -2,14 +2,14 @@
 
 ghost use Rattle.std.specs.Prelude.{◌≡◌, ◌++◌, length, take, codes, decimal, OnOk, OnErr};
 ghost use Rattle.script_text.specs.Forms.{reply_text};
-ghost use Rattle.script_text.specs.Text.{event_text, phase_line, control_line, migration_line, name_at};
+ghost use Rattle.script_text.specs.Text.{event_text, phase_line, control_line, migration_line, name_at, refused_call_line};
 
 use crate::append_text::{put, put_number, put_two, put_word_number};
 use crate::print_call::{mode_name, put_call, put_control};
 use crate::print_reply::put_reply;
 use crate::{Control, Mode, Script};
 use store_model::Event;
-use tee_types::{NoMemory, Reply};
+use tee_types::{Call, Code, NoMemory, Reply};
 
 /// Appends the name of a session's application.
 fn put_name(out: &mut Vec<u8>, names: &Script, session: u32) -> Result<(), NoMemory>
@@ -80,6 +80,48 @@ pub fn print_event(
 {
     let before = out.len();
     let printed = put_event(out, names, place, event);
+    if printed.is_err() {
+        out.truncate(before);
+    }
+    printed
+}
+
+/// Appends the line of a refused call. A refusal may leave a part of it behind the old text.
+#[tactic(auto, unfolding(crate::specs::Text::refused_call_line))]
+fn put_refused_call(
+    out: &mut Vec<u8>,
+    names: &Script,
+    place: u64,
+    session: u32,
+    number: u64,
+    call: &Call,
+) -> Result<(), NoMemory>
+    ensures ok { OnOk result (out.new.items ≡ out.old.items ++ refused_call_line names.now place session number call.now) }
+    ensures kept { take (length out.old.items) out.new.items ≡ out.old.items }
+{
+    put(out, b"# quota ")?;
+    put_caller(out, names, place, session)?;
+    put_number(out, number)?;
+    put(out, b" ")?;
+    put_call(out, call)?;
+    put_answer(out, &Reply::Refused(Code::NoSpace))
+}
+
+/// Appends the line of a call that was refused under quotas: the place tells how many events stood, and the number which call of its
+/// application in the phase it is. A refusal leaves the text as it was.
+pub fn print_refused_call(
+    place: u64,
+    names: &Script,
+    session: u32,
+    number: u64,
+    call: &Call,
+    out: &mut Vec<u8>,
+) -> Result<(), NoMemory>
+    ensures ok { OnOk result (out.new.items ≡ out.old.items ++ refused_call_line names.now place session number call.now) }
+    ensures err { OnErr result (out.new.items ≡ out.old.items) }
+{
+    let before = out.len();
+    let printed = put_refused_call(out, names, place, session, number, call);
     if printed.is_err() {
         out.truncate(before);
     }

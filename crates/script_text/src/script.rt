@@ -121,6 +121,15 @@ pub enum Control {
         /// The mask.
         mask: Bytes,
     },
+    /// An application may have so many objects, of so many bytes of data together, in all later phases.
+    Quota {
+        /// The application.
+        app: AppId,
+        /// How many objects, at most 256.
+        objects: u16,
+        /// How many bytes of data together.
+        bytes: u32,
+    },
     /// The store is mounted and its objects are shown.
     List,
 }

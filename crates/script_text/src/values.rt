@@ -4,12 +4,12 @@ ghost use Rattle.std.specs.Prelude.{◌≡◌, ◌<◌, ◌≤◌, ◌+◌, ◌=
 ghost use Rattle.std.specs.Char.{digit_value};
 ghost use Rattle.std.specs.Str.Parse.{digits_value};
 ghost use Rattle.std.specs.List.{list_any, list_all};
-ghost use Rattle.script_text.specs.Words.{same_word, is_name, has_name_form, mark_of, uuid_of, id_of, bytes_of, mask_of, letter_flags_of, bits_of, flags_of, numeral_of, number_of, positive_of, place_of_call, seed_of, device_of, file_of, offset_of, whence_of, count_of, are_digits, is_digit, is_small_letter, reserved_words};
+ghost use Rattle.script_text.specs.Words.{same_word, is_name, has_name_form, mark_of, uuid_of, id_of, bytes_of, mask_of, letter_flags_of, bits_of, flags_of, numeral_of, number_of, object_count_of, positive_of, place_of_call, seed_of, device_of, file_of, offset_of, whence_of, count_of, are_digits, is_digit, is_small_letter, reserved_words};
 
 use std::alloc::Global;
 use tee_types::{
-    AppId, Bytes, Device, Flags, MAX_FILE, NoMemory, OVERWRITE, ObjectId, READ, SHARE_READ,
-    SHARE_WRITE, WRITE, WRITE_META, Whence,
+    AppId, Bytes, Device, Flags, MAX_FILE, MAX_OBJECTS, NoMemory, OVERWRITE, ObjectId, READ,
+    SHARE_READ, SHARE_WRITE, WRITE, WRITE_META, Whence,
 };
 use uuid::Uuid;
 
@@ -156,6 +156,14 @@ pub fn number(word: &[u8]) -> Option<u32>
 {
     let number = numeral(word, 10, u32::MAX as u64)?;
     Some(number as u32)
+}
+
+/// The number of objects that a word of decimal digits stands for, at most 256.
+pub(crate) fn object_count(word: &[u8]) -> Option<u16>
+    ensures { result ≡ object_count_of word.now }
+{
+    let count = numeral(word, 10, MAX_OBJECTS as u64)?;
+    Some(count as u16)
 }
 
 /// The number of these decimal digits, from 1 up to the greatest.
@@ -305,6 +313,7 @@ fn is_reserved(word: &[u8]) -> bool
         || same(word, b"lose")
         || same(word, b"taint")
         || same(word, b"flip")
+        || same(word, b"quota")
         || same(word, b"crash")
         || same(word, b"save")
         || same(word, b"restore")

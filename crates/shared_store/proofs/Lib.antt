@@ -6,3 +6,5 @@ pub use Rattle.shared_calls.proofs.Rises
 pub use Rattle.shared_calls.proofs.SameMaps
 pub use Rattle.shared_calls.proofs.Tellings
 pub use Rattle.shared_calls.proofs.QuotaCallers
+pub use Rattle.shared_calls.proofs.CarriedAttempts
+pub use Rattle.shared_calls.proofs.Waiting

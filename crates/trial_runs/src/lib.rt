@@ -18,3 +18,8 @@ pub use runs::{
     Ended, MOST_CALLS, RanOver, failing, failing_sessions, reliable, run_into, run_script,
     run_words, try_script,
 };
+pub use script_runner::{
+    Bench, CardPort, Excess, FOLDER_FILES, FileFault, FilePlace, RunEnd, Shown, ShownObject,
+    SimBench, Status, blank_bench, card_block, print_object, run, simulator_keys, status_number,
+    worn,
+};

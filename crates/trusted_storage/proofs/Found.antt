@@ -36,6 +36,6 @@ left_found of_file of_port image Reliable w c script s is begins none =
     found_by of_file of_port image Reliable w c script s is none (of_begins c.keys (applications_of script) c.handed s begins)
 
 pub quiet_done : {F R : Type 0} (of_file : F → FileState) (of_port : R → PortState) (image : FileState → ℕ → ℕ → List ℕ) (Reliable : Type 0) (w : World) → QuietRunsAreDone of_file of_port image Reliable w
-quiet_done of_file of_port image Reliable w c script s is opened holds quiet reliable undrawn unarmed none ran =
+quiet_done of_file of_port image Reliable w c script s is opened holds quiet reliable undrawn unarmed none ran within =
     quiet_runs_end of_file of_port image Reliable w c.left_old c.left_new c.held_old c.held_new c.drew c.draws c.keys c.handed c.given c.status s script c.says (of_holds c.keys c.handed s holds) is opened quiet
-    reliable undrawn unarmed none ran
+    reliable undrawn unarmed none ran within

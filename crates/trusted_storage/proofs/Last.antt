@@ -8,22 +8,22 @@ use Rattle.run_acts.specs.declared.MountFault.{MountFault}
 use Rattle.script_runner.proofs.Alterings.{alter_front}
 use Rattle.script_runner.proofs.GoingFold.{GoesAll, Steps, fold_going}
 use Rattle.script_runner.proofs.HeldRuns.{runs_hold_left}
-use Rattle.script_runner.specs.Course.{GoesUntil, GoesUntilCrashed}
+use Rattle.script_runner.specs.Course.{GoesUntil, GoesUntilCrashed, GoesUntilExceeded}
 use Rattle.script_runner.specs.declared.status.Excess.TheVariants.{Apps, Bytes}
 use Rattle.script_runner.specs.declared.status.Status.{Status}
-use Rattle.script_runner.specs.declared.status.Status.TheVariants.{BadLine, CardMapRefused, DeviceFault, Done, FileFault, MountRefused, NoMemory, ReadFault, TooLong, Usage, WriteFault}
+use Rattle.script_runner.specs.declared.status.Status.TheVariants.{BadLine, DeviceFault, Done, MountRefused, NoMemory, OverCommitted, ReadFault, TooLong, WriteFault}
 use Rattle.script_runner.specs.Ending.{EndsActs, EndsBench, EndsRun, EndsScript, RecordsRefusal}
 use Rattle.script_runner.specs.HeldRuns.{HoldsBehind as HeldBehind, NoneStarved}
 use Rattle.script_runner.specs.RecordLaws.{AlterNothing, left_behind}
-use Rattle.script_runner.specs.RunBenches.{HoldsAlong, HoldsCrashed, HoldsOfActs, HoldsOfRun, HoldsOfSource, HoldsRefused, HoldsUntil, next_act}
+use Rattle.script_runner.specs.RunBenches.{HoldsAlong, HoldsCrashed, HoldsExceeded, HoldsOfActs, HoldsOfRun, HoldsOfSource, HoldsRefused, HoldsUntil, next_act}
 use Rattle.script_runner.specs.RunCauses.{HasCause, World}
-use Rattle.script_runner.specs.SavedFiles.{Standing, begins_with}
+use Rattle.script_runner.specs.SavedFiles.{Standing, begins_with, with_bench}
 use Rattle.script_runner.specs.Text.{Act, Controlled, Do, Listed, Ran, RunRecord, Serve, acts_of}
 use Rattle.script_runner.specs.Trace.{Trace, applications_of}
 use Rattle.script_text.specs.declared.reading.ScriptFault.{ScriptFault}
 use Rattle.script_text.specs.declared.reading.ScriptFault.TheVariants.{BadLine as BadLineFault, TooManyApps}
 use Rattle.script_text.specs.declared.script.Arm.{Arm}
-use Rattle.script_text.specs.declared.script.Control.TheVariants.{Arm as ArmControl, Crash, Flip, List as ListControl, Mode as ModeControl, Phase, Restore, Save}
+use Rattle.script_text.specs.declared.script.Control.TheVariants.{Arm as ArmControl, Crash, Flip, List as ListControl, Mode as ModeControl, Phase, Quota as QuotaControl, Restore, Save}
 use Rattle.script_text.specs.declared.script.Mode.TheVariants.{Serial}
 use Rattle.script_text.specs.Grammar.{script_of}
 use Rattle.script_text.specs.Script.{ScriptValue}
@@ -62,6 +62,8 @@ module _ {F R : Type 0} (of_file : F → FileState) (of_port : R → PortState) 
           moved before told (Do (Crash seed)) Controlled acts records new.bench (rest (before ++ Do (Crash seed) ∷ []) (told ++ Controlled ∷ []) holds.1);
       save = λ arms mark acts records old new goes rest before told holds.
           moved before told (Do (Save mark)) Controlled acts records new.bench (rest (before ++ Do (Save mark) ∷ []) (told ++ Controlled ∷ []) holds.1);
+      quota = λ arms app objects bytes acts records old new goes rest before told holds.
+          let act = Do (QuotaControl app objects bytes) in moved before told act Controlled acts records new.bench (rest (before ++ act ∷ []) (told ++ Controlled ∷ []) holds.1);
       restore = λ arms file mark acts records old new goes rest before told holds.
           moved before told (Do (Restore file mark)) Controlled acts records new.bench (rest (before ++ Do (Restore file mark) ∷ []) (told ++ Controlled ∷ []) holds.1);
       flip = λ arms file at mask acts records old new goes rest before told holds.
@@ -78,7 +80,7 @@ module _ {F R : Type 0} (of_file : F → FileState) (of_port : R → PortState) 
       last_until : (left : List Act) (g : GoesUntil of_file of_port image Reliable keys apps [] acts records left old given)
           → HoldsUntil of_file of_port image Reliable keys P apps [] acts records old given left g → AtLast
       last_until left g holds =
-          (g.done, left, g.front, fold_going of_file of_port image Reliable keys apps Ends end_steps [] g.done records old (record { bench = given; saved = g.saved }) g.goes [] [] holds)
+          (g.done, left, g.front, fold_going of_file of_port image Reliable keys apps Ends end_steps [] g.done records old (with_bench g.there given) g.goes [] [] holds)
 
       -- one more act was begun
       begun : (done left : List Act) → acts ≡ done ++ left → P (done ++ next_act left) records given → AtLast
@@ -93,22 +95,23 @@ module _ {F R : Type 0} (of_file : F → FileState) (of_port : R → PortState) 
           → HoldsCrashed of_file of_port image Reliable keys P apps [] acts records old given g → AtLast
       last_crashed g holds = begun (g.goes).done (Do (Crash g.seed) ∷ g.left) (g.goes).front holds.1
 
+      last_exceeded : (sum : ℕ) (g : GoesUntilExceeded of_file of_port image Reliable keys apps [] acts records old given sum)
+          → HoldsExceeded of_file of_port image Reliable keys P apps [] acts records old given sum g → AtLast
+      last_exceeded sum g holds = begun (g.goes).done (Serve g.mode g.calls ∷ g.left) (g.goes).front holds.1
+
       last_acts : (drew draws : ℕ) (status : Status) (ends : EndsActs of_file of_port image Reliable drew draws keys apps [] acts records old given status)
           → HoldsOfActs of_file of_port image Reliable keys P apps [] acts records old given drew draws status ends → AtLast
       last_acts drew draws Done g holds = last_until [] g holds
       last_acts drew draws WriteFault (inl (left, g)) holds = last_until left g holds
-      last_acts drew draws WriteFault (inr (fault, refusal, r)) holds = last_refused drew draws fault r holds
+      last_acts drew draws WriteFault (inr (inl (fault, refusal, r))) holds = last_refused drew draws fault r holds
+      last_acts drew draws WriteFault (inr (inr (sum, g))) holds = last_exceeded sum g holds
       last_acts drew draws (MountRefused fault) r holds = last_refused drew draws fault r holds
       last_acts drew draws (DeviceFault fault) r holds = last_refused drew draws fault r holds
+      last_acts drew draws (OverCommitted sum) g holds = last_exceeded sum g holds
       last_acts drew draws NoMemory (inl (left, g)) holds = last_until left g holds
       last_acts drew draws NoMemory (inr (inl (fault, may, r))) holds = last_refused drew draws fault r holds
       last_acts drew draws NoMemory (inr (inr g)) holds = last_crashed g holds
-      last_acts drew draws Usage ends holds = absurd ends
-      last_acts drew draws (FileFault broken) ends holds = absurd ends
-      last_acts drew draws (CardMapRefused block offset) ends holds = absurd ends
-      last_acts drew draws (BadLine line) ends holds = absurd ends
-      last_acts drew draws ReadFault ends holds = absurd ends
-      last_acts drew draws (TooLong excess) ends holds = absurd ends
+      last_acts drew draws status ends holds = absurd ends
 
   module _ (w : World) (drew draws : ℕ) (t : Trace) (handed given : BenchState) (script : ScriptValue) (is : script_of t.taken ≡ Ok script) where
     abbrev apps_of : List (List ℕ)
@@ -145,15 +148,14 @@ module _ {F R : Type 0} (of_file : F → FileState) (of_port : R → PortState) 
     last_source WriteFault cause (other, read, ends) holds = last_script WriteFault other read ends holds
     last_source (MountRefused fault) cause (other, read, ends) holds = last_script (MountRefused fault) other read ends holds
     last_source (DeviceFault fault) cause (other, read, ends) holds = last_script (DeviceFault fault) other read ends holds
+    last_source (OverCommitted sum) cause (other, read, ends) holds = last_script (OverCommitted sum) other read ends holds
     last_source NoMemory cause (inl (same, silent)) holds = inr (silent.records, holds)
     last_source NoMemory cause (inr (other, read, ends)) holds = last_script NoMemory other read ends holds
-    last_source Usage cause ends holds = absurd cause
-    last_source (FileFault broken) cause ends holds = absurd cause
-    last_source (CardMapRefused block offset) cause ends holds = absurd cause
     last_source (BadLine line) cause ends holds = absurd (no_fault (BadLineFault line) cause.1)
     last_source ReadFault cause ends holds = inr ((cause.2).records, holds)
     last_source (TooLong Bytes) cause ends holds = inr ((cause.1).records, holds)
     last_source (TooLong (Apps n)) cause ends holds = absurd (no_fault (TooManyApps n) cause.1)
+    last_source status cause ends holds = absurd cause
 
 pub cuts_exit : {F R : Type 0} (of_file : F → FileState) (of_port : R → PortState) (image : FileState → ℕ → ℕ → List ℕ) (Reliable : Type 0) (w : World) → CutsAtExit of_file of_port image Reliable w
 cuts_exit of_file of_port image Reliable w c script s is opened begins unaltered fed =

@@ -1,31 +1,19 @@
 -- Over honest files each phase's history is legal.
-use Rattle.std.proofs.Common.{◌≡◌, ◌∙◌, ℕ, List, [], ◌∷◌, ◌++◌, IsTrue, None, Option, Some, inl, inr, refl, sym, ap, subst}
+use Rattle.std.proofs.Common.{◌≡◌, ◌∙◌, ℕ, List, [], ◌∷◌, IsTrue, None, Option, Some, refl, sym, ap, subst}
 use Rattle.core_laws.specs.Stores.{Store, mounted_files, phase_of}
 use Rattle.disk_model.specs.State.{FileState}
 use Rattle.hmac_keys.specs.declared.Keys.{Keys}
 use Rattle.object_calls.specs.FinishedPhase.{AreAllHonest}
 use Rattle.rpmb_card.specs.Port.{PortState}
 use Rattle.run_acts.proofs.Ready.{ready-applications}
-use Rattle.run_acts.proofs.Untainted.{crashes_stay_untainted, flips_stay_untainted, lists_stay_untainted, openings_stay_untainted, phases_stay_untainted, restores_stay_untainted, untainted_files_are_honest}
-use Rattle.run_acts.proofs.CrashedLaws.{crashes_may_be}
-use Rattle.run_acts.specs.Alterations.{file_number}
 use Rattle.run_acts.specs.Benches.{BenchState}
-use Rattle.run_acts.specs.declared.MountFault.{MountFault}
-use Rattle.run_acts.specs.Lines.{objects_text}
 use Rattle.run_acts.specs.Phases.{RunsPhase}
-use Rattle.run_acts.specs.Untainted.{AreUntainted, ArmNoMask}
-use Rattle.script_runner.proofs.Alterings.{mask_none}
-use Rattle.script_runner.proofs.GoingFold.{GoesAll, Steps, fold_going}
-use Rattle.script_runner.specs.RecordLaws.{AltersNothing}
+use Rattle.run_acts.specs.declared.refused_call.RefusedCall.{RefusedCall}
+use Rattle.app_quota.specs.declared.quotas.Quota.{Quota}
 use Rattle.script_runner.specs.RunCauses.{World}
-use Rattle.script_runner.specs.SavedFiles.{PutsBack, Standing, begins_with}
-use Rattle.script_runner.specs.Text.{Act, Controlled, Do, Listed, Ran, Refused, RunRecord, acts_of}
 use Rattle.script_runner.specs.Trace.{applications_of}
 use Rattle.script_text.specs.declared.script.Arm.{Arm}
-use Rattle.script_text.specs.declared.script.Arm.TheVariants.{Fail, Lose, Stop, Taint}
-use Rattle.script_text.specs.declared.script.Control.TheVariants.{Arm as ArmControl}
 use Rattle.script_text.specs.declared.script.Mode.{Mode}
-use Rattle.script_text.specs.declared.script.Mode.TheVariants.{Serial}
 use Rattle.script_text.specs.declared.script.Step.{Step}
 use Rattle.store_model.specs.declared.event.Event.{Event}
 use Rattle.store_model.specs.History.{AreNumbered}
@@ -35,8 +23,7 @@ use Rattle.store_model.specs.Record.{Record, Tag, events_of, file_of}
 use Rattle.store_model.specs.ReplayState.{ReplayState, opening, replay_after}
 use Rattle.trusted_storage.specs.Laws.{RepliesAreLegal}
 use Rattle.trusted_storage.specs.Replies.{IsLegalPhase}
-use Rattle.trusted_storage.specs.Runs.{AreLegal, TaintNothing, TaintsNothing}
-use Rattle.trusted_storage.proofs.Walked.{HasWalked, Walked, walked}
+use Rattle.trusted_storage.proofs.Phases.{each_of_run}
 
 -- RECORDS WITHOUT THEIR VERSIONS
 abbrev plain_tag : {Root : Type 0} → Option (Tag Root) → Option (Tag (Unit {0}))
@@ -82,14 +69,14 @@ legal_of store objects applications records events objects_are applications_are 
 }
 
 -- A PHASE
-module _ {F R : Type 0} (of_file : F → FileState) (of_port : R → PortState) (Reliable : Type 0) (keys : Keys) (applications : List (List ℕ)) (arms : List Arm) (mode : Mode) (calls : List Step) (old new : BenchState)
-    (objects : ObjectMap) (events : List Event) (r : RunsPhase of_file of_port Reliable keys applications arms mode calls old new objects events) where
+module _ {F R : Type 0} (of_file : F → FileState) (of_port : R → PortState) (Reliable : Type 0) (keys : Keys) (applications : List (List ℕ)) (quotas : List Quota) (arms : List Arm) (mode : Mode) (calls : List Step)
+    (old new : BenchState) (objects : ObjectMap) (events : List Event) (refused : List RefusedCall) (r : RunsPhase of_file of_port Reliable keys applications quotas arms mode calls old new objects events refused) where
   open r use {closed, disarms}
 
   abbrev s : Store
   s = (r.serves).store
 
-  applications_are : (s.mounted).applications ≡ applications
+  pub applications_are : (s.mounted).applications ≡ applications
   applications_are = ap (λ (x : Store). (x.mounted).applications) ((r.serves).is_store).is
       ∙ ready-applications of_file of_port applications arms r.opened (r.serves).armed (r.serves).ready
 
@@ -100,68 +87,8 @@ module _ {F R : Type 0} (of_file : F → FileState) (of_port : R → PortState) 
       legal_of s objects applications (closes.view).all events ((r.serves).opens ∙ sym r.objects) applications_are closes.events_are (closes.leaves).numbered
       ((closes.leaves).honest all).events_legal
 
--- A RUN
-no_mask : (arm : Arm) → TaintsNothing (Do (ArmControl arm)) → AltersNothing (Do (ArmControl arm))
-no_mask (Stop device calls) none = tt
-no_mask (Fail device call) none = tt
-no_mask (Lose call) none = tt
-no_mask (Taint file call at mask) none = none
-
-put_back : (file : ℕ) (kept : Option (List ℕ)) (old new : BenchState) → PutsBack file kept old new → AreUntainted old.files → AreUntainted new.files
-put_back file None old new same files = subst (λ (b : BenchState). AreUntainted b.files) (sym same) files
-put_back file (Some bytes) old new restores files = restores_stay_untainted file bytes old new restores files
-
-taint_front : (done left : List Act) → TaintNothing (done ++ left) → TaintNothing done
-taint_front [] left none = tt
-taint_front (act ∷ done) left none = (none.0, taint_front done left none.1)
-
-legal_refused : (apps : List (List ℕ)) (front : List RunRecord) (fault : MountFault) → AreLegal apps front → AreLegal apps (front ++ Refused fault ∷ [])
-legal_refused apps [] fault legal = tt
-legal_refused apps (Ran phase ∷ front) fault legal = (legal.0, legal_refused apps front fault legal.1)
-legal_refused apps (Listed objects ∷ front) fault legal = legal_refused apps front fault legal
-legal_refused apps (Controlled ∷ front) fault legal = legal_refused apps front fault legal
-legal_refused apps (Refused other ∷ front) fault legal = legal_refused apps front fault legal
-
-module _ {F R : Type 0} (of_file : F → FileState) (of_port : R → PortState) (image : FileState → ℕ → ℕ → List ℕ) (Reliable : Type 0) (keys : Keys) (apps : List (List ℕ)) where
-  abbrev Legal : (arms : List Arm) (acts : List Act) (records : List RunRecord) (old new : Standing) → GoesAll of_file of_port image Reliable keys apps arms acts records old new → Type 0
-  Legal arms acts records old new goes = AreUntainted (old.bench).files → ArmNoMask arms → TaintNothing acts → AreLegal apps records
-
-  legal_steps : Steps of_file of_port image Reliable keys apps Legal
-  legal_steps = record {
-    none = λ arms old new goes files unmasked none. tt;
-    phase = λ arms mode calls acts phase records old new goes rest files unmasked none.
-        let later = phases_stay_untainted of_file of_port Reliable keys apps arms mode calls old.bench goes.0 phase.opening phase.events goes.1 unmasked files in (
-          legal_phase of_file of_port Reliable keys apps arms mode calls old.bench goes.0 phase.opening phase.events goes.1 (untainted_files_are_honest (goes.0).files later),
-          rest later tt none.1,
-        );
-    mode = λ arms mode acts records old new goes rest files unmasked none. rest files unmasked none.1;
-    mark = λ arms acts records old new goes rest files unmasked none. rest files unmasked none.1;
-    arm = λ arms arm acts records old new goes rest files unmasked none. rest files (mask_none arms arm unmasked (no_mask arm none.0)) none.1;
-    crash = λ arms seed acts records old new goes rest files unmasked none.
-        rest (crashes_stay_untainted old.bench goes.0 files (crashes_may_be image seed old.bench goes.0 goes.1)) unmasked none.1;
-    save = λ arms mark acts records old new goes rest files unmasked none. rest files unmasked none.1;
-    restore = λ arms file mark acts records old new goes rest files unmasked none.
-        rest (put_back (file_number file) (old.saved mark (file_number file)) old.bench goes.0 goes.1 files) unmasked none.1;
-    flip = λ arms file at mask acts records old new goes rest files unmasked none.
-        rest (flips_stay_untainted (file_number file) at mask old.bench goes.0 goes.1 files) unmasked none.1;
-    list = λ arms acts objects records old new goes rest files unmasked none.
-        rest (lists_stay_untainted of_file of_port keys old.bench goes.0 objects (objects_text objects) goes.1 files) unmasked none.1;
-  }
-
-  module _ (acts : List Act) (handed : BenchState) (records : List RunRecord) (files : AreUntainted handed.files) (none : TaintNothing acts) where
-    legal_walk : (walk : Walked of_file of_port image Reliable keys apps acts handed records) → AreLegal apps walk.front
-    legal_walk walk =
-        fold_going of_file of_port image Reliable keys apps Legal legal_steps [] walk.done walk.front (begins_with walk.between) walk.last walk.goes
-        (openings_stay_untainted keys handed walk.between walk.opens files) tt (taint_front walk.done walk.left (subst TaintNothing walk.acts_are none))
-
-    pub legal_all : HasWalked of_file of_port image Reliable keys apps acts handed records → AreLegal apps records
-    legal_all (inl nothing) = subst (AreLegal apps) (sym nothing) tt
-    legal_all (inr walk) = elim walk.records_are [
-      | inl is ↦ subst (AreLegal apps) (sym is) (legal_walk walk)
-      | inr (fault, is) ↦ subst (AreLegal apps) (sym is) (legal_refused apps walk.front fault (legal_walk walk))
-    ]
-
 pub replies_legal : {F R : Type 0} (of_file : F → FileState) (of_port : R → PortState) (image : FileState → ℕ → ℕ → List ℕ) (Reliable : Type 0) (w : World) → RepliesAreLegal of_file of_port image Reliable w
 replies_legal of_file of_port image Reliable w c script is files none =
-    legal_all of_file of_port image Reliable c.keys (applications_of script) (acts_of Serial script.steps) c.handed (c.says.0).records files none
-    (walked of_file of_port image Reliable w c.drew c.draws c.keys c.says.0 c.handed c.given script is c.status (c.says.1).cause c.says.2)
+    each_of_run of_file of_port image Reliable w (Unit {0}) (λ quotas mode calls phase. IsLegalPhase phase.opening (applications_of script) phase.events) c script
+    (λ quotas arms mode calls old new phase r honest.
+    legal_phase of_file of_port Reliable c.keys (applications_of script) quotas arms mode calls old new phase.opening phase.events phase.refused r (honest tt)) is (λ trusted. (files, none))

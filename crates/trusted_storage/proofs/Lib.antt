@@ -1,7 +1,10 @@
 pub mod Holding
 pub mod Walked
+pub mod Phases
 pub mod Served
 pub mod Legal
+pub mod Quotas
+pub mod Unlimited
 pub mod Found
 pub mod Mapped
 pub mod Last

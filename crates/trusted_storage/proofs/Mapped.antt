@@ -7,20 +7,20 @@ use Rattle.run_acts.specs.Benches.{BenchState}
 use Rattle.run_acts.specs.declared.MountFault.{MountFault}
 use Rattle.script_runner.proofs.GoingFold.{GoesAll, Steps, fold_going}
 use Rattle.script_runner.proofs.HeldRuns.{runs_hold_left}
-use Rattle.script_runner.specs.Course.{GoesUntil, GoesUntilCrashed}
+use Rattle.script_runner.specs.Course.{GoesUntil, GoesUntilCrashed, GoesUntilExceeded}
 use Rattle.script_runner.specs.declared.status.Status.{Status}
-use Rattle.script_runner.specs.declared.status.Status.TheVariants.{BadLine, CardMapRefused, DeviceFault, Done, FileFault, MountRefused, NoMemory, ReadFault, TooLong, Usage, WriteFault}
+use Rattle.script_runner.specs.declared.status.Status.TheVariants.{DeviceFault, Done, MountRefused, NoMemory, OverCommitted, WriteFault}
 use Rattle.script_runner.specs.Ending.{EndsActs, EndsBench, EndsForMemory, EndsRun, RecordsRefusal}
 use Rattle.script_runner.specs.HeldRuns.{HoldsBehind as HeldBehind}
 use Rattle.script_runner.specs.HeldRuns.{NoneStarved}
 use Rattle.script_runner.specs.RecordLaws.{AlterNothing, left_behind}
-use Rattle.script_runner.specs.RunBenches.{HoldsAlong, HoldsCrashed, HoldsOfActs, HoldsOfRun, HoldsOfSource, HoldsRefused, HoldsStarved, HoldsUntil}
+use Rattle.script_runner.specs.RunBenches.{HoldsAlong, HoldsCrashed, HoldsExceeded, HoldsOfActs, HoldsOfRun, HoldsOfSource, HoldsRefused, HoldsStarved, HoldsUntil}
 use Rattle.script_runner.specs.RunCauses.{World}
-use Rattle.script_runner.specs.SavedFiles.{Standing, begins_with}
+use Rattle.script_runner.specs.SavedFiles.{Standing, begins_with, with_bench}
 use Rattle.script_runner.specs.Text.{Act, Controlled, Do, Listed, Ran, RunRecord, Serve, acts_of}
 use Rattle.script_runner.specs.Trace.{Trace, applications_of}
 use Rattle.script_text.specs.declared.script.Arm.{Arm}
-use Rattle.script_text.specs.declared.script.Control.TheVariants.{Arm as ArmControl, Crash, Flip, List as ListControl, Mode as ModeControl, Phase, Restore, Save}
+use Rattle.script_text.specs.declared.script.Control.TheVariants.{Arm as ArmControl, Crash, Flip, List as ListControl, Mode as ModeControl, Phase, Quota as QuotaControl, Restore, Save}
 use Rattle.script_text.specs.declared.script.Mode.TheVariants.{Serial}
 use Rattle.script_text.specs.declared.script.Mode.{Mode}
 use Rattle.script_text.specs.declared.script.Step.{Step}
@@ -53,6 +53,8 @@ module _ {F R : Type 0} (of_file : F → FileState) (of_port : R → PortState) 
           (follows before told old.bench holds.0, rest (before ++ Do (Crash seed) ∷ []) (told ++ Controlled ∷ []) holds.1);
       save = λ arms mark acts records old new goes rest before told holds.
           (follows before told old.bench holds.0, rest (before ++ Do (Save mark) ∷ []) (told ++ Controlled ∷ []) holds.1);
+      quota = λ arms app objects bytes acts records old new goes rest before told holds.
+          (follows before told old.bench holds.0, rest (before ++ Do (QuotaControl app objects bytes) ∷ []) (told ++ Controlled ∷ []) holds.1);
       restore = λ arms file mark acts records old new goes rest before told holds.
           (follows before told old.bench holds.0, rest (before ++ Do (Restore file mark) ∷ []) (told ++ Controlled ∷ []) holds.1);
       flip = λ arms file at mask acts records old new goes rest before told holds.
@@ -65,20 +67,27 @@ module _ {F R : Type 0} (of_file : F → FileState) (of_port : R → PortState) 
       map_until : (left : List Act) (g : GoesUntil of_file of_port image Reliable keys apps [] acts records left old new)
           → HoldsUntil of_file of_port image Reliable keys P apps [] acts records old new left g → HoldsUntil of_file of_port image Reliable keys Q apps [] acts records old new left g
       map_until left g holds =
-          fold_going of_file of_port image Reliable keys apps Maps map_steps [] g.done records old (record { bench = new; saved = g.saved }) g.goes [] [] holds
+          fold_going of_file of_port image Reliable keys apps Maps map_steps [] g.done records old (with_bench g.there new) g.goes [] [] holds
 
       map_refused : (drew draws : ℕ) (fault : MountFault) (r : RecordsRefusal of_file of_port image Reliable drew draws keys apps [] acts records old new fault)
           → HoldsRefused of_file of_port image Reliable keys P apps [] acts records old new drew draws fault r
           → HoldsRefused of_file of_port image Reliable keys Q apps [] acts records old new drew draws fault r
       map_refused drew draws fault (front, is, g) holds = (
-        fold_going of_file of_port image Reliable keys apps Maps map_steps [] (g.goes).done front old (record { bench = g.between; saved = (g.goes).saved }) (g.goes).goes [] [] holds.0,
+        fold_going of_file of_port image Reliable keys apps Maps map_steps [] (g.goes).done front old (with_bench (g.goes).there g.between) (g.goes).goes [] [] holds.0,
         follows _ records new holds.1,
       )
 
       map_crashed : (g : GoesUntilCrashed of_file of_port image Reliable keys apps [] acts records old new) → HoldsCrashed of_file of_port image Reliable keys P apps [] acts records old new g
           → HoldsCrashed of_file of_port image Reliable keys Q apps [] acts records old new g
       map_crashed g holds = (
-        fold_going of_file of_port image Reliable keys apps Maps map_steps [] (g.goes).done records old (record { bench = g.between; saved = (g.goes).saved }) (g.goes).goes [] [] holds.0,
+        fold_going of_file of_port image Reliable keys apps Maps map_steps [] (g.goes).done records old (with_bench (g.goes).there g.between) (g.goes).goes [] [] holds.0,
+        follows _ records new holds.1,
+      )
+
+      map_exceeded : (sum : ℕ) (g : GoesUntilExceeded of_file of_port image Reliable keys apps [] acts records old new sum)
+          → HoldsExceeded of_file of_port image Reliable keys P apps [] acts records old new sum g → HoldsExceeded of_file of_port image Reliable keys Q apps [] acts records old new sum g
+      map_exceeded sum g holds = (
+        fold_going of_file of_port image Reliable keys apps Maps map_steps [] (g.goes).done records old (with_bench (g.goes).there g.between) (g.goes).goes [] [] holds.0,
         follows _ records new holds.1,
       )
 
@@ -94,16 +103,13 @@ module _ {F R : Type 0} (of_file : F → FileState) (of_port : R → PortState) 
           → HoldsOfActs of_file of_port image Reliable keys Q apps [] acts records old new drew draws status ends
       map_acts drew draws Done g holds = map_until [] g holds
       map_acts drew draws WriteFault (inl (left, g)) holds = map_until left g holds
-      map_acts drew draws WriteFault (inr (fault, refusal, r)) holds = map_refused drew draws fault r holds
+      map_acts drew draws WriteFault (inr (inl (fault, refusal, r))) holds = map_refused drew draws fault r holds
+      map_acts drew draws WriteFault (inr (inr (sum, g))) holds = map_exceeded sum g holds
       map_acts drew draws (MountRefused fault) r holds = map_refused drew draws fault r holds
       map_acts drew draws (DeviceFault fault) r holds = map_refused drew draws fault r holds
+      map_acts drew draws (OverCommitted sum) g holds = map_exceeded sum g holds
       map_acts drew draws NoMemory ends holds = map_starved drew draws ends holds
-      map_acts drew draws Usage ends holds = tt
-      map_acts drew draws (FileFault broken) ends holds = tt
-      map_acts drew draws (CardMapRefused block offset) ends holds = tt
-      map_acts drew draws (BadLine line) ends holds = tt
-      map_acts drew draws ReadFault ends holds = tt
-      map_acts drew draws (TooLong excess) ends holds = tt
+      map_acts drew draws status ends holds = tt
 
   module _ (drew draws : ℕ) (t : Trace) (handed given : BenchState) where
     map_run : (apps : List (List ℕ)) (acts : List Act) (status : Status) (ends : EndsRun of_file of_port image Reliable drew draws keys apps acts t.start t.records handed given status)
@@ -118,14 +124,10 @@ module _ {F R : Type 0} (of_file : F → FileState) (of_port : R → PortState) 
     map_source WriteFault (script, read, ends) holds = map_run (applications_of script) (acts_of Serial script.steps) WriteFault ends holds
     map_source (MountRefused fault) (script, read, ends) holds = map_run (applications_of script) (acts_of Serial script.steps) (MountRefused fault) ends holds
     map_source (DeviceFault fault) (script, read, ends) holds = map_run (applications_of script) (acts_of Serial script.steps) (DeviceFault fault) ends holds
+    map_source (OverCommitted sum) (script, read, ends) holds = map_run (applications_of script) (acts_of Serial script.steps) (OverCommitted sum) ends holds
     map_source NoMemory (inl (same, silent)) holds = follows [] [] given holds
     map_source NoMemory (inr (script, read, ends)) holds = map_run (applications_of script) (acts_of Serial script.steps) NoMemory ends holds
-    map_source Usage ends holds = follows [] [] given holds
-    map_source (FileFault broken) ends holds = follows [] [] given holds
-    map_source (CardMapRefused block offset) ends holds = follows [] [] given holds
-    map_source (BadLine line) ends holds = follows [] [] given holds
-    map_source ReadFault ends holds = follows [] [] given holds
-    map_source (TooLong excess) ends holds = follows [] [] given holds
+    map_source status ends holds = follows [] [] given holds
 
 -- behind a phase
 behind_last : (keys : Keys) (apps : List (List ℕ)) (before : List Act) (act : Act) (bench : BenchState) (s : ReplayState) → HoldsBehind keys apps (before ++ act ∷ []) bench s → Holds keys bench s

@@ -6,14 +6,14 @@ use Rattle.rpmb_card.specs.Port.{PortState}
 use Rattle.run_acts.specs.Benches.{BenchState}
 use Rattle.run_acts.specs.declared.MountFault.{MountFault}
 use Rattle.run_acts.specs.Opens.{OpensBench}
-use Rattle.script_runner.specs.Course.{Goes, GoesUntil, GoesUntilCrashed}
+use Rattle.script_runner.specs.Course.{Goes, GoesUntil, GoesUntilCrashed, GoesUntilExceeded}
 use Rattle.script_runner.specs.declared.status.Excess.TheVariants.{Apps, Bytes}
 use Rattle.script_runner.specs.declared.status.Status.{Status}
-use Rattle.script_runner.specs.declared.status.Status.TheVariants.{BadLine, CardMapRefused, DeviceFault, Done, FileFault, MountRefused, NoMemory, ReadFault, TooLong, Usage, WriteFault}
+use Rattle.script_runner.specs.declared.status.Status.TheVariants.{BadLine, DeviceFault, Done, MountRefused, NoMemory, OverCommitted, ReadFault, TooLong, WriteFault}
 use Rattle.script_runner.specs.Ending.{EndsActs, EndsBench, EndsRun, EndsScript, RecordsRefusal, Shut}
 use Rattle.script_runner.specs.RunCauses.{HasCause, World}
-use Rattle.script_runner.specs.SavedFiles.{Standing, begins_with}
-use Rattle.script_runner.specs.Text.{Act, Do, Refused, RunRecord, acts_of}
+use Rattle.script_runner.specs.SavedFiles.{Standing, begins_with, with_bench}
+use Rattle.script_runner.specs.Text.{Act, Do, Refused, RunRecord, Serve, acts_of}
 use Rattle.script_runner.specs.Trace.{OfScript, Trace, applications_of}
 use Rattle.script_text.specs.declared.reading.ScriptFault.{ScriptFault}
 use Rattle.script_text.specs.declared.reading.ScriptFault.TheVariants.{BadLine as BadLineFault, TooManyApps}
@@ -49,7 +49,7 @@ module _ {F R : Type 0} (of_file : F → FileState) (of_port : R → PortState) 
         left = left;
         acts_are = g.front;
         front = records;
-        last = record { bench = given; saved = g.saved };
+        last = with_bench g.there given;
         goes = g.goes;
         records_are = inl refl;
       }
@@ -62,7 +62,7 @@ module _ {F R : Type 0} (of_file : F → FileState) (of_port : R → PortState) 
         left = g.left;
         acts_are = (g.goes).front;
         front = front;
-        last = record { bench = g.between; saved = (g.goes).saved };
+        last = with_bench (g.goes).there g.between;
         goes = (g.goes).goes;
         records_are = inr (fault, is);
       }
@@ -75,7 +75,20 @@ module _ {F R : Type 0} (of_file : F → FileState) (of_port : R → PortState) 
         left = Do (Crash g.seed) ∷ g.left;
         acts_are = (g.goes).front;
         front = records;
-        last = record { bench = g.between; saved = (g.goes).saved };
+        last = with_bench (g.goes).there g.between;
+        goes = (g.goes).goes;
+        records_are = inl refl;
+      }
+
+      walked_exceeded : (sum : ℕ) → GoesUntilExceeded of_file of_port image Reliable keys apps [] acts records (begins_with between) given sum → Walked records
+      walked_exceeded sum g = record {
+        between = between;
+        opens = opens;
+        done = (g.goes).done;
+        left = Serve g.mode g.calls ∷ g.left;
+        acts_are = (g.goes).front;
+        front = records;
+        last = with_bench (g.goes).there g.between;
         goes = (g.goes).goes;
         records_are = inl refl;
       }
@@ -83,31 +96,22 @@ module _ {F R : Type 0} (of_file : F → FileState) (of_port : R → PortState) 
       walked_acts : (status : Status) → EndsActs of_file of_port image Reliable drew draws keys apps [] acts records (begins_with between) given status → Walked records
       walked_acts Done g = walked_until [] g
       walked_acts WriteFault (inl (left, g)) = walked_until left g
-      walked_acts WriteFault (inr (fault, refusal, r)) = walked_refused fault r
+      walked_acts WriteFault (inr (inl (fault, refusal, r))) = walked_refused fault r
+      walked_acts WriteFault (inr (inr (sum, g))) = walked_exceeded sum g
       walked_acts (MountRefused fault) r = walked_refused fault r
       walked_acts (DeviceFault fault) r = walked_refused fault r
+      walked_acts (OverCommitted sum) g = walked_exceeded sum g
       walked_acts NoMemory (inl (left, g)) = walked_until left g
       walked_acts NoMemory (inr (inl (fault, may, r))) = walked_refused fault r
       walked_acts NoMemory (inr (inr g)) = walked_crashed g
-      walked_acts Usage ends = absurd ends
-      walked_acts (FileFault broken) ends = absurd ends
-      walked_acts (CardMapRefused block offset) ends = absurd ends
-      walked_acts (BadLine line) ends = absurd ends
-      walked_acts ReadFault ends = absurd ends
-      walked_acts (TooLong excess) ends = absurd ends
+      walked_acts status ends = absurd ends
 
     pub shut_none : (start : Option MountFault) (status : Status) → Shut of_file of_port image Reliable drew draws keys start records handed given status → records ≡ []
     shut_none start WriteFault (fault, refusal, n) = n.none
     shut_none start (MountRefused fault) n = n.none
     shut_none start (DeviceFault fault) n = n.none
     shut_none start NoMemory (fault, may, n) = n.none
-    shut_none start Done ends = absurd ends
-    shut_none start Usage ends = absurd ends
-    shut_none start (FileFault broken) ends = absurd ends
-    shut_none start (CardMapRefused block offset) ends = absurd ends
-    shut_none start (BadLine line) ends = absurd ends
-    shut_none start ReadFault ends = absurd ends
-    shut_none start (TooLong excess) ends = absurd ends
+    shut_none start status ends = absurd ends
 
     walked_run : (start : Option MountFault) (status : Status) → EndsRun of_file of_port image Reliable drew draws keys apps acts start records handed given status → HasWalked records
     walked_run start status (inl o) = inr (walked_acts o.between o.opens status o.ends)
@@ -136,12 +140,11 @@ module _ {F R : Type 0} (of_file : F → FileState) (of_port : R → PortState) 
   walked WriteFault cause ends = walked_script WriteFault ends
   walked (MountRefused fault) cause ends = walked_script (MountRefused fault) ends
   walked (DeviceFault fault) cause ends = walked_script (DeviceFault fault) ends
+  walked (OverCommitted sum) cause ends = walked_script (OverCommitted sum) ends
   walked NoMemory cause (inl (same, silent)) = inl silent.records
   walked NoMemory cause (inr ends) = walked_script NoMemory ends
-  walked Usage cause ends = absurd cause
-  walked (FileFault broken) cause ends = absurd cause
-  walked (CardMapRefused block offset) cause ends = absurd cause
   walked (BadLine line) cause ends = absurd (no_fault (BadLineFault line) cause.1)
   walked ReadFault cause ends = inl (cause.2).records
   walked (TooLong Bytes) cause ends = inl (cause.1).records
   walked (TooLong (Apps n)) cause ends = absurd (no_fault (TooManyApps n) cause.1)
+  walked status cause ends = absurd cause

@@ -27,6 +27,7 @@ use Rattle.run_acts.specs.Quiet.{IsQuiet}
 use Rattle.run_freshness.specs.Course.{HasItsCard}
 use Rattle.run_freshness.specs.Runs.{IsFreshSource}
 use Rattle.script_runner.specs.declared.status.Status.{Status}
+use Rattle.script_runner.specs.declared.status.Status.TheVariants.{OverCommitted}
 use Rattle.script_runner.specs.Migrations.{RunsMigration}
 use Rattle.script_runner.specs.QuietLaws.{ArmNothing}
 use Rattle.script_runner.specs.RunCauses.{HasCause, IsExact, RunsItsScript, World}
@@ -49,23 +50,43 @@ use Rattle.trusted_storage.specs.Commits.{ReplayState, replay_left}
 use Rattle.trusted_storage.specs.Devices.{AreUntainted, BenchState}
 use Rattle.trusted_storage.specs.Objects.{ObjectMap}
 use Rattle.trusted_storage.specs.PowerCuts.{FileState, IsPictureOf, MayCrash, Picture}
+use Rattle.trusted_storage.specs.Quotas.{IsolatesApplications, RefusesBeyondQuotas, StaysWithinQuotas}
 use Rattle.trusted_storage.specs.Replies.{IsLegalPhase, StandsAt}
-use Rattle.trusted_storage.specs.Runs.{Act, AlterNothing, AreLegal, AreServed, EachBench, FindLeft, HasOpened, HoldsBehind, NoneStarved, RefusedByDevices, RunCall, TaintNothing, TookScript, applications_of, left_behind, records_of, script_acts}
+use Rattle.trusted_storage.specs.Runs.{Act, AlterNothing, EachBench, EachPhase, FindLeft, HasOpened, HoldsBehind, IsServed, NoneStarved, RefusedByDevices, RunCall, SetNoQuotas, TaintNothing, TookScript, applications_of, left_behind, records_of, script_acts}
 
 module _ {F R : Type 0} (of_file : F → FileState) (of_port : R → PortState) (image : FileState → ℕ → ℕ → List ℕ) (Reliable : Type 0) (w : World) where
   -- TEXT. What was put begins the text of the script that was taken, with what was recorded of its acts. Nothing is put but of a script.
   abbrev pub RunsWriteTheirRecords : Type 0
   RunsWriteTheirRecords = (c : RunCall of_file of_port image Reliable w) → IsTraceOf c.left_old c.left_new c.held_old c.held_new c.says.0
 
-  -- EACH CALL ONCE AND IN ORDER. The history of a phase that was run has the calls of the script, each once.
+  -- EACH CALL ONCE AND IN ORDER. A phase that was run has the calls of the script, each once: as events, or as calls that were refused under quotas.
   abbrev pub CallsAreServedOnce : Type 0
-  CallsAreServedOnce = (c : RunCall of_file of_port image Reliable w) (script : ScriptValue) → TookScript c script → AreServed (script_acts script) (records_of c)
+  CallsAreServedOnce = (c : RunCall of_file of_port image Reliable w) (script : ScriptValue) → TookScript c script → EachPhase c script IsServed
 
   -- LEGAL REPLIES. Over honest files each phase's history is legal, whatever its devices were armed to fail.
   abbrev pub RepliesAreLegal : Type 0
   RepliesAreLegal =
       (c : RunCall of_file of_port image Reliable w) (script : ScriptValue) → TookScript c script → AreUntainted c.handed.files → TaintNothing (script_acts script)
-      → AreLegal (applications_of script) (records_of c)
+      → EachPhase c script (λ quotas mode calls phase. IsLegalPhase phase.opening (applications_of script) phase.events)
+
+  -- QUOTAS, over honest files. Each phase is under those that the script sets above it. An event that raises a number of an application leaves it
+  -- within its quota.
+  abbrev pub EventsStayWithinQuotas : Type 0
+  EventsStayWithinQuotas =
+      (c : RunCall of_file of_port image Reliable w) (script : ScriptValue) → TookScript c script → AreUntainted c.handed.files → TaintNothing (script_acts script)
+      → EachPhase c script (StaysWithinQuotas (applications_of script))
+
+  -- A call is refused only where quotas refuse it.
+  abbrev pub RefusedCallsAreBeyondQuotas : Type 0
+  RefusedCallsAreBeyondQuotas =
+      (c : RunCall of_file of_port image Reliable w) (script : ScriptValue) → TookScript c script → AreUntainted c.handed.files → TaintNothing (script_acts script)
+      → EachPhase c script (RefusesBeyondQuotas (applications_of script))
+
+  -- And what one application does, no other can tell.
+  abbrev pub QuotasIsolateApplications : Type 0
+  QuotasIsolateApplications =
+      (c : RunCall of_file of_port image Reliable w) (script : ScriptValue) → TookScript c script → AreUntainted c.handed.files → TaintNothing (script_acts script)
+      → EachPhase c script (IsolatesApplications (applications_of script))
 
   -- WHAT WAS ANSWERED STANDS. Each phase and each list finds what the records before it leave, whether the power failed between or not; and where
   -- an act is refused, a device failed or memory ran out.
@@ -109,12 +130,17 @@ module _ {F R : Type 0} (of_file : F → FileState) (of_port : R → PortState) 
   abbrev pub StatusesHaveCauses : Type 0
   StatusesHaveCauses = (c : RunCall of_file of_port image Reliable w) → HasCause w c.says.0 c.status × IsExact w c.says.0 c.status
 
-  -- Over devices that do not fail a script that arms and alters nothing is done, or memory ran out.
+  -- A script that sets no quotas does not exceed the store.
+  abbrev pub RunsWithoutQuotasFit : Type 0
+  RunsWithoutQuotasFit =
+      (c : RunCall of_file of_port image Reliable w) (script : ScriptValue) (sum : ℕ) → TookScript c script → SetNoQuotas (script_acts script) → c.status ≡ OverCommitted sum → ⊥
+
+  -- Over devices that do not fail a script that arms and alters nothing is done, or memory ran out, unless its quotas exceed the store.
   abbrev pub QuietRunsAreDone : Type 0
   QuietRunsAreDone =
       (c : RunCall of_file of_port image Reliable w) (script : ScriptValue) (s : ReplayState) → TookScript c script → HasOpened c → Holds c.keys c.handed s
       → IsQuiet c.keys c.handed → Reliable → (Rose c.drew c.draws → ⊥) → ArmNothing (script_acts script) → AlterNothing (script_acts script) → RunsItsScript c.status
-      → IsDoneOrStarved c.status
+      → ((sum : ℕ) → c.status ≡ OverCommitted sum → ⊥) → IsDoneOrStarved c.status
 
 -- WHAT WAS ANSWERED STANDS IN THE NEXT RUN. A run ended, the power failed or did not, and another run began with that bench: each of its phases and
 -- lists finds what both leave down to there, and where an act is refused, a device failed or memory ran out.

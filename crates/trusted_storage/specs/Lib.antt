@@ -6,4 +6,5 @@ pub mod Devices
 pub mod Benches
 pub mod Altered
 pub mod Runs
+pub mod Quotas
 pub mod Laws

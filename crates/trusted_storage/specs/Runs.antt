@@ -1,27 +1,34 @@
 -- A run of a script, phase after phase, as its records tell it.
-use Rattle.std.specs.Prelude.{◌≡◌, ℕ, List, [], ◌∷◌, None, Ok, Option}
+use Rattle.std.specs.Prelude.{◌≡◌, ◌++◌, ℕ, All, AllPairs, List, [], ◌∷◌, None, Ok, Option, Some, slice_get}
+use Rattle.app_quota.specs.declared.quotas.Quota.{Quota}
 use Rattle.disk_model.specs.State.{FileState}
 use Rattle.hmac_keys.specs.declared.Keys.{Keys}
 use Rattle.rpmb_card.specs.Port.{PortState}
+use Rattle.run_acts.specs.QuotaRefusals.{ComesBefore, admitted}
 use Rattle.run_acts.specs.ServedSteps.{ServesSteps}
 use Rattle.script_runner.specs.declared.status.Status.{Status}
 use Rattle.script_runner.specs.RunBenches.{HoldsOfSource}
 use Rattle.script_runner.specs.RunCauses.{World}
+use Rattle.script_runner.specs.SavedFiles.{quota_for}
 use Rattle.script_runner.specs.Runs.{RunsSource}
 use Rattle.script_runner.specs.Text.{Controlled, Do, Listed, Ran, Refused, Serve, acts_of}
 use Rattle.script_text.specs.declared.script.Arm.TheVariants.{Taint}
-use Rattle.script_text.specs.declared.script.Control.TheVariants.{Arm}
+use Rattle.script_text.specs.declared.script.Control.{Control}
+use Rattle.script_text.specs.declared.script.Control.TheVariants.{Arm, Quota as QuotaControl}
+use Rattle.script_text.specs.declared.script.Mode.{Mode}
 use Rattle.script_text.specs.declared.script.Mode.TheVariants.{Serial}
+use Rattle.script_text.specs.declared.script.Step.{Step}
+use Rattle.script_text.specs.declared.script.Step.TheVariants.{Call as CallStep}
 use Rattle.script_text.specs.Grammar.{script_of}
 use Rattle.script_text.specs.Script.{ScriptValue}
 use Rattle.trusted_storage.specs.Benches.{BeginsWith, Holds}
 use Rattle.trusted_storage.specs.Commits.{ReplayState}
 use Rattle.trusted_storage.specs.Devices.{BenchState, IsWhole}
-use Rattle.trusted_storage.specs.Replies.{IsLegalPhase}
+use Rattle.tee_types.specs.declared.call.Call.{Call}
 pub use Rattle.script_runner.specs.RecordLaws.{AlterNothing, FindLeft, left_behind}
 pub use Rattle.script_runner.specs.RunLaws.{RefusedByDevices}
 pub use Rattle.script_runner.specs.HeldRuns.{NoneStarved}
-pub use Rattle.script_runner.specs.Text.{Act, RunRecord}
+pub use Rattle.script_runner.specs.Text.{Act, PhaseRecord, RunRecord}
 pub use Rattle.script_runner.specs.Trace.{applications_of}
 
 module _ {F R : Type 0} (of_file : F → FileState) (of_port : R → PortState) (image : FileState → ℕ → ℕ → List ℕ) (Reliable : Type 0) (w : World) where
@@ -65,22 +72,33 @@ module _ {F R : Type 0} {of_file : F → FileState} {of_port : R → PortState} 
 abbrev pub script_acts : ScriptValue → List Act
 script_acts script = acts_of Serial script.steps
 
--- Each phase that was run has the calls of its act, each once: those of each application in their order, and in a serial phase all of them.
-abbrev pub AreServed : List Act → List RunRecord → Type 0
-AreServed acts [] = Unit {0}
-AreServed acts (Refused fault ∷ records) = Unit {0}
-AreServed (Serve mode calls ∷ acts) (Ran phase ∷ records) = ServesSteps mode calls phase.events × AreServed acts records
-AreServed (Do control ∷ acts) (Listed objects ∷ records) = AreServed acts records
-AreServed (Do control ∷ acts) (Controlled ∷ records) = AreServed acts records
-AreServed acts records = ⊥
+-- the quotas of the phases behind a control
+abbrev pub quotas_behind : List Quota → Control → List Quota
+quotas_behind quotas (QuotaControl app objects bytes) = quotas ++ quota_for app objects bytes ∷ []
+quotas_behind quotas control = quotas
 
--- the history of each phase is legal, from the objects that it opened with
-abbrev pub AreLegal : (applications : List (List ℕ)) → List RunRecord → Type 0
-AreLegal applications [] = Unit {0}
-AreLegal applications (Ran phase ∷ records) = IsLegalPhase phase.opening applications phase.events × AreLegal applications records
-AreLegal applications (Listed objects ∷ records) = AreLegal applications records
-AreLegal applications (Controlled ∷ records) = AreLegal applications records
-AreLegal applications (Refused fault ∷ records) = AreLegal applications records
+-- It holds of each phase that was run. `P` takes its quotas, which the acts before it set, its mode, its calls, and what was recorded of it.
+abbrev pub EachPhaseOf : (P : List Quota → Mode → List Step → PhaseRecord → Type 0) → List Quota → List Act → List RunRecord → Type 0
+EachPhaseOf P quotas acts [] = Unit {0}
+EachPhaseOf P quotas acts (Refused fault ∷ records) = records ≡ []
+EachPhaseOf P quotas (Serve mode calls ∷ acts) (Ran phase ∷ records) = P quotas mode calls phase × EachPhaseOf P quotas acts records
+EachPhaseOf P quotas (Do control ∷ acts) (Listed objects ∷ records) = EachPhaseOf P quotas acts records
+EachPhaseOf P quotas (Do control ∷ acts) (Controlled ∷ records) = EachPhaseOf P (quotas_behind quotas control) acts records
+EachPhaseOf P quotas acts records = ⊥
+
+module _ {F R : Type 0} {of_file : F → FileState} {of_port : R → PortState} {image : FileState → ℕ → ℕ → List ℕ} {Reliable : Type 0} {w : World} where
+  -- So of each phase of the run, which took this script.
+  abbrev pub EachPhase : (c : RunCall of_file of_port image Reliable w) → ScriptValue → (P : List Quota → Mode → List Step → PhaseRecord → Type 0) → Type 0
+  EachPhase c script P = EachPhaseOf P [] (script_acts script) (records_of c)
+
+-- A phase has the calls of its act, each once: as events, those of each application in their order, and in a serial phase all of them; or as calls
+-- that were refused under quotas, those of the first application first, and of each in their order.
+pub record IsServed (quotas : List Quota) (mode : Mode) (calls : List Step) (phase : PhaseRecord) : Type 0 where
+  pub events : ServesSteps mode (admitted phase.refused calls) phase.events
+  pub refused : All (λ r. (app : ℕ) × (call : Call) × (slice_get calls r.step ≡ Some (CallStep app call))) phase.refused
+  pub in_order : AllPairs (ComesBefore calls) phase.refused
+  -- without quotas none is refused
+  pub unrefused : quotas ≡ [] → phase.refused ≡ []
 
 -- the act lays no mask over a file in a phase: each file stays honest, though it may be altered between two phases
 abbrev pub TaintsNothing : Act → Type 0
@@ -91,6 +109,12 @@ TaintsNothing act = Unit {0}
 abbrev pub TaintNothing : List Act → Type 0
 TaintNothing [] = Unit {0}
 TaintNothing (act ∷ acts) = TaintsNothing act × TaintNothing acts
+
+-- no act sets a quota
+abbrev pub SetNoQuotas : List Act → Type 0
+SetNoQuotas [] = Unit {0}
+SetNoQuotas (Do (QuotaControl app objects bytes) ∷ acts) = ⊥
+SetNoQuotas (act ∷ acts) = SetNoQuotas acts
 
 -- behind an act the bench holds that, and before the first one it may be blank still
 abbrev pub HoldsBehind : Keys → (applications : List (List ℕ)) → (done : List Act) → BenchState → ReplayState → Type 0

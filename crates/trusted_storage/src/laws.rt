@@ -2,7 +2,7 @@
 
 ghost use Rattle.std.specs.Prelude.{◌⊎◌};
 ghost use Rattle.tee_ports.specs.Faults.{Rose};
-ghost use Rattle.trusted_storage.specs.Laws.{AlteredFilesAgree, AlteredPhasesAreLegal, CallsAreServedOnce, CertificatesHold, CutsAtExit, CutsBetweenActs, CutsInsidePhases, CutsKeep, MigrationsKeepObjects, NextRunsFindLeft, PhasesEndLegal, QuietRunsAreDone, RepliesAreLegal, RunsAreFresh, RunsWriteTheirRecords, ServiceCallsStand, SharedCallsStand, StatusesHaveCauses, WhatIsLeftIsFound};
+ghost use Rattle.trusted_storage.specs.Laws.{AlteredFilesAgree, AlteredPhasesAreLegal, CallsAreServedOnce, CertificatesHold, CutsAtExit, CutsBetweenActs, CutsInsidePhases, CutsKeep, EventsStayWithinQuotas, MigrationsKeepObjects, NextRunsFindLeft, PhasesEndLegal, QuietRunsAreDone, QuotasIsolateApplications, RefusedCallsAreBeyondQuotas, RepliesAreLegal, RunsAreFresh, RunsWithoutQuotasFit, RunsWriteTheirRecords, ServiceCallsStand, SharedCallsStand, StatusesHaveCauses, WhatIsLeftIsFound};
 
 use rpmb_card::RpmbPort;
 use tee_ports::{Entropy, FileRig, Sink, Source, StoreFile};
@@ -19,8 +19,8 @@ pub fn runs_write_their_records<S: Source, K: Sink, F: FileRig, R: RpmbPort, E: 
     }) }
 {}
 
-/// The history of each phase that was run has the calls of the script, each once: those of each application in their order, and in a serial phase all of
-/// them.
+/// Each phase that was run has the calls of the script, each once: as events, those of each application in their order, and in a serial phase all of
+/// them; or as calls that were refused under quotas.
 pub fn calls_are_served_once<S: Source, K: Sink, F: FileRig, R: RpmbPort, E: Entropy>(entropy: &E)
     ensures { (was source : S) (held sink : K) → CallsAreServedOnce F.state R.state F.crash_image (E.is_reliable entropy.now) (record {
       source_failed = Rose (S.faults was) (S.faults source);
@@ -33,6 +33,43 @@ pub fn calls_are_served_once<S: Source, K: Sink, F: FileRig, R: RpmbPort, E: Ent
 /// Over honest files each reply of a run is one that the specification allows where it stands, in one order for all applications.
 pub fn replies_are_legal<S: Source, K: Sink, F: FileRig, R: RpmbPort, E: Entropy>(entropy: &E)
     ensures { (was source : S) (held sink : K) → RepliesAreLegal F.state R.state F.crash_image (E.is_reliable entropy.now) (record {
+      source_failed = Rose (S.faults was) (S.faults source);
+      source_ended = S.has_ended source;
+      sink_failed = Rose (K.faults held) (K.faults sink);
+      sink_full = K.is_full sink;
+    }) }
+{}
+
+/// In a phase under quotas an event that raises the number of an application's objects, or of their bytes, leaves it within its quota.
+pub fn events_stay_within_quotas<S: Source, K: Sink, F: FileRig, R: RpmbPort, E: Entropy>(
+    entropy: &E,
+)
+    ensures { (was source : S) (held sink : K) → EventsStayWithinQuotas F.state R.state F.crash_image (E.is_reliable entropy.now) (record {
+      source_failed = Rose (S.faults was) (S.faults source);
+      source_ended = S.has_ended source;
+      sink_failed = Rose (K.faults held) (K.faults sink);
+      sink_full = K.is_full sink;
+    }) }
+{}
+
+/// A call that was refused under quotas would have left its application beyond its quota, where it was refused.
+pub fn refused_calls_are_beyond_quotas<S: Source, K: Sink, F: FileRig, R: RpmbPort, E: Entropy>(
+    entropy: &E,
+)
+    ensures { (was source : S) (held sink : K) → RefusedCallsAreBeyondQuotas F.state R.state F.crash_image (E.is_reliable entropy.now) (record {
+      source_failed = Rose (S.faults was) (S.faults source);
+      source_ended = S.has_ended source;
+      sink_failed = Rose (K.faults held) (K.faults sink);
+      sink_full = K.is_full sink;
+    }) }
+{}
+
+/// In a phase under quotas each application is answered by its own calls alone, from its own objects, or a device has the blame: no other can fill its
+/// store, and that a store has room for 256 objects is in no reply.
+pub fn quotas_isolate_applications<S: Source, K: Sink, F: FileRig, R: RpmbPort, E: Entropy>(
+    entropy: &E,
+)
+    ensures { (was source : S) (held sink : K) → QuotasIsolateApplications F.state R.state F.crash_image (E.is_reliable entropy.now) (record {
       source_failed = Rose (S.faults was) (S.faults source);
       source_ended = S.has_ended source;
       sink_failed = Rose (K.faults held) (K.faults sink);
@@ -100,7 +137,17 @@ pub fn statuses_have_causes<S: Source, K: Sink, F: FileRig, R: RpmbPort, E: Entr
     }) }
 {}
 
-/// Over devices that do not fail a script that arms and alters nothing is done, or memory ran out.
+/// A script that sets no quotas does not exceed the store.
+pub fn runs_without_quotas_fit<S: Source, K: Sink, F: FileRig, R: RpmbPort, E: Entropy>(entropy: &E)
+    ensures { (was source : S) (held sink : K) → RunsWithoutQuotasFit F.state R.state F.crash_image (E.is_reliable entropy.now) (record {
+      source_failed = Rose (S.faults was) (S.faults source);
+      source_ended = S.has_ended source;
+      sink_failed = Rose (K.faults held) (K.faults sink);
+      sink_full = K.is_full sink;
+    }) }
+{}
+
+/// Over devices that do not fail a script that arms and alters nothing is done, or memory ran out, unless its quotas exceed the store.
 pub fn quiet_runs_are_done<S: Source, K: Sink, F: FileRig, R: RpmbPort, E: Entropy>(entropy: &E)
     ensures { (was source : S) (held sink : K) → QuietRunsAreDone F.state R.state F.crash_image (E.is_reliable entropy.now) (record {
       source_failed = Rose (S.faults was) (S.faults source);

@@ -8,9 +8,9 @@ use crate::rows::settings::Settings;
 use hmac_keys::rpmb_key;
 use rpmb_card::CardRig;
 use rpmb_host::Host;
-use script_runner::{Bench, SimBench, blank_bench, simulator_keys, worn};
 use std::alloc::Global;
 use tee_types::BENCH_FILES;
+use trial_runs::{Bench, SimBench, blank_bench, simulator_keys, worn};
 
 // The bench that the row before left, or one with a store of the old format, or devices that were never used.
 fn first_bench(

@@ -1,7 +1,7 @@
 // How a run ends, in the words of a row.
 
-use script_runner::{Excess, FilePlace, Status};
 use std::alloc::{AllocError, Global};
+use trial_runs::{Excess, FilePlace, Status};
 
 /// A status in the words of a row.
 pub fn status_text(alloc: Global, status: &Status) -> Result<String, AllocError> {
@@ -20,6 +20,7 @@ pub fn status_text(alloc: Global, status: &Status) -> Result<String, AllocError>
         Status::CardMapRefused { block, offset } => {
             format!(in alloc; "status 6 card-map {block} {offset}")
         }
+        Status::OverCommitted(sum) => format!(in alloc; "status 10 sum {sum}"),
     }
 }
 

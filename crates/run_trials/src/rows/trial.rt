@@ -3,13 +3,12 @@
 use crate::rows::bench::bench_for;
 use crate::rows::ends::status_text;
 use crate::rows::row::Row;
-use script_runner::{RunEnd, SimBench, Status, run, simulator_keys};
 use seed_words::SeedEntropy;
 use std::alloc::{AllocError, Global};
 use std::sync::Wait;
 use std::thread::Threads;
 use tee_ports::{MemSink, MemSource};
-use trial_runs::new_folder;
+use trial_runs::{RunEnd, SimBench, Status, new_folder, run, simulator_keys};
 
 /// How a row's run ended: its status, what it put, and the bench that it left.
 #[derive(Drop)]

@@ -1,4 +1,4 @@
-use Rattle.std.proofs.Common.{◌≡◌, ◌∙◌, ℕ, List, sym, ap}
+use Rattle.std.proofs.Common.{◌∙◌, ℕ, List, sym, ap}
 use Rattle.app_totals.specs.EntryTotals.{entry_totals}
 use Rattle.app_totals.specs.Meant.{sound_state}
 use Rattle.tee_types.specs.declared.call.Call.TheVariants.{Truncate}

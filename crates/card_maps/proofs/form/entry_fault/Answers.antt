@@ -1,4 +1,4 @@
-use Rattle.std.proofs.Common.{◌≡◌, ℕ, Bool, true, false, cond, get_or, Option, Some, None, ap, sym, ◌∙◌}
+use Rattle.std.proofs.Common.{ℕ, Bool, true, cond, get_or, Option, Some, None, ap, sym, ◌∙◌}
 use Rattle.card_maps.specs.Form.{front_fault, or_next, rest_fault}
 use Rattle.card_maps.specs.Tables.{fresh_fault}
 use Rattle.card_maps.proofs.form.entry_fault.Goals as goal

@@ -1,4 +1,4 @@
-use Rattle.std.proofs.Common.{◌≡◌, ◌==◌, ◌+◌, ◌-◌, ◌≤◌, ℕ, List, sym, ◌∙◌, arith}
+use Rattle.std.proofs.Common.{◌==◌, ◌+◌, ◌-◌, ℕ, List, sym, ◌∙◌, arith}
 use Rattle.card_maps.specs.Form.{byte_at, data_blocks, size_in}
 use Rattle.card_maps.proofs.Faults.{wrong_at}
 use Rattle.card_maps.proofs.Ranges.{wrong_none}

@@ -1,4 +1,4 @@
-use Rattle.std.proofs.Common.{◌≡◌, ◌+◌, ℕ, ◌<◌, ◌≤◌, ◌==◌, ◌||◌, true, get_or, length}
+use Rattle.std.proofs.Common.{◌≡◌, ℕ, ◌<◌, ◌==◌, ◌||◌, true, get_or, length}
 use Rattle.std.specs.List.{list_any, range_with_len}
 use Rattle.card_maps.specs.Form.{number_at}
 use Rattle.card_maps.specs.Tables.{is_fresh}

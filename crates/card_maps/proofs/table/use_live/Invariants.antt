@@ -1,4 +1,4 @@
-use Rattle.std.proofs.Common.{◌≡◌, ℕ, ◌<◌, ◌≤◌, ◌&&◌, ◌||◌, true, get_or}
+use Rattle.std.proofs.Common.{◌≡◌, ℕ, ◌<◌, ◌&&◌, ◌||◌, true, get_or}
 use Rattle.std.specs.Prelude.{nat_lt}
 use Rattle.card_maps.specs.Form.{is_live}
 use Rattle.card_maps.proofs.table.use_live.Given as goal

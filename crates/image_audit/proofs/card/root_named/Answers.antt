@@ -1,5 +1,5 @@
-use Rattle.std.proofs.Common.{◌≡◌, ◌∙◌, ◌==◌, ℕ, List, Bool, Result, Ok, Err, cond, false, true, get_or, sym, ap}
-use Rattle.std.proofs.lemmas.Bool.{eq-eqb, ne_eqb}
+use Rattle.std.proofs.Common.{◌≡◌, ◌==◌, ℕ, List, Bool, Result, Err, cond, true, get_or, sym, ap}
+use Rattle.std.proofs.lemmas.Bool.{eq-eqb}
 use Rattle.node_image.specs.declared.node.RootRef.{RootRef}
 use Rattle.crash_core.specs.CardBlock.{old_format, root_in}
 use Rattle.image_audit.specs.declared.fault.CertFault.{CertFault}

@@ -1,4 +1,4 @@
-use Rattle.std.proofs.Common.{◌≤◌, ◌∙◌, Some, sym, subst}
+use Rattle.std.proofs.Common.{◌∙◌, Some, sym, subst}
 use Rattle.shared_store.specs.CallerSessions.{CallerSession}
 use Rattle.shared_store.specs.ForeseenCalls.{EndsForecast}
 use Rattle.shared_store.specs.GuardedGates.{GuardedGateValue}

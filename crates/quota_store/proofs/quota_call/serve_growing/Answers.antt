@@ -1,8 +1,8 @@
 -- The call is answered before, refused, or served as far as the forecast went.
 use Rattle.std.proofs.Common.{◌∙◌, Ok, Result, Some, inl, inr, refl, sym, subst}
 use Rattle.app_totals.specs.declared.numbers.Forecast.{Forecast}
-use Rattle.shared_calls.proofs.CarriedAttempts.{carries-grown}
-use Rattle.shared_calls.proofs.Waiting.{waits-then}
+use Rattle.shared_store.proofs.CarriedAttempts.{carries-grown}
+use Rattle.shared_store.proofs.Waiting.{waits-then}
 use Rattle.shared_store.proofs.CountGrowth.{grows_grows, grows_le}
 use Rattle.shared_store.specs.CallerSessions.{CallerSession}
 use Rattle.shared_store.specs.ForeseenCalls.{EndsForecast, IsAnsweredEarly, IsForeseen}

@@ -1,4 +1,4 @@
-use Rattle.std.proofs.Common.{◌∙◌, List, ℕ, ap}
+use Rattle.std.proofs.Common.{◌∙◌, ap}
 use Rattle.app_quota.specs.Quotas.{limit_of}
 use Rattle.shared_store.specs.CallerSessions.{CallerSession}
 use Rattle.quota_store.proofs.CutSessions.{lent_back}

@@ -1,4 +1,4 @@
-use Rattle.std.proofs.Common.{◌≡◌, ◌<◌, ◌∙◌, length, arith}
+use Rattle.std.proofs.Common.{◌≡◌, ◌∙◌, arith}
 use Rattle.quota_store.specs.Halves.{app_at}
 use Rattle.quota_store.proofs.AppSessions.{halves_left, own_halves, together_left}
 use Rattle.quota_store.proofs.sharing.lock_app.Goals as goal

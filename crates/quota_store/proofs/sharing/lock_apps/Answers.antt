@@ -1,5 +1,5 @@
 -- An application whose kept halves are still there gets a lock for them.
-use Rattle.std.proofs.Common.{◌≡◌, ◌+◌, ◌≤◌, ◌∙◌, vec_len, arith}
+use Rattle.std.proofs.Common.{◌∙◌, arith}
 use Rattle.std.proofs.lemmas.Grind.{common_steps}
 use Rattle.quota_store.proofs.sharing.lock_apps.Goals as goal
 use Rattle.quota_store.proofs.sharing.lock_apps.Goals.{then-is_some, else-is_some}

@@ -1,6 +1,6 @@
-use Rattle.std.proofs.Common.{◌≡◌, ◌<◌, ◌∙◌, Bool, None, Option, cond, get_or, length, sym, ap, arith}
+use Rattle.std.proofs.Common.{◌≡◌, ◌<◌, ◌∙◌, Bool, None, Option, cond, get_or, length, ap, arith}
 use Rattle.std.specs.Str.{bytes_eq}
-use Rattle.std.proofs.lemmas.List.{get_or_default, length-set}
+use Rattle.std.proofs.lemmas.List.{get_or_default}
 use Rattle.history_seats.specs.Views.{PassView, Sight}
 use Rattle.quota_store.specs.Sharing.{is_app_at}
 use Rattle.quota_store.proofs.AppSessions.{all_moved, compared, none_moved, none_past, one_moved}

@@ -1,5 +1,4 @@
-use Rattle.std.proofs.Common.{◌≡◌, ◌+◌, ◌*◌, ℕ, length, ap, ◌∙◌}
-use Rattle.std.specs.Prelude.{min}
+use Rattle.std.proofs.Common.{◌*◌}
 use Rattle.rpmb_files.proofs.DataBlocks.{filled_is}
 use Rattle.rpmb_files.proofs.plan.data_block.Goals as goal
 

@@ -1,6 +1,6 @@
 use Rattle.std.proofs.Common.{◌≡◌, ◌∙◌, List, drop, length, take, sym, ap, subst, take-append-drop}
 use Rattle.script_text.specs.declared.script.Step.{Step}
-use Rattle.shared_store.specs.CallerSessions.{CallerSession}
+use Rattle.quota_store.specs.CallerSessions.{CallerSession}
 use Rattle.object_calls.specs.OpeningSessions.{AreCallers}
 use Rattle.object_calls.proofs.Files.{refilled}
 use Rattle.run_acts.specs.Reliable.{AreFresh, AreReliable}

@@ -2,7 +2,7 @@ use Rattle.std.proofs.Common.{◌≡◌, ◌∙◌, ◌++◌, ℕ, List, drop, l
 use Rattle.store_model.specs.Record.{events_of}
 use Rattle.history_seats.specs.Records.{HistoryRecord}
 use Rattle.core_laws.specs.Stores.{Store}
-use Rattle.shared_store.specs.CallerSessions.{CallerSession}
+use Rattle.quota_store.specs.CallerSessions.{CallerSession}
 use Rattle.object_calls.specs.OpeningSessions.{AreSeated, DrawAlike}
 use Rattle.object_calls.proofs.Files.{refilled}
 use Rattle.run_acts.specs.Reliable.{AreFresh, AreReliable}

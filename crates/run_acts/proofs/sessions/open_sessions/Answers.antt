@@ -1,6 +1,6 @@
 use Rattle.std.proofs.Common.{rules, ◌≡◌, ◌∙◌, ◌+◌, ℕ, List, [], ◌∷◌, ◌++◌, length, take, sym, ap, subst}
 use Rattle.std.proofs.lemmas.List.{take_more}
-use Rattle.shared_store.specs.CallerSessions.{CallerSession}
+use Rattle.quota_store.specs.CallerSessions.{CallerSession}
 use Rattle.object_calls.specs.Opening.{OpeningValue}
 use Rattle.object_calls.specs.OpeningSessions.{AreUnseated, unseated}
 use Rattle.run_acts.specs.Reliable.{AreFresh, AreReliable}

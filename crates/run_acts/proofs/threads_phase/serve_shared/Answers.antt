@@ -1,12 +1,12 @@
 use Rattle.std.proofs.Common.{◌≡◌, ◌∙◌, ◌++◌, ℕ, List, ap, drop, length, refl, sym, subst, take}
 use Rattle.tee_types.specs.Limits.{last_file, old_directory_file}
 use Rattle.core_laws.specs.Stores.{Store}
-use Rattle.shared_store.specs.CallerSessions.{CallerSession}
-use Rattle.shared_store.specs.Devices.{Devices}
+use Rattle.quota_store.specs.CallerSessions.{CallerSession}
+use Rattle.quota_store.specs.Devices.{Devices}
 use Rattle.object_calls.specs.OpeningFiles.{files_of}
 use Rattle.object_calls.specs.OpeningSessions.{AreSeated, DrawAlike, HaveNoEvents}
 use Rattle.object_calls.proofs.Files.{directory_here, refilled, spare_here}
-use Rattle.shared_store.specs.Kept.{KeepsGate}
+use Rattle.quota_store.specs.Kept.{KeepsGate}
 use Rattle.run_acts.specs.Sharing.{AreKept, IsBenchOf}
 use Rattle.run_acts.proofs.Sharings.{first_gate_kept, first_slots_kept}
 use Rattle.run_acts.specs.Reliable.{AreFresh, AreReliable}

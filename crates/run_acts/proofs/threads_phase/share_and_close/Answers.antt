@@ -1,8 +1,8 @@
 use Rattle.std.proofs.Common.{◌≡◌, ◌∙◌, ℕ, List, length, true, sym, ap, subst, arith}
 use Rattle.std.specs.List.{list_all}
 use Rattle.tee_types.specs.Limits.{last_file}
-use Rattle.shared_store.specs.CallerSessions.{CallerSession}
-use Rattle.shared_store.specs.SlotValues.{SlotValue}
+use Rattle.quota_store.specs.CallerSessions.{CallerSession}
+use Rattle.quota_store.specs.SlotValues.{SlotValue}
 use Rattle.object_calls.specs.FinishedPhase.{HaveCounted}
 use Rattle.object_calls.specs.OpeningSessions.{AreCallers, AreSeated, HaveNoEvents}
 use Rattle.object_calls.proofs.Files.{refilled}

@@ -10,9 +10,9 @@ use Rattle.script_runner.proofs.acts.run_script.Goals as goal
 
 pub returns-in-Ok-clause-ran : goal.returns-in-Ok-clause-ran
 returns-in-Ok-clause-ran g c =
-    let run : Run g.row.F.Denot g.row.R.Denot = record { bench = c.in-Ok.bench; saved = c.new.result; arms = c.new-in-Ok.result; number = 0; mode = Serial; at = 0; kept = c.new-in-Ok-2.result } in
+    let run : Run g.row.F.Denot g.row.R.Denot = record { bench = c.in-Ok.bench; saved = c.new.result; quotas = c.new-in-Ok.result; arms = c.new-in-Ok-2.result; number = 0; mode = Serial; at = 0; kept = c.new-in-Ok-3.result } in
     RunsScript-opened g.F.StoreFile.state g.R.RpmbPort.state g.F.FileRig.crash_image _ _ _ c.args.keys.now _ _ _ _ c.args.script.now _ (bench_state g.F.StoreFile.state g.R.RpmbPort.state c.do_acts.result.bench) c.do_acts.result.status c.in-Ok.ensures.opens
-    (EndsFrom-first g.F.StoreFile.state g.R.RpmbPort.state g.F.FileRig.crash_image _ c.args.keys.now c.args.script.now _ _ _ _ _ _ run _ c.do_acts.result.status c.in-Ok.ensures.undrawn refl refl refl c.new-in-Ok.ensures.items c.new-in-Ok-2.ensures.items c.new.ensures (c.do_acts.ensures.ends c.args.entropy.now c.open_bench.ensures.reliable).ends)
+    (EndsFrom-first g.F.StoreFile.state g.R.RpmbPort.state g.F.FileRig.crash_image _ c.args.keys.now c.args.script.now _ _ _ _ _ _ run _ c.do_acts.result.status c.in-Ok.ensures.undrawn refl refl refl c.new-in-Ok-2.ensures.items c.new-in-Ok-3.ensures.items c.new.ensures c.new-in-Ok.ensures.items (c.do_acts.ensures.ends c.args.entropy.now c.open_bench.ensures.reliable).ends)
 
 pub returns-in-Err-clause-ran : goal.returns-in-Err-clause-ran
 returns-in-Err-clause-ran g c =

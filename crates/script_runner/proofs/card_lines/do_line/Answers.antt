@@ -1,6 +1,5 @@
-use Rattle.std.proofs.Common.{refl, sym, subst}
+use Rattle.std.proofs.Common.{sym, subst}
 use Rattle.std.proofs.lemmas.Result.{IfErr-weaker, IfOk-weaker}
-use Rattle.card_script.specs.declared.card_line.CardReply.TheVariants.{Done}
 use Rattle.card_maps.specs.Course.{CardCall, Get, Put, Remove}
 use Rattle.card_maps.specs.Tables.{named}
 use Rattle.rpmb_files.specs.Replies.{done_reply, found_reply}

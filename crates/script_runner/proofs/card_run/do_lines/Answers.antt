@@ -1,5 +1,4 @@
-use Rattle.std.proofs.Common.{◌≡◌, ◌<◌, ◌≤◌, get_or, length, arith, refl, sym, subst, ap, ◌∙◌}
-use Rattle.rpmb_files.specs.Stores.{store_state}
+use Rattle.std.proofs.Common.{◌≡◌, ◌<◌, ◌≤◌, get_or, length, arith, refl, subst}
 use Rattle.script_runner.proofs.CardLoops.{LinesDone-more, LinesDone-none}
 use Rattle.script_runner.proofs.Loops.{failed-earlier}
 use Rattle.script_runner.proofs.CardEndings.{RunsLines-finished, RunsLines-stopped}

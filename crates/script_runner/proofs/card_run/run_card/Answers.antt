@@ -1,6 +1,6 @@
-use Rattle.std.proofs.Common.{◌≡◌, ap, subst, sym, refl, Ok, None, [], ◌∙◌}
+use Rattle.std.proofs.Common.{◌≡◌, ap, subst, sym, refl, ◌∙◌}
 use Rattle.card_script.specs.CardScripts.{script_of}
-use Rattle.script_runner.specs.CardRuns.{CardTrace, IsCardScriptError, no_script, ran, unread}
+use Rattle.script_runner.specs.CardRuns.{IsCardScriptError, no_script, ran, unread}
 use Rattle.script_runner.proofs.CardWholes.{silent, silent_is}
 use Rattle.tee_ports.proofs.Streams.{Appends-none}
 use Rattle.script_runner.proofs.card_run.run_card.Goals as goal

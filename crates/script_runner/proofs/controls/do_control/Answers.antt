@@ -1,12 +1,12 @@
 use Rattle.std.proofs.Common.{sym, ap, drop, subst, vec_len, ◌+◌, ◌∙◌}
 use Rattle.script_text.specs.declared.script.Control.{Control}
-use Rattle.script_text.specs.declared.script.Control.TheVariants.{Arm as ArmControl, Crash, Flip, Mode as ModeControl, Phase, Restore, Save}
+use Rattle.script_text.specs.declared.script.Control.TheVariants.{Arm as ArmControl, Crash, Flip, Mode as ModeControl, Phase, Quota as QuotaControl, Restore, Save}
 use Rattle.script_text.specs.declared.script.Step.TheVariants.{Control as ControlStep}
 use Rattle.script_text.specs.Text.{control_line}
 use Rattle.run_acts.specs.Benches.{bench_state}
 use Rattle.script_runner.specs.RunReady.{IsNext}
 use Rattle.script_runner.proofs.Once.{EndsAt-crashed, EndsAt-no_memory, control_text}
-use Rattle.script_runner.proofs.Turns.{HasDone-arm, HasDone-crash, HasDone-flip, HasDone-mode, HasDone-phase, HasDone-restore, HasDone-save, cut-off, formed-next, goes-on}
+use Rattle.script_runner.proofs.Turns.{HasDone-arm, HasDone-crash, HasDone-flip, HasDone-mode, HasDone-phase, HasDone-quota, HasDone-restore, HasDone-save, cut-off, formed-next, goes-on}
 use Rattle.script_runner.proofs.controls.do_control.Goals as goal
 
 pub returns-in-Ok-clause-ok : goal.returns-in-Ok-clause-ok
@@ -170,3 +170,28 @@ returns-in-Flip-clause-err g c = λ first lasts.
     let done = HasDone-flip g.F.StoreFile.state g.R.RpmbPort.state g.F.FileRig.crash_image (g.E.Entropy.is_reliable first) c.args.keys.now script c.in-Flip.file c.in-Flip.at c.in-Flip.mask run c.flip_bench-run.result c.requires.ready step c.flip_bench-run.ensures.others c.flip_bench-run.ensures.whole c.flip_bench-run.ensures.flips in
     let text = ap (λ (x : Control). control_line x) (sym c.in-Flip.is) in
     cut-off g.F.StoreFile.state g.R.RpmbPort.state g.F.FileRig.crash_image (g.E.Entropy.is_reliable first) c.args.keys.now script run _ c.print_control_act-in-Flip.result _ _ _ _ _ done (control_text script run.number (Flip c.in-Flip.file c.in-Flip.at c.in-Flip.mask) (λ e. cc) ∙ text) _ _ _ c.print_control_act-in-Flip.ensures.err
+
+pub returns-in-Ok-set_quota-clause-ok : goal.returns-in-Ok-set_quota-clause-ok
+returns-in-Ok-set_quota-clause-ok g c = λ first lasts.
+    let run = c.args.run in
+    let script = c.args.script.now in
+    let q = c.in-Quota in
+    let step = subst (λ (x : Control). IsNext script run (ControlStep x)) q.is c.requires.next in
+    let done = HasDone-quota g.F.StoreFile.state g.R.RpmbPort.state g.F.FileRig.crash_image (g.E.Entropy.is_reliable first) c.args.keys.now script q.app q.objects q.bytes run c.in-Ok-set_quota.run' c.requires.ready step c.in-Ok-set_quota.ensures.sets c.in-Ok-set_quota.ensures.quotas in
+    let text = ap (λ (x : Control). control_line x) (sym q.is) in
+    goes-on g.F.StoreFile.state g.R.RpmbPort.state g.F.FileRig.crash_image (g.E.Entropy.is_reliable first) c.args.keys.now script run _ c.print_control_act-in-Ok-set_quota.result _ _ _ _ _ done (control_text script run.number (QuotaControl q.app q.objects q.bytes) (λ e. cc) ∙ text) c.print_control_act-in-Ok-set_quota.ensures.ok
+
+pub returns-in-Ok-set_quota-clause-err : goal.returns-in-Ok-set_quota-clause-err
+returns-in-Ok-set_quota-clause-err g c = λ first lasts.
+    let run = c.args.run in
+    let script = c.args.script.now in
+    let q = c.in-Quota in
+    let step = subst (λ (x : Control). IsNext script run (ControlStep x)) q.is c.requires.next in
+    let done = HasDone-quota g.F.StoreFile.state g.R.RpmbPort.state g.F.FileRig.crash_image (g.E.Entropy.is_reliable first) c.args.keys.now script q.app q.objects q.bytes run c.in-Ok-set_quota.run' c.requires.ready step c.in-Ok-set_quota.ensures.sets c.in-Ok-set_quota.ensures.quotas in
+    let text = ap (λ (x : Control). control_line x) (sym q.is) in
+    cut-off g.F.StoreFile.state g.R.RpmbPort.state g.F.FileRig.crash_image (g.E.Entropy.is_reliable first) c.args.keys.now script run _ c.print_control_act-in-Ok-set_quota.result _ _ _ _ _ done (control_text script run.number (QuotaControl q.app q.objects q.bytes) (λ e. cc) ∙ text) _ _ _ c.print_control_act-in-Ok-set_quota.ensures.err
+
+pub returns-in-Err-set_quota-clause-err : goal.returns-in-Err-set_quota-clause-err
+returns-in-Err-set_quota-clause-err g c = λ first lasts.
+    EndsAt-no_memory g.F.StoreFile.state g.R.RpmbPort.state g.F.FileRig.crash_image (g.E.Entropy.is_reliable first) _ _ c.args.keys.now c.args.script.now _ _ c.args.run c.in-Err-set_quota.end (ap (λ e. e.status) c.in-Err-set_quota.ensures.err)
+    (ap (λ e. bench_state g.F.StoreFile.state g.R.RpmbPort.state e.bench) c.in-Err-set_quota.ensures.err) (ap (λ e. vec_len e.bench.files) c.in-Err-set_quota.ensures.err ∙ c.requires.ready.whole)

@@ -1,4 +1,4 @@
-use Rattle.std.proofs.Common.{◌≡◌, ◌∙◌, List, length, map, sym}
+use Rattle.std.proofs.Common.{◌≡◌, ◌∙◌, map, sym}
 use Rattle.run_acts.proofs.MemoryCounts.{fed_counts}
 use Rattle.script_runner.proofs.ExportedFiles.{copies_done, copies_failed, copies_starved}
 use Rattle.script_runner.proofs.export_run.copy_files.Goals as goal

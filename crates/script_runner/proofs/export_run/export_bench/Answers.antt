@@ -1,6 +1,6 @@
 use Rattle.std.proofs.Common.{◌≡◌, ◌∙◌, List, length, refl, subst, sym}
-use Rattle.object_calls.specs.OpeningFiles.{files_of}
-use Rattle.object_calls.proofs.Files.{refilled}
+use Rattle.run_acts.specs.OpeningFiles.{files_of}
+use Rattle.run_acts.proofs.Files.{refilled}
 use Rattle.run_acts.specs.Benches.{bench_state}
 use Rattle.script_runner.specs.Exports.{CopiesFiles, copied}
 use Rattle.script_runner.proofs.Exported.{ExportsBench-unread}

@@ -1,6 +1,6 @@
-use Rattle.std.proofs.Common.{◌≡◌, ◌⊎◌, refl}
+use Rattle.std.proofs.Common.{◌⊎◌, refl}
 use Rattle.tee_ports.specs.Faults.{Rose}
-use Rattle.object_calls.specs.OpeningFiles.{files_of}
+use Rattle.run_acts.specs.OpeningFiles.{files_of}
 use Rattle.run_acts.specs.Benches.{bench_state}
 use Rattle.script_runner.specs.Exports.{undone}
 use Rattle.script_runner.proofs.Exported.{RunsExport-done}

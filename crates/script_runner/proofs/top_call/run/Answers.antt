@@ -1,7 +1,7 @@
 use Rattle.std.proofs.Common.{◌≡◌, ◌⊎◌, ℕ, List, Option, Some, length, sym, ap, ◌∙◌, subst}
 use Rattle.tee_ports.specs.Faults.{Rose}
-use Rattle.object_calls.specs.OpeningFiles.{files_of}
-use Rattle.object_calls.proofs.Files.{refilled}
+use Rattle.run_acts.specs.OpeningFiles.{files_of}
+use Rattle.run_acts.proofs.Files.{refilled}
 use Rattle.run_acts.specs.Benches.{bench_state}
 use Rattle.script_runner.specs.Exports.{RunsExport}
 use Rattle.script_runner.specs.declared.forms.Form.{Form}

@@ -1,4 +1,4 @@
-use Rattle.std.proofs.Common.{◌≡◌, ℕ, List, Option, Some, take, drop, ap, sym, ◌∙◌, arith}
+use Rattle.std.proofs.Common.{◌≡◌, ℕ, List, ap, sym, ◌∙◌}
 use Rattle.byte_fields.specs.Field.{field}
 use Rattle.card_maps.specs.Form.{id_length, size_in}
 use Rattle.card_maps.specs.Tables.{entry_name}

@@ -1,9 +1,8 @@
-use Rattle.std.proofs.Common.{◌≡◌, ◌≤◌, ◌∙◌, ℕ, List, [], ◌∷◌, length, replicate, ap, sym, arith}
+use Rattle.std.proofs.Common.{◌≡◌, ◌∙◌, ℕ, List, [], ◌∷◌, length, replicate, ap, sym, arith}
 use Rattle.std.specs.Int.{w16, to_be_bytes}
 use Rattle.byte_fields.specs.Field.{with_field}
 use Rattle.store_model.specs.declared.name.ObjectName.{ObjectName}
 use Rattle.card_maps.specs.Form.{front_fault}
-use Rattle.card_maps.specs.Puts.{entry_block}
 use Rattle.card_maps.specs.Tables.{named}
 use Rattle.card_maps.proofs.Codec.{front_back}
 use Rattle.card_maps.proofs.Writing.{entry_written}

@@ -1,4 +1,4 @@
-use Rattle.std.proofs.Common.{◌≡◌, ◌||◌, ℕ, Bool, true, false, get_or, replicate, ap, ◌∙◌, refl}
+use Rattle.std.proofs.Common.{◌≡◌, ◌||◌, Bool, true, false, get_or, replicate, ap, ◌∙◌, refl}
 use Rattle.std.specs.Prelude.{nat_lt}
 use Rattle.std.proofs.lemmas.List.{get_or-replicate}
 use Rattle.card_maps.proofs.table.CardTable.new.Goals as goal

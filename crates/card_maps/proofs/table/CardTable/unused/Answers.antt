@@ -1,5 +1,4 @@
-use Rattle.std.proofs.Common.{◌≡◌, ◌++◌, ◌∷◌, [], List, cond, true, get_or, length, ℕ, refl, ap, sym, ◌∙◌, arith}
-use Rattle.card_maps.specs.Tables.{unused_below}
+use Rattle.std.proofs.Common.{◌++◌, ◌∷◌, [], List, cond, true, get_or, length, ℕ, ap, sym, ◌∙◌, arith}
 use Rattle.card_maps.proofs.Steps.{unused_next, unused_none}
 use Rattle.card_maps.proofs.table.CardTable.unused.Goals as goal
 

@@ -1,5 +1,5 @@
 -- What the call leaves keeps the service whole, and is its answer.
-use Rattle.std.proofs.Common.{◌≡◌, OnErr, refl, subst}
+use Rattle.std.proofs.Common.{OnErr, refl, subst}
 use Rattle.serial_calls.specs.QuotaCallers.{answer_in}
 use Rattle.serial_calls.specs.Rising.{devices_in}
 use Rattle.serial_calls.specs.Unfailed.{NoneFailed}

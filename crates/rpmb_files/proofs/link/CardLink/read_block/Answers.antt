@@ -1,11 +1,5 @@
-use Rattle.std.proofs.Common.{◌≡◌, ◌<◌, ◌∙◌, ℕ, List, Result, Ok, Err, false, if◌then◌else◌, nat_lt, Bool, ap, sym, arith}
-use Rattle.std.proofs.lemmas.Bool.{ltb-true}
-use Rattle.rpmb_card.specs.Card.{CardState, given_result}
-use Rattle.rpmb_card.specs.Protocol.{address_failure}
-use Rattle.rpmb_host.specs.declared.fault.HostFault.{HostFault}
-use Rattle.rpmb_host.specs.declared.fault.HostFault.TheVariants.{CardResult}
+use Rattle.std.proofs.Common.{◌∙◌, Ok, Err, arith}
 use Rattle.rpmb_host.specs.Calls.{block_wanted}
-use Rattle.rpmb_host.specs.Honest.{card_block}
 use Rattle.card_maps.specs.CardMaps.{blocks_of}
 use Rattle.rpmb_files.specs.Causes.{NoCard, OfBlock}
 use Rattle.rpmb_files.specs.Devices.{devices}

@@ -1,5 +1,4 @@
-use Rattle.std.proofs.Common.{◌≡◌, ◌<◌, ◌∙◌, ℕ, List, get_or, ap, sym, arith}
-use Rattle.std.specs.Prelude.{nat_lt}
+use Rattle.std.proofs.Common.{◌<◌, ◌∙◌, ℕ, List, get_or, ap, sym, arith}
 use Rattle.card_maps.specs.declared.change.TableChange.{TableChange}
 use Rattle.card_maps.specs.declared.change.TableChange.TheVariants.{Put}
 use Rattle.card_maps.specs.Form.{data_blocks, size_in}

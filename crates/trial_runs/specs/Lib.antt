@@ -1,0 +1,1 @@
+pub use Rattle.script_runner.specs.Port
