@@ -8,6 +8,7 @@ use Rattle.app_quota.specs.declared.quotas.Quota.{Quota}
 use Rattle.core_laws.specs.Stores.{phase_of}
 use Rattle.history_seats.specs.Records.{HistoryRecord}
 use Rattle.object_calls.specs.FinishedPhase.{AreAllHonest}
+use Rattle.run_acts.proofs.PhasesLeft.{closed_honest}
 use Rattle.run_acts.proofs.QuotaLaws.{honest_quota_phases_isolate}
 use Rattle.run_acts.specs.Benches.{BenchState}
 use Rattle.run_acts.specs.Phases.{RunsPhase}
@@ -42,6 +43,7 @@ module _ {F R : Type 0} (of_file : F → FileState) (all_sound : (f : F) → Sou
         applications_are = applications_are of_file of_port Reliable keys applications quotas arms mode calls old new phase.opening phase.events phase.refused r;
         records = records;
         events_are = (s.closes).events_are;
+        legal = ((s.closes).leaves.honest (closed_honest of_file of_port Reliable keys applications quotas arms mode calls old new phase.opening phase.events phase.refused r honest)).events_legal;
         says = follows (phase_of s.store) records
             (honest_quota_phases_isolate of_file all_sound of_port Reliable keys applications quotas arms mode calls old new phase.opening phase.events phase.refused r some honest);
       }

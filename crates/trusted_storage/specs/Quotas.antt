@@ -8,15 +8,16 @@ use Rattle.run_acts.specs.QuotaLaws.{IsOverQuota}
 use Rattle.script_text.specs.declared.script.Mode.{Mode}
 use Rattle.script_text.specs.declared.script.Step.{Step}
 use Rattle.store_model.specs.declared.event.Event.{Event}
+use Rattle.store_model.specs.Legal.{IsLegalFrom}
 use Rattle.store_model.specs.LegalHistory.{opening_with}
 use Rattle.store_model.specs.Record.{events_of}
-use Rattle.store_model.specs.ReplayState.{PhaseOpening}
+use Rattle.store_model.specs.ReplayState.{PhaseOpening, opening}
 use Rattle.trusted_storage.specs.Objects.{ObjectMap}
 use Rattle.trusted_storage.specs.Runs.{PhaseRecord}
 pub use Rattle.app_quota.specs.Limits.{Limits}
 pub use Rattle.app_quota.specs.Quotas.{limit_of}
 
--- The events are a history of a phase that opened with these objects, a session for each of these applications, and no commit in doubt. `Says` says of it
+-- The events are a legal history of a phase that opened with these objects, a session for each of these applications, and no commit in doubt. `Says` says of it
 -- what is promised.
 pub record HasHistory (objects : ObjectMap) (applications : List (List ℕ)) (events : List Event) (Says : PhaseOpening → List HistoryRecord → Type 0) : Type 0 where
   pub phase : PhaseOpening
@@ -25,6 +26,8 @@ pub record HasHistory (objects : ObjectMap) (applications : List (List ℕ)) (ev
   -- the events, each with the file of its object
   pub records : List HistoryRecord
   pub events_are : events ≡ events_of records
+  -- a legal one: each reply is one that the specification allows
+  pub legal : IsLegalFrom [] (opening phase) records
   pub says : Says phase records
 
 module _ (applications : List (List ℕ)) (quotas : List Quota) (mode : Mode) (calls : List Step) (phase : PhaseRecord) where
