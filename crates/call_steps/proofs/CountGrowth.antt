@@ -20,7 +20,7 @@ use Rattle.tee_types.specs.declared.reply.Cause.TheVariants.{CardResult, Fault, 
 use Rattle.tee_types.specs.declared.reply.Device.{Device}
 use Rattle.tee_types.specs.declared.reply.Device.TheVariants.{Card, Dir, Entropy, File}
 use Rattle.commit_gate.proofs.PortArms.{arms_then, same_arms}
-use Rattle.call_steps.specs.Devices.{CountsGrow, Devices, DevicesGoOn, Grows, PortGoesOn}
+use Rattle.call_steps.specs.Devices.{CountsGrow, Devices, DevicesGoOn, DrawsOn, Grows, PortGoesOn}
 
 rose_lt : (old new : ℕ) → old < new → Rose old new
 rose_lt old new lt = omega (arith, lt)
@@ -41,6 +41,18 @@ grows_rose a b c (inr first) rose = rose_rose a b c first rose
 pub grows_grows : (a b c : ℕ) → Grows a b → Grows b c → Grows a c
 grows_grows a b c first (inl same) = subst (λ (n : ℕ). Grows a n) (sym same) first
 grows_grows a b c first (inr rose) = inr (grows_rose a b c first rose)
+
+module _ {D : Type 0} (Reliable : D → Type 0) (faults : D → ℕ) where
+  -- a generator that is let be
+  pub draws_none : (old new : D) → new ≡ old → DrawsOn Reliable faults old new
+  draws_none old new same = record { counted = inl (ap faults same); reliable = subst Reliable (sym same); still = λ is. ap faults same }
+
+  pub draws_then : (a b c : D) → DrawsOn Reliable faults a b → DrawsOn Reliable faults b c → DrawsOn Reliable faults a c
+  draws_then a b c first then = record {
+    counted = grows_grows (faults a) (faults b) (faults c) first.counted then.counted;
+    reliable = λ is. then.reliable (first.reliable is);
+    still = λ is. then.still (first.reliable is) ∙ first.still is;
+  }
 
 twice_since : (a b : ℕ) (new : PortState) → Grows a b → (old mid : PortState) → old.faults ≡ a → mid.faults ≡ b → TwiceRose mid new → TwiceRose old new
 twice_since a b new (inl same) old mid was is twice = omega (arith, same, was, is, twice)

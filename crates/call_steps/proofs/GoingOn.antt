@@ -1,5 +1,5 @@
 -- Views of a session that go on.
-use Rattle.std.proofs.Common.{◌≡◌, ◌+◌, ℕ, List, [], ◌++◌, refl, sym, ap, ◌∙◌, append-nil, append_assoc, arith}
+use Rattle.std.proofs.Common.{◌≡◌, ℕ, List, [], ◌++◌, refl, sym, ap, ◌∙◌, append-nil, append_assoc, arith}
 use Rattle.store_model.specs.History.{count_of}
 use Rattle.store_model.specs.Record.{events_of}
 use Rattle.history_seats.specs.Records.{HistoryRecord}

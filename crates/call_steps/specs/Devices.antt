@@ -72,7 +72,13 @@ CostsDoubt key old new mark reply = Unit {0}
 abbrev pub Grows : (old new : ℕ) → Type 0
 Grows old new = (new ≡ old) ⊎ Rose old new
 
--- so does each
+-- What a call does to a generator of random bytes: its count of faults stands still or rises; one that never fails stays so, and counts none.
+pub record DrawsOn {D : Type 0} (Reliable : D → Type 0) (faults : D → ℕ) (old new : D) : Type 0 where
+  pub counted : Grows (faults old) (faults new)
+  pub reliable : Reliable old → Reliable new
+  pub still : Reliable old → faults new ≡ faults old
+
+-- each device's count stands still, or it rose
 abbrev pub CountsGrow : (old new : Devices) → Type 0
 CountsGrow old new = (device : Device) → Grows (faults_of old device) (faults_of new device)
 

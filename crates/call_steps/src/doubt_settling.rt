@@ -4,6 +4,7 @@ ghost use Rattle.std.specs.Prelude.{◌≡◌, ◌≤◌, true, None, IfErr, IfS
 ghost use Rattle.store_model.specs.ReplayState.{is_of_card};
 ghost use Rattle.commit_gate.specs.Prepared.{DrawnCause};
 ghost use Rattle.commit_gate.specs.Commits.{IsCalm};
+ghost use Rattle.call_steps.specs.Devices.{DrawsOn};
 ghost use Rattle.call_steps.specs.Resolved.{HasResolved, IsSettled, StaysInDoubt};
 ghost use Rattle.call_steps.specs.Seen.{GoesOn, HasSeen};
 
@@ -15,10 +16,9 @@ use tee_types::{Cause, Device};
 
 // Draws a nonce.
 fn draw_nonce<E: Entropy>(entropy: &mut E) -> Result<[u8; 16], Cause>
-    ensures reliable { E.is_reliable entropy.old → IsOk result × E.is_reliable entropy.new }
+    ensures reliable { E.is_reliable entropy.old → IsOk result }
     ensures cause { DrawnCause (E.faults entropy.old) (E.faults entropy.new) result }
-    ensures counted { E.faults entropy.old ≤ E.faults entropy.new }
-    ensures still { E.is_reliable entropy.old → E.faults entropy.new ≡ E.faults entropy.old }
+    ensures draws { DrawsOn E.is_reliable E.faults entropy.old entropy.new }
 {
     let mut nonce = [0; 16];
     match entropy.draw(&mut nonce) {
@@ -65,11 +65,8 @@ pub fn settle<F: StoreFile + Drop, R: RpmbPort + Drop, L: StoreName, E: Entropy>
     ensures goes_on { GoesOn L.store session.old session.new }
     ensures number { session.new.number ≡ session.old.number }
     ensures made { session.new.made ≡ session.old.made }
-    ensures counted { E.faults session.old.entropy ≤ E.faults session.new.entropy }
-    ensures reliable { E.is_reliable session.old.entropy → E.is_reliable session.new.entropy }
-    // A generator that never fails counts no fault.
-    ensures still { E.is_reliable session.old.entropy → E.faults session.new.entropy ≡ E.faults session.old.entropy }
-    // Nor does any, where the commit is settled.
+    ensures draws { DrawsOn E.is_reliable E.faults session.old.entropy session.new.entropy }
+    // None counts a fault where the commit is settled.
     ensures undrawn { OnOk result (E.faults session.new.entropy ≡ E.faults session.old.entropy) }
     // Nothing is drawn where no commit is in doubt.
     ensures let_be { gate.old.gate.doubt ≡ None → session.new.entropy ≡ session.old.entropy }

@@ -2,6 +2,7 @@
 
 ghost use Rattle.std.specs.Prelude.{◌≡◌, ◌≤◌, IfOk, None, OnOk};
 ghost use Rattle.commit_gate.specs.CallerSessions.{IsCallerOf};
+ghost use Rattle.call_steps.specs.Devices.{DrawsOn};
 ghost use Rattle.call_steps.specs.Foreseen.{Forecasts};
 
 use crate::gate_answers::answer_first;
@@ -29,9 +30,7 @@ pub fn forecast<F: StoreFile + Drop, R: RpmbPort + Drop, L: StoreName, E: Entrop
     requires caller { IsCallerOf L.store session.old }
     ensures forecasts { Forecasts F.state R.state L.store call.now gate.old gate.new session.old session.new
         (E.is_reliable session.old.entropy) (E.faults session.old.entropy) (E.faults session.new.entropy) result }
-    ensures counted { E.faults session.old.entropy ≤ E.faults session.new.entropy }
-    ensures reliable { E.is_reliable session.old.entropy → E.is_reliable session.new.entropy }
-    ensures still { E.is_reliable session.old.entropy → E.faults session.new.entropy ≡ E.faults session.old.entropy }
+    ensures draws { DrawsOn E.is_reliable E.faults session.old.entropy session.new.entropy }
     // Where it tells, no draw failed.
     ensures undrawn { IfOk result (λ told. OnOk told (E.faults session.new.entropy ≡ E.faults session.old.entropy)) }
     // Nothing is drawn where no commit is in doubt.

@@ -9,6 +9,7 @@ ghost use Rattle.commit_gate.specs.SessionViews.{shown};
 ghost use Rattle.call_rules.specs.Matches.{Matches};
 ghost use Rattle.call_rules.specs.Told.{IsTold};
 ghost use Rattle.commit_gate.specs.Commits.{IsCalm};
+ghost use Rattle.call_steps.specs.Devices.{DrawsOn};
 ghost use Rattle.call_steps.specs.Rulings.{is_on_object};
 ghost use Rattle.call_steps.specs.Seen.{HasSeen};
 ghost use Rattle.call_steps.specs.Foreseen.{IsEarly};
@@ -88,9 +89,7 @@ fn settle_for<F: StoreFile + Drop, R: RpmbPort + Drop, L: StoreName, E: Entropy>
     ensures room { IsNone result → 1 ≤ gate.new.journal.spare }
     ensures served { IfSome result (λ answer. IsServedAlone F.state R.state (E.is_reliable session.old.entropy) (E.faults session.old.entropy) (E.faults session.new.entropy)
         L.store call answer gate.old gate.new session.old session.new) }
-    ensures counted { E.faults session.old.entropy ≤ E.faults session.new.entropy }
-    ensures reliable { E.is_reliable session.old.entropy → E.is_reliable session.new.entropy }
-    ensures still { E.is_reliable session.old.entropy → E.faults session.new.entropy ≡ E.faults session.old.entropy }
+    ensures draws { DrawsOn E.is_reliable E.faults session.old.entropy session.new.entropy }
     ensures undrawn { IsNone result → E.faults session.new.entropy ≡ E.faults session.old.entropy }
     ensures early { IfSome result (λ answer. IsEarly answer.reply) }
 {
@@ -116,9 +115,7 @@ pub(crate) fn answer_first<F: StoreFile + Drop, R: RpmbPort + Drop, L: StoreName
     ensures serves { ServesAlone F.state R.state (E.is_reliable session.old.entropy) (E.faults session.old.entropy) (E.faults session.new.entropy)
         L.store call.now gate.old gate.new session.old session.new result }
     ensures room { IfOk result (λ answer. IsNone answer → 1 ≤ gate.new.journal.spare) }
-    ensures counted { E.faults session.old.entropy ≤ E.faults session.new.entropy }
-    ensures reliable { E.is_reliable session.old.entropy → E.is_reliable session.new.entropy }
-    ensures still { E.is_reliable session.old.entropy → E.faults session.new.entropy ≡ E.faults session.old.entropy }
+    ensures draws { DrawsOn E.is_reliable E.faults session.old.entropy session.new.entropy }
     ensures undrawn { IfOk result (λ answer. IsNone answer → E.faults session.new.entropy ≡ E.faults session.old.entropy) }
     ensures let_be { gate.old.gate.doubt ≡ None → session.new.entropy ≡ session.old.entropy }
     ensures at_once { IsMisused gate.old session.old.state call.now → ServesAtOnce L.store call.now gate.old gate.new session.old session.new result }
@@ -150,9 +147,7 @@ fn answer_early<F: StoreFile + Drop, R: RpmbPort + Drop, L: StoreName, E: Entrop
     ensures serves { ServesAlone F.state R.state (E.is_reliable session.old.entropy) (E.faults session.old.entropy) (E.faults session.new.entropy)
         L.store call.now gate.old gate.new session.old session.new result }
     ensures room { IfOk result (λ answer. IsNone answer → 1 ≤ gate.new.journal.spare) }
-    ensures counted { E.faults session.old.entropy ≤ E.faults session.new.entropy }
-    ensures reliable { E.is_reliable session.old.entropy → E.is_reliable session.new.entropy }
-    ensures still { E.is_reliable session.old.entropy → E.faults session.new.entropy ≡ E.faults session.old.entropy }
+    ensures draws { DrawsOn E.is_reliable E.faults session.old.entropy session.new.entropy }
     ensures undrawn { IfOk result (λ answer. IsNone answer → E.faults session.new.entropy ≡ E.faults session.old.entropy) }
     ensures let_be { gate.old.gate.doubt ≡ None → session.new.entropy ≡ session.old.entropy }
     ensures at_once { IsMisused gate.old session.old.state call.now → ServesAtOnce L.store call.now gate.old gate.new session.old session.new result }
@@ -184,9 +179,7 @@ pub fn answer_alone<F: StoreFile + Drop, R: RpmbPort + Drop, L: StoreName, E: En
         L.store call.now gate.old gate.new session.old session.new result }
     ensures room { IfOk result (λ answer. IsNone answer → 1 ≤ gate.new.journal.spare) }
     ensures left { IfOk result (λ answer. IsNone answer → is_on_object call.now ≡ true) }
-    ensures counted { E.faults session.old.entropy ≤ E.faults session.new.entropy }
-    ensures reliable { E.is_reliable session.old.entropy → E.is_reliable session.new.entropy }
-    ensures still { E.is_reliable session.old.entropy → E.faults session.new.entropy ≡ E.faults session.old.entropy }
+    ensures draws { DrawsOn E.is_reliable E.faults session.old.entropy session.new.entropy }
     ensures undrawn { IfOk result (λ answer. IsNone answer → E.faults session.new.entropy ≡ E.faults session.old.entropy) }
     // Nothing is drawn where no commit is in doubt.
     ensures let_be { gate.old.gate.doubt ≡ None → session.new.entropy ≡ session.old.entropy }

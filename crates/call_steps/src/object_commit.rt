@@ -10,6 +10,7 @@ ghost use Rattle.commit_gate.specs.GateEnds.{HoldsNewFile};
 ghost use Rattle.commit_gate.specs.SessionMoves.{MayMove, moved_by};
 ghost use Rattle.object_slots.specs.Fits.{SeesWhole};
 ghost use Rattle.object_slots.specs.GuardedSlots.{SlotInvariant};
+ghost use Rattle.call_steps.specs.Devices.{DrawsOn};
 ghost use Rattle.call_steps.specs.ObjectCommits.{IsCommittable, IsCommitted};
 
 use crate::stage_ends::settle_slot;
@@ -46,7 +47,7 @@ fn commit_versions<F: StoreFile + Drop, R: RpmbPort + Drop, L: StoreName, E: Ent
     requires moved { LeavesSession L.store gate.old.journal.knows session.old.number call (moved_by session.old.state step) }
     ensures committed { IsCommitted F.state R.state L.store gate.old gate.new slot.old.number session.old session.new call own change
         (E.is_reliable session.old.entropy) (E.faults session.old.entropy) (E.faults session.new.entropy) result }
-    ensures reliable { E.is_reliable session.old.entropy → E.is_reliable session.new.entropy }
+    ensures draws { DrawsOn E.is_reliable E.faults session.old.entropy session.new.entropy }
     ensures guarded { SlotInvariant L.store slot.new }
     ensures whole { SeesWhole gate.new.journal.knows slot.new }
     ensures number { slot.new.number ≡ slot.old.number }
@@ -94,7 +95,7 @@ pub fn commit_change<F: StoreFile + Drop, R: RpmbPort + Drop, L: StoreName, E: E
     requires moved { LeavesSession L.store gate.old.journal.knows session.old.number call (moved_by session.old.state step) }
     ensures committed { IsCommitted F.state R.state L.store gate.old gate.new slot.old.number session.old session.new call own change
         (E.is_reliable session.old.entropy) (E.faults session.old.entropy) (E.faults session.new.entropy) result }
-    ensures reliable { E.is_reliable session.old.entropy → E.is_reliable session.new.entropy }
+    ensures draws { DrawsOn E.is_reliable E.faults session.old.entropy session.new.entropy }
     ensures guarded { SlotInvariant L.store slot.new }
     ensures whole { SeesWhole gate.new.journal.knows slot.new }
     ensures number { slot.new.number ≡ slot.old.number }

@@ -7,6 +7,7 @@ ghost use Rattle.serial_calls.specs.CallerSessions.{IsCallerOf};
 ghost use Rattle.serial_calls.specs.GateServed.{IsMisused};
 ghost use Rattle.serial_calls.specs.SessionViews.{shown};
 ghost use Rattle.serial_calls.specs.ChangeChecks.{AreOnlyRead};
+ghost use Rattle.serial_calls.specs.Devices.{DrawsOn};
 ghost use Rattle.serial_calls.specs.Rising.{devices_in};
 ghost use Rattle.serial_calls.specs.Unfailed.{NoneFailed};
 ghost use Rattle.serial_calls.specs.QuotaCallers.{IfRefused, IsRefusedRightly, KeepsLimits, answer_in};
@@ -38,12 +39,10 @@ impl<F: StoreFile + Drop, R: RpmbPort + Drop, L: StoreName> Service<F, R, L> {
     pub fn call<E: Entropy>(&mut self, session: &mut Session<E>, call: &Call) -> Answer
         requires { IsCallerOf L.store session.old }
         ensures answers { AnswersCall F.state R.state E.faults L.store self.old self.new session.old session.new call.now result.place result.reply }
-        ensures reliable { E.is_reliable session.old.entropy → E.is_reliable session.new.entropy }
+        ensures draws { DrawsOn E.is_reliable E.faults session.old.entropy session.new.entropy }
         // A misuse waits for no commit in doubt, as the session is once it was shown the history.
         ensures at_once { IsMisused self.old.gate (shown self.old.gate.journal.knows session.old).state call.now
             → AnswersAtOnceAt (serving self.old session.old) (serving self.new session.new) call.now result.place result.reply }
-        // A generator that never fails counts no fault.
-        ensures still { E.is_reliable session.old.entropy → E.faults session.new.entropy ≡ E.faults session.old.entropy }
         // Where memory ran out, no device counted a fault.
         ensures passed { IsNone result.place → NoneFailed (devices_in F.state R.state E.faults (serving self.old session.old))
             (devices_in F.state R.state E.faults (serving self.new session.new)) }
@@ -86,9 +85,7 @@ impl<F: StoreFile + Drop, R: RpmbPort + Drop, L: StoreName> Service<F, R, L> {
         ensures answers { AnswersWithin F.state R.state E.faults L.store self.old self.new session.old session.new call.now (answer_in result) }
         ensures limits { KeepsLimits L.store limit session.old session.new }
         ensures refused { IfRefused result (IsRefusedRightly L.store limit session.old session.new call.now) }
-        ensures reliable { E.is_reliable session.old.entropy → E.is_reliable session.new.entropy }
-        // A generator that never fails counts no fault.
-        ensures still { E.is_reliable session.old.entropy → E.faults session.new.entropy ≡ E.faults session.old.entropy }
+        ensures draws { DrawsOn E.is_reliable E.faults session.old.entropy session.new.entropy }
         // Where it was refused, or memory ran out, no device counted a fault.
         ensures passed { OnErr (answer_in result) (NoneFailed (devices_in F.state R.state E.faults (serving self.old session.old))
             (devices_in F.state R.state E.faults (serving self.new session.new))) }

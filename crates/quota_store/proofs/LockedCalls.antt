@@ -1,5 +1,5 @@
 -- What a call comes to behind the lock of its application.
-use Rattle.std.proofs.Common.{◌≡◌, ◌<◌, ◌+◌, ◌∙◌, ℕ, true, false, List, ◌++◌, length, sym, ap, subst, inl, inr, Some, Result, Ok, Err, IsErr}
+use Rattle.std.proofs.Common.{◌≡◌, ◌<◌, ◌∙◌, ℕ, true, false, List, ◌++◌, length, sym, ap, subst, inl, inr, Some, Result, Ok, Err, IsErr}
 use Rattle.std.specs.Prelude.{slice_set}
 use Rattle.std.specs.Ordering.{is_eq}
 use Rattle.std.proofs.lemmas.Bool.{cases_eq}

@@ -1,7 +1,8 @@
 //! The looks of a call at the gate, before it and behind it.
 
-ghost use Rattle.std.specs.Prelude.{◌≡◌, ◌<◌, ◌≤◌, IfErr, IfOk, None, Some, vec_len};
+ghost use Rattle.std.specs.Prelude.{◌≡◌, ◌<◌, IfErr, IfOk, None, Some, vec_len};
 ghost use Rattle.shared_store.specs.CallerSessions.{IsCallerOf};
+ghost use Rattle.shared_store.specs.Devices.{DrawsOn};
 ghost use Rattle.shared_store.specs.ForeseenCalls.{EndsForecast};
 ghost use Rattle.shared_store.specs.SharedCounts.{CarriesDraws};
 ghost use Rattle.quota_store.specs.Halves.{AreHalves, IsHalfOf, halves_shown};
@@ -57,9 +58,7 @@ pub(crate) fn look_first<
     ensures shown { kept.new.items ≡ halves_shown gate.new.journal.knows kept.old.items }
     ensures halves { AreHalves L.store kept.new.items }
     ensures alike { AreKeptAlike kept.old.items kept.new.items }
-    ensures counted { E.faults session.old.entropy ≤ E.faults session.new.entropy }
-    ensures reliable { E.is_reliable session.old.entropy → E.is_reliable session.new.entropy }
-    ensures still { E.is_reliable session.old.entropy → E.faults session.new.entropy ≡ E.faults session.old.entropy }
+    ensures draws { DrawsOn E.is_reliable E.faults session.old.entropy session.new.entropy }
     ensures drawn { IfOk result (λ found. IfErr found (λ answer. CarriesDraws (E.faults session.old.entropy) (E.faults session.new.entropy) answer.reply)) }
 {
     join(gate, session, seat);

@@ -3,7 +3,7 @@
 ghost use Rattle.std.specs.Prelude.{◌≡◌, ◌<◌, false, IfNone, IfSome, Some, length, vec_len};
 ghost use Rattle.app_totals.specs.Meant.{may_grow};
 ghost use Rattle.shared_store.specs.CallerSessions.{IsCallerOf};
-ghost use Rattle.shared_store.specs.Devices.{Grows};
+ghost use Rattle.shared_store.specs.Devices.{DrawsOn};
 ghost use Rattle.quota_store.specs.Halves.{AreHalves, AreOthersHere, IsHalfOf};
 ghost use Rattle.quota_store.specs.Draws.{CarriesOutcome};
 ghost use Rattle.quota_store.specs.LockedCalls.{AreKeptAlike, CameTo, EndsLocked, KeepsHalves};
@@ -46,9 +46,7 @@ fn serve_growing<
     ensures halves { AreHalves L.store kept.new.items }
     ensures alike { AreKeptAlike kept.old.items kept.new.items }
     ensures many { length kept.new.items ≡ length kept.old.items }
-    ensures counted { Grows (E.faults session.old.entropy) (E.faults session.new.entropy) }
-    ensures reliable { E.is_reliable session.old.entropy → E.is_reliable session.new.entropy }
-    ensures still { E.is_reliable session.old.entropy → E.faults session.new.entropy ≡ E.faults session.old.entropy }
+    ensures draws { DrawsOn E.is_reliable E.faults session.old.entropy session.new.entropy }
     ensures drawn { CarriesOutcome (E.faults session.old.entropy) (E.faults session.new.entropy) result }
 {
     let mut gate = store.gate(rt);
@@ -84,9 +82,7 @@ fn serve_other<
     requires other { IsHalfOf L.store session.old.number seat.other }
     ensures ends { EndsLocked L.store limit (record session.old { pass = Some seat.one }) session.new call.now result }
     ensures limits { KeepsLimits L.store limit (record session.old { pass = Some seat.one }) session.new }
-    ensures counted { Grows (E.faults session.old.entropy) (E.faults session.new.entropy) }
-    ensures reliable { E.is_reliable session.old.entropy → E.is_reliable session.new.entropy }
-    ensures still { E.is_reliable session.old.entropy → E.faults session.new.entropy ≡ E.faults session.old.entropy }
+    ensures draws { DrawsOn E.is_reliable E.faults session.old.entropy session.new.entropy }
     ensures drawn { CarriesOutcome (E.faults session.old.entropy) (E.faults session.new.entropy) result }
 {
     let mut gate = store.gate(rt);
@@ -121,9 +117,7 @@ fn serve_locked<
     ensures ends { EndsLocked L.store limit (record session.old { pass = Some seat.one }) (record session.new { pass = Some result.0 }) call.now result.1 }
     ensures limits { KeepsLimits L.store limit (record session.old { pass = Some seat.one }) (record session.new { pass = Some result.0 }) }
     ensures halves { KeepsHalves L.store session.old.number kept.old.items kept.new.items }
-    ensures counted { Grows (E.faults session.old.entropy) (E.faults session.new.entropy) }
-    ensures reliable { E.is_reliable session.old.entropy → E.is_reliable session.new.entropy }
-    ensures still { E.is_reliable session.old.entropy → E.faults session.new.entropy ≡ E.faults session.old.entropy }
+    ensures draws { DrawsOn E.is_reliable E.faults session.old.entropy session.new.entropy }
     ensures drawn { CarriesOutcome (E.faults session.old.entropy) (E.faults session.new.entropy) result.1 }
 {
     if may_grow(call) {
@@ -158,9 +152,7 @@ pub(crate) fn serve_app<
     ensures none { IfNone result (session.new ≡ session.old) }
     ensures limits { KeepsLimits L.store session.old.limit session.old.caller session.new.caller }
     ensures limit { session.new.limit ≡ session.old.limit }
-    ensures counted { Grows (E.faults session.old.caller.entropy) (E.faults session.new.caller.entropy) }
-    ensures reliable { E.is_reliable session.old.caller.entropy → E.is_reliable session.new.caller.entropy }
-    ensures still { E.is_reliable session.old.caller.entropy → E.faults session.new.caller.entropy ≡ E.faults session.old.caller.entropy }
+    ensures draws { DrawsOn E.is_reliable E.faults session.old.caller.entropy session.new.caller.entropy }
     ensures drawn { IfSome result (CarriesOutcome (E.faults session.old.caller.entropy) (E.faults session.new.caller.entropy)) }
 {
     if halves.app != session.app() {

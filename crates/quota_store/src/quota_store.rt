@@ -2,7 +2,7 @@
 
 ghost use Rattle.std.specs.Prelude.{◌≡◌, IfNone, IfSome};
 ghost use Rattle.shared_store.specs.CallerSessions.{IsCallerOf};
-ghost use Rattle.shared_store.specs.Devices.{Grows};
+ghost use Rattle.shared_store.specs.Devices.{DrawsOn};
 ghost use Rattle.quota_store.specs.Draws.{CarriesOutcome};
 ghost use Rattle.quota_store.specs.LockedCalls.{EndsLocked};
 ghost use Rattle.shared_store.specs.QuotaCallers.{KeepsLimits};
@@ -54,9 +54,7 @@ impl<F: StoreFile + Drop, R: RpmbPort + Drop, L: StoreName + DevicesName> QuotaS
         ensures none { IfNone result (session.new ≡ session.old) }
         ensures limits { KeepsLimits L.store session.old.limit session.old.caller session.new.caller }
         ensures limit { session.new.limit ≡ session.old.limit }
-        ensures counted { Grows (E.faults session.old.caller.entropy) (E.faults session.new.caller.entropy) }
-        ensures reliable { E.is_reliable session.old.caller.entropy → E.is_reliable session.new.caller.entropy }
-        ensures still { E.is_reliable session.old.caller.entropy → E.faults session.new.caller.entropy ≡ E.faults session.old.caller.entropy }
+        ensures draws { DrawsOn E.is_reliable E.faults session.old.caller.entropy session.new.caller.entropy }
         ensures drawn { IfSome result (CarriesOutcome (E.faults session.old.caller.entropy) (E.faults session.new.caller.entropy)) }
     {
         let mut halves = self.locks.get(session.lock)?.lock(rt);
@@ -80,9 +78,7 @@ impl<F: StoreFile + Drop, R: RpmbPort + Drop, L: StoreName + DevicesName> QuotaS
         ensures ends { EndsLocked L.store session.old.limit session.old.caller session.new.caller call.now result }
         ensures limits { KeepsLimits L.store session.old.limit session.old.caller session.new.caller }
         ensures limit { session.new.limit ≡ session.old.limit }
-        ensures counted { Grows (E.faults session.old.caller.entropy) (E.faults session.new.caller.entropy) }
-        ensures reliable { E.is_reliable session.old.caller.entropy → E.is_reliable session.new.caller.entropy }
-        ensures still { E.is_reliable session.old.caller.entropy → E.faults session.new.caller.entropy ≡ E.faults session.old.caller.entropy }
+        ensures draws { DrawsOn E.is_reliable E.faults session.old.caller.entropy session.new.caller.entropy }
         ensures drawn { CarriesOutcome (E.faults session.old.caller.entropy) (E.faults session.new.caller.entropy) result }
     {
         for _ in rt.forever() {

@@ -32,7 +32,7 @@ use Rattle.serial_calls.specs.ServeReady.{KnowsCard}
 use Rattle.call_steps.specs.Slots.{AreSlots}
 use Rattle.serial_calls.specs.ServeReplay.{ServesObject}
 use Rattle.call_steps.specs.Rising.{Serving, devices_in}
-use Rattle.serial_calls.proofs.CommittedCalls.{committed_appends, committed_goes_on, committed_mark, committed_still, end_accuses, end_costs, end_holds}
+use Rattle.serial_calls.proofs.CommittedCalls.{committed_appends, committed_goes_on, committed_mark, end_accuses, end_costs, end_holds}
 use Rattle.call_steps.proofs.CountGrowth.{same_file_goes_on}
 use Rattle.serial_calls.proofs.ToldCalls.{file_from, file_to, is_object_file, quiet_goes_on, quiet_holds, served_appends, served_quiet, serves_ok, stays_serves}
 
@@ -53,16 +53,6 @@ change_drawn old new number Reliable drew draws (NotAvailable (Frame fault)) cau
 change_drawn old new number Reliable drew draws (NotAvailable (CardResult result)) cause = absurd cause
 change_drawn old new number Reliable drew draws reply cause = inl cause.1
 
--- none failed of a generator that never does
-pub change_still : (old new : FileState) (number : ℕ) (Reliable : Type 0) (drew draws : ℕ) (reply : Reply) → HasChangeCause old new number Reliable drew draws reply → Reliable → draws ≡ drew
-change_still old new number Reliable drew draws (NotAvailable (Fault (File n) count)) cause reliable = cause.2
-change_still old new number Reliable drew draws (NotAvailable (Fault Entropy count)) cause reliable = absurd (cause.3 reliable)
-change_still old new number Reliable drew draws (NotAvailable (Fault Dir count)) cause reliable = absurd cause
-change_still old new number Reliable drew draws (NotAvailable (Fault Card count)) cause reliable = absurd cause
-change_still old new number Reliable drew draws (NotAvailable (Frame fault)) cause reliable = absurd cause
-change_still old new number Reliable drew draws (NotAvailable (CardResult result)) cause reliable = absurd cause
-change_still old new number Reliable drew draws reply cause reliable = cause.1
-
 -- a reply that says why a change of the object in the file of that number was not staged
 pub change_accuses_file : (key : List ℕ) (d0 d1 : Devices) (number : ℕ) (from to : FileState) → ((n : ℕ) → n ≡ number → (d0.file n ≡ from) × (d1.file n ≡ to)) → (Reliable : Type 0) (reply : Reply)
     → HasChangeCause from to number Reliable d0.draws d1.draws reply → AccusesRightly key d0 d1 reply
@@ -78,16 +68,6 @@ change_accuses_file key d0 d1 number from to files Reliable (NotAvailable (Fault
 change_accuses_file key d0 d1 number from to files Reliable (NotAvailable (Frame fault)) cause = absurd cause
 change_accuses_file key d0 d1 number from to files Reliable (NotAvailable (CardResult result)) cause = absurd cause
 change_accuses_file key d0 d1 number from to files Reliable reply cause = tt
-
-pub changed_still : {F R E : Type 0} (of_file : F → FileState) (of_port : R → PortState) (draws : E → ℕ) (store : Store) (old new : GuardedGateValue F R) (before after : SlotValue) (was now : CallerSession E)
-    (call : Call) (held : Held) (size : ℕ) (Reliable X : Type 0) (result : Result PlacedReply X)
-    → IsChangedOrNot of_file of_port Reliable (draws was.entropy) (draws now.entropy) store old new before after was now call held size result → Reliable → draws now.entropy ≡ draws was.entropy
-changed_still of_file of_port draws store old new before after was now call held size Reliable X (Ok answer) (Meant m) reliable = m.undrawn
-changed_still of_file of_port draws store old new before after was now call held size Reliable X (Ok answer) (Tried (Failed served kind cause)) reliable =
-    change_still before.file after.file before.number Reliable (draws was.entropy) (draws now.entropy) answer.reply cause reliable
-changed_still of_file of_port draws store old new before after was now call held size Reliable X (Ok answer) (Tried (Committable root c passed)) reliable =
-    committed_still of_file of_port draws store old new before.number was now call Done (renewal held root size) Reliable answer c reliable
-changed_still of_file of_port draws store old new before after was now call held size Reliable X (Err e) stays reliable = ap (λ (s : CallerSession _). draws s.entropy) stays.1
 
 module _ {F R E : Type 0} (of_file : F → FileState) (of_port : R → PortState) (draws : E → ℕ) (store : Store) (old new : GuardedGateValue F R) (slots : List SlotValue) (place : ℕ) (before after : SlotValue)
     (was now : CallerSession E) (are : AreSlots slots) (within : place < length slots) (stands : before ≡ slice_index_or slots place before) (same : after.number ≡ before.number) where
@@ -164,12 +144,3 @@ module _ {F R E : Type 0} (of_file : F → FileState) (of_port : R → PortState
   renamed_serves call change Reliable X (Err e) committed stays file caller known idle =
       stays_serves of_file of_port draws store old new slots place before after was now are within stands same call X e (stays.0, stays.1) caller
       (same_file_goes_on before.file after.file file)
-
--- a generator that never fails is drawn from without a fault
-pub renamed_still : {F R E : Type 0} (of_file : F → FileState) (of_port : R → PortState) (draws : E → ℕ) (store : Store) (old new : GuardedGateValue F R) (before after : SlotValue) (was now : CallerSession E)
-    (call : Call) (change : EntryChange) (Reliable X : Type 0) (result : Result PlacedReply X)
-    → IfOk result (λ answer. IsCommitted of_file of_port store old new before.number was now call Done change Reliable (draws was.entropy) (draws now.entropy) answer)
-    → OnErr result ((new ≡ old) × (now ≡ was) × (after ≡ before)) → Reliable → draws now.entropy ≡ draws was.entropy
-renamed_still of_file of_port draws store old new before after was now call change Reliable X (Ok answer) committed stays reliable =
-    committed_still of_file of_port draws store old new before.number was now call Done change Reliable answer committed reliable
-renamed_still of_file of_port draws store old new before after was now call change Reliable X (Err e) committed stays reliable = ap (λ (s : CallerSession _). draws s.entropy) stays.1

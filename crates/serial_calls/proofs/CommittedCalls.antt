@@ -38,7 +38,7 @@ use Rattle.serial_calls.specs.HeldFiles.{HoldsForDoubt, KeepsHolds}
 use Rattle.call_steps.specs.Devices.{AccusesRightly, CostsDoubt, Devices, IsOfHeard, TellsNoCard, devices_of}
 use Rattle.serial_calls.specs.ServeReady.{KnowsCard}
 use Rattle.call_steps.proofs.Cards.{no_card_told, steps_card, steps_told}
-use Rattle.call_steps.proofs.CountGrowth.{GateGrows, end_grows, end_still}
+use Rattle.call_steps.proofs.CountGrowth.{GateGrows, end_grows}
 use Rattle.serial_calls.proofs.ToldCalls.{GatesGoOn}
 
 -- The event.
@@ -73,10 +73,6 @@ module _ {F R E : Type 0} (of_file : F → FileState) (of_port : R → PortState
 
   abbrev c1 : Counted
   c1 = counts (of_file new.gate.dir.file) (of_port new.gate.host.port) (draws now.entropy)
-
-  -- where no generator that never fails was used, its count stands still
-  pub committed_still : Reliable → draws now.entropy ≡ draws was.entropy
-  committed_still reliable = end_still c0 c1 c.end (c.gate.drawn reliable) c.gate.counts_are
 
   module _ (key : List ℕ) (known : KnowsCard (of_port old.gate.host.port) old.gate.host.key key old.gate.counter) where
     committed_told : (card : CardState) → HasCard (of_port old.gate.host.port) key card → HadCard (of_port new.gate.host.port) key

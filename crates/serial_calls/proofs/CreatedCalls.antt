@@ -38,7 +38,7 @@ use Rattle.serial_calls.specs.ServeReady.{KnowsCard}
 use Rattle.call_steps.specs.Slots.{AreSlots}
 use Rattle.serial_calls.specs.ServeReplay.{ServesObject}
 use Rattle.call_steps.specs.Rising.{Serving, devices_in}
-use Rattle.serial_calls.proofs.CommittedCalls.{committed_appends, committed_goes_on, committed_mark, committed_still, end_accuses, end_costs, unheld}
+use Rattle.serial_calls.proofs.CommittedCalls.{committed_appends, committed_goes_on, committed_mark, end_accuses, end_costs, unheld}
 use Rattle.serial_calls.proofs.HeldFiles.{IsHeldAlone, committed_holds, quiet_given, reserved_alone}
 use Rattle.serial_calls.proofs.ToldCalls.{GatesGoOn, file_from, file_to, is_object_file, none_appended, quiet_goes_on, same_gate, serves_err, serves_ok, told_accuses_file, told_appends, told_quiet}
 
@@ -70,16 +70,6 @@ unmade_drawn counter file old new Reliable drew draws (NotAvailable (Frame fault
 unmade_drawn counter file old new Reliable drew draws (NotAvailable (CardResult result)) cause = absurd cause
 unmade_drawn counter file old new Reliable drew draws (CounterSpent last) cause = inl cause.3
 unmade_drawn counter file old new Reliable drew draws reply cause = absurd cause
-
-unmade_still : (counter file : ℕ) (old new : FileState) (Reliable : Type 0) (drew draws : ℕ) (reply : Reply) → UnmadeCause counter file old new Reliable drew draws reply → Reliable → draws ≡ drew
-unmade_still counter file old new Reliable drew draws (NotAvailable (Fault (File n) count)) cause reliable = cause.2
-unmade_still counter file old new Reliable drew draws (NotAvailable (Fault Entropy count)) cause reliable = absurd (cause.3 reliable)
-unmade_still counter file old new Reliable drew draws (NotAvailable (Fault Dir count)) cause reliable = absurd cause
-unmade_still counter file old new Reliable drew draws (NotAvailable (Fault Card count)) cause reliable = absurd cause
-unmade_still counter file old new Reliable drew draws (NotAvailable (Frame fault)) cause reliable = absurd cause
-unmade_still counter file old new Reliable drew draws (NotAvailable (CardResult result)) cause reliable = absurd cause
-unmade_still counter file old new Reliable drew draws (CounterSpent last) cause reliable = cause.3
-unmade_still counter file old new Reliable drew draws reply cause reliable = absurd cause
 
 -- a reply that says why no object was made in the file of that number
 pub unmade_accuses_file : (key : List ℕ) (d0 d1 : Devices) (number : ℕ) (from to : FileState) → ((n : ℕ) → n ≡ number → (d0.file n ≡ from) × (d1.file n ≡ to)) → (counter : ℕ) (Reliable : Type 0) (reply : Reply)
@@ -211,21 +201,3 @@ created_serves of_file of_port draws store old mid new slots place before after 
     (create_call object) result)
     (sym c.given_back)
     (answered_serves of_file of_port draws store old c.behind slots place before after was now are within stands same idle holds goes known object new_place Reliable X result caller c.answered)
-
-created_answered_still : {F R E : Type 0} (of_file : F → FileState) (of_port : R → PortState) (draws : E → ℕ) (store : Store) (old new : GuardedGateValue F R) (file : ℕ) (before after : FileState)
-    (was now : CallerSession E) (object : NewObject) (new_place : NewPlace) (Reliable X : Type 0) (result : Result PlacedReply X)
-    → IsAnsweredOrNot of_file of_port store old new file before after was now object new_place Reliable (draws was.entropy) (draws now.entropy) result → Reliable
-    → draws now.entropy ≡ draws was.entropy
-created_answered_still of_file of_port draws store old new file before after was now object new_place Reliable X (Ok answer) (Committable b passed) reliable =
-    committed_still of_file of_port draws store (reseated store file old) new file was now (create_call object) (Handle was.state.next_handle)
-    (Put (index_of_place new_place) (new_entry was.state.application object.id b.view b.next)) Reliable answer b.committed reliable
-created_answered_still of_file of_port draws store old new file before after was now object new_place Reliable X (Ok answer) (CreateFailure t cause) reliable =
-    unmade_still old.gate.counter file before after Reliable (draws was.entropy) (draws now.entropy) answer.reply cause reliable
-created_answered_still of_file of_port draws store old new file before after was now object new_place Reliable X (Err e) untold reliable = untold.undrawn
-
-pub created_still : {F R E : Type 0} (of_file : F → FileState) (of_port : R → PortState) (draws : E → ℕ) (store : Store) (old new : GuardedGateValue F R) (file : ℕ) (before after : FileState)
-    (was now : CallerSession E) (object : NewObject) (new_place : NewPlace) (Reliable X : Type 0) (result : Result PlacedReply X)
-    → Creates of_file of_port store old new file before after was now object new_place Reliable (draws was.entropy) (draws now.entropy) result → Reliable
-    → draws now.entropy ≡ draws was.entropy
-created_still of_file of_port draws store old new file before after was now object new_place Reliable X result c reliable =
-    created_answered_still of_file of_port draws store old c.behind file before after was now object new_place Reliable X result c.answered reliable

@@ -1,5 +1,5 @@
 -- A served call, from a commit in doubt to its answer.
-use Rattle.std.proofs.Common.{◌≡◌, ◌+◌, ◌++◌, ◌∷◌, ◌≤◌, ◌⊎◌, [], ℕ, true, List, Err, Ok, Result, Some, length, refl, sym, ap, ◌∙◌, subst, inl, inr}
+use Rattle.std.proofs.Common.{◌≡◌, ◌+◌, ◌++◌, ◌∷◌, ◌⊎◌, [], ℕ, true, List, Err, Ok, Result, Some, length, refl, sym, ap, ◌∙◌, subst, inl, inr}
 use Rattle.std.proofs.lemmas.List.{length-map}
 use Rattle.call_steps.specs.CallerSessions.{CallerSession, IsCallerOf, session_value}
 use Rattle.disk_model.specs.Calls.{GoesOn as FileGoesOn}
@@ -37,14 +37,14 @@ use Rattle.tee_types.specs.declared.reply.Reply.TheVariants.{NotAvailable}
 use Rattle.serial_calls.specs.ServedAnswers.{GoesOnWith, GoesOnWithout, ServesCall}
 use Rattle.serial_calls.specs.Appended.{AppendsCall}
 use Rattle.serial_calls.specs.HeldFiles.{KeepsHolds}
-use Rattle.call_steps.specs.Devices.{AccusesRightly, CostsDoubt, Devices, DevicesGoOn, IsOfHeard, PortGoesOn, TellsNoCard, faults_of, file_in}
+use Rattle.call_steps.specs.Devices.{AccusesRightly, CostsDoubt, Devices, DevicesGoOn, Grows, IsOfHeard, PortGoesOn, TellsNoCard, faults_of, file_in}
 use Rattle.call_steps.specs.Slots.{AreOfObjectFiles, AreSlots}
 use Rattle.serial_calls.specs.ServeReplay.{ServesObject}
 use Rattle.call_steps.specs.Rising.{Serving, devices_in}
 use Rattle.call_steps.proofs.Cards.{doubted_counts}
 use Rattle.call_steps.proofs.HeardAnswers.{answered_heard}
 use Rattle.call_steps.proofs.GoingOn.{goes-then}
-use Rattle.call_steps.proofs.CountGrowth.{counts_grow, devices_go_on_then, grows_le, grows_rose, grows_twice}
+use Rattle.call_steps.proofs.CountGrowth.{counts_grow, devices_go_on_then, grows_rose, grows_twice}
 use Rattle.call_steps.proofs.MoreRecords.{events_more, tagged_more}
 use Rattle.serial_calls.proofs.ServeSettling.{Settles, reserved_settles, same_settles, settled_settles, stays_settles, was_settles}
 use Rattle.serial_calls.proofs.HeldSettling.{precedes_holds, room_holds, unserved_holds}
@@ -110,7 +110,7 @@ module _ {F R E : Type 0} (of_file : F → FileState) (of_port : R → PortState
 
 -- A call that was left to an object's file.
 module _ {F R E : Type 0} (of_file : F → FileState) (of_port : R → PortState) (draws : E → ℕ) (store : Store) (old mid new : GuardedGateValue F R) (slots after : List SlotValue) (was shown now : CallerSession E)
-    (settled : Settles of_file of_port (card_key store) old mid) (settled_held : KeepsHolds old.gate mid.gate) (drawn : draws was.entropy ≤ draws shown.entropy) (number : shown.number ≡ was.number) (made : shown.made ≡ was.made) (goes_on : GoesOn store was shown) where
+    (settled : Settles of_file of_port (card_key store) old mid) (settled_held : KeepsHolds old.gate mid.gate) (drawn : Grows (draws was.entropy) (draws shown.entropy)) (number : shown.number ≡ was.number) (made : shown.made ≡ was.made) (goes_on : GoesOn store was shown) where
   abbrev d0 : Devices
   d0 = devices_in of_file of_port draws (record { gate = old; slots = slots; session = was })
 
@@ -125,7 +125,7 @@ module _ {F R E : Type 0} (of_file : F → FileState) (of_port : R → PortState
     dir = settled.dir;
     file = λ n. goes_on_none (file_in slots n);
     card = settled.card;
-    draws = grows_le (draws was.entropy) (draws shown.entropy) drawn;
+    draws = drawn;
   }
 
   pub object_serves : (call : Call) (X : Type 0) (result : Result PlacedReply X)
@@ -156,7 +156,7 @@ module _ {F R E : Type 0} (of_file : F → FileState) (of_port : R → PortState
 -- A call that the gate answered alone, or memory ran out.
 module _ {F R E : Type 0} (of_file : F → FileState) (of_port : R → PortState) (draws : E → ℕ) (store : Store) (first old new : GuardedGateValue F R) (slots : List SlotValue) (was now : CallerSession E)
     (ready : old.gate ≡ record first.gate { open_handles = old.gate.open_handles; room = old.gate.room }) (knows : old.journal.knows ≡ first.journal.knows) (Reliable : Type 0)
-    (drawn : draws was.entropy ≤ draws now.entropy)
+    (drawn : Grows (draws was.entropy) (draws now.entropy))
     (keyed : first.gate.host.key ≡ card_key store) (stands : DoubtStands (gate_sides of_file of_port first.gate) first.gate.doubt) where
   abbrev from : Serving F R E
   from = record { gate = first; slots = slots; session = was }
@@ -175,7 +175,7 @@ module _ {F R E : Type 0} (of_file : F → FileState) (of_port : R → PortState
     dir = subst (λ (g : GateValue F R). FileGoesOn (of_file first.gate.dir.file) (of_file g.dir.file)) (sym same) s.dir;
     file = λ n. goes_on_none (file_in slots n);
     card = subst (λ (g : GateValue F R). PortGoesOn (card_key store) (of_port first.gate.host.port) (of_port g.host.port)) (sym same) s.card;
-    draws = grows_le (draws was.entropy) (draws now.entropy) drawn;
+    draws = drawn;
   }
 
   -- why a commit is in doubt still: a card that is told with the key would have one of the two counters

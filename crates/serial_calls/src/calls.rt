@@ -8,6 +8,7 @@ ghost use Rattle.serial_calls.specs.ChangeChecks.{AreOnlyRead};
 ghost use Rattle.core_laws.specs.Shown.{IsPartial};
 ghost use Rattle.hmac_keys.specs.KeyTable.{ssk};
 ghost use Rattle.call_steps.specs.CallerSessions.{IsCallerOf};
+ghost use Rattle.call_steps.specs.Devices.{DrawsOn};
 ghost use Rattle.call_steps.specs.GateServed.{IsMisused};
 ghost use Rattle.call_steps.specs.Rulings.{is_on_object};
 ghost use Rattle.call_steps.specs.SessionViews.{shown};
@@ -43,8 +44,7 @@ pub(crate) fn serve_object<F: StoreFile + Drop, R: RpmbPort + Drop, L: StoreName
     ensures serves { ServesObject F.state R.state E.faults L.store
         (record { gate = gate.old; slots = slots.old.items; session = session.old })
         (record { gate = gate.new; slots = slots.new.items; session = session.new }) (call.now) result }
-    ensures reliable { E.is_reliable session.old.entropy → E.is_reliable session.new.entropy }
-    ensures still { E.is_reliable session.old.entropy → E.faults session.new.entropy ≡ E.faults session.old.entropy }
+    ensures draws { DrawsOn E.is_reliable E.faults session.old.entropy session.new.entropy }
     ensures passed { OnErr result (NoneFailed (devices_in F.state R.state E.faults (record { gate = gate.old; slots = slots.old.items; session = session.old }))
         (devices_in F.state R.state E.faults (record { gate = gate.new; slots = slots.new.items; session = session.new }))) }
     ensures spent { IsPartial call.now → gate.old.gate.counter ≡ last_counter → AreOnlyRead (record { gate = gate.old; slots = slots.old.items; session = session.old })
@@ -115,8 +115,7 @@ pub fn serve<F: StoreFile + Drop, R: RpmbPort + Drop, L: StoreName, E: Entropy>(
     ensures serves { ServesCall F.state R.state E.faults L.store
         (record { gate = gate.old; slots = slots.old.items; session = session.old })
         (record { gate = gate.new; slots = slots.new.items; session = session.new }) call.now result }
-    ensures reliable { E.is_reliable session.old.entropy → E.is_reliable session.new.entropy }
-    ensures still { E.is_reliable session.old.entropy → E.faults session.new.entropy ≡ E.faults session.old.entropy }
+    ensures draws { DrawsOn E.is_reliable E.faults session.old.entropy session.new.entropy }
     // Where memory ran out, no device counted a fault.
     ensures passed { OnErr result (NoneFailed (devices_in F.state R.state E.faults (record { gate = gate.old; slots = slots.old.items; session = session.old }))
         (devices_in F.state R.state E.faults (record { gate = gate.new; slots = slots.new.items; session = session.new }))) }

@@ -1,10 +1,11 @@
 //! TEE_CreatePersistentObject.
 
-ghost use Rattle.std.specs.Prelude.{◌≡◌, ◌≤◌, length, IfOk, None};
+ghost use Rattle.std.specs.Prelude.{◌≡◌, ◌≤◌, IfOk, None};
 ghost use Rattle.tee_types.specs.declared.call.Call.TheVariants.{Create};
 ghost use Rattle.disk_model.specs.Calls.{GoesOn};
 ghost use Rattle.crash_core.specs.DeviceKeys.{object_key};
 ghost use Rattle.call_steps.specs.Commits.{IsCalm};
+ghost use Rattle.call_steps.specs.Devices.{DrawsOn};
 ghost use Rattle.call_steps.specs.GuardedSlots.{SlotInvariant};
 ghost use Rattle.serial_calls.specs.Created.{Creates, IsAnsweredOrNot};
 ghost use Rattle.serial_calls.specs.FileReserving.{IsReserved};
@@ -70,7 +71,7 @@ fn answer<F: StoreFile + Drop, R: RpmbPort + Drop, L: StoreName, E: Entropy>(
     ensures answered { IsAnsweredOrNot F.state R.state L.store gate.old gate.new slot.old.number slot.old.file slot.new.file session.old session.new
         (record { id = id; flags = flags; attributes = attributes.now; bytes = bytes.now }) place.now
         (E.is_reliable session.old.entropy) (E.faults session.old.entropy) (E.faults session.new.entropy) result }
-    ensures reliable { E.is_reliable session.old.entropy → E.is_reliable session.new.entropy }
+    ensures draws { DrawsOn E.is_reliable E.faults session.old.entropy session.new.entropy }
     ensures guarded { SlotInvariant L.store slot.new }
     ensures number { slot.new.number ≡ slot.old.number }
     ensures goes_on { GoesOn slot.old.file slot.new.file }
@@ -117,7 +118,7 @@ pub fn create<F: StoreFile + Drop, R: RpmbPort + Drop, L: StoreName, E: Entropy>
     ensures creates { Creates F.state R.state L.store gate.old gate.new slot.old.number slot.old.file slot.new.file session.old session.new
         (record { id = id; flags = flags; attributes = attributes.now; bytes = bytes.now }) place.now
         (E.is_reliable session.old.entropy) (E.faults session.old.entropy) (E.faults session.new.entropy) result }
-    ensures reliable { E.is_reliable session.old.entropy → E.is_reliable session.new.entropy }
+    ensures draws { DrawsOn E.is_reliable E.faults session.old.entropy session.new.entropy }
     ensures number { slot.new.number ≡ slot.old.number }
     ensures goes_on { GoesOn slot.old.file slot.new.file }
 {

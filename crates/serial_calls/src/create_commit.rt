@@ -7,6 +7,7 @@ ghost use Rattle.call_steps.specs.Commits.{IsCalm};
 ghost use Rattle.call_steps.specs.Fits.{FitsGate, SeesWhole};
 ghost use Rattle.call_steps.specs.GuardedSlots.{SlotInvariant};
 ghost use Rattle.call_steps.specs.CreateLaws.{index_of_place};
+ghost use Rattle.call_steps.specs.Devices.{DrawsOn};
 ghost use Rattle.serial_calls.specs.CreateEnds.{IsCommittableAs, IsCommittableOrSpent, IsFinished, MayTellIfUnmade};
 ghost use Rattle.serial_calls.specs.ObjectMaking.{IsMadeOrClear, IsMadeSlot, entry_by};
 ghost use Rattle.serial_calls.specs.FileReserving.{IsReserved};
@@ -95,7 +96,7 @@ fn commit_created<F: StoreFile + Drop, R: RpmbPort + Drop, L: StoreName, E: Entr
     ensures committable { IsCommittableAs F.state R.state L.store gate.old gate.new slot.old.number session.old session.new
         (record { id = id; flags = flags; attributes = attributes.now; bytes = bytes.now }) place.now
         (E.is_reliable session.old.entropy) (E.faults session.old.entropy) (E.faults session.new.entropy) root result }
-    ensures reliable { E.is_reliable session.old.entropy → E.is_reliable session.new.entropy }
+    ensures draws { DrawsOn E.is_reliable E.faults session.old.entropy session.new.entropy }
     ensures guarded { SlotInvariant L.store slot.new }
     ensures whole { SeesWhole gate.new.journal.knows slot.new }
     ensures number { slot.new.number ≡ slot.old.number }
@@ -146,7 +147,7 @@ fn finish_made<F: StoreFile + Drop, R: RpmbPort + Drop, L: StoreName, E: Entropy
     ensures finished { IsCommittableOrSpent F.state R.state L.store (reseated L.store slot.old.number gate.old) gate.new slot.old.number session.old session.new
         (record { id = id; flags = flags; attributes = attributes.now; bytes = bytes.now }) place.now
         (E.is_reliable session.old.entropy) (E.faults session.old.entropy) (E.faults session.new.entropy) root result }
-    ensures reliable { E.is_reliable session.old.entropy → E.is_reliable session.new.entropy }
+    ensures draws { DrawsOn E.is_reliable E.faults session.old.entropy session.new.entropy }
     ensures guarded { SlotInvariant L.store slot.new }
     // What the slot's seat knew agreed with the gate.
     ensures agreed { FitsGate gate.old.journal.knows slot.old }
@@ -196,7 +197,7 @@ pub fn finish<F: StoreFile + Drop, R: RpmbPort + Drop, L: StoreName, E: Entropy>
     ensures finished { IsFinished F.state R.state L.store (reseated L.store slot.old.number gate.old) gate.new slot.old.number session.old session.new
         (record { id = id; flags = flags; attributes = attributes.now; bytes = bytes.now }) place.now
         (E.is_reliable session.old.entropy) (E.faults session.old.entropy) (E.faults session.new.entropy) made result }
-    ensures reliable { E.is_reliable session.old.entropy → E.is_reliable session.new.entropy }
+    ensures draws { DrawsOn E.is_reliable E.faults session.old.entropy session.new.entropy }
     ensures guarded { SlotInvariant L.store slot.new }
     // What the slot's seat knew agreed with the gate.
     ensures agreed { FitsGate gate.old.journal.knows slot.old }

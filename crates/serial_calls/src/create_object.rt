@@ -3,6 +3,7 @@
 ghost use Rattle.std.specs.Prelude.{◌≡◌, ◌≤◌, length, None, IfErr};
 ghost use Rattle.disk_model.specs.Calls.{GoesOn};
 ghost use Rattle.crash_core.specs.DeviceKeys.{object_key};
+ghost use Rattle.call_steps.specs.Devices.{DrawsOn};
 ghost use Rattle.call_steps.specs.SlotFaults.{HasCauses, IsSound};
 ghost use Rattle.serial_calls.specs.Clearing.{IsClearSlot};
 ghost use Rattle.serial_calls.specs.Created.{TriedCauseOrNot};
@@ -74,7 +75,7 @@ pub fn make<F: StoreFile + Drop, L: StoreName, E: Entropy>(
     ensures vacant { IsVacant L.store slot.new }
     ensures cause { MakingCauseOrNot slot.old.number slot.old.file slot.new.file (E.is_reliable session.old.entropy)
         (E.faults session.old.entropy) (E.faults session.new.entropy) result }
-    ensures reliable { E.is_reliable session.old.entropy → E.is_reliable session.new.entropy }
+    ensures draws { DrawsOn E.is_reliable E.faults session.old.entropy session.new.entropy }
     ensures goes_on { GoesOn slot.old.file slot.new.file }
 {
     match stage::<F, L, E>(alloc, slot, session, tsk, attributes, bytes) {
@@ -111,7 +112,7 @@ pub fn make_unless_spent<F: StoreFile + Drop, L: StoreName, E: Entropy>(
     ensures vacant { IsVacant L.store slot.new }
     ensures cause { TriedCauseOrNot counter slot.old.number slot.old.file slot.new.file (E.is_reliable session.old.entropy)
         (E.faults session.old.entropy) (E.faults session.new.entropy) result }
-    ensures reliable { E.is_reliable session.old.entropy → E.is_reliable session.new.entropy }
+    ensures draws { DrawsOn E.is_reliable E.faults session.old.entropy session.new.entropy }
     ensures goes_on { GoesOn slot.old.file slot.new.file }
 {
     if counter < u32::MAX {

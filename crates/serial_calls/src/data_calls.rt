@@ -1,6 +1,7 @@
 //! Calls that change the data of an open object.
 
 ghost use Rattle.std.specs.Prelude.{◌≡◌, OnErr};
+ghost use Rattle.call_steps.specs.Devices.{DrawsOn};
 ghost use Rattle.call_steps.specs.Rising.{devices_in};
 ghost use Rattle.serial_calls.specs.Unfailed.{NoneFailed};
 ghost use Rattle.rpmb_card.specs.Protocol.{last_counter};
@@ -37,8 +38,7 @@ pub(crate) fn write<F: StoreFile + Drop, R: RpmbPort + Drop, L: StoreName, E: En
     ensures serves { ServesObject F.state R.state E.faults L.store
         (record { gate = gate.old; slots = slots.old.items; session = session.old })
         (record { gate = gate.new; slots = slots.new.items; session = session.new }) (Call.Write handle bytes.now) result }
-    ensures reliable { E.is_reliable session.old.entropy → E.is_reliable session.new.entropy }
-    ensures still { E.is_reliable session.old.entropy → E.faults session.new.entropy ≡ E.faults session.old.entropy }
+    ensures draws { DrawsOn E.is_reliable E.faults session.old.entropy session.new.entropy }
     ensures passed { OnErr result (NoneFailed (devices_in F.state R.state E.faults (record { gate = gate.old; slots = slots.old.items; session = session.old }))
         (devices_in F.state R.state E.faults (record { gate = gate.new; slots = slots.new.items; session = session.new }))) }
     ensures spent { gate.old.gate.counter ≡ last_counter → AreOnlyRead (record { gate = gate.old; slots = slots.old.items; session = session.old })
@@ -78,8 +78,7 @@ pub(crate) fn truncate<F: StoreFile + Drop, R: RpmbPort + Drop, L: StoreName, E:
     ensures serves { ServesObject F.state R.state E.faults L.store
         (record { gate = gate.old; slots = slots.old.items; session = session.old })
         (record { gate = gate.new; slots = slots.new.items; session = session.new }) (Call.Truncate handle size) result }
-    ensures reliable { E.is_reliable session.old.entropy → E.is_reliable session.new.entropy }
-    ensures still { E.is_reliable session.old.entropy → E.faults session.new.entropy ≡ E.faults session.old.entropy }
+    ensures draws { DrawsOn E.is_reliable E.faults session.old.entropy session.new.entropy }
     ensures passed { OnErr result (NoneFailed (devices_in F.state R.state E.faults (record { gate = gate.old; slots = slots.old.items; session = session.old }))
         (devices_in F.state R.state E.faults (record { gate = gate.new; slots = slots.new.items; session = session.new }))) }
     ensures spent { gate.old.gate.counter ≡ last_counter → AreOnlyRead (record { gate = gate.old; slots = slots.old.items; session = session.old })

@@ -6,6 +6,7 @@ ghost use Rattle.tee_types.specs.declared.call.Call.TheVariants.{Delete};
 ghost use Rattle.tee_types.specs.declared.reply.Reply.TheVariants.{Done};
 ghost use Rattle.call_rules.specs.Objects.{IsRightful};
 ghost use Rattle.call_steps.specs.Commits.{IsCalm};
+ghost use Rattle.call_steps.specs.Devices.{DrawsOn};
 ghost use Rattle.call_steps.specs.Fits.{FitsGate, SeesWhole};
 ghost use Rattle.call_steps.specs.ObjectCommits.{IsCommitted};
 ghost use Rattle.call_steps.specs.NameLaws.{IsDoneByRule};
@@ -43,7 +44,7 @@ pub fn delete<F: StoreFile + Drop, R: RpmbPort + Drop, L: StoreName, E: Entropy>
     // What the slot's seat knew agreed with the gate.
     ensures agreed { FitsGate gate.old.journal.knows slot.old }
     ensures whole { SeesWhole gate.new.journal.knows slot.new }
-    ensures reliable { E.is_reliable session.old.entropy → E.is_reliable session.new.entropy }
+    ensures draws { DrawsOn E.is_reliable E.faults session.old.entropy session.new.entropy }
     ensures number { slot.new.number ≡ slot.old.number }
     ensures file { slot.new.file ≡ slot.old.file }
 {

@@ -3,6 +3,7 @@
 ghost use Rattle.std.specs.Prelude.{◌≡◌, ◌≤◌, true, false, length, OnErr};
 ghost use Rattle.app_totals.specs.Meant.{may_grow};
 ghost use Rattle.call_steps.specs.CallerSessions.{IsCallerOf};
+ghost use Rattle.call_steps.specs.Devices.{DrawsOn};
 ghost use Rattle.call_steps.specs.Rising.{devices_in};
 ghost use Rattle.call_steps.specs.Slots.{AreSlots};
 ghost use Rattle.hmac_keys.specs.KeyTable.{ssk};
@@ -41,8 +42,7 @@ fn serve_other<F: StoreFile + Drop, R: RpmbPort + Drop, L: StoreName, E: Entropy
         (record { gate = gate.new; slots = slots.new.items; session = session.new }) call.now (answer_in result) }
     ensures limits { KeepsLimits L.store limit session.old session.new }
     ensures refused { IfRefused result (IsRefusedRightly L.store limit session.old session.new call.now) }
-    ensures reliable { E.is_reliable session.old.entropy → E.is_reliable session.new.entropy }
-    ensures still { E.is_reliable session.old.entropy → E.faults session.new.entropy ≡ E.faults session.old.entropy }
+    ensures draws { DrawsOn E.is_reliable E.faults session.old.entropy session.new.entropy }
     ensures passed { OnErr (answer_in result) (NoneFailed (devices_in F.state R.state E.faults (record { gate = gate.old; slots = slots.old.items; session = session.old }))
         (devices_in F.state R.state E.faults (record { gate = gate.new; slots = slots.new.items; session = session.new }))) }
 {
@@ -70,8 +70,7 @@ fn serve_growing<F: StoreFile + Drop, R: RpmbPort + Drop, L: StoreName, E: Entro
         (record { gate = gate.new; slots = slots.new.items; session = session.new }) call.now (answer_in result) }
     ensures limits { KeepsLimits L.store limit session.old session.new }
     ensures refused { IfRefused result (IsRefusedRightly L.store limit session.old session.new call.now) }
-    ensures reliable { E.is_reliable session.old.entropy → E.is_reliable session.new.entropy }
-    ensures still { E.is_reliable session.old.entropy → E.faults session.new.entropy ≡ E.faults session.old.entropy }
+    ensures draws { DrawsOn E.is_reliable E.faults session.old.entropy session.new.entropy }
     ensures passed { OnErr (answer_in result) (NoneFailed (devices_in F.state R.state E.faults (record { gate = gate.old; slots = slots.old.items; session = session.old }))
         (devices_in F.state R.state E.faults (record { gate = gate.new; slots = slots.new.items; session = session.new }))) }
 {
@@ -115,8 +114,7 @@ pub fn serve_within<F: StoreFile + Drop, R: RpmbPort + Drop, L: StoreName, E: En
         (record { gate = gate.new; slots = slots.new.items; session = session.new }) call.now (answer_in result) }
     ensures limits { KeepsLimits L.store limit session.old session.new }
     ensures refused { IfRefused result (IsRefusedRightly L.store limit session.old session.new call.now) }
-    ensures reliable { E.is_reliable session.old.entropy → E.is_reliable session.new.entropy }
-    ensures still { E.is_reliable session.old.entropy → E.faults session.new.entropy ≡ E.faults session.old.entropy }
+    ensures draws { DrawsOn E.is_reliable E.faults session.old.entropy session.new.entropy }
     // Where it was refused, or memory ran out, no device counted a fault.
     ensures passed { OnErr (answer_in result) (NoneFailed (devices_in F.state R.state E.faults (record { gate = gate.old; slots = slots.old.items; session = session.old }))
         (devices_in F.state R.state E.faults (record { gate = gate.new; slots = slots.new.items; session = session.new }))) }

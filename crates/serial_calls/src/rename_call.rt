@@ -10,6 +10,7 @@ ghost use Rattle.core_laws.specs.TamperScenarios.{TamperScenario};
 ghost use Rattle.core_laws.specs.Answered.{AreAnswered};
 ghost use Rattle.call_rules.specs.Objects.{IsRightful};
 ghost use Rattle.call_steps.specs.Commits.{IsCalm};
+ghost use Rattle.call_steps.specs.Devices.{DrawsOn};
 ghost use Rattle.call_steps.specs.Fits.{FitsGate, SeesWhole};
 ghost use Rattle.call_steps.specs.ObjectCommits.{IsCommitted};
 ghost use Rattle.call_steps.specs.NameLaws.{IsDoneByRule};
@@ -75,7 +76,7 @@ pub fn rename<F: StoreFile + Drop, R: RpmbPort + Drop, L: StoreName, E: Entropy>
     // What the slot's seat knew agreed with the gate.
     ensures agreed { OnOk result (FitsGate gate.old.journal.knows slot.old) }
     ensures whole { OnOk result (SeesWhole gate.new.journal.knows slot.new) }
-    ensures reliable { E.is_reliable session.old.entropy → E.is_reliable session.new.entropy }
+    ensures draws { DrawsOn E.is_reliable E.faults session.old.entropy session.new.entropy }
     ensures number { slot.new.number ≡ slot.old.number }
     ensures file { slot.new.file ≡ slot.old.file }
     ensures unanswered { OnErr result ((scenario : TamperScenario) → AreAnswered L.store scenario gate.old.journal.knows.all → ⊥) }

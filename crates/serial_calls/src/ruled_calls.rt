@@ -1,6 +1,6 @@
 //! Calls on objects that the rules answer.
 
-ghost use Rattle.std.specs.Prelude.{◌≡◌, ℕ, OnErr};
+ghost use Rattle.std.specs.Prelude.{ℕ, OnErr};
 ghost use Rattle.call_steps.specs.Rising.{devices_in};
 ghost use Rattle.serial_calls.specs.Unfailed.{NoneFailed};
 ghost use Rattle.serial_calls.specs.ChangeChecks.{AreOnlyRead};
@@ -9,6 +9,7 @@ ghost use Rattle.call_rules.specs.Matches.{Matches};
 ghost use Rattle.call_rules.specs.Plain.{IsPlain};
 ghost use Rattle.call_rules.specs.Told.{IsTold};
 ghost use Rattle.call_steps.specs.Answering.{LeavesHandles};
+ghost use Rattle.call_steps.specs.Devices.{DrawsOn};
 ghost use Rattle.serial_calls.specs.ServeReady.{IsReady};
 ghost use Rattle.serial_calls.specs.ServeReplay.{ServesObject};
 
@@ -36,8 +37,7 @@ pub(crate) fn answer<F: StoreFile + Drop, R: RpmbPort + Drop, L: StoreName, E: E
     ensures serves { ServesObject F.state R.state E.faults L.store
         (record { gate = gate.old; slots = slots.now.items; session = session.old })
         (record { gate = gate.new; slots = slots.now.items; session = session.new }) call.now result }
-    ensures reliable { E.is_reliable session.old.entropy → E.is_reliable session.new.entropy }
-    ensures still { E.is_reliable session.old.entropy → E.faults session.new.entropy ≡ E.faults session.old.entropy }
+    ensures draws { DrawsOn E.is_reliable E.faults session.old.entropy session.new.entropy }
     ensures passed { OnErr result (NoneFailed (devices_in F.state R.state E.faults (record { gate = gate.old; slots = slots.now.items; session = session.old }))
         (devices_in F.state R.state E.faults (record { gate = gate.new; slots = slots.now.items; session = session.new }))) }
     ensures quiet { AreOnlyRead (record { gate = gate.old; slots = slots.now.items; session = session.old })

@@ -11,6 +11,7 @@ ghost use Rattle.call_steps.specs.Fits.{SeesWhole};
 ghost use Rattle.call_steps.specs.GuardedSlots.{SlotInvariant};
 ghost use Rattle.call_steps.specs.ObjectCommits.{IsCommittable, IsCommitted};
 ghost use Rattle.call_steps.specs.Changes.{change_of};
+ghost use Rattle.call_steps.specs.Devices.{DrawsOn};
 ghost use Rattle.tee_types.specs.declared.reply.Reply.TheVariants.{Done as DoneReply};
 
 use call_steps::{
@@ -46,7 +47,7 @@ pub(crate) fn commit_stage<F: StoreFile + Drop, R: RpmbPort + Drop, L: StoreName
     requires moved { LeavesSession L.store gate.old.journal.knows session.old.number call (moved_by session.old.state step) }
     ensures committed { IsCommitted F.state R.state L.store gate.old gate.new slot.old.number session.old session.new call DoneReply (renewal held root size)
         (E.is_reliable session.old.entropy) (E.faults session.old.entropy) (E.faults session.new.entropy) result }
-    ensures reliable { E.is_reliable session.old.entropy → E.is_reliable session.new.entropy }
+    ensures draws { DrawsOn E.is_reliable E.faults session.old.entropy session.new.entropy }
     ensures guarded { SlotInvariant L.store slot.new }
     ensures whole { SeesWhole gate.new.journal.knows slot.new }
     ensures number { slot.new.number ≡ slot.old.number }

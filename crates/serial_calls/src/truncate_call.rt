@@ -17,6 +17,7 @@ ghost use Rattle.dir_records.specs.Form.{HasForm};
 ghost use Rattle.disk_model.specs.Calls.{GoesOn, Rests};
 ghost use Rattle.history_seats.specs.Records.{Version};
 ghost use Rattle.call_steps.specs.Commits.{IsCalm};
+ghost use Rattle.call_steps.specs.Devices.{DrawsOn};
 ghost use Rattle.call_steps.specs.Fills.{GivesEntry};
 ghost use Rattle.call_steps.specs.Fits.{FitsGate, SeesWhole};
 ghost use Rattle.call_steps.specs.GuardedSlots.{SlotInvariant};
@@ -60,7 +61,7 @@ fn truncate_loaded<F: StoreFile + Drop, L: StoreName, E: Entropy>(
     ensures stages { (v : Version) → GivesVersion slot.old v → IfOk result (StagesChange L.store slot.new v (resizing size)) }
     ensures cause { IfOk result (HasStageCause slot.old.file slot.new.file slot.old.number (E.is_reliable entropy.old) (E.faults entropy.old) (E.faults entropy.new)) }
     ensures goes_on { GoesOn slot.old.file slot.new.file }
-    ensures reliable { E.is_reliable entropy.old → E.is_reliable entropy.new }
+    ensures draws { DrawsOn E.is_reliable E.faults entropy.old entropy.new }
 {
     let given = stage_truncate::<F, E, L>(alloc, slot, size, entropy);
     let Some(staged) = staged_by(slot.number(), given) else {
@@ -99,7 +100,7 @@ pub fn truncate_object<F: StoreFile + Drop, L: StoreName, E: Entropy>(
     // The reply accuses the file or the entropy where it failed, and no other.
     ensures cause { IfOk result (HasStageCause slot.old.file slot.new.file slot.old.number (E.is_reliable entropy.old) (E.faults entropy.old) (E.faults entropy.new)) }
     ensures goes_on { GoesOn slot.old.file slot.new.file }
-    ensures reliable { E.is_reliable entropy.old → E.is_reliable entropy.new }
+    ensures draws { DrawsOn E.is_reliable E.faults entropy.old entropy.new }
 {
     if let Some(reply) = load_or_reply::<F, L>(alloc, slot, entry, tsk)? {
         return Ok(Staged::Unstaged(reply));
@@ -129,7 +130,7 @@ pub fn answer_truncate<F: StoreFile + Drop, R: RpmbPort + Drop, L: StoreName, E:
     requires stages { StagesEntry L.store gate.old.journal.knows slot.old found.now.held.entry (resizing size) staged }
     ensures answered { AnswersStaged F.state R.state (E.is_reliable session.old.entropy) (E.faults session.old.entropy) (E.faults session.new.entropy)
         L.store gate.old gate.new slot.old.number session.old session.new (Call.Truncate handle size) found.now.held size staged result }
-    ensures reliable { E.is_reliable session.old.entropy → E.is_reliable session.new.entropy }
+    ensures draws { DrawsOn E.is_reliable E.faults session.old.entropy session.new.entropy }
     ensures number { slot.new.number ≡ slot.old.number }
     ensures file { slot.new.file ≡ slot.old.file }
     ensures guarded { SlotInvariant L.store slot.new }
@@ -228,7 +229,7 @@ pub fn truncate<F: StoreFile + Drop, R: RpmbPort + Drop, L: StoreName, E: Entrop
     ensures passed { OnErr result (FilePassed slot.old.file slot.new.file) }
     ensures number { slot.new.number ≡ slot.old.number }
     ensures goes_on { GoesOn slot.old.file slot.new.file }
-    ensures reliable { E.is_reliable session.old.entropy → E.is_reliable session.new.entropy }
+    ensures draws { DrawsOn E.is_reliable E.faults session.old.entropy session.new.entropy }
 {
     let entry = found.held.entry;
     if let Some(reply) = truncate_refusal(size) {

@@ -1,5 +1,5 @@
 -- A create that ended at the gate, as a call that was answered, and what always holds behind it.
-use Rattle.std.proofs.Common.{◌≡◌, [], ℕ, Err, IfSome, IsNone, None, Ok, Option, Result, Some, ap, arith, inl, refl, subst, sym}
+use Rattle.std.proofs.Common.{◌≡◌, [], ℕ, Err, IfSome, IsNone, None, Ok, Option, Result, Some, ap, refl, subst, sym}
 use Rattle.tee_types.specs.Limits.{IsObjectFile}
 use Rattle.serial_calls.specs.CallerSessions.{CallerSession}
 use Rattle.call_rules.specs.declared.decision.NewPlace.{NewPlace}
@@ -25,11 +25,14 @@ use Rattle.tee_types.specs.declared.reply.Reply.{Reply}
 use Rattle.serial_calls.specs.DeviceCounts.{told_of}
 use Rattle.serial_calls.specs.Devices.{Devices, Grows}
 use Rattle.serial_calls.specs.ServeReady.{KnowsCard}
-use Rattle.shared_calls.specs.SharedCreate.{AccusesAtMost, told_made}
+use Rattle.shared_calls.specs.SharedCounts.{CarriesDraws}
+use Rattle.shared_calls.specs.SharedCreate.{AccusesAtMost, CarriesMade, told_made}
 use Rattle.shared_calls.specs.Kept.{KeepsGate, KeepsSlot}
 use Rattle.shared_calls.specs.Attempts.{EndsAttempt, IsAnswered, IsWaiting}
 use Rattle.shared_calls.proofs.AnsweredSlots.{keeps-committable, keeps-served}
-use Rattle.shared_calls.proofs.SharedCommits.{committed-answers, committed-grows, committed-still}
+use Rattle.shared_calls.proofs.CarriedAttempts.{carries-grown}
+use Rattle.shared_calls.proofs.CarriedDraws.{carries-committed}
+use Rattle.shared_calls.proofs.SharedCommits.{committed-answers}
 use Rattle.shared_calls.proofs.KeptCalls.{keeps-committed}
 use Rattle.shared_calls.proofs.Served.{slot-answers}
 use Rattle.shared_calls.proofs.SparedGates.{SparesGate, keeps-spared}
@@ -68,26 +71,19 @@ module _ {F R E : Type 0} (of_file : F → FileState) (of_port : R → PortState
   committable-answers : Brings → IsAnswered store was now (create_call object) answer
   committable-answers b = committed-answers of_file of_port faults store old new file was now (create_call object) _ _ Reliable answer b.committed
 
-  committable-draws : Brings → Grows drew draws
-  committable-draws b = committed-grows of_file of_port faults store old new file was now (create_call object) _ _ Reliable answer b.committed drew (omega arith)
-
-  committable-still : Brings → Reliable → draws ≡ drew
-  committable-still b = committed-still of_file of_port faults store old new file was now (create_call object) _ _ Reliable answer b.committed
-
   pub finished-answers : (made : Result RootRef CreateFailure) → Finishes made → IsAnswered store was now (create_call object) answer
   finished-answers (Ok root) (Committable b low) = committable-answers b.0
   finished-answers (Ok root) (Uncommittable t spent) = unmade-answers store old new file was now object Spent answer t
   finished-answers (Err why) t = unmade-answers store old new file was now object why answer t
 
-  pub finished-draws : (made : Result RootRef CreateFailure) → Finishes made → Grows drew draws
-  finished-draws (Ok root) (Committable b low) = committable-draws b.0
-  finished-draws (Ok root) (Uncommittable t spent) = inl (ap faults t.undrawn)
-  finished-draws (Err why) t = inl (ap faults t.undrawn)
-
-  pub finished-still : (made : Result RootRef CreateFailure) → Finishes made → Reliable → draws ≡ drew
-  finished-still (Ok root) (Committable b low) reliable = committable-still b.0 reliable
-  finished-still (Ok root) (Uncommittable t spent) reliable = ap faults t.undrawn
-  finished-still (Err why) t reliable = ap faults t.undrawn
+  -- A reply that accuses the entropy carries its count, if that of the object's making did: the gate knows its card.
+  pub finished-carries : KnowsCard (of_port old.gate.host.port) old.gate.host.key (rpmb_key store.keys.huk) old.gate.counter → (first : ℕ) → Grows first drew
+      → (made : Result RootRef CreateFailure) → Finishes made → CarriesMade first drew made → CarriesDraws first draws answer.reply
+  finished-carries known first grows (Ok root) (Committable b low) carries =
+      carries-grown first drew draws answer.reply grows
+      (carries-committed of_file of_port faults store old new file was now (create_call object) _ _ Reliable answer (λ d0 d1. tt) known (b.0).committed)
+  finished-carries known first grows (Ok root) (Uncommittable t spent) carries = subst (CarriesDraws first draws) (sym t.reply) tt
+  finished-carries known first grows (Err why) t carries = subst (λ (p : ℕ × Reply). CarriesDraws first p.0 p.1) (λ i. (sym (ap faults t.undrawn) i, sym t.reply i)) carries
 
   -- The gate, which knows its card.
   module _ (before : Devices) (of_object : IsObjectFile file) (known : KnowsCard (of_port old.gate.host.port) old.gate.host.key (rpmb_key store.keys.huk) old.gate.counter)

@@ -1,11 +1,11 @@
 -- What the gate keeps as a call is forecast, and what the forecast leaves of its session.
-use Rattle.std.proofs.Common.{◌≡◌, ◌≤◌, [], ℕ, Err, IfErr, IfOk, IsErr, Ok, Result, refl}
+use Rattle.std.proofs.Common.{◌≡◌, [], ℕ, Err, IfErr, IfOk, IsErr, Ok, Result, refl}
 use Rattle.app_totals.specs.declared.numbers.Forecast.{Forecast}
 use Rattle.disk_model.specs.State.{FileState}
 use Rattle.hmac_keys.specs.KeyTable.{rpmb_key}
 use Rattle.rpmb_card.specs.Port.{PortState}
 use Rattle.serial_calls.specs.CallerSessions.{CallerSession}
-use Rattle.serial_calls.specs.Devices.{Devices, devices_of}
+use Rattle.serial_calls.specs.Devices.{Devices, Grows, devices_of}
 use Rattle.serial_calls.specs.Foreseen.{Forecasts}
 use Rattle.serial_calls.specs.Gates.{DoubtStands, gate_sides}
 use Rattle.serial_calls.specs.GuardedGates.{GuardedGateValue}
@@ -52,7 +52,7 @@ module _ {F R E X : Type 0} (of_file : F → FileState) (of_port : R → PortSta
 
   -- what always holds of the gate, behind the making of room
   module _ (before : Devices) (first : GuardedGateValue F R) (ready : old.gate ≡ record first.gate { open_handles = old.gate.open_handles; room = old.gate.room }) (knows : old.journal.knows ≡ first.journal.knows)
-      (drawn : draws was.entropy ≤ draws now.entropy) (keyed : first.gate.host.key ≡ rpmb_key store.keys.huk) (stands : DoubtStands (gate_sides of_file of_port first.gate) first.gate.doubt)
+      (drawn : Grows (draws was.entropy) (draws now.entropy)) (keyed : first.gate.host.key ≡ rpmb_key store.keys.huk) (stands : DoubtStands (gate_sides of_file of_port first.gate) first.gate.doubt)
       (k : KeepsGate of_file of_port store before first) where
     pub keeps-forecast : (result : Result (Result Forecast PlacedReply) X) → Foreseen result → KeepsGate of_file of_port store before new
     keeps-forecast (Ok (Ok forecast)) f = keeps-left of_file of_port store before first old new new was now ready knows refl refl f.left k

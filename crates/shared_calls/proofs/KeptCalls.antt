@@ -1,5 +1,5 @@
 -- The gate keeps what always holds of its devices, over each call that is made of it.
-use Rattle.std.proofs.Common.{◌≡◌, ◌<◌, ◌≤◌, ◌++◌, ◌∷◌, [], ℕ, List, None, append_assoc, length, ap, ◌∙◌, inl, refl, subst, sym}
+use Rattle.std.proofs.Common.{◌≡◌, ◌<◌, ◌++◌, ◌∷◌, [], ℕ, List, None, append_assoc, length, ap, ◌∙◌, inl, refl, subst, sym}
 use Rattle.tee_types.specs.Limits.{IsObjectFile}
 use Rattle.serial_calls.specs.CallerSessions.{CallerSession}
 use Rattle.call_rules.specs.Plain.{IsPlain}
@@ -25,7 +25,7 @@ use Rattle.store_model.specs.declared.event.Mark.{Mark}
 use Rattle.tee_types.specs.declared.reply.Reply.{Reply}
 use Rattle.serial_calls.specs.EventCounts.{events_at, landing_events}
 use Rattle.serial_calls.specs.Appended.{AppendsCall}
-use Rattle.serial_calls.specs.Devices.{AccusesRightly, CostsDoubt, Devices, file_in}
+use Rattle.serial_calls.specs.Devices.{AccusesRightly, CostsDoubt, Devices, Grows, file_in}
 use Rattle.serial_calls.specs.ServeReady.{KnowsCard}
 use Rattle.serial_calls.specs.Slots.{AreOfObjectFiles}
 use Rattle.serial_calls.proofs.Cards.{settled_counts}
@@ -111,7 +111,7 @@ module _ {F R : Type 0} (of_file : F → FileState) (of_port : R → PortState) 
 
   -- What the gate does alone, behind the making of room.
   module _ {E : Type 0} (draws : E → ℕ) (first old new : GuardedGateValue F R) (was now : CallerSession E) (ready : old.gate ≡ record first.gate { open_handles = old.gate.open_handles; room = old.gate.room })
-      (knows : old.journal.knows ≡ first.journal.knows) (Reliable : Type 0) (drawn : draws was.entropy ≤ draws now.entropy) (keyed : first.gate.host.key ≡ key)
+      (knows : old.journal.knows ≡ first.journal.knows) (Reliable : Type 0) (drawn : Grows (draws was.entropy) (draws now.entropy)) (keyed : first.gate.host.key ≡ key)
       (stands : DoubtStands (gate_sides of_file of_port first.gate) first.gate.doubt) (k : Keeps first) where
     pub keeps-alone : (call : Call) (answer : PlacedReply) → IsServedAlone of_file of_port Reliable (draws was.entropy) (draws now.entropy) store call answer old new was now → Keeps new
     unfolding ruled_appends

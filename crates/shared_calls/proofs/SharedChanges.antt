@@ -1,5 +1,5 @@
 -- What was brought of a change that was staged, or told of one that was not: the call that was answered, and what always holds behind it.
-use Rattle.std.proofs.Common.{◌≡◌, [], ℕ, List, ap, inl, refl, subst, sym}
+use Rattle.std.proofs.Common.{◌≡◌, [], ℕ, List, ap, refl, subst, sym}
 use Rattle.tee_types.specs.Limits.{IsObjectFile}
 use Rattle.serial_calls.specs.CallerSessions.{CallerSession}
 use Rattle.serial_calls.specs.Changed.{AnswersStaged}
@@ -14,7 +14,6 @@ use Rattle.serial_calls.specs.declared.PlacedReply.{PlacedReply}
 use Rattle.serial_calls.specs.Fits.{FitsGate, SeesWhole}
 use Rattle.serial_calls.specs.SlotValues.{SlotValue, without_stage}
 use Rattle.rpmb_card.specs.Port.{PortState}
-use Rattle.serial_calls.specs.Causes.{counts}
 use Rattle.dir_index.specs.declared.Held.{Held}
 use Rattle.serial_calls.specs.Stores.{Store}
 use Rattle.tee_types.specs.declared.call.Call.{Call}
@@ -24,14 +23,13 @@ use Rattle.tee_types.specs.declared.reply.Reply.TheVariants.{Done}
 use Rattle.serial_calls.specs.DeviceCounts.{told_of}
 use Rattle.serial_calls.specs.Devices.{Devices, Grows}
 use Rattle.serial_calls.specs.ServeReady.{KnowsCard}
-use Rattle.serial_calls.proofs.CountGrowth.{end_grows}
 use Rattle.shared_calls.specs.SharedChange.{CarriesStaged, HasStaged, told_staged}
 use Rattle.shared_calls.specs.SharedCounts.{CarriesDraws}
 use Rattle.shared_calls.specs.Kept.{KeepsGate, KeepsSlot}
 use Rattle.shared_calls.specs.Attempts.{IsAnswered}
 use Rattle.shared_calls.proofs.CarriedDraws.{carries-committed}
 use Rattle.shared_calls.proofs.CarriedAttempts.{carries-grown}
-use Rattle.shared_calls.proofs.SharedCommits.{committed-answers, committed-still}
+use Rattle.shared_calls.proofs.SharedCommits.{committed-answers}
 use Rattle.shared_calls.proofs.AnsweredSlots.{keeps-committable, keeps-served}
 use Rattle.shared_calls.proofs.KeptCalls.{keeps-committed}
 use Rattle.shared_calls.proofs.KeptSlots.{keeps-shown, own-file}
@@ -39,12 +37,9 @@ use Rattle.shared_calls.proofs.Served.{slot-answers}
 use Rattle.shared_calls.proofs.SparedGates.{SparesGate, failure-spares, keeps-spared}
 
 -- What such a call leaves of its session, the gate and the slot.
-pub record LeavesChanged {F R E : Type 0} (of_file : F → FileState) (of_port : R → PortState) (reliable : E → Type 0) (faults : E → ℕ) (store : Store) (before : Devices) (gate : GuardedGateValue F R) (slot : SlotValue)
+pub record LeavesChanged {F R E : Type 0} (of_file : F → FileState) (of_port : R → PortState) (faults : E → ℕ) (store : Store) (before : Devices) (gate : GuardedGateValue F R) (slot : SlotValue)
     (was now : CallerSession E) (call : Call) (staged : Staged) (answer : PlacedReply) : Type 0 where
   pub answered : IsAnswered store was now call answer
-  pub counted : Grows (faults was.entropy) (faults now.entropy)
-  -- one that never fails counts none
-  pub still : reliable was.entropy → faults now.entropy ≡ faults was.entropy
   -- a reply that accuses the entropy carries its count, if that of the stage did
   pub drawn : (first : ℕ) → Grows first (faults was.entropy) → CarriesStaged first (faults was.entropy) staged → CarriesDraws first (faults now.entropy) answer.reply
   pub gate_kept : KeepsGate of_file of_port store before gate
@@ -59,17 +54,6 @@ module _ {F R E : Type 0} (of_file : F → FileState) (of_port : R → PortState
   answers-from (Root root) done =
       committed-answers of_file of_port faults store old new file was now call Done (renewal held root size) (reliable was.entropy) answer done
   answers-from (Unstaged reply) told = slot-answers store call was now answer old new file told.served
-
-  grows-from : (staged : Staged) → Answers staged → Grows (faults was.entropy) (faults now.entropy)
-  grows-from (Root root) done =
-      (end_grows (counts (of_file old.gate.dir.file) (of_port old.gate.host.port) (faults was.entropy)) (counts (of_file new.gate.dir.file) (of_port new.gate.host.port) (faults now.entropy)) done.end
-      done.gate.counts_are).draws
-  grows-from (Unstaged reply) told = inl (ap faults told.undrawn)
-
-  still-from : (staged : Staged) → Answers staged → reliable was.entropy → faults now.entropy ≡ faults was.entropy
-  still-from (Root root) done is =
-      committed-still of_file of_port faults store old new file was now call Done (renewal held root size) (reliable was.entropy) answer done is
-  still-from (Unstaged reply) told is = ap faults told.undrawn
 
   slot-from : (before : Devices) (from to : SlotValue) (number : to.number ≡ from.number) (rests : to.file ≡ from.file) → SeesWhole old.journal.knows from → SeesWhole new.journal.knows to
       → (staged : Staged) → Answers staged → KeepsSlot before from (told_staged from.number staged) → KeepsSlot before to []
@@ -105,7 +89,7 @@ pub changed-leaves : {F R E : Type 0} (of_file : F → FileState) (of_port : R �
     → KnowsCard (of_port old.gate.host.port) old.gate.host.key (rpmb_key store.keys.huk) old.gate.counter → HasStaged store first asked staged
     → KeepsGate of_file of_port store before old → KeepsSlot before first (told_staged first.number staged)
     → AnswersStaged of_file of_port (reliable met.entropy) (faults met.entropy) (faults now.entropy) store shown new from.number met now call held size staged answer
-    → LeavesChanged of_file of_port reliable faults store before new to was now call staged answer
+    → LeavesChanged of_file of_port faults store before new to was now call staged answer
 changed-leaves of_file of_port reliable faults store before old shown new first from to was met now call held size asked staged answer same alike seated number rests agreed saw sees known has gate slot answers =
     let own : from.number ≡ first.number = ap (λ (s : SlotValue). s.number) seated in
     let told : List ℕ = told_staged first.number staged in
@@ -117,8 +101,6 @@ changed-leaves of_file of_port reliable faults store before old shown new first 
     keeps-shown before first from own (ap (λ (s : SlotValue). s.file) seated) old.journal.knows told agreed (own-file store (record first { holds = without_stage first.holds }) has.base) saw slot in
     record {
       answered = answers-from of_file of_port reliable faults store old new from.number was now call held size answer staged answered;
-      counted = grows-from of_file of_port reliable faults store old new from.number was now call held size answer staged answered;
-      still = still-from of_file of_port reliable faults store old new from.number was now call held size answer staged answered;
       drawn = λ since grows carries. carries-from of_file of_port reliable faults store old new from.number was now call held size answer known since grows staged answered carries;
       gate_kept = gate-from of_file of_port reliable faults store old new from.number was now call held size answer known before (subst IsObjectFile (sym own) slot.object) first asked staged has answered gate;
       slot_kept =

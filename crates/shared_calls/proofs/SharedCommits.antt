@@ -1,5 +1,5 @@
 -- What a commit on an object leaves of the session whose call it was.
-use Rattle.std.proofs.Common.{◌≡◌, ◌≤◌, ℕ, subst, sym}
+use Rattle.std.proofs.Common.{ℕ, subst, sym}
 use Rattle.serial_calls.specs.CallerSessions.{CallerSession, session_value}
 use Rattle.disk_model.specs.State.{FileState}
 use Rattle.serial_calls.specs.declared.PlacedReply.{PlacedReply}
@@ -7,16 +7,13 @@ use Rattle.serial_calls.specs.GateEnds.{mark_told}
 use Rattle.serial_calls.specs.GuardedGates.{GuardedGateValue}
 use Rattle.serial_calls.specs.ObjectCommits.{IsCommitted}
 use Rattle.rpmb_card.specs.Port.{PortState}
-use Rattle.serial_calls.specs.Causes.{Counted, counts}
 use Rattle.serial_calls.specs.declared.EntryChange.{EntryChange}
 use Rattle.store_model.specs.declared.event.Event.TheVariants.{Call as CallEvent}
 use Rattle.serial_calls.specs.Sessions.{Extends}
 use Rattle.serial_calls.specs.Stores.{Store}
 use Rattle.tee_types.specs.declared.call.Call.{Call}
 use Rattle.tee_types.specs.declared.reply.Reply.{Reply}
-use Rattle.serial_calls.specs.Devices.{Grows}
 use Rattle.shared_calls.specs.Attempts.{IsAnswered}
-use Rattle.serial_calls.proofs.CountGrowth.{end_grows, end_still, grows_grows, grows_le}
 
 module _ {F R E : Type 0} (of_file : F → FileState) (of_port : R → PortState) (draws : E → ℕ) (store : Store) (old new : GuardedGateValue F R) (file : ℕ) (was now : CallerSession E) (call : Call) (own : Reply)
     (change : EntryChange) (Reliable : Type 0) (answer : PlacedReply) (c : IsCommitted of_file of_port store old new file was now call own change Reliable (draws was.entropy) (draws now.entropy) answer) where
@@ -29,18 +26,3 @@ module _ {F R E : Type 0} (of_file : F → FileState) (of_port : R → PortState
     number = c.number;
     made = c.made;
   }
-
-  abbrev before : Counted
-  before = counts (of_file old.gate.dir.file) (of_port old.gate.host.port) (draws was.entropy)
-
-  abbrev behind : Counted
-  behind = counts (of_file new.gate.dir.file) (of_port new.gate.host.port) (draws now.entropy)
-
-  -- since a count that was no higher
-  pub committed-grows : (first : ℕ) → first ≤ draws was.entropy → Grows first (draws now.entropy)
-  committed-grows first counted =
-      grows_grows first (draws was.entropy) (draws now.entropy) (grows_le first (draws was.entropy) counted) (end_grows before behind c.end c.gate.counts_are).draws
-
-  -- where no generator that never fails was used, its count stands still
-  pub committed-still : Reliable → draws now.entropy ≡ draws was.entropy
-  committed-still reliable = end_still before behind c.end (c.gate.drawn reliable) c.gate.counts_are

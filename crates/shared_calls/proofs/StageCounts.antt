@@ -1,5 +1,5 @@
 -- How the stage of a change counts the faults of the file and of the session's entropy, and what it leaves of the session.
-use Rattle.std.proofs.Common.{◌≡◌, [], ℕ, Err, IfOk, Ok, OnErr, Result, ap, inl, refl}
+use Rattle.std.proofs.Common.{[], ℕ, Err, IfOk, Ok, Result, refl}
 use Rattle.serial_calls.specs.CallerSessions.{CallerSession, IsCallerOf}
 use Rattle.serial_calls.specs.ChangeCauses.{HasChangeCause, HasStageCause}
 use Rattle.serial_calls.specs.declared.stage_result.Staged.{Staged}
@@ -7,9 +7,9 @@ use Rattle.serial_calls.specs.declared.stage_result.Staged.TheVariants.{Root, Un
 use Rattle.disk_model.specs.State.{FileState}
 use Rattle.serial_calls.specs.Stores.{Store}
 use Rattle.tee_types.specs.declared.reply.Reply.{Reply}
-use Rattle.serial_calls.specs.Devices.{AccusesRightly, Devices, Grows}
+use Rattle.serial_calls.specs.Devices.{AccusesRightly, Devices}
 use Rattle.serial_calls.proofs.GoingOn.{goes-drawn}
-use Rattle.serial_calls.proofs.ChangedCalls.{change_accuses_file, change_drawn, change_still}
+use Rattle.serial_calls.proofs.ChangedCalls.{change_accuses_file}
 use Rattle.shared_calls.specs.SharedChange.{CarriesStaged}
 use Rattle.shared_calls.specs.Names.{no_devices}
 use Rattle.shared_calls.specs.Attempts.{IsWaiting}
@@ -37,17 +37,6 @@ change-accuses from to number Reliable drew draws reply cause =
 module _ {E : Type 0} (reliable : E → Type 0) (faults : E → ℕ) (from to : FileState) (number : ℕ) (was now : E) where
   abbrev Causes : Staged → Type 0
   Causes staged = HasStageCause from to number (reliable was) (faults was) (faults now) staged
-
-  pub stage-grows : {X : Type 0} (result : Result Staged X) → IfOk result Causes → OnErr result (now ≡ was) → Grows (faults was) (faults now)
-  stage-grows (Ok (Root root)) cause undrawn = inl cause.1
-  stage-grows (Ok (Unstaged reply)) cause undrawn = change_drawn from to number (reliable was) (faults was) (faults now) reply cause
-  stage-grows (Err none) cause undrawn = inl (ap faults undrawn)
-
-  -- one that never fails counts none
-  pub stage-still : {X : Type 0} (result : Result Staged X) → IfOk result Causes → OnErr result (now ≡ was) → reliable was → faults now ≡ faults was
-  stage-still (Ok (Root root)) cause undrawn is = cause.1
-  stage-still (Ok (Unstaged reply)) cause undrawn is = change_still from to number (reliable was) (faults was) (faults now) reply cause is
-  stage-still (Err none) cause undrawn is = ap faults undrawn
 
   -- a reply that accuses the entropy carries its count
   pub stage-carries : {X : Type 0} (result : Result Staged X) → IfOk result Causes → IfOk result (CarriesStaged (faults was) (faults now))

@@ -2,8 +2,8 @@
 
 ghost use Rattle.std.specs.Prelude.{◌≡◌, ◌≤◌, false, length, IfSome, IfOk, []};
 ghost use Rattle.serial_calls.specs.CallerSessions.{IsCallerOf};
+ghost use Rattle.serial_calls.specs.Devices.{DrawsOn};
 ghost use Rattle.serial_calls.specs.Rulings.{is_on_object};
-ghost use Rattle.serial_calls.specs.Devices.{Grows};
 ghost use Rattle.shared_calls.specs.Validations.{EndsLook, IfAnswered};
 ghost use Rattle.hmac_keys.specs.KeyTable.{ssk};
 ghost use Rattle.shared_calls.specs.Attempts.{EndsAttempt};
@@ -36,9 +36,7 @@ fn validate_alone<F: StoreFile + Drop, R: RpmbPort + Drop, L: StoreName + Device
     requires caller { IsCallerOf L.store session.old }
     requires alone { is_on_object call.now ≡ false }
     ensures ends { EndsLook L.store session.old session.new call.now result }
-    ensures counted { E.faults session.old.entropy ≤ E.faults session.new.entropy }
-    ensures reliable { E.is_reliable session.old.entropy → E.is_reliable session.new.entropy }
-    ensures still { E.is_reliable session.old.entropy → E.faults session.new.entropy ≡ E.faults session.old.entropy }
+    ensures draws { DrawsOn E.is_reliable E.faults session.old.entropy session.new.entropy }
     ensures drawn { IfAnswered result (λ answer. CarriesDraws (E.faults session.old.entropy) (E.faults session.new.entropy) answer.reply) }
 {
     let Some(answer) = begin(alloc, gate, session, call)? else {
@@ -61,9 +59,7 @@ pub fn file_of<F: StoreFile + Drop, R: RpmbPort + Drop, L: StoreName + DevicesNa
     requires caller { IsCallerOf L.store session.old }
     requires few { length L.store.mounted.applications ≤ 16 }
     ensures ends { EndsLook L.store session.old session.new call.now result }
-    ensures counted { E.faults session.old.entropy ≤ E.faults session.new.entropy }
-    ensures reliable { E.is_reliable session.old.entropy → E.is_reliable session.new.entropy }
-    ensures still { E.is_reliable session.old.entropy → E.faults session.new.entropy ≡ E.faults session.old.entropy }
+    ensures draws { DrawsOn E.is_reliable E.faults session.old.entropy session.new.entropy }
     ensures drawn { IfAnswered result (λ answer. CarriesDraws (E.faults session.old.entropy) (E.faults session.new.entropy) answer.reply) }
 {
     match call {
@@ -113,9 +109,7 @@ pub fn attempt_at_once<
     requires caller { IsCallerOf L.store session.old }
     requires kept { KeepsSlot L.devices slot.old [] }
     ensures ends { EndsAttempt L.store session.old session.new call.now result }
-    ensures counted { E.faults session.old.entropy ≤ E.faults session.new.entropy }
-    ensures reliable { E.is_reliable session.old.entropy → E.is_reliable session.new.entropy }
-    ensures still { E.is_reliable session.old.entropy → E.faults session.new.entropy ≡ E.faults session.old.entropy }
+    ensures draws { DrawsOn E.is_reliable E.faults session.old.entropy session.new.entropy }
     ensures kept { KeepsSlot L.devices slot.new [] }
     ensures drawn { IfOk result (λ found. IfSome found (λ answer. CarriesDraws (E.faults session.old.entropy) (E.faults session.new.entropy) answer.reply)) }
 {
@@ -158,9 +152,7 @@ pub fn attempt<
     requires kept { KeepsSlot L.devices slot.old [] }
     requires keyed { key.now ≡ ssk L.store.keys.huk L.store.keys.chip }
     ensures ends { EndsAttempt L.store session.old session.new call.now result }
-    ensures counted { Grows (E.faults session.old.entropy) (E.faults session.new.entropy) }
-    ensures reliable { E.is_reliable session.old.entropy → E.is_reliable session.new.entropy }
-    ensures still { E.is_reliable session.old.entropy → E.faults session.new.entropy ≡ E.faults session.old.entropy }
+    ensures draws { DrawsOn E.is_reliable E.faults session.old.entropy session.new.entropy }
     ensures kept { KeepsSlot L.devices slot.new [] }
     ensures drawn { IfOk result (λ found. IfSome found (λ answer. CarriesDraws (E.faults session.old.entropy) (E.faults session.new.entropy) answer.reply)) }
     // Where no commit can follow as the gate's lock is held first, a change of data leaves the object's file as it was but for reads, and draws nothing.

@@ -9,7 +9,7 @@ ghost use Rattle.serial_calls.specs.Clearing.{IsClearSlot};
 ghost use Rattle.serial_calls.specs.CreateEnds.{MayTellIfUnmade};
 ghost use Rattle.serial_calls.specs.FileReserving.{IsReserved};
 ghost use Rattle.serial_calls.specs.Rules.{MayCreate};
-ghost use Rattle.serial_calls.specs.Devices.{Grows};
+ghost use Rattle.serial_calls.specs.Devices.{DrawsOn, Grows};
 ghost use Rattle.shared_calls.specs.SharedCreate.{AccusesAtMost, HasMade, CarriesMade, told_made};
 ghost use Rattle.shared_calls.specs.Validations.{EndsLook, IfAnswered, IfFound};
 ghost use Rattle.shared_calls.specs.SharedReady.{IsReady};
@@ -51,9 +51,7 @@ fn rule<F: StoreFile + Drop, R: RpmbPort + Drop, L: StoreName + DevicesName, E: 
     ensures ready { IfFound result (λ place. IsReady L.store gate.new session.new) }
     ensures may { IfFound result (MayCreate gate.new.gate.dir.dir.entries gate.new.gate.open_handles session.new.state
         (record { id = id; flags = flags; attributes = attributes.now; bytes = bytes.now })) }
-    ensures counted { E.faults session.old.entropy ≤ E.faults session.new.entropy }
-    ensures reliable { E.is_reliable session.old.entropy → E.is_reliable session.new.entropy }
-    ensures still { E.is_reliable session.old.entropy → E.faults session.new.entropy ≡ E.faults session.old.entropy }
+    ensures draws { DrawsOn E.is_reliable E.faults session.old.entropy session.new.entropy }
     ensures undrawn { IfFound result (λ place. E.faults session.new.entropy ≡ E.faults session.old.entropy) }
     ensures drawn { IfAnswered result (λ answer. CarriesDraws (E.faults session.old.entropy) (E.faults session.new.entropy) answer.reply) }
 {
@@ -88,9 +86,7 @@ fn validate<F: StoreFile + Drop, R: RpmbPort + Drop, L: StoreName + DevicesName,
     ensures ready { IfFound result (λ place. IsReady L.store gate.new session.new) }
     ensures may { IfFound result (MayCreate gate.new.gate.dir.dir.entries gate.new.gate.open_handles session.new.state
         (record { id = id; flags = flags; attributes = attributes.now; bytes = bytes.now })) }
-    ensures counted { E.faults session.old.entropy ≤ E.faults session.new.entropy }
-    ensures reliable { E.is_reliable session.old.entropy → E.is_reliable session.new.entropy }
-    ensures still { E.is_reliable session.old.entropy → E.faults session.new.entropy ≡ E.faults session.old.entropy }
+    ensures draws { DrawsOn E.is_reliable E.faults session.old.entropy session.new.entropy }
     ensures undrawn { IfFound result (λ place. E.faults session.new.entropy ≡ E.faults session.old.entropy) }
     ensures drawn { IfAnswered result (λ answer. CarriesDraws (E.faults session.old.entropy) (E.faults session.new.entropy) answer.reply) }
 {
@@ -126,9 +122,7 @@ pub(crate) fn validate_for_file<
     requires call { call.now ≡ Create id flags attributes.now bytes.now }
     ensures ends { EndsLook L.store session.old session.new (Create id flags attributes.now bytes.now) result }
     ensures reserved { IfFound result (IsReserved gate.new.gate session.new.number) }
-    ensures counted { E.faults session.old.entropy ≤ E.faults session.new.entropy }
-    ensures reliable { E.is_reliable session.old.entropy → E.is_reliable session.new.entropy }
-    ensures still { E.is_reliable session.old.entropy → E.faults session.new.entropy ≡ E.faults session.old.entropy }
+    ensures draws { DrawsOn E.is_reliable E.faults session.old.entropy session.new.entropy }
     ensures drawn { IfAnswered result (λ answer. CarriesDraws (E.faults session.old.entropy) (E.faults session.new.entropy) answer.reply) }
 {
     match validate(alloc, gate, session, call, id, flags, attributes, bytes)? {
@@ -183,9 +177,7 @@ fn validate_first<F: StoreFile + Drop, R: RpmbPort + Drop, L: StoreName + Device
     ensures clear { IfFound result (λ counter. IsClearSlot L.store slot.new) }
     ensures fits { IfFound result (λ counter. (length attributes.now ≤ 2048) × (length bytes.now ≤ 1044480)) }
     ensures guarded { SlotInvariant L.store slot.new }
-    ensures counted { E.faults session.old.entropy ≤ E.faults session.new.entropy }
-    ensures reliable { E.is_reliable session.old.entropy → E.is_reliable session.new.entropy }
-    ensures still { E.is_reliable session.old.entropy → E.faults session.new.entropy ≡ E.faults session.old.entropy }
+    ensures draws { DrawsOn E.is_reliable E.faults session.old.entropy session.new.entropy }
     ensures kept { KeepsSlot L.devices slot.new [] }
     ensures drawn { IfAnswered result (λ answer. CarriesDraws (E.faults session.old.entropy) (E.faults session.new.entropy) answer.reply) }
 {
@@ -218,9 +210,7 @@ fn make_slot<F: StoreFile + Drop, L: StoreName + DevicesName, E: Entropy>(
     ensures waits { IsWaiting L.store session.old session.new }
     ensures made { IfOk result (HasMade L.store slot.new session.new.state.application attributes.now bytes.now) }
     ensures guarded { OnErr result (SlotInvariant L.store slot.new) }
-    ensures counted { Grows (E.faults session.old.entropy) (E.faults session.new.entropy) }
-    ensures reliable { E.is_reliable session.old.entropy → E.is_reliable session.new.entropy }
-    ensures still { E.is_reliable session.old.entropy → E.faults session.new.entropy ≡ E.faults session.old.entropy }
+    ensures draws { DrawsOn E.is_reliable E.faults session.old.entropy session.new.entropy }
     ensures kept { MatchResult result (λ made. KeepsSlot L.devices slot.new (told_made slot.new.number made)) (λ none. KeepsSlot L.devices slot.new []) }
     ensures drawn { IfOk result (CarriesMade (E.faults session.old.entropy) (E.faults session.new.entropy)) }
 {
@@ -262,9 +252,7 @@ fn finish_slot<F: StoreFile + Drop, R: RpmbPort + Drop, L: StoreName + DevicesNa
     ensures answered { IfSome result (IsAnswered L.store session.old session.new (Create id flags attributes.now bytes.now)) }
     ensures waits { IsNone result → session.new ≡ session.old }
     ensures guarded { SlotInvariant L.store slot.new }
-    ensures counted { Grows (E.faults session.old.entropy) (E.faults session.new.entropy) }
-    ensures reliable { E.is_reliable session.old.entropy → E.is_reliable session.new.entropy }
-    ensures still { E.is_reliable session.old.entropy → E.faults session.new.entropy ≡ E.faults session.old.entropy }
+    ensures draws { DrawsOn E.is_reliable E.faults session.old.entropy session.new.entropy }
     ensures kept { KeepsSlot L.devices slot.new [] }
     ensures drawn { (first : ℕ) → Grows first (E.faults session.old.entropy) → CarriesMade first (E.faults session.old.entropy) made → IfSome result (λ answer. CarriesDraws first (E.faults session.new.entropy) answer.reply) }
 {
@@ -313,9 +301,7 @@ fn validate_last<F: StoreFile + Drop, R: RpmbPort + Drop, L: StoreName + Devices
     requires kept { KeepsSlot L.devices slot.old (told_made slot.old.number made) }
     ensures ends { EndsAttempt L.store session.old session.new (Create id flags attributes.now bytes.now) result }
     ensures guarded { SlotInvariant L.store slot.new }
-    ensures counted { Grows (E.faults session.old.entropy) (E.faults session.new.entropy) }
-    ensures reliable { E.is_reliable session.old.entropy → E.is_reliable session.new.entropy }
-    ensures still { E.is_reliable session.old.entropy → E.faults session.new.entropy ≡ E.faults session.old.entropy }
+    ensures draws { DrawsOn E.is_reliable E.faults session.old.entropy session.new.entropy }
     ensures kept { KeepsSlot L.devices slot.new [] }
     ensures drawn { (first : ℕ) → Grows first (E.faults session.old.entropy) → CarriesMade first (E.faults session.old.entropy) made → IfOk result (λ found. IfSome found (λ answer. CarriesDraws first (E.faults session.new.entropy) answer.reply)) }
 {
@@ -368,9 +354,7 @@ fn attempt_with_slot<
     requires kept { KeepsSlot L.devices slot.old [] }
     ensures ends { EndsAttempt L.store session.old session.new (Create id flags attributes.now bytes.now) result }
     ensures guarded { SlotInvariant L.store slot.new }
-    ensures counted { Grows (E.faults session.old.entropy) (E.faults session.new.entropy) }
-    ensures reliable { E.is_reliable session.old.entropy → E.is_reliable session.new.entropy }
-    ensures still { E.is_reliable session.old.entropy → E.faults session.new.entropy ≡ E.faults session.old.entropy }
+    ensures draws { DrawsOn E.is_reliable E.faults session.old.entropy session.new.entropy }
     ensures kept { KeepsSlot L.devices slot.new [] }
     ensures drawn { IfOk result (λ found. IfSome found (λ answer. CarriesDraws (E.faults session.old.entropy) (E.faults session.new.entropy) answer.reply)) }
 {
@@ -441,9 +425,7 @@ pub(crate) fn attempt<
     requires keyed { storage_key.now ≡ ssk L.store.keys.huk L.store.keys.chip }
     requires kept { KeepsSlot L.devices slot.old [] }
     ensures ends { EndsAttempt L.store session.old session.new (Create id flags attributes.now bytes.now) result }
-    ensures counted { Grows (E.faults session.old.entropy) (E.faults session.new.entropy) }
-    ensures reliable { E.is_reliable session.old.entropy → E.is_reliable session.new.entropy }
-    ensures still { E.is_reliable session.old.entropy → E.faults session.new.entropy ≡ E.faults session.old.entropy }
+    ensures draws { DrawsOn E.is_reliable E.faults session.old.entropy session.new.entropy }
     ensures kept { KeepsSlot L.devices slot.new [] }
     ensures drawn { IfOk result (λ found. IfSome found (λ answer. CarriesDraws (E.faults session.old.entropy) (E.faults session.new.entropy) answer.reply)) }
 {

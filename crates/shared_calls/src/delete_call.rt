@@ -1,8 +1,8 @@
 //! TEE_CloseAndDeletePersistentObject1, at one validation at the gate.
 
-ghost use Rattle.std.specs.Prelude.{◌≡◌, ◌≤◌, IfSome, IfOk, []};
+ghost use Rattle.std.specs.Prelude.{IfSome, IfOk, []};
 ghost use Rattle.serial_calls.specs.CallerSessions.{IsCallerOf};
-ghost use Rattle.serial_calls.specs.Devices.{Grows};
+ghost use Rattle.serial_calls.specs.Devices.{DrawsOn};
 ghost use Rattle.shared_calls.specs.Validations.{EndsLook, IfAnswered, IfFound};
 ghost use Rattle.shared_calls.specs.SharedNames.{MayDelete};
 ghost use Rattle.shared_calls.specs.SharedReady.{IsReady};
@@ -31,9 +31,7 @@ fn validate<F: StoreFile + Drop, R: RpmbPort + Drop, L: StoreName + DevicesName,
     ensures ends { EndsLook L.store session.old session.new (Call.Delete handle) result }
     ensures ready { IfFound result (λ found. IsReady L.store gate.new session.new) }
     ensures deletes { IfFound result (MayDelete gate.new.gate session.new handle) }
-    ensures counted { E.faults session.old.entropy ≤ E.faults session.new.entropy }
-    ensures reliable { E.is_reliable session.old.entropy → E.is_reliable session.new.entropy }
-    ensures still { E.is_reliable session.old.entropy → E.faults session.new.entropy ≡ E.faults session.old.entropy }
+    ensures draws { DrawsOn E.is_reliable E.faults session.old.entropy session.new.entropy }
     ensures drawn { IfAnswered result (λ answer. CarriesDraws (E.faults session.old.entropy) (E.faults session.new.entropy) answer.reply) }
 {
     let call = Call::Delete { handle };
@@ -69,9 +67,7 @@ pub(crate) fn file_of<
 ) -> Result<Validation<u16>, NoMemory>
     requires caller { IsCallerOf L.store session.old }
     ensures ends { EndsLook L.store session.old session.new (Call.Delete handle) result }
-    ensures counted { E.faults session.old.entropy ≤ E.faults session.new.entropy }
-    ensures reliable { E.is_reliable session.old.entropy → E.is_reliable session.new.entropy }
-    ensures still { E.is_reliable session.old.entropy → E.faults session.new.entropy ≡ E.faults session.old.entropy }
+    ensures draws { DrawsOn E.is_reliable E.faults session.old.entropy session.new.entropy }
     ensures drawn { IfAnswered result (λ answer. CarriesDraws (E.faults session.old.entropy) (E.faults session.new.entropy) answer.reply) }
 {
     match validate(alloc, gate, session, handle)? {
@@ -102,9 +98,7 @@ pub(crate) fn delete_held<
     requires caller { IsCallerOf L.store session.old }
     requires kept { KeepsSlot L.devices slot.old [] }
     ensures ends { EndsAttempt L.store session.old session.new (Call.Delete handle) result }
-    ensures counted { Grows (E.faults session.old.entropy) (E.faults session.new.entropy) }
-    ensures reliable { E.is_reliable session.old.entropy → E.is_reliable session.new.entropy }
-    ensures still { E.is_reliable session.old.entropy → E.faults session.new.entropy ≡ E.faults session.old.entropy }
+    ensures draws { DrawsOn E.is_reliable E.faults session.old.entropy session.new.entropy }
     ensures kept { KeepsSlot L.devices slot.new [] }
     ensures drawn { IfOk result (λ found. IfSome found (λ answer. CarriesDraws (E.faults session.old.entropy) (E.faults session.new.entropy) answer.reply)) }
 {

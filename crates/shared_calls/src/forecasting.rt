@@ -1,7 +1,8 @@
 //! What a session's call would find at the gate, and what it would leave its application.
 
-ghost use Rattle.std.specs.Prelude.{◌≡◌, ◌≤◌, IfErr, IfOk};
+ghost use Rattle.std.specs.Prelude.{IfErr, IfOk};
 ghost use Rattle.serial_calls.specs.CallerSessions.{IsCallerOf};
+ghost use Rattle.serial_calls.specs.Devices.{DrawsOn};
 ghost use Rattle.shared_calls.specs.ForeseenCalls.{EndsForecast};
 ghost use Rattle.shared_calls.specs.SharedCounts.{CarriesDraws};
 
@@ -27,9 +28,7 @@ pub fn forecast<F: StoreFile + Drop, R: RpmbPort + Drop, L: StoreName + DevicesN
 ) -> Result<Result<Forecast, PlacedReply>, NoMemory>
     requires caller { IsCallerOf L.store session.old }
     ensures ends { EndsForecast L.store gate.new.journal.knows session.old session.new call.now result }
-    ensures counted { E.faults session.old.entropy ≤ E.faults session.new.entropy }
-    ensures reliable { E.is_reliable session.old.entropy → E.is_reliable session.new.entropy }
-    ensures still { E.is_reliable session.old.entropy → E.faults session.new.entropy ≡ E.faults session.old.entropy }
+    ensures draws { DrawsOn E.is_reliable E.faults session.old.entropy session.new.entropy }
     ensures drawn { IfOk result (λ found. IfErr found (λ answer. CarriesDraws (E.faults session.old.entropy) (E.faults session.new.entropy) answer.reply)) }
 {
     // Tells how the gate and the card stand to each other.

@@ -1,8 +1,9 @@
 //! How each validation of a call at the gate begins.
 
-ghost use Rattle.std.specs.Prelude.{◌≡◌, ◌≢◌, ◌≤◌, false, true, IfOk, IsNone, IfSome, None};
+ghost use Rattle.std.specs.Prelude.{◌≡◌, ◌≢◌, false, true, IfOk, IsNone, IfSome, None};
 ghost use Rattle.rpmb_card.specs.Protocol.{last_counter};
 ghost use Rattle.serial_calls.specs.CallerSessions.{IsCallerOf};
+ghost use Rattle.serial_calls.specs.Devices.{DrawsOn};
 ghost use Rattle.serial_calls.specs.Rulings.{is_on_object};
 ghost use Rattle.shared_calls.specs.SharedReady.{IsReady};
 ghost use Rattle.shared_calls.specs.Attempts.{EndsAttempt};
@@ -36,9 +37,7 @@ pub(crate) fn begin<
     ensures ends { EndsAttempt L.store session.old session.new call.now result }
     ensures ready { IfOk result (λ answer. IsNone answer → IsReady L.store gate.new session.new) }
     ensures on { IfOk result (λ answer. IsNone answer → is_on_object call.now ≡ true) }
-    ensures counted { E.faults session.old.entropy ≤ E.faults session.new.entropy }
-    ensures reliable { E.is_reliable session.old.entropy → E.is_reliable session.new.entropy }
-    ensures still { E.is_reliable session.old.entropy → E.faults session.new.entropy ≡ E.faults session.old.entropy }
+    ensures draws { DrawsOn E.is_reliable E.faults session.old.entropy session.new.entropy }
     // Where the call is left to an object's file, the session's entropy counted no fault.
     ensures undrawn { IfOk result (λ answer. IsNone answer → E.faults session.new.entropy ≡ E.faults session.old.entropy) }
     ensures drawn { IfOk result (λ found. IfSome found (λ answer. CarriesDraws (E.faults session.old.entropy) (E.faults session.new.entropy) answer.reply)) }

@@ -1,8 +1,9 @@
 //! TEE_OpenPersistentObject, with the gate's lock taken for each validation alone.
 
-ghost use Rattle.std.specs.Prelude.{◌≡◌, ◌≤◌, IfOk, IfSome, MatchResult, []};
+ghost use Rattle.std.specs.Prelude.{◌≡◌, IfOk, IfSome, MatchResult, []};
 ghost use Rattle.hmac_keys.specs.KeyTable.{ssk};
 ghost use Rattle.serial_calls.specs.CallerSessions.{IsCallerOf};
+ghost use Rattle.serial_calls.specs.Devices.{DrawsOn};
 ghost use Rattle.shared_calls.specs.Validations.{EndsLook, IfAnswered, IfFound};
 ghost use Rattle.shared_calls.specs.SharedCatchUp.{MayLoad};
 ghost use Rattle.shared_calls.specs.SharedOpen.{HasLoaded, MayOpen};
@@ -40,9 +41,7 @@ fn validate<F: StoreFile + Drop, R: RpmbPort + Drop, L: StoreName + DevicesName,
     ensures ends { EndsLook L.store session.old session.new (Call.Open id flags) result }
     ensures ready { IfFound result (λ held. IsReady L.store gate.new session.new) }
     ensures opens { IfFound result (MayOpen gate.new.gate.dir.dir.entries gate.new.gate.open_handles session.new.state session.new.number id flags) }
-    ensures counted { E.faults session.old.entropy ≤ E.faults session.new.entropy }
-    ensures reliable { E.is_reliable session.old.entropy → E.is_reliable session.new.entropy }
-    ensures still { E.is_reliable session.old.entropy → E.faults session.new.entropy ≡ E.faults session.old.entropy }
+    ensures draws { DrawsOn E.is_reliable E.faults session.old.entropy session.new.entropy }
     ensures drawn { IfAnswered result (λ answer. CarriesDraws (E.faults session.old.entropy) (E.faults session.new.entropy) answer.reply) }
 {
     let call = Call::Open { id, flags };
@@ -79,9 +78,7 @@ pub(crate) fn file_of<
 ) -> Result<Validation<u16>, NoMemory>
     requires caller { IsCallerOf L.store session.old }
     ensures ends { EndsLook L.store session.old session.new (Call.Open id flags) result }
-    ensures counted { E.faults session.old.entropy ≤ E.faults session.new.entropy }
-    ensures reliable { E.is_reliable session.old.entropy → E.is_reliable session.new.entropy }
-    ensures still { E.is_reliable session.old.entropy → E.faults session.new.entropy ≡ E.faults session.old.entropy }
+    ensures draws { DrawsOn E.is_reliable E.faults session.old.entropy session.new.entropy }
     ensures drawn { IfAnswered result (λ answer. CarriesDraws (E.faults session.old.entropy) (E.faults session.new.entropy) answer.reply) }
 {
     match validate(alloc, gate, session, id, flags)? {
@@ -104,9 +101,7 @@ fn validate_first<F: StoreFile + Drop, R: RpmbPort + Drop, L: StoreName + Device
     requires kept { KeepsSlot L.devices slot.old [] }
     ensures ends { EndsLook L.store session.old session.new (Call.Open id flags) result }
     ensures loads { IfFound result (λ held. MayLoad slot.new held.entry) }
-    ensures counted { E.faults session.old.entropy ≤ E.faults session.new.entropy }
-    ensures reliable { E.is_reliable session.old.entropy → E.is_reliable session.new.entropy }
-    ensures still { E.is_reliable session.old.entropy → E.faults session.new.entropy ≡ E.faults session.old.entropy }
+    ensures draws { DrawsOn E.is_reliable E.faults session.old.entropy session.new.entropy }
     ensures kept { KeepsSlot L.devices slot.new [] }
     ensures drawn { IfAnswered result (λ answer. CarriesDraws (E.faults session.old.entropy) (E.faults session.new.entropy) answer.reply) }
 {
@@ -134,9 +129,7 @@ fn validate_last<F: StoreFile + Drop, R: RpmbPort + Drop, L: StoreName + Devices
     requires loaded { HasLoaded L.store slot.old unloaded }
     requires kept { KeepsSlot L.devices slot.old (told_if slot.old.number unloaded) }
     ensures ends { EndsAttempt L.store session.old session.new (Call.Open id flags) result }
-    ensures counted { E.faults session.old.entropy ≤ E.faults session.new.entropy }
-    ensures reliable { E.is_reliable session.old.entropy → E.is_reliable session.new.entropy }
-    ensures still { E.is_reliable session.old.entropy → E.faults session.new.entropy ≡ E.faults session.old.entropy }
+    ensures draws { DrawsOn E.is_reliable E.faults session.old.entropy session.new.entropy }
     ensures kept { KeepsSlot L.devices slot.new [] }
     ensures drawn { IfOk result (λ found. IfSome found (λ answer. CarriesDraws (E.faults session.old.entropy) (E.faults session.new.entropy) answer.reply)) }
 {
@@ -203,9 +196,7 @@ pub(crate) fn attempt<
     requires keyed { storage_key.now ≡ ssk L.store.keys.huk L.store.keys.chip }
     requires kept { KeepsSlot L.devices slot.old [] }
     ensures ends { EndsAttempt L.store session.old session.new (Call.Open id flags) result }
-    ensures counted { E.faults session.old.entropy ≤ E.faults session.new.entropy }
-    ensures reliable { E.is_reliable session.old.entropy → E.is_reliable session.new.entropy }
-    ensures still { E.is_reliable session.old.entropy → E.faults session.new.entropy ≡ E.faults session.old.entropy }
+    ensures draws { DrawsOn E.is_reliable E.faults session.old.entropy session.new.entropy }
     ensures kept { KeepsSlot L.devices slot.new [] }
     ensures drawn { IfOk result (λ found. IfSome found (λ answer. CarriesDraws (E.faults session.old.entropy) (E.faults session.new.entropy) answer.reply)) }
 {

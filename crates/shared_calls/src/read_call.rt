@@ -1,6 +1,6 @@
 //! TEE_ReadObjectData, with the gate's lock taken for each validation alone.
 
-ghost use Rattle.std.specs.Prelude.{◌≡◌, ◌≤◌, IfOk, IfSome, MatchResult, None, []};
+ghost use Rattle.std.specs.Prelude.{◌≡◌, IfOk, IfSome, MatchResult, None, []};
 ghost use Rattle.tee_types.specs.Rights.{read_bit};
 ghost use Rattle.hmac_keys.specs.KeyTable.{ssk};
 ghost use Rattle.serial_calls.specs.CallerSessions.{IsCallerOf};
@@ -14,6 +14,7 @@ ghost use Rattle.shared_calls.specs.Attempts.{EndsAttempt};
 ghost use Rattle.shared_calls.specs.Kept.{KeepsSlot};
 ghost use Rattle.shared_calls.specs.SharedCounts.{CarriesDraws};
 ghost use Rattle.serial_calls.specs.DeviceCounts.{told_of};
+ghost use Rattle.serial_calls.specs.Devices.{DrawsOn};
 ghost use Rattle.tee_types.specs.declared.reply.Device.TheVariants.{File};
 
 use crate::gate_entry::begin;
@@ -44,9 +45,7 @@ fn validate<F: StoreFile + Drop, R: RpmbPort + Drop, L: StoreName + DevicesName,
     ensures ends { EndsLook L.store session.old session.new (Call.Read handle size) result }
     ensures ready { IfFound result (λ found. IsReady L.store gate.new session.new) }
     ensures found { IfFound result (IsRightful gate.new.gate.dir.dir.entries session.new.state handle read_bit) }
-    ensures counted { E.faults session.old.entropy ≤ E.faults session.new.entropy }
-    ensures reliable { E.is_reliable session.old.entropy → E.is_reliable session.new.entropy }
-    ensures still { E.is_reliable session.old.entropy → E.faults session.new.entropy ≡ E.faults session.old.entropy }
+    ensures draws { DrawsOn E.is_reliable E.faults session.old.entropy session.new.entropy }
     ensures drawn { IfAnswered result (λ answer. CarriesDraws (E.faults session.old.entropy) (E.faults session.new.entropy) answer.reply) }
 {
     let call = Call::Read { handle, size };
@@ -83,9 +82,7 @@ pub(crate) fn file_of<
 ) -> Result<Validation<u16>, NoMemory>
     requires caller { IsCallerOf L.store session.old }
     ensures ends { EndsLook L.store session.old session.new (Call.Read handle size) result }
-    ensures counted { E.faults session.old.entropy ≤ E.faults session.new.entropy }
-    ensures reliable { E.is_reliable session.old.entropy → E.is_reliable session.new.entropy }
-    ensures still { E.is_reliable session.old.entropy → E.faults session.new.entropy ≡ E.faults session.old.entropy }
+    ensures draws { DrawsOn E.is_reliable E.faults session.old.entropy session.new.entropy }
     ensures drawn { IfAnswered result (λ answer. CarriesDraws (E.faults session.old.entropy) (E.faults session.new.entropy) answer.reply) }
 {
     match validate(alloc, gate, session, handle, size)? {
@@ -108,9 +105,7 @@ fn validate_first<F: StoreFile + Drop, R: RpmbPort + Drop, L: StoreName + Device
     requires kept { KeepsSlot L.devices slot.old [] }
     ensures ends { EndsLook L.store session.old session.new (Call.Read handle size) result }
     ensures loads { IfFound result (λ found. MayLoad slot.new found.held.entry) }
-    ensures counted { E.faults session.old.entropy ≤ E.faults session.new.entropy }
-    ensures reliable { E.is_reliable session.old.entropy → E.is_reliable session.new.entropy }
-    ensures still { E.is_reliable session.old.entropy → E.faults session.new.entropy ≡ E.faults session.old.entropy }
+    ensures draws { DrawsOn E.is_reliable E.faults session.old.entropy session.new.entropy }
     ensures kept { KeepsSlot L.devices slot.new [] }
     ensures drawn { IfAnswered result (λ answer. CarriesDraws (E.faults session.old.entropy) (E.faults session.new.entropy) answer.reply) }
 {
@@ -141,9 +136,7 @@ fn validate_last<F: StoreFile + Drop, R: RpmbPort + Drop, L: StoreName + Devices
     requires read { HasRead L.store slot.old at size reply }
     requires kept { KeepsSlot L.devices slot.old (told_of (File slot.old.number) reply) }
     ensures ends { EndsAttempt L.store session.old session.new (Call.Read handle size) result }
-    ensures counted { E.faults session.old.entropy ≤ E.faults session.new.entropy }
-    ensures reliable { E.is_reliable session.old.entropy → E.is_reliable session.new.entropy }
-    ensures still { E.is_reliable session.old.entropy → E.faults session.new.entropy ≡ E.faults session.old.entropy }
+    ensures draws { DrawsOn E.is_reliable E.faults session.old.entropy session.new.entropy }
     ensures kept { KeepsSlot L.devices slot.new [] }
     ensures drawn { IfOk result (λ found. IfSome found (λ answer. CarriesDraws (E.faults session.old.entropy) (E.faults session.new.entropy) answer.reply)) }
 {
@@ -235,9 +228,7 @@ pub(crate) fn attempt_at_once<
     requires caller { IsCallerOf L.store session.old }
     requires kept { KeepsSlot L.devices slot.old [] }
     ensures ends { EndsAttempt L.store session.old session.new (Call.Read handle size) result }
-    ensures counted { E.faults session.old.entropy ≤ E.faults session.new.entropy }
-    ensures reliable { E.is_reliable session.old.entropy → E.is_reliable session.new.entropy }
-    ensures still { E.is_reliable session.old.entropy → E.faults session.new.entropy ≡ E.faults session.old.entropy }
+    ensures draws { DrawsOn E.is_reliable E.faults session.old.entropy session.new.entropy }
     ensures kept { KeepsSlot L.devices slot.new [] }
     ensures drawn { IfOk result (λ found. IfSome found (λ answer. CarriesDraws (E.faults session.old.entropy) (E.faults session.new.entropy) answer.reply)) }
 {
@@ -289,9 +280,7 @@ pub(crate) fn attempt<
     requires keyed { storage_key.now ≡ ssk L.store.keys.huk L.store.keys.chip }
     requires kept { KeepsSlot L.devices slot.old [] }
     ensures ends { EndsAttempt L.store session.old session.new (Call.Read handle size) result }
-    ensures counted { E.faults session.old.entropy ≤ E.faults session.new.entropy }
-    ensures reliable { E.is_reliable session.old.entropy → E.is_reliable session.new.entropy }
-    ensures still { E.is_reliable session.old.entropy → E.faults session.new.entropy ≡ E.faults session.old.entropy }
+    ensures draws { DrawsOn E.is_reliable E.faults session.old.entropy session.new.entropy }
     ensures kept { KeepsSlot L.devices slot.new [] }
     ensures drawn { IfOk result (λ found. IfSome found (λ answer. CarriesDraws (E.faults session.old.entropy) (E.faults session.new.entropy) answer.reply)) }
 {

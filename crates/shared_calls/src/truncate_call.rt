@@ -8,7 +8,7 @@ ghost use Rattle.serial_calls.specs.CallerSessions.{IsCallerOf};
 ghost use Rattle.call_rules.specs.Objects.{IsRightful};
 ghost use Rattle.serial_calls.specs.ChangeStaging.{resizing};
 ghost use Rattle.shared_calls.specs.SharedChange.{HasStaged, CarriesStaged, told_staged, OnlyReads};
-ghost use Rattle.serial_calls.specs.Devices.{Grows};
+ghost use Rattle.serial_calls.specs.Devices.{DrawsOn, Grows};
 ghost use Rattle.shared_calls.specs.Validations.{EndsLook, IfAnswered, IfFound};
 ghost use Rattle.shared_calls.specs.SharedCatchUp.{MayLoad};
 ghost use Rattle.shared_calls.specs.SharedReady.{IsReady, IsSpent};
@@ -47,9 +47,7 @@ fn validate<F: StoreFile + Drop, R: RpmbPort + Drop, L: StoreName + DevicesName,
     ensures ends { EndsLook L.store session.old session.new (Call.Truncate handle size) result }
     ensures ready { IfFound result (λ found. IsReady L.store gate.new session.new) }
     ensures found { IfFound result (IsRightful gate.new.gate.dir.dir.entries session.new.state handle write_bit) }
-    ensures counted { E.faults session.old.entropy ≤ E.faults session.new.entropy }
-    ensures reliable { E.is_reliable session.old.entropy → E.is_reliable session.new.entropy }
-    ensures still { E.is_reliable session.old.entropy → E.faults session.new.entropy ≡ E.faults session.old.entropy }
+    ensures draws { DrawsOn E.is_reliable E.faults session.old.entropy session.new.entropy }
     ensures undrawn { IfFound result (λ found. E.faults session.new.entropy ≡ E.faults session.old.entropy) }
     ensures drawn { IfAnswered result (λ answer. CarriesDraws (E.faults session.old.entropy) (E.faults session.new.entropy) answer.reply) }
     // Where no commit is in doubt nothing is drawn, and the counter stays.
@@ -90,9 +88,7 @@ pub(crate) fn file_of<
 ) -> Result<Validation<u16>, NoMemory>
     requires caller { IsCallerOf L.store session.old }
     ensures ends { EndsLook L.store session.old session.new (Call.Truncate handle size) result }
-    ensures counted { E.faults session.old.entropy ≤ E.faults session.new.entropy }
-    ensures reliable { E.is_reliable session.old.entropy → E.is_reliable session.new.entropy }
-    ensures still { E.is_reliable session.old.entropy → E.faults session.new.entropy ≡ E.faults session.old.entropy }
+    ensures draws { DrawsOn E.is_reliable E.faults session.old.entropy session.new.entropy }
     ensures drawn { IfAnswered result (λ answer. CarriesDraws (E.faults session.old.entropy) (E.faults session.new.entropy) answer.reply) }
 {
     match validate(alloc, gate, session, handle, size)? {
@@ -161,9 +157,7 @@ fn validate_first<F: StoreFile + Drop, R: RpmbPort + Drop, L: StoreName + Device
     ensures ends { EndsLook L.store session.old session.new (Call.Truncate handle size) result }
     ensures loads { IfFound result (λ found. MayLoad slot.new found.held.entry) }
     ensures fits { IfFound result (λ found. size ≤ 1044480) }
-    ensures counted { E.faults session.old.entropy ≤ E.faults session.new.entropy }
-    ensures reliable { E.is_reliable session.old.entropy → E.is_reliable session.new.entropy }
-    ensures still { E.is_reliable session.old.entropy → E.faults session.new.entropy ≡ E.faults session.old.entropy }
+    ensures draws { DrawsOn E.is_reliable E.faults session.old.entropy session.new.entropy }
     ensures kept { KeepsSlot L.devices slot.new [] }
     ensures drawn { IfAnswered result (λ answer. CarriesDraws (E.faults session.old.entropy) (E.faults session.new.entropy) answer.reply) }
     // Where no commit can follow, nothing is left to be staged.
@@ -227,9 +221,7 @@ fn stage_slot<F: StoreFile + Drop, L: StoreName + DevicesName, E: Entropy>(
     ensures waits { IsWaiting L.store session.old session.new }
     ensures staged { IfOk result (HasStaged L.store slot.new (resizing size)) }
     ensures guarded { OnErr result (SlotInvariant L.store slot.new) }
-    ensures counted { Grows (E.faults session.old.entropy) (E.faults session.new.entropy) }
-    ensures reliable { E.is_reliable session.old.entropy → E.is_reliable session.new.entropy }
-    ensures still { E.is_reliable session.old.entropy → E.faults session.new.entropy ≡ E.faults session.old.entropy }
+    ensures draws { DrawsOn E.is_reliable E.faults session.old.entropy session.new.entropy }
     ensures kept { MatchResult result (λ staged. KeepsSlot L.devices slot.new (told_staged slot.new.number staged)) (λ none. KeepsSlot L.devices slot.new []) }
     ensures drawn { IfOk result (CarriesStaged (E.faults session.old.entropy) (E.faults session.new.entropy)) }
 {
@@ -254,9 +246,7 @@ fn validate_again<F: StoreFile + Drop, R: RpmbPort + Drop, L: StoreName + Device
     ensures found { IfFound result (IsRightful gate.new.gate.dir.dir.entries session.new.state handle write_bit) }
     ensures other { IfFound result (λ found. (size == found.held.entry.size) ≡ false) }
     ensures file { IfFound result (λ found. found.held.entry.file ≡ file) }
-    ensures counted { E.faults session.old.entropy ≤ E.faults session.new.entropy }
-    ensures reliable { E.is_reliable session.old.entropy → E.is_reliable session.new.entropy }
-    ensures still { E.is_reliable session.old.entropy → E.faults session.new.entropy ≡ E.faults session.old.entropy }
+    ensures draws { DrawsOn E.is_reliable E.faults session.old.entropy session.new.entropy }
     ensures undrawn { IfFound result (λ found. E.faults session.new.entropy ≡ E.faults session.old.entropy) }
     ensures drawn { IfAnswered result (λ answer. CarriesDraws (E.faults session.old.entropy) (E.faults session.new.entropy) answer.reply) }
 {
@@ -289,9 +279,7 @@ fn answer_staged<F: StoreFile + Drop, R: RpmbPort + Drop, L: StoreName + Devices
     requires kept { KeepsSlot L.devices slot.old (told_staged slot.old.number staged) }
     ensures answered { IsAnswered L.store session.old session.new (Call.Truncate handle size) result }
     ensures guarded { SlotInvariant L.store slot.new }
-    ensures counted { Grows (E.faults session.old.entropy) (E.faults session.new.entropy) }
-    ensures reliable { E.is_reliable session.old.entropy → E.is_reliable session.new.entropy }
-    ensures still { E.is_reliable session.old.entropy → E.faults session.new.entropy ≡ E.faults session.old.entropy }
+    ensures draws { DrawsOn E.is_reliable E.faults session.old.entropy session.new.entropy }
     ensures kept { KeepsSlot L.devices slot.new [] }
     ensures drawn { (first : ℕ) → Grows first (E.faults session.old.entropy) → CarriesStaged first (E.faults session.old.entropy) staged → CarriesDraws first (E.faults session.new.entropy) result.reply }
 {
@@ -317,9 +305,7 @@ fn validate_last<F: StoreFile + Drop, R: RpmbPort + Drop, L: StoreName + Devices
     requires kept { KeepsSlot L.devices slot.old (told_staged slot.old.number staged) }
     ensures ends { EndsAttempt L.store session.old session.new (Call.Truncate handle size) result }
     ensures guarded { SlotInvariant L.store slot.new }
-    ensures counted { Grows (E.faults session.old.entropy) (E.faults session.new.entropy) }
-    ensures reliable { E.is_reliable session.old.entropy → E.is_reliable session.new.entropy }
-    ensures still { E.is_reliable session.old.entropy → E.faults session.new.entropy ≡ E.faults session.old.entropy }
+    ensures draws { DrawsOn E.is_reliable E.faults session.old.entropy session.new.entropy }
     ensures kept { KeepsSlot L.devices slot.new [] }
     ensures drawn { (first : ℕ) → Grows first (E.faults session.old.entropy) → CarriesStaged first (E.faults session.old.entropy) staged → IfOk result (λ found. IfSome found (λ answer. CarriesDraws first (E.faults session.new.entropy) answer.reply)) }
 {
@@ -368,9 +354,7 @@ fn truncate_slot<
     requires kept { KeepsSlot L.devices slot.old [] }
     ensures ends { EndsAttempt L.store session.old session.new (Call.Truncate handle size) result }
     ensures guarded { SlotInvariant L.store slot.new }
-    ensures counted { Grows (E.faults session.old.entropy) (E.faults session.new.entropy) }
-    ensures reliable { E.is_reliable session.old.entropy → E.is_reliable session.new.entropy }
-    ensures still { E.is_reliable session.old.entropy → E.faults session.new.entropy ≡ E.faults session.old.entropy }
+    ensures draws { DrawsOn E.is_reliable E.faults session.old.entropy session.new.entropy }
     ensures kept { KeepsSlot L.devices slot.new [] }
     ensures drawn { IfOk result (λ found. IfSome found (λ answer. CarriesDraws (E.faults session.old.entropy) (E.faults session.new.entropy) answer.reply)) }
 {
@@ -413,9 +397,7 @@ pub(crate) fn attempt<
     requires keyed { storage_key.now ≡ ssk L.store.keys.huk L.store.keys.chip }
     requires kept { KeepsSlot L.devices slot.old [] }
     ensures ends { EndsAttempt L.store session.old session.new (Call.Truncate handle size) result }
-    ensures counted { Grows (E.faults session.old.entropy) (E.faults session.new.entropy) }
-    ensures reliable { E.is_reliable session.old.entropy → E.is_reliable session.new.entropy }
-    ensures still { E.is_reliable session.old.entropy → E.faults session.new.entropy ≡ E.faults session.old.entropy }
+    ensures draws { DrawsOn E.is_reliable E.faults session.old.entropy session.new.entropy }
     ensures kept { KeepsSlot L.devices slot.new [] }
     ensures drawn { IfOk result (λ found. IfSome found (λ answer. CarriesDraws (E.faults session.old.entropy) (E.faults session.new.entropy) answer.reply)) }
     // Where no commit can follow as the gate's lock is held first, the object's file is only read, and nothing is drawn.

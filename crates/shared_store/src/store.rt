@@ -4,9 +4,9 @@ ghost use Rattle.std.specs.Prelude.{◌≡◌, ◌≤◌, length, vec_len, IfOk,
 ghost use Rattle.hmac_keys.specs.KeyTable.{ssk};
 ghost use Rattle.tee_types.specs.Limits.{last_file};
 ghost use Rattle.shared_calls.specs.CallerSessions.{IsCallerOf};
-ghost use Rattle.shared_calls.specs.Devices.{Grows};
 ghost use Rattle.shared_calls.specs.SharedCounts.{CarriesDraws};
 ghost use Rattle.shared_calls.specs.Attempts.{EndsCall, EndsAttempt};
+ghost use Rattle.shared_calls.specs.Devices.{DrawsOn};
 
 use rpmb_card::RpmbPort;
 use shared_calls::{
@@ -121,9 +121,7 @@ impl<F: StoreFile + Drop, R: RpmbPort + Drop, L: StoreName + DevicesName> Shared
     ) -> Result<Option<PlacedReply>, NoMemory>
         requires caller { IsCallerOf L.store session.old }
         ensures ends { EndsAttempt L.store session.old session.new call.now result }
-        ensures counted { Grows (E.faults session.old.entropy) (E.faults session.new.entropy) }
-        ensures reliable { E.is_reliable session.old.entropy → E.is_reliable session.new.entropy }
-        ensures still { E.is_reliable session.old.entropy → E.faults session.new.entropy ≡ E.faults session.old.entropy }
+        ensures draws { DrawsOn E.is_reliable E.faults session.old.entropy session.new.entropy }
         ensures drawn { IfOk result (λ found. IfSome found (λ answer. CarriesDraws (E.faults session.old.entropy) (E.faults session.new.entropy) answer.reply)) }
     {
         let Some(lock) = hinted_file(session, call).and_then(|file| self.slot_of(file)) else {
@@ -147,9 +145,7 @@ impl<F: StoreFile + Drop, R: RpmbPort + Drop, L: StoreName + DevicesName> Shared
     ) -> Result<Option<PlacedReply>, NoMemory>
         requires caller { IsCallerOf L.store session.old }
         ensures ends { EndsAttempt L.store session.old session.new call.now result }
-        ensures counted { Grows (E.faults session.old.entropy) (E.faults session.new.entropy) }
-        ensures reliable { E.is_reliable session.old.entropy → E.is_reliable session.new.entropy }
-        ensures still { E.is_reliable session.old.entropy → E.faults session.new.entropy ≡ E.faults session.old.entropy }
+        ensures draws { DrawsOn E.is_reliable E.faults session.old.entropy session.new.entropy }
         ensures drawn { IfOk result (λ found. IfSome found (λ answer. CarriesDraws (E.faults session.old.entropy) (E.faults session.new.entropy) answer.reply)) }
     {
         let key = &self.storage_key;
@@ -191,9 +187,7 @@ impl<F: StoreFile + Drop, R: RpmbPort + Drop, L: StoreName + DevicesName> Shared
     ) -> Result<PlacedReply, NoMemory>
         requires caller { IsCallerOf L.store session.old }
         ensures ends { EndsCall L.store session.old session.new call.now result }
-        ensures counted { Grows (E.faults session.old.entropy) (E.faults session.new.entropy) }
-        ensures reliable { E.is_reliable session.old.entropy → E.is_reliable session.new.entropy }
-        ensures still { E.is_reliable session.old.entropy → E.faults session.new.entropy ≡ E.faults session.old.entropy }
+        ensures draws { DrawsOn E.is_reliable E.faults session.old.entropy session.new.entropy }
         ensures drawn { IfOk result (λ answer. CarriesDraws (E.faults session.old.entropy) (E.faults session.new.entropy) answer.reply) }
     {
         if let Some(answer) = self.try_at_once(rt, alloc, session, call)? {
@@ -217,9 +211,7 @@ impl<F: StoreFile + Drop, R: RpmbPort + Drop, L: StoreName + DevicesName> Shared
     ) -> Result<PlacedReply, NoMemory>
         requires caller { IsCallerOf L.store session.old }
         ensures ends { EndsCall L.store session.old session.new call.now result }
-        ensures counted { Grows (E.faults session.old.entropy) (E.faults session.new.entropy) }
-        ensures reliable { E.is_reliable session.old.entropy → E.is_reliable session.new.entropy }
-        ensures still { E.is_reliable session.old.entropy → E.faults session.new.entropy ≡ E.faults session.old.entropy }
+        ensures draws { DrawsOn E.is_reliable E.faults session.old.entropy session.new.entropy }
         ensures drawn { IfOk result (λ answer. CarriesDraws (E.faults session.old.entropy) (E.faults session.new.entropy) answer.reply) }
     {
         let mut gate = gate;

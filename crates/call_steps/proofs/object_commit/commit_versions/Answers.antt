@@ -1,8 +1,10 @@
 -- The slot lends its seat to the commit, and ends its stage as the gate ended that.
 use Rattle.std.proofs.Common.{Some, ap, refl, subst, ◌∙◌, ◌≡◌}
+use Rattle.commit_gate.specs.Causes.{counts}
 use Rattle.commit_gate.specs.Changes.{change_of}
 use Rattle.commit_gate.specs.GateEnds.{HandlesBehind, end_record, reply_told}
 use Rattle.object_slots.proofs.SlotViews.{shown_whole}
+use Rattle.call_steps.proofs.CountGrowth.{end_grows, end_still}
 use Rattle.call_steps.proofs.ObjectCommitSteps.{lent_ended, lent_number, lent_ready, lent_table}
 use Rattle.object_slots.specs.SlotValues.{SlotValue}
 use Rattle.call_steps.proofs.object_commit.commit_versions.Goals as goal
@@ -68,6 +70,17 @@ returns-clause-committed g c =
         arms = e.arms;
       };
     }
+
+pub returns-clause-draws : goal.returns-clause-draws
+returns-clause-draws g c =
+    let e = c.commit-committed.ensures in
+    let end = c.commit-committed.result.end in
+    let old = c.args.gate.now.gate in
+    let new = c.commit-committed.new.self.gate in
+    let faults = g.E.Entropy.faults in
+    let before = counts (g.F.StoreFile.state old.dir.file) (g.R.RpmbPort.state old.host.port) (faults c.args.session.now.entropy) in
+    let behind = counts (g.F.StoreFile.state new.dir.file) (g.R.RpmbPort.state new.host.port) (faults c.commit-committed.new.session.entropy) in
+    record { counted = (end_grows before behind end e.counts).draws; reliable = e.reliable; still = λ is. end_still before behind end (e.drawn is) e.counts }
 
 pub returns-clause-whole : goal.returns-clause-whole
 returns-clause-whole g c =

@@ -3,7 +3,6 @@ use Rattle.std.proofs.Common.{◌∙◌, Ok, Result, Some, inl, inr, refl, sym, 
 use Rattle.app_totals.specs.declared.numbers.Forecast.{Forecast}
 use Rattle.shared_store.proofs.CarriedAttempts.{carries-grown}
 use Rattle.shared_store.proofs.Waiting.{waits-then}
-use Rattle.shared_store.proofs.CountGrowth.{grows_grows, grows_le}
 use Rattle.shared_store.specs.CallerSessions.{CallerSession}
 use Rattle.shared_store.specs.ForeseenCalls.{EndsForecast, IsAnsweredEarly, IsForeseen}
 use Rattle.shared_store.specs.declared.PlacedReply.{PlacedReply}
@@ -67,14 +66,8 @@ returns-clause-came g c =
       shown = c.look_first.ensures.shown;
     })
 
-pub returns-clause-counted : goal.returns-clause-counted
-returns-clause-counted g c =
-    let first = g.E.Entropy.faults c.args.session.now.entropy in
-    let mid = g.E.Entropy.faults c.look_first.new.session.entropy in
-    grows_grows first mid (g.E.Entropy.faults c.call_from.new.session.entropy) (grows_le first mid c.look_first.ensures.counted) c.call_from.ensures.counted
-
 pub returns-clause-drawn : goal.returns-clause-drawn
 returns-clause-drawn g c =
     let first = g.E.Entropy.faults c.args.session.now.entropy in
     let mid = g.E.Entropy.faults c.look_first.new.session.entropy in
-    carries-grown first mid (g.E.Entropy.faults c.call_from.new.session.entropy) c.in_ok-answer.answer.reply (grows_le first mid c.look_first.ensures.counted) c.in_ok-answer.ensures.drawn
+    carries-grown first mid (g.E.Entropy.faults c.call_from.new.session.entropy) c.in_ok-answer.answer.reply c.look_first.ensures.draws.counted c.in_ok-answer.ensures.drawn

@@ -1,7 +1,6 @@
 -- Behind the call the session's kept half is back with the others.
-use Rattle.std.proofs.Common.{◌≡◌, ◌∙◌, ℕ, Some, ap, sym, subst, arith}
+use Rattle.std.proofs.Common.{◌≡◌, ℕ, Some, sym, subst, arith}
 use Rattle.shared_store.specs.CallerSessions.{CallerSession}
-use Rattle.shared_store.specs.Devices.{Grows}
 use Rattle.shared_store.specs.QuotaCallers.{KeepsLimits}
 use Rattle.quota_store.specs.Draws.{CarriesOutcome}
 use Rattle.quota_store.specs.LockedCalls.{EndsLocked}
@@ -65,19 +64,6 @@ returns-then-may_grow-clause-halves g c =
     shown_keeps store c.args.session.now.number look.result.knows c.args.kept.now.items look.new.kept.items served.new.kept.items served.ensures.halves served.ensures.alike served.ensures.many
     (subst (λ (n : ℕ). HaveBeenShown store n look.result.knows served.new.kept.items look.new.kept.items) number look.ensures.shown)
 
-pub returns-then-may_grow-clause-counted : goal.returns-then-may_grow-clause-counted
-returns-then-may_grow-clause-counted g c =
-    let faults = g.E.Entropy.faults in
-    subst (λ (s : CallerSession g.row.E.Denot). Grows (faults c.args.session.now.entropy) (faults s.entropy)) (sym c.look_last.ensures.session) c.serve_growing-outcome.ensures.counted
-
-pub returns-then-may_grow-clause-reliable : goal.returns-then-may_grow-clause-reliable
-returns-then-may_grow-clause-reliable g c = λ reliable.
-    subst (λ (s : CallerSession g.row.E.Denot). g.E.Entropy.is_reliable s.entropy) (sym c.look_last.ensures.session) (c.serve_growing-outcome.ensures.reliable reliable)
-
-pub returns-then-may_grow-clause-still : goal.returns-then-may_grow-clause-still
-returns-then-may_grow-clause-still g c = λ reliable.
-    ap (λ (s : CallerSession g.row.E.Denot). g.E.Entropy.faults s.entropy) c.look_last.ensures.session ∙ c.serve_growing-outcome.ensures.still reliable
-
 pub returns-then-may_grow-clause-drawn : goal.returns-then-may_grow-clause-drawn
 returns-then-may_grow-clause-drawn g c =
     let faults = g.E.Entropy.faults in
@@ -113,19 +99,6 @@ returns-else-may_grow-clause-halves g c =
     let number : served.new.session.number ≡ c.args.session.now.number = (ends-caller store c.args.limit was served.new.session c.args.call.now served.result served.ensures.ends).1 in
     put_keeps store c.args.session.now.number c.cut.result.knows c.args.kept.now.items c.cut.new.kept.items c.requires.halves
     (subst (λ (n : ℕ). HasPut store n c.cut.result.knows c.args.kept.now.items c.cut.new.kept.items) number c.cut.ensures.kept)
-
-pub returns-else-may_grow-clause-counted : goal.returns-else-may_grow-clause-counted
-returns-else-may_grow-clause-counted g c =
-    let faults = g.E.Entropy.faults in
-    subst (λ (s : CallerSession g.row.E.Denot). Grows (faults c.args.session.now.entropy) (faults s.entropy)) (sym c.cut.ensures.session) c.serve_other-outcome.ensures.counted
-
-pub returns-else-may_grow-clause-reliable : goal.returns-else-may_grow-clause-reliable
-returns-else-may_grow-clause-reliable g c = λ reliable.
-    subst (λ (s : CallerSession g.row.E.Denot). g.E.Entropy.is_reliable s.entropy) (sym c.cut.ensures.session) (c.serve_other-outcome.ensures.reliable reliable)
-
-pub returns-else-may_grow-clause-still : goal.returns-else-may_grow-clause-still
-returns-else-may_grow-clause-still g c = λ reliable.
-    ap (λ (s : CallerSession g.row.E.Denot). g.E.Entropy.faults s.entropy) c.cut.ensures.session ∙ c.serve_other-outcome.ensures.still reliable
 
 pub returns-else-may_grow-clause-drawn : goal.returns-else-may_grow-clause-drawn
 returns-else-may_grow-clause-drawn g c =

@@ -1,8 +1,7 @@
 -- The call is served, and is within any limit.
-use Rattle.std.proofs.Common.{◌∙◌, Some, ap, sym, subst}
+use Rattle.std.proofs.Common.{Some, subst}
 use Rattle.shared_store.specs.Attempts.{IsAnswered, IsWaiting}
 use Rattle.shared_store.specs.CallerSessions.{CallerSession}
-use Rattle.shared_store.specs.Devices.{Grows}
 use Rattle.shared_store.specs.SharedCounts.{CarriesDraws}
 use Rattle.quota_store.proofs.LockedCalls.{answered-other, carries-starved, ends-starved, waiting-limits}
 use Rattle.quota_store.proofs.quota_call.serve_other.Goals as goal
@@ -37,20 +36,6 @@ returns-clause-limits g c =
     let was : CallerSession g.row.E.Denot = record c.args.session.now { pass = Some c.args.seat.one } in
     answered-other store c.args.limit was now c.args.call.now c.in_ok-answer.answer
     (subst (λ (s : CallerSession g.row.E.Denot). IsAnswered store s now c.args.call.now c.in_ok-answer.answer) c.join.ensures.session c.in_ok-answer.ensures.ends) c.requires.other_call
-
-pub returns-clause-counted : goal.returns-clause-counted
-returns-clause-counted g c =
-    let faults = g.E.Entropy.faults in
-    subst (λ (s : CallerSession g.row.E.Denot). Grows (faults s.entropy) (faults c.call_from.new.session.entropy)) c.join.ensures.session c.call_from.ensures.counted
-
-pub returns-clause-reliable : goal.returns-clause-reliable
-returns-clause-reliable g c = λ reliable.
-    c.call_from.ensures.reliable (subst (λ (s : CallerSession g.row.E.Denot). g.E.Entropy.is_reliable s.entropy) (sym c.join.ensures.session) reliable)
-
-pub returns-clause-still : goal.returns-clause-still
-returns-clause-still g c = λ reliable.
-    c.call_from.ensures.still (subst (λ (s : CallerSession g.row.E.Denot). g.E.Entropy.is_reliable s.entropy) (sym c.join.ensures.session) reliable)
-    ∙ ap (λ (s : CallerSession g.row.E.Denot). g.E.Entropy.faults s.entropy) c.join.ensures.session
 
 pub returns-clause-drawn : goal.returns-clause-drawn
 returns-clause-drawn g c =

@@ -41,7 +41,7 @@ returns-clause-answered g c =
     subst
     (λ (p : ℕ × GuardedGateValue g.row.F.Denot g.row.R.Denot). IsFinished of_file of_port store (reseated store p.0 p.1) c.finish.new.gate p.0 mid now object place Mid (faults mid.entropy) (faults now.entropy) c.in_ok-made.made c.finish.result)
     (λ i. (number i, c.clear.ensures.same i)) c.finish.ensures.finished in
-    let lasts : Was → Mid = subst (λ (s : CallerSession g.row.E.Denot). g.E.Entropy.is_reliable s.entropy → Mid) shown c.make_unless_spent.ensures.reliable in
+    let lasts : Was → Mid = subst (λ (s : CallerSession g.row.E.Denot). g.E.Entropy.is_reliable s.entropy → Mid) shown c.make_unless_spent.ensures.draws.reliable in
     subst (λ (f : FileState). IsAnswered of_file of_port store (reseated store slot.number gate) c.finish.new.gate slot.number slot.file f was now object place Was (faults was.entropy) (faults now.entropy) c.finish.result)
     (sym c.finish.ensures.file)
     (finished_answered of_file of_port faults store (reseated store slot.number gate) c.finish.new.gate slot.number slot.file made.file was mid now drawn object place Was Mid lasts c.finish.result

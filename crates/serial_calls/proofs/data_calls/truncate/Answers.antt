@@ -4,7 +4,7 @@ use Rattle.call_rules.specs.Matches.{Matches}
 use Rattle.call_rules.specs.Told.{IsTold}
 use Rattle.store_model.specs.Machine.{MachineState, Session}
 use Rattle.tee_types.specs.declared.call.Call.TheVariants.{Truncate}
-use Rattle.serial_calls.proofs.ChangedCalls.{changed_serves, changed_still}
+use Rattle.serial_calls.proofs.ChangedCalls.{changed_serves}
 use Rattle.serial_calls.proofs.Unfailed.{changed_stays, slot_read, stays_unfailed}
 use Rattle.serial_calls.proofs.data_calls.truncate.Goals as goal
 
@@ -21,12 +21,6 @@ returns-clause-serves g c =
     changed_serves g.F.StoreFile.state g.R.RpmbPort.state g.E.Entropy.faults g.L.StoreName.store c.args.gate.now done.new.gate c.args.slots.now.items c.place_of-place.result
     c.index_mut-slot.result.now done.new.slot c.args.session.now done.new.session c.requires.ready.slots_are c.place_of-place.ensures.within c.index_mut-slot.ensures.value
     done.ensures.number (Truncate c.args.handle c.args.size) _ _ _ _ done.result done.ensures.changed c.requires.ready.calm.caller done.ensures.goes_on c.requires.ready.known c.requires.ready.idle
-
-pub returns-clause-still : goal.returns-clause-still
-returns-clause-still g c =
-    let done = c.truncate-2 in
-    changed_still g.F.StoreFile.state g.R.RpmbPort.state g.E.Entropy.faults g.L.StoreName.store c.args.gate.now done.new.gate c.index_mut-slot.result.now done.new.slot
-    c.args.session.now done.new.session (Truncate c.args.handle c.args.size) _ _ _ _ done.result done.ensures.changed
 
 pub returns-clause-passed : goal.returns-clause-passed
 returns-clause-passed g c =

@@ -3,7 +3,7 @@ use Rattle.std.proofs.Common.{ℕ, List, subst}
 use Rattle.std.specs.Prelude.{slice_set}
 use Rattle.tee_types.specs.declared.call.Call.TheVariants.{Write}
 use Rattle.serial_calls.specs.ServeReplay.{ServesObject}
-use Rattle.serial_calls.proofs.ChangedCalls.{changed_serves, changed_still}
+use Rattle.serial_calls.proofs.ChangedCalls.{changed_serves}
 use Rattle.serial_calls.proofs.Unfailed.{changed_stays, slot_read, stays_unfailed}
 use Rattle.serial_calls.proofs.data_calls.write.Goals as goal
 
@@ -20,12 +20,6 @@ returns-clause-serves g c =
     (changed_serves g.F.StoreFile.state g.R.RpmbPort.state g.E.Entropy.faults g.L.StoreName.store was_gate done.new.gate was_slots c.place_of-place.result
     c.index_mut-slot.result.now done.new.slot c.args.session.now done.new.session c.requires.ready.slots_are c.place_of-place.ensures.within c.index_mut-slot.ensures.value
     done.ensures.number (Write c.args.handle c.as_slice.result.now) _ _ _ _ done.result done.ensures.changed c.requires.ready.calm.caller done.ensures.goes_on c.requires.ready.known c.requires.ready.idle)
-
-pub returns-clause-still : goal.returns-clause-still
-returns-clause-still g c =
-    let done = c.write-2 in
-    changed_still g.F.StoreFile.state g.R.RpmbPort.state g.E.Entropy.faults g.L.StoreName.store c.args.gate.now done.new.gate c.index_mut-slot.result.now done.new.slot
-    c.args.session.now done.new.session (Write c.args.handle c.as_slice.result.now) _ _ _ _ done.result done.ensures.changed
 
 pub returns-clause-passed : goal.returns-clause-passed
 returns-clause-passed g c =

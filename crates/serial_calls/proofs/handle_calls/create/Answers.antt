@@ -3,7 +3,7 @@ use Rattle.std.proofs.Common.{◌≡◌, ◌+◌, ◌-◌, ◌<◌, arith, lengt
 use Rattle.serial_calls.specs.Rules.{MayCreate, NewObject}
 use Rattle.call_steps.specs.GuardedGates.{GuardedGateValue}
 use Rattle.store_model.specs.Machine.{Session}
-use Rattle.serial_calls.proofs.CreatedCalls.{created_serves, created_still}
+use Rattle.serial_calls.proofs.CreatedCalls.{created_serves}
 use Rattle.std.proofs.Common.{ap}
 use Rattle.serial_calls.proofs.Unfailed.{created_unfailed}
 use Rattle.serial_calls.proofs.handle_calls.create.Goals as goal
@@ -29,13 +29,6 @@ returns-clause-serves g c =
     created_serves g.F.StoreFile.state g.R.RpmbPort.state g.E.Entropy.faults g.L.StoreName.store c.args.gate.now c.reserve-file.new.gate done.new.gate slots place
     c.index_mut-slot.result.now done.new.slot c.args.session.now done.new.session c.requires.ready.slots_are within c.index_mut-slot.ensures.value done.ensures.number
     c.requires.ready.idle file at c.reserve-file.ensures.reserved.held c.reserve-file.ensures.same done.ensures.goes_on c.requires.ready.calm.caller c.requires.ready.known
-    (record { id = c.args.id; flags = c.args.flags; attributes = c.args.attributes.now; bytes = c.args.bytes.now }) c.in-Needs.place _ _ done.result done.ensures.creates
-
-pub returns-clause-still : goal.returns-clause-still
-returns-clause-still g c =
-    let done = c.create-2 in
-    created_still g.F.StoreFile.state g.R.RpmbPort.state g.E.Entropy.faults g.L.StoreName.store c.reserve-file.new.gate done.new.gate c.index_mut-slot.result.now.number
-    c.index_mut-slot.result.now.file done.new.slot.file c.args.session.now done.new.session
     (record { id = c.args.id; flags = c.args.flags; attributes = c.args.attributes.now; bytes = c.args.bytes.now }) c.in-Needs.place _ _ done.result done.ensures.creates
 
 pub returns-clause-passed : goal.returns-clause-passed

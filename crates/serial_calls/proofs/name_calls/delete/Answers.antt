@@ -2,7 +2,6 @@
 use Rattle.tee_types.specs.declared.call.Call.TheVariants.{Delete}
 use Rattle.tee_types.specs.declared.reply.Reply.TheVariants.{Done}
 use Rattle.serial_calls.proofs.ChangedCalls.{committed_serves}
-use Rattle.serial_calls.proofs.CommittedCalls.{committed_still}
 use Rattle.call_steps.proofs.CountGrowth.{same_file_goes_on}
 use Rattle.serial_calls.proofs.name_calls.delete.Goals as goal
 
@@ -13,9 +12,3 @@ returns-clause-serves g c =
     c.index_mut-slot.result.now done.new.slot c.args.session.now done.new.session c.requires.ready.slots_are c.place_of-place.ensures.within c.index_mut-slot.ensures.value
     done.ensures.number (Delete c.args.handle) Done _ _ done.result _ done.ensures.committed tt c.requires.ready.known c.requires.ready.idle
     (same_file_goes_on c.index_mut-slot.result.now.file done.new.slot.file done.ensures.file)
-
-pub returns-clause-still : goal.returns-clause-still
-returns-clause-still g c =
-    let done = c.delete-2 in
-    committed_still g.F.StoreFile.state g.R.RpmbPort.state g.E.Entropy.faults g.L.StoreName.store c.args.gate.now done.new.gate c.index_mut-slot.result.now.number
-    c.args.session.now done.new.session (Delete c.args.handle) Done _ _ done.result done.ensures.committed

@@ -1,6 +1,6 @@
 -- The object was renamed, or the rules answered.
 use Rattle.tee_types.specs.declared.call.Call.TheVariants.{Rename}
-use Rattle.serial_calls.proofs.ChangedCalls.{renamed_serves, renamed_still}
+use Rattle.serial_calls.proofs.ChangedCalls.{renamed_serves}
 use Rattle.serial_calls.proofs.Unfailed.{renamed_passed, renamed_stays, stays_unfailed}
 use Rattle.serial_calls.proofs.name_calls.rename.Goals as goal
 
@@ -10,12 +10,6 @@ returns-clause-serves g c =
     renamed_serves g.F.StoreFile.state g.R.RpmbPort.state g.E.Entropy.faults g.L.StoreName.store c.args.gate.now done.new.gate c.args.slots.now.items c.place_of-place.result
     c.index_mut-slot.result.now done.new.slot c.args.session.now done.new.session c.requires.ready.slots_are c.place_of-place.ensures.within c.index_mut-slot.ensures.value
     done.ensures.number (Rename c.args.handle c.args.id) _ _ _ done.result done.ensures.committed done.ensures.err done.ensures.file c.requires.ready.calm.caller c.requires.ready.known c.requires.ready.idle
-
-pub returns-clause-still : goal.returns-clause-still
-returns-clause-still g c =
-    let done = c.rename-2 in
-    renamed_still g.F.StoreFile.state g.R.RpmbPort.state g.E.Entropy.faults g.L.StoreName.store c.args.gate.now done.new.gate c.index_mut-slot.result.now done.new.slot
-    c.args.session.now done.new.session (Rename c.args.handle c.args.id) _ _ _ done.result done.ensures.committed done.ensures.err
 
 pub returns-clause-passed : goal.returns-clause-passed
 returns-clause-passed g c =

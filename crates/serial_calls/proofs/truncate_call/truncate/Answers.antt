@@ -71,7 +71,7 @@ returns-clause-changed g c =
     Tried
     (steps_tried g.F.StoreFile.state g.R.RpmbPort.state reliable faults store c.args.gate.now c.answer_truncate.new.gate c.args.slot.now.number c.args.slot.now.file new.file
     c.answer_truncate.new.slot.file c.answer_truncate.ensures.file was now entropy (Truncate c.args.handle c.args.size) held c.args.size
-    c.answer_truncate.result (subst (λ (x : g.row.E.Denot). reliable x → reliable entropy) drew c.truncate_object.ensures.reliable) c.catch_up_entry.new.gate
+    c.answer_truncate.result (subst (λ (x : g.row.E.Denot). reliable x → reliable entropy) drew c.truncate_object.ensures.draws.reliable) c.catch_up_entry.new.gate
     c.catch_up_entry.new.session new.number c.catch_up_entry.ensures.gate alike (ap (λ (x : SlotValue). x.number) c.truncate_object.ensures.same ∙ number) new at.0 (resizing c.args.size)
     c.in_ok-staged.staged (c.in_ok-staged.ensures.stages at.0 at.1.gives) cause
     c.answer_truncate.ensures.answered)

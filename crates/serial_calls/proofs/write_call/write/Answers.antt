@@ -69,7 +69,7 @@ returns-clause-changed g c =
     Tried
     (steps_tried g.F.StoreFile.state g.R.RpmbPort.state reliable faults store c.args.gate.now c.answer_write.new.gate c.args.slot.now.number c.args.slot.now.file new.file
     c.answer_write.new.slot.file c.answer_write.ensures.file was now entropy (Write c.args.handle c.args.bytes.now) held (max held.entry.size (c.args.found.now.handle.position + length c.args.bytes.now))
-    c.answer_write.result (subst (λ (x : g.row.E.Denot). reliable x → reliable entropy) drew c.write_object.ensures.reliable) c.catch_up_entry.new.gate
+    c.answer_write.result (subst (λ (x : g.row.E.Denot). reliable x → reliable entropy) drew c.write_object.ensures.draws.reliable) c.catch_up_entry.new.gate
     c.catch_up_entry.new.session new.number c.catch_up_entry.ensures.gate alike (ap (λ (x : SlotValue). x.number) c.write_object.ensures.same ∙ number) new at.0 (writing c.args.found.now.handle.position c.args.bytes.now)
     c.in_ok-staged.staged (c.in_ok-staged.ensures.stages at.0 at.1.gives) cause
     (subst

@@ -1,23 +1,14 @@
 -- The call was answered, or begins again, as the attempt of its kind says.
 use Rattle.std.proofs.Common.{subst, sym}
 use Rattle.tee_types.specs.declared.call.Call.{Call}
-use Rattle.serial_calls.proofs.CountGrowth.{grows_le}
 use Rattle.shared_calls.specs.Attempts.{EndsAttempt}
 use Rattle.shared_calls.proofs.Waiting.{waits-same}
 use Rattle.shared_calls.proofs.calls.attempt.Goals as goal
-
-pub returns-in-Open-clause-counted : goal.returns-in-Open-clause-counted
-returns-in-Open-clause-counted g c =
-    grows_le (g.E.Entropy.faults c.args.session.now.entropy) (g.E.Entropy.faults c.attempt-in-Open.new.session.entropy) c.attempt-in-Open.ensures.counted
 
 pub returns-in-Read-clause-ends : goal.returns-in-Read-clause-ends
 returns-in-Read-clause-ends g c =
     let after = c.attempt-in-Read in
     subst (λ (call : Call). EndsAttempt g.L.StoreName.store c.args.session.now after.new.session call after.result) (sym c.in-Read.is) after.ensures.ends
-
-pub returns-in-Read-clause-counted : goal.returns-in-Read-clause-counted
-returns-in-Read-clause-counted g c =
-    grows_le (g.E.Entropy.faults c.args.session.now.entropy) (g.E.Entropy.faults c.attempt-in-Read.new.session.entropy) c.attempt-in-Read.ensures.counted
 
 pub returns-in-Write-clause-ends : goal.returns-in-Write-clause-ends
 returns-in-Write-clause-ends g c =
@@ -33,10 +24,6 @@ pub returns-in-Info-clause-ends : goal.returns-in-Info-clause-ends
 returns-in-Info-clause-ends g c =
     let after = c.attempt-in-Info in
     subst (λ (call : Call). EndsAttempt g.L.StoreName.store c.args.session.now after.new.session call after.result) (sym c.in-Info.is) after.ensures.ends
-
-pub returns-in-Info-clause-counted : goal.returns-in-Info-clause-counted
-returns-in-Info-clause-counted g c =
-    grows_le (g.E.Entropy.faults c.args.session.now.entropy) (g.E.Entropy.faults c.attempt-in-Info.new.session.entropy) c.attempt-in-Info.ensures.counted
 
 pub returns-in_default-clause-ends : goal.returns-in_default-clause-ends
 returns-in_default-clause-ends g c = waits-same g.L.StoreName.store c.args.session.now c.requires.caller

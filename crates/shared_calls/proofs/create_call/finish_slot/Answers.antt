@@ -7,7 +7,7 @@ use Rattle.serial_calls.specs.GuardedGates.{GuardedGateValue}
 use Rattle.serial_calls.specs.Fits.{SeesWhole}
 use Rattle.shared_calls.specs.SharedCreate.{told_made}
 use Rattle.shared_calls.specs.SharedReady.{IsReady}
-use Rattle.shared_calls.proofs.FinishedCreates.{finished-answers, finished-draws, finished-gate, finished-slot, finished-still}
+use Rattle.shared_calls.proofs.FinishedCreates.{finished-answers, finished-carries, finished-gate, finished-slot}
 use Rattle.shared_calls.proofs.SharedHolds.{idle-held, keeps-held, keeps-reseated}
 use Rattle.shared_calls.proofs.KeptCalls.{known-card}
 use Rattle.shared_calls.proofs.KeptSlots.{own-file}
@@ -26,22 +26,6 @@ returns-clause-answered g c =
     let was = c.args.session.now in
     let object : NewObject = record { id = c.args.id; flags = c.args.flags; attributes = c.args.attributes.now; bytes = c.args.bytes.now } in
     finished-answers g.F.StoreFile.state g.R.RpmbPort.state store (reseated store c.args.slot.now.number c.reserve-file.new.gate) c.finish-answer.new.gate c.args.slot.now.number was c.finish-answer.new.session
-    g.E.Entropy.faults object c.args.place.now (g.E.Entropy.is_reliable was.entropy) c.finish-answer.result c.args.made c.finish-answer.ensures.finished
-
-pub returns-clause-counted : goal.returns-clause-counted
-returns-clause-counted g c =
-    let store = g.L.StoreName.store in
-    let was = c.args.session.now in
-    let object : NewObject = record { id = c.args.id; flags = c.args.flags; attributes = c.args.attributes.now; bytes = c.args.bytes.now } in
-    finished-draws g.F.StoreFile.state g.R.RpmbPort.state store (reseated store c.args.slot.now.number c.reserve-file.new.gate) c.finish-answer.new.gate c.args.slot.now.number was c.finish-answer.new.session
-    g.E.Entropy.faults object c.args.place.now (g.E.Entropy.is_reliable was.entropy) c.finish-answer.result c.args.made c.finish-answer.ensures.finished
-
-pub returns-clause-still : goal.returns-clause-still
-returns-clause-still g c =
-    let store = g.L.StoreName.store in
-    let was = c.args.session.now in
-    let object : NewObject = record { id = c.args.id; flags = c.args.flags; attributes = c.args.attributes.now; bytes = c.args.bytes.now } in
-    finished-still g.F.StoreFile.state g.R.RpmbPort.state store (reseated store c.args.slot.now.number c.reserve-file.new.gate) c.finish-answer.new.gate c.args.slot.now.number was c.finish-answer.new.session
     g.E.Entropy.faults object c.args.place.now (g.E.Entropy.is_reliable was.entropy) c.finish-answer.result c.args.made c.finish-answer.ensures.finished
 
 pub invariant_of-gate : goal.invariant_of-gate
@@ -94,3 +78,19 @@ returns-clause-kept g c =
     finished-slot g.F.StoreFile.state g.R.RpmbPort.state store mid done.new.gate number was done.new.session g.E.Entropy.faults object c.args.place.now (g.E.Entropy.is_reliable was.entropy) done.result
     before slot done.new.slot done.ensures.number done.ensures.file (record { seat = saw.seat; is = saw.is; whole = saw.whole }) done.ensures.whole c.args.made done.ensures.finished
     (keeps-shown_slot knows c.args.slot.now agreed before (told_made number c.args.made) (own-file store _ c.requires.made.vacant.guarded) c.requires.kept)
+
+pub returns-clause-drawn : goal.returns-clause-drawn
+returns-clause-drawn g c = λ first grows carries.
+    let store = g.L.StoreName.store in
+    let of_file = g.F.StoreFile.state in
+    let of_port = g.R.RpmbPort.state in
+    let was = c.args.session.now in
+    let object : NewObject = record { id = c.args.id; flags = c.args.flags; attributes = c.args.attributes.now; bytes = c.args.bytes.now } in
+    let number = c.args.slot.now.number in
+    let old = c.gate.inside.gate in
+    let held = c.reserve-file.new.gate in
+    let done = c.finish-answer in
+    let idle = idle-held old held _ c.reserve-file.ensures.same (subst (λ (x : GuardedGateValue _ _). IsReady store x was) (sym c.gate.view_is) c.requires.ready).idle in
+    let known = known-card of_file of_port held.gate _ c.doubt-doubt.ensures.guarded.card_key idle c.doubt-doubt.ensures.stands in
+    finished-carries of_file of_port store (reseated store number held) done.new.gate number was done.new.session g.E.Entropy.faults object c.args.place.now (g.E.Entropy.is_reliable was.entropy) done.result
+    known first grows c.args.made done.ensures.finished carries

@@ -1,5 +1,5 @@
 -- The call is answered by how its commit ended, and gate and slot keep what always holds of them.
-use Rattle.std.proofs.Common.{Ok, refl, subst, sym, ◌∙◌}
+use Rattle.std.proofs.Common.{Ok, refl, subst, sym}
 use Rattle.call_rules.specs.declared.decision.OpenObject.{OpenObject}
 use Rattle.serial_calls.specs.GuardedGates.{GuardedGateValue}
 use Rattle.tee_types.specs.declared.call.Call.TheVariants.{Delete}
@@ -8,7 +8,7 @@ use Rattle.serial_calls.specs.NameChanges.{delete_change}
 use Rattle.shared_calls.specs.declared.validation.Validation.{Validation}
 use Rattle.shared_calls.specs.Validations.{EndsLook, IfFound}
 use Rattle.shared_calls.specs.SharedReady.{IsReady}
-use Rattle.shared_calls.proofs.SharedCommits.{committed-answers, committed-grows, committed-still}
+use Rattle.shared_calls.proofs.SharedCommits.{committed-answers}
 use Rattle.shared_calls.proofs.KeptCalls.{keeps-committed, known-card}
 use Rattle.shared_calls.proofs.SharedViews.{keeps-shown-committable}
 use Rattle.shared_calls.proofs.Waiting.{answers-then}
@@ -25,24 +25,6 @@ returns-clause-ends g c =
     (subst (λ (x : Validation OpenObject). EndsLook {X = Unit {0}} store was between call (Ok x)) c.in-Found.is c.in_ok-answer.ensures.ends) call done.result
     (committed-answers g.F.StoreFile.state g.R.RpmbPort.state g.E.Entropy.faults store c.gate.inside.gate done.new.gate c.args.slot.now.number between done.new.session call Done
     (delete_change c.in-Found.found) (g.E.Entropy.is_reliable between.entropy) done.result done.ensures.committed)
-
-pub returns-clause-counted : goal.returns-clause-counted
-returns-clause-counted g c =
-    let between = c.validate.new.session in
-    let done = c.delete in
-    committed-grows g.F.StoreFile.state g.R.RpmbPort.state g.E.Entropy.faults g.L.StoreName.store c.gate.inside.gate done.new.gate c.args.slot.now.number between done.new.session
-    (Delete c.args.handle) Done (delete_change c.in-Found.found) (g.E.Entropy.is_reliable between.entropy) done.result done.ensures.committed (g.E.Entropy.faults c.args.session.now.entropy)
-    c.in_ok-answer.ensures.counted
-
-pub returns-clause-still : goal.returns-clause-still
-returns-clause-still g c =
-    let between = c.validate.new.session in
-    let done = c.delete in
-    let validated = c.in_ok-answer.ensures in
-    λ reliable.
-    committed-still g.F.StoreFile.state g.R.RpmbPort.state g.E.Entropy.faults g.L.StoreName.store c.gate.inside.gate done.new.gate c.args.slot.now.number between done.new.session
-    (Delete c.args.handle) Done (delete_change c.in-Found.found) (g.E.Entropy.is_reliable between.entropy) done.result done.ensures.committed (validated.reliable reliable)
-    ∙ validated.still reliable
 
 pub invariant_of-gate : goal.invariant_of-gate
 invariant_of-gate g c =

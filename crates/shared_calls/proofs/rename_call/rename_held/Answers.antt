@@ -1,5 +1,5 @@
 -- The call is answered by how its commit ended, and gate and slot keep what always holds of them.
-use Rattle.std.proofs.Common.{Ok, refl, subst, sym, ◌∙◌}
+use Rattle.std.proofs.Common.{Ok, refl, subst, sym}
 use Rattle.call_rules.specs.declared.decision.OpenObject.{OpenObject}
 use Rattle.serial_calls.specs.GuardedGates.{GuardedGateValue}
 use Rattle.tee_types.specs.declared.call.Call.TheVariants.{Rename}
@@ -8,7 +8,7 @@ use Rattle.serial_calls.specs.NameChanges.{rename_change}
 use Rattle.shared_calls.specs.declared.validation.Validation.{Validation}
 use Rattle.shared_calls.specs.Validations.{EndsLook, IfFound}
 use Rattle.shared_calls.specs.SharedReady.{IsReady}
-use Rattle.shared_calls.proofs.SharedCommits.{committed-answers, committed-grows, committed-still}
+use Rattle.shared_calls.proofs.SharedCommits.{committed-answers}
 use Rattle.shared_calls.proofs.KeptCalls.{keeps-committed, known-card}
 use Rattle.shared_calls.proofs.SharedViews.{keeps-shown-committable}
 use Rattle.shared_calls.proofs.Waiting.{answers-then}
@@ -26,26 +26,6 @@ returns-clause-ends g c =
     (subst (λ (x : Validation OpenObject). EndsLook {X = Unit {0}} store was between call (Ok x)) c.in-Found.is c.in_ok-answer.ensures.ends) call answer.answer
     (committed-answers g.F.StoreFile.state g.R.RpmbPort.state g.E.Entropy.faults store c.gate.inside.gate done.new.gate c.args.slot.now.number between done.new.session call Done
     (rename_change c.in-Found.found c.args.id) (g.E.Entropy.is_reliable between.entropy) answer.answer answer.ensures.committed)
-
-pub returns-clause-counted : goal.returns-clause-counted
-returns-clause-counted g c =
-    let between = c.validate.new.session in
-    let done = c.rename in
-    let answer = c.in_ok-answer-2 in
-    committed-grows g.F.StoreFile.state g.R.RpmbPort.state g.E.Entropy.faults g.L.StoreName.store c.gate.inside.gate done.new.gate c.args.slot.now.number between done.new.session
-    (Rename c.args.handle c.args.id) Done (rename_change c.in-Found.found c.args.id) (g.E.Entropy.is_reliable between.entropy) answer.answer answer.ensures.committed
-    (g.E.Entropy.faults c.args.session.now.entropy) c.in_ok-answer.ensures.counted
-
-pub returns-clause-still : goal.returns-clause-still
-returns-clause-still g c =
-    let between = c.validate.new.session in
-    let done = c.rename in
-    let answer = c.in_ok-answer-2 in
-    let validated = c.in_ok-answer.ensures in
-    λ reliable.
-    committed-still g.F.StoreFile.state g.R.RpmbPort.state g.E.Entropy.faults g.L.StoreName.store c.gate.inside.gate done.new.gate c.args.slot.now.number between done.new.session
-    (Rename c.args.handle c.args.id) Done (rename_change c.in-Found.found c.args.id) (g.E.Entropy.is_reliable between.entropy) answer.answer answer.ensures.committed (validated.reliable reliable)
-    ∙ validated.still reliable
 
 pub invariant_of-gate-2 : goal.invariant_of-gate-2
 invariant_of-gate-2 g c =

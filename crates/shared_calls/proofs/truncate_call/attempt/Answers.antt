@@ -4,7 +4,6 @@ use Rattle.call_rules.specs.declared.decision.OpenObject.{OpenObject}
 use Rattle.tee_types.specs.declared.call.Call.TheVariants.{Truncate}
 use Rattle.shared_calls.specs.declared.validation.Validation.{Validation}
 use Rattle.shared_calls.specs.Validations.{EndsLook}
-use Rattle.serial_calls.proofs.CountGrowth.{grows_grows, grows_le}
 use Rattle.shared_calls.proofs.Waiting.{ends-then}
 use Rattle.shared_calls.proofs.truncate_call.attempt.Goals as goal
 
@@ -17,10 +16,3 @@ returns-clause-ends g c =
     ends-then store was between c.truncate_slot.new.session
     (subst (λ (x : Validation OpenObject). EndsLook {X = Unit {0}} store was between call (Ok x)) c.in-Found.is c.in_ok-validated.ensures.ends)
     call c.truncate_slot.result c.truncate_slot.ensures.ends
-
-pub returns-clause-counted : goal.returns-clause-counted
-returns-clause-counted g c =
-    let faults = g.E.Entropy.faults in
-    let was = faults c.args.session.now.entropy in
-    let between = faults c.validate_first.new.session.entropy in
-    grows_grows was between (faults c.truncate_slot.new.session.entropy) (grows_le was between c.in_ok-validated.ensures.counted) c.truncate_slot.ensures.counted

@@ -1,9 +1,8 @@
 -- The session drew at most, and the slot has the stage of the change of the version that it gives.
-use Rattle.std.proofs.Common.{◌≡◌, IfOk, subst}
+use Rattle.std.proofs.Common.{IfOk, subst}
 use Rattle.serial_calls.specs.ChangeStaging.{resizing}
 use Rattle.shared_calls.specs.SharedChange.{CarriesStaged}
-use Rattle.serial_calls.specs.Devices.{Grows}
-use Rattle.shared_calls.proofs.StageCounts.{drawn-waits, stage-carries, stage-grows, stage-still}
+use Rattle.shared_calls.proofs.StageCounts.{drawn-waits, stage-carries}
 use Rattle.shared_calls.proofs.SharedStages.{has-staged, stage-keeps}
 use Rattle.shared_calls.proofs.truncate_call.stage_slot.Goals as goal
 
@@ -15,23 +14,6 @@ returns-clause-staged g c =
     let staged = c.truncate_object in
     has-staged g.L.StoreName.store c.args.slot.now staged.new.slot c.args.found.now.held.entry (resizing c.args.size) c.requires.guarded c.requires.loads.given staged.ensures.same staged.ensures.base
     staged.result staged.ensures.stages
-
-pub returns-clause-counted : goal.returns-clause-counted
-returns-clause-counted g c =
-    let faults = g.E.Entropy.faults in
-    let old = c.args.slot.now in
-    let staged = c.truncate_object in
-    subst (λ (x : g.row.E.Denot). Grows (faults x) (faults staged.new.entropy)) c.entropy_mut-entropy.ensures.value
-    (stage-grows g.E.Entropy.is_reliable faults old.file staged.new.slot.file old.number c.entropy_mut-entropy.result.now staged.new.entropy staged.result staged.ensures.cause staged.ensures.undrawn)
-
-pub returns-clause-still : goal.returns-clause-still
-returns-clause-still g c =
-    let reliable = g.E.Entropy.is_reliable in
-    let faults = g.E.Entropy.faults in
-    let old = c.args.slot.now in
-    let staged = c.truncate_object in
-    subst (λ (x : g.row.E.Denot). reliable x → faults staged.new.entropy ≡ faults x) c.entropy_mut-entropy.ensures.value
-    (stage-still reliable faults old.file staged.new.slot.file old.number c.entropy_mut-entropy.result.now staged.new.entropy staged.result staged.ensures.cause staged.ensures.undrawn)
 
 pub returns-clause-kept : goal.returns-clause-kept
 returns-clause-kept g c =

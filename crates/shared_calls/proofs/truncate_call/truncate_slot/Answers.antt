@@ -1,6 +1,5 @@
 -- The last validation follows the stage.
 use Rattle.tee_types.specs.declared.call.Call.TheVariants.{Truncate}
-use Rattle.serial_calls.proofs.CountGrowth.{grows_grows}
 use Rattle.shared_calls.proofs.Waiting.{ends-then}
 use Rattle.shared_calls.proofs.truncate_call.truncate_slot.Goals as goal
 
@@ -8,8 +7,3 @@ pub returns-clause-ends : goal.returns-clause-ends
 returns-clause-ends g c =
     ends-then g.L.StoreName.store c.args.session.now c.stage_slot.new.session c.validate_last.new.session c.stage_slot.ensures.waits (Truncate c.args.handle c.args.size) c.validate_last.result
     c.validate_last.ensures.ends
-
-pub returns-clause-counted : goal.returns-clause-counted
-returns-clause-counted g c =
-    let faults = g.E.Entropy.faults in
-    grows_grows (faults c.args.session.now.entropy) (faults c.stage_slot.new.session.entropy) (faults c.validate_last.new.session.entropy) c.stage_slot.ensures.counted c.validate_last.ensures.counted

@@ -4,7 +4,6 @@ use Rattle.call_rules.specs.declared.decision.OpenObject.{OpenObject}
 use Rattle.shared_calls.specs.declared.validation.Validation.{Validation}
 use Rattle.shared_calls.specs.Validations.{EndsLook}
 use Rattle.tee_types.specs.declared.call.Call.TheVariants.{Truncate}
-use Rattle.serial_calls.proofs.CountGrowth.{grows_grows, grows_le}
 use Rattle.shared_calls.proofs.Waiting.{answers-then}
 use Rattle.shared_calls.proofs.truncate_call.validate_last.Goals as goal
 
@@ -17,10 +16,3 @@ returns-clause-ends g c =
     let done = c.answer_staged in
     answers-then store was between done.new.session
     (subst (λ (x : Validation OpenObject). EndsLook {X = Unit {0}} store was between call (Ok x)) c.in-Ok-Found.field-0-is c.in-Ok-Found.ensures.ends) call done.result done.ensures.answered
-
-pub returns-clause-counted : goal.returns-clause-counted
-returns-clause-counted g c =
-    let faults = g.E.Entropy.faults in
-    let was = faults c.args.session.now.entropy in
-    let between = faults c.validate_again.new.session.entropy in
-    grows_grows was between (faults c.answer_staged.new.session.entropy) (grows_le was between c.validate_again.ensures.counted) c.answer_staged.ensures.counted

@@ -20,7 +20,7 @@ answer_write-requires-clause-stages g c =
     (c.catch_up_staged.ensures.stages has.version has.gives asked c.args.staged has.stages)
 
 behind : (g : Over) (c : After-answer_write g)
-    → LeavesChanged g.F.StoreFile.state g.R.RpmbPort.state g.E.Entropy.is_reliable g.E.Entropy.faults g.L.StoreName.store g.L.DevicesName.devices c.answer_write.new.gate c.answer_write.new.slot c.args.session.now c.answer_write.new.session
+    → LeavesChanged g.F.StoreFile.state g.R.RpmbPort.state g.E.Entropy.faults g.L.StoreName.store g.L.DevicesName.devices c.answer_write.new.gate c.answer_write.new.slot c.args.session.now c.answer_write.new.session
     (Write c.args.handle c.args.bytes) c.args.staged c.answer_write.result
 behind g c =
     let found = c.args.found.now in
@@ -38,12 +38,6 @@ behind g c =
 
 pub returns-clause-answered : goal.returns-clause-answered
 returns-clause-answered g c = (behind g c).answered
-
-pub returns-clause-counted : goal.returns-clause-counted
-returns-clause-counted g c = (behind g c).counted
-
-pub returns-clause-still : goal.returns-clause-still
-returns-clause-still g c = (behind g c).still
 
 pub returns-clause-drawn : goal.returns-clause-drawn
 returns-clause-drawn g c = (behind g c).drawn

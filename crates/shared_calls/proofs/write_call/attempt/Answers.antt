@@ -5,7 +5,6 @@ use Rattle.tee_types.specs.declared.call.Call.TheVariants.{Write}
 use Rattle.shared_calls.specs.declared.validation.Validation.{Validation}
 use Rattle.shared_calls.specs.Validations.{EndsLook}
 use Rattle.shared_calls.specs.Attempts.{EndsAttempt}
-use Rattle.serial_calls.proofs.CountGrowth.{grows_grows, grows_le}
 use Rattle.shared_calls.proofs.Waiting.{ends-then}
 use Rattle.shared_calls.proofs.write_call.attempt.Goals as goal
 
@@ -19,10 +18,3 @@ returns-clause-ends g c =
     ends-then store was between ended.new.session
     (subst (λ (x : Validation OpenObject). EndsLook {X = Unit {0}} store was between call (Ok x)) c.in-Found.is c.in_ok-validated.ensures.ends)
     call ended.result (subst (λ (bytes : List ℕ). EndsAttempt store between ended.new.session (Write c.args.handle bytes) ended.result) c.in_ok-kept.ensures ended.ensures.ends)
-
-pub returns-clause-counted : goal.returns-clause-counted
-returns-clause-counted g c =
-    let faults = g.E.Entropy.faults in
-    let was = faults c.args.session.now.entropy in
-    let between = faults c.validate_first.new.session.entropy in
-    grows_grows was between (faults c.write_slot.new.session.entropy) (grows_le was between c.in_ok-validated.ensures.counted) c.write_slot.ensures.counted

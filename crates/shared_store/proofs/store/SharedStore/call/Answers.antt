@@ -1,9 +1,8 @@
 -- Where the attempt in one look ended nothing, the call goes the long way behind it.
-use Rattle.std.proofs.Common.{◌∙◌, Ok, Option, subst}
+use Rattle.std.proofs.Common.{Ok, Option, subst}
 use Rattle.shared_calls.specs.Attempts.{EndsAttempt, IsWaiting}
 use Rattle.shared_calls.specs.declared.PlacedReply.{PlacedReply}
 use Rattle.shared_calls.proofs.CarriedAttempts.{call-grown}
-use Rattle.shared_calls.proofs.CountGrowth.{grows_grows}
 use Rattle.shared_calls.proofs.Waiting.{calls-then, starves-then, waits-same}
 use Rattle.shared_store.proofs.store.SharedStore.call.Goals as goal
 
@@ -30,18 +29,7 @@ returns-clause-ends g c =
     (subst (λ (o : Option PlacedReply). EndsAttempt {X = Unit {0}} store was between c.args.call.now (Ok o)) c.in_default.is c.in_ok-answer.ensures.ends)
     c.args.call.now c.call_from.result c.call_from.ensures.ends
 
-pub returns-clause-counted : goal.returns-clause-counted
-returns-clause-counted g c =
-    grows_grows (g.E.Entropy.faults c.args.session.now.entropy) (g.E.Entropy.faults c.try_at_once.new.session.entropy) (g.E.Entropy.faults c.call_from.new.session.entropy)
-    c.try_at_once.ensures.counted c.call_from.ensures.counted
-
-pub returns-clause-reliable : goal.returns-clause-reliable
-returns-clause-reliable g c = λ reliable. c.call_from.ensures.reliable (c.try_at_once.ensures.reliable reliable)
-
-pub returns-clause-still : goal.returns-clause-still
-returns-clause-still g c = λ reliable. c.call_from.ensures.still (c.try_at_once.ensures.reliable reliable) ∙ c.try_at_once.ensures.still reliable
-
 pub returns-clause-drawn : goal.returns-clause-drawn
 returns-clause-drawn g c =
     call-grown (g.E.Entropy.faults c.args.session.now.entropy) (g.E.Entropy.faults c.try_at_once.new.session.entropy) (g.E.Entropy.faults c.call_from.new.session.entropy) c.call_from.result
-    c.try_at_once.ensures.counted c.call_from.ensures.drawn
+    c.try_at_once.ensures.draws.counted c.call_from.ensures.drawn

@@ -1,13 +1,15 @@
 -- Each attempt goes on from what was waited before it.
-use Rattle.std.proofs.Common.{◌∙◌, Ok, Option, inl, refl, subst}
+use Rattle.std.proofs.Common.{Ok, Option, refl, subst}
 use Rattle.shared_calls.specs.Attempts.{EndsAttempt}
 use Rattle.shared_calls.specs.declared.PlacedReply.{PlacedReply}
-use Rattle.shared_calls.proofs.CountGrowth.{grows_grows}
+use Rattle.shared_calls.proofs.CountGrowth.{draws_none, draws_then}
 use Rattle.shared_calls.proofs.Waiting.{answers-then, starves-then, waits-same, waits-then}
 use Rattle.shared_store.proofs.store.SharedStore.call_from.Goals as goal
 
 pub loop-init : goal.loop-init
-loop-init g c = record { waits = waits-same g.L.StoreName.store c.args.session.now c.requires.caller; counted = inl refl; reliable = λ reliable. reliable; still = λ reliable. refl }
+loop-init g c =
+    let first = c.args.session.now in
+    record { waits = waits-same g.L.StoreName.store first c.requires.caller; draws = draws_none g.E.Entropy.is_reliable g.E.Entropy.faults first.entropy first.entropy refl }
 
 pub loop-preserved : goal.loop-preserved
 loop-preserved g c =
@@ -19,9 +21,7 @@ loop-preserved g c =
     record {
       waits = waits-then store was between now before.waits
           (subst (λ (o : Option PlacedReply). EndsAttempt {X = Unit {0}} store between now c.args.call.now (Ok o)) c.in_default.is c.in_ok-answer.ensures.ends);
-      counted = grows_grows (g.E.Entropy.faults was.entropy) (g.E.Entropy.faults between.entropy) (g.E.Entropy.faults now.entropy) before.counted c.try_once.ensures.counted;
-      reliable = λ reliable. c.try_once.ensures.reliable (before.reliable reliable);
-      still = λ reliable. c.try_once.ensures.still (before.reliable reliable) ∙ before.still reliable;
+      draws = draws_then g.E.Entropy.is_reliable g.E.Entropy.faults was.entropy between.entropy now.entropy before.draws c.try_once.ensures.draws;
     }
 
 pub returns-in-Some-2-clause-ends : goal.returns-in-Some-2-clause-ends

@@ -1,5 +1,4 @@
 -- The attempt is made with the lock, or not at all.
-use Rattle.shared_calls.proofs.CountGrowth.{grows_le}
 use Rattle.shared_calls.proofs.Waiting.{waits-same}
 use Rattle.shared_store.proofs.store.SharedStore.try_at_once.Goals as goal
 
@@ -8,6 +7,3 @@ returns-in_default-clause-ends g c = waits-same g.L.StoreName.store c.args.sessi
 
 pub returns-in_default-try_lock-clause-ends : goal.returns-in_default-try_lock-clause-ends
 returns-in_default-try_lock-clause-ends g c = waits-same g.L.StoreName.store c.args.session.now c.requires.caller
-
-pub returns-clause-counted : goal.returns-clause-counted
-returns-clause-counted g c = grows_le (g.E.Entropy.faults c.args.session.now.entropy) (g.E.Entropy.faults c.attempt_at_once.new.session.entropy) c.attempt_at_once.ensures.counted

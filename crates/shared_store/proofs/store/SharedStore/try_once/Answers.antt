@@ -1,16 +1,14 @@
 -- The attempt follows the validation at the gate. The session that noted the file is as it was.
-use Rattle.std.proofs.Common.{◌≤◌, ◌∙◌, ℕ, ap, subst, sym, Ok}
+use Rattle.std.proofs.Common.{ℕ, subst, sym, Ok}
 use Rattle.shared_calls.specs.CallerSessions.{CallerSession, IsCallerOf}
+use Rattle.shared_calls.specs.Devices.{DrawsOn, Grows}
 use Rattle.shared_calls.specs.declared.validation.Validation.{Validation}
 use Rattle.shared_calls.specs.Attempts.{IsWaiting}
 use Rattle.shared_calls.specs.Validations.{EndsLook}
-use Rattle.shared_calls.proofs.CountGrowth.{grows_grows, grows_le}
 use Rattle.shared_calls.proofs.CarriedAttempts.{attempt-grown}
+use Rattle.shared_calls.proofs.CountGrowth.{draws_then}
 use Rattle.shared_calls.proofs.Waiting.{ends-then}
 use Rattle.shared_store.proofs.store.SharedStore.try_once.Goals as goal
-
-pub returns-in_err-answer-clause-counted : goal.returns-in_err-answer-clause-counted
-returns-in_err-answer-clause-counted g c = grows_le (g.E.Entropy.faults c.args.session.now.entropy) (g.E.Entropy.faults c.file_of.new.session.entropy) c.file_of.ensures.counted
 
 pub attempt-requires-clause-caller : goal.attempt-requires-clause-caller
 attempt-requires-clause-caller g c =
@@ -40,25 +38,17 @@ returns-clause-ends g c =
     (subst (λ (x : Validation ℕ). EndsLook {X = Unit {0}} store was between call (Ok x)) c.in-Found.is c.in_ok-answer.ensures.ends))
     call c.attempt.result c.attempt.ensures.ends
 
-pub returns-clause-counted : goal.returns-clause-counted
-returns-clause-counted g c =
-    let was = g.E.Entropy.faults c.args.session.now.entropy in
-    let between = g.E.Entropy.faults c.note_file.new.session.entropy in
-    let drew : was ≤ between = subst (λ (s : CallerSession g.row.E.Denot). was ≤ g.E.Entropy.faults s.entropy) (sym c.note_file.ensures) c.file_of.ensures.counted in
-    grows_grows was between (g.E.Entropy.faults c.attempt.new.session.entropy) (grows_le was between drew) c.attempt.ensures.counted
-
-pub returns-clause-reliable : goal.returns-clause-reliable
-returns-clause-reliable g c = λ reliable.
-    c.attempt.ensures.reliable (subst (λ (s : CallerSession g.row.E.Denot). g.E.Entropy.is_reliable s.entropy) (sym c.note_file.ensures) (c.file_of.ensures.reliable reliable))
-
-pub returns-clause-still : goal.returns-clause-still
-returns-clause-still g c = λ reliable.
-    c.attempt.ensures.still (subst (λ (s : CallerSession g.row.E.Denot). g.E.Entropy.is_reliable s.entropy) (sym c.note_file.ensures) (c.file_of.ensures.reliable reliable))
-    ∙ ap (λ (s : CallerSession g.row.E.Denot). g.E.Entropy.faults s.entropy) c.note_file.ensures ∙ c.file_of.ensures.still reliable
+pub returns-clause-draws : goal.returns-clause-draws
+returns-clause-draws g c =
+    let reliable = g.E.Entropy.is_reliable in
+    let faults = g.E.Entropy.faults in
+    let was = c.args.session.now.entropy in
+    draws_then reliable faults was c.note_file.new.session.entropy c.attempt.new.session.entropy
+    (subst (λ (s : CallerSession g.row.E.Denot). DrawsOn reliable faults was s.entropy) (sym c.note_file.ensures) c.file_of.ensures.draws) c.attempt.ensures.draws
 
 pub returns-clause-drawn : goal.returns-clause-drawn
 returns-clause-drawn g c =
     let was = g.E.Entropy.faults c.args.session.now.entropy in
     let between = g.E.Entropy.faults c.note_file.new.session.entropy in
-    let drew : was ≤ between = subst (λ (s : CallerSession g.row.E.Denot). was ≤ g.E.Entropy.faults s.entropy) (sym c.note_file.ensures) c.file_of.ensures.counted in
-    attempt-grown was between (g.E.Entropy.faults c.attempt.new.session.entropy) c.attempt.result (grows_le was between drew) c.attempt.ensures.drawn
+    attempt-grown was between (g.E.Entropy.faults c.attempt.new.session.entropy) c.attempt.result
+    (subst (λ (s : CallerSession g.row.E.Denot). Grows was (g.E.Entropy.faults s.entropy)) (sym c.note_file.ensures) c.file_of.ensures.draws.counted) c.attempt.ensures.drawn
