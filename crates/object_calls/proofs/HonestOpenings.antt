@@ -102,7 +102,7 @@ tampered-none files honest = none-below files honest file_count
 -- and then the history is answered, as it stands
 pub answered-honest : (store : Store) (view : GateView) (files : ℕ → FileState) (port : PortState) (doubt : Option ℕ) → LeavesStore store view files port doubt → AreAllHonest files
     → AreAnswered store (nothing_back []) view.all
-answered-honest store view files port doubt leaves honest = elim (leaves.answered (nothing_back []) (sym (tampered-none files honest))) [
+answered-honest store view files port doubt leaves honest = elim ((leaves.altered).answered (nothing_back []) (sym (tampered-none files honest))) [
   | inl answered ↦ answered
   | inr ended ↦
       let given = given_at ended.ends in

@@ -341,28 +341,31 @@ module _ {F R : Type 0} (state : F → FileState) (port : R → PortState) (soun
         (honest_stores_mount store plain g gate.doubt gate.holds card view slots picture (closed plain card supposed_plain answered_plain has)
         (subst (λ (f : ℕ → FileState). IsPictureOf f card picture) (sym same_files) left) (λ file. contains_none file)))
 
-    leaves_honest : (doubt : Option ℕ) → doubt ≡ option_map (λ d. d.number) gate.doubt → LeavesHonest store view files (port gate.host.port) doubt
-    leaves_honest doubt number = record {
-      events_legal = subst (λ (m : ObjectMap). IsLegalFrom [] (opening_with (phase_of store) m) view.all) (opens.unchanged [])
-          (legal_each store plain view.all legal_plain);
-      doubt_left = subst (λ (s : ReplayState). (doubt ≡ doubt_of s) ⊎ (doubt ≡ None)) replay_is (doubted_is doubt number plain answered_plain);
-      mounts = λ card picture has left. subst (IsMapWith store.keys picture (end_replay store view)) (sym number) (map_left card picture has left);
-      counted = λ card has. subst (λ (s : ReplayState). (card.counter ≡ s.counter) ⊎ (doubt ≡ Some card.counter)) replay_is (counted_is doubt number plain card answered_plain has);
-    }
+    leaves_honest : (doubt : Option ℕ) → doubt ≡ option_map (λ d. d.number) gate.doubt → AreNumbered (events_of view.all) → LeavesHonest store view files (port gate.host.port) doubt
+    leaves_honest doubt number numbered =
+        let events_legal = subst (λ (m : ObjectMap). IsLegalFrom [] (opening_with (phase_of store) m) view.all) (opens.unchanged []) (legal_each store plain view.all legal_plain) in
+        let doubt_left = subst (λ (s : ReplayState). (doubt ≡ doubt_of s) ⊎ (doubt ≡ None)) replay_is (doubted_is doubt number plain answered_plain) in record {
+          legal = legal_left doubt numbered [] events_legal doubt_left;
+          events_legal = events_legal;
+          doubt_left = doubt_left;
+          mounts = λ card picture has left. subst (IsMapWith store.keys picture (end_replay store view)) (sym number) (map_left card picture has left);
+          counted = λ card has. subst (λ (s : ReplayState). (card.counter ≡ s.counter) ⊎ (doubt ≡ Some card.counter)) replay_is (counted_is doubt number plain card answered_plain has);
+        }
 
   pub leaves : (doubt : Option ℕ) → doubt ≡ option_map (λ d. d.number) gate.doubt → AreNumbered (events_of view.all) → LeavesStore store view files (port gate.host.port) doubt
   leaves doubt is numbered = record {
     numbered = numbered;
     tagged = tagged;
-    answered = answered_or;
-    mounts = mounts_after doubt is;
-    given = mounts_given doubt is;
-    legal_or_clashed = legal_or doubt is numbered;
-    doubted = doubted_is doubt is;
-    counted = counted_is doubt is;
     current = not_old;
-    honest = λ honest. leaves_honest honest doubt is;
-    legal = λ honest. let left = leaves_honest honest doubt is in legal_left doubt numbered [] left.events_legal left.doubt_left;
+    honest = λ honest. leaves_honest honest doubt is numbered;
+    altered = record {
+      answered = answered_or;
+      mounts = mounts_after doubt is;
+      given = mounts_given doubt is;
+      legal_or_clashed = legal_or doubt is numbered;
+      doubted = doubted_is doubt is;
+      counted = counted_is doubt is;
+    };
   }
 
 -- The parts of a store that is closed: its gate, its history once the sessions' seats were taken in, and its files.

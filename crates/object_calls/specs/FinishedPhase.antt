@@ -101,32 +101,35 @@ abbrev pub IsMapWith : Keys → Picture → ReplayState → (doubt : Option ℕ)
 IsMapWith keys picture s None = mounted keys picture ≡ Ok (s.state).objects
 IsMapWith keys picture s (Some commit) = IsMapLeft keys picture s
 
--- Where every file is honest: each event is legal from the objects that the phase opened with; every picture of the files and the card mounts
+-- Where every file is honest: the history is a legal one of the phase, so each event is legal from the objects that it opened with; every picture of the files and the card mounts
 -- to the map that the history leaves, or, only while a commit is in doubt, to that with it; and the card's counter is the history's, or the
 -- number of that commit.
 pub record LeavesHonest (store : Store) (view : GateView) (files : ℕ → FileState) (port : PortState) (doubt : Option ℕ) : Type 0 where
+  pub legal : IsLegal (phase_of store) [] view.all doubt
   pub events_legal : IsLegalFrom [] (opening (phase_of store)) view.all
   pub doubt_left : (doubt ≡ doubt_of (end_replay store view)) ⊎ (doubt ≡ None)
   pub mounts : (card : CardState) (picture : Picture) → HasCard port (rpmb_key store.keys.huk) card → IsPictureOf files card picture
       → IsMapWith store.keys picture (end_replay store view) doubt
   pub counted : (card : CardState) → HasCard port (rpmb_key store.keys.huk) card → (card.counter ≡ (end_replay store view).counter) ⊎ (doubt ≡ Some card.counter)
 
--- What is said of a store once its phase has ended: of the events in order, the files, the card and the doubt.
-pub record LeavesStore (store : Store) (view : GateView) (files : ℕ → FileState) (port : PortState) (doubt : Option ℕ) : Type 0 where
-  pub numbered : AreNumbered (events_of view.all)
-  -- the tags name files of objects
-  pub tagged : AreOfObjectFiles view.all
+-- What is said where files may have been altered: under tamper scenarios with those files that are not honest.
+pub record LeavesAltered (store : Store) (view : GateView) (files : ℕ → FileState) (port : PortState) (doubt : Option ℕ) : Type 0 where
   pub answered : IsAnsweredOrEnds store view files
   pub mounts : PicturesMountAfter store view files port doubt
   pub given : PicturesMountGiven store view files port doubt
   pub legal_or_clashed : IsLegalOrClashed store view files doubt
   pub doubted : IsDoubtLeft store view doubt
   pub counted : IsCounterLeft store view port doubt
+
+-- What is said of a store once its phase has ended: of the events in order, the files, the card and the doubt. Who trusts his files reads `honest`.
+pub record LeavesStore (store : Store) (view : GateView) (files : ℕ → FileState) (port : PortState) (doubt : Option ℕ) : Type 0 where
+  pub numbered : AreNumbered (events_of view.all)
+  -- the tags name files of objects
+  pub tagged : AreOfObjectFiles view.all
   -- where the directory's file is honest, each file that the card or an entry names is of the current format
   pub current : IsTrue (files directory_file).honest → HasNoOldFile store.keys files port
   pub honest : AreAllHonest files → LeavesHonest store view files port doubt
-  -- so the history is a legal one of the phase
-  pub legal : AreAllHonest files → IsLegal (phase_of store) [] view.all doubt
+  pub altered : LeavesAltered store view files port doubt
 
 -- The devices that are given back are those that were served, in their places.
 pub record GivesBack {F R : Type 0} (state : F → FileState) (s : ServiceValue F R) (files : List F) (card : R) : Type 0 where

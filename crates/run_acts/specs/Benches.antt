@@ -1,13 +1,13 @@
 -- What is known of the devices of a bench.
-use Rattle.std.specs.Prelude.{◌≡◌, ◌≢◌, ◌⊎◌, ℕ}
+use Rattle.std.specs.Prelude.{◌≡◌, ◌≢◌, ◌≤◌, ◌⊎◌, ℕ}
 use Rattle.disk_model.specs.State.{FileState}
 use Rattle.htree_file.specs.Answers.{FilePassed}
-use Rattle.tee_types.specs.Limits.{directory_file}
+use Rattle.tee_types.specs.Limits.{directory_file, file_count}
 use Rattle.rpmb_card.specs.Port.{PortState}
 use Rattle.store_commit.specs.declared.fault.MountFault.{MountFault}
 use Rattle.store_commit.specs.declared.fault.MountFault.TheVariants.{NoMemory}
 use Rattle.object_calls.specs.declared.bench.Bench.{Bench}
-use Rattle.object_calls.specs.OpeningFiles.{files_of}
+use Rattle.object_calls.specs.OpeningFiles.{files_of, no_file}
 use Rattle.object_calls.specs.Opening.{OpeningValue, bench_files}
 use Rattle.object_calls.specs.Syncing.{IsOnlySynced}
 
@@ -15,6 +15,13 @@ use Rattle.object_calls.specs.Syncing.{IsOnlySynced}
 pub record BenchState : Type 0 where
   pub files : ℕ → FileState
   pub card : PortState
+
+-- there is no file past the last
+abbrev pub EndAtLast : (ℕ → FileState) → Type 0
+EndAtLast files = (file : ℕ) → file_count ≤ file → files file ≡ no_file
+
+abbrev pub IsWhole : BenchState → Type 0
+IsWhole bench = EndAtLast bench.files
 
 abbrev pub bench_state : {F R : Type 0} → (F → FileState) → (R → PortState) → Bench F R → BenchState
 bench_state of_file of_port bench = record { files = files_of of_file bench.files.items; card = of_port bench.card }

@@ -1,11 +1,10 @@
 -- A bench whose objects were listed: it was mounted, each object was shown, and it was closed.
-use Rattle.std.specs.Prelude.{◌≡◌, ◌≢◌, ◌≤◌, ℕ, List, IsTrue}
+use Rattle.std.specs.Prelude.{◌≡◌, ◌≢◌, ℕ, List, IsTrue}
 use Rattle.std.specs.Map.{keys_of}
 use Rattle.disk_model.specs.State.{FileState}
 use Rattle.htree_file.specs.Answers.{FileFailed, FilePassed}
 use Rattle.htree_file.specs.Standing.{Told}
 use Rattle.hmac_keys.specs.declared.Keys.{Keys}
-use Rattle.tee_types.specs.Limits.{file_count}
 use Rattle.rpmb_card.specs.Port.{PortState}
 use Rattle.store_model.specs.Object.{ObjectMap}
 use Rattle.tee_types.specs.declared.reply.Cause.TheVariants.{Fault}
@@ -13,9 +12,8 @@ use Rattle.tee_types.specs.declared.reply.Device.TheVariants.{File}
 use Rattle.store_commit.specs.declared.fault.MountFault.{MountFault}
 use Rattle.store_commit.specs.declared.fault.MountFault.TheVariants.{Failed, NoMemory}
 use Rattle.object_calls.specs.Opening.{OpeningValue, bench_files, entries_in}
-use Rattle.object_calls.specs.OpeningFiles.{no_file}
 use Rattle.run_acts.specs.Lines.{objects_text}
-use Rattle.run_acts.specs.Benches.{BenchState, HasPassed, HadMemory, IsStarved, KeepsDevices, opening_state}
+use Rattle.run_acts.specs.Benches.{BenchState, HasPassed, HadMemory, IsStarved, IsWhole, KeepsDevices, opening_state}
 use Rattle.run_acts.specs.Between.{AreSound}
 use Rattle.run_acts.specs.ListedObjects.{IsCutOff, IsListed, objects_of}
 use Rattle.run_acts.specs.MountedDevices.{IsMounted, IsMountRefused, objects_in}
@@ -47,7 +45,7 @@ module _ {F R : Type 0} (of_file : F → FileState) (of_port : R → PortState) 
     pub keeps : KeepsDevices old new
     pub passed : HasPassed old new
     -- there is no file past the last
-    pub past : (file : ℕ) → file_count ≤ file → new.files file ≡ no_file
+    pub past : IsWhole new
 
   -- the bench was mounted, and the listing ended at an object
   pub record IsCutShort (keys : Keys) (old new : BenchState) (drew draws : ℕ) (fault : MountFault) : Type 0 where

@@ -1,8 +1,7 @@
 -- A phase on a bench: it is mounted, served and closed.
-use Rattle.std.specs.Prelude.{◌≡◌, ◌≤◌, ℕ, List}
+use Rattle.std.specs.Prelude.{◌≡◌, ℕ, List}
 use Rattle.disk_model.specs.State.{FileState}
 use Rattle.hmac_keys.specs.declared.Keys.{Keys}
-use Rattle.tee_types.specs.Limits.{file_count}
 use Rattle.rpmb_card.specs.Port.{PortState}
 use Rattle.app_quota.specs.declared.quotas.Quota.{Quota}
 use Rattle.store_model.specs.declared.event.Event.{Event}
@@ -13,8 +12,7 @@ use Rattle.script_text.specs.declared.script.Mode.{Mode}
 use Rattle.script_text.specs.declared.script.Step.{Step}
 use Rattle.object_calls.specs.OpenedStores.{IsStoreOf}
 use Rattle.object_calls.specs.Opening.{OpeningValue, bench_files}
-use Rattle.object_calls.specs.OpeningFiles.{no_file}
-use Rattle.run_acts.specs.Benches.{BenchState, HasPassed, HadMemory, KeepsDevices, opening_state}
+use Rattle.run_acts.specs.Benches.{BenchState, EndAtLast, HasPassed, HadMemory, IsWhole, KeepsDevices, opening_state}
 use Rattle.run_acts.specs.Between.{AreSound}
 use Rattle.run_acts.specs.MountedDevices.{IsMounted, objects_in}
 use Rattle.run_acts.specs.PhaseArms.{IsReady}
@@ -47,7 +45,7 @@ module _ {F R : Type 0} (of_file : F → FileState) (of_port : R → PortState) 
     pub mounts : IsMounted of_file of_port keys old opened
     -- what holds of every file, and there is none past the last
     pub sound : AreSound old.files
-    pub none : (file : ℕ) → file_count ≤ file → bench_files of_file opened file ≡ no_file
+    pub none : EndAtLast (bench_files of_file opened)
     -- the mount changed no bytes, and no call of it failed
     pub keeps : KeepsDevices old (opening_state of_file of_port opened)
     pub passed : HasPassed old (opening_state of_file of_port opened)
@@ -59,4 +57,4 @@ module _ {F R : Type 0} (of_file : F → FileState) (of_port : R → PortState) 
     pub with_memory : HadMemory old new
     -- what holds of every file then, and there is none past the last
     pub sound_left : AreSound new.files
-    pub past : (file : ℕ) → file_count ≤ file → new.files file ≡ no_file
+    pub past : IsWhole new

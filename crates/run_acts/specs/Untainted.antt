@@ -1,5 +1,5 @@
 -- Files that stay honest.
-use Rattle.std.specs.Prelude.{◌≡◌, ◌≤◌, ◌<◌, ℕ, List, [], ◌∷◌, IsTrue}
+use Rattle.std.specs.Prelude.{◌≡◌, ◌<◌, ℕ, List, [], ◌∷◌, IsTrue}
 use Rattle.disk_model.specs.State.{FileState}
 use Rattle.hmac_keys.specs.declared.Keys.{Keys}
 use Rattle.tee_types.specs.Limits.{directory_file, file_count}
@@ -13,9 +13,8 @@ use Rattle.store_model.specs.declared.event.Event.{Event}
 use Rattle.store_model.specs.Object.{ObjectMap}
 use Rattle.store_commit.specs.declared.fault.MountFault.{MountFault}
 use Rattle.object_calls.specs.FinishedPhase.{AreAllHonest}
-use Rattle.object_calls.specs.OpeningFiles.{no_file}
 use Rattle.run_acts.specs.Alterations.{FlipsFile, RestoresFile}
-use Rattle.run_acts.specs.Benches.{BenchState}
+use Rattle.run_acts.specs.Benches.{BenchState, EndAtLast}
 use Rattle.run_acts.specs.Between.{MayCrash}
 use Rattle.run_acts.specs.ListedBenches.{ListsBench}
 use Rattle.run_acts.specs.MountedDevices.{IsMountRefused}
@@ -32,7 +31,7 @@ pub record IsUntainted (file : FileState) : Type 0 where
 -- So is each file of a bench, and there is none past the last.
 pub record AreUntainted (files : ℕ → FileState) : Type 0 where
   pub each : (file : ℕ) → file < file_count → IsUntainted (files file)
-  pub past : (file : ℕ) → file_count ≤ file → files file ≡ no_file
+  pub past : EndAtLast files
 
 -- none of these arms is a mask
 abbrev pub ArmNoMask : List Arm → Type 0

@@ -149,7 +149,7 @@ module _ {F R : Type 0} (of_file : F → FileState) (of_port : R → PortState) 
       objects_are = are_objects;
       scenario = scenario;
       takes = takes;
-      answered = (((p.serves).closes).leaves).answered scenario takes.dishonest_are;
+      answered = ((((p.serves).closes).leaves).altered).answered scenario takes.dishonest_are;
       mends = mend;
     }
       where

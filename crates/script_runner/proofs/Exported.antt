@@ -105,6 +105,6 @@ module _ {F R : Type 0} (of_file : F → FileState) (of_port : R → PortState) 
       → (w.source_ended → (rest : List ℕ) → left_new ≡ Some rest → rest ≡ []) → left_old ≡ Some bytes → length bytes ≤ 16777216 → script_of bytes ≡ Ok script → ¬ w.source_failed → ¬ w.sink_failed → ¬ w.sink_full
       → ExportsItsScript status
   export_completed left_old left_new held_old held_new w drew draws keys handed given folder_old folder_new status bytes script (undone (t, run, ends) failed same) ended told short is source sink room =
-      its_script status (completed left_old left_new held_old held_new w status t bytes script run ended told short is source sink room)
+      its_script status (completed left_old left_new held_old held_new w handed given status t bytes script run ended told short is source sink room)
   export_completed left_old left_new held_old held_new w drew draws keys handed given folder_old folder_new status bytes script (exported between held drawn runs exports) ended told short is source sink room =
       bench_script keys drawn draws between given folder_old folder_new (w.sink_failed ⊎ w.sink_full) held held_new status (⊎_elim sink room) exports

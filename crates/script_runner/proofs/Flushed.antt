@@ -22,7 +22,7 @@ module _ {F R : Type 0} (of_file : F → FileState) (of_port : R → PortState) 
 
   not_put : (status : Status) → Stops held_old held_new run.kept.items [] → IsWriteError failed status → Ends status
   not_put status stops error =
-      EndsFrom-text of_file of_port image Reliable drew draws keys script failed (point_of of_file of_port script held_old run) held_new (standing_of of_file of_port run) [] (acts_of run.mode (drop run.at script.steps)) [] status refl refl stops error
+      EndsFrom-text of_file of_port image Reliable drew draws keys script failed (point_of of_file of_port script held_old run) held_new (standing_of of_file of_port run) [] (acts_of run.mode (drop run.at script.steps)) status refl refl stops error
 
   pub EndsFrom-printed : (status : Status) → PrintsLines failed held_old held_new run.kept.items status → Ends status
   EndsFrom-printed Done t = EndsFrom-done of_file of_port image Reliable drew draws keys script failed (point_of of_file of_port script held_old run) held_new (drop_all run.at script.steps all) t

@@ -1,7 +1,7 @@
 pub mod Steps
 pub mod Sounds
 pub mod SavedMaps
-pub mod Goings
+pub mod Walks
 pub mod Endings
 pub mod Once
 pub mod Turns
@@ -14,9 +14,10 @@ pub mod Exported
 pub mod Soaks
 pub mod Sent
 pub mod RefusedLines
-pub mod GoingFold
 pub mod Alterings
 pub mod RecordLaws
+pub mod Ended
+pub mod OpenedBenches
 pub mod QuietRuns
 pub mod QuotaRuns
 pub mod RunLaws
@@ -24,7 +25,6 @@ pub mod QuietEnds
 pub mod MigrationEnds
 pub mod MigrationTexts
 pub mod AuditTexts
-pub mod RunBenches
 pub mod CalmPorts
 pub mod CalmFiles
 pub mod CountLaws

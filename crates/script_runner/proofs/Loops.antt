@@ -28,11 +28,9 @@ Rose-earlier old mid new le rose = grind (arith, le, rose)
 module _ {F R : Type 0} (of_file : F → FileState) (of_port : R → PortState) (image : FileState → ℕ → ℕ → List ℕ) (Reliable : Type 0) (keys : Keys) (script : ScriptValue) where
   pub Advances-none : (here : Point) → Advances of_file of_port image Reliable keys script here here
   Advances-none here = record {
-    done = [];
     records = [];
     acts = refl;
     goes = refl;
-    arms_are = refl;
     number_is = omega arith;
     sent = ([], Appends-none here.held, append-nil here.kept);
   }
@@ -41,10 +39,12 @@ module _ {F R : Type 0} (of_file : F → FileState) (of_port : R → PortState) 
   EndsFrom-failed drew draws failed more here held given status f e = record {
     put = e.put;
     records = e.records;
+    left = e.left;
     appended = e.appended;
     begins = e.begins;
-    ends = e.ends;
-    cause = HasActCause-failed failed more e.put _ status f e.cause;
+    front = e.front;
+    goes = e.goes;
+    cause = HasActCause-failed failed more e.put _ _ _ status f e.cause;
   }
 
   pub EndsAt-behind : (was drew draws : ℕ) (failed more : Type 0) (held_old held held_new : Option (List ℕ)) (run between : Run F R) (end : RunEnd F R) → was ≡ drew → (failed → more) → Advances of_file of_port image Reliable keys script (point_of of_file of_port script held_old run) (point_of of_file of_port script held between)

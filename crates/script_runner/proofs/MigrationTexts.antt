@@ -1,5 +1,5 @@
 -- What the run of a migration puts.
-use Rattle.std.proofs.Common.{ℕ, ◌≡◌, ◌⊎◌, ◌∙◌, Bool, List, [], ◌++◌, Option, inl, inr, refl, sym, ap, subst}
+use Rattle.std.proofs.Common.{ℕ, ◌≡◌, ◌⊎◌, ◌∙◌, Bool, List, [], ◌++◌, Option, inl, inr, refl, sym, ap, subst, Some}
 use Rattle.std.proofs.lemmas.List.{append-nil}
 use Rattle.disk_model.specs.State.{FileState}
 use Rattle.hmac_keys.specs.declared.Keys.{Keys}
@@ -15,8 +15,9 @@ use Rattle.run_acts.specs.ListedBenches.{IsListRefused, ListsBench}
 use Rattle.run_acts.specs.MigratedBenches.{IsBenchNotMoved, MovesBench}
 use Rattle.script_runner.specs.declared.status.Status.{Status}
 use Rattle.script_runner.specs.declared.status.Status.TheVariants.{DeviceFault, Done, MountRefused, NoMemory, WriteFault}
-use Rattle.script_runner.specs.Migrations.{EndsMigration, EndsRefused, GivenUp, MigratesThen, MigrationRecord, PrintsBehind, RunsMigration, Shown, Starved, Unlisted, migration_output, told_behind}
-use Rattle.script_runner.specs.Prints.{PrintsLines, PrintsRefusal}
+use Rattle.script_runner.specs.Migrations.{GivenUp, MigratesThen, MigrationRecord, PrintsBehind, RunsMigration, Shown, Starved, Unlisted, migration_output, migration_stop, told_behind}
+use Rattle.script_runner.specs.Prints.{MayStopWriting, MayWant, PrintsLines, PrintsRefusal}
+use Rattle.script_runner.specs.Text.{Refused}
 use Rattle.script_runner.specs.RunRefusals.{IsDeviceFault, IsRefusal}
 use Rattle.script_runner.specs.Sending.{Begins, Stops}
 use Rattle.script_runner.proofs.Endings.{refusal_line-none}
@@ -32,7 +33,10 @@ prints_behind failed held_old held_new kept lines text is status t = absurd t
 module _ {F R : Type 0} (of_file : F → FileState) (of_port : R → PortState) (keys : Keys) (drew draws : ℕ) (failed : Type 0) (held_old held_new : Option (List ℕ)) (handed given : BenchState) where
   -- a refusal, with its line behind the text so far
   module _ (what : MigrationRecord) (kept : List ℕ) (fault : MountFault) (line : migration_output what ≡ kept ++ refusal_line fault) (done : MigratesThen of_file of_port keys drew draws what handed given)
-      (ends : (status : Status) → EndsRefused fault status → EndsMigration what status) where
+      (stop : migration_stop what ≡ Some (Refused fault)) where
+    same_stop : (printed : MountFault) → printed ≡ fault → migration_stop what ≡ Some (Refused printed)
+    same_stop printed is = stop ∙ ap (λ f. Some (Refused f)) (sym is)
+
     runs_refused : (status : Status) → PrintsRefusal failed held_old held_new kept fault status → RunsMigration of_file of_port keys drew draws failed held_old held_new handed given status
     runs_refused WriteFault t = record {
       put = t.2.0;
@@ -40,8 +44,7 @@ module _ {F R : Type 0} (of_file : F → FileState) (of_port : R → PortState) 
       appended = t.2.1;
       begins = subst (Begins t.2.0) (sym line) t.2.2;
       done = done;
-      ends = ends WriteFault t.0;
-      cause = t.1;
+      cause = (t.1, subst MayStopWriting (sym stop) t.0);
     }
     runs_refused NoMemory t = record {
       put = t.1.0;
@@ -49,8 +52,7 @@ module _ {F R : Type 0} (of_file : F → FileState) (of_port : R → PortState) 
       appended = t.1.1;
       begins = subst (Begins t.1.0) (sym line) t.1.2;
       done = done;
-      ends = ends NoMemory t.0;
-      cause = tt;
+      cause = subst MayWant (sym stop) t.0;
     }
     runs_refused (MountRefused printed) t = record {
       put = kept ++ refusal_line fault;
@@ -58,8 +60,7 @@ module _ {F R : Type 0} (of_file : F → FileState) (of_port : R → PortState) 
       appended = t.2;
       begins = ([], line ∙ sym (append-nil (kept ++ refusal_line fault)));
       done = done;
-      ends = ends (MountRefused printed) (t.0, t.1);
-      cause = (subst IsRefusal (sym t.0) t.1, sym line);
+      cause = (sym line, same_stop printed t.0, subst IsRefusal (sym t.0) t.1);
     }
     runs_refused (DeviceFault printed) t = by_sink t.2
       where
@@ -73,8 +74,7 @@ module _ {F R : Type 0} (of_file : F → FileState) (of_port : R → PortState) 
           appended = put;
           begins = (refusal_line fault, line);
           done = done;
-          ends = ends (DeviceFault printed) (t.0, t.1);
-          cause = (subst IsDeviceFault (sym t.0) t.1, inl (sym none));
+          cause = (inl (sym none), same_stop printed t.0, subst IsDeviceFault (sym t.0) t.1);
         }
         by_sink (inr x) =
             let stops : Stops held_old held_new kept (refusal_line fault) = Stops-longer held_old held_new kept [] (refusal_line fault) x.1 in
@@ -84,8 +84,7 @@ module _ {F R : Type 0} (of_file : F → FileState) (of_port : R → PortState) 
               appended = stops.1;
               begins = subst (Begins stops.0) (sym line) stops.2;
               done = done;
-              ends = ends (DeviceFault printed) (t.0, t.1);
-              cause = (subst IsDeviceFault (sym t.0) t.1, inr x.0);
+              cause = (inr x.0, same_stop printed t.0, subst IsDeviceFault (sym t.0) t.1);
             }
     runs_refused status t = absurd t
 
@@ -93,14 +92,14 @@ module _ {F R : Type 0} (of_file : F → FileState) (of_port : R → PortState) 
   pub runs_given_up : (kept : List ℕ) → kept ≡ [] → (fault : MountFault) → IsBenchNotMoved keys handed given drew draws fault → (status : Status) → PrintsRefusal failed held_old held_new kept fault status
       → RunsMigration of_file of_port keys drew draws failed held_old held_new handed given status
   runs_given_up kept none fault stops status prints =
-      runs_refused (GivenUp fault) kept fault (ap (λ (text : List ℕ). text ++ refusal_line fault) (sym none)) stops (λ status ends. ends) status prints
+      runs_refused (GivenUp fault) kept fault (ap (λ (text : List ℕ). text ++ refusal_line fault) (sym none)) stops refl status prints
 
   module _ (between : BenchState) (directory : Bool) (moved : ℕ) (kept : List ℕ) (kept_is : kept ≡ migration_line directory moved) (moves : MovesBench keys handed between directory moved) where
     -- it was, and its objects could not be listed
     pub runs_unlisted : (fault : MountFault) → IsListRefused of_file of_port keys between given drew draws fault → (status : Status) → PrintsRefusal failed held_old held_new kept (told_behind fault) status
         → RunsMigration of_file of_port keys drew draws failed held_old held_new handed given status
     runs_unlisted fault refused status prints =
-        runs_refused (Unlisted directory moved fault) kept (told_behind fault) (ap (λ (text : List ℕ). text ++ refusal_line (told_behind fault)) (sym kept_is)) (between, moves, refused) (λ status ends. ends) status prints
+        runs_refused (Unlisted directory moved fault) kept (told_behind fault) (ap (λ (text : List ℕ). text ++ refusal_line (told_behind fault)) (sym kept_is)) (between, moves, refused) refl status prints
 
     -- or were listed
     module _ (objects : ObjectMap) (lists : ListsBench of_file of_port keys between given objects (objects_text objects)) where
@@ -114,8 +113,7 @@ module _ {F R : Type 0} (of_file : F → FileState) (of_port : R → PortState) 
         appended = t;
         begins = ([], line ∙ sym (append-nil (kept ++ objects_text objects)));
         done = (between, moves, lists);
-        ends = tt;
-        cause = sym line;
+        cause = (sym line, refl, tt);
       }
       runs_shown WriteFault t = record {
         put = t.1.0;
@@ -123,8 +121,7 @@ module _ {F R : Type 0} (of_file : F → FileState) (of_port : R → PortState) 
         appended = t.1.1;
         begins = subst (Begins t.1.0) (sym line) t.1.2;
         done = (between, moves, lists);
-        ends = tt;
-        cause = t.0;
+        cause = (t.0, tt);
       }
       runs_shown NoMemory t = record {
         put = [];
@@ -132,7 +129,6 @@ module _ {F R : Type 0} (of_file : F → FileState) (of_port : R → PortState) 
         appended = subst (λ (held : Option (List ℕ)). Appends held_old held []) (sym t) (Appends-none held_old);
         begins = (migration_output (Shown directory moved objects), refl);
         done = (between, moves, lists);
-        ends = tt;
         cause = tt;
       }
       runs_shown status t = absurd t
@@ -152,6 +148,5 @@ module _ {F R : Type 0} (of_file : F → FileState) (of_port : R → PortState) 
     appended = subst (λ (held : Option (List ℕ)). Appends held_old held []) (sym same) (Appends-none held_old);
     begins = (migration_output (Starved directory moved), refl);
     done = moves;
-    ends = tt;
     cause = tt;
   }

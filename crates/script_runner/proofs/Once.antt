@@ -1,5 +1,5 @@
 -- One act of a run.
-use Rattle.std.proofs.Common.{◌≡◌, ◌≢◌, ◌<◌, ◌≤◌, ◌+◌, ℕ, List, [], ◌∷◌, ◌++◌, refl, sym, ap, ◌∙◌, subst, arith, All, Option, drop, length, vec_len, append-nil}
+use Rattle.std.proofs.Common.{◌≡◌, ◌≢◌, ◌<◌, ◌+◌, ℕ, List, [], ◌∷◌, ◌++◌, refl, sym, ap, ◌∙◌, subst, arith, All, Option, drop, length, vec_len, append-nil}
 use Rattle.disk_model.specs.State.{FileState}
 use Rattle.hmac_keys.specs.declared.Keys.{Keys}
 use Rattle.tee_types.specs.Limits.{file_count}
@@ -16,24 +16,25 @@ use Rattle.script_text.specs.Text.{control_line, events_text, phase_line}
 use Rattle.run_acts.specs.Lines.{objects_text}
 use Rattle.store_model.specs.Object.{ObjectMap}
 use Rattle.script_runner.proofs.Steps.{place-lt}
-use Rattle.run_acts.specs.Benches.{BenchState, bench_state}
+use Rattle.run_acts.specs.Benches.{BenchState, bench_state, IsWhole}
 use Rattle.script_runner.specs.Sending.{Sends, Stops}
 use Rattle.script_runner.specs.declared.status.Status.{Status}
 use Rattle.script_runner.specs.declared.status.Status.TheVariants.{NoMemory}
 use Rattle.script_runner.specs.declared.run_state.Run.{Run}
 use Rattle.script_runner.specs.declared.run_state.RunEnd.{RunEnd}
 use Rattle.script_runner.specs.RefusedLines.{refused_lines}
-use Rattle.script_runner.specs.Text.{Act, Controlled, Do, Listed, PhaseRecord, Ran, RunRecord, Serve, acts_of, acts_text, mode_behind, phase_text}
+use Rattle.script_runner.specs.Text.{Act, Controlled, Do, Listed, PhaseRecord, Ran, ActOutcome, Serve, acts_of, acts_text, mode_behind, phase_text, Refused}
 use Rattle.script_runner.specs.Trace.{applications_of}
-use Rattle.script_runner.specs.Course.{Goes, RefusesFirst}
-use Rattle.script_runner.specs.Points.{arms_behind, phases_in, point_of, standing_of}
+use Rattle.script_runner.specs.Course.{Does, StopsAt}
+use Rattle.script_runner.specs.Points.{phases_in, point_of, standing_of}
 use Rattle.script_runner.specs.RunReady.{IsNext, IsReady}
 use Rattle.script_runner.specs.Running.{EndsAt, EndsFrom, GoesOn}
 use Rattle.script_runner.specs.Prints.{IsCutOff, IsSent, PrintsExcess, PrintsRefusal}
-use Rattle.run_acts.specs.OpeningFiles.{files_of, no_file}
 use Rattle.run_acts.specs.Crashes.{CrashesInPart}
 use Rattle.run_acts.specs.PhaseOutcomes.{OverCommits}
 use Rattle.script_runner.proofs.Endings.{EndsFrom-crashed, EndsFrom-exceeded, EndsFrom-no_memory, EndsFrom-refused, EndsFrom-text}
+use Rattle.script_runner.specs.Records.{RunRecord}
+use Rattle.script_runner.specs.SavedFiles.{with_bench}
 
 -- the text of a control that is no list
 pub control_text : (script : ScriptValue) (number : ℕ) (control : Control) → control ≢ ListControl → acts_text script number (Do control ∷ []) (Controlled ∷ []) ≡ control_line control
@@ -59,26 +60,24 @@ phase_text_is script number mode objects calls phase e =
 
 module _ {F R : Type 0} (of_file : F → FileState) (of_port : R → PortState) (image : FileState → ℕ → ℕ → List ℕ) (Reliable : Type 0) (keys : Keys) (script : ScriptValue) where
   -- What an act did to a run, but for its text: `behind` is the run with the bench, the arms, the mode and the place as they are then.
-  pub record HasDone (act : Act) (records : List RunRecord) (run behind : Run F R) : Type 0 where
+  pub record HasDone (act : Act) (outcome : ActOutcome) (run behind : Run F R) : Type 0 where
     pub acts : acts_of run.mode (drop run.at script.steps) ≡ act ∷ acts_of behind.mode (drop behind.at script.steps)
-    pub goes : Goes of_file of_port image Reliable keys (applications_of script) run.arms.items (act ∷ []) records (standing_of of_file of_port run) (standing_of of_file of_port behind)
-    pub arms_are : behind.arms.items ≡ arms_behind run.arms.items (act ∷ [])
+    pub does : Does of_file of_port image Reliable keys (applications_of script) act outcome (standing_of of_file of_port run) (standing_of of_file of_port behind)
     pub number_is : behind.number ≡ run.number + phases_in (act ∷ [])
     pub kept_is : behind.kept.items ≡ run.kept.items
     pub ready : IsReady script behind
     pub further : run.at < behind.at
 
   -- a control was done: the place is the next one, and the bench, the arms and the mode are as the control says
-  pub HasDone-control : (control : Control) (records : List RunRecord) (run behind : Run F R) → IsReady script run → IsNext script run (ControlStep control)
-      → Goes of_file of_port image Reliable keys (applications_of script) run.arms.items (Do control ∷ []) records (standing_of of_file of_port run) (standing_of of_file of_port behind)
-      → behind.arms.items ≡ arms_behind run.arms.items (Do control ∷ []) → All IsArm behind.arms.items → vec_len behind.bench.files ≡ file_count
-      → behind.number ≡ run.number → behind.mode ≡ mode_behind run.mode control → behind.kept.items ≡ run.kept.items → behind.at ≡ run.at + 1 → HasDone (Do control) records run behind
-  HasDone-control control records run behind ready next goes arms_are arms whole number mode kept at =
+  pub HasDone-control : (control : Control) (outcome : ActOutcome) (run behind : Run F R) → IsReady script run → IsNext script run (ControlStep control)
+      → Does of_file of_port image Reliable keys (applications_of script) (Do control) outcome (standing_of of_file of_port run) (standing_of of_file of_port behind)
+      → All IsArm behind.arms.items → vec_len behind.bench.files ≡ file_count
+      → behind.number ≡ run.number → behind.mode ≡ mode_behind run.mode control → behind.kept.items ≡ run.kept.items → behind.at ≡ run.at + 1 → HasDone (Do control) outcome run behind
+  HasDone-control control outcome run behind ready next does arms whole number mode kept at =
       let inside = place-lt script.steps (drop (run.at + 1) script.steps) run.at (ControlStep control) next in record {
         acts = ap (acts_of run.mode) next ∙ ap (λ (m : Mode). Do control ∷ acts_of m (drop (run.at + 1) script.steps)) (sym mode)
             ∙ ap (λ n. Do control ∷ acts_of behind.mode (drop n script.steps)) (sym at);
-        goes = goes;
-        arms_are = arms_are;
+        does = does;
         number_is = omega (arith, number);
         kept_is = kept;
         ready = record { within = omega (arith, at, inside); phases = omega (arith, at, number, ready.phases); arms = arms; whole = whole };
@@ -93,33 +92,41 @@ module _ {F R : Type 0} (of_file : F → FileState) (of_port : R → PortState) 
     whole = rw s.bench r.whole;
   }
 
-  pub GoesOn-act : (held_old held_new : Option (List ℕ)) (act : Act) (records : List RunRecord) (run behind next : Run F R) → HasDone act records run behind → IsSent held_old held_new (acts_text script run.number (act ∷ []) records) behind next → GoesOn of_file of_port image Reliable keys script held_old held_new run next
-  GoesOn-act held_old held_new act records run behind next d s = record {
+  abbrev pub recorded : Act → ActOutcome → (run behind : Run F R) → RunRecord
+  recorded act outcome run behind = record { act = act; outcome = outcome; before = standing_of of_file of_port run; behind = standing_of of_file of_port behind }
+
+  pub GoesOn-act : (held_old held_new : Option (List ℕ)) (act : Act) (outcome : ActOutcome) (run behind next : Run F R) → HasDone act outcome run behind → IsSent held_old held_new (acts_text script run.number (act ∷ []) (outcome ∷ [])) behind next → GoesOn of_file of_port image Reliable keys script held_old held_new run next
+  GoesOn-act held_old held_new act outcome run behind next d s = record {
     advances = record {
-      done = act ∷ [];
-      records = records;
+      records = recorded act outcome run next ∷ [];
       acts = rw (s.at, s.mode) d.acts;
-      goes = rw (s.bench, s.saved, s.quotas) d.goes;
-      arms_are = rw s.arms d.arms_are;
+      goes = (refl, rw (s.bench, s.saved, s.quotas, s.arms) d.does, refl);
       number_is = s.number ∙ d.number_is;
-      sent = subst (λ k. Sends held_old held_new k next.kept.items (acts_text script run.number (act ∷ []) records)) d.kept_is s.sends;
+      sent = subst (λ k. Sends held_old held_new k next.kept.items (acts_text script run.number (act ∷ []) (outcome ∷ []))) d.kept_is s.sends;
     };
     ready = IsReady-sent held_old held_new _ behind next s d.ready;
     further = omega (arith, s.at, d.further);
   }
 
 module _ {F R : Type 0} (of_file : F → FileState) (of_port : R → PortState) (image : FileState → ℕ → ℕ → List ℕ) (Reliable : Type 0) (drew draws : ℕ) (keys : Keys) (script : ScriptValue) where
-  pub EndsAt-act : (failed : Type 0) (held_old held_new : Option (List ℕ)) (act : Act) (records : List RunRecord) (run behind : Run F R) (end : RunEnd F R) → HasDone of_file of_port image Reliable keys script act records run behind → IsCutOff failed held_old held_new (acts_text script run.number (act ∷ []) records) behind end → EndsAt of_file of_port image Reliable drew draws keys script failed held_old held_new run end
-  EndsAt-act failed held_old held_new act records run behind end d s = record {
+  pub EndsAt-act : (failed : Type 0) (held_old held_new : Option (List ℕ)) (act : Act) (outcome : ActOutcome) (run behind : Run F R) (end : RunEnd F R) → HasDone of_file of_port image Reliable keys script act outcome run behind → IsCutOff failed held_old held_new (acts_text script run.number (act ∷ []) (outcome ∷ [])) behind end → EndsAt of_file of_port image Reliable drew draws keys script failed held_old held_new run end
+  EndsAt-act failed held_old held_new act outcome run behind end d s = record {
     ends = rw s.bench
-        (EndsFrom-text of_file of_port image Reliable drew draws keys script failed (point_of of_file of_port script held_old run) held_new (standing_of of_file of_port behind) (act ∷ []) (acts_of behind.mode (drop behind.at script.steps)) records end.status
-        d.acts d.goes (subst (λ k. Stops held_old held_new k (acts_text script run.number (act ∷ []) records)) d.kept_is s.stops) s.error);
+        (EndsFrom-text of_file of_port image Reliable drew draws keys script failed (point_of of_file of_port script held_old run) held_new (standing_of of_file of_port behind)
+        (recorded of_file of_port image Reliable keys script act outcome run behind ∷ []) (acts_of behind.mode (drop behind.at script.steps)) end.status
+        d.acts (refl, d.does, refl) (subst (λ k. Stops held_old held_new k (acts_text script run.number (act ∷ []) (outcome ∷ []))) d.kept_is s.stops) s.error);
     whole = rw s.bench d.ready.whole;
   }
 
-  pub EndsAt-refused : (failed : Type 0) (held_old held_new : Option (List ℕ)) (run : Run F R) (end : RunEnd F R) (fault : MountFault) → RefusesFirst of_file of_port image Reliable drew draws keys (applications_of script) run.arms.items (acts_of run.mode (drop run.at script.steps)) (standing_of of_file of_port run) (bench_state of_file of_port end.bench) fault → PrintsRefusal failed held_old held_new run.kept.items fault end.status → vec_len end.bench.files ≡ file_count → EndsAt of_file of_port image Reliable drew draws keys script failed held_old held_new run end
-  EndsAt-refused failed held_old held_new run end fault h t whole = record {
-    ends = EndsFrom-refused of_file of_port image Reliable drew draws keys script failed (point_of of_file of_port script held_old run) held_new (bench_state of_file of_port end.bench) fault end.status h t;
+  -- what the run stops at, on that bench
+  abbrev pub StopsOn : (run : Run F R) (given : BenchState) → Act → ActOutcome → Type 0
+  StopsOn run given act outcome =
+      StopsAt of_file of_port image Reliable keys (applications_of script) drew draws act outcome (standing_of of_file of_port run) (with_bench (standing_of of_file of_port run) given)
+
+  pub EndsAt-refused : (failed : Type 0) (held_old held_new : Option (List ℕ)) (run : Run F R) (end : RunEnd F R) (fault : MountFault) (act : Act) (left : List Act) → acts_of run.mode (drop run.at script.steps) ≡ act ∷ left
+      → StopsOn run (bench_state of_file of_port end.bench) act (Refused fault) → PrintsRefusal failed held_old held_new run.kept.items fault end.status → vec_len end.bench.files ≡ file_count → EndsAt of_file of_port image Reliable drew draws keys script failed held_old held_new run end
+  EndsAt-refused failed held_old held_new run end fault act left next h t whole = record {
+    ends = EndsFrom-refused of_file of_port image Reliable drew draws keys script (point_of of_file of_port script held_old run) (bench_state of_file of_port end.bench) act left next failed held_new fault h end.status t;
     whole = whole;
   }
 
@@ -140,8 +147,8 @@ module _ {F R : Type 0} (of_file : F → FileState) (of_port : R → PortState) 
       → CrashesInPart image seed (bench_state of_file of_port run.bench) (bench_state of_file of_port end.bench) → vec_len end.bench.files ≡ file_count → EndsAt of_file of_port image Reliable drew draws keys script failed held held run end
   EndsAt-crashed failed held run end seed next is crashes whole = record {
     ends = rw is
-        (EndsFrom-crashed of_file of_port image Reliable drew draws keys script failed (point_of of_file of_port script held run) (bench_state of_file of_port end.bench) seed
-        (acts_of run.mode (drop (run.at + 1) script.steps)) (ap (acts_of run.mode) next) crashes);
+        (EndsFrom-crashed of_file of_port image Reliable drew draws keys script (point_of of_file of_port script held run) (bench_state of_file of_port end.bench) (Do (Crash seed))
+        (acts_of run.mode (drop (run.at + 1) script.steps)) (ap (acts_of run.mode) next) failed (seed, refl, (crashes, refl)));
     whole = whole;
   }
 
@@ -149,7 +156,7 @@ module _ {F R : Type 0} (of_file : F → FileState) (of_port : R → PortState) 
   pub EndsAt-exceeded : (failed : Type 0) (held_old held_new : Option (List ℕ)) (run : Run F R) (end : RunEnd F R) (mode : Mode) (calls : List Step) (left : List Act) (sum : ℕ)
       → acts_of run.mode (drop run.at script.steps) ≡ Serve mode calls ∷ left
       → OverCommits of_file of_port keys (applications_of script) run.quotas.items (bench_state of_file of_port run.bench) (bench_state of_file of_port end.bench) sum
-      → ((file : ℕ) → file_count ≤ file → files_of of_file end.bench.files.items file ≡ no_file) → PrintsExcess failed held_old held_new run.kept.items sum end.status → vec_len end.bench.files ≡ file_count
+      → IsWhole (bench_state of_file of_port end.bench) → PrintsExcess failed held_old held_new run.kept.items sum end.status → vec_len end.bench.files ≡ file_count
       → EndsAt of_file of_port image Reliable drew draws keys script failed held_old held_new run end
   EndsAt-exceeded failed held_old held_new run end mode calls left sum next over past prints whole = record {
     ends = EndsFrom-exceeded of_file of_port image Reliable drew draws keys script failed (point_of of_file of_port script held_old run) held_new (bench_state of_file of_port end.bench) sum mode calls left

@@ -1,5 +1,5 @@
 -- A run, from its first act to its end.
-use Rattle.std.proofs.Common.{◌≡◌, ◌⊎◌, inl, inr, ℕ, List, [], ◌∷◌, ◌++◌, refl, sym, ◌∙◌, subst, Option, None, Some}
+use Rattle.std.proofs.Common.{◌≡◌, ◌⊎◌, inl, inr, ℕ, List, [], ◌∷◌, ◌++◌, refl, sym, ◌∙◌, subst, Option, None, Some, ap}
 use Rattle.std.proofs.lemmas.List.{append-nil}
 use Rattle.disk_model.specs.State.{FileState}
 use Rattle.hmac_keys.specs.declared.Keys.{Keys}
@@ -15,11 +15,12 @@ use Rattle.script_runner.specs.declared.status.Status.{Status}
 use Rattle.script_runner.specs.declared.status.Status.TheVariants.{DeviceFault, MountRefused, NoMemory, WriteFault}
 use Rattle.script_runner.specs.Sending.{Begins, Stops}
 use Rattle.script_runner.specs.RunRefusals.{IsDeviceFault, IsRefusal}
-use Rattle.script_runner.specs.Text.{Act, RunRecord}
-use Rattle.script_runner.specs.Ending.{EndsRun, NotOpened, Shut}
+use Rattle.script_runner.specs.Records.{RunRecord, outcomes_in}
+use Rattle.script_runner.specs.Text.{Act, ActOutcome, Refused, run_stop}
+use Rattle.script_runner.specs.Ending.{RunsBench}
 use Rattle.script_runner.specs.Points.{Point}
 use Rattle.script_runner.specs.Running.{EndsFrom, RunsActs, RunsScript}
-use Rattle.script_runner.specs.Prints.{PrintsRefusal}
+use Rattle.script_runner.specs.Prints.{MayStopWriting, MayWant, PrintsRefusal}
 use Rattle.script_runner.specs.SavedFiles.{nothing_saved}
 use Rattle.script_runner.proofs.Endings.{refusal_line-none}
 
@@ -33,70 +34,65 @@ module _ {F R : Type 0} (of_file : F → FileState) (of_port : R → PortState) 
   nothing [] a rest e = a
   nothing (b ∷ put) a rest e = absurd cc
 
-  -- acts whose whole text is the line of a refusal
-  module _ (applications : List (List ℕ)) (acts : List Act) (output : Option MountFault → List RunRecord → List ℕ) (start : Option MountFault) (records : List RunRecord) (given : BenchState) (fault : MountFault) (line : output start records ≡ refusal_line fault) where
-    pub RunsActs-refused : (status : Status) → EndsRun of_file of_port image Reliable drew draws keys applications acts start records handed given status → PrintsRefusal failed held_old held_new [] fault status
+  -- acts whose whole text is the line of the refusal at which they stopped
+  module _ (applications : List (List ℕ)) (acts : List Act) (output : Option MountFault → List ActOutcome → List ℕ) (start : Option MountFault) (records : List RunRecord) (given : BenchState) (fault : MountFault)
+      (line : output start (outcomes_in records) ≡ refusal_line fault) (stop : run_stop start (outcomes_in records) ≡ Some (Refused fault))
+      (bench : RunsBench of_file of_port image Reliable drew draws keys applications acts start records handed given) where
+    same_stop : (printed : MountFault) → printed ≡ fault → run_stop start (outcomes_in records) ≡ Some (Refused printed)
+    same_stop printed is = stop ∙ ap (λ f. Some (Refused f)) (sym is)
+
+    pub RunsActs-refused : (status : Status) → PrintsRefusal failed held_old held_new [] fault status
         → RunsActs of_file of_port image Reliable drew draws keys applications acts output failed held_old held_new handed given status
-    RunsActs-refused WriteFault ends t = record {
+    RunsActs-refused WriteFault t = record {
       put = t.2.0;
       start = start;
       records = records;
       appended = t.2.1;
       begins = subst (Begins t.2.0) (sym line) t.2.2;
-      ends = ends;
-      cause = t.1;
+      bench = bench;
+      cause = (t.1, subst MayStopWriting (sym stop) t.0);
     }
-    RunsActs-refused NoMemory ends t = record {
+    RunsActs-refused NoMemory t = record {
       put = t.1.0;
       start = start;
       records = records;
       appended = t.1.1;
       begins = subst (Begins t.1.0) (sym line) t.1.2;
-      ends = ends;
-      cause = tt;
+      bench = bench;
+      cause = subst MayWant (sym stop) t.0;
     }
-    RunsActs-refused (MountRefused printed) ends t = record {
+    RunsActs-refused (MountRefused printed) t = record {
       put = refusal_line fault;
       start = start;
       records = records;
       appended = t.2;
       begins = ([], line ∙ sym (append-nil (refusal_line fault)));
-      ends = ends;
-      cause = (subst IsRefusal (sym t.0) t.1, sym line);
+      bench = bench;
+      cause = (sym line, same_stop printed t.0, subst IsRefusal (sym t.0) t.1);
     }
-    RunsActs-refused (DeviceFault printed) ends t = record {
+    RunsActs-refused (DeviceFault printed) t = record {
       put = [];
       start = start;
       records = records;
       appended = one t.2;
-      begins = (output start records, refl);
-      ends = ends;
-      cause = (subst IsDeviceFault (sym t.0) t.1, inl (sym (line ∙ refusal_line-none fault t.1)));
+      begins = (output start (outcomes_in records), refl);
+      bench = bench;
+      cause = (inl (sym (line ∙ refusal_line-none fault t.1)), same_stop printed t.0, subst IsDeviceFault (sym t.0) t.1);
     }
       where
         one : Appends held_old held_new [] ⊎ (failed × Stops held_old held_new [] []) → Appends held_old held_new []
         one (inl put) = put
         one (inr x) = nothing x.1.0 x.1.1 x.1.2.0 x.1.2.1
-    RunsActs-refused status ends t = absurd t
+    RunsActs-refused status t = absurd t
 
-  -- the bench was not opened
-  module _ (given : BenchState) (fault : MountFault) (refused : IsOpenRefused keys handed given drew draws fault) where
-    not_opened : (printed : MountFault) → printed ≡ fault → NotOpened of_file of_port image Reliable drew draws keys (Some fault) [] handed given printed
-    not_opened printed same = subst (λ (f : MountFault). NotOpened of_file of_port image Reliable drew draws keys (Some fault) [] handed given f) (sym same) (record { shown = refl; none = refl; refused = refused })
-
-    shut : (status : Status) → PrintsRefusal failed held_old held_new [] fault status → Shut of_file of_port image Reliable drew draws keys (Some fault) [] handed given status
-    shut WriteFault t = (fault, t.0, not_opened fault refl)
-    shut NoMemory t = (fault, t.0, not_opened fault refl)
-    shut (MountRefused printed) t = not_opened printed t.0
-    shut (DeviceFault printed) t = not_opened printed t.0
-    shut status t = absurd t
-
-    -- where no text was kept
-    pub RunsActs-unopened : (applications : List (List ℕ)) (acts : List Act) (output : Option MountFault → List RunRecord → List ℕ) → output (Some fault) [] ≡ refusal_line fault → (kept : List ℕ) → kept ≡ [] → (status : Status) → PrintsRefusal failed held_old held_new kept fault status
-        → RunsActs of_file of_port image Reliable drew draws keys applications acts output failed held_old held_new handed given status
-    RunsActs-unopened applications acts output line kept none status prints =
-        let printed = subst (λ k. PrintsRefusal failed held_old held_new k fault status) none prints in
-        RunsActs-refused applications acts output (Some fault) [] given fault line status (inr (shut status printed)) printed
+  -- the bench was not opened, and no text was kept
+  pub RunsActs-unopened : (given : BenchState) (fault : MountFault) → IsOpenRefused keys handed given drew draws fault
+      → (applications : List (List ℕ)) (acts : List Act) (output : Option MountFault → List ActOutcome → List ℕ) → output (Some fault) [] ≡ refusal_line fault → (kept : List ℕ) → kept ≡ [] → (status : Status) → PrintsRefusal failed held_old held_new kept fault status
+      → RunsActs of_file of_port image Reliable drew draws keys applications acts output failed held_old held_new handed given status
+  RunsActs-unopened given fault refused applications acts output line kept none status prints =
+      RunsActs-refused applications acts output (Some fault) [] given fault line refl
+      (record { left = acts; front = refl; bench = inr (record { fault = fault; shown = refl; none = refl; refused = refused }) })
+      status (subst (λ k. PrintsRefusal failed held_old held_new k fault status) none prints)
 
   pub RunsScript-opened : (script : ScriptValue) (between given : BenchState) (status : Status) → OpensBench keys handed between → EndsFrom of_file of_port image Reliable drew draws keys script failed (first_point held_old between script) held_new given status → RunsScript of_file of_port image Reliable drew draws keys script failed held_old held_new handed given status
   RunsScript-opened script between given status opens e = record {
@@ -105,6 +101,6 @@ module _ {F R : Type 0} (of_file : F → FileState) (of_port : R → PortState) 
     records = e.records;
     appended = e.appended;
     begins = e.begins;
-    ends = inl (record { shown = refl; between = between; opens = opens; ends = e.ends });
+    bench = record { left = e.left; front = e.front; bench = inl (record { shown = refl; between = between; opens = opens; goes = e.goes }) };
     cause = e.cause;
   }

@@ -1,5 +1,5 @@
 -- A soak, from its parts to the whole.
-use Rattle.std.proofs.Common.{◌≡◌, ◌⊎◌, ℕ, inl, inr, List, [], ◌∷◌, ◌++◌, length, map, drop, take, refl, sym, ap, ◌∙◌, subst, arith, append-nil, Option, None, zero, suc}
+use Rattle.std.proofs.Common.{◌≡◌, ◌⊎◌, ℕ, inl, inr, List, [], ◌∷◌, ◌++◌, length, map, drop, take, refl, sym, ap, ◌∙◌, subst, arith, append-nil, Option, None, Some, zero, suc}
 use Rattle.std.specs.List.{prefix_len}
 use Rattle.std.proofs.lemmas.List.{take_all}
 use Rattle.disk_model.specs.State.{FileState}
@@ -28,12 +28,14 @@ use Rattle.seed_words.specs.Joined.{joined}
 use Rattle.seed_words.specs.Scripts.{app_calls, app_steps, soak_calls, soak_script}
 use Rattle.script_runner.specs.Trace.{applications_of}
 use Rattle.script_runner.specs.RunRefusals.{IsDeviceFault, IsRefusal}
-use Rattle.script_runner.specs.Text.{Do, Listed, PhaseRecord, Ran, Refused, RunRecord, Serve}
-use Rattle.script_runner.specs.Ending.{EndsActs, EndsForMemory, EndsRun, RecordsRefusal}
+use Rattle.script_runner.specs.Records.{RunRecord, acts_in, outcomes_in}
+use Rattle.script_runner.specs.Text.{Act, ActOutcome, Do, Listed, PhaseRecord, Ran, Refused, Serve, stop_of}
+use Rattle.script_runner.specs.Ending.{GoesThrough, RunsBench}
 use Rattle.script_runner.specs.SavedFiles.{begins_with}
-use Rattle.script_runner.specs.Soaks.{GoesThrough, IsBroken, RunsSoak, PrintsObjects, broken, soak_acts, soak_applications, soak_output, starved}
-use Rattle.script_runner.specs.Prints.{PrintsLines, PrintsRefusal}
+use Rattle.script_runner.specs.Soaks.{IsBroken, IsThrough, PrintsObjects, RunsSoak, soak_acts, soak_applications, soak_output}
+use Rattle.script_runner.specs.Prints.{MayStopWriting, MayWant, PrintsLines, PrintsRefusal}
 use Rattle.script_runner.proofs.Scripts.{RunsActs-refused}
+use Rattle.script_runner.proofs.Walks.{goes-acts, goes-through}
 
 -- the calls of an application are calls
 prefix_len-app : (app : ℕ) (calls : List Call) → prefix_len is_call (map (CallStep app) calls) ≡ length (map (CallStep app) calls)
@@ -93,12 +95,22 @@ module _ {F R : Type 0} (of_file : F → FileState) (of_port : R → PortState) 
       as_soak number (λ a c. RunsPhase of_file of_port Reliable keys a [] [] Threads c old new phase.opening phase.events phase.refused) script applications calls is apps_are calls_are
       (runs_where of_file of_port Later Reliable keys applications [] [] Threads calls old new phase.opening phase.events phase.refused lasts runs)
 
+  -- what is recorded of the phase, and of the list behind it
+  abbrev of_phase : (old between : BenchState) → ActOutcome → RunRecord
+  of_phase old between outcome = record { act = Serve Threads (soak_calls number); outcome = outcome; before = begins_with old; behind = begins_with between }
+
+  abbrev of_list : (between new : BenchState) → ActOutcome → RunRecord
+  of_list between new outcome = record { act = Do ListControl; outcome = outcome; before = begins_with between; behind = begins_with new }
+
   -- both acts were done
-  pub GoesThrough-acts : (old between new : BenchState) (phase : PhaseRecord) (lines : List ℕ) → SoakPhase old between phase → PrintsObjects of_file of_port keys number phase.events between new lines
-      → GoesThrough of_file of_port image Reliable keys number old new lines
-  GoesThrough-acts old between new phase lines runs printed = record {
-    records = Ran phase ∷ Listed printed.objects ∷ [];
-    goes = (between, runs, (new, printed.lists, refl));
+  pub IsThrough-acts : (old between new : BenchState) (phase : PhaseRecord) (lines : List ℕ) → SoakPhase old between phase → PrintsObjects of_file of_port keys number phase.events between new lines
+      → IsThrough of_file of_port image Reliable keys number old new lines
+  IsThrough-acts old between new phase lines runs printed = record {
+    records = of_phase old between (Ran phase) ∷ of_list between new (Listed printed.objects) ∷ [];
+    last = begins_with new;
+    goes = (refl, (runs, refl), (refl, (refl, (printed.lists, refl)), refl));
+    new_is = refl;
+    acts_are = refl;
     lines_are = printed.lines_are;
   }
 
@@ -107,22 +119,34 @@ module _ {F R : Type 0} (of_file : F → FileState) (of_port : R → PortState) 
     pub IsBroken-phase : (old new : BenchState) (fault : MountFault)
         → HoldsOfAdmitted [] (soak_calls number) (λ steps. IsGivenUp of_file of_port keys (soak_applications number) [] Threads steps old new drew draws fault)
         → IsBroken of_file of_port image Reliable keys number drew draws old new fault
-    IsBroken-phase old new fault given_up =
-        broken (Refused fault ∷ []) ([], refl, record { left = soak_acts number; between = old; goes = record { done = []; front = refl; there = begins_with old; goes = refl }; refused = given_up }) refl
+    IsBroken-phase old new fault given_up = record {
+      records = of_phase old new (Refused fault) ∷ [];
+      left = Do ListControl ∷ [];
+      front = refl;
+      goes = record { last = begins_with new; acts = (refl, inr ((given_up, refl), refl), refl); given_is = refl };
+      why = inl (refl, refl);
+    }
 
     -- the list was refused
     IsBroken-list : (old between new : BenchState) (phase : PhaseRecord) (fault : MountFault) → SoakPhase old between phase → IsListRefused of_file of_port keys between new drew draws fault
         → IsBroken of_file of_port image Reliable keys number drew draws old new fault
-    IsBroken-list old between new phase fault runs refused =
-        broken (Ran phase ∷ Refused fault ∷ []) (
-          Ran phase ∷ [],
-          refl,
-          record { left = Do ListControl ∷ []; between = between; goes = record { done = Serve Threads (soak_calls number) ∷ []; front = refl; there = begins_with old; goes = (between, runs, refl) }; refused = refused },
-        ) refl
+    IsBroken-list old between new phase fault runs refused = record {
+      records = of_phase old between (Ran phase) ∷ of_list between new (Refused fault) ∷ [];
+      left = [];
+      front = refl;
+      goes = record { last = begins_with new; acts = (refl, inl (runs, refl), (refl, inr ((refl, (refused, refl)), refl), refl)); given_is = refl };
+      why = inl (refl, refl);
+    }
 
     -- there was no memory for the script, and nothing was done
     pub IsBroken-undone : (old : BenchState) → IsBroken of_file of_port image Reliable keys number drew draws old old NoMemoryFault
-    IsBroken-undone old = starved [] refl (inl (soak_acts number, record { done = []; front = refl; there = begins_with old; goes = refl }))
+    IsBroken-undone old = record {
+      records = [];
+      left = soak_acts number;
+      front = refl;
+      goes = record { last = begins_with old; acts = refl; given_is = refl };
+      why = inr (refl, refl);
+    }
 
     -- what was printed of the list says that it was refused, or that there was no memory for the lines of all that was done; no draw failed in
     -- the phase
@@ -131,78 +155,90 @@ module _ {F R : Type 0} (of_file : F → FileState) (of_port : R → PortState) 
         → IsBroken of_file of_port image Reliable keys number drew draws old new fault
     IsBroken-printed old between new phase fault runs mid same (inl none) =
         let objects = none.1.0 in
-        let lists = subst (λ (t : List ℕ). ListsBench of_file of_port keys between new objects t) (none.1.2).lines_are none.1.2 in
-        starved (Ran phase ∷ Listed objects ∷ []) none.0 (inl ([], record { done = soak_acts number; front = refl; there = begins_with old; goes = (between, runs, (new, lists, refl)) }))
+        let lists = subst (λ (t : List ℕ). ListsBench of_file of_port keys between new objects t) (none.1.2).lines_are none.1.2 in record {
+          records = of_phase old between (Ran phase) ∷ of_list between new (Listed objects) ∷ [];
+          left = [];
+          front = refl;
+          goes = record { last = begins_with new; acts = (refl, inl (runs, refl), (refl, inl (refl, (lists, refl)), refl)); given_is = refl };
+          why = inr (refl, none.0);
+        }
     IsBroken-printed old between new phase fault runs mid same (inr refused) =
         IsBroken-list old between new phase fault runs (subst (λ n. IsListRefused of_file of_port keys between new n draws fault) same refused)
 
     module _ (failed : Type 0) (held_old held_new : Option (List ℕ)) (handed between given : BenchState) (opens : OpensBench keys handed between) where
-      opened : (records : List RunRecord) (status : Status) → EndsActs of_file of_port image Reliable drew draws keys (soak_applications number) [] (soak_acts number) records (begins_with between) given status
-          → EndsRun of_file of_port image Reliable drew draws keys (soak_applications number) (soak_acts number) None records handed given status
-      opened records status ends = inl (record { shown = refl; between = between; opens = opens; ends = ends })
+      opened : (records : List RunRecord) (left : List Act) → soak_acts number ≡ acts_in records ++ left
+          → GoesThrough of_file of_port image Reliable drew draws keys (soak_applications number) records (begins_with between) given
+          → RunsBench of_file of_port image Reliable drew draws keys (soak_applications number) (soak_acts number) None records handed given
+      opened records left front goes = record { left = left; front = front; bench = inl (record { shown = refl; between = between; opens = opens; goes = goes }) }
 
       -- the lines were put, or not
-      pub RunsSoak-through : (lines : List ℕ) → GoesThrough of_file of_port image Reliable keys number between given lines → (status : Status) → PrintsLines failed held_old held_new lines status
-          → RunsSoak of_file of_port image Reliable keys number drew draws failed held_old held_new handed given status
-      RunsSoak-through lines through Done t = record {
-        put = lines;
-        start = None;
-        records = through.records;
-        appended = t;
-        begins = ([], sym through.lines_are ∙ sym (append-nil lines));
-        ends = opened through.records Done (record { done = soak_acts number; front = refl; there = begins_with between; goes = through.goes });
-        cause = through.lines_are;
-      }
-      RunsSoak-through lines through WriteFault t = record {
-        put = t.1.0;
-        start = None;
-        records = through.records;
-        appended = t.1.1;
-        begins = (t.1.2.0, sym through.lines_are ∙ sym (append-nil lines) ∙ t.1.2.1);
-        ends = opened through.records WriteFault (inl ([], record { done = soak_acts number; front = refl; there = begins_with between; goes = through.goes }));
-        cause = t.0;
-      }
-      RunsSoak-through lines through status t = absurd t
+      module _ (lines : List ℕ) (through : IsThrough of_file of_port image Reliable keys number between given lines) where
+        done : RunsBench of_file of_port image Reliable drew draws keys (soak_applications number) (soak_acts number) None through.records handed given
+        done = opened through.records [] (sym through.acts_are ∙ sym (append-nil (acts_in through.records))) (record {
+          last = through.last;
+          acts = goes-acts of_file of_port image Reliable keys (soak_applications number) drew draws through.records (begins_with between) through.last through.goes;
+          given_is = through.new_is;
+        })
 
-      module _ (fault : MountFault) where
-        printed : (records : List RunRecord) (other : MountFault) → other ≡ fault → RecordsRefusal of_file of_port image Reliable drew draws keys (soak_applications number) [] (soak_acts number) records (begins_with between) given fault
-            → RecordsRefusal of_file of_port image Reliable drew draws keys (soak_applications number) [] (soak_acts number) records (begins_with between) given other
-        printed records other same = subst (λ (f : MountFault). RecordsRefusal of_file of_port image Reliable drew draws keys (soak_applications number) [] (soak_acts number) records (begins_with between) given f) (sym same)
+        none : stop_of (outcomes_in through.records) ≡ None
+        none = goes-through of_file of_port image Reliable keys (soak_applications number) through.records (begins_with between) through.last through.goes
 
-        ends : (records : List RunRecord) → RecordsRefusal of_file of_port image Reliable drew draws keys (soak_applications number) [] (soak_acts number) records (begins_with between) given fault
-            → (status : Status) → PrintsRefusal failed held_old held_new [] fault status
-            → EndsActs of_file of_port image Reliable drew draws keys (soak_applications number) [] (soak_acts number) records (begins_with between) given status
-        ends records refused WriteFault t = inr (inl (fault, t.0, refused))
-        ends records refused NoMemory t = inr (inl (fault, t.0, refused))
-        ends records refused (MountRefused other) t = printed records other t.0 refused
-        ends records refused (DeviceFault other) t = printed records other t.0 refused
-        ends records refused status t = absurd t
+        pub RunsSoak-through : (status : Status) → PrintsLines failed held_old held_new lines status
+            → RunsSoak of_file of_port image Reliable keys number drew draws failed held_old held_new handed given status
+        RunsSoak-through Done t = record {
+          put = lines;
+          start = None;
+          records = through.records;
+          appended = t;
+          begins = ([], sym through.lines_are ∙ sym (append-nil lines));
+          bench = done;
+          cause = (through.lines_are, none, through.acts_are);
+        }
+        RunsSoak-through WriteFault t = record {
+          put = t.1.0;
+          start = None;
+          records = through.records;
+          appended = t.1.1;
+          begins = (t.1.2.0, sym through.lines_are ∙ sym (append-nil lines) ∙ t.1.2.1);
+          bench = done;
+          cause = (t.0, subst MayStopWriting (sym none) tt);
+        }
+        RunsSoak-through status t = absurd t
+
+      module _ (fault : MountFault) (b : IsBroken of_file of_port image Reliable keys number drew draws between given fault) where
+        begun : RunsBench of_file of_port image Reliable drew draws keys (soak_applications number) (soak_acts number) None b.records handed given
+        begun = opened b.records b.left b.front b.goes
 
         -- memory ran out, and nothing was put
-        unprinted : (records : List RunRecord) → fault ≡ NoMemoryFault → EndsForMemory of_file of_port image Reliable drew draws keys (soak_applications number) [] (soak_acts number) records (begins_with between) given
+        unprinted : stop_of (outcomes_in b.records) ≡ None → fault ≡ NoMemoryFault
             → (status : Status) → PrintsRefusal failed held_old held_new [] fault status → RunsSoak of_file of_port image Reliable keys number drew draws failed held_old held_new handed given status
-        unprinted records is memory WriteFault t = absurd (let no : IsRefusal NoMemoryFault = subst IsRefusal is t.0 in no)
-        unprinted records is memory NoMemory t =
-            let none : t.1.0 ≡ [] = front_of_none t.1.0 t.1.2.0 (refusal_line-memory fault is ∙ t.1.2.1) in
-            let output = soak_output number None records in record {
+        unprinted done_all is WriteFault t = absurd (let no : IsRefusal NoMemoryFault = subst IsRefusal is t.0 in no)
+        unprinted done_all is NoMemory t =
+            let empty : t.1.0 ≡ [] = front_of_none t.1.0 t.1.2.0 (refusal_line-memory fault is ∙ t.1.2.1) in
+            let output = soak_output number None (outcomes_in b.records) in record {
               put = t.1.0;
               start = None;
-              records = records;
+              records = b.records;
               appended = t.1.1;
-              begins = (output, subst (λ (p : List ℕ). output ≡ p ++ output) (sym none) refl);
-              ends = opened records NoMemory memory;
-              cause = tt;
+              begins = (output, subst (λ (p : List ℕ). output ≡ p ++ output) (sym empty) refl);
+              bench = begun;
+              cause = subst MayWant (sym done_all) tt;
             }
-        unprinted records is memory (MountRefused other) t = absurd (let no : IsRefusal NoMemoryFault = subst IsRefusal is t.1 in no)
-        unprinted records is memory (DeviceFault other) t = absurd (let no : IsDeviceFault NoMemoryFault = subst IsDeviceFault is t.1 in no)
-        unprinted records is memory status t = absurd t
+        unprinted done_all is (MountRefused other) t = absurd (let no : IsRefusal NoMemoryFault = subst IsRefusal is t.1 in no)
+        unprinted done_all is (DeviceFault other) t = absurd (let no : IsDeviceFault NoMemoryFault = subst IsDeviceFault is t.1 in no)
+        unprinted done_all is status t = absurd t
 
         -- the line of the refusal was put, or not; no text was kept
-        pub RunsSoak-broken : IsBroken of_file of_port image Reliable keys number drew draws between given fault → (kept : List ℕ) → kept ≡ [] → (status : Status) → PrintsRefusal failed held_old held_new kept fault status
+        pub RunsSoak-broken : (kept : List ℕ) → kept ≡ [] → (status : Status) → PrintsRefusal failed held_old held_new kept fault status
             → RunsSoak of_file of_port image Reliable keys number drew draws failed held_old held_new handed given status
-        RunsSoak-broken (broken records refused line) kept none status prints =
-            let t = subst (λ k. PrintsRefusal failed held_old held_new k fault status) none prints in
-            RunsActs-refused of_file of_port image Reliable drew draws keys failed held_old held_new handed (soak_applications number) (soak_acts number) (soak_output number) None records given fault
-            line status (opened records status (ends records refused status t)) t
-        RunsSoak-broken (starved records is memory) kept none status prints =
-            unprinted records is memory status (subst (λ k. PrintsRefusal failed held_old held_new k fault status) none prints)
+        RunsSoak-broken kept nothing status prints = one b.why
+          where
+            printed : PrintsRefusal failed held_old held_new [] fault status
+            printed = subst (λ k. PrintsRefusal failed held_old held_new k fault status) nothing prints
+
+            one : ((stop_of (outcomes_in b.records) ≡ Some (Refused fault)) × (soak_output number None (outcomes_in b.records) ≡ refusal_line fault))
+                ⊎ ((stop_of (outcomes_in b.records) ≡ None) × (fault ≡ NoMemoryFault)) → RunsSoak of_file of_port image Reliable keys number drew draws failed held_old held_new handed given status
+            one (inl x) =
+                RunsActs-refused of_file of_port image Reliable drew draws keys failed held_old held_new handed (soak_applications number) (soak_acts number) (soak_output number) None b.records given fault
+                x.1 x.0 begun status printed
+            one (inr x) = unprinted x.0 x.1 status printed

@@ -28,13 +28,13 @@ use Rattle.run_acts.specs.QuotaRefusals.{HoldsOfAdmitted}
 use Rattle.run_acts.proofs.PhaseChains.{files_none}
 use Rattle.script_runner.specs.declared.run_state.Run.{Run}
 use Rattle.script_runner.specs.declared.run_state.RunEnd.{RunEnd}
-use Rattle.script_runner.specs.Text.{Act, Controlled, Do, Listed, PhaseRecord, Ran, RunRecord, Serve, acts_of, acts_text, mode_behind}
+use Rattle.script_runner.specs.Text.{Act, Controlled, Do, Listed, PhaseRecord, Ran, ActOutcome, Serve, acts_of, acts_text, mode_behind}
 use Rattle.script_runner.specs.Trace.{applications_of}
 use Rattle.run_acts.specs.declared.MountFault.{MountFault}
 use Rattle.run_acts.specs.PhaseRefusals.{IsGivenUp}
 use Rattle.script_text.specs.declared.script.Control.{Control}
-use Rattle.script_runner.specs.Course.{Goes, RefusesFirst}
-use Rattle.script_runner.specs.Points.{arms_behind, standing_of}
+use Rattle.script_runner.specs.Course.{Does}
+use Rattle.script_runner.specs.Points.{standing_of}
 use Rattle.script_runner.specs.SavedFiles.{PutsBack, quota_for, reads_saved, saved_of, with_bench, with_saved}
 use Rattle.script_runner.specs.RunReady.{IsCallFirst, IsNext, IsReady, IsSound}
 use Rattle.script_runner.specs.Running.{EndsAt, GoesOn}
@@ -65,79 +65,88 @@ module _ {F R : Type 0} (of_file : F → FileState) (of_port : R → PortState) 
   abbrev pub next_place : Run F R → Run F R
   next_place run = record run { at = run.at + 1 }
 
-  -- another bench, the same that is saved, and the same quotas
-  standing_with : (run other : Run F R) → other.saved ≡ run.saved → other.quotas ≡ run.quotas
+  -- another bench, and all else the same
+  standing_with : (run other : Run F R) → other ≡ record run { bench = other.bench }
       → standing_of of_file of_port other ≡ with_bench (standing_of of_file of_port run) (bench_state of_file of_port other.bench)
-  standing_with run other saved quotas = (λ i. record { bench = bench_state of_file of_port other.bench; saved = saved_of (saved i); quotas = (quotas i).items })
+  standing_with run other same =
+      (λ i. record { bench = bench_state of_file of_port other.bench; saved = saved_of (same i).saved; quotas = (same i).quotas.items; arms = (same i).arms.items })
 
   pub HasDone-mode : (mode : Mode) (run : Run F R) → IsReady script run → IsNext script run (ControlStep (ModeControl mode))
-      → HasDone of_file of_port image Reliable keys script (Do (ModeControl mode)) (Controlled ∷ []) run (next_place (record run { mode = mode }))
+      → HasDone of_file of_port image Reliable keys script (Do (ModeControl mode)) Controlled run (next_place (record run { mode = mode }))
   HasDone-mode mode run ready next =
-      HasDone-control of_file of_port image Reliable keys script (ModeControl mode) (Controlled ∷ []) run (next_place (record run { mode = mode })) ready next refl refl ready.arms ready.whole refl refl refl refl
+      HasDone-control of_file of_port image Reliable keys script (ModeControl mode) Controlled run (next_place (record run { mode = mode })) ready next refl ready.arms ready.whole refl refl refl refl
 
-  pub HasDone-phase : (run : Run F R) → IsReady script run → IsNext script run (ControlStep Phase) → HasDone of_file of_port image Reliable keys script (Do Phase) (Controlled ∷ []) run (next_place run)
-  HasDone-phase run ready next = HasDone-control of_file of_port image Reliable keys script Phase (Controlled ∷ []) run (next_place run) ready next refl refl ready.arms ready.whole refl refl refl refl
+  pub HasDone-phase : (run : Run F R) → IsReady script run → IsNext script run (ControlStep Phase) → HasDone of_file of_port image Reliable keys script (Do Phase) Controlled run (next_place run)
+  HasDone-phase run ready next = HasDone-control of_file of_port image Reliable keys script Phase Controlled run (next_place run) ready next refl ready.arms ready.whole refl refl refl refl
 
-  pub HasDone-arm : (arm : Arm) (run waits : Run F R) → IsSound script → IsReady script run → IsNext script run (ControlStep (ArmControl arm)) → waits ≡ record run { arms = waits.arms } → waits.arms.items ≡ run.arms.items ++ arm ∷ [] → HasDone of_file of_port image Reliable keys script (Do (ArmControl arm)) (Controlled ∷ []) run (next_place waits)
+  -- a control behind which the run has the same bench, mode and number
+  HasDone-kept : (control : Control) (run kept : Run F R) → IsReady script run → IsNext script run (ControlStep control)
+      → Does of_file of_port image Reliable keys (applications_of script) (Do control) Controlled (standing_of of_file of_port run) (standing_of of_file of_port (next_place kept))
+      → All IsArm kept.arms.items → vec_len kept.bench.files ≡ file_count → kept.number ≡ run.number → kept.mode ≡ run.mode → mode_behind run.mode control ≡ run.mode → kept.kept.items ≡ run.kept.items → kept.at ≡ run.at
+      → HasDone of_file of_port image Reliable keys script (Do control) Controlled run (next_place kept)
+  HasDone-kept control run kept ready next does arms whole number mode no_mode text at =
+      HasDone-control of_file of_port image Reliable keys script control Controlled run (next_place kept) ready next does arms whole number (mode ∙ sym no_mode) text (ap (λ n. n + 1) at)
+
+  pub HasDone-arm : (arm : Arm) (run waits : Run F R) → IsSound script → IsReady script run → IsNext script run (ControlStep (ArmControl arm)) → waits ≡ record run { arms = waits.arms } → waits.arms.items ≡ run.arms.items ++ arm ∷ [] → HasDone of_file of_port image Reliable keys script (Do (ArmControl arm)) Controlled run (next_place waits)
   HasDone-arm arm run waits sound ready next same arms =
       let of_arm : IsArm arm = formed-next script.steps (drop (run.at + 1) script.steps) run.at (ControlStep (ArmControl arm)) sound.formed next in
-      let bench = ap (λ (r : Run F R). r.bench) same in
-      HasDone-control of_file of_port image Reliable keys script (ArmControl arm) (Controlled ∷ []) run (next_place waits) ready next
-      (ap (λ (r : Run F R). standing_of of_file of_port r) same) arms (subst (All IsArm) (sym arms) (All-push IsArm run.arms.items arm ready.arms of_arm))
-      (ap (λ b. vec_len b.files) bench ∙ ready.whole) (ap (λ (r : Run F R). r.number) same) (ap (λ (r : Run F R). r.mode) same) (ap (λ (r : Run F R). r.kept.items) same) (ap (λ (r : Run F R). r.at + 1) same)
+      HasDone-kept (ArmControl arm) run waits ready next
+      (λ i. record { bench = bench_state of_file of_port (same i).bench; saved = saved_of (same i).saved; quotas = (same i).quotas.items; arms = arms i })
+      (subst (All IsArm) (sym arms) (All-push IsArm run.arms.items arm ready.arms of_arm))
+      (ap (λ (r : Run F R). vec_len r.bench.files) same ∙ ready.whole) (ap (λ (r : Run F R). r.number) same) (ap (λ (r : Run F R). r.mode) same) refl (ap (λ (r : Run F R). r.kept.items) same) (ap (λ (r : Run F R). r.at) same)
 
   -- a control that changes the bench alone
-  pub HasDone-bench : (control : Control) (run altered : Run F R) → IsReady script run → IsNext script run (ControlStep control) → altered ≡ record run { bench = altered.bench } → vec_len altered.bench.files ≡ file_count
-      → Goes of_file of_port image Reliable keys (applications_of script) run.arms.items (Do control ∷ []) (Controlled ∷ []) (standing_of of_file of_port run) (standing_of of_file of_port altered)
-      → arms_behind run.arms.items (Do control ∷ []) ≡ run.arms.items → mode_behind run.mode control ≡ run.mode
-      → HasDone of_file of_port image Reliable keys script (Do control) (Controlled ∷ []) run (next_place altered)
-  HasDone-bench control run altered ready next same whole goes no_arms no_mode =
-      let arms : altered.arms.items ≡ run.arms.items = ap (λ (r : Run F R). r.arms.items) same in
-      HasDone-control of_file of_port image Reliable keys script control (Controlled ∷ []) run (next_place altered) ready next
-      goes (arms ∙ sym no_arms) (subst (All IsArm) (sym arms) ready.arms)
-      whole (ap (λ (r : Run F R). r.number) same) (ap (λ (r : Run F R). r.mode) same ∙ sym no_mode) (ap (λ (r : Run F R). r.kept.items) same) (ap (λ (r : Run F R). r.at + 1) same)
+  HasDone-bench : (control : Control) (run altered : Run F R) → IsReady script run → IsNext script run (ControlStep control) → altered ≡ record run { bench = altered.bench } → vec_len altered.bench.files ≡ file_count
+      → Does of_file of_port image Reliable keys (applications_of script) (Do control) Controlled (standing_of of_file of_port run) (standing_of of_file of_port altered)
+      → mode_behind run.mode control ≡ run.mode
+      → HasDone of_file of_port image Reliable keys script (Do control) Controlled run (next_place altered)
+  HasDone-bench control run altered ready next same whole does no_mode =
+      HasDone-kept control run altered ready next does (subst (All IsArm) (sym (ap (λ (r : Run F R). r.arms.items) same)) ready.arms)
+      whole (ap (λ (r : Run F R). r.number) same) (ap (λ (r : Run F R). r.mode) same) no_mode (ap (λ (r : Run F R). r.kept.items) same) (ap (λ (r : Run F R). r.at) same)
 
   pub HasDone-crash : (seed : ℕ) (run crashed : Run F R) → IsReady script run → IsNext script run (ControlStep (Crash seed)) → crashed ≡ record run { bench = crashed.bench } → vec_len crashed.bench.files ≡ file_count
-      → Crashes image seed (bench_state of_file of_port run.bench) (bench_state of_file of_port crashed.bench) → HasDone of_file of_port image Reliable keys script (Do (Crash seed)) (Controlled ∷ []) run (next_place crashed)
-  HasDone-crash seed run crashed ready next same whole crashes =
-      HasDone-bench (Crash seed) run crashed ready next same whole (bench_state of_file of_port crashed.bench, crashes, standing_with run crashed (ap (λ (r : Run F R). r.saved) same) (ap (λ (r : Run F R). r.quotas) same)) refl refl
+      → Crashes image seed (bench_state of_file of_port run.bench) (bench_state of_file of_port crashed.bench) → HasDone of_file of_port image Reliable keys script (Do (Crash seed)) Controlled run (next_place crashed)
+  HasDone-crash seed run crashed ready next same whole crashes = HasDone-bench (Crash seed) run crashed ready next same whole (crashes, standing_with run crashed same) refl
 
   pub HasDone-save : (mark : List ℕ) (run saved : Run F R) → IsReady script run → IsNext script run (ControlStep (Save mark))
       → saved ≡ record run { saved = saved.saved } → saved_of saved.saved ≡ with_saved (saved_of run.saved) mark (reads_saved (bench_state of_file of_port run.bench).files)
-      → HasDone of_file of_port image Reliable keys script (Do (Save mark)) (Controlled ∷ []) run (next_place saved)
+      → HasDone of_file of_port image Reliable keys script (Do (Save mark)) Controlled run (next_place saved)
   HasDone-save mark run saved ready next same kept =
-      let arms : saved.arms.items ≡ run.arms.items = ap (λ (r : Run F R). r.arms.items) same in
-      HasDone-control of_file of_port image Reliable keys script (Save mark) (Controlled ∷ []) run (next_place saved) ready next
-      (λ i. record { bench = ap (λ (r : Run F R). bench_state of_file of_port r.bench) same i; saved = kept i; quotas = ap (λ (r : Run F R). r.quotas.items) same i }) arms (subst (All IsArm) (sym arms) ready.arms)
-      (ap (λ (r : Run F R). vec_len r.bench.files) same ∙ ready.whole) (ap (λ (r : Run F R). r.number) same) (ap (λ (r : Run F R). r.mode) same) (ap (λ (r : Run F R). r.kept.items) same) (ap (λ (r : Run F R). r.at + 1) same)
+      HasDone-kept (Save mark) run saved ready next
+      (λ i. record { bench = bench_state of_file of_port (same i).bench; saved = kept i; quotas = (same i).quotas.items; arms = (same i).arms.items })
+      (subst (All IsArm) (sym (ap (λ (r : Run F R). r.arms.items) same)) ready.arms)
+      (ap (λ (r : Run F R). vec_len r.bench.files) same ∙ ready.whole) (ap (λ (r : Run F R). r.number) same) (ap (λ (r : Run F R). r.mode) same) refl (ap (λ (r : Run F R). r.kept.items) same) (ap (λ (r : Run F R). r.at) same)
 
   pub HasDone-quota : (app : List ℕ) (objects bytes : ℕ) (run set : Run F R) → IsReady script run → IsNext script run (ControlStep (QuotaControl app objects bytes))
       → set ≡ record run { quotas = set.quotas } → set.quotas.items ≡ run.quotas.items ++ quota_for app objects bytes ∷ []
-      → HasDone of_file of_port image Reliable keys script (Do (QuotaControl app objects bytes)) (Controlled ∷ []) run (next_place set)
+      → HasDone of_file of_port image Reliable keys script (Do (QuotaControl app objects bytes)) Controlled run (next_place set)
   HasDone-quota app objects bytes run set ready next same quotas =
-      let arms : set.arms.items ≡ run.arms.items = ap (λ (r : Run F R). r.arms.items) same in
-      HasDone-control of_file of_port image Reliable keys script (QuotaControl app objects bytes) (Controlled ∷ []) run (next_place set) ready next
-      (λ i. record { bench = ap (λ (r : Run F R). bench_state of_file of_port r.bench) same i; saved = ap (λ (r : Run F R). saved_of r.saved) same i; quotas = quotas i }) arms (subst (All IsArm) (sym arms) ready.arms)
-      (ap (λ (r : Run F R). vec_len r.bench.files) same ∙ ready.whole) (ap (λ (r : Run F R). r.number) same) (ap (λ (r : Run F R). r.mode) same) (ap (λ (r : Run F R). r.kept.items) same) (ap (λ (r : Run F R). r.at + 1) same)
+      HasDone-kept (QuotaControl app objects bytes) run set ready next
+      (λ i. record { bench = bench_state of_file of_port (same i).bench; saved = saved_of (same i).saved; quotas = quotas i; arms = (same i).arms.items })
+      (subst (All IsArm) (sym (ap (λ (r : Run F R). r.arms.items) same)) ready.arms)
+      (ap (λ (r : Run F R). vec_len r.bench.files) same ∙ ready.whole) (ap (λ (r : Run F R). r.number) same) (ap (λ (r : Run F R). r.mode) same) refl (ap (λ (r : Run F R). r.kept.items) same) (ap (λ (r : Run F R). r.at) same)
 
   pub HasDone-restore : (file : Device) (mark : List ℕ) (run altered : Run F R) → IsReady script run → IsNext script run (ControlStep (Restore file mark)) → altered ≡ record run { bench = altered.bench } → vec_len altered.bench.files ≡ file_count
       → PutsBack (file_number file) (saved_of run.saved mark (file_number file)) (bench_state of_file of_port run.bench) (bench_state of_file of_port altered.bench)
-      → HasDone of_file of_port image Reliable keys script (Do (Restore file mark)) (Controlled ∷ []) run (next_place altered)
-  HasDone-restore file mark run altered ready next same whole puts =
-      HasDone-bench (Restore file mark) run altered ready next same whole (bench_state of_file of_port altered.bench, puts, standing_with run altered (ap (λ (r : Run F R). r.saved) same) (ap (λ (r : Run F R). r.quotas) same)) refl refl
+      → HasDone of_file of_port image Reliable keys script (Do (Restore file mark)) Controlled run (next_place altered)
+  HasDone-restore file mark run altered ready next same whole puts = HasDone-bench (Restore file mark) run altered ready next same whole (puts, standing_with run altered same) refl
 
   pub HasDone-flip : (file : Device) (at : ℕ) (mask : List ℕ) (run altered : Run F R) → IsReady script run → IsNext script run (ControlStep (Flip file at mask)) → altered ≡ record run { bench = altered.bench } → vec_len altered.bench.files ≡ file_count
       → FlipsFile (file_number file) at mask (bench_state of_file of_port run.bench) (bench_state of_file of_port altered.bench)
-      → HasDone of_file of_port image Reliable keys script (Do (Flip file at mask)) (Controlled ∷ []) run (next_place altered)
-  HasDone-flip file at mask run altered ready next same whole flips =
-      HasDone-bench (Flip file at mask) run altered ready next same whole (bench_state of_file of_port altered.bench, flips, standing_with run altered (ap (λ (r : Run F R). r.saved) same) (ap (λ (r : Run F R). r.quotas) same)) refl refl
+      → HasDone of_file of_port image Reliable keys script (Do (Flip file at mask)) Controlled run (next_place altered)
+  HasDone-flip file at mask run altered ready next same whole flips = HasDone-bench (Flip file at mask) run altered ready next same whole (flips, standing_with run altered same) refl
 
   pub HasDone-list : (run listed : Run F R) (objects : ObjectMap) (lines : List ℕ) → IsReady script run → IsNext script run (ControlStep ListControl) → listed ≡ record run { bench = listed.bench; at = run.at + 1 } → vec_len listed.bench.files ≡ file_count
-      → ListsBench of_file of_port keys (bench_state of_file of_port run.bench) (bench_state of_file of_port listed.bench) objects lines → HasDone of_file of_port image Reliable keys script (Do ListControl) (Listed objects ∷ []) run listed
+      → ListsBench of_file of_port keys (bench_state of_file of_port run.bench) (bench_state of_file of_port listed.bench) objects lines → HasDone of_file of_port image Reliable keys script (Do ListControl) (Listed objects) run listed
   HasDone-list run listed objects lines ready next same whole lists =
-      let arms : listed.arms.items ≡ run.arms.items = ap (λ (r : Run F R). r.arms.items) same in
-      HasDone-control of_file of_port image Reliable keys script ListControl (Listed objects ∷ []) run listed ready next
-      (bench_state of_file of_port listed.bench, subst (λ t. ListsBench of_file of_port keys (bench_state of_file of_port run.bench) (bench_state of_file of_port listed.bench) objects t) lists.lines_are lists, standing_with run listed (ap (λ (r : Run F R). r.saved) same) (ap (λ (r : Run F R). r.quotas) same)) arms (subst (All IsArm) (sym arms) ready.arms)
+      HasDone-control of_file of_port image Reliable keys script ListControl (Listed objects) run listed ready next (
+        refl,
+        (
+          subst (λ t. ListsBench of_file of_port keys (bench_state of_file of_port run.bench) (bench_state of_file of_port listed.bench) objects t) lists.lines_are lists,
+          (λ i. record { bench = bench_state of_file of_port listed.bench; saved = saved_of (same i).saved; quotas = (same i).quotas.items; arms = (same i).arms.items }),
+        ),
+      )
+      (subst (All IsArm) (sym (ap (λ (r : Run F R). r.arms.items) same)) ready.arms)
       whole (ap (λ (r : Run F R). r.number) same) (ap (λ (r : Run F R). r.mode) same) (ap (λ (r : Run F R). r.kept.items) same) (ap (λ (r : Run F R). r.at) same)
 
   -- the steps behind a phase
@@ -148,7 +157,7 @@ module _ {F R : Type 0} (of_file : F → FileState) (of_port : R → PortState) 
       → RunsPhase of_file of_port Reliable keys (applications_of script) run.quotas.items run.arms.items run.mode (next_calls script run) (bench_state of_file of_port run.bench)
       (bench_state of_file of_port ran.bench) phase.opening phase.events phase.refused
       → ran.arms.items ≡ [] → ran.saved ≡ run.saved → ran.quotas ≡ run.quotas → vec_len ran.bench.files ≡ file_count → ran.number ≡ run.number + 1 → ran.mode ≡ run.mode → ran.kept.items ≡ run.kept.items → ran.at ≡ run.at + calls_length run → calls_length run ≤ length (drop run.at script.steps)
-      → HasDone of_file of_port image Reliable keys script (Serve run.mode (next_calls script run)) (Ran phase ∷ []) run ran
+      → HasDone of_file of_port image Reliable keys script (Serve run.mode (next_calls script run)) (Ran phase) run ran
   HasDone-calls run ran phase ready first runs arms saved quotas whole number mode kept at within =
       let count = calls_length run in
       let rest = drop run.at script.steps in
@@ -158,30 +167,32 @@ module _ {F R : Type 0} (of_file : F → FileState) (of_port : R → PortState) 
       let front : length (take run.at script.steps) ≡ run.at = length-take-le run.at script.steps ready.within in record {
         acts = acts_of-calls run.mode rest first ∙ ap (λ (m : Mode). Serve run.mode (take count rest) ∷ acts_of m (drop count rest)) (sym mode)
             ∙ ap (λ s. Serve run.mode (take count rest) ∷ acts_of ran.mode s) (sym behind);
-        goes = (bench_state of_file of_port ran.bench, runs, standing_with run ran saved quotas);
-        arms_are = arms;
+        does = (
+          runs,
+          (λ i. record { bench = bench_state of_file of_port ran.bench; saved = saved_of (saved i); quotas = (quotas i).items; arms = arms i }),
+        );
         number_is = number;
         kept_is = kept;
         ready = record { within = omega (arith, at, within, lengths, front); phases = omega (arith, at, some, number, ready.phases); arms = subst (All IsArm) (sym arms) (All-nil IsArm); whole = whole };
         further = omega (arith, at, some);
       }
 
-  module _ (run behind : Run F R) (r : Result (Run F R) (RunEnd F R)) (held_old held_new : Option (List ℕ)) (act : Act) (records : List RunRecord) (text : List ℕ) (done : HasDone of_file of_port image Reliable keys script act records run behind)
-      (same : acts_text script run.number (act ∷ []) records ≡ text) where
+  module _ (run behind : Run F R) (r : Result (Run F R) (RunEnd F R)) (held_old held_new : Option (List ℕ)) (act : Act) (outcome : ActOutcome) (text : List ℕ) (done : HasDone of_file of_port image Reliable keys script act outcome run behind)
+      (same : acts_text script run.number (act ∷ []) (outcome ∷ []) ≡ text) where
     pub goes-on : IfOk r (IsSent held_old held_new text behind) → IfOk r (GoesOn of_file of_port image Reliable keys script held_old held_new run)
     goes-on = IfOk-weaker r (IsSent held_old held_new text behind) (GoesOn of_file of_port image Reliable keys script held_old held_new run)
-        (λ next sent. GoesOn-act of_file of_port image Reliable keys script held_old held_new act records run behind next done (subst (λ t. IsSent held_old held_new t behind next) (sym same) sent))
+        (λ next sent. GoesOn-act of_file of_port image Reliable keys script held_old held_new act outcome run behind next done (subst (λ t. IsSent held_old held_new t behind next) (sym same) sent))
 
     pub cut-off : (drew draws : ℕ) (failed : Type 0) → IfErr r (IsCutOff failed held_old held_new text behind) → IfErr r (EndsAt of_file of_port image Reliable drew draws keys script failed held_old held_new run)
     cut-off drew draws failed = IfErr-weaker r (IsCutOff failed held_old held_new text behind) (EndsAt of_file of_port image Reliable drew draws keys script failed held_old held_new run)
-        (λ end cut. EndsAt-act of_file of_port image Reliable drew draws keys script failed held_old held_new act records run behind end done (subst (λ t. IsCutOff failed held_old held_new t behind end) (sym same) cut))
+        (λ end cut. EndsAt-act of_file of_port image Reliable drew draws keys script failed held_old held_new act outcome run behind end done (subst (λ t. IsCutOff failed held_old held_new t behind end) (sym same) cut))
 
   pub EndsAt-list : (drew draws : ℕ) (failed : Type 0) (held_old held_new : Option (List ℕ)) (run : Run F R) (end : RunEnd F R) (fault : MountFault) → IsNext script run (ControlStep ListControl)
       → IsListRefused of_file of_port keys (bench_state of_file of_port run.bench) (bench_state of_file of_port end.bench) drew draws fault → PrintsRefusal failed held_old held_new run.kept.items fault end.status → vec_len end.bench.files ≡ file_count
       → EndsAt of_file of_port image Reliable drew draws keys script failed held_old held_new run end
   EndsAt-list drew draws failed held_old held_new run end fault next refused prints whole =
       EndsAt-refused of_file of_port image Reliable drew draws keys script failed held_old held_new run end fault
-      (subst (λ (acts : List Act). RefusesFirst of_file of_port image Reliable drew draws keys (applications_of script) run.arms.items acts (standing_of of_file of_port run) (bench_state of_file of_port end.bench) fault) (sym (ap (acts_of run.mode) next)) refused) prints whole
+      (Do ListControl) (acts_of run.mode (drop (run.at + 1) script.steps)) (ap (acts_of run.mode) next) (refl, (refused, refl)) prints whole
 
   pub EndsAt-calls : (drew draws : ℕ) (failed : Type 0) (held_old held_new : Option (List ℕ)) (run : Run F R) (end : RunEnd F R) (fault : MountFault) → IsCallFirst (drop run.at script.steps)
       → HoldsOfAdmitted run.quotas.items (next_calls script run)
@@ -190,7 +201,7 @@ module _ {F R : Type 0} (of_file : F → FileState) (of_port : R → PortState) 
       → EndsAt of_file of_port image Reliable drew draws keys script failed held_old held_new run end
   EndsAt-calls drew draws failed held_old held_new run end fault first refused prints whole =
       EndsAt-refused of_file of_port image Reliable drew draws keys script failed held_old held_new run end fault
-      (subst (λ (acts : List Act). RefusesFirst of_file of_port image Reliable drew draws keys (applications_of script) run.arms.items acts (standing_of of_file of_port run) (bench_state of_file of_port end.bench) fault) (sym (acts_of-calls run.mode (drop run.at script.steps) first)) refused) prints whole
+      (Serve run.mode (next_calls script run)) (acts_of run.mode (drop (calls_length run) (drop run.at script.steps))) (acts_of-calls run.mode (drop run.at script.steps) first) (refused, refl) prints whole
 
   -- the quotas of the next phase are over-committed
   pub EndsAt-over : (drew draws : ℕ) (failed : Type 0) (held_old held_new : Option (List ℕ)) (run : Run F R) (end : RunEnd F R) (sum : ℕ) → IsCallFirst (drop run.at script.steps)

@@ -1,5 +1,5 @@
 -- From the parts of a run to the whole.
-use Rattle.std.proofs.Common.{◌≡◌, ◌≤◌, ◌⊎◌, inl, inr, ℕ, List, [], ◌++◌, length, refl, sym, ap, ◌∙◌, arith, Option, Some, None, Result, Ok, Err, append-nil, length-append, ⊎_elim}
+use Rattle.std.proofs.Common.{◌≡◌, ◌≤◌, inl, inr, ℕ, List, [], ◌++◌, length, refl, sym, ap, ◌∙◌, arith, Option, Some, None, Result, Ok, Err, append-nil, length-append, ⊎_elim}
 use Rattle.script_text.specs.declared.reading.ScriptFault.{ScriptFault}
 use Rattle.script_text.specs.declared.reading.ScriptFault.TheVariants.{BadLine as BadLineFault, TooManyApps, NoMemory as NoMemoryFault}
 use Rattle.script_text.specs.Parsed.{IsParsed}
@@ -8,15 +8,9 @@ use Rattle.script_text.specs.Grammar.{script_of}
 use Rattle.script_runner.specs.declared.status.Status.{Status}
 use Rattle.script_runner.specs.declared.status.Status.TheVariants.{BadLine, DeviceFault, Done, MountRefused, NoMemory, OverCommitted, ReadFault, TooLong, WriteFault}
 use Rattle.script_runner.specs.declared.status.Excess.TheVariants.{Bytes, Apps}
-use Rattle.script_runner.specs.Trace.{IsSilent, IsTraceOf, Trace}
+use Rattle.script_runner.specs.Trace.{IsSilent, IsTraceOf, IsUntouched, Trace}
 use Rattle.script_runner.specs.ScriptReading.{IsReadError, IsScriptError, status_of}
-use Rattle.script_runner.specs.RunCauses.{RunsItsScript, HasCause, IsExact, IsRun, WasRead, World}
-use Rattle.script_runner.specs.Ending.{EndsBench, EndsScript}
-use Rattle.script_runner.specs.Prints.{HasActCause}
-use Rattle.script_runner.specs.Text.{run_output}
-use Rattle.disk_model.specs.State.{FileState}
-use Rattle.hmac_keys.specs.declared.Keys.{Keys}
-use Rattle.rpmb_card.specs.Port.{PortState}
+use Rattle.script_runner.specs.RunCauses.{EndsActs, HasCause, IsExact, IsRun, RunsItsScript, WasRead, World}
 use Rattle.run_acts.specs.Benches.{BenchState}
 use Rattle.tee_ports.specs.Streams.{TakesFirst}
 use Rattle.tee_ports.proofs.Streams.{Appends-none}
@@ -28,21 +22,24 @@ silent_is taken = record { put = refl; start = refl; records = refl }
 abbrev pub silent : List ℕ → Trace
 silent taken = record { taken = taken; put = []; start = None; records = [] }
 
-pub HasCause-read : (w : World) (taken : List ℕ) (status : Status) → IsReadError w.source_failed (length taken) status → HasCause w (silent taken) status
-HasCause-read w taken ReadFault h = (h.0, h.1, silent_is taken)
-HasCause-read w taken (TooLong Bytes) h = (h, silent_is taken)
-HasCause-read w taken NoMemory h = tt
-HasCause-read w taken status h = absurd h
+pub untouched : (taken : List ℕ) (bench : BenchState) → IsUntouched (silent taken) bench bench
+untouched taken bench = (silent_is taken, refl)
+
+pub HasCause-read : (w : World) (taken : List ℕ) (bench : BenchState) (status : Status) → IsReadError w.source_failed (length taken) status → HasCause w (silent taken) bench bench status
+HasCause-read w taken bench ReadFault h = (h.0, h.1, untouched taken bench)
+HasCause-read w taken bench (TooLong Bytes) h = (h, untouched taken bench)
+HasCause-read w taken bench NoMemory h = inl (untouched taken bench)
+HasCause-read w taken bench status h = absurd h
 
 -- the script that was taken was run
-pub HasCause-act : (w : World) (t : Trace) (script : ScriptValue) (status : Status) → HasActCause (w.sink_failed ⊎ w.sink_full) t.put (run_output script t.start t.records) status → WasRead w t → script_of t.taken ≡ Ok script → HasCause w t status
-HasCause-act w t script Done h read is = (read, (script, is, h))
-HasCause-act w t script (OverCommitted sum) h read is = (read, (script, is, h))
-HasCause-act w t script WriteFault h read is = (read, (script, is), h)
-HasCause-act w t script (MountRefused fault) h read is = (read, h.0, (script, is, h.1))
-HasCause-act w t script (DeviceFault fault) h read is = (read, h.0, (script, is, h.1))
-HasCause-act w t script NoMemory h read is = tt
-HasCause-act w t script status h read is = absurd h
+pub HasCause-act : (w : World) (t : Trace) (handed given : BenchState) (script : ScriptValue) (status : Status) → EndsActs w t script status → WasRead w t → script_of t.taken ≡ Ok script → HasCause w t handed given status
+HasCause-act w t handed given script Done h read is = (read, (script, is, h))
+HasCause-act w t handed given script (OverCommitted sum) h read is = (read, (script, is, h))
+HasCause-act w t handed given script WriteFault h read is = (read, (script, is, h))
+HasCause-act w t handed given script (MountRefused fault) h read is = (read, (script, is, h))
+HasCause-act w t handed given script (DeviceFault fault) h read is = (read, (script, is, h))
+HasCause-act w t handed given script NoMemory h read is = inr (script, is, h)
+HasCause-act w t handed given script status h read is = absurd h
 
 done_script : (t : Trace) (script : ScriptValue) (fault : ScriptFault) → script_of t.taken ≡ Ok script → script_of t.taken ≡ Err fault → ⊥
 done_script t script fault ok err = let e : ◌≡◌ {A = Result ScriptValue ScriptFault} (Ok script) (Err fault) = sym ok ∙ err in cc
@@ -62,38 +59,38 @@ exact_script w t status script short is = record {
   too_long = λ long. absurd (omega (arith, short));
 }
 
-pub IsExact-cause : (w : World) (t : Trace) (status : Status) → HasCause w t status → IsExact w t status
-IsExact-cause w t Done h = exact_script w t Done h.1.0 h.0.1 h.1.1
-IsExact-cause w t (OverCommitted sum) h = exact_script w t (OverCommitted sum) h.1.0 h.0.1 h.1.1
-IsExact-cause w t WriteFault h = exact_script w t WriteFault h.1.0 h.0.1 h.1.1
-IsExact-cause w t (MountRefused fault) h = exact_script w t (MountRefused fault) h.2.0 h.0.1 h.2.1
-IsExact-cause w t (DeviceFault fault) h = exact_script w t (DeviceFault fault) h.2.0 h.0.1 h.2.1
-IsExact-cause w t (BadLine l) h = record {
+pub IsExact-cause : (w : World) (t : Trace) (handed given : BenchState) (status : Status) → HasCause w t handed given status → IsExact w t status
+IsExact-cause w t handed given Done h = exact_script w t Done h.1.0 h.0.1 h.1.1
+IsExact-cause w t handed given (OverCommitted sum) h = exact_script w t (OverCommitted sum) h.1.0 h.0.1 h.1.1
+IsExact-cause w t handed given WriteFault h = exact_script w t WriteFault h.1.0 h.0.1 h.1.1
+IsExact-cause w t handed given (MountRefused fault) h = exact_script w t (MountRefused fault) h.1.0 h.0.1 h.1.1
+IsExact-cause w t handed given (DeviceFault fault) h = exact_script w t (DeviceFault fault) h.1.0 h.0.1 h.1.1
+IsExact-cause w t handed given (BadLine l) h = record {
   bad_line = λ line read err. let e = one_fault t (BadLineFault l) (BadLineFault line) h.1 err in let same : l ≡ line = cc in inl (ap BadLine same);
   too_many = λ n read err. absurd (two_faults l n (one_fault t (BadLineFault l) (TooManyApps n) h.1 err));
   too_long = λ long. absurd (omega (arith, h.0.1));
 }
-IsExact-cause w t ReadFault h = record {
+IsExact-cause w t handed given ReadFault h = record {
   bad_line = λ line read err. inr (inr h.0);
   too_many = λ n read err. inr (inr h.0);
   too_long = λ long. absurd (omega (arith, h.1));
 }
-IsExact-cause w t (TooLong Bytes) h = record {
+IsExact-cause w t handed given (TooLong Bytes) h = record {
   bad_line = λ line read err. absurd (omega (arith, h.0, read.1));
   too_many = λ n read err. absurd (omega (arith, h.0, read.1));
   too_long = λ long. inl refl;
 }
-IsExact-cause w t (TooLong (Apps m)) h = record {
+IsExact-cause w t handed given (TooLong (Apps m)) h = record {
   bad_line = λ line read err. absurd (two_faults line m (one_fault t (BadLineFault line) (TooManyApps m) err h.1));
   too_many = λ n read err. let e = one_fault t (TooManyApps m) (TooManyApps n) h.1 err in let same : m ≡ n = cc in inl (ap (λ k. TooLong (Apps k)) same);
   too_long = λ long. absurd (omega (arith, h.0.1));
 }
-IsExact-cause w t NoMemory h = record {
+IsExact-cause w t handed given NoMemory h = record {
   bad_line = λ line read err. inr (inl refl);
   too_many = λ n read err. inr (inl refl);
   too_long = λ long. inr refl;
 }
-IsExact-cause w t status h = absurd h
+IsExact-cause w t handed given status h = absurd h
 
 -- a source that tells its bytes and has ended gave them all
 pub all_taken : (left_old left_new : Option (List ℕ)) (taken bytes : List ℕ) → TakesFirst left_old left_new taken → ((rest : List ℕ) → left_new ≡ Some rest → rest ≡ []) → left_old ≡ Some bytes → taken ≡ bytes
@@ -112,61 +109,38 @@ taken-le left_old (Some rest) taken bytes takes told =
     omega (arith, ap length same, length-append taken rest)
 
 -- what a run needs to end well
-pub completed : (left_old left_new held_old held_new : Option (List ℕ)) (w : World) (status : Status) (t : Trace) (bytes : List ℕ) (script : ScriptValue) → IsRun left_old left_new held_old held_new w status t → (w.source_ended → (rest : List ℕ) → left_new ≡ Some rest → rest ≡ []) → left_old ≡ Some bytes → length bytes ≤ 16777216 → script_of bytes ≡ Ok script → ¬ w.source_failed → ¬ w.sink_failed → ¬ w.sink_full → RunsItsScript status
-completed left_old left_new held_old held_new w Done t bytes script run ends told short is source sink room = tt
-completed left_old left_new held_old held_new w (OverCommitted sum) t bytes script run ends told short is source sink room = tt
-completed left_old left_new held_old held_new w (BadLine line) t bytes script run ends told short is source sink room =
+pub completed : (left_old left_new held_old held_new : Option (List ℕ)) (w : World) (handed given : BenchState) (status : Status) (t : Trace) (bytes : List ℕ) (script : ScriptValue) → IsRun left_old left_new held_old held_new w handed given status t → (w.source_ended → (rest : List ℕ) → left_new ≡ Some rest → rest ≡ []) → left_old ≡ Some bytes → length bytes ≤ 16777216 → script_of bytes ≡ Ok script → ¬ w.source_failed → ¬ w.sink_failed → ¬ w.sink_full → RunsItsScript status
+completed left_old left_new held_old held_new w handed given Done t bytes script run ends told short is source sink room = tt
+completed left_old left_new held_old held_new w handed given (OverCommitted sum) t bytes script run ends told short is source sink room = tt
+completed left_old left_new held_old held_new w handed given (BadLine line) t bytes script run ends told short is source sink room =
     let same = all_taken left_old left_new t.taken bytes run.trace.taken (ends run.cause.0.0) told in
     absurd (done_script t script (BadLineFault line) (ap script_of same ∙ is) run.cause.1)
-completed left_old left_new held_old held_new w ReadFault t bytes script run ends told short is source sink room = absurd (source run.cause.0)
-completed left_old left_new held_old held_new w WriteFault t bytes script run ends told short is source sink room = absurd (⊎_elim sink room run.cause.2)
-completed left_old left_new held_old held_new w (TooLong Bytes) t bytes script run ends told short is source sink room =
+completed left_old left_new held_old held_new w handed given ReadFault t bytes script run ends told short is source sink room = absurd (source run.cause.0)
+completed left_old left_new held_old held_new w handed given WriteFault t bytes script run ends told short is source sink room = absurd (⊎_elim sink room ((run.cause).1.2).0)
+completed left_old left_new held_old held_new w handed given (TooLong Bytes) t bytes script run ends told short is source sink room =
     absurd (omega (arith, run.cause.0, taken-le left_old left_new t.taken bytes run.trace.taken told))
-completed left_old left_new held_old held_new w (TooLong (Apps n)) t bytes script run ends told short is source sink room =
+completed left_old left_new held_old held_new w handed given (TooLong (Apps n)) t bytes script run ends told short is source sink room =
     let same = all_taken left_old left_new t.taken bytes run.trace.taken (ends run.cause.0.0) told in
     absurd (done_script t script (TooManyApps n) (ap script_of same ∙ is) run.cause.1)
-completed left_old left_new held_old held_new w (MountRefused fault) t bytes script run ends told short is source sink room = tt
-completed left_old left_new held_old held_new w (DeviceFault fault) t bytes script run ends told short is source sink room = tt
-completed left_old left_new held_old held_new w NoMemory t bytes script run ends told short is source sink room = tt
-completed left_old left_new held_old held_new w status t bytes script run ends told short is source sink room = absurd run.cause
+completed left_old left_new held_old held_new w handed given (MountRefused fault) t bytes script run ends told short is source sink room = tt
+completed left_old left_new held_old held_new w handed given (DeviceFault fault) t bytes script run ends told short is source sink room = tt
+completed left_old left_new held_old held_new w handed given NoMemory t bytes script run ends told short is source sink room = tt
+completed left_old left_new held_old held_new w handed given status t bytes script run ends told short is source sink room = absurd run.cause
 
 pub IsTraceOf-silent : (left_old left_new held : Option (List ℕ)) (taken : List ℕ) → TakesFirst left_old left_new taken → length taken ≤ 16777217 → IsTraceOf left_old left_new held held (silent taken)
 IsTraceOf-silent left_old left_new held taken takes short = record { taken = takes; bounded = short; put = Appends-none held; text = inl (silent_is taken) }
 
-pub IsRun-cause : (left_old left_new held_old held_new : Option (List ℕ)) (w : World) (status : Status) (t : Trace) → IsTraceOf left_old left_new held_old held_new t → HasCause w t status → IsRun left_old left_new held_old held_new w status t
-IsRun-cause left_old left_new held_old held_new w status t trace cause = record { trace = trace; cause = cause; exact = IsExact-cause w t status cause }
+pub IsRun-cause : (left_old left_new held_old held_new : Option (List ℕ)) (w : World) (handed given : BenchState) (status : Status) (t : Trace) → IsTraceOf left_old left_new held_old held_new t → HasCause w t handed given status
+    → IsRun left_old left_new held_old held_new w handed given status t
+IsRun-cause left_old left_new held_old held_new w handed given status t trace cause = record { trace = trace; cause = cause; exact = IsExact-cause w t handed given status cause }
 
-pub HasCause-script : (w : World) (taken : List ℕ) (status : Status) → IsScriptError (script_of taken) status → WasRead w (silent taken) → HasCause w (silent taken) status
-HasCause-script w taken (BadLine line) h read = (read, h, silent_is taken)
-HasCause-script w taken (TooLong (Apps n)) h read = (read, h, silent_is taken)
-HasCause-script w taken NoMemory h read = tt
-HasCause-script w taken status h read = absurd h
+pub HasCause-script : (w : World) (taken : List ℕ) (bench : BenchState) (status : Status) → IsScriptError (script_of taken) status → WasRead w (silent taken) → HasCause w (silent taken) bench bench status
+HasCause-script w taken bench (BadLine line) h read = (read, h, untouched taken bench)
+HasCause-script w taken bench (TooLong (Apps n)) h read = (read, h, untouched taken bench)
+HasCause-script w taken bench NoMemory h read = inl (untouched taken bench)
+HasCause-script w taken bench status h read = absurd h
 
 pub IsScriptError-fault : (fault : ScriptFault) (meant : Result ScriptValue ScriptFault) → IsParsed (Err fault) meant → IsScriptError meant (status_of fault)
 IsScriptError-fault (BadLineFault line) meant h = h
 IsScriptError-fault (TooManyApps n) meant h = h
 IsScriptError-fault NoMemoryFault meant h = tt
-
-module _ {F R : Type 0} (of_file : F → FileState) (of_port : R → PortState) (image : FileState → ℕ → ℕ → List ℕ) (Reliable : Type 0) (drew draws : ℕ) (keys : Keys) where
-  -- where no script was run, the bench is as it was
-  pub EndsBench-read : (failed : Type 0) (count : ℕ) (t : Trace) → IsSilent t → (bench : BenchState) (status : Status) → IsReadError failed count status → EndsBench of_file of_port image Reliable drew draws keys t bench bench status
-  EndsBench-read failed count t silent bench ReadFault h = refl
-  EndsBench-read failed count t silent bench (TooLong excess) h = refl
-  EndsBench-read failed count t silent bench NoMemory h = inl (refl, silent)
-  EndsBench-read failed count t silent bench status h = absurd h
-
-  pub EndsBench-script : (meant : Result ScriptValue ScriptFault) (t : Trace) → IsSilent t → (bench : BenchState) (status : Status) → IsScriptError meant status → EndsBench of_file of_port image Reliable drew draws keys t bench bench status
-  EndsBench-script meant t silent bench (BadLine line) h = refl
-  EndsBench-script meant t silent bench (TooLong excess) h = refl
-  EndsBench-script meant t silent bench NoMemory h = inl (refl, silent)
-  EndsBench-script meant t silent bench status h = absurd h
-
-  -- what the run of a script did to the bench
-  pub EndsBench-run : (failed : Type 0) (t : Trace) (script : ScriptValue) (handed given : BenchState) (status : Status) → script_of t.taken ≡ Ok script → EndsScript of_file of_port image Reliable drew draws keys script t.start t.records handed given status → HasActCause failed t.put (run_output script t.start t.records) status → EndsBench of_file of_port image Reliable drew draws keys t handed given status
-  EndsBench-run failed t script handed given Done is ends h = (script, is, ends)
-  EndsBench-run failed t script handed given WriteFault is ends h = (script, is, ends)
-  EndsBench-run failed t script handed given (MountRefused fault) is ends h = (script, is, ends)
-  EndsBench-run failed t script handed given (DeviceFault fault) is ends h = (script, is, ends)
-  EndsBench-run failed t script handed given (OverCommitted sum) is ends h = (script, is, ends)
-  EndsBench-run failed t script handed given NoMemory is ends h = inr (script, is, ends)
-  EndsBench-run failed t script handed given status is ends h = absurd h

@@ -12,7 +12,7 @@ use Rattle.script_text.specs.declared.script.Arm.TheVariants.{Fail, Lose, Stop, 
 use Rattle.script_text.specs.declared.script.Control.TheVariants.{Arm as ArmControl}
 use Rattle.run_acts.specs.Benches.{BenchState}
 use Rattle.script_runner.specs.declared.status.Status.{Status}
-use Rattle.script_runner.specs.RunBenches.{HoldsOfSource}
+use Rattle.script_runner.specs.Records.{EachBench, acts_in}
 use Rattle.script_runner.specs.RunCauses.{World}
 use Rattle.script_runner.specs.Runs.{RunsSource}
 use Rattle.script_runner.specs.Text.{Act, Do}
@@ -54,4 +54,4 @@ abbrev pub RunsCountAsArmed : {F R : Type 0} (of_file : F → FileState) (of_por
 RunsCountAsArmed of_file of_port image Reliable w =
     (left_old left_new held_old held_new : Option (List ℕ)) (drew draws : ℕ) (keys : Keys) (handed given : BenchState) (status : Status)
     → (r : RunsSource of_file of_port image Reliable left_old left_new held_old held_new w drew draws keys handed given status)
-    → HoldsOfSource of_file of_port image Reliable keys (λ done records bench. CountsAsArmed handed done bench) drew draws r.0 handed given status r.2
+    → EachBench (λ done bench. CountsAsArmed handed (acts_in done) bench) [] (r.0).records given

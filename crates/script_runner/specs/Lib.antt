@@ -1,15 +1,14 @@
 pub mod RefusedLines
 pub mod Text
 pub mod RunRefusals
-pub mod Trace
 pub mod SavedFiles
+pub mod Records
+pub mod Trace
 pub mod Course
-pub mod EachPhase
 pub mod RecordLaws
 pub mod QuietLaws
 pub mod QuotaRuns
 pub mod RunLaws
-pub mod RunBenches
 pub mod CountLaws
 pub mod HeldRuns
 pub mod Ending

@@ -1,5 +1,5 @@
 -- The run of a migration: the bench is migrated, and its objects are listed.
-use Rattle.std.specs.Prelude.{ℕ, ◌≡◌, List, ◌++◌, Bool, Option}
+use Rattle.std.specs.Prelude.{ℕ, ◌≡◌, List, ◌++◌, Bool, Option, None, Some}
 use Rattle.disk_model.specs.State.{FileState}
 use Rattle.hmac_keys.specs.declared.Keys.{Keys}
 use Rattle.rpmb_card.specs.Port.{PortState}
@@ -13,10 +13,10 @@ use Rattle.run_acts.specs.Benches.{BenchState}
 use Rattle.run_acts.specs.ListedBenches.{IsListRefused, ListsBench}
 use Rattle.run_acts.specs.MigratedBenches.{IsBenchNotMoved, MovesBench}
 use Rattle.script_runner.specs.declared.status.Status.{Status}
-use Rattle.script_runner.specs.declared.status.Status.TheVariants.{DeviceFault, Done, MountRefused, NoMemory, WriteFault}
+use Rattle.script_runner.specs.declared.status.Status.TheVariants.{Done, NoMemory, WriteFault}
 use Rattle.script_runner.specs.Prints.{HasActCause}
-use Rattle.script_runner.specs.RunRefusals.{IsDeviceFault, IsRefusal, MayWantMemory}
 use Rattle.script_runner.specs.Sending.{Begins, Stops}
+use Rattle.script_runner.specs.Text.{ActOutcome, CutShort, Refused}
 
 -- What came of it: why it was given up; or what was moved, and then the objects, why they could not be listed, or that memory ran out.
 pub data MigrationRecord : Type 0 where
@@ -38,23 +38,12 @@ migration_output (Shown directory moved objects) = migration_line directory move
 migration_output (Unlisted directory moved fault) = migration_line directory moved ++ refusal_line (told_behind fault)
 migration_output (Starved directory moved) = migration_line directory moved
 
--- the status of a refusal, or the sink took no more of its line, or there was no memory for it
-abbrev pub EndsRefused : MountFault → Status → Type 0
-EndsRefused fault (MountRefused told) = (told ≡ fault) × IsRefusal fault
-EndsRefused fault (DeviceFault told) = (told ≡ fault) × IsDeviceFault fault
-EndsRefused fault WriteFault = IsRefusal fault
-EndsRefused fault NoMemory = MayWantMemory fault
-EndsRefused fault _ = ⊥
-
--- the statuses that a record may have
-abbrev pub EndsMigration : MigrationRecord → Status → Type 0
-EndsMigration (GivenUp fault) status = EndsRefused fault status
-EndsMigration (Unlisted directory moved fault) status = EndsRefused (told_behind fault) status
-EndsMigration (Shown directory moved objects) Done = Unit {0}
-EndsMigration (Shown directory moved objects) WriteFault = Unit {0}
-EndsMigration (Shown directory moved objects) NoMemory = Unit {0}
-EndsMigration (Starved directory moved) NoMemory = Unit {0}
-EndsMigration what status = ⊥
+-- where it stopped, if it did; memory may have run out behind the moves
+abbrev pub migration_stop : MigrationRecord → Option ActOutcome
+migration_stop (GivenUp fault) = Some (Refused fault)
+migration_stop (Unlisted directory moved fault) = Some (Refused (told_behind fault))
+migration_stop (Shown directory moved objects) = None
+migration_stop (Starved directory moved) = Some CutShort
 
 -- The text so far and the lines below it were put, or the sink took no more, or there was no memory.
 abbrev pub PrintsBehind : (failed : Type 0) → (held_old held_new : Option (List ℕ)) → (kept lines : List ℕ) → Status → Type 0
@@ -80,5 +69,4 @@ module _ {F R : Type 0} (of_file : F → FileState) (of_port : R → PortState) 
     pub appended : Appends held_old held_new put
     pub begins : Begins put (migration_output what)
     pub done : MigratesThen drew draws what handed given
-    pub ends : EndsMigration what status
-    pub cause : HasActCause failed put (migration_output what) status
+    pub cause : HasActCause failed put (migration_output what) (migration_stop what) (Unit {0}) status

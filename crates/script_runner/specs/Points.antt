@@ -1,10 +1,9 @@
 -- The points of a run, between two acts.
-use Rattle.std.specs.Prelude.{ℕ, ◌+◌, List, [], ◌∷◌, ◌++◌, drop, Option}
+use Rattle.std.specs.Prelude.{ℕ, ◌+◌, List, [], ◌∷◌, drop, Option}
 use Rattle.disk_model.specs.State.{FileState}
 use Rattle.rpmb_card.specs.Port.{PortState}
 use Rattle.app_quota.specs.declared.quotas.Quota.{Quota}
 use Rattle.script_text.specs.declared.script.Arm.{Arm}
-use Rattle.script_text.specs.declared.script.Control.TheVariants.{Arm as ArmControl}
 use Rattle.script_text.specs.declared.script.Mode.{Mode}
 use Rattle.script_text.specs.declared.script.Step.{Step}
 use Rattle.script_text.specs.Script.{ScriptValue}
@@ -42,19 +41,12 @@ point_of of_file of_port script held run = record {
   mode = run.mode;
 }
 
--- the bench, what was saved of its files, and the quotas
+-- where the run stands there
 abbrev pub standing_at : Point → Standing
-standing_at p = record { bench = p.bench; saved = p.saved; quotas = p.quotas }
+standing_at p = record { bench = p.bench; saved = p.saved; quotas = p.quotas; arms = p.arms }
 
 abbrev pub standing_of : {F R : Type 0} → (F → FileState) → (R → PortState) → Run F R → Standing
-standing_of of_file of_port run = record { bench = bench_state of_file of_port run.bench; saved = saved_of run.saved; quotas = run.quotas.items }
-
--- the arms that wait behind these acts
-abbrev pub arms_behind : List Arm → List Act → List Arm
-arms_behind arms [] = arms
-arms_behind arms (Serve mode calls ∷ acts) = arms_behind [] acts
-arms_behind arms (Do (ArmControl arm) ∷ acts) = arms_behind (arms ++ arm ∷ []) acts
-arms_behind arms (Do control ∷ acts) = arms_behind arms acts
+standing_of of_file of_port run = record { bench = bench_state of_file of_port run.bench; saved = saved_of run.saved; quotas = run.quotas.items; arms = run.arms.items }
 
 -- how many of these acts are phases
 abbrev pub phases_in : List Act → ℕ

@@ -1,5 +1,5 @@
 -- How much of its text a run put, and why it ended.
-use Rattle.std.specs.Prelude.{ℕ, ◌≡◌, ◌⊎◌, List, [], ◌++◌, Option}
+use Rattle.std.specs.Prelude.{ℕ, ◌≡◌, ◌⊎◌, List, [], ◌++◌, None, Option, Some}
 use Rattle.run_acts.specs.declared.MountFault.{MountFault}
 use Rattle.tee_ports.specs.Streams.{Appends}
 use Rattle.run_acts.specs.Lines.{refusal_line}
@@ -9,16 +9,31 @@ use Rattle.script_runner.specs.Sending.{IsWriteError, Sends, Stops}
 use Rattle.script_runner.specs.declared.run_state.Run.{Run}
 use Rattle.script_runner.specs.declared.run_state.RunEnd.{RunEnd}
 use Rattle.script_runner.specs.RunRefusals.{IsDeviceFault, IsRefusal, MayWantMemory}
+use Rattle.script_runner.specs.Text.{ActOutcome, CutShort, Exceeded, Refused}
 
--- Why a run ended among its acts, and how much of its text was put.
-abbrev pub HasActCause : (failed : Type 0) → (put text : List ℕ) → Status → Type 0
-HasActCause failed put text Done = put ≡ text
-HasActCause failed put text WriteFault = failed
-HasActCause failed put text (MountRefused fault) = IsRefusal fault × (put ≡ text)
-HasActCause failed put text (DeviceFault fault) = IsDeviceFault fault × ((put ≡ text) ⊎ failed)
-HasActCause failed put text (OverCommitted sum) = put ≡ text
-HasActCause failed put text NoMemory = Unit {0}
-HasActCause failed put text _ = ⊥
+-- behind such a stop the sink may fail, or be full
+abbrev pub MayStopWriting : (stop : Option ActOutcome) → Type 0
+MayStopWriting None = Unit {0}
+MayStopWriting (Some (Refused fault)) = IsRefusal fault
+MayStopWriting (Some (Exceeded sum)) = Unit {0}
+MayStopWriting _ = ⊥
+
+-- it is for want of memory, or behind it memory may run out
+abbrev pub MayWant : (stop : Option ActOutcome) → Type 0
+MayWant None = Unit {0}
+MayWant (Some (Refused fault)) = MayWantMemory fault
+MayWant (Some CutShort) = Unit {0}
+MayWant _ = ⊥
+
+-- Why a run ended among its acts: how much of its text was put, where the acts stopped, if they did, and whether all of them were begun (`Through`).
+abbrev pub HasActCause : (failed : Type 0) → (put text : List ℕ) → (stop : Option ActOutcome) → (Through : Type 0) → Status → Type 0
+HasActCause failed put text stop Through Done = (put ≡ text) × (stop ≡ None) × Through
+HasActCause failed put text stop Through WriteFault = failed × MayStopWriting stop
+HasActCause failed put text stop Through (MountRefused fault) = (put ≡ text) × (stop ≡ Some (Refused fault)) × IsRefusal fault
+HasActCause failed put text stop Through (DeviceFault fault) = ((put ≡ text) ⊎ failed) × (stop ≡ Some (Refused fault)) × IsDeviceFault fault
+HasActCause failed put text stop Through (OverCommitted sum) = (put ≡ text) × (stop ≡ Some (Exceeded sum))
+HasActCause failed put text stop Through NoMemory = MayWant stop
+HasActCause failed put text stop Through _ = ⊥
 
 -- What the text of a refusal leaves: it was put, or is a front of what was.
 abbrev pub PrintsRefusal : (failed : Type 0) → (held_old held_new : Option (List ℕ)) → (kept : List ℕ) → MountFault → Status → Type 0

@@ -1,4 +1,4 @@
--- What a run keeps between two acts: its bench, what was saved of the files under marks, and its quotas.
+-- What a run keeps between two acts: its bench, what was saved of the files under marks, its quotas, and its arms.
 use Rattle.std.specs.Prelude.{◌≡◌, ℕ, nat_lt, if◌then◌else◌, List, [], ◌∷◌, ◌++◌, Option, Some, None, option_and_then, slice_get}
 use Rattle.std.specs.Map.{lookup}
 use Rattle.std.proofs.Common.{Vec, Global}
@@ -6,6 +6,7 @@ use Rattle.disk_model.specs.State.{FileState}
 use Rattle.app_quota.specs.declared.quotas.Quota.{Quota}
 use Rattle.tee_types.specs.Limits.{file_count}
 use Rattle.tee_types.specs.declared.reply.Device.{Device}
+use Rattle.script_text.specs.declared.script.Arm.{Arm}
 use Rattle.script_text.specs.Words.{same_word}
 use Rattle.run_acts.specs.Alterations.{RestoresFile, file_number}
 use Rattle.run_acts.specs.Benches.{BenchState}
@@ -33,18 +34,27 @@ reads_saved files file = if nat_lt file file_count then Some (files file).reads 
 abbrev pub with_saved : Saved → (mark : List ℕ) → (ℕ → Option (List ℕ)) → Saved
 with_saved saved mark images other file = if same_word other mark then images file else saved other file
 
--- a run between two acts: the bench, what was kept of its files, and the quotas of the phases to come
+-- a run between two acts: the bench, what was kept of its files, the quotas of the phases to come, and the arms that wait for the next phase
 pub record Standing : Type 0 where
   pub bench : BenchState
   pub saved : Saved
   pub quotas : List Quota
+  pub arms : List Arm
 
 abbrev pub with_bench : Standing → BenchState → Standing
 with_bench s bench = record s { bench = bench }
 
--- nothing was kept yet, and no quota was set
+-- so behind a phase: it was run with the arms that waited
+abbrev pub served : Standing → BenchState → Standing
+served s bench = record s { bench = bench; arms = [] }
+
+-- nothing was kept yet, no quota was set, and no arm waits
 abbrev pub begins_with : BenchState → Standing
-begins_with bench = record { bench = bench; saved = nothing_saved; quotas = [] }
+begins_with bench = record { bench = bench; saved = nothing_saved; quotas = []; arms = [] }
+
+-- one arm more waits
+abbrev pub awaits_arm : Arm → Standing → Standing
+awaits_arm arm s = record s { arms = s.arms ++ arm ∷ [] }
 
 -- the files were saved under that mark
 abbrev pub saves_files : (mark : List ℕ) → Standing → Standing

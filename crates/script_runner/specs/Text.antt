@@ -21,13 +21,23 @@ pub record PhaseRecord : Type 0 where
   pub events : List Event
   pub refused : List RefusedCall
 
--- What was recorded of an act: a phase that was run, a list that was done with the objects that it shows, another control that was done, or
--- why a mount was refused.
-pub data RunRecord : Type 0 where
-  Ran : PhaseRecord → RunRecord
-  Listed : ObjectMap → RunRecord
-  Controlled : RunRecord
-  Refused : MountFault → RunRecord
+-- What came of an act. It was done: a phase was run, a list shows these objects, or another control was done. Or the run stopped at it: its mount
+-- was refused for that reason, the quotas of a phase commit so many objects, more than a store has room for, or memory ran out in a crash.
+pub data ActOutcome : Type 0 where
+  Ran : PhaseRecord → ActOutcome
+  Listed : ObjectMap → ActOutcome
+  Controlled : ActOutcome
+  Refused : MountFault → ActOutcome
+  Exceeded : ℕ → ActOutcome
+  CutShort : ActOutcome
+
+-- where these acts stopped, if they did
+abbrev pub stop_of : List ActOutcome → Option ActOutcome
+stop_of [] = None
+stop_of (Ran phase ∷ outcomes) = stop_of outcomes
+stop_of (Listed objects ∷ outcomes) = stop_of outcomes
+stop_of (Controlled ∷ outcomes) = stop_of outcomes
+stop_of (stop ∷ outcomes) = Some stop
 
 abbrev pub phase_text : ScriptValue → ℕ → Mode → List Step → PhaseRecord → List ℕ
 phase_text script number mode calls phase = phase_line number mode (length phase.opening) ++ events_text script 0 phase.events ++ refused_lines script calls phase.refused
@@ -54,24 +64,29 @@ acts_from mode (step ∷ calls) (ControlStep control ∷ steps) = Serve mode (st
 abbrev pub acts_of : Mode → List Step → List Act
 acts_of mode steps = acts_from mode [] steps
 
--- the text of these acts, the first phase of them with that number; what has no record was not done, nor what stands below it
-abbrev pub acts_text : ScriptValue → ℕ → List Act → List RunRecord → List ℕ
-acts_text script number [] records = []
+-- the text of these acts, the first phase of them with that number; what has no outcome was not begun, nor what stands below it
+abbrev pub acts_text : ScriptValue → ℕ → List Act → List ActOutcome → List ℕ
+acts_text script number [] outcomes = []
 acts_text script number (act ∷ acts) [] = []
-acts_text script number (Serve mode calls ∷ acts) (Ran phase ∷ records) = phase_text script number mode calls phase ++ acts_text script (number + 1) acts records
-acts_text script number (Serve mode calls ∷ acts) (Refused fault ∷ records) = refusal_line fault
+acts_text script number (Serve mode calls ∷ acts) (Ran phase ∷ outcomes) = phase_text script number mode calls phase ++ acts_text script (number + 1) acts outcomes
+acts_text script number (Serve mode calls ∷ acts) (Refused fault ∷ outcomes) = refusal_line fault
 acts_text script number (Serve mode calls ∷ acts) _ = []
-acts_text script number (Do ListControl ∷ acts) (Listed objects ∷ records) = control_line ListControl ++ objects_text objects ++ acts_text script number acts records
-acts_text script number (Do ListControl ∷ acts) (Refused fault ∷ records) = refusal_line fault
+acts_text script number (Do ListControl ∷ acts) (Listed objects ∷ outcomes) = control_line ListControl ++ objects_text objects ++ acts_text script number acts outcomes
+acts_text script number (Do ListControl ∷ acts) (Refused fault ∷ outcomes) = refusal_line fault
 acts_text script number (Do ListControl ∷ acts) _ = []
-acts_text script number (Do control ∷ acts) (Controlled ∷ records) = control_line control ++ acts_text script number acts records
+acts_text script number (Do control ∷ acts) (Controlled ∷ outcomes) = control_line control ++ acts_text script number acts outcomes
 acts_text script number (Do control ∷ acts) _ = []
 
--- the text of a run of the script with these records: its first phases are serial
-abbrev pub script_output : ScriptValue → List RunRecord → List ℕ
-script_output script records = acts_text script 0 (acts_of Serial script.steps) records
+-- the text of a run of the script of whose acts this came: its first phases are serial
+abbrev pub script_output : ScriptValue → List ActOutcome → List ℕ
+script_output script outcomes = acts_text script 0 (acts_of Serial script.steps) outcomes
 
 -- the same; where the card's block could not be read, or the card not be formatted, before the first act, only that line
-abbrev pub run_output : ScriptValue → (start : Option MountFault) → List RunRecord → List ℕ
-run_output script (Some fault) records = refusal_line fault
-run_output script None records = script_output script records
+abbrev pub run_output : ScriptValue → (start : Option MountFault) → List ActOutcome → List ℕ
+run_output script (Some fault) outcomes = refusal_line fault
+run_output script None outcomes = script_output script outcomes
+
+-- where a run stopped, if it did: before the first act, or at one
+abbrev pub run_stop : (start : Option MountFault) → List ActOutcome → Option ActOutcome
+run_stop (Some fault) outcomes = Some (Refused fault)
+run_stop None outcomes = stop_of outcomes

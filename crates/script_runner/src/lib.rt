@@ -42,9 +42,9 @@ pub use folder_export::{FOLDER_FILES, FileFault, FilePlace};
 pub use forms::{Form, folder_of, form_of, words_have_forms};
 pub use phase_text::{send_control, send_lines, send_phase};
 pub use record_laws::{
-    formatted_runs_stand, migrations_end, migrations_tell_no_old_file, opened_runs_are_of_machine,
-    quiet_runs_are_of_machine, quiet_runs_end, quota_runs_isolate, records_find_left,
-    refusals_are_of_devices, runs_count_as_armed, runs_hold_left, runs_stand_behind,
+    migrations_end, migrations_tell_no_old_file, opened_runs_are_of_machine,
+    quiet_runs_are_of_machine, quiet_runs_end, quota_runs_isolate, runs_count_as_armed,
+    runs_find_left, runs_hold_left,
 };
 pub use run_acts::{Bench, Shown, ShownObject, card_block, print_object};
 pub use run_state::RunEnd;

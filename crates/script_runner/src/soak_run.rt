@@ -6,7 +6,7 @@ ghost use Rattle.tee_types.specs.Limits.{file_count};
 ghost use Rattle.run_acts.specs.Benches.{bench_state};
 ghost use Rattle.store_model.specs.Object.{ObjectMap};
 ghost use Rattle.run_acts.specs.ListedBenches.{IsListRefused, ListsBench};
-ghost use Rattle.script_runner.specs.Soaks.{GoesThrough, IsBroken, RunsSoak, PrintsObjects};
+ghost use Rattle.script_runner.specs.Soaks.{IsThrough, IsBroken, RunsSoak, PrintsObjects};
 
 use crate::act_text::print_last_lines;
 use crate::mount_refusal::print_mount_refusal;
@@ -84,7 +84,7 @@ fn soak_opened<
     entropy: &mut E,
 ) -> Result<Soaked<F, R>, Halted<F, R>>
     requires { vec_len bench.files ≡ file_count }
-    ensures ok { (first : E) → (E.is_reliable first → E.is_reliable entropy.old) → IfOk result (λ s. GoesThrough F.state R.state F.crash_image (E.is_reliable first) keys.now number
+    ensures ok { (first : E) → (E.is_reliable first → E.is_reliable entropy.old) → IfOk result (λ s. IsThrough F.state R.state F.crash_image (E.is_reliable first) keys.now number
         (bench_state F.state R.state bench) (bench_state F.state R.state s.bench) s.lines.items) }
     ensures err { (first : E) → (E.is_reliable first → E.is_reliable entropy.old) → IfErr result (λ h. IsBroken F.state R.state F.crash_image (E.is_reliable first) keys.now number
         (E.faults entropy.old) (E.faults entropy.new) (bench_state F.state R.state bench) (bench_state F.state R.state h.bench) h.fault) }

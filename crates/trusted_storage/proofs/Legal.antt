@@ -89,6 +89,6 @@ module _ {F R : Type 0} (of_file : F → FileState) (of_port : R → PortState) 
 
 pub replies_legal : {F R : Type 0} (of_file : F → FileState) (of_port : R → PortState) (image : FileState → ℕ → ℕ → List ℕ) (Reliable : Type 0) (w : World) → RepliesAreLegal of_file of_port image Reliable w
 replies_legal of_file of_port image Reliable w c script is files none =
-    each_of_run of_file of_port image Reliable w (Unit {0}) (λ quotas mode calls phase. IsLegalPhase phase.opening (applications_of script) phase.events) c script
+    each_of_run of_file of_port image Reliable w (Unit {0}) (λ before behind quotas mode calls phase. IsLegalPhase phase.opening (applications_of script) phase.events) c script
     (λ quotas arms mode calls old new phase r honest.
     legal_phase of_file of_port Reliable c.keys (applications_of script) quotas arms mode calls old new phase.opening phase.events phase.refused r (honest tt)) is (λ trusted. (files, none))

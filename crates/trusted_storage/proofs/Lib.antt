@@ -1,9 +1,9 @@
 pub mod Holding
-pub mod Walked
 pub mod Phases
 pub mod Served
 pub mod Legal
 pub mod Quotas
+pub mod Blamed
 pub mod Unlimited
 pub mod Found
 pub mod Mapped

@@ -1,5 +1,5 @@
 -- What holds of every phase, holds of each of a run.
-use Rattle.std.proofs.Common.{ℕ, List, [], ◌∷◌, ◌++◌, None, Option, Some, append-nil, inl, inr, refl, sym, subst}
+use Rattle.std.proofs.Common.{◌≡◌, ◌∙◌, ℕ, List, [], ◌∷◌, ◌++◌, None, Option, Some, append-nil, inl, inr, refl, sym, ap, subst}
 use Rattle.disk_model.specs.State.{FileState}
 use Rattle.hmac_keys.specs.declared.Keys.{Keys}
 use Rattle.rpmb_card.specs.Port.{PortState}
@@ -9,26 +9,27 @@ use Rattle.run_acts.proofs.CrashedLaws.{crashes_may_be}
 use Rattle.run_acts.proofs.Untainted.{crashes_stay_untainted, flips_stay_untainted, lists_stay_untainted, openings_stay_untainted, phases_stay_untainted, restores_stay_untainted, untainted_files_are_honest}
 use Rattle.run_acts.specs.Alterations.{file_number}
 use Rattle.run_acts.specs.Benches.{BenchState}
-use Rattle.run_acts.specs.declared.MountFault.{MountFault}
 use Rattle.run_acts.specs.Lines.{objects_text}
 use Rattle.run_acts.specs.Phases.{RunsPhase}
 use Rattle.run_acts.specs.Untainted.{AreUntainted, ArmNoMask}
 use Rattle.script_runner.proofs.Alterings.{mask_none}
-use Rattle.script_runner.proofs.GoingFold.{GoesAll, Steps, fold_going}
+use Rattle.script_runner.proofs.Ended.{HowEnded, how_ended, ran, shut, undone}
+use Rattle.script_runner.proofs.Walks.{acts_in-append}
+use Rattle.script_runner.specs.Course.{AreActs, Does, StopsAt}
 use Rattle.script_runner.specs.RecordLaws.{AltersNothing}
+use Rattle.script_runner.specs.Records.{EachAct, IfPhase, RunRecord, acts_in}
 use Rattle.script_runner.specs.RunCauses.{World}
-use Rattle.script_runner.specs.SavedFiles.{PutsBack, Standing, begins_with}
-use Rattle.script_runner.specs.Text.{Act, Do, PhaseRecord, Refused, RunRecord, acts_of}
-use Rattle.script_runner.specs.Trace.{applications_of}
+use Rattle.script_runner.specs.SavedFiles.{PutsBack, Standing, begins_with, quota_for, served, with_bench}
+use Rattle.script_runner.specs.Text.{Act, ActOutcome, Controlled, Do, Listed, PhaseRecord, Ran, Serve}
+use Rattle.script_runner.specs.Trace.{applications_of, script_acts}
 use Rattle.script_text.specs.declared.script.Arm.{Arm}
 use Rattle.script_text.specs.declared.script.Arm.TheVariants.{Fail, Lose, Stop, Taint}
-use Rattle.script_text.specs.declared.script.Control.TheVariants.{Arm as ArmControl}
+use Rattle.script_text.specs.declared.script.Control.{Control}
+use Rattle.script_text.specs.declared.script.Control.TheVariants.{Arm as ArmControl, Crash, Flip, Mode as ModeControl, Phase, Quota as QuotaControl, Restore, Save}
 use Rattle.script_text.specs.declared.script.Mode.{Mode}
-use Rattle.script_text.specs.declared.script.Mode.TheVariants.{Serial}
 use Rattle.script_text.specs.declared.script.Step.{Step}
 use Rattle.script_text.specs.Script.{ScriptValue}
-use Rattle.trusted_storage.specs.Runs.{EachPhase, EachPhaseOf, RunCall, TaintNothing, TaintsNothing, TookScript}
-use Rattle.trusted_storage.proofs.Walked.{HasWalked, Walked, walked}
+use Rattle.trusted_storage.specs.Runs.{EachPhase, RunCall, TaintNothing, TaintsNothing, TookScript, quotas_in, records_of}
 
 no_mask : (arm : Arm) → TaintsNothing (Do (ArmControl arm)) → AltersNothing (Do (ArmControl arm))
 no_mask (Stop device calls) none = tt
@@ -44,75 +45,109 @@ taint_front : (done left : List Act) → TaintNothing (done ++ left) → TaintNo
 taint_front [] left none = tt
 taint_front (act ∷ done) left none = (none.0, taint_front done left none.1)
 
-each_none : (P : List Quota → Mode → List Step → PhaseRecord → Type 0) (quotas : List Quota) (acts : List Act) → EachPhaseOf P quotas acts []
-each_none P quotas acts = tt
+pub quotas_in-append : (front back : List Act) → quotas_in (front ++ back) ≡ quotas_in front ++ quotas_in back
+quotas_in-append [] back = refl
+quotas_in-append (Do (QuotaControl app objects bytes) ∷ front) back = ap (λ l. quota_for app objects bytes ∷ l) (quotas_in-append front back)
+quotas_in-append (act ∷ front) back = quotas_in-append front back
 
-each_refused : (P : List Quota → Mode → List Step → PhaseRecord → Type 0) (quotas : List Quota) (acts : List Act) (fault : MountFault) → EachPhaseOf P quotas acts (Refused fault ∷ [])
-each_refused P quotas acts fault = refl
+module _ {F R : Type 0} (of_file : F → FileState) (of_port : R → PortState) (image : FileState → ℕ → ℕ → List ℕ) (Reliable : Type 0) (keys : Keys) (apps : List (List ℕ)) where
+  abbrev Does' : Act → ActOutcome → (old new : Standing) → Type 0
+  Does' act outcome old new = Does of_file of_port image Reliable keys apps act outcome old new
 
--- `Trusted`: the files of the bench are trusted
-module _ {F R : Type 0} (of_file : F → FileState) (of_port : R → PortState) (image : FileState → ℕ → ℕ → List ℕ) (Reliable : Type 0) (keys : Keys) (apps : List (List ℕ)) (Trusted : Type 0)
-    (P : List Quota → Mode → List Step → PhaseRecord → Type 0)
-    (holds : (quotas : List Quota) (arms : List Arm) (mode : Mode) (calls : List Step) (old new : BenchState) (phase : PhaseRecord)
-    → RunsPhase of_file of_port Reliable keys apps quotas arms mode calls old new phase.opening phase.events phase.refused → (Trusted → AreAllHonest new.files) → P quotas mode calls phase) where
-  -- with the acts that are left, and what was recorded of them
-  abbrev Each : (arms : List Arm) (acts : List Act) (records : List RunRecord) (old new : Standing) → GoesAll of_file of_port image Reliable keys apps arms acts records old new → Type 0
-  Each arms acts records old new goes =
-      (Trusted → AreUntainted (old.bench).files × ArmNoMask arms × TaintNothing acts) → (left : List Act) (more : List RunRecord) → EachPhaseOf P new.quotas left more
-      → EachPhaseOf P old.quotas (acts ++ left) (records ++ more)
+  same_quotas : (old new : Standing) → new.quotas ≡ old.quotas → new.quotas ≡ old.quotas ++ []
+  same_quotas old new same = same ∙ sym (append-nil old.quotas)
 
-  each_steps : Steps of_file of_port image Reliable keys apps Each
-  each_steps = record {
-    none = λ arms old new goes trust left more each. subst (λ (s : Standing). EachPhaseOf P s.quotas left more) goes each;
-    phase = λ arms mode calls acts phase records old new goes rest trust left more each.
-        let later : Trusted → AreUntainted (goes.0).files =
-        λ t. phases_stay_untainted of_file of_port Reliable keys apps old.quotas arms mode calls old.bench goes.0 phase.opening phase.events phase.refused goes.1 (trust t).1 (trust t).0 in (
-          holds old.quotas arms mode calls old.bench goes.0 phase goes.1 (λ t. untainted_files_are_honest (goes.0).files (later t)),
-          rest (λ t. (later t, tt, (trust t).2.1)) left more each,
-        );
-    mode = λ arms mode acts records old new goes rest trust left more each. rest (λ t. ((trust t).0, (trust t).1, (trust t).2.1)) left more each;
-    mark = λ arms acts records old new goes rest trust left more each. rest (λ t. ((trust t).0, (trust t).1, (trust t).2.1)) left more each;
-    arm = λ arms arm acts records old new goes rest trust left more each.
-        rest (λ t. ((trust t).0, mask_none arms arm (trust t).1 (no_mask arm (trust t).2.0), (trust t).2.1)) left more each;
-    crash = λ arms seed acts records old new goes rest trust left more each.
-        rest (λ t. (crashes_stay_untainted old.bench goes.0 (trust t).0 (crashes_may_be image seed old.bench goes.0 goes.1), (trust t).1, (trust t).2.1)) left more each;
-    save = λ arms mark acts records old new goes rest trust left more each. rest (λ t. ((trust t).0, (trust t).1, (trust t).2.1)) left more each;
-    quota = λ arms app objects bytes acts records old new goes rest trust left more each. rest (λ t. ((trust t).0, (trust t).1, (trust t).2.1)) left more each;
-    restore = λ arms file mark acts records old new goes rest trust left more each.
-        rest (λ t. (put_back (file_number file) (old.saved mark (file_number file)) old.bench goes.0 goes.1 (trust t).0, (trust t).1, (trust t).2.1)) left more each;
-    flip = λ arms file at mask acts records old new goes rest trust left more each.
-        rest (λ t. (flips_stay_untainted (file_number file) at mask old.bench goes.0 goes.1 (trust t).0, (trust t).1, (trust t).2.1)) left more each;
-    list = λ arms acts objects records old new goes rest trust left more each.
-        rest (λ t. (lists_stay_untainted of_file of_port keys old.bench goes.0 objects (objects_text objects) goes.1 (trust t).0, (trust t).1, (trust t).2.1)) left more each;
-  }
+  -- the quotas behind an act
+  pub quotas_go : (act : Act) (outcome : ActOutcome) (old new : Standing) → Does' act outcome old new → new.quotas ≡ old.quotas ++ quotas_in (act ∷ [])
+  quotas_go (Serve mode calls) (Ran phase) old new does = same_quotas old new (ap (λ (s : Standing). s.quotas) does.1)
+  quotas_go (Do (QuotaControl app objects bytes)) Controlled old new does = ap (λ (s : Standing). s.quotas) does
+  quotas_go (Do (ModeControl mode)) Controlled old new does = same_quotas old new (ap (λ (s : Standing). s.quotas) does)
+  quotas_go (Do Phase) Controlled old new does = same_quotas old new (ap (λ (s : Standing). s.quotas) does)
+  quotas_go (Do (ArmControl arm)) Controlled old new does = same_quotas old new (ap (λ (s : Standing). s.quotas) does)
+  quotas_go (Do (Crash seed)) Controlled old new does = same_quotas old new (ap (λ (s : Standing). s.quotas) does.1)
+  quotas_go (Do (Save mark)) Controlled old new does = same_quotas old new (ap (λ (s : Standing). s.quotas) does)
+  quotas_go (Do (Restore file mark)) Controlled old new does = same_quotas old new (ap (λ (s : Standing). s.quotas) does.1)
+  quotas_go (Do (Flip file at mask)) Controlled old new does = same_quotas old new (ap (λ (s : Standing). s.quotas) does.1)
+  quotas_go (Do control) (Listed objects) old new does =
+      same_quotas old new (ap (λ (s : Standing). s.quotas) (does.1).1) ∙ ap (λ (c : Control). old.quotas ++ quotas_in (Do c ∷ [])) (sym does.0)
+  quotas_go act outcome old new does = absurd does
 
-  module _ (acts : List Act) (handed : BenchState) (records : List RunRecord) (trust : Trusted → AreUntainted handed.files × TaintNothing acts) where
-    abbrev Walk : Type 0
-    Walk = Walked of_file of_port image Reliable keys apps acts handed records
+  -- no file of the bench is tainted, and no mask waits
+  abbrev pub IsTrustedAt : Standing → Type 0
+  IsTrustedAt s = AreUntainted (s.bench).files × ArmNoMask s.arms
 
-    each_walk : (walk : Walk) (more : List RunRecord) → EachPhaseOf P (walk.last).quotas walk.left more → EachPhaseOf P [] acts (walk.front ++ more)
-    each_walk walk more each =
-        subst (λ (l : List Act). EachPhaseOf P [] l (walk.front ++ more)) (sym walk.acts_are)
-        (fold_going of_file of_port image Reliable keys apps Each each_steps [] walk.done walk.front (begins_with walk.between) walk.last walk.goes
-        (λ t. (openings_stay_untainted keys handed walk.between walk.opens (trust t).0, tt, taint_front walk.done walk.left (subst TaintNothing walk.acts_are (trust t).1))) walk.left more each)
+  at_behind : (old new there : Standing) → new ≡ there → AreUntainted (new.bench).files → ArmNoMask there.arms → IsTrustedAt new
+  at_behind old new there is files none = (files, subst (λ (s : Standing). ArmNoMask s.arms) (sym is) none)
 
-    each_by : (walk : Walk) → EachPhaseOf P [] acts records
-    each_by walk = elim walk.records_are [
-      | inl is ↦
-          subst (EachPhaseOf P [] acts) (sym is) (subst (EachPhaseOf P [] acts) (append-nil walk.front) (each_walk walk [] (each_none P (walk.last).quotas walk.left)))
-      | inr (fault, is) ↦ subst (EachPhaseOf P [] acts) (sym is) (each_walk walk (Refused fault ∷ []) (each_refused P (walk.last).quotas walk.left fault))
-    ]
+  trust_goes : (act : Act) (outcome : ActOutcome) (old new : Standing) → Does' act outcome old new → TaintsNothing act → IsTrustedAt old → IsTrustedAt new
+  trust_goes (Serve mode calls) (Ran phase) old new does none t =
+      at_behind old new (served old new.bench) does.1
+      (phases_stay_untainted of_file of_port Reliable keys apps old.quotas old.arms mode calls old.bench new.bench phase.opening phase.events phase.refused does.0 t.1 t.0) tt
+  trust_goes (Do (ModeControl mode)) Controlled old new does none t = subst IsTrustedAt (sym does) t
+  trust_goes (Do Phase) Controlled old new does none t = subst IsTrustedAt (sym does) t
+  trust_goes (Do (ArmControl arm)) Controlled old new does none t = subst IsTrustedAt (sym does) (t.0, mask_none old.arms arm t.1 (no_mask arm none))
+  trust_goes (Do (Save mark)) Controlled old new does none t = subst IsTrustedAt (sym does) t
+  trust_goes (Do (QuotaControl app objects bytes)) Controlled old new does none t = subst IsTrustedAt (sym does) t
+  trust_goes (Do (Crash seed)) Controlled old new does none t =
+      at_behind old new (with_bench old new.bench) does.1 (crashes_stay_untainted old.bench new.bench t.0 (crashes_may_be image seed old.bench new.bench does.0)) t.1
+  trust_goes (Do (Restore file mark)) Controlled old new does none t =
+      at_behind old new (with_bench old new.bench) does.1 (put_back (file_number file) (old.saved mark (file_number file)) old.bench new.bench does.0 t.0) t.1
+  trust_goes (Do (Flip file at mask)) Controlled old new does none t =
+      at_behind old new (with_bench old new.bench) does.1 (flips_stay_untainted (file_number file) at mask old.bench new.bench does.0 t.0) t.1
+  trust_goes (Do control) (Listed objects) old new does none t =
+      at_behind old new (with_bench old new.bench) (does.1).1 (lists_stay_untainted of_file of_port keys old.bench new.bench objects (objects_text objects) (does.1).0 t.0) t.1
+  trust_goes act outcome old new does none t = absurd does
 
-    pub each_all : HasWalked of_file of_port image Reliable keys apps acts handed records → EachPhaseOf P [] acts records
-    each_all (inl none) = subst (EachPhaseOf P [] acts) (sym none) (each_none P [] acts)
-    each_all (inr walk) = each_by walk
+  -- `Trusted`: the files of the bench are trusted
+  module _ (Trusted : Type 0) (P : (before behind : BenchState) → List Quota → Mode → List Step → PhaseRecord → Type 0)
+      (holds : (quotas : List Quota) (arms : List Arm) (mode : Mode) (calls : List Step) (old new : BenchState) (phase : PhaseRecord)
+      → RunsPhase of_file of_port Reliable keys apps quotas arms mode calls old new phase.opening phase.events phase.refused → (Trusted → AreAllHonest new.files) → P old new quotas mode calls phase) where
+    abbrev One : List Quota → Act → ActOutcome → (old new : Standing) → Type 0
+    One quotas act outcome old new = IfPhase (λ mode calls phase before behind. P before.bench behind.bench quotas mode calls phase) act outcome old new
+
+    abbrev Each : List RunRecord → RunRecord → Type 0
+    Each done r = One (quotas_in (acts_in done)) r.act r.outcome r.before r.behind
+
+    done_holds : (quotas : List Quota) (act : Act) (outcome : ActOutcome) (old new : Standing) → Does' act outcome old new → old.quotas ≡ quotas → (Trusted → IsTrustedAt new) → One quotas act outcome old new
+    done_holds quotas (Serve mode calls) (Ran phase) old new does are trust =
+        subst (λ (q : List Quota). P old.bench new.bench q mode calls phase) are
+        (holds old.quotas old.arms mode calls old.bench new.bench phase does.0 (λ t. untainted_files_are_honest (new.bench).files (trust t).0))
+    done_holds quotas act outcome old new does are trust = tt
+
+    module _ (drew draws : ℕ) where
+      stop_holds : (quotas : List Quota) (act : Act) (outcome : ActOutcome) (old new : Standing) → StopsAt of_file of_port image Reliable keys apps drew draws act outcome old new → One quotas act outcome old new
+      stop_holds quotas (Serve mode calls) (Ran phase) old new stops = absurd stops
+      stop_holds quotas act outcome old new stops = tt
+
+      each_acts : (done records : List RunRecord) (old new : Standing) → AreActs of_file of_port image Reliable keys apps drew draws records old new → old.quotas ≡ quotas_in (acts_in done)
+          → (Trusted → IsTrustedAt old × TaintNothing (acts_in records)) → EachAct Each done records
+      each_acts done [] old new acts are trust = tt
+      each_acts done (r ∷ records) old new acts are trust = elim acts.1 [
+        | inl does ↦
+            let first : (r.before).quotas ≡ quotas_in (acts_in done) = ap (λ (s : Standing). s.quotas) acts.0 ∙ are in
+            let later : Trusted → IsTrustedAt r.behind = λ t. trust_goes r.act r.outcome r.before r.behind does ((trust t).1).0 (subst IsTrustedAt (sym acts.0) (trust t).0) in
+            let then : (r.behind).quotas ≡ quotas_in (acts_in (done ++ r ∷ [])) =
+            quotas_go r.act r.outcome r.before r.behind does ∙ ap (λ q. q ++ quotas_in (r.act ∷ [])) first ∙ sym (quotas_in-append (acts_in done) (r.act ∷ [])) ∙ ap quotas_in (sym (acts_in-append done (r ∷ []))) in
+            (done_holds (quotas_in (acts_in done)) r.act r.outcome r.before r.behind does first later, each_acts (done ++ r ∷ []) records r.behind new acts.2 then (λ t. (later t, ((trust t).1).1)))
+        | inr stop ↦
+            (stop_holds (quotas_in (acts_in done)) r.act r.outcome r.before r.behind stop.0, subst (λ (l : List RunRecord). EachAct Each (done ++ r ∷ []) l) (sym stop.1) tt)
+      ]
 
 -- so of each phase of a run that took that script
 pub each_of_run : {F R : Type 0} (of_file : F → FileState) (of_port : R → PortState) (image : FileState → ℕ → ℕ → List ℕ) (Reliable : Type 0) (w : World) (Trusted : Type 0)
-    (P : List Quota → Mode → List Step → PhaseRecord → Type 0) (c : RunCall of_file of_port image Reliable w) (script : ScriptValue)
+    (P : (before behind : BenchState) → List Quota → Mode → List Step → PhaseRecord → Type 0) (c : RunCall of_file of_port image Reliable w) (script : ScriptValue)
     → ((quotas : List Quota) (arms : List Arm) (mode : Mode) (calls : List Step) (old new : BenchState) (phase : PhaseRecord)
-    → RunsPhase of_file of_port Reliable c.keys (applications_of script) quotas arms mode calls old new phase.opening phase.events phase.refused → (Trusted → AreAllHonest new.files) → P quotas mode calls phase)
-    → TookScript c script → (Trusted → AreUntainted c.handed.files × TaintNothing (acts_of Serial script.steps)) → EachPhase c script P
+    → RunsPhase of_file of_port Reliable c.keys (applications_of script) quotas arms mode calls old new phase.opening phase.events phase.refused → (Trusted → AreAllHonest new.files) → P old new quotas mode calls phase)
+    → TookScript c script → (Trusted → AreUntainted c.handed.files × TaintNothing (script_acts script)) → EachPhase c P
 each_of_run of_file of_port image Reliable w Trusted P c script holds is trust =
-    each_all of_file of_port image Reliable c.keys (applications_of script) Trusted P holds (acts_of Serial script.steps) c.handed (c.says.0).records trust
-    (walked of_file of_port image Reliable w c.drew c.draws c.keys c.says.0 c.handed c.given script is c.status (c.says.1).cause c.says.2)
+    one (how_ended of_file of_port image Reliable c.drew c.draws c.keys c.says.0 c.handed c.given script is c.says.2)
+  where
+    Of : List RunRecord → Type 0
+    Of records = EachAct (Each of_file of_port image Reliable c.keys (applications_of script) Trusted P holds) [] records
+
+    one : HowEnded of_file of_port image Reliable c.drew c.draws c.keys c.says.0 c.handed c.given script is → Of (records_of c)
+    one (undone same start none) = subst Of (sym none) tt
+    one (shut fault start none refused) = subst Of (sym none) tt
+    one (ran start between opens left front goes) =
+        each_acts of_file of_port image Reliable c.keys (applications_of script) Trusted P holds c.drew c.draws [] (records_of c) (begins_with between) goes.last goes.acts refl
+        (λ t. ((openings_stay_untainted c.keys c.handed between opens (trust t).0, tt), taint_front (acts_in (records_of c)) left (subst TaintNothing front (trust t).1)))

@@ -1,71 +1,69 @@
 -- A script without quotas does not exceed the store.
-use Rattle.std.proofs.Common.{◌≡◌, ◌∙◌, ℕ, List, [], ◌∷◌, ◌++◌, Ok, Result, ap, inl, inr, sym, subst}
+use Rattle.std.proofs.Common.{◌≡◌, ◌∙◌, ℕ, List, [], ◌∷◌, ◌++◌, None, Option, Some, inl, inr, refl, sym, ap, subst}
 use Rattle.disk_model.specs.State.{FileState}
 use Rattle.hmac_keys.specs.declared.Keys.{Keys}
 use Rattle.rpmb_card.specs.Port.{PortState}
-use Rattle.run_acts.specs.Benches.{BenchState}
-use Rattle.script_runner.specs.Course.{GoesUntilExceeded}
+use Rattle.run_acts.specs.declared.MountFault.{MountFault}
+use Rattle.script_runner.proofs.Ended.{HowEnded, how_ended, of_script, ran, shut, undone}
+use Rattle.script_runner.proofs.Walks.{goes-no_stop}
+use Rattle.script_runner.specs.Course.{AreActs, StopsAt}
 use Rattle.script_runner.specs.declared.status.Status.TheVariants.{OverCommitted}
-use Rattle.script_runner.specs.Ending.{EndsBench, EndsRun, EndsScript}
-use Rattle.script_runner.specs.RunCauses.{World}
-use Rattle.script_runner.specs.SavedFiles.{Standing, begins_with, with_bench}
-use Rattle.script_runner.specs.Text.{Act, Do, RunRecord, Serve, acts_of}
-use Rattle.script_runner.specs.Trace.{OfScript, applications_of}
-use Rattle.script_runner.proofs.GoingFold.{GoesAll, Steps, fold_going}
-use Rattle.script_text.specs.declared.reading.ScriptFault.{ScriptFault}
-use Rattle.script_text.specs.declared.script.Arm.{Arm}
-use Rattle.script_text.specs.declared.script.Control.TheVariants.{Quota as QuotaControl}
-use Rattle.script_text.specs.declared.script.Mode.TheVariants.{Serial}
-use Rattle.script_text.specs.Script.{ScriptValue}
+use Rattle.script_runner.specs.Records.{RunRecord, acts_in, outcomes_in}
+use Rattle.script_runner.specs.RunCauses.{EndsActs, HasCause, World}
+use Rattle.script_runner.specs.SavedFiles.{Standing, begins_with}
+use Rattle.script_runner.specs.Text.{Act, ActOutcome, CutShort, Do, Exceeded, Refused, Serve, run_stop, stop_of}
+use Rattle.script_runner.specs.Trace.{applications_of}
 use Rattle.trusted_storage.specs.Laws.{RunsWithoutQuotasFit}
-use Rattle.trusted_storage.specs.Runs.{RunCall, SetNoQuotas, TookScript}
+use Rattle.trusted_storage.specs.Runs.{quotas_in, records_of}
+use Rattle.trusted_storage.proofs.Phases.{quotas_go, quotas_in-append}
 
-none_front : (done left : List Act) → SetNoQuotas (done ++ left) → SetNoQuotas done
-none_front [] left none = tt
-none_front (Do (QuotaControl app objects bytes) ∷ done) left none = none
-none_front (act ∷ done) left none = none_front done left none
+-- of two lists that are none, each is
+both_none : {A : Type 0} (front back : List A) → front ++ back ≡ [] → (front ≡ []) × (back ≡ [])
+both_none [] back none = (refl, none)
+both_none (x ∷ front) back none = cc
 
-module _ {F R : Type 0} (of_file : F → FileState) (of_port : R → PortState) (image : FileState → ℕ → ℕ → List ℕ) (Reliable : Type 0) where
-  module _ (keys : Keys) (apps : List (List ℕ)) where
-    abbrev Kept : (arms : List Arm) (acts : List Act) (records : List RunRecord) (old new : Standing) → GoesAll of_file of_port image Reliable keys apps arms acts records old new → Type 0
-    Kept arms acts records old new goes = SetNoQuotas acts → new.quotas ≡ old.quotas
+module _ {F R : Type 0} (of_file : F → FileState) (of_port : R → PortState) (image : FileState → ℕ → ℕ → List ℕ) (Reliable : Type 0) (keys : Keys) (apps : List (List ℕ)) (drew draws sum : ℕ) where
+  -- without quotas no act stops a run so
+  stop_fits : (act : Act) (outcome : ActOutcome) (old new : Standing) → StopsAt of_file of_port image Reliable keys apps drew draws act outcome old new → old.quotas ≡ [] → (later : List ActOutcome)
+      → stop_of (outcome ∷ later) ≡ Some (Exceeded sum) → ⊥
+  stop_fits (Serve mode calls) (Exceeded other) old new stops none later is = ((stops.0).0).some none
+  stop_fits act (Refused fault) old new stops none later is = let e : ◌≡◌ {A = Option ActOutcome} (Some (Refused fault)) (Some (Exceeded sum)) = is in cc
+  stop_fits act CutShort old new stops none later is = let e : ◌≡◌ {A = Option ActOutcome} (Some CutShort) (Some (Exceeded sum)) = is in cc
+  stop_fits (Serve mode calls) outcome old new stops none later is = absurd stops
+  stop_fits (Do control) outcome old new stops none later is = absurd stops
 
-    kept_steps : Steps of_file of_port image Reliable keys apps Kept
-    kept_steps = record {
-      none = λ arms old new goes none. ap (λ (s : Standing). s.quotas) goes;
-      phase = λ arms mode calls acts phase records old new goes rest none. rest none;
-      mode = λ arms mode acts records old new goes rest none. rest none;
-      mark = λ arms acts records old new goes rest none. rest none;
-      arm = λ arms arm acts records old new goes rest none. rest none;
-      crash = λ arms seed acts records old new goes rest none. rest none;
-      save = λ arms mark acts records old new goes rest none. rest none;
-      quota = λ arms app objects bytes acts records old new goes rest none. absurd none;
-      restore = λ arms file mark acts records old new goes rest none. rest none;
-      flip = λ arms file at mask acts records old new goes rest none. rest none;
-      list = λ arms acts objects records old new goes rest none. rest none;
-    }
-
-    fits : (acts : List Act) (records : List RunRecord) (between given : BenchState) (sum : ℕ) → SetNoQuotas acts
-        → GoesUntilExceeded of_file of_port image Reliable keys apps [] acts records (begins_with between) given sum → ⊥
-    fits acts records between given sum none g =
-        (g.over).some
-        (fold_going of_file of_port image Reliable keys apps Kept kept_steps [] (g.goes).done records (begins_with between) (with_bench (g.goes).there g.between) (g.goes).goes
-        (none_front (g.goes).done (Serve g.mode g.calls ∷ g.left) (subst SetNoQuotas (g.goes).front none)))
-
-  module _ (w : World) (c : RunCall of_file of_port image Reliable w) (script : ScriptValue) (sum : ℕ) (is : TookScript c script) (none : SetNoQuotas (acts_of Serial script.steps)) where
-    abbrev Ends : ScriptValue → Type 0
-    Ends other = EndsScript of_file of_port image Reliable c.drew c.draws c.keys other (c.says.0).start (c.says.0).records c.handed c.given (OverCommitted sum)
-
-    run_fits : EndsRun of_file of_port image Reliable c.drew c.draws c.keys (applications_of script) (acts_of Serial script.steps) (c.says.0).start (c.says.0).records c.handed c.given (OverCommitted sum) → ⊥
-    run_fits (inl o) = fits c.keys (applications_of script) (acts_of Serial script.steps) (c.says.0).records o.between c.given sum none o.ends
-    run_fits (inr shut) = shut
-
-    script_fits : OfScript (c.says.0).taken Ends → ⊥
-    script_fits (other, read, ends) =
-        let e : ◌≡◌ {A = Result ScriptValue ScriptFault} (Ok other) (Ok script) = sym read ∙ is in
-        let same : other ≡ script = cc in
-        run_fits (subst Ends same ends)
+  acts_fit : (records : List RunRecord) (old new : Standing) → AreActs of_file of_port image Reliable keys apps drew draws records old new → old.quotas ≡ [] → quotas_in (acts_in records) ≡ []
+      → stop_of (outcomes_in records) ≡ Some (Exceeded sum) → ⊥
+  acts_fit [] old new acts none unset is = let e : ◌≡◌ {A = Option ActOutcome} None (Some (Exceeded sum)) = is in cc
+  acts_fit (r ∷ records) old new acts none unset is =
+      let first : (r.before).quotas ≡ [] = ap (λ (s : Standing). s.quotas) acts.0 ∙ none in
+      let parts = both_none (quotas_in (r.act ∷ [])) (quotas_in (acts_in records)) (sym (quotas_in-append (r.act ∷ []) (acts_in records)) ∙ unset) in
+      elim acts.1 [
+        | inl does ↦
+            let then : (r.behind).quotas ≡ [] =
+            quotas_go of_file of_port image Reliable keys apps r.act r.outcome r.before r.behind does ∙ ap (λ q. q ++ quotas_in (r.act ∷ [])) first ∙ parts.0 in
+            acts_fit records r.behind new acts.2 then parts.1
+            (sym (goes-no_stop of_file of_port image Reliable keys apps (r ∷ []) r.before r.behind (refl, does, refl) (outcomes_in records)) ∙ is)
+        | inr stop ↦ stop_fits r.act r.outcome r.before r.behind stop.0 first (outcomes_in records) is
+      ]
 
 pub unlimited_fit : {F R : Type 0} (of_file : F → FileState) (of_port : R → PortState) (image : FileState → ℕ → ℕ → List ℕ) (Reliable : Type 0) (w : World) → RunsWithoutQuotasFit of_file of_port image Reliable w
-unlimited_fit of_file of_port image Reliable w c script sum is none exceeded =
-    script_fits of_file of_port image Reliable w c script sum is none (subst (EndsBench of_file of_port image Reliable c.drew c.draws c.keys c.says.0 c.handed c.given) exceeded c.says.2)
+unlimited_fit of_file of_port image Reliable w c script sum is unset exceeded =
+    one (how_ended of_file of_port image Reliable c.drew c.draws c.keys c.says.0 c.handed c.given script is c.says.2)
+  where
+    cause : HasCause w c.says.0 c.handed c.given (OverCommitted sum)
+    cause = subst (HasCause w c.says.0 c.handed c.given) exceeded (c.says.1).cause
+
+    stopped : run_stop (c.says.0).start (outcomes_in (records_of c)) ≡ Some (Exceeded sum)
+    stopped = (of_script (c.says.0).taken script (λ other. EndsActs w c.says.0 other (OverCommitted sum)) is cause.1).1
+
+    by : (start : Option MountFault) (outcomes : List ActOutcome) → (c.says.0).start ≡ start → outcomes_in (records_of c) ≡ outcomes → run_stop start outcomes ≡ Some (Exceeded sum)
+    by start outcomes first then = subst (λ (s : Option MountFault). run_stop s outcomes ≡ Some (Exceeded sum)) first (subst (λ (l : List ActOutcome). run_stop (c.says.0).start l ≡ Some (Exceeded sum)) then stopped)
+
+    one : HowEnded of_file of_port image Reliable c.drew c.draws c.keys c.says.0 c.handed c.given script is → ⊥
+    one (undone same start none) = let e : ◌≡◌ {A = Option ActOutcome} None (Some (Exceeded sum)) = by None [] start (ap outcomes_in none) in cc
+    one (shut fault start none refused) = let e : ◌≡◌ {A = Option ActOutcome} (Some (Refused fault)) (Some (Exceeded sum)) = by (Some fault) [] start (ap outcomes_in none) in cc
+    one (ran start between opens left front goes) =
+        acts_fit of_file of_port image Reliable c.keys (applications_of script) c.drew c.draws sum (records_of c) (begins_with between) goes.last goes.acts refl
+        (both_none (quotas_in (acts_in (records_of c))) (quotas_in left) (sym (quotas_in-append (acts_in (records_of c)) left) ∙ ap quotas_in (sym front) ∙ unset)).0
+        (by None (outcomes_in (records_of c)) start refl)

@@ -1,5 +1,5 @@
 -- The laws that are promised. What each takes of the program is what the contract of a public call says of it.
-use Rattle.std.specs.Prelude.{◌≡◌, ◌⊎◌, ◌+◌, ◌++◌, ℕ, List, [], ◌∷◌, Ok, Option, Some}
+use Rattle.std.specs.Prelude.{◌≡◌, ◌≢◌, ◌⊎◌, ◌+◌, ◌++◌, ℕ, List, [], ◌∷◌, Ok, Option, Some}
 use Rattle.commit_gate.specs.ClosedStores.{tampered_in}
 use Rattle.core_laws.specs.EndLaws.{HasClashed}
 use Rattle.core_laws.specs.Stores.{Store, mounted_files, phase_of}
@@ -25,7 +25,7 @@ use Rattle.rpmb_card.specs.Port.{PortState}
 use Rattle.rpmb_host.specs.Honest.{HasCard}
 use Rattle.run_acts.specs.Quiet.{IsQuiet}
 use Rattle.run_freshness.specs.Course.{HasItsCard}
-use Rattle.run_freshness.specs.Runs.{IsFreshSource}
+use Rattle.run_freshness.specs.Runs.{IsFreshRun}
 use Rattle.script_runner.specs.declared.status.Status.{Status}
 use Rattle.script_runner.specs.declared.status.Status.TheVariants.{OverCommitted}
 use Rattle.script_runner.specs.Migrations.{RunsMigration}
@@ -46,62 +46,61 @@ use Rattle.tee_types.specs.declared.call.Call.{Call}
 use Rattle.tee_types.specs.declared.reply.Reply.{Reply}
 use Rattle.trusted_storage.specs.Altered.{AgreeWithLeft, AreByteImages, ClashesWith}
 use Rattle.trusted_storage.specs.Benches.{BeginsWith, Holds, MountsToLeft}
+use Rattle.trusted_storage.specs.Blame.{AccuseRightly}
 use Rattle.trusted_storage.specs.Commits.{ReplayState, replay_left}
 use Rattle.trusted_storage.specs.Devices.{AreUntainted, BenchState}
 use Rattle.trusted_storage.specs.Objects.{ObjectMap}
 use Rattle.trusted_storage.specs.PowerCuts.{FileState, IsPictureOf, MayCrash, Picture}
-use Rattle.trusted_storage.specs.Quotas.{IsolatesApplications, RefusesBeyondQuotas, StaysWithinQuotas}
+use Rattle.trusted_storage.specs.Quotas.{KeepsQuotas}
 use Rattle.trusted_storage.specs.Replies.{IsLegalPhase, StandsAt}
-use Rattle.trusted_storage.specs.Runs.{Act, AlterNothing, EachBench, EachPhase, FindLeft, HasOpened, HoldsBehind, IsServed, NoneStarved, RefusedByDevices, RunCall, SetNoQuotas, TaintNothing, TookScript, applications_of, left_behind, records_of, script_acts}
+use Rattle.trusted_storage.specs.Runs.{Act, AlterNothing, AreOfScript, EachBench, EachPhase, FindLeft, HasOpened, HoldsBehind, IsServed, NoneStarved, RefusedByDevices, RunCall, TaintNothing, TookScript, acts_in, applications_of, left_behind, outcomes_in, quotas_in, records_of, script_acts}
+-- THE CARD ALONE. Over a card that has our key and the form of objects, the replies of a run of its script are those of a finite map.
+pub use Rattle.script_runner.specs.CardRunLaws.{CardRunsAreOfAMap}
 
 module _ {F R : Type 0} (of_file : F → FileState) (of_port : R → PortState) (image : FileState → ℕ → ℕ → List ℕ) (Reliable : Type 0) (w : World) where
   -- TEXT. What was put begins the text of the script that was taken, with what was recorded of its acts. Nothing is put but of a script.
   abbrev pub RunsWriteTheirRecords : Type 0
   RunsWriteTheirRecords = (c : RunCall of_file of_port image Reliable w) → IsTraceOf c.left_old c.left_new c.held_old c.held_new c.says.0
 
-  -- EACH CALL ONCE AND IN ORDER. A phase that was run has the calls of the script, each once: as events, or as calls that were refused under quotas.
+  -- EACH CALL ONCE AND IN ORDER. What was recorded is of the script's acts, in order. A phase that was run has the calls of its act, each once: as
+  -- events, or as calls that were refused under quotas.
   abbrev pub CallsAreServedOnce : Type 0
-  CallsAreServedOnce = (c : RunCall of_file of_port image Reliable w) (script : ScriptValue) → TookScript c script → EachPhase c script IsServed
+  CallsAreServedOnce =
+      (c : RunCall of_file of_port image Reliable w) (script : ScriptValue) → TookScript c script → AreOfScript script (records_of c) × EachPhase c (λ before behind. IsServed)
 
   -- LEGAL REPLIES. Over honest files each phase's history is legal, whatever its devices were armed to fail.
   abbrev pub RepliesAreLegal : Type 0
   RepliesAreLegal =
       (c : RunCall of_file of_port image Reliable w) (script : ScriptValue) → TookScript c script → AreUntainted c.handed.files → TaintNothing (script_acts script)
-      → EachPhase c script (λ quotas mode calls phase. IsLegalPhase phase.opening (applications_of script) phase.events)
+      → EachPhase c (λ before behind quotas mode calls phase. IsLegalPhase phase.opening (applications_of script) phase.events)
 
-  -- QUOTAS, over honest files. Each phase is under those that the script sets above it. An event that raises a number of an application leaves it
-  -- within its quota.
-  abbrev pub EventsStayWithinQuotas : Type 0
-  EventsStayWithinQuotas =
+  -- QUOTAS, over honest files. Each phase under quotas that the script sets above it keeps them: no event takes more, no call is refused but for
+  -- them, and what one application does, no other can tell.
+  abbrev pub PhasesKeepQuotas : Type 0
+  PhasesKeepQuotas =
       (c : RunCall of_file of_port image Reliable w) (script : ScriptValue) → TookScript c script → AreUntainted c.handed.files → TaintNothing (script_acts script)
-      → EachPhase c script (StaysWithinQuotas (applications_of script))
+      → EachPhase c (λ before behind quotas mode calls phase. quotas ≢ [] → KeepsQuotas (applications_of script) quotas calls phase)
 
-  -- A call is refused only where quotas refuse it.
-  abbrev pub RefusedCallsAreBeyondQuotas : Type 0
-  RefusedCallsAreBeyondQuotas =
-      (c : RunCall of_file of_port image Reliable w) (script : ScriptValue) → TookScript c script → AreUntainted c.handed.files → TaintNothing (script_acts script)
-      → EachPhase c script (RefusesBeyondQuotas (applications_of script))
-
-  -- And what one application does, no other can tell.
-  abbrev pub QuotasIsolateApplications : Type 0
-  QuotasIsolateApplications =
-      (c : RunCall of_file of_port image Reliable w) (script : ScriptValue) → TookScript c script → AreUntainted c.handed.files → TaintNothing (script_acts script)
-      → EachPhase c script (IsolatesApplications (applications_of script))
+  -- BLAME. In each phase, whatever its files and its card are: a reply that a device is not available carries the number of one of its failed calls.
+  abbrev pub RepliesAccuseRightly : Type 0
+  RepliesAccuseRightly =
+      (c : RunCall of_file of_port image Reliable w) (script : ScriptValue) → TookScript c script
+      → EachPhase c (λ before behind quotas mode calls phase. AccuseRightly Reliable c.keys (applications_of script) before behind phase.events)
 
   -- WHAT WAS ANSWERED STANDS. Each phase and each list finds what the records before it leave, whether the power failed between or not; and where
   -- an act is refused, a device failed or memory ran out.
   abbrev pub WhatIsLeftIsFound : Type 0
   WhatIsLeftIsFound =
       (c : RunCall of_file of_port image Reliable w) (script : ScriptValue) (s : ReplayState) → TookScript c script → BeginsWith c.keys (applications_of script) c.handed s → AlterNothing (script_acts script)
-      → FindLeft (applications_of script) s (records_of c) × RefusedByDevices (records_of c)
+      → FindLeft (applications_of script) s (outcomes_in (records_of c)) × RefusedByDevices (outcomes_in (records_of c))
 
   -- A POWER CUT BETWEEN ACTS. Whatever it leaves of the bench, behind any act, mounts to what the records down to there leave.
   abbrev pub CutsBetweenActs : Type 0
   CutsBetweenActs =
       (c : RunCall of_file of_port image Reliable w) (script : ScriptValue) (s : ReplayState) → TookScript c script → HasOpened c
       → BeginsWith c.keys (applications_of script) c.handed s
-      → EachBench c (λ done records bench.
-      AlterNothing done → NoneStarved records → HoldsBehind c.keys (applications_of script) done bench (left_behind (applications_of script) s records))
+      → EachBench (λ done bench. AlterNothing (acts_in done) → NoneStarved (outcomes_in done)
+      → HoldsBehind c.keys (applications_of script) (acts_in done) bench (left_behind (applications_of script) s (outcomes_in done))) [] (records_of c) c.given
 
   -- A POWER CUT INSIDE A PHASE is the run in which every device stops at some call (PowerCuts). Behind its phase, wherever each device stopped and
   -- whatever else was armed, the bench holds what the history of that phase leaves.
@@ -109,31 +108,30 @@ module _ {F R : Type 0} (of_file : F → FileState) (of_port : R → PortState) 
   CutsInsidePhases =
       (c : RunCall of_file of_port image Reliable w) (script : ScriptValue) (s : ReplayState) → TookScript c script → HasOpened c
       → BeginsWith c.keys (applications_of script) c.handed s
-      → EachBench c (λ done records bench.
-      (before : List Act) (mode : Mode) (calls : List Step) → done ≡ before ++ Serve mode calls ∷ [] → AlterNothing done → NoneStarved records
-      → Holds c.keys bench (left_behind (applications_of script) s records))
+      → EachBench (λ done bench. (before : List Act) (mode : Mode) (calls : List Step) → acts_in done ≡ before ++ Serve mode calls ∷ []
+      → AlterNothing (acts_in done) → NoneStarved (outcomes_in done) → Holds c.keys bench (left_behind (applications_of script) s (outcomes_in done))) [] (records_of c) c.given
 
   -- A POWER CUT AT EXIT. So of the bench that is given back, at whatever status: it is one that the next run may begin with.
   abbrev pub CutsAtExit : Type 0
   CutsAtExit =
       (c : RunCall of_file of_port image Reliable w) (script : ScriptValue) (s : ReplayState) → TookScript c script → HasOpened c
-      → BeginsWith c.keys (applications_of script) c.handed s → AlterNothing (script_acts script) → NoneStarved (records_of c)
-      → BeginsWith c.keys (applications_of script) c.given (left_behind (applications_of script) s (records_of c))
+      → BeginsWith c.keys (applications_of script) c.handed s → AlterNothing (script_acts script) → NoneStarved (outcomes_in (records_of c))
+      → BeginsWith c.keys (applications_of script) c.given (left_behind (applications_of script) s (outcomes_in (records_of c)))
 
   -- ALTERED AND OLDER FILES IN A RUN. Whatever was done to the files between, each mount and each list agrees with the bench that was closed last
   -- before it under the same card, or what was read clashes with it.
   abbrev pub RunsAreFresh : Type 0
   RunsAreFresh =
-      (c : RunCall of_file of_port image Reliable w) (closed : Option BenchState) → HasItsCard closed c.handed → IsFreshSource of_file of_port image Reliable c.keys closed c.drew c.draws c.says.0 c.handed c.given c.status c.says.2
+      (c : RunCall of_file of_port image Reliable w) (closed : Option BenchState) → HasItsCard closed c.handed → IsFreshRun of_file of_port image Reliable c.keys closed c.drew c.draws c.says.0 c.handed c.given
 
   -- WHEN A STATUS COMES. Only where its cause holds; and where the length or the text decides it, it comes, or memory ran out.
   abbrev pub StatusesHaveCauses : Type 0
-  StatusesHaveCauses = (c : RunCall of_file of_port image Reliable w) → HasCause w c.says.0 c.status × IsExact w c.says.0 c.status
+  StatusesHaveCauses = (c : RunCall of_file of_port image Reliable w) → HasCause w c.says.0 c.handed c.given c.status × IsExact w c.says.0 c.status
 
   -- A script that sets no quotas does not exceed the store.
   abbrev pub RunsWithoutQuotasFit : Type 0
   RunsWithoutQuotasFit =
-      (c : RunCall of_file of_port image Reliable w) (script : ScriptValue) (sum : ℕ) → TookScript c script → SetNoQuotas (script_acts script) → c.status ≡ OverCommitted sum → ⊥
+      (c : RunCall of_file of_port image Reliable w) (script : ScriptValue) (sum : ℕ) → TookScript c script → quotas_in (script_acts script) ≡ [] → c.status ≡ OverCommitted sum → ⊥
 
   -- Over devices that do not fail a script that arms and alters nothing is done, or memory ran out, unless its quotas exceed the store.
   abbrev pub QuietRunsAreDone : Type 0
@@ -147,9 +145,10 @@ module _ {F R : Type 0} (of_file : F → FileState) (of_port : R → PortState) 
 abbrev pub NextRunsFindLeft : {F R : Type 0} → (F → FileState) → (R → PortState) → (image : FileState → ℕ → ℕ → List ℕ) → (Reliable Later : Type 0) → (w after : World) → Type 0
 NextRunsFindLeft of_file of_port image Reliable Later w after =
     (c : RunCall of_file of_port image Reliable w) (d : RunCall of_file of_port image Later after) (script next : ScriptValue) (s : ReplayState) → TookScript c script → HasOpened c
-    → BeginsWith c.keys (applications_of script) c.handed s → AlterNothing (script_acts script) → NoneStarved (records_of c) → MayCrash c.given d.handed → d.keys ≡ c.keys → TookScript d next
+    → BeginsWith c.keys (applications_of script) c.handed s → AlterNothing (script_acts script) → NoneStarved (outcomes_in (records_of c)) → MayCrash c.given d.handed → d.keys ≡ c.keys → TookScript d next
     → AlterNothing (script_acts next)
-    → FindLeft (applications_of next) (left_behind (applications_of script) s (records_of c)) (records_of d) × RefusedByDevices (records_of d)
+    → FindLeft (applications_of next) (left_behind (applications_of script) s (outcomes_in (records_of c))) (outcomes_in (records_of d))
+    × RefusedByDevices (outcomes_in (records_of d))
 
 -- A POWER CUT KEEPS what a bench holds.
 abbrev pub CutsKeep : Type 0

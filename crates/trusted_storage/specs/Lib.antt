@@ -7,4 +7,5 @@ pub mod Benches
 pub mod Altered
 pub mod Runs
 pub mod Quotas
+pub mod Blame
 pub mod Laws

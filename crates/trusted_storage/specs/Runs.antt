@@ -1,22 +1,20 @@
 -- A run of a script, phase after phase, as its records tell it.
-use Rattle.std.specs.Prelude.{◌≡◌, ◌++◌, ℕ, All, AllPairs, List, [], ◌∷◌, None, Ok, Option, Some, slice_get}
+use Rattle.std.specs.Prelude.{◌≡◌, ◌≢◌, ◌++◌, ℕ, All, AllPairs, List, [], ◌∷◌, None, Ok, Option, Some, slice_get}
 use Rattle.app_quota.specs.declared.quotas.Quota.{Quota}
+use Rattle.disk_model.specs.Faults.{Rose}
 use Rattle.disk_model.specs.State.{FileState}
 use Rattle.hmac_keys.specs.declared.Keys.{Keys}
 use Rattle.rpmb_card.specs.Port.{PortState}
 use Rattle.run_acts.specs.QuotaRefusals.{ComesBefore, admitted}
 use Rattle.run_acts.specs.ServedSteps.{ServesSteps}
 use Rattle.script_runner.specs.declared.status.Status.{Status}
-use Rattle.script_runner.specs.RunBenches.{HoldsOfSource}
 use Rattle.script_runner.specs.RunCauses.{World}
 use Rattle.script_runner.specs.SavedFiles.{quota_for}
 use Rattle.script_runner.specs.Runs.{RunsSource}
-use Rattle.script_runner.specs.Text.{Controlled, Do, Listed, Ran, Refused, Serve, acts_of}
+use Rattle.script_runner.specs.Text.{Controlled, Do, Listed, Ran, Serve, stop_of}
 use Rattle.script_text.specs.declared.script.Arm.TheVariants.{Taint}
-use Rattle.script_text.specs.declared.script.Control.{Control}
-use Rattle.script_text.specs.declared.script.Control.TheVariants.{Arm, Quota as QuotaControl}
+use Rattle.script_text.specs.declared.script.Control.TheVariants.{Arm, List as ListControl, Quota as QuotaControl}
 use Rattle.script_text.specs.declared.script.Mode.{Mode}
-use Rattle.script_text.specs.declared.script.Mode.TheVariants.{Serial}
 use Rattle.script_text.specs.declared.script.Step.{Step}
 use Rattle.script_text.specs.declared.script.Step.TheVariants.{Call as CallStep}
 use Rattle.script_text.specs.Grammar.{script_of}
@@ -28,8 +26,18 @@ use Rattle.tee_types.specs.declared.call.Call.{Call}
 pub use Rattle.script_runner.specs.RecordLaws.{AlterNothing, FindLeft, left_behind}
 pub use Rattle.script_runner.specs.RunLaws.{RefusedByDevices}
 pub use Rattle.script_runner.specs.HeldRuns.{NoneStarved}
-pub use Rattle.script_runner.specs.Text.{Act, PhaseRecord, RunRecord}
-pub use Rattle.script_runner.specs.Trace.{applications_of}
+pub use Rattle.script_runner.specs.Records.{EachAct, EachBench, OfPhase, RunRecord, acts_in, outcomes_in}
+pub use Rattle.script_runner.specs.Text.{Act, ActOutcome, PhaseRecord}
+pub use Rattle.script_runner.specs.Trace.{applications_of, script_acts}
+
+-- what a source and a sink did in a run: whether the count of faults of each rose, whether the source has ended, and whether the sink is full
+abbrev pub streams_of : {S K : Type 0} → (source_faults : S → ℕ) → (has_ended : S → Type 0) → (sink_faults : K → ℕ) → (is_full : K → Type 0) → (was source : S) → (held sink : K) → World
+streams_of source_faults has_ended sink_faults is_full was source held sink = record {
+  source_failed = Rose (source_faults was) (source_faults source);
+  source_ended = has_ended source;
+  sink_failed = Rose (sink_faults held) (sink_faults sink);
+  sink_full = is_full sink;
+}
 
 module _ {F R : Type 0} (of_file : F → FileState) (of_port : R → PortState) (image : FileState → ℕ → ℕ → List ℕ) (Reliable : Type 0) (w : World) where
   -- A call of `run` in the form `run`, and what its contract says of it: `says` is its clause `run`, and `whole` its clause `whole`.
@@ -63,33 +71,30 @@ module _ {F R : Type 0} {of_file : F → FileState} {of_port : R → PortState} 
   abbrev pub TookScript : RunCall of_file of_port image Reliable w → ScriptValue → Type 0
   TookScript c script = script_of (c.says.0).taken ≡ Ok script
 
-  -- It holds of each bench of the run: of the one with which the acts begin, and of each that an act leaves. `P` takes the acts that were done by
-  -- then, and their records.
-  abbrev pub EachBench : (c : RunCall of_file of_port image Reliable w) → (P : List Act → List RunRecord → BenchState → Type 0) → Type 0
-  EachBench c P = HoldsOfSource of_file of_port image Reliable c.keys P c.drew c.draws c.says.0 c.handed c.given c.status c.says.2
-
--- the acts of a script: its phases, and the controls between them
-abbrev pub script_acts : ScriptValue → List Act
-script_acts script = acts_of Serial script.steps
-
--- the quotas of the phases behind a control
-abbrev pub quotas_behind : List Quota → Control → List Quota
-quotas_behind quotas (QuotaControl app objects bytes) = quotas ++ quota_for app objects bytes ∷ []
-quotas_behind quotas control = quotas
-
--- It holds of each phase that was run. `P` takes its quotas, which the acts before it set, its mode, its calls, and what was recorded of it.
-abbrev pub EachPhaseOf : (P : List Quota → Mode → List Step → PhaseRecord → Type 0) → List Quota → List Act → List RunRecord → Type 0
-EachPhaseOf P quotas acts [] = Unit {0}
-EachPhaseOf P quotas acts (Refused fault ∷ records) = records ≡ []
-EachPhaseOf P quotas (Serve mode calls ∷ acts) (Ran phase ∷ records) = P quotas mode calls phase × EachPhaseOf P quotas acts records
-EachPhaseOf P quotas (Do control ∷ acts) (Listed objects ∷ records) = EachPhaseOf P quotas acts records
-EachPhaseOf P quotas (Do control ∷ acts) (Controlled ∷ records) = EachPhaseOf P (quotas_behind quotas control) acts records
-EachPhaseOf P quotas acts records = ⊥
+-- the quotas that these acts set
+abbrev pub quotas_in : List Act → List Quota
+quotas_in [] = []
+quotas_in (Do (QuotaControl app objects bytes) ∷ acts) = quota_for app objects bytes ∷ quotas_in acts
+quotas_in (act ∷ acts) = quotas_in acts
 
 module _ {F R : Type 0} {of_file : F → FileState} {of_port : R → PortState} {image : FileState → ℕ → ℕ → List ℕ} {Reliable : Type 0} {w : World} where
-  -- So of each phase of the run, which took this script.
-  abbrev pub EachPhase : (c : RunCall of_file of_port image Reliable w) → ScriptValue → (P : List Quota → Mode → List Step → PhaseRecord → Type 0) → Type 0
-  EachPhase c script P = EachPhaseOf P [] (script_acts script) (records_of c)
+  -- It holds of each phase that was run. `P` takes the benches before it and behind it, its quotas, which the acts before it set, its mode, its calls,
+  -- and what was recorded of it.
+  abbrev pub EachPhase : (c : RunCall of_file of_port image Reliable w) → (P : (before behind : BenchState) → List Quota → Mode → List Step → PhaseRecord → Type 0) → Type 0
+  EachPhase c P = EachAct (λ done. OfPhase (λ mode calls phase before behind. P before.bench behind.bench (quotas_in (acts_in done)) mode calls phase)) [] (records_of c)
+
+-- That came of such an act: a phase was run, a list shows objects, or another control was done; or the run stopped at it.
+abbrev pub CameOf : Act → ActOutcome → Type 0
+CameOf (Serve mode calls) (Ran phase) = Unit {0}
+CameOf (Do control) (Listed objects) = control ≡ ListControl
+CameOf (Do control) Controlled = control ≢ ListControl
+CameOf act stop = stop_of (stop ∷ []) ≡ Some stop
+
+-- What was recorded is of the first acts of the script, in order; and the run stopped at none but the last of them.
+pub record AreOfScript (script : ScriptValue) (records : List RunRecord) : Type 0 where
+  pub left : List Act
+  pub acts_are : script_acts script ≡ acts_in records ++ left
+  pub each : EachAct (λ done r. CameOf r.act r.outcome × (stop_of (outcomes_in done) ≡ None)) [] records
 
 -- A phase has the calls of its act, each once: as events, those of each application in their order, and in a serial phase all of them; or as calls
 -- that were refused under quotas, those of the first application first, and of each in their order.
@@ -109,12 +114,6 @@ TaintsNothing act = Unit {0}
 abbrev pub TaintNothing : List Act → Type 0
 TaintNothing [] = Unit {0}
 TaintNothing (act ∷ acts) = TaintsNothing act × TaintNothing acts
-
--- no act sets a quota
-abbrev pub SetNoQuotas : List Act → Type 0
-SetNoQuotas [] = Unit {0}
-SetNoQuotas (Do (QuotaControl app objects bytes) ∷ acts) = ⊥
-SetNoQuotas (act ∷ acts) = SetNoQuotas acts
 
 -- behind an act the bench holds that, and before the first one it may be blank still
 abbrev pub HoldsBehind : Keys → (applications : List (List ℕ)) → (done : List Act) → BenchState → ReplayState → Type 0

@@ -16,8 +16,8 @@ returns-clause-made g c =
     let own : calls_in was.number (c.args.step.now ∷ []) ≡ call ∷ [] =
     ap (λ (step : Step). calls_in was.number (step ∷ [])) c.in-Call.is ∙ calls_in-one was.number c.in-Call.app call (c.if-app-number.false ∙ c.number.ensures) in
     subst (HasMade g.E.Entropy.is_reliable g.E.Entropy.faults store was c.call.new.session) (sym own)
-    (made_one g.E.Entropy.is_reliable g.E.Entropy.faults store was c.call.new.session call c.in_ok-_answer._answer c.in_ok-_answer.ensures.ends c.call.ensures.counted c.in_ok-_answer.ensures.drawn
-    (λ reliable. (c.call.ensures.reliable reliable, c.call.ensures.still reliable)))
+    (made_one g.E.Entropy.is_reliable g.E.Entropy.faults store was c.call.new.session call c.in_ok-_answer._answer c.in_ok-_answer.ensures.ends c.call.ensures.draws.counted c.in_ok-_answer.ensures.drawn
+    (λ reliable. (c.call.ensures.draws.reliable reliable, c.call.ensures.draws.still reliable)))
 
 pub returns-in_err-_answer-clause-stopped : goal.returns-in_err-_answer-clause-stopped
 returns-in_err-_answer-clause-stopped g c =

@@ -47,10 +47,10 @@ returns-clause-sessions g c =
 
 pub returns-in-Some-clause-reliable : goal.returns-in-Some-clause-reliable
 returns-in-Some-clause-reliable g c =
-    reliable_with c.args.sessions.now c.args.app c.requires.app c.call-answer.new.session g.E.Entropy.is_reliable g.E.Entropy.faults c.index-sessions-app.result c.call-answer.ensures.reliable
-    c.call-answer.ensures.still
+    reliable_with c.args.sessions.now c.args.app c.requires.app c.call-answer.new.session g.E.Entropy.is_reliable g.E.Entropy.faults c.index-sessions-app.result c.call-answer.ensures.draws.reliable
+    c.call-answer.ensures.draws.still
 
 pub returns-clause-reliable : goal.returns-clause-reliable
 returns-clause-reliable g c =
-    reliable_with c.args.sessions.now c.args.app c.requires.app c.call-answer.new.session g.E.Entropy.is_reliable g.E.Entropy.faults c.index-sessions-app.result c.call-answer.ensures.reliable
-    c.call-answer.ensures.still
+    reliable_with c.args.sessions.now c.args.app c.requires.app c.call-answer.new.session g.E.Entropy.is_reliable g.E.Entropy.faults c.index-sessions-app.result c.call-answer.ensures.draws.reliable
+    c.call-answer.ensures.draws.still

@@ -39,7 +39,7 @@ returns-in_default-clause-sessions g c =
 pub returns-in_default-clause-reliable : goal.returns-in_default-clause-reliable
 returns-in_default-clause-reliable g c =
     let called = c.call_within in
-    reliable_with c.args.sessions.now c.args.app c.requires.app called.new.session g.E.Entropy.is_reliable g.E.Entropy.faults c.index-sessions-app.result called.ensures.reliable called.ensures.still
+    reliable_with c.args.sessions.now c.args.app c.requires.app called.new.session g.E.Entropy.is_reliable g.E.Entropy.faults c.index-sessions-app.result called.ensures.draws.reliable called.ensures.draws.still
 
 pub returns-clause-made : goal.returns-clause-made
 returns-clause-made g c =
@@ -72,7 +72,7 @@ returns-clause-sessions g c =
 pub returns-clause-reliable : goal.returns-clause-reliable
 returns-clause-reliable g c =
     let called = c.call_within in
-    reliable_with c.args.sessions.now c.args.app c.requires.app called.new.session g.E.Entropy.is_reliable g.E.Entropy.faults c.index-sessions-app.result called.ensures.reliable called.ensures.still
+    reliable_with c.args.sessions.now c.args.app c.requires.app called.new.session g.E.Entropy.is_reliable g.E.Entropy.faults c.index-sessions-app.result called.ensures.draws.reliable called.ensures.draws.still
 
 pub returns-in_err-place-clause-stopped : goal.returns-in_err-place-clause-stopped
 returns-in_err-place-clause-stopped g c =
@@ -99,4 +99,4 @@ returns-in_err-place-clause-sessions g c =
 pub returns-in_err-place-clause-reliable : goal.returns-in_err-place-clause-reliable
 returns-in_err-place-clause-reliable g c =
     let called = c.call_within in
-    reliable_with c.args.sessions.now c.args.app c.requires.app called.new.session g.E.Entropy.is_reliable g.E.Entropy.faults c.index-sessions-app.result called.ensures.reliable called.ensures.still
+    reliable_with c.args.sessions.now c.args.app c.requires.app called.new.session g.E.Entropy.is_reliable g.E.Entropy.faults c.index-sessions-app.result called.ensures.draws.reliable called.ensures.draws.still

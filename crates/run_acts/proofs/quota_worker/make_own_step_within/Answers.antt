@@ -28,7 +28,7 @@ returns-in_default-2-clause-made g c = λ limits was steps numbered limited m.
     let called = c.call in
     one-answered g.E.Entropy.is_reliable g.E.Entropy.faults g.L.StoreName.store w.session.limit w.session.caller called.new.session.caller c.in-Call.call called.result called.ensures.ends
     limits steps c.args.step.now was w.refused.items m
-    c.in-Call.app c.in-Call.is (c.if-app-number.false ∙ c.number.ensures) limited called.ensures.limits called.ensures.counted (λ reliable. (called.ensures.reliable reliable, called.ensures.still reliable)) c.in_default-2.field-0
+    c.in-Call.app c.in-Call.is (c.if-app-number.false ∙ c.number.ensures) limited called.ensures.limits called.ensures.draws.counted (λ reliable. (called.ensures.draws.reliable reliable, called.ensures.draws.still reliable)) c.in_default-2.field-0
     (c.in_ok-place.was ∙ ap (λ (o : QuotaOutcome). Ok o) c.in_default-2.is) called.ensures.drawn
 
 pub returns-clause-made : goal.returns-clause-made
@@ -40,7 +40,7 @@ returns-clause-made g c = λ limits was steps numbered limited m.
     subst (HasMadeWithin g.E.Entropy.is_reliable g.E.Entropy.faults g.L.StoreName.store limits (steps ++ c.args.step.now ∷ []) was called.new.session.caller) grew
     (one-refused g.E.Entropy.is_reliable g.E.Entropy.faults g.L.StoreName.store w.session.limit w.session.caller called.new.session.caller c.in-Call.call called.result called.ensures.ends
     limits steps c.args.step.now was w.refused.items m
-    c.in-Call.app c.in-Call.is (c.if-app-number.false ∙ c.number.ensures) limited called.ensures.limits called.ensures.counted (λ reliable. (called.ensures.reliable reliable, called.ensures.still reliable)) c.in-Refused.place
+    c.in-Call.app c.in-Call.is (c.if-app-number.false ∙ c.number.ensures) limited called.ensures.limits called.ensures.draws.counted (λ reliable. (called.ensures.draws.reliable reliable, called.ensures.draws.still reliable)) c.in-Refused.place
     (c.in_ok-place.was ∙ ap (λ (o : QuotaOutcome). Ok o) c.in-Refused.is))
 
 pub returns-in_default-2-clause-caller : goal.returns-in_default-2-clause-caller

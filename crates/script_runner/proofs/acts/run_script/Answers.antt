@@ -2,8 +2,8 @@ use Rattle.std.proofs.Common.{refl}
 use Rattle.script_text.specs.declared.script.Mode.TheVariants.{Serial}
 use Rattle.run_acts.specs.Benches.{bench_state}
 use Rattle.script_runner.specs.declared.run_state.Run.{Run}
-use Rattle.script_runner.specs.Text.{acts_of, run_output}
-use Rattle.script_runner.specs.Trace.{applications_of}
+use Rattle.script_runner.specs.Text.{run_output}
+use Rattle.script_runner.specs.Trace.{applications_of, script_acts}
 use Rattle.script_runner.proofs.Loops.{EndsFrom-first}
 use Rattle.script_runner.proofs.Scripts.{RunsActs-unopened, RunsScript-opened}
 use Rattle.script_runner.proofs.acts.run_script.Goals as goal
@@ -18,5 +18,5 @@ pub returns-in-Err-clause-ran : goal.returns-in-Err-clause-ran
 returns-in-Err-clause-ran g c =
     let script = c.args.script.now in
     RunsActs-unopened g.F.StoreFile.state g.R.RpmbPort.state g.F.FileRig.crash_image _ _ _ c.args.keys.now _ _ _ _ _ c.in-Err.field-0.fault c.in-Err.ensures.refused
-    (applications_of script) (acts_of Serial script.steps) (run_output script) refl
+    (applications_of script) (script_acts script) (run_output script) refl
     c.new-in-Err.result.items c.new-in-Err.ensures.items c.print_mount_refusal-status.result c.print_mount_refusal-status.ensures.prints

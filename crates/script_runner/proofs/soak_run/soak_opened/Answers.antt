@@ -10,10 +10,10 @@ use Rattle.run_acts.specs.ListedBenches.{IsListRefused, ListsBench}
 use Rattle.run_acts.specs.PhaseRefusals.{IsGivenUp}
 use Rattle.run_acts.specs.QuotaRefusals.{HoldsOfAdmitted}
 use Rattle.store_model.specs.Object.{ObjectMap}
-use Rattle.script_runner.specs.Soaks.{GoesThrough, IsBroken, PrintsObjects}
+use Rattle.script_runner.specs.Soaks.{IsThrough, IsBroken, PrintsObjects}
 use Rattle.script_runner.specs.Text.{PhaseRecord}
 use Rattle.script_runner.specs.Trace.{applications_of}
-use Rattle.script_runner.proofs.Soaks.{GoesThrough-acts, IsBroken-undone, IsBroken-phase, IsBroken-printed, RunsPhase-soak, as_soak, length-soak_applications}
+use Rattle.script_runner.proofs.Soaks.{IsThrough-acts, IsBroken-undone, IsBroken-phase, IsBroken-printed, RunsPhase-soak, as_soak, length-soak_applications}
 use Rattle.script_runner.proofs.soak_run.soak_opened.Goals as goal
 
 pub returns-in_default-clause-err : goal.returns-in_default-clause-err
@@ -43,8 +43,8 @@ returns-in-Ok-Served-clause-ok g c = λ first lasts.
     let between = bench_state state port opened.bench in
     let ran = RunsPhase-soak state port image rel keys number _ c.in-Ok.script _ _ old between phase c.in-Ok.ensures c.applications.ensures c.calls_from-calls.ensures.calls lasts runs.2 in
     IfOk-weaker c.print_soak.result (λ s. PrintsObjects state port keys number opened.history.events between (bench_state state port s.bench) s.lines.items)
-    (λ s. GoesThrough state port image rel keys number old (bench_state state port s.bench) s.lines.items)
-    (λ s printed. GoesThrough-acts state port image rel keys number old between (bench_state state port s.bench) phase s.lines.items ran printed) c.print_soak.ensures.ok
+    (λ s. IsThrough state port image rel keys number old (bench_state state port s.bench) s.lines.items)
+    (λ s printed. IsThrough-acts state port image rel keys number old between (bench_state state port s.bench) phase s.lines.items ran printed) c.print_soak.ensures.ok
 
 pub returns-in-Ok-Served-clause-err : goal.returns-in-Ok-Served-clause-err
 returns-in-Ok-Served-clause-err g c = λ first lasts.

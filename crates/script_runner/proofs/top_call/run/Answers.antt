@@ -14,7 +14,7 @@ use Rattle.script_runner.proofs.top_call.run.Goals as goal
 pub returns-in-Some-Run-clause-complete : goal.returns-in-Some-Run-clause-complete
 returns-in-Some-Run-clause-complete g c = λ bytes script form printed short is source sink room.
     let x = c.run_source.ensures.run in
-    completed _ _ _ _ _ c.run_source.result.status x.0 bytes script x.1 (λ ended rest left. (g.met.S.Source.told_end c.run_source.new.source rest left).0 ended) printed short is source sink room
+    completed _ _ _ _ _ _ _ c.run_source.result.status x.0 bytes script x.1 (λ ended rest left. (g.met.S.Source.told_end c.run_source.new.source rest left).0 ended) printed short is source sink room
 
 pub returns-in-Some-Soak-clause-soak : goal.returns-in-Some-Soak-clause-soak
 returns-in-Some-Soak-clause-soak g c = λ number form.
